@@ -1,0 +1,41 @@
+-- This file proves what is known of a number with a sign once it was converted to one without.
+use Rattle.std.proofs.Common.{◌≡◌, ℕ, ◌+◌, ℤ, pos, negsuc, nat_abs, Result, Ok, Err, Option, Some, None, List, option_map, slice_get, add-one, IfOk, IfErr, refl, sym, ap, ◌∙◌, arith}
+use Rattle.std.specs.Result.{OkIff, result_ok}
+use Rattle.std.specs.Int.{FitsUnsignedBits}
+use mir.Syntax.{w16}
+use mir.Val.{to_z, of_z, SFits}
+use Rattle.std.proofs.lemmas.Int.{to_z-of_z}
+use Rattle.ptb_text.specs.Statements.{Statements, text_at, text_under, number_above, number_after}
+use Rattle.ptb_text.specs.Places.{IsGapFor, IsAt}
+use Rattle.ptb_text.proofs.Entries.{text_at-gap, number_after-place, number_after-gap}
+
+converted : {E : Type 0} (r : Result ℕ E) (n : ℤ) (m : ℕ) → OkIff r (FitsUnsignedBits 16 n) (nat_abs n) → result_ok r ≡ Some m → n ≡ pos m
+converted (Ok x) (pos k) m is e = cc
+converted (Ok x) (negsuc k) m is e = absurd is.0
+converted (Err x) n m is e = cc
+
+-- a number that could be converted has no sign
+pub is_whole : {E : Type 0} (r : Result ℕ E) (n : ℤ) (m : ℕ) → SFits w16 n → OkIff r (FitsUnsignedBits 16 (to_z w16 (of_z w16 n))) (nat_abs (to_z w16 (of_z w16 n))) → result_ok r ≡ Some m → n ≡ pos m
+is_whole r n m fits is = converted r n m (simp to_z-of_z at is)
+
+-- a search that finds nothing
+pub text_under-absent : (p : Statements) (n : ℤ) (m : ℕ) (r : Result ℕ ℕ) → n ≡ pos m → IfErr r (IsGapFor p m) → result_ok r ≡ None → text_under p n ≡ None
+text_under-absent p n m (Ok i) is gap e = cc
+text_under-absent p n m (Err i) is gap e = ap (text_under p) is ∙ text_at-gap p m i gap
+
+-- and one that does
+pub IsAt-found : (p : Statements) (m i : ℕ) (r : Result ℕ ℕ) → IfOk r (IsAt p m) → result_ok r ≡ Some i → IsAt p m i
+IsAt-found p m i (Ok j) at e = let same : j ≡ i = cc in rw same at at
+IsAt-found p m i (Err j) at e = cc
+
+-- ---- the next number
+
+pos-first : (o : Option (ℕ × List ℕ)) → option_map (λ s. pos s.0) o ≡ option_map pos (option_map (λ s. s.0) o)
+pos-first None = refl
+pos-first (Some s) = refl
+
+pub number_above-place : (p : Statements) (n : ℤ) (m i : ℕ) → n ≡ pos m → IsAt p m i → option_map (λ s. pos s.0) (slice_get p (i + 1)) ≡ option_map pos (number_above p n)
+number_above-place p n m i is at = pos-first _ ∙ ap (option_map pos) (rw add-one (sym (number_after-place p m i at)) ∙ ap (number_above p) (sym is))
+
+pub number_above-gap : (p : Statements) (n : ℤ) (m i : ℕ) → n ≡ pos m → IsGapFor p m i → option_map (λ s. pos s.0) (slice_get p i) ≡ option_map pos (number_above p n)
+number_above-gap p n m i is gap = pos-first _ ∙ ap (option_map pos) (sym (number_after-gap p m i gap) ∙ ap (number_above p) (sym is))

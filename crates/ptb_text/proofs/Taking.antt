@@ -1,0 +1,41 @@
+-- This file proves how bytes that are taken in pieces add up to the bytes as a whole.
+use Rattle.std.proofs.Common.{◌≡◌, ℕ, ◌+◌, ◌-◌, ◌≤◌, List, [], ◌∷◌, ◌++◌, length, take, drop, Option, refl, sym, ap, ◌∙◌, subst, append_assoc, append-nil, arith, length-append, length-drop}
+use Rattle.std.proofs.Math.Seq.{take-append-add}
+use Rattle.std.proofs.lemmas.List.{take-append-drop, take_all}
+use Rattle.std.specs.Io.KnownBytes.{Appends}
+use Rattle.std.proofs.KnownBytes.{Appends-nil, Appends-trans}
+use Rattle.ptb_text.specs.Device.{TakesSome}
+
+-- a beginning of the bytes was taken, and the rest is left
+pub record IsTakenUpTo (old new : Option (List ℕ)) (bytes rest : List ℕ) : Type 0 where
+  pub front : List ℕ
+  pub whole : bytes ≡ front ++ rest
+  pub taken : Appends old new front
+
+-- at first nothing was taken
+pub IsTakenUpTo_none : (a : Option (List ℕ)) (bytes : List ℕ) → IsTakenUpTo a a bytes bytes
+IsTakenUpTo_none a bytes = record { front = []; whole = refl; taken = Appends-nil a }
+
+-- then n bytes of the rest were, and m are left
+pub IsTakenUpTo_more : {a b : Option (List ℕ)} {bytes rest : List ℕ} (c : Option (List ℕ)) (n m : ℕ) → m ≡ length rest - n → IsTakenUpTo a b bytes rest → Appends b c (take n rest) → IsTakenUpTo a c bytes (take m (drop n rest))
+IsTakenUpTo_more {a} {b} {bytes} {rest} c n m left before now =
+    let all : take m (drop n rest) ≡ drop n rest = take_all m (drop n rest) (omega (arith, length-drop n rest)) in
+    record {
+      front = before.front ++ take n rest;
+      whole = before.whole ∙ ap (λ r. before.front ++ r) (sym (take-append-drop n rest) ∙ ap (λ r. take n rest ++ r) (sym all)) ∙ sym (append_assoc before.front (take n rest) (take m (drop n rest)));
+      taken = Appends-trans a b c before.front (take n rest) before.taken now;
+    }
+
+-- and in the end all
+pub IsTakenUpTo_all : {a b : Option (List ℕ)} {bytes : List ℕ} (rest : List ℕ) → IsTakenUpTo a b bytes rest → length rest ≡ 0 → Appends a b bytes
+IsTakenUpTo_all {a} {b} [] before e = subst (Appends a b) (sym (before.whole ∙ append-nil before.front)) before.taken
+IsTakenUpTo_all (x ∷ rest) before e = absurd (omega arith)
+
+-- where the next piece fails, a beginning of the whole was taken
+pub IsTakenUpTo_fault : {a b : Option (List ℕ)} {bytes rest : List ℕ} (c : Option (List ℕ)) → IsTakenUpTo a b bytes rest → TakesSome b c rest → TakesSome a c bytes
+IsTakenUpTo_fault {a} {b} {bytes} {rest} c before now =
+    let front = before.front in
+    let m = now.0 in
+    let same : take (length front + m) bytes ≡ front ++ take m rest = ap (take (length front + m)) before.whole ∙ take-append-add front rest m in
+    let size : length bytes ≡ length front + length rest = ap length before.whole ∙ length-append front rest in
+    (length front + m, omega (arith, now.1), subst (Appends a c) (sym same) (Appends-trans a b c front (take m rest) before.taken now.2))

@@ -1,0 +1,19 @@
+use Rattle.std.proofs.Common.{rules, refl}
+use Rattle.std.proofs.lemmas.Result.{err_from_is_err_and}
+use Rattle.ptb_text.proofs.Taking.{IsTakenUpTo_none, IsTakenUpTo_more, IsTakenUpTo_all, IsTakenUpTo_fault}
+use Rattle.ptb_text.proofs.device.Write.write_all.Goals as goal
+
+pub loop-rest-init : goal.loop-rest-init
+loop-rest-init g c = record { unfailed = refl; taken = IsTakenUpTo_none _ _ }
+
+pub loop-rest-preserved : goal.loop-rest-preserved
+loop-rest-preserved g c = record {
+  unfailed = search rules;
+  taken = IsTakenUpTo_more _ _ _ refl c.loop-rest.invariant.taken c.in_ok-taken.ensures.bytes;
+}
+
+pub returns-in_err-taken-clause-fault : goal.returns-in_err-taken-clause-fault
+returns-in_err-taken-clause-fault g c = let p = err_from_is_err_and c.from_residual.result c.from_residual.ensures.1 in rw p.1 (IsTakenUpTo_fault _ c.loop-rest.invariant.taken c.in_err-taken.ensures.fault)
+
+pub returns-clause-ok : goal.returns-clause-ok
+returns-clause-ok g c = IsTakenUpTo_all _ c.loop-rest.invariant.taken (search rules)

@@ -1,0 +1,14 @@
+use Rattle.std.proofs.Common.{◌≡◌, ◌≤◌, ◌-◌, vec_len}
+use Rattle.std.specs.Io.KnownBytes.{Consumes}
+use Rattle.ptb_text.proofs.loading.program_text.Given as goal
+
+-- the bytes that are kept are those that the reader gave
+abbrev pub invariant-loop-piece : goal.invariant-loop-piece
+invariant-loop-piece g l = record {
+  unfailed : g.R.Read.failures l.reader ≡ g.R.Read.failures l.initial.reader;
+  taken : Consumes (g.R.Read.remaining l.initial.reader) (g.R.Read.remaining l.reader) l.text.items;
+  bound : vec_len l.text ≤ 1048577;
+}
+
+abbrev pub decreases-loop-piece : goal.decreases-loop-piece
+decreases-loop-piece g l = 1048577 - vec_len l.text

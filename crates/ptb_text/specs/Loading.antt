@@ -1,0 +1,17 @@
+-- This file defines what a program text gives when it is loaded, by the bytes of the reader where they are known.
+--     IsLoaded memory text p        the text isn't too long and gives this map
+--     IsRefusedAt memory text e     the text isn't too long, and e is its first refusal with the source line
+--     AcceptsLines memory text k    the first k lines are accepted
+use Rattle.std.specs.Prelude.{◌≡◌, ℕ, ◌≤◌, List, [], length, take, Ok, Err, IsOk}
+use Rattle.ptb_text.specs.declared.fault.LoadFault.{LoadFault}
+use Rattle.ptb_text.specs.Lines.{program_lines}
+use Rattle.ptb_text.specs.Statements.{Statements, after_lines, program, program_limit}
+
+abbrev pub IsLoaded : ℕ → List ℕ → Statements → Type 0
+IsLoaded memory text p = (length text ≤ program_limit) × (program memory text ≡ Ok p)
+
+abbrev pub IsRefusedAt : ℕ → List ℕ → ℕ × LoadFault → Type 0
+IsRefusedAt memory text e = (length text ≤ program_limit) × (program memory text ≡ Err e)
+
+abbrev pub AcceptsLines : ℕ → List ℕ → ℕ → Type 0
+AcceptsLines memory text k = IsOk (after_lines (take k (program_lines text)) 1 [] memory)

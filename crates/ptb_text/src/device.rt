@@ -1,0 +1,138 @@
+// This file has readers and writers, which count how often they have failed.
+
+ghost use Rattle.std.specs.Prelude.{◌≡◌, ℕ, ◌<◌, ◌≤◌, List, length, take, Option, Some, IfOk, OnOk, OnErr};
+ghost use Rattle.std.specs.Io.KnownBytes.{Keeps, Appends, ReadConsumes};
+ghost use Rattle.ptb_text.specs.Device.{CountsFaults, HasFailed, TakesSome, device_inner, failure_count};
+
+use std::io;
+use thiserror::Error;
+
+/// A read or a write failed.
+#[derive(Clone, Copy, Debug, PartialEq, Eq, Error)]
+#[error("the device failed")]
+pub struct DeviceFault;
+
+/// What gives bytes.
+///
+/// A reader counts its failures: the count rises by one with each fault and with nothing else. At
+/// `u64::MAX` it stays, and from then on every call answers the fault.
+pub trait Read {
+    /// The bytes that it will give from here on to its end, where they are known.
+    ghost remaining: { Self → Option (List ℕ) };
+
+    /// How often it has failed.
+    ghost failures: { Self → ℕ };
+
+    /// Puts its next bytes at the front of `buf`, and answers how many. `Ok(0)` for a buffer that
+    /// has room means the end.
+    ///
+    /// # Errors
+    ///
+    /// [`DeviceFault`] where the reader failed. No byte was given then.
+    fn read(&mut self, buf: &mut [u8]) -> Result<usize, DeviceFault>
+        ensures room { IfOk result (λ n. n ≤ length buf.old) }
+        ensures bytes { ReadConsumes (remaining self.old) (remaining self.new) result buf.new }
+        ensures count { CountsFaults (failures self.old) (failures self.new) result };
+}
+
+/// What takes bytes.
+///
+/// A writer counts its failures as a [`Read`] does.
+pub trait Write {
+    /// The bytes that it has taken, where they are known.
+    ghost contents: { Self → Option (List ℕ) };
+
+    /// How often it has failed.
+    ghost failures: { Self → ℕ };
+
+    /// Takes bytes from the front of `bytes`, and answers how many: at least one, if there is one.
+    ///
+    /// # Errors
+    ///
+    /// [`DeviceFault`] where the writer failed. A beginning of the bytes may have been taken then.
+    fn write(&mut self, bytes: &[u8]) -> Result<usize, DeviceFault>
+        ensures room { IfOk result (λ n. n ≤ length bytes.now) }
+        ensures some { IfOk result (λ n. 0 < length bytes.now → 0 < n) }
+        ensures bytes { IfOk result (λ n. Appends (contents self.old) (contents self.new) (take n bytes.now)) }
+        ensures fault { OnErr result (TakesSome (contents self.old) (contents self.new) bytes.now) }
+        ensures count { CountsFaults (failures self.old) (failures self.new) result };
+
+    /// Takes all of `bytes`, in as many writes as it needs; none if there are no bytes.
+    ///
+    /// # Errors
+    ///
+    /// [`DeviceFault`] where one of the writes failed. A beginning of the bytes may have been taken
+    /// then.
+    final fn write_all(&mut self, bytes: &[u8]) -> Result<(), DeviceFault>
+        ensures ok { OnOk result (Appends (contents self.old) (contents self.new) bytes.now) }
+        ensures fault { OnErr result (TakesSome (contents self.old) (contents self.new) bytes.now) }
+        ensures failed { OnErr result (HasFailed (failures self.old) (failures self.new)) }
+        ensures unfailed { OnOk result (failures self.new ≡ failures self.old) }
+        ensures later { failures self.old ≤ failures self.new }
+    {
+        let mut rest = bytes;
+        while !rest.is_empty() {
+            let taken = self.write(rest)?;
+            rest = &rest[taken..];
+        }
+        Ok(())
+    }
+}
+
+/// A reader or a writer of `std::io`, with its failures counted.
+///
+/// Whatever error the inner one answers is a fault, also that a call was interrupted, and so is a
+/// write that takes none of the bytes that it is given.
+#[derive(Drop)]
+pub struct Device<T> {
+    inner: T,
+    failures: u64,
+}
+
+impl<T> Device<T> {
+    /// A device that has not failed.
+    pub fn new(inner: T) -> Self
+        ensures inner { device_inner result ≡ inner }
+        ensures unfailed { failure_count result ≡ 0 }
+    {
+        Device { inner, failures: 0 }
+    }
+}
+
+impl<T: io::Read> Read for Device<T> {
+    ghost remaining = { λ d. T.remaining (device_inner d) };
+
+    ghost failures = { failure_count };
+
+    fn read(&mut self, buf: &mut [u8]) -> Result<usize, DeviceFault> {
+        if self.failures == u64::MAX {
+            return Err(DeviceFault);
+        }
+        match self.inner.read(buf) {
+            Ok(n) => Ok(n),
+            Err(_) => {
+                self.failures += 1;
+                Err(DeviceFault)
+            }
+        }
+    }
+}
+
+impl<T: io::Write> Write for Device<T> {
+    ghost contents = { λ d. T.contents (device_inner d) };
+
+    ghost failures = { failure_count };
+
+    fn write(&mut self, bytes: &[u8]) -> Result<usize, DeviceFault> {
+        if self.failures == u64::MAX {
+            return Err(DeviceFault);
+        }
+        match self.inner.write(bytes) {
+            Ok(n) if n > 0 || bytes.is_empty() => Ok(n),
+            _ => {
+                self.failures += 1;
+                Err(DeviceFault)
+            }
+        }
+    }
+}

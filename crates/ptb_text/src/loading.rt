@@ -1,0 +1,162 @@
+// This file loads a program text: it reads the bytes, and enters the lines one after the other.
+
+ghost use Rattle.std.specs.Prelude.{◌≡◌, ◌+◌, ◌<◌, ◌≤◌, ◌≢◌, ◌==◌, ℕ, [], ◌∷◌, List, length, map, IfErr, IfOk, IfSome, IsOk, OnOk, position, take, vec_len};
+ghost use Rattle.std.specs.Io.KnownBytes.{Consumes, IsAtEnd};
+ghost use Rattle.std.specs.Str.Lines.{strip_carriage_return};
+ghost use Rattle.ptb_text.specs.Device.{HasFailed};
+ghost use Rattle.ptb_text.specs.Entry.{IsLineFault};
+ghost use Rattle.ptb_text.specs.Lines.{lines, tab_as_space};
+ghost use Rattle.ptb_text.specs.Loading.{AcceptsLines, IsLoaded, IsRefusedAt};
+ghost use Rattle.ptb_text.specs.Statements.{IsMemorySize, after_lines, program_limit};
+
+use crate::{LoadFault, Program, Read};
+use std::alloc::Global;
+
+/// How many bytes a program text may have.
+const PROGRAM_LIMIT: usize = 1_048_576;
+
+/// How many bytes are asked for at a time.
+const PIECE: usize = 4096;
+
+/// Loads a program text into a program that is given this memory, 64 to 32767.
+///
+/// All bytes are read first, at most 1,048,577. In each line a tab counts as a space, and one byte
+/// 13 at the end is dropped. Then the lines are entered one after the other, by
+/// [`Program::enter`].
+///
+/// # Errors
+///
+/// The first fault, with the source line that it came at, counted from 1. A fault of the text as a
+/// whole comes at line 0: `Read` where the reader failed, `TooLong` where it gave more than
+/// 1,048,576 bytes, `Memory` where a growth was refused while it was read.
+pub fn load<R: Read>(
+    alloc: Global,
+    memory: u16,
+    reader: &mut R,
+) -> Result<Program, (u32, LoadFault)>
+    requires { IsMemorySize memory }
+    ensures memory { IfOk result (λ p. p.memory ≡ memory) }
+    ensures ok { IfOk result
+        (λ p. IfSome (R.remaining reader.old) (λ text. IsLoaded memory text p.lines)) }
+    ensures refused { IfErr result (λ e. IsLineFault e.1
+        → IfSome (R.remaining reader.old) (λ text. IsRefusedAt memory text e)) }
+    ensures too_long { IfErr result (λ e. e.1 ≡ LoadFault.TooLong
+        → (e.0 ≡ 0) × IfSome (R.remaining reader.old) (λ text. program_limit < length text)) }
+    ensures read { IfErr result (λ e. e.1 ≡ LoadFault.Read
+        → (e.0 ≡ 0) × HasFailed (R.failures reader.old) (R.failures reader.new)) }
+    ensures memory_last { IfErr result (λ e. e.1 ≡ LoadFault.Memory
+        → IfSome (R.remaining reader.old) (λ text. AcceptsLines memory text e.0)) }
+
+    // What the reader gave, and that it did not fail where no other fault is answered.
+    ensures bounded { (bs : List ℕ)
+        × Consumes (R.remaining reader.old) (R.remaining reader.new) bs × (length bs ≤ program_limit + 1) }
+    ensures unfailed { IfErr result (λ e. e.1 ≢ LoadFault.Read
+        → R.failures reader.new ≡ R.failures reader.old) }
+    ensures unfailed_ok { OnOk result (R.failures reader.new ≡ R.failures reader.old) }
+{
+    let mut text = match program_text(alloc, reader) {
+        Ok(text) => text,
+        Err(fault) => return Err((0, fault)),
+    };
+    tabs_to_spaces(&mut text);
+    enter_lines(Program::new(alloc, memory), &text)
+}
+
+// All that the reader gives to its end, if that isn't too much.
+fn program_text<R: Read>(alloc: Global, reader: &mut R) -> Result<Vec<u8>, LoadFault>
+    ensures ok { IfOk result (λ text. IfSome (R.remaining reader.old) (λ b. b ≡ text.items)) }
+    ensures short { IfOk result (λ text. vec_len text ≤ program_limit) }
+    ensures at_end { OnOk result (IsAtEnd (R.remaining reader.new)) }
+    ensures too_long { IfErr result (λ f. f ≡ LoadFault.TooLong
+        → IfSome (R.remaining reader.old) (λ b. program_limit < length b)) }
+    ensures read { IfErr result (λ f. f ≡ LoadFault.Read
+        → HasFailed (R.failures reader.old) (R.failures reader.new)) }
+    ensures unfailed { IfErr result (λ f. f ≢ LoadFault.Read
+        → R.failures reader.new ≡ R.failures reader.old) }
+    ensures unfailed_ok { OnOk result (R.failures reader.new ≡ R.failures reader.old) }
+    ensures line_fault { IfErr result (λ f. ¬ IsLineFault f) }
+    ensures bounded { (bs : List ℕ)
+        × Consumes (R.remaining reader.old) (R.remaining reader.new) bs × (length bs ≤ program_limit + 1) }
+{
+    let mut text = Vec::new(alloc);
+    let mut piece = [0; PIECE];
+    while text.len() <= PROGRAM_LIMIT {
+        let room = PIECE.min(PROGRAM_LIMIT + 1 - text.len());
+        let Ok(taken) = reader.read(&mut piece[..room]) else {
+            return Err(LoadFault::Read);
+        };
+        if taken == 0 {
+            return Ok(text);
+        }
+        if text.extend_from_slice(&piece[..taken]).is_err() {
+            return Err(LoadFault::Memory);
+        }
+    }
+    Err(LoadFault::TooLong)
+}
+
+// In a program text a tab counts as a space.
+fn tabs_to_spaces(text: &mut [u8])
+    ensures { text.new ≡ map tab_as_space text.old }
+{
+    for byte in text.iter_mut() {
+        if *byte == b'\t' {
+            *byte = b' ';
+        }
+    }
+}
+
+// The first line of a text that isn't empty, and the text behind it.
+fn split_line(text: &[u8]) -> (&[u8], &[u8])
+    requires { 0 < length text.now }
+    ensures lines { lines text.now ≡ result.0.now ∷ lines result.1.now }
+    ensures shorter { length result.1.now < length text.now }
+{
+    match newline(text) {
+        Some(end) => (strip_carriage_return(&text[..end]), &text[end + 1..]),
+        None => (strip_carriage_return(text), &[]),
+    }
+}
+
+// The index of the first byte 10.
+fn newline(text: &[u8]) -> Option<usize>
+    ensures value { result ≡ position (λ b. b == 10) text.now }
+    ensures within { IfSome result (λ end. end < length text.now) }
+{
+    text.iter().position(|b| *b == b'\n')
+}
+
+// The line without the one byte 13 at its end, if it has one.
+fn strip_carriage_return(line: &[u8]) -> &[u8]
+    ensures { result.now ≡ strip_carriage_return line.now }
+{
+    match line {
+        [front @ .., b'\r'] => front,
+        _ => line,
+    }
+}
+
+// Enters the lines of a text without tabs into a program without statements.
+fn enter_lines(mut program: Program, text: &[u8]) -> Result<Program, (u32, LoadFault)>
+    requires empty { program.lines ≡ [] }
+    requires short { length text.now ≤ program_limit }
+    ensures memory { IfOk result (λ p. p.memory ≡ program.memory) }
+    ensures ok { IfOk result
+        (λ p. after_lines (lines text.now) 1 [] program.memory ≡ Ok p.lines) }
+    ensures refused { IfErr result (λ e. IsLineFault e.1
+        → after_lines (lines text.now) 1 [] program.memory ≡ Err e) }
+    ensures memory_last { IfErr result (λ e. ¬ IsLineFault e.1 → (e.1 ≡ LoadFault.Memory)
+        × IsOk (after_lines (take e.0 (lines text.now)) 1 [] program.memory)) }
+{
+    let mut rest = text;
+    let mut entered: u32 = 0;
+    while !rest.is_empty() {
+        let (line, behind) = split_line(rest);
+        if let Err(fault) = program.enter(line) {
+            return Err((entered + 1, fault));
+        }
+        entered += 1;
+        rest = behind;
+    }
+    Ok(program)
+}

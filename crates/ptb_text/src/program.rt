@@ -1,0 +1,280 @@
+// This file has the program: the texts of its statements under their numbers.
+
+ghost use Rattle.std.specs.Prelude.{◌≡◌, ◌+◌, ◌<◌, ◌≤◌, ◌^◌, [], length, IsOk, IfOk, IfErr, OnOk, OnErr, IsSome, IfSome, OnSome, Some, option_map, pos, ◌<ℤ◌, IsTrue, ◌↔◌, slice_get};
+ghost use Rattle.std.specs.Option.{option_copied};
+ghost use Rattle.ptb_text.specs.Entry.{Enters, IsLineFault};
+ghost use Rattle.ptb_text.specs.Statements.{IsMemorySize, IsSound, IsText, after_line, first_number, if_room, is_statement, number_above, size_of, text_limit, text_under, with_text, without_number};
+ghost use Rattle.ptb_text.specs.Places.{IsAt, IsGapFor};
+
+use crate::LoadFault;
+use crate::line::numbered_line;
+use std::alloc::Global;
+use std::marker::Model;
+
+/// The greatest length of a statement's text.
+const TEXT_LIMIT: usize = 255;
+
+#[derive(Debug, Drop)]
+struct Statement {
+    number: u16,
+    text: Vec<u8>,
+}
+
+/// A program: the texts of its statements under their numbers, and the memory that it is given.
+///
+/// A number is 1 to 32767. A text has 1 to 255 bytes from space to tilde, the first no space. A
+/// statement takes the length of its text and 3 of the memory, and all of them together no more
+/// than there is.
+#[derive(Debug, Drop)]
+pub struct Program {
+    // rising by their numbers
+    statements: Vec<Statement>,
+    // what the statements take of the memory
+    cost: u16,
+    memory: u16,
+}
+
+impl Model for Program {
+    ghost use Rattle.ptb_text.specs.Statements.{StoredProgram};
+
+    ghost Value = { StoredProgram };
+
+    ghost use Rattle.ptb_text.specs.Program.{stored_program, IsKept};
+
+    ghost view = { stored_program };
+
+    ghost invariant = { IsKept };
+}
+
+impl Program {
+    /// A program without statements, with a memory of 64 to 32767.
+    pub fn new(alloc: Global, memory: u16) -> Program
+        requires { IsMemorySize memory }
+        ensures { result ≡ record { lines = []; memory = memory } }
+    {
+        Program {
+            statements: Vec::new(alloc),
+            cost: 0,
+            memory,
+        }
+    }
+
+    /// The memory that it is given, 64 to 32767.
+    pub fn memory(&self) -> u16
+        ensures value { result ≡ self.now.memory }
+        ensures sound { IsSound self.now }
+    {
+        self.memory
+    }
+
+    /// The memory that its statements leave, 0 to 32767.
+    pub fn size(&self) -> i16
+        ensures value { result ≡ pos (size_of self.now) }
+        ensures sound { IsSound self.now }
+    {
+        (self.memory - self.cost) as i16
+    }
+
+    /// The number of its statements.
+    pub fn len(&self) -> usize
+        ensures value { result ≡ length self.now.lines }
+        ensures sound { IsSound self.now }
+    {
+        self.statements.len()
+    }
+
+    /// Whether it has no statement.
+    pub fn is_empty(&self) -> bool
+        ensures value { IsTrue result ↔ (self.now.lines ≡ []) }
+        ensures sound { IsSound self.now }
+    {
+        self.statements.is_empty()
+    }
+
+    /// The text of the statement of this number, if there is one.
+    pub fn line(&self, n: i16) -> Option<&[u8]>
+        ensures value { option_copied result ≡ text_under self.now.lines n }
+        ensures number { OnSome result (pos 0 <ℤ n) }
+        ensures text { IfSome result (λ t. IsText t.now) }
+    {
+        let number = u16::try_from(n).ok()?;
+        let at = self.search(number).ok()?;
+        Some(&self.statements[at].text)
+    }
+
+    /// The least number of a statement, if there is one.
+    pub fn first(&self) -> Option<i16>
+        ensures value { result ≡ option_map pos (first_number self.now.lines) }
+        ensures text { IfSome result (λ n. IsSome (text_under self.now.lines n)) }
+        ensures number { IfSome result (λ n. pos 0 <ℤ n) }
+    {
+        self.number_at(0)
+    }
+
+    /// The least number of a statement above `n`, if there is one.
+    pub fn after(&self, n: i16) -> Option<i16>
+        ensures value { result ≡ option_map pos (number_above self.now.lines n) }
+        ensures text { IfSome result (λ n. IsSome (text_under self.now.lines n)) }
+        ensures number { IfSome result (λ k. pos 0 <ℤ k) }
+    {
+        let Ok(number) = u16::try_from(n) else {
+            return self.first();
+        };
+        match self.search(number) {
+            Ok(at) => self.number_at(at + 1),
+            Err(at) => self.number_at(at),
+        }
+    }
+
+    /// Enters a line: its text is stored under its number, in the place of an older one. A line
+    /// without a text deletes the statement, if there is one, and a line of blanks does nothing.
+    ///
+    /// The program stays as it was on each fault.
+    ///
+    /// # Errors
+    ///
+    /// In this order: `BadByte` for the first byte that isn't from space to tilde, which a tab and
+    /// a byte 13 are not; `NoNumber` where no number of at least 1 stands in front;
+    /// `NumberTooBig` for a number over 32767; `TextTooLong` for a text over 255 bytes; `Full`
+    /// where the statements would take more memory than there is; `Memory` where a growth was
+    /// refused.
+    pub fn enter(&mut self, line: &[u8]) -> Result<(), LoadFault>
+        ensures ok { OnOk result
+            (after_line self.old.lines self.old.memory line.now ≡ Ok self.new.lines) }
+        ensures refused { IfErr result
+            (λ f. IsLineFault f → after_line self.old.lines self.old.memory line.now ≡ Err f) }
+
+        // Want of memory comes last.
+        ensures memory_last { IfErr result (λ f. ¬ IsLineFault f
+            → (f ≡ LoadFault.Memory) × IsOk (after_line self.old.lines self.old.memory line.now)) }
+        ensures err { OnErr result (self.new ≡ self.old) }
+        ensures memory { self.new.memory ≡ self.old.memory }
+    {
+        let Some(line) = numbered_line(line)? else {
+            return Ok(());
+        };
+        if line.text.is_empty() {
+            self.delete(line.number);
+            return Ok(());
+        }
+        if line.text.len() > TEXT_LIMIT {
+            return Err(LoadFault::TextTooLong);
+        }
+        self.store(line.number, line.text)
+    }
+
+    /// The number and the text of the statement at this place of their order.
+    pub(crate) fn statement_at(&self, place: usize) -> (u16, &[u8])
+        requires { place < length self.now.lines }
+        ensures value { slice_get self.now.lines place ≡ Some (result.0, result.1.now) }
+        ensures text { length result.1.now ≤ text_limit }
+    {
+        let statement = &self.statements[place];
+        (statement.number, &statement.text)
+    }
+
+    // Deletes the statement of this number, if there is one.
+    fn delete(&mut self, number: u16)
+        ensures lines { self.new.lines ≡ without_number self.old.lines number }
+        ensures memory { self.new.memory ≡ self.old.memory }
+    {
+        if let Ok(at) = self.search(number) {
+            let deleted = self.statements.remove(at);
+            self.cost -= statement_cost(&deleted.text);
+        }
+    }
+
+    // Stores a text under a number.
+    fn store(&mut self, number: u16, text: &[u8]) -> Result<(), LoadFault>
+        requires { IsTrue (is_statement (number, text.now)) }
+        ensures { Enters (if_room self.old.memory (with_text self.old.lines number text.now))
+            self.old self.new result }
+    {
+        match self.search(number) {
+            Ok(at) => self.replace(at, number, text),
+            Err(at) => self.insert(at, number, text),
+        }
+    }
+
+    // Another text for the statement at a place.
+    fn replace(&mut self, at: usize, number: u16, text: &[u8]) -> Result<(), LoadFault>
+        requires statement { IsTrue (is_statement (number, text.now)) }
+        requires place { IsAt self.old.lines number at }
+        ensures { Enters (if_room self.old.memory (with_text self.old.lines number text.now))
+            self.old self.new result }
+    {
+        let cost = self.cost - statement_cost(&self.statements[at].text) + statement_cost(text);
+        if cost > self.memory {
+            return Err(LoadFault::Full);
+        }
+        let statement = self.statement(number, text)?;
+        self.statements[at] = statement;
+        self.cost = cost;
+        Ok(())
+    }
+
+    // A new statement, at the place where it goes.
+    fn insert(&mut self, at: usize, number: u16, text: &[u8]) -> Result<(), LoadFault>
+        requires statement { IsTrue (is_statement (number, text.now)) }
+        requires place { IsGapFor self.old.lines number at }
+        ensures { Enters (if_room self.old.memory (with_text self.old.lines number text.now))
+            self.old self.new result }
+    {
+        let cost = self.cost + statement_cost(text);
+        if cost > self.memory {
+            return Err(LoadFault::Full);
+        }
+        let statement = self.statement(number, text)?;
+        if self.statements.insert(at, statement).is_err() {
+            return Err(LoadFault::Memory);
+        }
+        self.cost = cost;
+        Ok(())
+    }
+
+    // A statement with a copy of the text.
+    fn statement(&self, number: u16, text: &[u8]) -> Result<Statement, LoadFault>
+        ensures ok { IfOk result (λ s. (s.number ≡ number) × (s.text.items ≡ text.now)) }
+        ensures memory { IfErr result (λ f. f ≡ LoadFault.Memory) }
+    {
+        let alloc = *self.statements.allocator();
+        match Vec::from_slice(alloc, text) {
+            Ok(text) => Ok(Statement { number, text }),
+            Err(_) => Err(LoadFault::Memory),
+        }
+    }
+
+    // The number of the statement at this place, if there is one.
+    fn number_at(&self, at: usize) -> Option<i16>
+        ensures value { result ≡ option_map (λ s. pos s.0) (slice_get self.now.lines at) }
+        ensures text { IfSome result (λ n. IsSome (text_under self.now.lines n)) }
+        ensures number { IfSome result (λ n. pos 0 <ℤ n) }
+    {
+        let statement = self.statements.get(at)?;
+        Some(statement.number as i16)
+    }
+
+    // Where the statement of this number stands, or where it would go. Lines mostly come in rising
+    // order, so the last statement is looked at first.
+    fn search(&self, number: u16) -> Result<usize, usize>
+        ensures found { IfOk result (IsAt self.now.lines number) }
+        ensures absent { IfErr result (IsGapFor self.now.lines number) }
+        ensures sound { IsSound self.now }
+        ensures bound { length self.now.lines < 2 ^ 63 }
+    {
+        match self.statements.last() {
+            Some(last) if last.number >= number => {
+                self.statements.binary_search_by_key(&number, |s| s.number)
+            }
+            _ => Err(self.statements.len()),
+        }
+    }
+}
+
+// What a statement takes of the memory: its text, two for its number and one for its end.
+fn statement_cost(text: &[u8]) -> u16
+    requires { length text.now ≤ text_limit }
+    ensures { result ≡ length text.now + 3 }
+{
+    text.len() as u16 + 3
+}
