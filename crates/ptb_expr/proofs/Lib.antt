@@ -1,0 +1,11 @@
+pub mod Agreement
+pub mod Evaluation
+pub mod Marks
+pub mod Parts
+pub mod Reaching
+pub mod Spelling
+pub mod Taking
+pub mod Uniqueness
+pub mod Worked
+pub mod Readers
+pub mod ValueReads

@@ -1,0 +1,95 @@
+-- This file proves which operator stands where a byte stands next.
+use Rattle.std.proofs.Common.{◌≡◌, ℕ, Bool, true, false, cond, List, refl, eqb, sym, ap, Option, Some, None}
+use Rattle.std.specs.Prelude.{IsFalse}
+use Rattle.std.proofs.lemmas.Bool.{ne_eqb}
+use Rattle.ptb_text.specs.declared.word.Table.TheVariants.{Functions}
+use Rattle.ptb_text.specs.Words.{past_blanks, token_at, pair_at, word_at}
+use Rattle.ptb_text.specs.Finding.{StandsNext, is_next, past_byte}
+use Rattle.ptb_expr.specs.declared.operator.Operator.{Operator}
+use Rattle.ptb_expr.specs.declared.operator.Operator.TheVariants.{Plus, Minus, Times, Over, AtLeast, NotEqual, Above, Equals, AtMost, Below}
+use Rattle.ptb_expr.specs.Operators.{product_operator, sum_operator, comparison}
+
+-- no byte stands next that is c
+other_byte : (c b : ℕ) → (b ≡ c → ⊥) → eqb c b ≡ false
+other_byte c b h = ne_eqb c b (λ e. h (sym e))
+
+-- ---- `*` and `/`
+
+pub times_next : (t : List ℕ) (i : ℕ) → StandsNext t i (Some 42) → product_operator t i ≡ Some (Times, past_byte t i)
+unfolding product_operator
+times_next t i s = rw (s.token 42) refl
+
+pub over_next : (t : List ℕ) (i : ℕ) → StandsNext t i (Some 47) → product_operator t i ≡ Some (Over, past_byte t i)
+unfolding product_operator
+over_next t i s = rw (s.token 42, s.token 47) refl
+
+pub no_product_operator_end : (t : List ℕ) (i : ℕ) → StandsNext t i None → product_operator t i ≡ None
+unfolding product_operator
+no_product_operator_end t i s = rw (s.token 42, s.token 47) refl
+
+pub no_product_operator : (t : List ℕ) (i b : ℕ) → StandsNext t i (Some b) → (b ≡ 42 → ⊥) → (b ≡ 47 → ⊥) → product_operator t i ≡ None
+unfolding product_operator
+no_product_operator t i b s f g = rw (s.token 42, s.token 47, other_byte 42 b f, other_byte 47 b g) refl
+
+-- ---- `+` and `-`
+
+pub plus_next : (t : List ℕ) (i : ℕ) → StandsNext t i (Some 43) → sum_operator t i ≡ Some (Plus, past_byte t i)
+unfolding sum_operator
+plus_next t i s = rw (s.token 43) refl
+
+pub minus_next : (t : List ℕ) (i : ℕ) → StandsNext t i (Some 45) → sum_operator t i ≡ Some (Minus, past_byte t i)
+unfolding sum_operator
+minus_next t i s = rw (s.token 43, s.token 45) refl
+
+pub no_sum_operator_end : (t : List ℕ) (i : ℕ) → StandsNext t i None → sum_operator t i ≡ None
+unfolding sum_operator
+no_sum_operator_end t i s = rw (s.token 43, s.token 45) refl
+
+pub no_sum_operator : (t : List ℕ) (i b : ℕ) → StandsNext t i (Some b) → (b ≡ 43 → ⊥) → (b ≡ 45 → ⊥) → sum_operator t i ≡ None
+unfolding sum_operator
+no_sum_operator t i b s f g = rw (s.token 43, s.token 45, other_byte 43 b f, other_byte 45 b g) refl
+
+-- ---- comparisons
+
+pub at_least_next : (t : List ℕ) (i j : ℕ) → pair_at 62 61 t i ≡ Some j → comparison t i ≡ Some (AtLeast, j)
+unfolding comparison
+at_least_next t i j e = rw e refl
+
+pub at_most_next : (t : List ℕ) (i j : ℕ) → StandsNext t i (Some 60) → pair_at 60 61 t i ≡ Some j → comparison t i ≡ Some (AtMost, j)
+unfolding comparison
+at_most_next t i j s e = rw (s.pair 62 61 refl, s.token 35, s.token 62, s.token 61, e) refl
+
+pub not_equal_next : (t : List ℕ) (i : ℕ) → StandsNext t i (Some 35) → comparison t i ≡ Some (NotEqual, past_byte t i)
+unfolding comparison
+not_equal_next t i s = rw (s.pair 62 61 refl, s.token 35) refl
+
+pub above_next : (t : List ℕ) (i : ℕ) → StandsNext t i (Some 62) → pair_at 62 61 t i ≡ None → comparison t i ≡ Some (Above, past_byte t i)
+unfolding comparison
+above_next t i s e = rw (e, s.token 35, s.token 62) refl
+
+pub equals_next : (t : List ℕ) (i : ℕ) → StandsNext t i (Some 61) → comparison t i ≡ Some (Equals, past_byte t i)
+unfolding comparison
+equals_next t i s = rw (s.pair 62 61 refl, s.token 35, s.token 62, s.token 61) refl
+
+pub below_next : (t : List ℕ) (i : ℕ) → StandsNext t i (Some 60) → pair_at 60 61 t i ≡ None → comparison t i ≡ Some (Below, past_byte t i)
+unfolding comparison
+below_next t i s e = rw (s.pair 62 61 refl, s.token 35, s.token 62, s.token 61, e, s.token 60) refl
+
+pub no_comparison_end : (t : List ℕ) (i : ℕ) → StandsNext t i None → comparison t i ≡ None
+unfolding comparison
+no_comparison_end t i s = rw (s.pair 62 61 refl, s.token 35, s.token 62, s.token 61, s.pair 60 61 refl, s.token 60) refl
+
+pub no_comparison : (t : List ℕ) (i b : ℕ) → StandsNext t i (Some b) → (b ≡ 62 → ⊥) → (b ≡ 60 → ⊥) → (b ≡ 35 → ⊥) → (b ≡ 61 → ⊥) → comparison t i ≡ None
+unfolding comparison
+no_comparison t i b s above below unequal equal =
+    let no_above : IsFalse (is_next (λ d. eqb 62 d) (Some b)) = other_byte 62 b above in
+    let no_below : IsFalse (is_next (λ d. eqb 60 d) (Some b)) = other_byte 60 b below in
+    rw (s.pair 62 61 no_above, s.token 35, s.token 62, s.token 61, s.pair 60 61 no_below, s.token 60, other_byte 35 b unequal, other_byte 62 b above, other_byte 61 b equal, other_byte 60 b below) refl
+
+-- ---- functions
+
+pub no_function_end : (t : List ℕ) (i : ℕ) → StandsNext t i None → word_at Functions t i ≡ None
+no_function_end t i s = s.word Functions refl
+
+pub no_function : (t : List ℕ) (i b : ℕ) → StandsNext t i (Some b) → (b ≡ 82 → ⊥) → (b ≡ 65 → ⊥) → (b ≡ 83 → ⊥) → word_at Functions t i ≡ None
+no_function t i b s r a z = s.word Functions (rw (ne_eqb b 82 r, ne_eqb b 65 a, ne_eqb b 83 z) refl)

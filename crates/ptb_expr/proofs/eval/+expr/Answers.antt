@@ -1,0 +1,328 @@
+-- This file answers what is left to prove of the functions that read an expression.
+use Rattle.std.proofs.Common.{rules, arith, ◌≡◌, ◌∙◌, sym, ap, length, Some, None, refl}
+use Rattle.std.proofs.lemmas.Int.{to_z-of_z}
+use Rattle.std.proofs.lemmas.Result.{err_from_is_err_and}
+use mir.Syntax.{w16}
+use Rattle.ptb_text.specs.declared.word.Table.TheVariants.{Functions}
+use Rattle.ptb_text.specs.declared.word.Word.TheVariants.{RndKw, AbsKw, SizeKw}
+use Rattle.ptb_text.specs.Words.{token_at, word_at, number_at, letter_at}
+use Rattle.ptb_expr.specs.Operators.{product_operator, sum_operator, comparison}
+use Rattle.ptb_expr.proofs.Reaching.{reaches_same, runs_then}
+use Rattle.ptb_expr.proofs.Parts.{part_ok, part_err, operate_last, part_ends, part_is, more_ok, more_err, more_how, more_ends, at_text, product_is, sum_is, first_product_minus, first_product_plain, expr_is, compared_goes, compared_ends, at_spot, part_faults, within_runs, paren_opens, paren_missing, close_closes, close_missing, factor_rnd, factor_abs, factor_size, factor_plain, plain_letter, plain_element, plain_number, plain_too_big, plain_paren}
+use Rattle.ptb_expr.proofs.eval.+expr.Goals as goal
+
+pub expr-returns-in_err-x-clause-value : goal.expr-returns-in_err-x-clause-value
+expr-returns-in_err-x-clause-value g m c = λ t n same enough.
+    let p = err_from_is_err_and c.from_residual.result c.from_residual.ensures.1 in
+    rw (p.1, p.2) (part_err _ _ _ _ _ _ _ _ _ _ _ (reaches_same _ _) (expr_is _ _ _ _) (c.in_err-x.ensures.value t n same enough))
+
+pub expr-returns-in_default-clause-value : goal.expr-returns-in_default-clause-value
+expr-returns-in_default-clause-value g m c = λ t n same enough.
+    let ex = to_z-of_z w16 c.in_ok-x.x (search rules) in
+    let none : comparison t c.sum.new.cursor.place ≡ None = at_text (λ u. comparison u c.sum.new.cursor.place) (c.in_ok-x.ensures.text ∙ same) c.in_default.ensures.value in
+    rw ex (part_ends _ _ _ _ _ _ _ _ (part_ok _ _ _ _ _ _ _ _ _ _ (reaches_same _ _) (expr_is _ _ _ _) (c.in_ok-x.ensures.value t n same enough)) (compared_ends _ _ _ _ none) (c.in_default.ensures.absent refl))
+
+pub expr-returns-in_err-y-clause-value : goal.expr-returns-in_err-y-clause-value
+expr-returns-in_err-y-clause-value g m c = λ t n same enough.
+    let here : comparison t c.sum.new.cursor.place ≡ Some (c.in-Some.op, c.take_comparison.new.cursor.place) = at_text (λ u. comparison u c.sum.new.cursor.place) (c.in_ok-x.ensures.text ∙ same) c.in-Some.ensures.value in
+    let same' = c.in-Some.ensures.text ∙ c.in_ok-x.ensures.text ∙ same in
+    let left' = c.in_ok-x.ensures.left in
+    let taken' = c.in-Some.ensures.taken refl in
+    let p = err_from_is_err_and c.from_residual-in_err-y.result c.from_residual-in_err-y.ensures.1 in
+    rw (p.1, p.2) (part_err _ _ _ _ _ _ _ _ _ _ _ (part_ok _ _ _ _ _ _ _ _ _ _ (reaches_same _ _) (expr_is _ _ _ _) (c.in_ok-x.ensures.value t n same enough)) (compared_goes _ _ _ _ _ here) (c.in_err-y.ensures.value t n same' (omega arith)))
+
+pub expr-returns-clause-value : goal.expr-returns-clause-value
+expr-returns-clause-value g m c = λ t n same enough.
+    let ex = to_z-of_z w16 c.in_ok-x.x (search rules) in
+    let ey = to_z-of_z w16 c.in_ok-y.y (search rules) in
+    let here : comparison t c.sum.new.cursor.place ≡ Some (c.in-Some.op, c.take_comparison.new.cursor.place) = at_text (λ u. comparison u c.sum.new.cursor.place) (c.in_ok-x.ensures.text ∙ same) c.in-Some.ensures.value in
+    let same' = c.in-Some.ensures.text ∙ c.in_ok-x.ensures.text ∙ same in
+    let left' = c.in_ok-x.ensures.left in
+    let taken' = c.in-Some.ensures.taken refl in
+    rw (c.at_mark.ensures, c.apply.ensures, c.place.ensures, ex, ey) (operate_last _ _ _ _ _ _ _ _ _ _ (part_ok _ _ _ _ _ _ _ _ _ _ (reaches_same _ _) (expr_is _ _ _ _) (c.in_ok-x.ensures.value t n same enough)) (compared_goes _ _ _ _ _ here) (c.in_ok-y.ensures.value t n same' (omega arith)))
+
+pub product-returns-in_err-x-clause-value : goal.product-returns-in_err-x-clause-value
+product-returns-in_err-x-clause-value g m c = λ t n same enough.
+    let p = err_from_is_err_and c.from_residual.result c.from_residual.ensures.1 in
+    rw (p.1, p.2) (part_err _ _ _ _ _ _ _ _ _ _ _ (reaches_same _ _) (product_is _ _ _ _) (c.in_err-x.ensures.value t n same enough))
+
+pub product-loop-op-init : goal.product-loop-op-init
+product-loop-op-init g m c = record {
+  text = c.in_ok-x.ensures.text;
+  fewer = c.in_ok-x.ensures.left;
+  reaches = λ t n same enough.
+      let ex = to_z-of_z w16 c.in_ok-x.x (search rules) in (
+        length t,
+        omega (arith, ap length c.in_ok-x.ensures.text, ap length same),
+        rw ex (part_ok _ _ _ _ _ _ _ _ _ _ (reaches_same _ _) (product_is _ _ _ _) (c.in_ok-x.ensures.value t n same enough)),
+      );
+}
+
+pub product-returns-in_err-y-clause-value : goal.product-returns-in_err-y-clause-value
+product-returns-in_err-y-clause-value g m c = λ t n same enough.
+    let i = c.loop-op.invariant.reaches t n same enough in
+    let here : product_operator t c.loop-op.cursor.place ≡ Some (c.in-Some.op, c.take_product_operator.new.cursor.place) = at_text (λ u. product_operator u c.loop-op.cursor.place) (c.loop-op.invariant.text ∙ same) c.in-Some.ensures.value in
+    let same' = c.in-Some.ensures.text ∙ c.loop-op.invariant.text ∙ same in
+    let fewer = c.loop-op.invariant.fewer in
+    let taken' = c.in-Some.ensures.taken refl in
+    let p = err_from_is_err_and c.from_residual-in_err-y.result c.from_residual-in_err-y.ensures.1 in
+    rw (p.1, p.2) (more_err _ _ _ _ _ _ _ _ _ _ _ _ _ _ i.1 (omega arith) i.2 here (c.in_err-y.ensures.value t n same' (omega arith)))
+
+pub product-returns-in_err-x-2-clause-value : goal.product-returns-in_err-x-2-clause-value
+product-returns-in_err-x-2-clause-value g m c = λ t n same enough.
+    let i = c.loop-op.invariant.reaches t n same enough in
+    let here : product_operator t c.loop-op.cursor.place ≡ Some (c.in-Some.op, c.take_product_operator.new.cursor.place) = at_text (λ u. product_operator u c.loop-op.cursor.place) (c.loop-op.invariant.text ∙ same) c.in-Some.ensures.value in
+    let same' = c.in-Some.ensures.text ∙ c.loop-op.invariant.text ∙ same in
+    let fewer = c.loop-op.invariant.fewer in
+    let taken' = c.in-Some.ensures.taken refl in
+    let ey = to_z-of_z w16 c.in_ok-y.y (search rules) in
+    let p = err_from_is_err_and c.from_residual-in_err-x-2.result c.from_residual-in_err-x-2.ensures.1 in
+    rw (p.1, p.2) (more_how _ _ _ _ _ _ _ _ _ _ _ _ _ _ _ i.1 (omega arith) i.2 here (c.in_ok-y.ensures.value t n same' (omega arith)) (cc (c.at_mark.ensures, c.apply.ensures, c.place.ensures, ey, c.in_err-x-2.was)))
+
+pub product-loop-op-preserved : goal.product-loop-op-preserved
+product-loop-op-preserved g m c = record {
+  text = c.in_ok-y.ensures.text ∙ c.in-Some.ensures.text ∙ c.loop-op.invariant.text;
+  fewer = omega (arith, c.in_ok-y.ensures.left, c.in-Some.ensures.taken refl, c.loop-op.invariant.fewer);
+  reaches = λ t n same enough.
+      let ex = to_z-of_z w16 c.in_ok-x-2.x (search rules) in
+      let ey = to_z-of_z w16 c.in_ok-y.y (search rules) in
+      let i = c.loop-op.invariant.reaches t n same enough in
+      let here : product_operator t c.loop-op.cursor.place ≡ Some (c.in-Some.op, c.take_product_operator.new.cursor.place) = at_text (λ u. product_operator u c.loop-op.cursor.place) (c.loop-op.invariant.text ∙ same) c.in-Some.ensures.value in
+      let same' = c.in-Some.ensures.text ∙ c.loop-op.invariant.text ∙ same in
+      let fewer = c.loop-op.invariant.fewer in
+      let taken' = c.in-Some.ensures.taken refl in
+      rw ex (more_ok _ _ _ _ _ _ _ _ _ _ _ _ _ _ _ i.1 (omega (arith, c.in_ok-y.ensures.left)) i.2 here (c.in_ok-y.ensures.value t n same' (omega arith)) (cc (c.at_mark.ensures, c.apply.ensures, c.place.ensures, ey, c.in_ok-x-2.was)));
+}
+
+pub product-returns-clause-value : goal.product-returns-clause-value
+product-returns-clause-value g m c = λ t n same enough.
+    let i = c.loop-op.invariant.reaches t n same enough in
+    let none : product_operator t c.loop-op.cursor.place ≡ None = at_text (λ u. product_operator u c.loop-op.cursor.place) (c.loop-op.invariant.text ∙ same) c.in_default.ensures.value in
+    part_ends _ _ _ _ _ _ _ _ i.2 (more_ends _ _ _ _ none) (c.in_default.ensures.absent refl)
+
+pub sum-returns-in_err-x-clause-value : goal.sum-returns-in_err-x-clause-value
+sum-returns-in_err-x-clause-value g m c = λ t n same enough.
+    let p = err_from_is_err_and c.from_residual.result c.from_residual.ensures.1 in
+    rw (p.1, p.2) (part_err _ _ _ _ _ _ _ _ _ _ _ (reaches_same _ _) (sum_is _ _ _ _) (c.in_err-x.ensures.value t n same enough))
+
+pub sum-loop-op-init : goal.sum-loop-op-init
+sum-loop-op-init g m c = record {
+  text = c.in_ok-x.ensures.text;
+  fewer = c.in_ok-x.ensures.left;
+  reaches = λ t n same enough.
+      let ex = to_z-of_z w16 c.in_ok-x.x (search rules) in (
+        length t,
+        omega (arith, ap length c.in_ok-x.ensures.text, ap length same),
+        rw ex (part_ok _ _ _ _ _ _ _ _ _ _ (reaches_same _ _) (sum_is _ _ _ _) (c.in_ok-x.ensures.value t n same enough)),
+      );
+}
+
+pub sum-returns-in_err-y-clause-value : goal.sum-returns-in_err-y-clause-value
+sum-returns-in_err-y-clause-value g m c = λ t n same enough.
+    let i = c.loop-op.invariant.reaches t n same enough in
+    let here : sum_operator t c.loop-op.cursor.place ≡ Some (c.in-Some.op, c.take_sum_operator.new.cursor.place) = at_text (λ u. sum_operator u c.loop-op.cursor.place) (c.loop-op.invariant.text ∙ same) c.in-Some.ensures.value in
+    let same' = c.in-Some.ensures.text ∙ c.loop-op.invariant.text ∙ same in
+    let fewer = c.loop-op.invariant.fewer in
+    let taken' = c.in-Some.ensures.taken refl in
+    let p = err_from_is_err_and c.from_residual-in_err-y.result c.from_residual-in_err-y.ensures.1 in
+    rw (p.1, p.2) (more_err _ _ _ _ _ _ _ _ _ _ _ _ _ _ i.1 (omega arith) i.2 here (c.in_err-y.ensures.value t n same' (omega arith)))
+
+pub sum-returns-in_err-x-2-clause-value : goal.sum-returns-in_err-x-2-clause-value
+sum-returns-in_err-x-2-clause-value g m c = λ t n same enough.
+    let i = c.loop-op.invariant.reaches t n same enough in
+    let here : sum_operator t c.loop-op.cursor.place ≡ Some (c.in-Some.op, c.take_sum_operator.new.cursor.place) = at_text (λ u. sum_operator u c.loop-op.cursor.place) (c.loop-op.invariant.text ∙ same) c.in-Some.ensures.value in
+    let same' = c.in-Some.ensures.text ∙ c.loop-op.invariant.text ∙ same in
+    let fewer = c.loop-op.invariant.fewer in
+    let taken' = c.in-Some.ensures.taken refl in
+    let ey = to_z-of_z w16 c.in_ok-y.y (search rules) in
+    let p = err_from_is_err_and c.from_residual-in_err-x-2.result c.from_residual-in_err-x-2.ensures.1 in
+    rw (p.1, p.2) (more_how _ _ _ _ _ _ _ _ _ _ _ _ _ _ _ i.1 (omega arith) i.2 here (c.in_ok-y.ensures.value t n same' (omega arith)) (cc (c.at_mark.ensures, c.apply.ensures, c.place.ensures, ey, c.in_err-x-2.was)))
+
+pub sum-loop-op-preserved : goal.sum-loop-op-preserved
+sum-loop-op-preserved g m c = record {
+  text = c.in_ok-y.ensures.text ∙ c.in-Some.ensures.text ∙ c.loop-op.invariant.text;
+  fewer = omega (arith, c.in_ok-y.ensures.left, c.in-Some.ensures.taken refl, c.loop-op.invariant.fewer);
+  reaches = λ t n same enough.
+      let ex = to_z-of_z w16 c.in_ok-x-2.x (search rules) in
+      let ey = to_z-of_z w16 c.in_ok-y.y (search rules) in
+      let i = c.loop-op.invariant.reaches t n same enough in
+      let here : sum_operator t c.loop-op.cursor.place ≡ Some (c.in-Some.op, c.take_sum_operator.new.cursor.place) = at_text (λ u. sum_operator u c.loop-op.cursor.place) (c.loop-op.invariant.text ∙ same) c.in-Some.ensures.value in
+      let same' = c.in-Some.ensures.text ∙ c.loop-op.invariant.text ∙ same in
+      let fewer = c.loop-op.invariant.fewer in
+      let taken' = c.in-Some.ensures.taken refl in
+      rw ex (more_ok _ _ _ _ _ _ _ _ _ _ _ _ _ _ _ i.1 (omega (arith, c.in_ok-y.ensures.left)) i.2 here (c.in_ok-y.ensures.value t n same' (omega arith)) (cc (c.at_mark.ensures, c.apply.ensures, c.place.ensures, ey, c.in_ok-x-2.was)));
+}
+
+pub sum-returns-clause-value : goal.sum-returns-clause-value
+sum-returns-clause-value g m c = λ t n same enough.
+    let i = c.loop-op.invariant.reaches t n same enough in
+    let none : sum_operator t c.loop-op.cursor.place ≡ None = at_text (λ u. sum_operator u c.loop-op.cursor.place) (c.loop-op.invariant.text ∙ same) c.in_default.ensures.value in
+    part_ends _ _ _ _ _ _ _ _ i.2 (more_ends _ _ _ _ none) (c.in_default.ensures.absent refl)
+
+pub first_product-returns-in_err-x-clause-value : goal.first_product-returns-in_err-x-clause-value
+first_product-returns-in_err-x-clause-value g m c = λ t n same enough.
+    let here : token_at 45 t c.args.cursor.now.place ≡ Some c.token.new.self.place = at_text (λ u. token_at 45 u c.args.cursor.now.place) same c.if-token.ensures.value in
+    let left' = c.if-token.ensures.left in
+    let text' = c.if-token.ensures.text ∙ same in
+    let p = err_from_is_err_and c.from_residual.result c.from_residual.ensures.1 in
+    rw (p.1, p.2) (part_err _ _ _ _ _ _ _ _ _ _ _ (reaches_same _ _) (first_product_minus _ _ _ _ _ here) (c.in_err-x.ensures.value t n text' (omega arith)))
+
+pub first_product-returns-then-token-clause-value : goal.first_product-returns-then-token-clause-value
+first_product-returns-then-token-clause-value g m c = λ t n same enough.
+    let ex = to_z-of_z w16 c.in_ok-x.x (search rules) in
+    let here : token_at 45 t c.args.cursor.now.place ≡ Some c.token.new.self.place = at_text (λ u. token_at 45 u c.args.cursor.now.place) same c.if-token.ensures.value in
+    let left' = c.if-token.ensures.left in
+    let text' = c.if-token.ensures.text ∙ same in
+    rw (c.at_mark.ensures, c.negate.ensures, c.place.ensures, ex) (operate_last _ _ _ _ _ _ _ _ _ _ (reaches_same _ _) (first_product_minus _ _ _ _ _ here) (c.in_ok-x.ensures.value t n text' (omega arith)))
+
+pub first_product-returns-clause-value : goal.first_product-returns-clause-value
+first_product-returns-clause-value g m c = λ t n same enough.
+    let none : token_at 45 t c.args.cursor.now.place ≡ None = at_text (λ u. token_at 45 u c.args.cursor.now.place) same c.if-token.ensures.value in
+    let left' = c.if-token.ensures.left in
+    let text' = c.if-token.ensures.text ∙ same in
+    let place' = c.if-token.ensures.absent refl in
+    let plus = at_spot (λ u i. token_at 43 u i) text' place' c.token-2.ensures.value in
+    part_is _ _ _ _ _ _ _ (first_product_plain _ _ _ _ _ c.token-2.result none plus (λ no. c.token-2.ensures.absent no ∙ place')) (c.product-2.ensures.value t n (c.token-2.ensures.text ∙ text') (omega (arith, c.token-2.ensures.left)))
+
+pub paren-returns-then-not-token-clause-value : goal.paren-returns-then-not-token-clause-value
+paren-returns-then-not-token-clause-value g m c = λ t n same enough.
+    let none : token_at 40 t c.args.cursor.now.place ≡ None = at_text (λ u. token_at 40 u c.args.cursor.now.place) same c.if-not-token.ensures.value in
+    part_faults _ _ _ _ _ _ _ _ _ _ (reaches_same _ _) (paren_missing _ _ _ _ none) c.fault_at.ensures (c.place.ensures ∙ c.if-not-token.ensures.absent refl)
+
+pub paren-returns-in_err-x-clause-value : goal.paren-returns-in_err-x-clause-value
+paren-returns-in_err-x-clause-value g m c = λ t n same enough.
+    let here : token_at 40 t c.args.cursor.now.place ≡ Some c.token.new.self.place = at_text (λ u. token_at 40 u c.args.cursor.now.place) same c.if-not-token.ensures.value in
+    let taken' = c.if-not-token.ensures.taken refl in
+    let text' = c.if-not-token.ensures.text ∙ same in
+    let p = err_from_is_err_and c.from_residual.result c.from_residual.ensures.1 in
+    rw (p.1, p.2) (part_err _ _ _ _ _ _ _ _ _ _ _ (reaches_same _ _) (paren_opens _ _ _ _ _ here) (within_runs _ t c.args.store.now n _ _ _ _ _ _ (omega arith) (λ k h. c.in_err-x.ensures.value t k text' h)))
+
+pub paren-returns-then-not-token-2-clause-value : goal.paren-returns-then-not-token-2-clause-value
+paren-returns-then-not-token-2-clause-value g m c = λ t n same enough.
+    let here : token_at 40 t c.args.cursor.now.place ≡ Some c.token.new.self.place = at_text (λ u. token_at 40 u c.args.cursor.now.place) same c.if-not-token.ensures.value in
+    let taken' = c.if-not-token.ensures.taken refl in
+    let text' = c.if-not-token.ensures.text ∙ same in
+    let none : token_at 41 t c.expr.new.cursor.place ≡ None = at_text (λ u. token_at 41 u c.expr.new.cursor.place) (c.in_ok-x.ensures.text ∙ text') c.if-not-token-2.ensures.value in
+    part_faults _ _ _ _ _ _ _ _ _ _ (part_ok _ _ _ _ _ _ _ _ _ _ (reaches_same _ _) (paren_opens _ _ _ _ _ here) (within_runs _ t c.args.store.now n _ _ _ _ _ _ (omega arith) (λ k h. c.in_ok-x.ensures.value t k text' h))) (close_missing _ _ _ _ none) c.fault_at-then-not-token-2.ensures (c.place-then-not-token-2.ensures ∙ c.if-not-token-2.ensures.absent refl)
+
+pub paren-returns-clause-value : goal.paren-returns-clause-value
+paren-returns-clause-value g m c = λ t n same enough.
+    let here : token_at 40 t c.args.cursor.now.place ≡ Some c.token.new.self.place = at_text (λ u. token_at 40 u c.args.cursor.now.place) same c.if-not-token.ensures.value in
+    let taken' = c.if-not-token.ensures.taken refl in
+    let text' = c.if-not-token.ensures.text ∙ same in
+    let ex = to_z-of_z w16 c.in_ok-x.x (search rules) in
+    let shut : token_at 41 t c.expr.new.cursor.place ≡ Some c.token-2.new.self.place = at_text (λ u. token_at 41 u c.expr.new.cursor.place) (c.in_ok-x.ensures.text ∙ text') c.if-not-token-2.ensures.value in
+    rw ex (part_ends _ _ _ _ _ _ _ _ (part_ok _ _ _ _ _ _ _ _ _ _ (reaches_same _ _) (paren_opens _ _ _ _ _ here) (within_runs _ t c.args.store.now n _ _ _ _ _ _ (omega arith) (λ k h. c.in_ok-x.ensures.value t k text' h))) (close_closes _ _ _ _ _ shut) refl)
+
+pub factor-returns-in_err-bound-in-Some-RndKw-clause-value : goal.factor-returns-in_err-bound-in-Some-RndKw-clause-value
+factor-returns-in_err-bound-in-Some-RndKw-clause-value g m c = λ t n same enough.
+    let here : word_at Functions t c.args.cursor.now.place ≡ Some (RndKw, c.take_function.new.cursor.place) = at_text (λ u. word_at Functions u c.args.cursor.now.place) same (c.in-Some-RndKw.ensures.value ∙ ap (λ w. Some (w, c.take_function.new.cursor.place)) c.in-Some-RndKw.field-0-is) in
+    let left' = c.in-Some-RndKw.ensures.left in
+    let text' = c.in-Some-RndKw.ensures.text ∙ same in
+    let p = err_from_is_err_and c.from_residual.result c.from_residual.ensures.1 in
+    rw (p.1, p.2) (part_err _ _ _ _ _ _ _ _ _ _ _ (reaches_same _ _) (factor_rnd _ _ _ _ _ here) (c.in_err-bound-in-Some-RndKw.ensures.value t n text' (omega arith)))
+
+pub factor-returns-in_err-x-in-Some-AbsKw-clause-value : goal.factor-returns-in_err-x-in-Some-AbsKw-clause-value
+factor-returns-in_err-x-in-Some-AbsKw-clause-value g m c = λ t n same enough.
+    let here : word_at Functions t c.args.cursor.now.place ≡ Some (AbsKw, c.take_function.new.cursor.place) = at_text (λ u. word_at Functions u c.args.cursor.now.place) same (c.in-Some-AbsKw.ensures.value ∙ ap (λ w. Some (w, c.take_function.new.cursor.place)) c.in-Some-AbsKw.field-0-is) in
+    let left' = c.in-Some-AbsKw.ensures.left in
+    let text' = c.in-Some-AbsKw.ensures.text ∙ same in
+    let p = err_from_is_err_and c.from_residual-in_err-x-in-Some-AbsKw.result c.from_residual-in_err-x-in-Some-AbsKw.ensures.1 in
+    rw (p.1, p.2) (part_err _ _ _ _ _ _ _ _ _ _ _ (reaches_same _ _) (factor_abs _ _ _ _ _ here) (c.in_err-x-in-Some-AbsKw.ensures.value t n text' (omega arith)))
+
+pub factor-returns-in_ok-bound-in-Some-RndKw-clause-value : goal.factor-returns-in_ok-bound-in-Some-RndKw-clause-value
+factor-returns-in_ok-bound-in-Some-RndKw-clause-value g m c = λ t n same enough.
+    let here : word_at Functions t c.args.cursor.now.place ≡ Some (RndKw, c.take_function.new.cursor.place) = at_text (λ u. word_at Functions u c.args.cursor.now.place) same (c.in-Some-RndKw.ensures.value ∙ ap (λ w. Some (w, c.take_function.new.cursor.place)) c.in-Some-RndKw.field-0-is) in
+    let left' = c.in-Some-RndKw.ensures.left in
+    let text' = c.in-Some-RndKw.ensures.text ∙ same in
+    let eb = to_z-of_z w16 c.in_ok-bound-in-Some-RndKw.bound (search rules) in
+    runs_then _ _ _ _ _ _ _ _ (part_ok _ _ _ _ _ _ _ _ _ _ (reaches_same _ _) (factor_rnd _ _ _ _ _ here) (c.in_ok-bound-in-Some-RndKw.ensures.value t n text' (omega arith))) (rw (eb, c.place.ensures) at c.ask.ensures)
+
+pub factor-returns-in_ok-x-in-Some-AbsKw-clause-value : goal.factor-returns-in_ok-x-in-Some-AbsKw-clause-value
+factor-returns-in_ok-x-in-Some-AbsKw-clause-value g m c = λ t n same enough.
+    let here : word_at Functions t c.args.cursor.now.place ≡ Some (AbsKw, c.take_function.new.cursor.place) = at_text (λ u. word_at Functions u c.args.cursor.now.place) same (c.in-Some-AbsKw.ensures.value ∙ ap (λ w. Some (w, c.take_function.new.cursor.place)) c.in-Some-AbsKw.field-0-is) in
+    let left' = c.in-Some-AbsKw.ensures.left in
+    let text' = c.in-Some-AbsKw.ensures.text ∙ same in
+    let ex = to_z-of_z w16 c.in_ok-x-in-Some-AbsKw.x (search rules) in
+    rw (c.at_mark.ensures, c.absolute.ensures, c.place-in-Some-AbsKw.ensures, ex) (operate_last _ _ _ _ _ _ _ _ _ _ (reaches_same _ _) (factor_abs _ _ _ _ _ here) (c.in_ok-x-in-Some-AbsKw.ensures.value t n text' (omega arith)))
+
+pub factor-returns-in-Some-SizeKw-clause-value : goal.factor-returns-in-Some-SizeKw-clause-value
+factor-returns-in-Some-SizeKw-clause-value g m c = λ t n same enough.
+    let here : word_at Functions t c.args.cursor.now.place ≡ Some (SizeKw, c.take_function.new.cursor.place) = at_text (λ u. word_at Functions u c.args.cursor.now.place) same (c.in-Some-SizeKw.ensures.value ∙ ap (λ w. Some (w, c.take_function.new.cursor.place)) c.in-Some-SizeKw.field-0-is) in
+    let left' = c.in-Some-SizeKw.ensures.left in
+    let text' = c.in-Some-SizeKw.ensures.text ∙ same in
+    let es = to_z-of_z w16 c.size.result (search rules) in
+    rw (es, c.size.ensures) (part_ends _ _ _ _ _ _ _ _ (reaches_same _ _) (factor_size _ _ _ _ _ here) refl)
+
+pub factor-returns-in-None-clause-value : goal.factor-returns-in-None-clause-value
+factor-returns-in-None-clause-value g m c = λ t n same enough.
+    let none : word_at Functions t c.args.cursor.now.place ≡ None = at_text (λ u. word_at Functions u c.args.cursor.now.place) same c.in-None.ensures.value in
+    part_is _ _ _ _ _ _ _ (factor_plain _ _ _ _ none) (rw (c.in-None.ensures.absent refl) at (c.plain.ensures.value t n (c.in-None.ensures.text ∙ same) (omega (arith, c.in-None.ensures.left))))
+
+pub plain-returns-in-Some-clause-value : goal.plain-returns-in-Some-clause-value
+plain-returns-in-Some-clause-value g m c = λ t n same enough.
+    let at = at_text (λ u. letter_at u c.args.cursor.now.place) same c.in-Some.ensures.value in
+    let ev = to_z-of_z w16 c.get.result (search rules) in
+    rw (ev, c.get.ensures) (part_ends _ _ _ _ _ _ _ _ (reaches_same _ _) (plain_letter _ _ _ _ _ _ at) refl)
+
+pub plain-returns-in_err-i-clause-value : goal.plain-returns-in_err-i-clause-value
+plain-returns-in_err-i-clause-value g m c = λ t n same enough.
+    let no = at_text (λ u. letter_at u c.args.cursor.now.place) same c.in_default.ensures.value in
+    let left1 = c.in_default.ensures.left in
+    let text1 = c.in_default.ensures.text ∙ same in
+    let place1 = c.in_default.ensures.absent refl in
+    let here = at_spot (λ u i. token_at 64 u i) text1 place1 c.if-token.ensures.value in
+    let left2 = c.if-token.ensures.left in
+    let text2 = c.if-token.ensures.text ∙ text1 in
+    let p = err_from_is_err_and c.from_residual.result c.from_residual.ensures.1 in
+    rw (p.1, p.2) (part_err _ _ _ _ _ _ _ _ _ _ _ (reaches_same _ _) (plain_element _ _ _ _ _ no here) (c.in_err-i.ensures.value t n text2 (omega arith)))
+
+pub plain-returns-then-token-clause-value : goal.plain-returns-then-token-clause-value
+plain-returns-then-token-clause-value g m c = λ t n same enough.
+    let no = at_text (λ u. letter_at u c.args.cursor.now.place) same c.in_default.ensures.value in
+    let left1 = c.in_default.ensures.left in
+    let text1 = c.in_default.ensures.text ∙ same in
+    let place1 = c.in_default.ensures.absent refl in
+    let here = at_spot (λ u i. token_at 64 u i) text1 place1 c.if-token.ensures.value in
+    let left2 = c.if-token.ensures.left in
+    let text2 = c.if-token.ensures.text ∙ text1 in
+    let ei = to_z-of_z w16 c.in_ok-i.i (search rules) in
+    rw (c.at_mark.ensures, c.element.ensures, c.place.ensures, ei) (operate_last _ _ _ _ _ _ _ _ _ _ (reaches_same _ _) (plain_element _ _ _ _ _ no here) (c.in_ok-i.ensures.value t n text2 (omega arith)))
+
+pub plain-returns-in-Value-clause-value : goal.plain-returns-in-Value-clause-value
+plain-returns-in-Value-clause-value g m c = λ t n same enough.
+    let no = at_text (λ u. letter_at u c.args.cursor.now.place) same c.in_default.ensures.value in
+    let left1 = c.in_default.ensures.left in
+    let text1 = c.in_default.ensures.text ∙ same in
+    let place1 = c.in_default.ensures.absent refl in
+    let none = at_spot (λ u i. token_at 64 u i) text1 place1 c.if-token.ensures.value in
+    let left2 = c.if-token.ensures.left in
+    let text2 = c.if-token.ensures.text ∙ text1 in
+    let place2 = c.if-token.ensures.absent refl ∙ place1 in
+    let ev = to_z-of_z w16 c.in-Value.value (search rules) in
+    rw ev (part_ends _ _ _ _ _ _ _ _ (reaches_same _ _) (plain_number _ _ _ _ _ _ no none (at_spot number_at text2 place2 c.in-Value.ensures.value)) refl)
+
+pub plain-returns-in-TooBig-clause-value : goal.plain-returns-in-TooBig-clause-value
+plain-returns-in-TooBig-clause-value g m c = λ t n same enough.
+    let no = at_text (λ u. letter_at u c.args.cursor.now.place) same c.in_default.ensures.value in
+    let left1 = c.in_default.ensures.left in
+    let text1 = c.in_default.ensures.text ∙ same in
+    let place1 = c.in_default.ensures.absent refl in
+    let none = at_spot (λ u i. token_at 64 u i) text1 place1 c.if-token.ensures.value in
+    let left2 = c.if-token.ensures.left in
+    let text2 = c.if-token.ensures.text ∙ text1 in
+    let place2 = c.if-token.ensures.absent refl ∙ place1 in
+    part_faults _ _ _ _ _ _ _ _ _ _ (reaches_same _ _) (plain_too_big _ _ _ _ _ no none (at_spot number_at text2 place2 c.in-TooBig.ensures.value)) c.fault_at.ensures c.place-in-TooBig.ensures
+
+pub plain-returns-in-Absent-clause-value : goal.plain-returns-in-Absent-clause-value
+plain-returns-in-Absent-clause-value g m c = λ t n same enough.
+    let no = at_text (λ u. letter_at u c.args.cursor.now.place) same c.in_default.ensures.value in
+    let left1 = c.in_default.ensures.left in
+    let text1 = c.in_default.ensures.text ∙ same in
+    let place1 = c.in_default.ensures.absent refl in
+    let none = at_spot (λ u i. token_at 64 u i) text1 place1 c.if-token.ensures.value in
+    let left2 = c.if-token.ensures.left in
+    let text2 = c.if-token.ensures.text ∙ text1 in
+    let place2 = c.if-token.ensures.absent refl ∙ place1 in
+    let place3 = c.in-Absent.ensures.absent refl ∙ place2 in
+    part_is _ _ _ _ _ _ _ (plain_paren _ _ _ _ _ no none (at_spot number_at text2 place2 c.in-Absent.ensures.value)) (rw place3 at (c.paren-in-Absent.ensures.value t n (c.in-Absent.ensures.text ∙ text2) (omega (arith, c.in-Absent.ensures.left))))

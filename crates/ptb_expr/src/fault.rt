@@ -1,0 +1,29 @@
+// This file says what can be wrong with an expression, and why it has no value.
+
+use crate::pause::Pause;
+
+/// Which word a fault shows: `WHAT?`, `HOW?` or `SORRY`.
+#[derive(Clone, Copy, Debug, PartialEq, Eq)]
+pub enum FaultKind {
+    /// It isn't spelled as the language wants it.
+    What,
+    /// It is well spelled, and can't be done.
+    How,
+    /// It is right, and there is no room for it.
+    Sorry,
+}
+
+/// A fault of a program.
+#[derive(Clone, Copy, Debug, PartialEq, Eq)]
+pub struct Fault {
+    pub kind: FaultKind,
+    /// The place in the statement's text at which `?` is put: how many bytes stand before it.
+    pub mark: usize,
+}
+
+/// Why there is no value.
+#[derive(Clone, Copy, Debug, PartialEq, Eq)]
+pub enum Stop {
+    Fault(Fault),
+    Pause(Pause),
+}

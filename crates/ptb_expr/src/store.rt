@@ -1,0 +1,119 @@
+// This file has the values of the variables A to Z and of the array @, and what names one of them.
+
+ghost use Rattle.std.specs.Prelude.{◌≡◌, ℕ, ◌≤◌, ℤ, pos, ◌≤ℤ◌, IfOk};
+ghost use Rattle.ptb_expr.specs.Store.{value_at, with_value, index_of, element_of, with_element, empty_cells};
+
+use crate::fault::FaultKind;
+use std::alloc::{AllocError, Global};
+use std::marker::Model;
+
+/// What a value can be stored in.
+#[derive(Clone, Copy, Debug, PartialEq, Eq)]
+pub enum Target {
+    /// A variable, by its letter, `b'A'` to `b'Z'`.
+    Var(u8),
+    /// An element of `@`, by its index, 0 to SIZE/2.
+    Element(i16),
+}
+
+/// The values of the variables A to Z, and of the array `@` from index 0 to half of SIZE.
+#[derive(Drop)]
+pub struct Store {
+    size: i16,
+    values: [i16; 26],
+    elements: Vec<i16>,
+}
+
+impl Model for Store {
+    ghost use Rattle.std.specs.Prelude.{◌≡◌, ◌+◌, ◌/◌, pos, ◌≤ℤ◌, length, unsigned_abs, vec_len};
+    ghost use Rattle.ptb_expr.specs.Store.{Cells};
+
+    ghost Value = { Cells };
+
+    ghost view = { λ s. record { size = s.size; values = s.values; elements = s.elements.items } };
+
+    ghost invariant = { λ s. (length s.values ≡ 26) × (pos 0 ≤ℤ s.size) × (vec_len s.elements ≡ unsigned_abs s.size / 2 + 1) };
+}
+
+impl Store {
+    /// A store of zeros, where SIZE is `size`, which is at least 0.
+    ///
+    /// # Errors
+    ///
+    /// Where the array is refused memory.
+    pub fn new(alloc: Global, size: i16) -> Result<Store, AllocError>
+        requires { pos 0 ≤ℤ size }
+        ensures { IfOk result (λ s. s ≡ empty_cells size) }
+    {
+        let mut elements = Vec::new(alloc);
+        elements.resize(size as usize / 2 + 1, 0)?;
+        Ok(Store {
+            size,
+            values: [0; 26],
+            elements,
+        })
+    }
+
+    /// SIZE.
+    pub fn size(&self) -> i16
+        ensures { result ≡ self.now.size }
+    {
+        self.size
+    }
+
+    /// The value of a variable, whose letter is from `b'A'` to `b'Z'`.
+    pub fn get(&self, letter: u8) -> i16
+        requires low { 65 ≤ letter }
+        requires high { letter ≤ 90 }
+        ensures { result ≡ value_at self.now letter }
+    {
+        let at = usize::from(letter - b'A');
+        self.values[at]
+    }
+
+    /// Stores the value of a variable, whose letter is from `b'A'` to `b'Z'`.
+    pub fn set(&mut self, letter: u8, value: i16)
+        requires low { 65 ≤ letter }
+        requires high { letter ≤ 90 }
+        ensures { self.new ≡ with_value self.old letter value }
+    {
+        self.values[usize::from(letter - b'A')] = value;
+    }
+
+    /// The index itself, if the array has an element there.
+    ///
+    /// # Errors
+    ///
+    /// `How` below 0, and `Sorry` above half of SIZE.
+    pub fn index(&self, i: i16) -> Result<i16, FaultKind>
+        ensures { result ≡ index_of self.now.size i }
+    {
+        if i < 0 {
+            return Err(FaultKind::How);
+        }
+        if i32::from(i) * 2 > i32::from(self.size) {
+            return Err(FaultKind::Sorry);
+        }
+        Ok(i)
+    }
+
+    /// The element at an index.
+    ///
+    /// # Errors
+    ///
+    /// Those of [`Store::index`].
+    pub fn element(&self, i: i16) -> Result<i16, FaultKind>
+        ensures { result ≡ element_of self.now i }
+    {
+        let i = self.index(i)?;
+        Ok(self.elements[i as usize])
+    }
+
+    /// Stores an element at an index that the array has.
+    pub fn set_element(&mut self, i: i16, value: i16)
+        requires { index_of self.old.size i ≡ Ok i }
+        ensures { self.new ≡ with_element self.old i value }
+    {
+        self.elements[i as usize] = value;
+    }
+}
