@@ -1,0 +1,15 @@
+pub mod Worked
+pub mod Effects
+pub mod Turns
+pub mod Budgets
+pub mod Spending
+pub mod PartsSpend
+pub mod EndSpends
+pub mod ProgramQuestions
+pub mod PlayReads
+pub mod Sequences
+pub mod Ahead
+pub mod Places
+pub mod Lawful
+pub mod Cutting
+pub mod Reading

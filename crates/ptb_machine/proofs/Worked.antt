@@ -1,0 +1,122 @@
+-- This file proves the worked rows by computation.
+use Rattle.std.specs.Prelude.{refl}
+use Rattle.std.specs.Fmt.{digits}
+use Rattle.ptb_text.specs.Statements.{after_lines}
+use Rattle.ptb_text.specs.Words.{past_blanks, spelling_in_front, word_at, bytes_at, letter_at, number_at, quotation_at}
+use Rattle.ptb_expr.specs.Outcome.{answer}
+use Rattle.ptb_expr.specs.Value.{random_number, value, target_of}
+use Rattle.ptb_expr.specs.Operators.{product_operator, sum_operator, comparison}
+use Rattle.ptb_expr.specs.Reading.{more, paren, variable_or, variable, plain, factor, product, first_product, sum, expr_with, expr, expression, variable_tree}
+use Rattle.ptb_machine.specs.Items.{items_within, items}
+use Rattle.ptb_machine.specs.Commands.{assignment, string_at, print_item, print_parts, input_item, step_parts, limit_parts, for_parts, next_parts, parts_of, command_at, command_round, commands_from}
+use Rattle.ptb_machine.specs.State.{next_command}
+use Rattle.ptb_machine.specs.Act.{input_course, parts_course, finish, command_course, act}
+use Rattle.ptb_machine.specs.Play.{turn, turns_within, turns, play}
+use Rattle.ptb_machine.specs.Rows.{AnswerRows, PrintRows, InputRows, LoopRows, FaultRows, ArrayRows, LongRows, StepRows}
+
+pub answer_rows : AnswerRows
+unfolding digits after_lines past_blanks spelling_in_front word_at bytes_at letter_at number_at quotation_at answer random_number value target_of product_operator sum_operator comparison more paren variable_or variable plain factor product first_product sum expr_with expr expression variable_tree items_within items assignment string_at print_item print_parts input_item step_parts limit_parts for_parts next_parts parts_of command_at command_round commands_from next_command input_course parts_course finish command_course act turn turns_within turns play
+answer_rows = record {
+  answer = refl;
+  answer_left = refl;
+  no_answer = refl;
+  bad_answer = refl;
+  bound_of_0 = refl;
+}
+
+pub print_rows : PrintRows
+unfolding digits after_lines past_blanks spelling_in_front word_at bytes_at letter_at number_at quotation_at answer random_number value target_of product_operator sum_operator comparison more paren variable_or variable plain factor product first_product sum expr_with expr expression variable_tree items_within items assignment string_at print_item print_parts input_item step_parts limit_parts for_parts next_parts parts_of command_at command_round commands_from next_command input_course parts_course finish command_course act turn turns_within turns play
+print_rows = record {
+  greeting = refl;
+  strings = refl;
+  printed_strings = refl;
+  least_number = refl;
+  widths = refl;
+  open_quote = refl;
+  number_too_big = refl;
+  remark = refl;
+  if_not = refl;
+  if_short = refl;
+  size_short = refl;
+  memory_left = refl;
+}
+
+pub input_rows : InputRows
+unfolding digits after_lines past_blanks spelling_in_front word_at bytes_at letter_at number_at quotation_at answer random_number value target_of product_operator sum_operator comparison more paren variable_or variable plain factor product first_product sum expr_with expr expression variable_tree items_within items assignment string_at print_item print_parts input_item step_parts limit_parts for_parts next_parts parts_of command_at command_round commands_from next_command input_course parts_course finish command_course act turn turns_within turns play
+input_rows = record {
+  random_input = refl;
+  faulty_input = refl;
+  input_used_up = refl;
+  index_asked_again = refl;
+  text_behind_value = refl;
+  unread = refl;
+  input_quote = refl;
+}
+
+pub loop_rows : LoopRows
+unfolding digits after_lines past_blanks spelling_in_front word_at bytes_at letter_at number_at quotation_at answer random_number value target_of product_operator sum_operator comparison more paren variable_or variable plain factor product first_product sum expr_with expr expression variable_tree items_within items assignment string_at print_item print_parts input_item step_parts limit_parts for_parts next_parts parts_of command_at command_round commands_from next_command input_course parts_course finish command_course act turn turns_within turns play
+loop_rows = record {
+  loop = refl;
+  one_turn = refl;
+  sum_too_great = refl;
+  subroutine = refl;
+  loop_of_subroutine = refl;
+  endless_calls = refl;
+  nested64 = refl;
+  no_call = refl;
+  limit = refl;
+}
+
+pub fault_rows : FaultRows
+unfolding digits after_lines past_blanks spelling_in_front word_at bytes_at letter_at number_at quotation_at answer random_number value target_of product_operator sum_operator comparison more paren variable_or variable plain factor product first_product sum expr_with expr expression variable_tree items_within items assignment string_at print_item print_parts input_item step_parts limit_parts for_parts next_parts parts_of command_at command_round commands_from next_command input_course parts_course finish command_course act turn turns_within turns play
+fault_rows = record {
+  misspelt = refl;
+  unclosed = refl;
+  no_such_line = refl;
+  sign_behind_operator = refl;
+  compared_twice = refl;
+  goto_not_last = refl;
+  goto_semicolon = refl;
+  two_semicolons = refl;
+  division_by_0 = refl;
+  product_too_great = refl;
+  no_negation = refl;
+  period = refl;
+  letter_alone = refl;
+  print_period = refl;
+}
+
+pub array_rows : ArrayRows
+unfolding digits after_lines past_blanks spelling_in_front word_at bytes_at letter_at number_at quotation_at answer random_number value target_of product_operator sum_operator comparison more paren variable_or variable plain factor product first_product sum expr_with expr expression variable_tree items_within items assignment string_at print_item print_parts input_item step_parts limit_parts for_parts next_parts parts_of command_at command_round commands_from next_command input_course parts_course finish command_course act turn turns_within turns play
+array_rows = record {
+  element = refl;
+  comparison_stored = refl;
+  last_of_small_array = refl;
+  past_small_array = refl;
+  last_element = refl;
+  past_element = refl;
+  far_element = refl;
+}
+
+pub long_rows : LongRows
+unfolding digits after_lines past_blanks spelling_in_front word_at bytes_at letter_at number_at quotation_at answer random_number value target_of product_operator sum_operator comparison more paren variable_or variable plain factor product first_product sum expr_with expr expression variable_tree items_within items assignment string_at print_item print_parts input_item step_parts limit_parts for_parts next_parts parts_of command_at command_round commands_from next_command input_course parts_course finish command_course act turn turns_within turns play
+long_rows = record {
+  parens253 = refl;
+  parens126 = refl;
+  nines = refl;
+  zeros = refl;
+}
+
+pub step_rows : StepRows
+unfolding digits after_lines past_blanks spelling_in_front word_at bytes_at letter_at number_at quotation_at answer random_number value target_of product_operator sum_operator comparison more paren variable_or variable plain factor product first_product sum expr_with expr expression variable_tree items_within items assignment string_at print_item print_parts input_item step_parts limit_parts for_parts next_parts parts_of command_at command_round commands_from next_command input_course parts_course finish command_course act turn turns_within turns play
+step_rows = record {
+  one_turn = refl;
+  sum_too_great = refl;
+  subroutine = refl;
+  if_not = refl;
+  remark = refl;
+  loop = refl;
+  endless_calls = refl;
+  nested = refl;
+  empty = refl;
+}

@@ -1,0 +1,48 @@
+-- This file defines how cleaned lines are cut from bytes that come one after the other.
+-- A piece that has not begun is None. One that has begun, be it with a byte that is dropped, is what is kept of it.
+--     begun_piece begun kept       a piece, by whether it has begun
+--     cleaned_byte b               what the cleaning makes of one byte: that byte, another or nothing
+--     with_byte kept b             what is kept after one more byte of a line
+--     kept_bytes p                 what is kept of the piece p
+--     whole_lines p bytes          the lines that these bytes end, where the piece p has begun before them
+--     last_piece p bytes           the piece that has begun after these bytes
+--     last_line p                  the line that p is at the end of the bytes, if it is one
+--     Cuts p bytes given q         these bytes end the lines given, and then q has begun
+--     AddsLines p bytes old new q  the lines that these bytes end come after the old ones
+use Rattle.std.specs.Prelude.{◌≡◌, ℕ, ◌==◌, Bool, true, false, if◌then◌else◌, List, [], ◌∷◌, ◌++◌, filter, take, Option, Some, None}
+use Rattle.ptb_text.specs.Lines.{tab_as_space, is_printable, line_limit}
+
+abbrev pub begun_piece : Bool → List ℕ → Option (List ℕ)
+begun_piece false kept = None
+begun_piece true kept = Some kept
+
+abbrev pub cleaned_byte : ℕ → List ℕ
+cleaned_byte b = filter is_printable (tab_as_space b ∷ [])
+
+-- a byte for which there is no room adds nothing
+abbrev pub with_byte : List ℕ → ℕ → List ℕ
+with_byte kept b = take line_limit (kept ++ cleaned_byte b)
+
+abbrev pub kept_bytes : Option (List ℕ) → List ℕ
+kept_bytes None = []
+kept_bytes (Some kept) = kept
+
+abbrev pub whole_lines : Option (List ℕ) → List ℕ → List (List ℕ)
+whole_lines p [] = []
+whole_lines p (b ∷ bytes) =
+    if b == 10 then kept_bytes p ∷ whole_lines None bytes else whole_lines (Some (with_byte (kept_bytes p) b)) bytes
+
+abbrev pub last_piece : Option (List ℕ) → List ℕ → Option (List ℕ)
+last_piece p [] = p
+last_piece p (b ∷ bytes) = if b == 10 then last_piece None bytes else last_piece (Some (with_byte (kept_bytes p) b)) bytes
+
+-- a last piece that has not begun is no line
+abbrev pub last_line : Option (List ℕ) → List (List ℕ)
+last_line None = []
+last_line (Some kept) = kept ∷ []
+
+abbrev pub Cuts : Option (List ℕ) → List ℕ → List (List ℕ) → Option (List ℕ) → Type 0
+Cuts p bytes given q = (whole_lines p bytes ≡ given) × (last_piece p bytes ≡ q)
+
+abbrev pub AddsLines : Option (List ℕ) → List ℕ → List (List ℕ) → List (List ℕ) → Option (List ℕ) → Type 0
+AddsLines p bytes old new q = (new ≡ old ++ whole_lines p bytes) × (last_piece p bytes ≡ q)

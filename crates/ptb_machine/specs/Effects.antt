@@ -1,0 +1,75 @@
+-- This file defines what a command may change of the state in which it begins.
+--     course_state o, act_state o      the state in which a course, or a whole command, goes on, halts or asks
+--     run_shown o, run_steps o         what a run has shown, and how many commands it has begun, where it is over or asks
+--     Begins shown all                 all of it begins with what is shown
+--     PartChange S T                   what the parts of a command may change
+--     EndChange S T                    what a command may change once its parts are done
+--     CommandChange S T                what a whole command may change
+--     TurnChange limit S T             what a turn of a run may change
+use Rattle.std.specs.Prelude.{◌≡◌, ℕ, ◌≤◌, List, ◌++◌}
+use Rattle.ptb_expr.specs.Outcome.{Outcome, Done, Asks, Out}
+use Rattle.ptb_machine.specs.State.{State, nesting, nesting_limit}
+use Rattle.ptb_machine.specs.Courses.{Progress, Goes, Halts}
+use Rattle.ptb_machine.specs.Act.{Deed, Next, Over}
+use Rattle.ptb_machine.specs.Play.{Finish}
+
+-- ---- where an outcome stands
+
+abbrev pub progress_state : {A : Type 0} → Progress A → State
+progress_state (Goes x S) = S
+progress_state (Halts halt S) = S
+
+abbrev pub course_state : {A : Type 0} → Outcome (Progress A) State → State
+course_state (Done r rest) = progress_state r
+course_state (Asks n S) = S
+course_state (Out n S) = S
+
+abbrev pub deed_state : Deed → State
+deed_state (Next S) = S
+deed_state (Over ending S) = S
+
+abbrev pub act_state : Outcome Deed State → State
+act_state (Done d rest) = deed_state d
+act_state (Asks n S) = S
+act_state (Out n S) = S
+
+abbrev pub run_shown : Outcome Finish State → List ℕ
+run_shown (Done f rest) = f.shown
+run_shown (Asks n S) = S.shown
+run_shown (Out n S) = S.shown
+
+abbrev pub run_steps : Outcome Finish State → ℕ
+run_steps (Done f rest) = f.steps
+run_steps (Asks n S) = S.steps
+run_steps (Out n S) = S.steps
+
+-- ---- changes
+
+abbrev pub Begins : List ℕ → List ℕ → Type 0
+Begins shown all = (more : List ℕ) × (all ≡ shown ++ more)
+
+-- variables are stored, lines are taken, and more is shown
+pub record PartChange (S T : State) : Type 0 where
+  pub place : T.place ≡ S.place
+  pub loops : T.loops ≡ S.loops
+  pub calls : T.calls ≡ S.calls
+  pub steps : T.steps ≡ S.steps
+  pub shown : Begins S.shown T.shown
+
+-- the place and a variable change, and loops and calls open and end, never more of them than may be open together
+pub record EndChange (S T : State) : Type 0 where
+  pub lines : T.lines ≡ S.lines
+  pub shown : T.shown ≡ S.shown
+  pub steps : T.steps ≡ S.steps
+  pub nested : nesting S ≤ nesting_limit → nesting T ≤ nesting_limit
+
+pub record CommandChange (S T : State) : Type 0 where
+  pub shown : Begins S.shown T.shown
+  pub steps : T.steps ≡ S.steps
+  pub nested : nesting S ≤ nesting_limit → nesting T ≤ nesting_limit
+
+-- where a turn begins within the limits it ends within them
+pub record TurnChange (limit : ℕ) (S T : State) : Type 0 where
+  pub shown : Begins S.shown T.shown
+  pub nested : nesting S ≤ nesting_limit → nesting T ≤ nesting_limit
+  pub steps : S.steps ≤ limit → T.steps ≤ limit

@@ -1,0 +1,15 @@
+pub mod Items
+pub mod Commands
+pub mod State
+pub mod Courses
+pub mod Act
+pub mod Play
+pub mod Questions
+pub mod Effects
+pub mod Places
+pub mod Laws
+pub mod Rows
+pub mod Screens
+pub mod Sources
+pub mod LineLists
+pub mod Cutting

@@ -1,0 +1,78 @@
+-- This file defines whole runs.
+--     turn p limit S           the next thing that a run does
+--     play p input limit a     what a run of the program p comes to with the answers a
+--     plain p input limit a    the bytes and the ending of a plain run
+use Rattle.std.specs.Prelude.{ℕ, zero, suc, ◌-◌, nat_le, Bool, true, false, List, [], ◌∷◌, Option, Some, None}
+use Rattle.ptb_text.specs.Statements.{StoredProgram}
+use Rattle.ptb_expr.specs.Outcome.{Answers, Outcome, Done, Asks, Out, go_on, map_outcome}
+use Rattle.ptb_machine.specs.declared.ending.Ending.{Ending}
+use Rattle.ptb_machine.specs.declared.ending.Ending.TheVariants as endings
+use Rattle.ptb_machine.specs.Commands.{Command}
+use Rattle.ptb_machine.specs.State.{State, Place, first_state, next_command}
+use Rattle.ptb_machine.specs.Act.{Deed, Next, Over, act}
+
+-- ---- turns
+
+abbrev pub act_unless : StoredProgram → Place × Command → Bool → State → Answers → Outcome Deed State
+act_unless p r true S a = Done (Over endings.Limit S) a
+act_unless p r false S a = act p.lines r.0 r.1 S a
+
+abbrev pub turn_by : StoredProgram → ℕ → Option (Place × Command) → State → Answers → Outcome Deed State
+turn_by p limit None S a = Done (Over endings.End S) a
+turn_by p limit (Some r) S a = act_unless p r (nat_le limit S.steps) S a
+
+-- a run ends where no command is next, or where the steps are the limit or more; else a command is done
+unfoldable pub turn : StoredProgram → ℕ → State → Answers → Outcome Deed State
+turn p limit S a = turn_by p limit (next_command p.lines S.place) S a
+
+-- ---- runs
+
+-- how a run ends: the commands begun, and all that was shown
+pub record Finish : Type 0 where
+  pub ending : Ending
+  pub steps : ℕ
+  pub shown : List ℕ
+
+abbrev pub finish_in : Ending → State → Finish
+finish_in ending S = record { ending = ending; steps = S.steps; shown = S.shown }
+
+-- the run goes on, or is over
+abbrev pub after_deed : (State → Answers → Outcome Finish State) → Deed → Answers → Outcome Finish State
+after_deed others (Next S) rest = others S rest
+after_deed others (Over ending S) rest = Done (finish_in ending S) rest
+
+-- at most n turns
+unfoldable pub turns_within : ℕ → StoredProgram → ℕ → State → Answers → Outcome Finish State
+turns_within zero p limit S a = Done (finish_in endings.Limit S) a
+turns_within (suc n) p limit S a = go_on (turn p limit S a) (after_deed (turns_within n p limit))
+
+-- each turn after which a run goes on is a step below the limit, so there are no more turns than these
+unfoldable pub turns : StoredProgram → ℕ → State → Answers → Outcome Finish State
+turns p limit S a = turns_within (suc (limit - S.steps)) p limit S a
+
+-- beside a question stands what was shown before it
+unfoldable pub play : StoredProgram → List (List ℕ) → ℕ → Answers → Outcome Finish (List ℕ)
+play p input limit a = map_outcome (λ f. f) (λ S. S.shown) (turns p limit (first_state p input) a)
+
+-- ---- plain runs
+
+abbrev pub plain_of : Outcome Finish (List ℕ) → List ℕ × Ending
+plain_of (Done f rest) = (f.shown, f.ending)
+plain_of (Asks n shown) = (shown, endings.NoAnswer)
+plain_of (Out n shown) = (shown, endings.BadAnswer)
+
+-- answers that are left over are not looked at
+abbrev pub plain : StoredProgram → List (List ℕ) → ℕ → Answers → List ℕ × Ending
+plain p input limit a = plain_of (play p input limit a)
+
+-- the number of an ending
+abbrev pub status : Ending → ℕ
+status endings.End = 0
+status endings.Stop = 0
+status endings.What = 1
+status endings.How = 2
+status endings.Sorry = 3
+status endings.Limit = 4
+status endings.NoInput = 5
+status endings.NoAnswer = 6
+status endings.BadAnswer = 7

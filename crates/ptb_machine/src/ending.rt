@@ -1,0 +1,24 @@
+// This file says how a run ends.
+
+/// How a run ends.
+#[derive(Clone, Copy, Debug, PartialEq, Eq)]
+pub enum Ending {
+    /// No statement is left.
+    End,
+    /// STOP was executed.
+    Stop,
+    /// A fault `WHAT?`.
+    What,
+    /// A fault `HOW?`.
+    How,
+    /// A fault `SORRY`.
+    Sorry,
+    /// The limit on steps was met.
+    Limit,
+    /// INPUT found no line left.
+    NoInput,
+    /// A question found no answer left.
+    NoAnswer,
+    /// An answer was outside its bound.
+    BadAnswer,
+}

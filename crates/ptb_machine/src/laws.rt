@@ -1,0 +1,29 @@
+// This file states the laws of commands and runs.
+
+ghost use Rattle.ptb_machine.specs.Laws.{CommandLaws, EffectLaws, RunLaws};
+
+use ptb_expr::{spelling_laws, value_laws};
+use ptb_text::finding_laws;
+
+/// The parts of a command and the commands of a statement are read one after the other, and each command has a byte place.
+#[tactic(auto, using(crate::proofs::Lawful::command_laws))]
+pub fn command_laws()
+    ensures { CommandLaws }
+{
+    finding_laws();
+    spelling_laws();
+}
+
+/// What was shown stays shown, a command is one step, and no loop or call opens past the limit.
+#[tactic(auto, using(crate::proofs::Lawful::effect_laws))]
+pub fn effect_laws()
+    ensures { EffectLaws }
+{}
+
+/// A run is one turn and then the turns after it, its commands are at most as many as its limit says, and it takes its answers one by one.
+#[tactic(auto, using(crate::proofs::Lawful::run_laws))]
+pub fn run_laws()
+    ensures { RunLaws }
+{
+    value_laws();
+}
