@@ -1,0 +1,87 @@
+-- This file proves what a plan is that was played.
+use Rattle.std.proofs.Common.{◌≡◌, ℕ, zero, suc, ◌-◌, ◌<◌, ◌≤◌, List, [], ◌∷◌, ◌++◌, length, take, drop, replicate, true, false, inl, inr, refl, ap, sym, ◌∙◌, arith, append_assoc, length-drop}
+use Rattle.std.specs.Prelude.{ℤ, pos}
+use Rattle.std.proofs.lemmas.Bool.{cases_lt}
+use Rattle.std.proofs.lemmas.List.{take-append-drop, length-take-le}
+use Rattle.std.proofs.Math.Seq.{take-length}
+use Rattle.ptb_expr.specs.Outcome.{Answers, Outcome, Done, Asks, Out, IsReader, is_answer, is_open, is_whole, bounds}
+use Rattle.ptb_expr.proofs.Readers.{whole_is}
+use Rattle.ptb_explore.specs.Runs.{IsRun}
+use Rattle.ptb_explore.specs.Plans.{AllOnes, EndsAt}
+use Rattle.ptb_explore.proofs.Tree.{run_apart}
+
+pub all_ones : (n : ℕ) → AllOnes (replicate n (pos 1))
+all_ones zero = tt
+all_ones (suc n) = (refl, all_ones n)
+
+drop_cons : {X : Type 0} (s : List X) (n : ℕ) → n < length s → (x : X) × (rest : List X) × (s ≡ take n s ++ x ∷ rest)
+drop_cons {X = X} s n l = by_cases (drop n s) refl
+  where
+    by_cases : (d : List X) → drop n s ≡ d → (x : X) × (rest : List X) × (s ≡ take n s ++ x ∷ rest)
+    by_cases [] e = absurd (omega (arith, length-drop n s, ap length e))
+    by_cases (x ∷ rest) e = (x, rest, sym (take-append-drop n s) ∙ ap (λ d. take n s ++ d) e)
+
+module _ {A W : Type 0} (play : Answers → Outcome A W) (most : ℕ) (reads : IsReader play most) where
+  -- an answer out of range closes every list that goes on with it
+  pub out_closes : (plan t rest : Answers) (x n : ℤ) (w : W) → plan ≡ t ++ x ∷ rest → play t ≡ Asks n w → is_answer n x ≡ false → is_open (play plan) ≡ true → ⊥
+  out_closes plan t rest x n w e a o h =
+      let f = reads.out (t ++ x ∷ []) rest n w (reads.outside t n x w a o) in
+      let s : play plan ≡ Out n w = ap play (e ∙ sym (append_assoc t (x ∷ []) rest)) ∙ f in
+      let c : is_open (play plan) ≡ false = ap is_open s in cc
+
+  -- what goes on after a run is not open
+  pub run_closes : (t rest : Answers) (x : ℤ) (f : A) → play t ≡ Done f [] → is_open (play (t ++ x ∷ rest)) ≡ true → ⊥
+  run_closes t rest x f e h = let s : is_open (play (t ++ x ∷ rest)) ≡ false = ap is_open (reads.done t (x ∷ rest) [] f e) in cc
+
+  pub run_opens : (plan : Answers) → IsRun play plan → is_open (play plan) ≡ true
+  run_opens plan r = let w = whole_is (play plan) r in rw w.1 refl
+
+-- Of `answers`, the first `planned` are a plan and the others, if any, are ones; the first `count` of them were taken, all of them where there are ones, and play came to a result.
+pub record Took {A W : Type 0} (play : Answers → Outcome A W) (plan answers : Answers) (planned count : ℕ) (result : A) : Type 0 where
+  pub plan_is : take planned answers ≡ plan
+  pub planned_within : planned ≤ length answers
+  pub count_within : count ≤ length answers
+  pub all_with_ones : planned < length answers → count ≡ length answers
+  pub ones_behind : answers ≡ take planned answers ++ replicate (length answers - planned) (pos 1)
+  pub came : play (take count answers) ≡ Done result []
+
+module _ {A W : Type 0} (play : Answers → Outcome A W) (most : ℕ) (reads : IsReader play most) (plan answers : Answers) (planned count : ℕ) (result : A) (took : Took play plan answers planned count result) where
+  -- all of a plan that is open is taken
+  pub all_taken : is_open (play plan) ≡ true → take count answers ≡ answers
+  all_taken o = elim (cases_lt count (length answers)) [
+    | inr m ↦ let u = took.count_within in let c : count ≡ length answers = omega arith in ap (λ n. take n answers) c ∙ take-length answers
+    | inl m ↦
+        let u = took.planned_within in
+        let p : planned ≡ length answers = elim (cases_lt planned (length answers)) [ inl k ↦ let x = took.all_with_ones k in absurd (omega arith) | inr k ↦ omega arith ] in
+        let same : plan ≡ answers = sym took.plan_is ∙ ap (λ n. take n answers) p ∙ take-length answers in
+        let r = drop_cons answers count m in
+        absurd (run_closes play most reads (take count answers) r.1 r.0 result took.came (rw (← r.2, ← same) o))
+  ]
+
+  pub ends_at : (bounded : List ℤ) → is_open (play plan) ≡ true → bounded ≡ bounds play (take count answers) → EndsAt play plan answers bounded result
+  ends_at bounded o b =
+      let t = all_taken o in
+      record {
+        ones = replicate (length answers - planned) (pos 1);
+        all_ones = all_ones (length answers - planned);
+        answers_are = took.ones_behind ∙ ap (λ p. p ++ replicate (length answers - planned) (pos 1)) took.plan_is;
+        played = ap play (sym t) ∙ took.came;
+        bounds_are = b ∙ ap (bounds play) t;
+      }
+
+  -- a plan that was not taken whole, or that ones followed, is no run
+  pub not_whole : (count ≡ length plan → length answers ≡ length plan → ⊥) → IsRun play plan → ⊥
+  not_whole differ r = by_more (length answers - planned) refl
+    where
+      by_more : (k : ℕ) → length answers - planned ≡ k → ⊥
+      by_more zero z =
+          let t = all_taken (run_opens play most reads plan r) in
+          let n : count ≡ length answers = sym (length-take-le count answers took.count_within) ∙ ap length t in
+          let p : planned ≡ length plan = sym (length-take-le planned answers took.planned_within) ∙ ap length took.plan_is in
+          let u = took.planned_within in
+          differ (omega arith) (omega arith)
+      by_more (suc k) z =
+          let t = all_taken (run_opens play most reads plan r) in
+          let whole : IsRun play answers = ap is_whole (ap play (sym t) ∙ took.came) in
+          let s : answers ≡ plan ++ pos 1 ∷ replicate k (pos 1) = took.ones_behind ∙ ap (λ q. q ++ replicate (length answers - planned) (pos 1)) took.plan_is ∙ ap (λ m. plan ++ replicate m (pos 1)) z in
+          run_apart play most reads plan (replicate k (pos 1)) (pos 1) r (rw s at whole)

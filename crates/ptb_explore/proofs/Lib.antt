@@ -1,0 +1,14 @@
+pub mod Order
+pub mod Lists
+pub mod Tree
+pub mod Next
+pub mod Bounds
+pub mod Raising
+pub mod Attempt
+pub mod Recording
+pub mod Trial
+pub mod Gathering
+pub mod ReportText
+pub mod Progress
+pub mod Keep
+pub mod Worked

@@ -1,0 +1,90 @@
+-- This file proves how the reports that are written and those that are left make up a listing.
+use Rattle.std.proofs.Common.{◌≡◌, ℕ, zero, suc, ◌+◌, ◌-◌, ◌^◌, ◌<◌, List, [], ◌∷◌, ◌++◌, length, take, drop, min, Option, Some, None, refl, ap, sym, ◌∙◌, arith, append_assoc, append-nil, length-append, inl, inr, subst}
+use Rattle.std.proofs.lemmas.List.Concat.{flat_map-append}
+use Rattle.std.proofs.lemmas.List.{take-append-drop}
+use Rattle.std.specs.Io.KnownBytes.{Appends}
+use Rattle.std.proofs.KnownBytes.{Appends-nil, Appends-trans}
+use Rattle.ptb_text.specs.Device.{TakesSome}
+use Rattle.ptb_expr.specs.Outcome.{Answers, Outcome, IsReader}
+use Rattle.ptb_explore.specs.Runs.{Front, At, Finished, IsNextRun, IsLast, runs_after, runs_left}
+use Rattle.ptb_explore.specs.Listing.{text, behind, count_of, WritesList, WritesSome, WritesInto}
+use Rattle.ptb_explore.proofs.Next.{left_next, left_none}
+
+-- how many may still be written after one more
+abbrev pub less_one : Option ℕ → Option ℕ
+less_one None = None
+less_one (Some n) = Some (n - 1)
+
+behind_push : (f : Front) (done : List Answers) (a : Answers) → behind f (done ++ a ∷ []) ≡ At a
+behind_push f [] a = refl
+behind_push f (b ∷ done) a = behind_push (At b) done a
+
+take_one : (n : ℕ) (a : Answers) (xs : List Answers) → (n ≡ 0 → ⊥) → take n (a ∷ xs) ≡ a ∷ take (n - 1) xs
+take_one zero a xs h = absurd (h refl)
+take_one (suc n) a xs h = let e : suc n - 1 ≡ n = omega arith in rw e refl
+
+module _ {A W : Type 0} (play : Answers → Outcome A W) (most : ℕ) (reads : IsReader play most) where
+  left_more : (front : Front) (remaining : Option ℕ) (a : Answers) → (remaining ≡ Some 0 → ⊥) → IsNextRun play front a → runs_left play most front remaining ≡ a ∷ runs_left play most (At a) (less_one remaining)
+  left_more front None a h n = left_next play most reads front a n
+  left_more front (Some k) a h n = ap (take k) (left_next play most reads front a n) ∙ take_one k a (runs_after play most (At a)) (λ e. h (ap Some e))
+
+  left_last : (front : Front) (remaining : Option ℕ) → IsLast play front → runs_left play most front remaining ≡ []
+  left_last front None h = left_none play most reads front h
+  left_last front (Some zero) h = refl
+  left_last front (Some (suc k)) h = ap (take (suc k)) (left_none play most reads front h)
+
+  pub fewer_left : (front : Front) (a : Answers) → IsNextRun play front a → length (runs_after play most (At a)) < length (runs_after play most front)
+  fewer_left front a n = omega (arith, ap length (left_next play most reads front a n))
+
+-- some reports are written, and with what is left they are the list
+pub record Progress {A W : Type 0} (play : Answers → Outcome A W) (most : ℕ) (report : Answers → List ℕ) (list : List Answers) (start front : Front) (remaining : Option ℕ) (old new : Option (List ℕ)) (n : ℕ) : Type 0 where
+  pub done : List Answers
+  pub split : list ≡ done ++ runs_left play most front remaining
+  pub told : Appends old new (text report done)
+  pub stands : front ≡ behind start done
+  pub count : n ≡ count_of done
+
+module _ {A W : Type 0} (play : Answers → Outcome A W) (most : ℕ) (reads : IsReader play most) (report : Answers → List ℕ) where
+  text_push : (done : List Answers) (a : Answers) → text report done ++ report a ≡ text report (done ++ a ∷ [])
+  text_push done a = sym (flat_map-append report done (a ∷ []) ∙ ap (λ x. text report done ++ x) (append-nil (report a)))
+
+  module _ (list : List Answers) (start : Front) (old : Option (List ℕ)) where
+    pub progress_none : (remaining : Option ℕ) → list ≡ runs_left play most start remaining → Progress play most report list start start remaining old old 0
+    progress_none remaining e = record { done = []; split = e; told = Appends-nil old; stands = refl; count = refl }
+
+    pub progress_more : (front f' : Front) (remaining : Option ℕ) (new new' : Option (List ℕ)) (n n' : ℕ) (a : Answers) → Progress play most report list start front remaining old new n → (remaining ≡ Some 0 → ⊥) → IsNextRun play front a → f' ≡ At a → Appends new new' (report a) → n' ≡ min (n + 1) (2 ^ 64 - 1) → Progress play most report list start f' (less_one remaining) old new' n'
+    progress_more front f' remaining new new' n n' a p h next e w c = record {
+      done = p.done ++ a ∷ [];
+      split = p.split ∙ ap (λ x. p.done ++ x) (left_more play most reads front remaining a h next) ∙ sym (append_assoc p.done (a ∷ []) (runs_left play most (At a) (less_one remaining))) ∙ ap (λ x. (p.done ++ a ∷ []) ++ runs_left play most x (less_one remaining)) (sym e);
+      told = subst (Appends old new') (text_push p.done a) (Appends-trans old new new' (text report p.done) (report a) p.told w);
+      stands = e ∙ sym (behind_push start p.done a);
+      count = let l = length-append p.done (a ∷ []) in let k = p.count in omega (arith, l, k, c);
+    }
+
+    pub progress_whole : (front : Front) (new : Option (List ℕ)) (n : ℕ) → Progress play most report list start front (Some 0) old new n → WritesList play report list start front old new n
+    progress_whole front new n p =
+        let e : list ≡ p.done = p.split ∙ append-nil p.done in
+        record { written = subst (λ x. Appends old new (text report x)) (sym e) p.told; count = p.count ∙ ap count_of (sym e); front = inl (p.stands ∙ ap (behind start) (sym e)) }
+
+    pub progress_last : (front : Front) (remaining : Option ℕ) (new : Option (List ℕ)) (n : ℕ) → Progress play most report list start front remaining old new n → IsLast play front → WritesList play report list start Finished old new n
+    progress_last front remaining new n p last =
+        let e : list ≡ p.done = p.split ∙ ap (λ x. p.done ++ x) (left_last play most reads front remaining last) ∙ append-nil p.done in
+        let s : front ≡ behind start list = p.stands ∙ ap (behind start) (sym e) in
+        record { written = subst (λ x. Appends old new (text report x)) (sym e) p.told; count = p.count ∙ ap count_of (sym e); front = inr (refl, rw s at last) }
+
+    pub progress_some : (front : Front) (remaining : Option ℕ) (new : Option (List ℕ)) (n : ℕ) → Progress play most report list start front remaining old new n → WritesSome play report list start front old new n
+    progress_some front remaining new n p = record { done = p.done; rest = runs_left play most front remaining; split = p.split; written = p.told; count = p.count; front = p.stands }
+
+    pub progress_into : (front : Front) (remaining : Option ℕ) (new new' : Option (List ℕ)) (n : ℕ) (a : Answers) → Progress play most report list start front remaining old new n → (remaining ≡ Some 0 → ⊥) → IsNextRun play front a → TakesSome new new' (report a) → WritesInto play report list start (At a) old new' n
+    progress_into front remaining new new' n a p h next part = record {
+      done = p.done;
+      at = a;
+      rest = runs_left play most (At a) (less_one remaining);
+      split = p.split ∙ ap (λ x. p.done ++ x) (left_more play most reads front remaining a h next);
+      part = take part.0 (report a);
+      unwritten = drop part.0 (report a);
+      cut = sym (take-append-drop part.0 (report a));
+      written = Appends-trans old new new' (text report p.done) (take part.0 (report a)) p.told part.2;
+      count = p.count;
+      front = refl;
+    }

@@ -1,0 +1,109 @@
+-- This file proves which answers the next run begins with.
+use Rattle.std.proofs.Common.{◌≡◌, ℕ, zero, suc, ◌+◌, ◌<◌, ◌≤◌, List, [], ◌∷◌, ◌++◌, length, take, drop, true, refl, ap, sym, ◌∙◌, arith, append_assoc, append-nil, length-append}
+use Rattle.std.specs.Prelude.{ℤ, pos, Some, None, ◌+ℤ◌, ◌≤ℤ◌, ◌<ℤ◌, int_le, slice_index_or}
+use Rattle.std.proofs.lemmas.Bool.{and_from}
+use Rattle.std.proofs.lemmas.Int.{ints}
+use Rattle.std.proofs.lemmas.List.{length-take-le}
+use Rattle.ptb_expr.specs.Outcome.{Answers, Outcome, Asks, IsReader, is_answer, bound_of, bounds, bounds_after}
+use Rattle.ptb_explore.specs.Runs.{Front, Start, At, IsRun, IsNextRun, IsLast}
+use Rattle.ptb_explore.specs.declared.plan.Standing.{Standing}
+use Rattle.ptb_explore.specs.declared.plan.Standing.TheVariants.{AtStart, AtRun, AtEnd}
+use Rattle.ptb_explore.specs.Plans.{IsPlan, IsLastBelow, PlansNext, IsStanding, front_of, EndsAt}
+use Rattle.ptb_explore.proofs.Order.{before_from_differ}
+use Rattle.ptb_explore.proofs.Tree.{run_asks}
+use Rattle.ptb_explore.proofs.Next.{AtTop, is_answer_is, between_none, ones_first, top_last}
+
+-- a list at a place: what stands before it, there and behind it
+pub split_at : {X : Type 0} (s : List X) (i : ℕ) (d : X) → i < length s → s ≡ take i s ++ slice_index_or s i d ∷ drop (i + 1) s
+split_at [] i d l = absurd (omega arith)
+split_at (x ∷ s) zero d l = refl
+split_at (x ∷ s) (suc i) d l = let e = split_at s i d (omega arith) in let n : suc i + 1 ≡ suc (i + 1) = omega arith in rw n (ap (λ r. x ∷ r) e)
+
+pub take_front : {X : Type 0} (i : ℕ) (a b : List X) → i ≤ length a → take i (take i a ++ b) ≡ take i a
+take_front zero a b l = refl
+take_front (suc i) [] b l = absurd (omega arith)
+take_front (suc i) (x ∷ a) b l = ap (λ r. x ∷ r) (take_front i a b (omega arith))
+
+is_answer_of : (n k : ℤ) → pos 1 ≤ℤ k → k ≤ℤ n → is_answer n k ≡ true
+is_answer_of n k l u = and_from (int_le (pos 1) k) (int_le k n) (grind (arith, ints)) (grind (arith, ints))
+
+module _ {A W : Type 0} (play : Answers → Outcome A W) where
+  -- the bound of the answer behind q
+  bound_there : (p q t : Answers) (x : ℤ) → slice_index_or (bounds_after play p (q ++ x ∷ t)) (length q) (pos 0) ≡ bound_of (play (p ++ q))
+  bound_there p [] t x = ap (λ s. bound_of (play s)) (sym (append-nil p))
+  bound_there p (y ∷ q) t x = bound_there (p ++ y ∷ []) q t x ∙ ap (λ s. bound_of (play s)) (append_assoc p (y ∷ []) q)
+
+  -- answers that are at their bounds by place are at their bounds
+  top_from : (p q t : Answers) → ((k : ℕ) → length q ≤ k → k < length (q ++ t) → slice_index_or (bounds_after play p (q ++ t)) k (pos 0) ≤ℤ slice_index_or (q ++ t) k (pos 0)) → AtTop play (p ++ q) t
+  top_from p (y ∷ q) t h =
+      let r = top_from (p ++ y ∷ []) q t (λ k l u. h (suc k) (omega arith) (omega arith)) in
+      rw (append_assoc p (y ∷ []) q) at r
+  top_from p [] [] h = tt
+  top_from p [] (x ∷ t) h =
+      let r = top_from (p ++ x ∷ []) [] t (λ k l u. h (suc k) (omega arith) (omega arith)) in
+      let first : bound_of (play p) ≤ℤ x = h 0 (omega arith) (omega arith) in
+      rw append-nil (first, rw append-nil at r)
+
+module _ {A W : Type 0} (play : Answers → Outcome A W) (most : ℕ) (reads : IsReader play most) where
+  -- the first run has the least answers
+  pub start_plan : IsPlan play Start []
+  start_plan = record {
+    opens = reads.begins;
+    next = λ ones o r. record { run = r; after = refl; first = λ b s _ h. ones_first play most reads [] b ones o s h };
+  }
+
+  raise_split : (q t : Answers) (x n : ℤ) (w : W) → IsRun play (q ++ x ∷ t) → play q ≡ Asks n w → pos 1 ≤ℤ x → x <ℤ n → AtTop play (q ++ x ∷ []) t → IsPlan play (At (q ++ x ∷ t)) (q ++ (x +ℤ pos 1) ∷ [])
+  raise_split q t x n w r a low high top = record {
+    opens = reads.inside q n (x +ℤ pos 1) w a (is_answer_of n (x +ℤ pos 1) (omega (arith, ints)) (omega (arith, ints)));
+    next = λ ones o s. let same = append_assoc q ((x +ℤ pos 1) ∷ []) ones in record {
+      run = s;
+      after = rw same (before_from_differ q t ones x (x +ℤ pos 1) (omega (arith, ints)));
+      first = λ b z lower upper. between_none play most reads [] q b t ones x top o z lower (rw same at upper);
+    };
+  }
+
+  raise_from : (a q t : Answers) (x : ℤ) (i : ℕ) → a ≡ q ++ x ∷ t → length q ≡ i → IsRun play a → x <ℤ slice_index_or (bounds play a) i (pos 0) → ((k : ℕ) → i < k → k < length a → slice_index_or (bounds play a) k (pos 0) ≤ℤ slice_index_or a k (pos 0)) → IsPlan play (At a) (q ++ (x +ℤ pos 1) ∷ [])
+  raise_from a q t x i e n r low top =
+      let run : IsRun play (q ++ x ∷ t) = rw e at r in
+      let asks = run_asks play most reads q t x run in
+      let within = is_answer_is asks.0 x asks.3 in
+      let b : slice_index_or (bounds play (q ++ x ∷ t)) (length q) (pos 0) ≡ asks.0 = bound_there play [] q t x ∙ ap bound_of asks.2 in
+      let lower : x <ℤ slice_index_or (bounds play (q ++ x ∷ t)) (length q) (pos 0) = rw (e, ← n) at low in
+      let s : (q ++ x ∷ []) ++ t ≡ q ++ x ∷ t = append_assoc q (x ∷ []) t in
+      let upper : (k : ℕ) → length (q ++ x ∷ []) ≤ k → k < length ((q ++ x ∷ []) ++ t) → slice_index_or (bounds_after play [] ((q ++ x ∷ []) ++ t)) k (pos 0) ≤ℤ slice_index_or ((q ++ x ∷ []) ++ t) k (pos 0) =
+      (λ k l u. rw (s ∙ sym e) (top k (omega (arith, length-append q (x ∷ []))) (omega (arith, ap length (s ∙ sym e))))) in
+      rw e (raise_split q t x asks.0 asks.1 run asks.2 within.0 (rw b at lower) (top_from play [] (q ++ x ∷ []) t upper))
+
+  -- the answer at i is below its bound and those behind it are not: the next run raises it by one
+  pub raise_plan : (a : Answers) (i : ℕ) → IsRun play a → i < length a → slice_index_or a i (pos 0) <ℤ slice_index_or (bounds play a) i (pos 0) → ((k : ℕ) → i < k → k < length a → slice_index_or (bounds play a) k (pos 0) ≤ℤ slice_index_or a k (pos 0)) → IsPlan play (At a) (take i a ++ (slice_index_or a i (pos 0) +ℤ pos 1) ∷ [])
+  raise_plan a i r l low top = raise_from a (take i a) (drop (i + 1) a) (slice_index_or a i (pos 0)) i (split_at a i (pos 0) l) (length-take-le i a (omega arith)) r low top
+
+  -- where no answer is below its bound, no run is after
+  pub top_plan : (a : Answers) → IsRun play a → ((k : ℕ) → k < length a → slice_index_or (bounds play a) k (pos 0) ≤ℤ slice_index_or a k (pos 0)) → IsLast play (At a)
+  top_plan a r top b s h = top_last play most reads [] b a (top_from play [] [] a (λ k l u. top k u)) s h
+
+  -- ---- the plan that follows where a listing stands
+
+  pub next_plan : (standing : Standing) (answers plan : Answers) (bounded : List ℤ) (i : ℕ) → IsStanding play standing answers bounded → PlansNext standing answers bounded plan (Some i) → IsPlan play (front_of standing answers) plan
+  next_plan AtStart answers plan bounded i s p = rw p.1 start_plan
+  next_plan AtRun answers plan bounded i s p =
+      let last : IsLastBelow answers (bounds play answers) i = rw s.1 at p.0 in
+      rw p.1 (raise_plan answers i s.0 last.within last.below last.last)
+  next_plan AtEnd answers plan bounded i s p = absurd p
+
+  pub last_plan : (standing : Standing) (answers plan : Answers) (bounded : List ℤ) → IsStanding play standing answers bounded → PlansNext standing answers bounded plan None → IsLast play (front_of standing answers)
+  last_plan AtStart answers plan bounded s p = absurd p
+  last_plan AtRun answers plan bounded s p = top_plan answers s.0 (rw s.1 at p)
+  last_plan AtEnd answers plan bounded s p = λ b r h. absurd cc
+
+  -- a plan that was played to its end is the next run
+  pub plan_ends : (front : Front) (plan answers : Answers) (bounded : List ℤ) (result : A) → IsPlan play front plan → EndsAt play plan answers bounded result → IsNextRun play front answers
+  plan_ends front plan answers bounded result p e =
+      let run : IsRun play (plan ++ e.ones) = rw (← e.answers_are, e.played) refl in
+      rw e.answers_are (p.next e.ones e.all_ones run)
+
+-- the plan begins with the first answers of the run
+pub plan_begins : (answers plan : Answers) (bounded : List ℤ) (i : ℕ) → PlansNext AtRun answers bounded plan (Some i) → (i ≤ length answers) × (take i plan ≡ take i answers)
+plan_begins answers plan bounded i p =
+    let u = p.0.within in
+    (omega arith, ap (take i) p.1 ∙ take_front i answers (_ ∷ []) (omega arith))

@@ -1,0 +1,7 @@
+-- This file says that the answers behind the place are at their bounds.
+use Rattle.std.proofs.Common.{ℕ, ◌<◌, ◌≤◌, length}
+use Rattle.ptb_explore.specs.Plans.{IsAtBound}
+use Rattle.ptb_explore.proofs.plan.last_below.Given as goal
+
+abbrev pub invariant-loop-i : goal.invariant-loop-i
+invariant-loop-i l = (k : ℕ) → l.i ≤ k → k < length l.answers → IsAtBound l.answers l.bounds k

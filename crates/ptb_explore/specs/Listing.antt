@@ -1,0 +1,67 @@
+-- This file defines what a listing of runs leaves behind it. `report` gives the text of the report of a run.
+--     text report list                  the reports of a list of runs, one after the other
+--     behind f list                     where a listing stands after a list of runs
+--     NextWrites ..                     what the writing of the next report leaves
+--     WritesRuns ..                     what the writing of a list of reports leaves
+use Rattle.std.specs.Prelude.{◌≡◌, ℕ, ◌-◌, ◌^◌, List, [], ◌∷◌, ◌++◌, length, min, Bool, true, false, ◌⊎◌, Option, Result, Ok, Err}
+use Rattle.std.specs.Io.KnownBytes.{Appends}
+use Rattle.std.specs.List.{flat_map}
+use Rattle.ptb_text.specs.Device.{TakesSome}
+use Rattle.ptb_expr.specs.Outcome.{Answers, Outcome}
+use Rattle.ptb_explore.specs.declared.fault.ExploreFault.{ExploreFault}
+use Rattle.ptb_explore.specs.declared.fault.ExploreFault.TheVariants.{Memory, Write}
+use Rattle.ptb_explore.specs.declared.fault.NextFault.{NextFault}
+use Rattle.ptb_explore.specs.declared.fault.NextFault.TheVariants as next
+use Rattle.ptb_explore.specs.Runs.{Front, At, Finished, IsNextRun, IsLast}
+
+abbrev pub text : (Answers → List ℕ) → List Answers → List ℕ
+text report list = flat_map report list
+
+abbrev pub behind : Front → List Answers → Front
+behind f [] = f
+behind f (a ∷ list) = behind (At a) list
+
+-- the count of reports stops at the greatest number of 64 bits
+abbrev pub count_of : List Answers → ℕ
+count_of list = min (length list) (2 ^ 64 - 1)
+
+module _ {A W : Type 0} (play : Answers → Outcome A W) (report : Answers → List ℕ) where
+  -- whether there is a next run; its report was written, or there is none, or nothing was written, or a beginning of it
+  abbrev pub NextWrites : Front → Front → Option (List ℕ) → Option (List ℕ) → Result Bool NextFault → Type 0
+  NextWrites f f' old new (Ok true) = (a : Answers) × IsNextRun play f a × (f' ≡ At a) × Appends old new (report a)
+  NextWrites f f' old new (Ok false) = IsLast play f × (f' ≡ Finished) × (new ≡ old)
+  NextWrites f f' old new (Err next.Memory) = (f' ≡ f) × (new ≡ old)
+  NextWrites f f' old new (Err next.Write) = (a : Answers) × IsNextRun play f a × (f' ≡ At a) × TakesSome old new (report a)
+
+  -- the reports of the whole list were written; it stands behind the list, or past the last run
+  pub record WritesList (list : List Answers) (f f' : Front) (old new : Option (List ℕ)) (n : ℕ) : Type 0 where
+    pub written : Appends old new (text report list)
+    pub count : n ≡ count_of list
+    pub front : (f' ≡ behind f list) ⊎ ((f' ≡ Finished) × IsLast play (behind f list))
+
+  -- the reports of a beginning of the list were written, and nothing else; it stands behind them
+  pub record WritesSome (list : List Answers) (f f' : Front) (old new : Option (List ℕ)) (n : ℕ) : Type 0 where
+    pub done : List Answers
+    pub rest : List Answers
+    pub split : list ≡ done ++ rest
+    pub written : Appends old new (text report done)
+    pub count : n ≡ count_of done
+    pub front : f' ≡ behind f done
+
+  -- the reports of a beginning of the list were written, and a beginning of the next; it stands at that one
+  pub record WritesInto (list : List Answers) (f f' : Front) (old new : Option (List ℕ)) (n : ℕ) : Type 0 where
+    pub done : List Answers
+    pub at : Answers
+    pub rest : List Answers
+    pub split : list ≡ done ++ at ∷ rest
+    pub part : List ℕ
+    pub unwritten : List ℕ
+    pub cut : report at ≡ part ++ unwritten
+    pub written : Appends old new (text report done ++ part)
+    pub count : n ≡ count_of done
+    pub front : f' ≡ At at
+
+  abbrev pub WritesRuns : List Answers → Front → Front → Option (List ℕ) → Option (List ℕ) → Result ℕ ExploreFault → Type 0
+  WritesRuns list f f' old new (Ok n) = WritesList list f f' old new n
+  WritesRuns list f f' old new (Err (Memory n)) = WritesSome list f f' old new n
+  WritesRuns list f f' old new (Err (Write n)) = WritesInto list f f' old new n

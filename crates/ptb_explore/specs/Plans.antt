@@ -1,0 +1,69 @@
+-- This file defines plans: the first answers of the next run, which goes on with the least answers.
+--     IsPlan play front plan                      what goes on from the plan with ones and is a run is the next run after the front
+--     IsLastBelow answers bounds i                the last answer that is below its bound is the one at i
+--     PlansNext standing answers bounds plan o    the plan raises that answer by one and drops those behind it
+--     IsStanding play standing answers bounds     where it stands at a run, it is that of the answers, with these bounds
+--     IsFresh recorder                            all that a recorder holds is a plan
+--     EndsAt play plan answers bounds result      the plan and then ones are a run, with these bounds and this result
+use Rattle.std.specs.Prelude.{◌≡◌, ℕ, ◌<◌, List, [], ◌∷◌, ◌++◌, length, take, true, Option, Some, None, ℤ, pos, ◌+ℤ◌, ◌<ℤ◌, ◌≤ℤ◌, slice_index_or, vec_len}
+use Rattle.std.specs.List.{AllByRecursion}
+use Rattle.ptb_expr.specs.Outcome.{Answers, Outcome, Done, is_open, bounds}
+use Rattle.ptb_explore.specs.declared.plan.Standing.{Standing}
+use Rattle.ptb_explore.specs.declared.plan.Standing.TheVariants.{AtStart, AtRun, AtEnd}
+use Rattle.ptb_explore.specs.declared.recorder.Recorder.{Recorder}
+use Rattle.ptb_explore.specs.Runs.{Front, Start, At, Finished, IsRun, IsNextRun}
+
+-- each answer is 1
+abbrev pub AllOnes : Answers → Type 0
+AllOnes answers = AllByRecursion (λ k. k ≡ pos 1) answers
+
+pub record IsPlan {A W : Type 0} (play : Answers → Outcome A W) (front : Front) (plan : Answers) : Type 0 where
+  pub opens : is_open (play plan) ≡ true
+  pub next : (ones : Answers) → AllOnes ones → IsRun play (plan ++ ones) → IsNextRun play front (plan ++ ones)
+
+-- ---- which plan comes next
+
+abbrev pub IsAtBound : Answers → List ℤ → ℕ → Type 0
+IsAtBound answers bounds k = slice_index_or bounds k (pos 0) ≤ℤ slice_index_or answers k (pos 0)
+
+pub record IsLastBelow (answers : Answers) (bounds : List ℤ) (i : ℕ) : Type 0 where
+  pub within : i < length answers
+  pub below : slice_index_or answers i (pos 0) <ℤ slice_index_or bounds i (pos 0)
+  pub last : (k : ℕ) → i < k → k < length answers → IsAtBound answers bounds k
+
+abbrev pub AreAtBounds : Answers → List ℤ → Type 0
+AreAtBounds answers bounds = (k : ℕ) → k < length answers → IsAtBound answers bounds k
+
+-- with how many answers of the run the plan begins; none where no run is left
+abbrev pub PlansNext : Standing → Answers → List ℤ → Answers → Option ℕ → Type 0
+PlansNext AtStart answers bounds plan None = ⊥
+PlansNext AtStart answers bounds plan (Some i) = (i ≡ 0) × (plan ≡ [])
+PlansNext AtRun answers bounds plan None = AreAtBounds answers bounds
+PlansNext AtRun answers bounds plan (Some i) = IsLastBelow answers bounds i × (plan ≡ take i answers ++ (slice_index_or answers i (pos 0) +ℤ pos 1) ∷ [])
+PlansNext AtEnd answers bounds plan None = Unit {0}
+PlansNext AtEnd answers bounds plan (Some i) = ⊥
+
+-- ---- where a listing stands
+
+abbrev pub front_of : Standing → Answers → Front
+front_of AtStart answers = Start
+front_of AtRun answers = At answers
+front_of AtEnd answers = Finished
+
+abbrev pub IsStanding : {A W : Type 0} → (Answers → Outcome A W) → Standing → Answers → List ℤ → Type 0
+IsStanding play AtStart answers bounded = Unit {0}
+IsStanding play AtRun answers bounded = IsRun play answers × (bounded ≡ bounds play answers)
+IsStanding play AtEnd answers bounded = Unit {0}
+
+-- ---- a plan that is played
+
+pub record IsFresh (r : Recorder) : Type 0 where
+  pub none_given : r.bounds.items ≡ []
+  pub all_planned : r.planned ≡ vec_len r.answers
+
+pub record EndsAt {A W : Type 0} (play : Answers → Outcome A W) (plan answers : Answers) (bounded : List ℤ) (result : A) : Type 0 where
+  pub ones : Answers
+  pub all_ones : AllOnes ones
+  pub answers_are : answers ≡ plan ++ ones
+  pub played : play answers ≡ Done result []
+  pub bounds_are : bounded ≡ bounds play answers

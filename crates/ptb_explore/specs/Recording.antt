@@ -1,0 +1,22 @@
+-- This file defines what a recorder holds, and why it gives no answer.
+--     choices_of r                 the plan of a recorder, the answers that it gave, and their bounds
+--     RefusedByPlan c z n          it pauses at a question with bound n
+use Rattle.std.specs.Prelude.{◌≡◌, List, ◌∷◌, ◌++◌, length, take, false, Some, ℤ}
+use Rattle.ptb_expr.specs.declared.pause.Pause.{Pause}
+use Rattle.ptb_expr.specs.declared.pause.Pause.TheVariants.{Ended, OutOfRange, Memory}
+use Rattle.ptb_expr.specs.Outcome.{is_answer}
+use Rattle.ptb_expr.specs.Choices.{Choices}
+use Rattle.ptb_explore.specs.declared.recorder.Recorder.{Recorder}
+
+abbrev pub choices_of : Recorder → Choices
+choices_of r = record {
+  plan = take r.planned r.answers.items;
+  taken = take (length r.bounds.items) r.answers.items;
+  kept = Some r.bounds.items;
+}
+
+-- never for want of answers; as out of range only where the plan's next answer is
+abbrev pub RefusedByPlan : Choices → Pause → ℤ → Type 0
+RefusedByPlan c Ended n = ⊥
+RefusedByPlan c (OutOfRange g) n = ((rest : List ℤ) × (c.plan ≡ c.taken ++ g ∷ rest)) × (is_answer n g ≡ false)
+RefusedByPlan c Memory n = Unit {0}

@@ -1,0 +1,40 @@
+-- This file has worked rows of runs and of their reports.
+use Rattle.std.specs.Prelude.{◌≡◌, ℕ, [], ◌∷◌, codes, false, true, Some, None, pos}
+use Rattle.ptb_expr.specs.Outcome.{Answers, is_whole, bounds}
+use Rattle.ptb_expr.specs.Rows.{worth}
+use Rattle.ptb_explore.specs.Runs.{At, Finished, is_before, tree, runs_left}
+use Rattle.ptb_explore.specs.Report.{report_text}
+
+-- a list of one answer, and of two
+abbrev pub one : ℕ → Answers
+one j = pos j ∷ []
+
+abbrev pub two : ℕ → ℕ → Answers
+two j k = pos j ∷ pos k ∷ []
+
+pub record RunRows : Type 0 where
+  -- the runs of an expression that is worked out
+  pub no_question : tree (worth (codes "7")) 0 ≡ [] ∷ []
+  pub two_rolls : tree (worth (codes "RND(2)*RND(2)")) 2 ≡ two 1 1 ∷ two 1 2 ∷ two 2 1 ∷ two 2 2 ∷ []
+  pub nested : tree (worth (codes "RND(RND(2))")) 2 ≡ two 1 1 ∷ two 2 1 ∷ two 2 2 ∷ []
+  pub with_fault : tree (worth (codes "RND(RND(2)-1)")) 2 ≡ one 1 ∷ two 2 1 ∷ []
+  -- what is left of them
+  pub after_first : runs_left (worth (codes "RND(2)*RND(2)")) 2 (At (two 1 1)) (Some 2) ≡ two 1 2 ∷ two 2 1 ∷ []
+  pub after_last : runs_left (worth (codes "RND(2)*RND(2)")) 2 (At (two 2 2)) None ≡ []
+  pub past_end : runs_left (worth (codes "RND(2)*RND(2)")) 2 Finished None ≡ []
+  -- lists that are runs, and that are none
+  pub whole : is_whole (worth (codes "RND(RND(2))") (two 2 1)) ≡ true
+  pub beginning : is_whole (worth (codes "RND(RND(2))") (one 2)) ≡ false
+  pub too_long : is_whole (worth (codes "RND(2)") (two 2 1)) ≡ false
+  pub outside : is_whole (worth (codes "RND(2)") (one 3)) ≡ false
+  pub their_bounds : bounds (worth (codes "RND(RND(5))")) (two 3 2) ≡ pos 5 ∷ pos 3 ∷ []
+  -- the order goes by the first difference, not by the number of answers
+  pub shorter : is_before (one 2) (two 1 9) ≡ false
+  pub longer : is_before (two 1 9) (one 2) ≡ true
+
+pub record ReportRows : Type 0 where
+  pub none : report_text [] (codes "END") 0 [] ≡ codes "RUN none END 0 0\n\n"
+  pub one_answer : report_text (one 1) (codes "END") 1 (codes "     1\n") ≡ codes "RUN 1 END 1 7\n     1\n\n"
+  pub two_answers : report_text (two 2 3) (codes "END") 4 (codes "     3\n") ≡ codes "RUN 2,3 END 4 7\n     3\n\n"
+  pub no_steps_left : report_text [] (codes "LIMIT") 5 [] ≡ codes "RUN none LIMIT 5 0\n\n"
+  pub no_newline_shown : report_text [] (codes "NOINPUT") 1 (codes "A:") ≡ codes "RUN none NOINPUT 1 2\nA:\n"

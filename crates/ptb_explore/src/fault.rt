@@ -1,0 +1,36 @@
+// This file says why runs can't be listed, or a listing can't go on after a list of answers.
+
+use thiserror::Error;
+
+/// Why not all reports were written.
+///
+/// Each has the number of reports that were, or `u64::MAX` where there were more.
+#[derive(Clone, Copy, Debug, PartialEq, Eq, Error)]
+pub enum ExploreFault {
+    /// A growth was refused memory. Nothing of the next report was written.
+    #[error("out of memory")]
+    Memory(u64),
+    /// The writer failed. A beginning of the next report may have been written.
+    #[error("cannot write")]
+    Write(u64),
+}
+
+/// Why a listing can't go on after a list of answers.
+#[derive(Clone, Copy, Debug, PartialEq, Eq, Error)]
+pub enum AfterFault {
+    /// The answers are no run.
+    #[error("not a run")]
+    NotARun,
+    /// A growth was refused memory.
+    #[error("out of memory")]
+    Memory,
+}
+
+/// Why the next report was not written.
+#[derive(Clone, Copy, Debug, PartialEq, Eq)]
+pub(crate) enum NextFault {
+    /// A growth was refused memory.
+    Memory,
+    /// The writer failed.
+    Write,
+}

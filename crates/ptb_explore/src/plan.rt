@@ -1,0 +1,70 @@
+// This file has the choice of the answers that the next run begins with.
+
+ghost use Rattle.std.specs.Prelude.{◌≡◌, length, IfOk, IfSome, OnSome, MatchOption, pos, ◌<ℤ◌, slice_index_or};
+ghost use Rattle.ptb_explore.specs.Plans.{IsLastBelow, AreAtBounds, PlansNext, IsFresh};
+
+use crate::recorder::Recorder;
+use std::alloc::AllocError;
+
+/// Where a listing of all runs stands.
+#[derive(Clone, Copy, Debug, PartialEq, Eq)]
+pub enum Standing {
+    /// Before the first run.
+    AtStart,
+    /// At a run.
+    AtRun,
+    /// Behind the last run.
+    AtEnd,
+}
+
+/// The last place at which the answer is below its bound.
+fn last_below(answers: &[i16], bounds: &[i16]) -> Option<usize>
+    requires { length answers.now ≡ length bounds.now }
+    ensures place { MatchOption result
+        (AreAtBounds answers.now bounds.now)
+        (IsLastBelow answers.now bounds.now) }
+
+    // It can be raised by one.
+    ensures room { IfSome result (λ i. slice_index_or answers.now i (pos 0) <ℤ pos 32767) }
+{
+    for i in (0..answers.len()).rev() {
+        if answers[i] < bounds[i] {
+            return Some(i);
+        }
+    }
+    None
+}
+
+/// Plans the run behind the one at which the listing stands: the last answer that is below its
+/// bound is raised by one, and those behind it are dropped.
+///
+/// It gives the number of answers in front of the raised one, or `None` where no run is left.
+///
+/// # Errors
+///
+/// Where the plan is refused memory.
+pub fn plan_next(
+    standing: Standing,
+    answers: &[i16],
+    bounds: &[i16],
+    trial: &mut Recorder,
+) -> Result<Option<usize>, AllocError>
+    requires { standing ≡ Standing.AtRun → length answers.now ≡ length bounds.now }
+    ensures plan { IfOk result (PlansNext standing answers.now bounds.now trial.new.answers.items) }
+    ensures fresh { IfOk result (λ o. OnSome o (IsFresh trial.new)) }
+{
+    match standing {
+        Standing::AtEnd => Ok(None),
+        Standing::AtStart => {
+            trial.clear();
+            Ok(Some(0))
+        }
+        Standing::AtRun => match last_below(answers, bounds) {
+            None => Ok(None),
+            Some(i) => {
+                trial.restart(&answers[..i], answers[i] + 1)?;
+                Ok(Some(i))
+            }
+        },
+    }
+}

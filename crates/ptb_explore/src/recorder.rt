@@ -1,0 +1,144 @@
+// This file has the chooser that plays a plan, and keeps what it answered.
+
+ghost use Rattle.std.specs.Prelude.{◌≡◌, ℕ, ◌+◌, ◌-◌, ◌<◌, ◌≤◌, List, [], ◌∷◌, ◌++◌, length, take, replicate, OnOk, vec_len, ℤ, pos};
+
+use ptb_expr::{Chooser, Pause};
+use std::alloc::{AllocError, Global};
+use std::mem;
+
+/// Answers from a plan, and then 1 each time. It keeps each answer with its bound.
+///
+/// The first `planned` of the answers are the plan, those behind it are ones. As many answers were
+/// given as there are bounds.
+#[derive(Drop)]
+pub struct Recorder {
+    pub answers: Vec<i16>,
+    pub bounds: Vec<i16>,
+    pub planned: usize,
+    ghost bounded: { vec_len bounds ≤ vec_len answers },
+    ghost within: { planned ≤ vec_len answers },
+    ghost later_one: { answers.items ≡ take planned answers.items ++ replicate (vec_len answers - planned) (pos 1) },
+    ghost at_end: { planned < vec_len answers → vec_len bounds ≡ vec_len answers },
+}
+
+impl Recorder {
+    /// A recorder with no plan: it answers 1 each time.
+    pub fn new(alloc: Global) -> Self
+        ensures answers { result.answers.items ≡ [] }
+        ensures bounds { result.bounds.items ≡ [] }
+        ensures planned { result.planned ≡ 0 }
+    {
+        Recorder {
+            answers: Vec::new(alloc),
+            bounds: Vec::new(alloc),
+            planned: 0,
+        }
+    }
+
+    /// Plans these answers and the raised one behind them. None was given yet.
+    ///
+    /// # Errors
+    ///
+    /// Where the plan is refused memory; a beginning of it is planned then.
+    pub fn restart(&mut self, front: &[i16], raised: i16) -> Result<(), AllocError>
+        ensures answers { OnOk result (self.new.answers.items ≡ front.now ++ raised ∷ []) }
+        ensures planned { OnOk result (self.new.planned ≡ length front.now + 1) }
+        ensures bounds { OnOk result (self.new.bounds.items ≡ []) }
+    {
+        self.clear();
+        self.answers.extend_from_slice(front)?;
+        self.planned = self.answers.len();
+        self.answers.push(raised)?;
+        self.planned = self.answers.len();
+        Ok(())
+    }
+
+    /// Plans these answers. None was given yet.
+    ///
+    /// # Errors
+    ///
+    /// Where the plan is refused memory; it is empty then.
+    pub fn replay(&mut self, answers: &[i16]) -> Result<(), AllocError>
+        ensures answers { OnOk result (self.new.answers.items ≡ answers.now) }
+        ensures planned { OnOk result (self.new.planned ≡ vec_len self.new.answers) }
+        ensures bounds { OnOk result (self.new.bounds.items ≡ []) }
+    {
+        self.clear();
+        self.answers.extend_from_slice(answers)?;
+        self.planned = self.answers.len();
+        Ok(())
+    }
+
+    /// Counts the first answers of its plan as given, with these bounds.
+    ///
+    /// # Errors
+    ///
+    /// Where the bounds are refused memory.
+    pub fn skip(&mut self, bounds: &[i16]) -> Result<(), AllocError>
+        requires fresh { self.old.bounds.items ≡ [] }
+        requires planned { self.old.planned ≡ vec_len self.old.answers }
+        requires within { length bounds.now ≤ vec_len self.old.answers }
+        ensures answers { self.new.answers.items ≡ self.old.answers.items }
+        ensures planned { self.new.planned ≡ self.old.planned }
+        ensures bounds { OnOk result (self.new.bounds.items ≡ bounds.now) }
+    {
+        self.bounds.extend_from_slice(bounds)
+    }
+
+    /// Gives its answers and bounds away, and keeps nothing.
+    pub fn hand_over(&mut self, answers: &mut Vec<i16>, bounds: &mut Vec<i16>)
+        ensures answers { answers.new.items ≡ self.old.answers.items }
+        ensures bounds { bounds.new.items ≡ self.old.bounds.items }
+    {
+        mem::swap(&mut self.answers, answers);
+        mem::swap(&mut self.bounds, bounds);
+        self.planned = 0;
+        self.bounds.clear();
+        self.answers.clear();
+    }
+
+    /// Forgets its plan and its answers.
+    pub fn clear(&mut self)
+        ensures answers { self.new.answers.items ≡ [] }
+        ensures bounds { self.new.bounds.items ≡ [] }
+        ensures planned { self.new.planned ≡ 0 }
+    {
+        self.planned = 0;
+        self.bounds.clear();
+        self.answers.clear();
+    }
+}
+
+impl Chooser for Recorder {
+    ghost use Rattle.ptb_explore.specs.Recording.{choices_of, RefusedByPlan};
+
+    ghost choices = { choices_of };
+
+    ghost refused = { λ r. RefusedByPlan (choices_of r) };
+
+    fn choose(&mut self, bound: i16) -> Result<i16, Pause> {
+        let place = self.bounds.len();
+        if place < self.answers.len() {
+            let answer = self.answers[place];
+            if answer < 1 || answer > bound {
+                return Err(Pause::OutOfRange(answer));
+            }
+            match self.bounds.push(bound) {
+                Ok(()) => Ok(answer),
+                Err(_) => Err(Pause::Memory),
+            }
+        } else {
+            match self.answers.push(1) {
+                Ok(()) => {}
+                Err(_) => return Err(Pause::Memory),
+            }
+            match self.bounds.push(bound) {
+                Ok(()) => Ok(1),
+                Err(_) => {
+                    let _ = self.answers.pop();
+                    Err(Pause::Memory)
+                }
+            }
+        }
+    }
+}

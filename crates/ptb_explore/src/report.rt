@@ -1,0 +1,118 @@
+// This file has the writer of reports.
+
+ghost use Rattle.std.specs.Prelude.{◌≡◌, ℕ, ◌+◌, ◌≤◌, [], ◌++◌, length, OnOk, OnErr};
+ghost use Rattle.std.specs.Io.KnownBytes.{Appends};
+ghost use Rattle.std.specs.List.{flat_map};
+ghost use Rattle.ptb_text.specs.Device.{TakesSome, HasFailed};
+ghost use Rattle.ptb_explore.specs.Report.{spelling, report_text, Gathers};
+
+use arrayvec::ArrayVec;
+use itoa::Buffer;
+use ptb_text::{DeviceFault, Write};
+
+/// Bytes that wait to be written: on the stack, since a report takes no memory.
+type Pending = ArrayVec<u8, 512>;
+
+/// Adds bytes to the pending ones. Where they don't fit, those are written first, and bytes that
+/// alone are too many are written at once.
+fn put<W: Write>(out: &mut W, pending: &mut Pending, bytes: &[u8]) -> Result<(), DeviceFault>
+    ensures ok { OnOk result (Gathers (W.contents out.old) (W.contents out.new)
+        (pending.old.items ++ bytes.now) pending.new.items) }
+    ensures fault { OnErr result (TakesSome (W.contents out.old) (W.contents out.new)
+        (pending.old.items ++ bytes.now)) }
+    ensures failed { OnErr result (HasFailed (W.failures out.old) (W.failures out.new)) }
+    ensures unfailed { OnOk result (W.failures out.new ≡ W.failures out.old) }
+{
+    if pending.try_extend_from_slice(bytes).is_ok() {
+        return Ok(());
+    }
+    out.write_all(pending.as_slice())?;
+    pending.clear();
+    if pending.try_extend_from_slice(bytes).is_ok() {
+        return Ok(());
+    }
+    out.write_all(bytes)
+}
+
+/// Adds the pieces to the pending bytes, one after the other.
+fn put_all<W: Write>(
+    out: &mut W,
+    pending: &mut Pending,
+    pieces: &[&[u8]],
+) -> Result<(), DeviceFault>
+    ensures ok { OnOk result (Gathers (W.contents out.old) (W.contents out.new)
+        (pending.old.items ++ flat_map (λ p. p.now) pieces.now) pending.new.items) }
+    ensures fault { OnErr result (TakesSome (W.contents out.old) (W.contents out.new)
+        (pending.old.items ++ flat_map (λ p. p.now) pieces.now)) }
+    ensures failed { OnErr result (HasFailed (W.failures out.old) (W.failures out.new)) }
+    ensures unfailed { OnOk result (W.failures out.new ≡ W.failures out.old) }
+{
+    for piece in pieces {
+        put(out, pending, piece)?;
+    }
+    Ok(())
+}
+
+/// Adds the answers to the pending bytes, joined by commas.
+fn put_answers<W: Write>(
+    out: &mut W,
+    pending: &mut Pending,
+    answers: &[i16],
+) -> Result<(), DeviceFault>
+    ensures ok { OnOk result (Gathers (W.contents out.old) (W.contents out.new)
+        (pending.old.items ++ spelling answers.now) pending.new.items) }
+    ensures fault { OnErr result (TakesSome (W.contents out.old) (W.contents out.new)
+        (pending.old.items ++ spelling answers.now)) }
+    ensures failed { OnErr result (HasFailed (W.failures out.old) (W.failures out.new)) }
+    ensures unfailed { OnOk result (W.failures out.new ≡ W.failures out.old) }
+{
+    let Some((first, others)) = answers.split_first() else {
+        return put(out, pending, b"none");
+    };
+    put(out, pending, Buffer::new().format(*first).as_bytes())?;
+    for answer in others {
+        put_all(
+            out,
+            pending,
+            &[b",", Buffer::new().format(*answer).as_bytes()],
+        )?;
+    }
+    Ok(())
+}
+
+/// Writes the report of a run: its answers, the word of its ending, its steps, and what it showed.
+///
+/// It takes no memory, and writes a short report in one piece.
+///
+/// # Errors
+///
+/// [`DeviceFault`] where the writer failed. A beginning of the report may have been taken then.
+pub fn write_report<W: Write>(
+    out: &mut W,
+    answers: &[i16],
+    word: &[u8],
+    steps: u32,
+    transcript: &[u8],
+) -> Result<(), DeviceFault>
+    ensures ok { OnOk result (Appends (W.contents out.old) (W.contents out.new)
+        (report_text answers.now word.now steps transcript.now)) }
+    ensures fault { OnErr result (TakesSome (W.contents out.old) (W.contents out.new)
+        (report_text answers.now word.now steps transcript.now)) }
+    ensures failed { OnErr result (HasFailed (W.failures out.old) (W.failures out.new)) }
+    ensures unfailed { OnOk result (W.failures out.new ≡ W.failures out.old) }
+{
+    let mut pending = Pending::new();
+    put(out, &mut pending, b"RUN ")?;
+    put_answers(out, &mut pending, answers)?;
+    let (mut counted, mut sized) = (Buffer::new(), Buffer::new());
+    let steps = counted.format(steps).as_bytes();
+    let size = sized.format(transcript.len()).as_bytes();
+    put_all(
+        out,
+        &mut pending,
+        &[
+            b" ", word, b" ", steps, b" ", size, b"\n", transcript, b"\n",
+        ],
+    )?;
+    out.write_all(pending.as_slice())
+}
