@@ -1,16 +1,15 @@
 -- This file proves that a program stays one when a text is stored or a statement deleted, and what it then costs.
-use Rattle.std.proofs.Common.{◌≡◌, ℕ, zero, suc, ◌+◌, ◌-◌, ◌<◌, ◌≤◌, Bool, true, false, not, cond, ◌==◌, ◌&&◌, List, [], ◌∷◌, length, map, get_or, set, Result, Ok, Err, IsOk, refl, sym, ap, ◌∙◌, arith}
-use Rattle.std.specs.Prelude.{sum_by}
+use Rattle.std.proofs.Common.{◌≡◌, ℕ, zero, suc, ◌+◌, ◌<◌, ◌≤◌, Bool, true, false, not, cond, ◌==◌, ◌&&◌, List, [], ◌∷◌, length, map, get_or, set, Ok, Err, refl, sym, ap, ◌∙◌, arith}
 use Rattle.std.specs.List.{insert, remove, list_all}
 use Rattle.std.specs.Ordering.{nat_cmp}
-use Rattle.std.specs.FinMap.{put, is_sorted}
+use Rattle.std.specs.FinMap.{put}
 use Rattle.std.proofs.Math.Dec.{T}
 use Rattle.std.specs.declared.cmp.Ordering.TheVariants.{Less, Equal, Greater}
-use Rattle.std.specs.FinMap.Entries.{by_order, where_key, is_sorted-put, is_sorted-where_key}
+use Rattle.std.specs.FinMap.Entries.{by_order, is_sorted-put, is_sorted-where_key}
 use Rattle.std.proofs.lemmas.Cmp.{nat_cmp_total}
 use Rattle.std.proofs.lemmas.Bool.Decides.{nat_tests}
 use Rattle.std.proofs.lemmas.Float.{T_from_true}
-use Rattle.std.proofs.lemmas.List.{map-set, length-map}
+use Rattle.std.proofs.lemmas.List.{map-set}
 use Rattle.std.proofs.lemmas.List.Sums.{get_or-le-sum_by, sum_by-set, sum_by-insert, sum_by-remove}
 use Rattle.ptb_text.specs.declared.fault.LoadFault.{LoadFault}
 use Rattle.ptb_text.specs.declared.fault.LoadFault.TheVariants.{Full, Memory}
@@ -20,7 +19,7 @@ use Rattle.ptb_text.specs.Statements.{Statements, StoredProgram, IsMemorySize, c
 use Rattle.ptb_text.specs.Entry.{Enters}
 use Rattle.ptb_text.specs.Places.{IsAt, IsGapFor}
 use Rattle.ptb_text.specs.Program.{stored_program, IsKept}
-use Rattle.ptb_text.proofs.Entries.{with_text-place, with_text-gap, without_number-place, without_number-gap}
+use Rattle.ptb_text.proofs.Entries.{with_text-place, with_text-gap, without_number-place}
 use Rattle.ptb_text.proofs.Sound.{both_true}
 use Rattle.ptb_text.proofs.Searching.{same_from_equal}
 use Rattle.ptb_text.proofs.Stored.{shown}
@@ -31,7 +30,7 @@ true_from_T : (b : Bool) → T b → b ≡ true
 true_from_T true h = refl
 true_from_T false h = absurd h
 
-both : (a b : Bool) → a ≡ true → b ≡ true → (a && b) ≡ true
+pub both : (a b : Bool) → a ≡ true → b ≡ true → (a && b) ≡ true
 both a b p q = ap (λ c. c && b) p ∙ q
 
 all_with_text : (p : Statements) (n : ℕ) (text : List ℕ) → list_all is_statement p ≡ true → is_statement (n, text) ≡ true → list_all is_statement (with_text p n text) ≡ true

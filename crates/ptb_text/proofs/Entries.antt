@@ -1,12 +1,9 @@
 -- This file proves what is found at a place of a program's lines, and what an edit there leaves.
-use Rattle.std.proofs.Common.{◌≡◌, ℕ, zero, suc, ◌+◌, ◌<◌, ◌≤◌, Bool, not, cond, ◌==◌, List, [], ◌∷◌, length, get_or, set, Some, None, option_map, slice_get, refl, sym, ap, ◌∙◌, arith}
+use Rattle.std.proofs.Common.{◌≡◌, ℕ, zero, suc, List, [], ◌∷◌, get_or, set, Some, None, option_map, slice_get, refl, arith}
 use Rattle.std.specs.List.{insert, remove}
-use Rattle.std.specs.Ordering.{nat_cmp}
-use Rattle.std.specs.FinMap.{find, put, is_sorted}
-use Rattle.std.specs.FinMap.Entries.{where_key}
 use Rattle.std.proofs.lemmas.Bool.Decides.{nat_tests}
-use Rattle.ptb_text.specs.Statements.{Statements, text_at, with_text, without_number, number_after, first_number}
-use Rattle.ptb_text.specs.Places.{number_at, IsAt, IsGapFor}
+use Rattle.ptb_text.specs.Statements.{Statements, text_at, with_text, without_number, number_after}
+use Rattle.ptb_text.specs.Places.{IsAt, IsGapFor}
 
 -- in the tail, a place is one lower
 IsAt-tail : (s : ℕ × List ℕ) (p : Statements) (n i : ℕ) → IsAt (s ∷ p) n (suc i) → IsAt p n i

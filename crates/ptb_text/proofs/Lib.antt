@@ -7,6 +7,7 @@ pub mod ByteTests
 pub mod Edits
 pub mod Entries
 pub mod LineParts
+pub mod Listed
 pub mod Loaded
 pub mod Numbers
 pub mod Pieces
@@ -15,5 +16,3 @@ pub mod Sound
 pub mod Stored
 pub mod Taking
 pub mod Worked
-pub mod Listings
-pub mod Reloading

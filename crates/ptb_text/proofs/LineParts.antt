@@ -1,7 +1,7 @@
 -- This file proves what entering a line does by the parts that the line was taken apart into.
-use Rattle.std.proofs.Common.{◌≡◌, ℕ, zero, suc, ◌+◌, ◌<◌, ◌≤◌, Bool, true, false, not, cond, ◌==◌, eqb, ltb, List, [], ◌∷◌, length, take, drop, min, Option, Some, None, IsTrue, Ok, Err, refl, sym, ap, ◌∙◌, subst, arith}
-use Rattle.std.specs.Prelude.{position, option_map}
-use Rattle.std.specs.List.{list_all, prefix_len}
+use Rattle.std.proofs.Common.{◌≡◌, ℕ, ◌+◌, ◌<◌, ◌≤◌, Bool, true, false, not, ◌==◌, List, [], ◌∷◌, length, take, drop, Some, None, Err, refl, sym, ap, ◌∙◌, arith}
+use Rattle.std.specs.Prelude.{position}
+use Rattle.std.specs.List.{prefix_len}
 use Rattle.std.proofs.lemmas.Bool.{eqb-true}
 use Rattle.std.proofs.lemmas.Bool.Decides.{nat_tests}
 use Rattle.ptb_text.specs.declared.fault.LoadFault.TheVariants.{NoNumber, NumberTooBig, BadByte}

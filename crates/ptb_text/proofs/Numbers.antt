@@ -1,11 +1,11 @@
 -- This file proves what is known of a number with a sign once it was converted to one without.
-use Rattle.std.proofs.Common.{◌≡◌, ℕ, ◌+◌, ℤ, pos, negsuc, nat_abs, Result, Ok, Err, Option, Some, None, List, option_map, slice_get, add-one, IfOk, IfErr, refl, sym, ap, ◌∙◌, arith}
+use Rattle.std.proofs.Common.{◌≡◌, ℕ, ◌+◌, ℤ, pos, negsuc, nat_abs, Result, Ok, Err, Option, Some, None, List, option_map, slice_get, add-one, IfOk, IfErr, refl, sym, ap, ◌∙◌}
 use Rattle.std.specs.Result.{OkIff, result_ok}
 use Rattle.std.specs.Int.{FitsUnsignedBits}
 use mir.Syntax.{w16}
 use mir.Val.{to_z, of_z, SFits}
 use Rattle.std.proofs.lemmas.Int.{to_z-of_z}
-use Rattle.ptb_text.specs.Statements.{Statements, text_at, text_under, number_above, number_after}
+use Rattle.ptb_text.specs.Statements.{Statements, text_under, number_above}
 use Rattle.ptb_text.specs.Places.{IsGapFor, IsAt}
 use Rattle.ptb_text.proofs.Entries.{text_at-gap, number_after-place, number_after-gap}
 

@@ -4,7 +4,7 @@
 --     HasFailed old new                  the device failed between the two counts, or has failed for good
 --     TakesSome old new bytes            a beginning of the bytes was taken
 --     device_inner d, failure_count d    the device that is counted, and its count
-use Rattle.std.specs.Prelude.{◌≡◌, ℕ, ◌+◌, ◌-◌, ◌^◌, ◌<◌, ◌≤◌, ◌⊎◌, min, List, ◌++◌, length, take, Option, Some, None, Result, MatchResult}
+use Rattle.std.specs.Prelude.{◌≡◌, ℕ, ◌+◌, ◌-◌, ◌^◌, ◌<◌, ◌≤◌, ◌⊎◌, min, List, length, take, Option, Result, MatchResult}
 use Rattle.std.specs.Io.KnownBytes.{Appends}
 use Rattle.ptb_text.specs.declared.device.Device.{Device}
 

@@ -1,5 +1,5 @@
 -- This file defines the lines of a byte text, as program lines and as input lines.
---     lines b              the pieces between bytes 10, each without the one byte 13 at its end
+--     lines b              its pieces, cut at bytes 10, each without one byte 13 at its end
 --     program_lines b      the same, with each tab as a space
 --     input_lines b        the same, cleaned
 --     clean_line l         a tab is a space, other bytes that don't print are dropped, and 255 are kept
@@ -11,7 +11,7 @@ abbrev pub onto_first : ℕ → List (List ℕ) → List (List ℕ)
 onto_first b [] = (b ∷ []) ∷ []
 onto_first b (l ∷ ls) = (b ∷ l) ∷ ls
 
--- the pieces between bytes 10; a last piece that is empty is none
+-- a byte 10 ends a piece; behind a last byte 10 no piece begins
 abbrev pub pieces : List ℕ → List (List ℕ)
 pieces [] = []
 pieces (b ∷ bs) = if b == 10 then [] ∷ pieces bs else onto_first b (pieces bs)

@@ -1,5 +1,6 @@
 -- This file defines what a program text gives when it is loaded, by the bytes of the reader where they are known.
---     IsLoaded memory text p        the text isn't too long and gives this map
+--     GivesProgram memory text p    entering the lines of the text gives this map
+--     IsLoaded memory text p        the text isn't too long, too
 --     IsRefusedAt memory text e     the text isn't too long, and e is its first refusal with the source line
 --     AcceptsLines memory text k    the first k lines are accepted
 use Rattle.std.specs.Prelude.{◌≡◌, ℕ, ◌≤◌, List, [], length, take, Ok, Err, IsOk}
@@ -7,8 +8,11 @@ use Rattle.ptb_text.specs.declared.fault.LoadFault.{LoadFault}
 use Rattle.ptb_text.specs.Lines.{program_lines}
 use Rattle.ptb_text.specs.Statements.{Statements, after_lines, program, program_limit}
 
+abbrev pub GivesProgram : ℕ → List ℕ → Statements → Type 0
+GivesProgram memory text p = program memory text ≡ Ok p
+
 abbrev pub IsLoaded : ℕ → List ℕ → Statements → Type 0
-IsLoaded memory text p = (length text ≤ program_limit) × (program memory text ≡ Ok p)
+IsLoaded memory text p = (length text ≤ program_limit) × GivesProgram memory text p
 
 abbrev pub IsRefusedAt : ℕ → List ℕ → ℕ × LoadFault → Type 0
 IsRefusedAt memory text e = (length text ≤ program_limit) × (program memory text ≡ Err e)

@@ -1,5 +1,5 @@
 -- This file defines what the fields of a program show, and what they keep.
-use Rattle.std.specs.Prelude.{◌≡◌, ℕ, List, map}
+use Rattle.std.specs.Prelude.{◌≡◌, map}
 use Rattle.ptb_text.specs.declared.program.Program.TheInside.{Inside}
 use Rattle.ptb_text.specs.Statements.{StoredProgram, IsSound, cost}
 

@@ -8,7 +8,7 @@
 --     StoredProgram, size_of p                       a program with its memory, and the memory that it leaves
 --     IsSound p, IsText t                            what every stored program keeps, and each of its texts
 --     after_line p memory line                       the map after a line is entered, or why the line is refused
---     program memory b                               the map of a whole program text, or the first refusal with its source line
+--     program memory b                               the map that a whole text gives, or which source line is refused first, and why
 --     listing p                                      the program as text
 --     is_program p                                   whether a list of pairs is such a map
 use Rattle.std.specs.Prelude.{◌≡◌, ℕ, ◌+◌, ◌*◌, ◌-◌, ◌<◌, ◌≤◌, ℤ, pos, negsuc, IsTrue, Bool, not, ◌&&◌, ◌==◌, nat_lt, nat_le, if◌then◌else◌, List, [], ◌∷◌, ◌++◌, length, drop, Option, Some, None, Result, Ok, Err, decimal, fold, sum_by, position, flat_map, take}

@@ -1,6 +1,6 @@
 -- This file defines what stands at a place of a text. A place counts the bytes before it.
 -- Blanks before and after are passed, and nothing else is taken.
---     past_blanks t i              the first place at or after i at which no blank stands
+--     past_blanks t i              where the blanks that stand at i end
 --     next_byte_at t i             the byte that stands there
 --     is_over t i                  whether nothing but blanks stands from i on
 --     word_at table t i            the first word of the table that stands there, and the place after it

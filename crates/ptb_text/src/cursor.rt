@@ -36,7 +36,7 @@ impl<'a> Model for Cursor<'a> {
         × (c.next ≤ length c.text.now) };
 }
 
-// The first place at or after `place` at which no blank stands.
+// Where the blanks that stand at `place` end.
 #[tactic(auto, using(crate::proofs::Blanks::past_blanks_more, crate::proofs::Blanks::past_blanks_stop, crate::proofs::Blanks::past_blanks_end))]
 fn after_blanks(text: &[u8], place: usize) -> usize
     requires { place ≤ length text.now }
@@ -229,10 +229,9 @@ impl<'a> Cursor<'a> {
         Some(word)
     }
 
-    /// Takes a string: what stands between two equal quotes, `'` or `"`.
+    /// Takes a string with its quotes, which are alike: `'` or `"`.
     ///
-    /// Its text is a piece of the source, without a copy. Where a quote has no partner, nothing
-    /// is taken.
+    /// Its text borrows from the source. Where a quote has no partner, nothing is taken.
     #[tactic(auto, unfolding(crate::specs::Words::quotation_at))]
     pub fn quoted(&mut self) -> Quoted<'a>
         ensures value { quotation_at self.old.text self.old.place

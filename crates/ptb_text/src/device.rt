@@ -14,8 +14,9 @@ pub struct DeviceFault;
 
 /// What gives bytes.
 ///
-/// A reader counts its failures: the count rises by one with each fault and with nothing else. At
-/// `u64::MAX` it stays, and from then on every call answers the fault.
+/// Its failures are counted: a call that answers the fault adds one to the count, and no other call
+/// changes it. The count ends at `u64::MAX`; a reader that has come there answers the fault to each
+/// call.
 pub trait Read {
     /// The bytes that it will give from here on to its end, where they are known.
     ghost remaining: { Self → Option (List ℕ) };

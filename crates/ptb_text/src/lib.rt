@@ -1,4 +1,9 @@
-//! Program texts of Tiny BASIC: readers and writers, lines, numbered statements, and the words and tokens of a statement.
+//! Program texts of Tiny BASIC: readers and writers, the lines of a text, the statements under
+//! their numbers, and a cursor over the text of one statement.
+//!
+//! It stands on `itoa`, `thiserror` and std. The crate above may rely on `load` (the statements that
+//! a text comes to, or which of its lines is refused first), on the look-ups of `Program`, and on
+//! `Cursor` (each call finds what `specs/Words` says stands there, and takes only that).
 #![tactic(auto)]
 
 mod cursor;
@@ -22,3 +27,6 @@ pub use loading::load;
 pub use program::Program;
 pub use rows::{loading_rows, word_rows};
 pub use word::{Number, Quoted, Table, Word};
+
+#[cfg(test)]
+mod tests;

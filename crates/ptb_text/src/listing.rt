@@ -1,64 +1,72 @@
 // This file writes a program as text.
 
-ghost use Rattle.std.specs.Prelude.{◌≡◌, ℕ, ◌<◌, ◌≤◌, IsTrue, OnOk, OnErr, length, Ok};
+ghost use Rattle.std.specs.Prelude.{◌≡◌, ◌+◌, ◌≤◌, ◌++◌, ℕ, IsTrue, OnErr, OnOk, length, take};
 ghost use Rattle.std.specs.Io.KnownBytes.{Appends};
 ghost use Rattle.ptb_text.specs.Device.{HasFailed, TakesSome};
-ghost use Rattle.ptb_text.specs.Statements.{Statements, cost, is_program, line_of, listing, number_limit, program, text_limit};
+ghost use Rattle.ptb_text.specs.Loading.{GivesProgram};
+ghost use Rattle.ptb_text.specs.Statements.{Statements, cost, is_program, line_of, listing, number_limit, text_limit};
 
-use crate::{DeviceFault, Program, Write};
-use arrayvec::ArrayVec;
+use crate::{Program, Write};
 use itoa::Buffer;
 use thiserror::Error;
 
-/// The program could not be written whole.
+/// The writer failed.
 #[derive(Clone, Copy, Debug, PartialEq, Eq, Error)]
-#[error("cannot write the program")]
+#[error("cannot write")]
 pub struct WriteFault;
 
-impl From<DeviceFault> for WriteFault {
-    fn from(_: DeviceFault) -> WriteFault {
-        WriteFault
-    }
-}
+/// The bytes of the longest line: a number of five digits, a space, a text and the byte 10.
+const LINE_ROOM: usize = 262;
 
-/// A line of a listing, which has five digits, a space, 255 bytes and a newline at most.
-type ListedLine = ArrayVec<u8, 262>;
-
-/// Writes the program as text: its statements in rising order of their numbers, each as its number,
-/// a space, its text and a byte 10. Each line is one write, if the writer takes it whole.
+/// Writes the statements in rising order, each as its number in decimals, a space, its text and
+/// the byte 10. Each line is handed to the writer as a whole; no memory is taken.
 ///
 /// Loading what is written gives the program back.
 ///
 /// # Errors
 ///
-/// [`WriteFault`] where a write failed. What was written is a beginning of the text then.
-pub fn list<W: Write>(p: &Program, out: &mut W) -> Result<(), WriteFault>
-    ensures ok { OnOk result (Appends (W.contents out.old) (W.contents out.new) (listing p.now.lines)) }
-    ensures fault { OnErr result (TakesSome (W.contents out.old) (W.contents out.new) (listing p.now.lines)) }
-    ensures failed { OnErr result (HasFailed (W.failures out.old) (W.failures out.new)) }
-    ensures unfailed { OnOk result (W.failures out.new ≡ W.failures out.old) }
+/// [`WriteFault`] where the writer failed. A beginning of the listing was written then.
+pub fn list<W: Write>(program: &Program, writer: &mut W) -> Result<(), WriteFault>
+    ensures ok { OnOk result
+        (Appends (W.contents writer.old) (W.contents writer.new) (listing program.now.lines)) }
+    ensures fault { OnErr result
+        (TakesSome (W.contents writer.old) (W.contents writer.new) (listing program.now.lines)) }
+    ensures failed { OnErr result (HasFailed (W.failures writer.old) (W.failures writer.new)) }
+    ensures unfailed { OnOk result (W.failures writer.new ≡ W.failures writer.old) }
     ensures reloads { (memory : ℕ) (q : Statements) → IsTrue (is_program q) → cost q ≤ memory
-        → program memory (listing q) ≡ Ok q }
+        → GivesProgram memory (listing q) q }
 {
-    for place in 0..p.len() {
-        let (number, text) = p.statement_at(place);
-        let line = listed_line(number, text);
-        out.write_all(line.as_slice())?;
+    let mut line = [0; LINE_ROOM];
+    for at in 0..program.len() {
+        let (number, text) = program.statement_at(at);
+        let end = put_line(&mut line, number, text);
+        writer.write_all(&line[..end]).map_err(|_| WriteFault)?;
     }
     Ok(())
 }
 
-// A statement as a line.
-fn listed_line(number: u16, text: &[u8]) -> ListedLine
-    requires { length text.now ≤ text_limit }
-    ensures { result.items ≡ line_of (number, text.now) }
+// Puts a statement as a line at the front of the buffer, and gives the line's length.
+fn put_line(buffer: &mut [u8], number: u16, text: &[u8]) -> usize
+    requires room { length buffer.old ≡ 262 }
+    requires number { number ≤ number_limit }
+    requires text { length text.now ≤ text_limit }
+    ensures line { take result buffer.new ≡ line_of (number, text.now) }
+    ensures within { result ≤ 262 }
 {
     let mut digits = Buffer::new();
-    let digits = digits.format(number).as_bytes();
-    let mut line = ListedLine::new();
-    let _ = line.try_extend_from_slice(digits);
-    line.push(b' ');
-    let _ = line.try_extend_from_slice(text);
-    line.push(b'\n');
-    line
+    let end = append(buffer, 0, digits.format(number).as_bytes());
+    let end = append(buffer, end, b" ");
+    let end = append(buffer, end, text);
+    append(buffer, end, b"\n")
+}
+
+// Puts bytes behind those in front of a place, and gives the place behind them.
+fn append(buffer: &mut [u8], at: usize, bytes: &[u8]) -> usize
+    requires { at + length bytes.now ≤ length buffer.old }
+    ensures front { take result buffer.new ≡ take at buffer.old ++ bytes.now }
+    ensures end { result ≡ at + length bytes.now }
+{
+    let end = at + bytes.len();
+    buffer[at..end].copy_from_slice(bytes);
+    end
 }

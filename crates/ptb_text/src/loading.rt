@@ -15,14 +15,13 @@ use std::alloc::Global;
 /// How many bytes a program text may have.
 const PROGRAM_LIMIT: usize = 1_048_576;
 
-/// How many bytes are asked for at a time.
+/// One page, so that few reads are needed and the buffer stays on the stack.
 const PIECE: usize = 4096;
 
 /// Loads a program text into a program that is given this memory, 64 to 32767.
 ///
-/// All bytes are read first, at most 1,048,577. In each line a tab counts as a space, and one byte
-/// 13 at the end is dropped. Then the lines are entered one after the other, by
-/// [`Program::enter`].
+/// All bytes are read first, at most 1,048,577. Tabs are read as spaces, and a line loses one byte 13
+/// at its end. Then the lines are entered one after the other, by [`Program::enter`].
 ///
 /// # Errors
 ///
@@ -95,7 +94,7 @@ fn program_text<R: Read>(alloc: Global, reader: &mut R) -> Result<Vec<u8>, LoadF
     Err(LoadFault::TooLong)
 }
 
-// In a program text a tab counts as a space.
+// A program text is read with its tabs as spaces.
 fn tabs_to_spaces(text: &mut [u8])
     ensures { text.new ≡ map tab_as_space text.old }
 {

@@ -1,9 +1,9 @@
 // This file has the program: the texts of its statements under their numbers.
 
-ghost use Rattle.std.specs.Prelude.{◌≡◌, ◌+◌, ◌<◌, ◌≤◌, ◌^◌, [], length, IsOk, IfOk, IfErr, OnOk, OnErr, IsSome, IfSome, OnSome, Some, option_map, pos, ◌<ℤ◌, IsTrue, ◌↔◌, slice_get};
+ghost use Rattle.std.specs.Prelude.{◌≡◌, ◌+◌, ◌<◌, ◌≤◌, ◌^◌, [], length, IsOk, IfOk, IfErr, OnOk, OnErr, IsSome, IfSome, OnSome, option_map, pos, ◌<ℤ◌, IsTrue, ◌↔◌, slice_get};
 ghost use Rattle.std.specs.Option.{option_copied};
 ghost use Rattle.ptb_text.specs.Entry.{Enters, IsLineFault};
-ghost use Rattle.ptb_text.specs.Statements.{IsMemorySize, IsSound, IsText, after_line, first_number, if_room, is_statement, number_above, size_of, text_limit, text_under, with_text, without_number};
+ghost use Rattle.ptb_text.specs.Statements.{IsMemorySize, IsSound, IsText, after_line, first_number, if_room, is_statement, number_above, number_limit, size_of, text_limit, text_under, with_text, without_number};
 ghost use Rattle.ptb_text.specs.Places.{IsAt, IsGapFor};
 
 use crate::LoadFault;
@@ -126,15 +126,15 @@ impl Program {
         }
     }
 
-    /// Enters a line: its text is stored under its number, in the place of an older one. A line
+    /// Enters a line: the statement of its number gets its text, whether there was one or not. A line
     /// without a text deletes the statement, if there is one, and a line of blanks does nothing.
     ///
     /// The program stays as it was on each fault.
     ///
     /// # Errors
     ///
-    /// In this order: `BadByte` for the first byte that isn't from space to tilde, which a tab and
-    /// a byte 13 are not; `NoNumber` where no number of at least 1 stands in front;
+    /// In this order: `BadByte` for the first byte that isn't from space to tilde (a tab and a
+    /// byte 13 are such bytes, too); `NoNumber` where no number of at least 1 stands in front;
     /// `NumberTooBig` for a number over 32767; `TextTooLong` for a text over 255 bytes; `Full`
     /// where the statements would take more memory than there is; `Memory` where a growth was
     /// refused.
@@ -161,16 +161,6 @@ impl Program {
             return Err(LoadFault::TextTooLong);
         }
         self.store(line.number, line.text)
-    }
-
-    /// The number and the text of the statement at this place of their order.
-    pub(crate) fn statement_at(&self, place: usize) -> (u16, &[u8])
-        requires { place < length self.now.lines }
-        ensures value { slice_get self.now.lines place ≡ Some (result.0, result.1.now) }
-        ensures text { length result.1.now ≤ text_limit }
-    {
-        let statement = &self.statements[place];
-        (statement.number, &statement.text)
     }
 
     // Deletes the statement of this number, if there is one.
@@ -203,7 +193,8 @@ impl Program {
         ensures { Enters (if_room self.old.memory (with_text self.old.lines number text.now))
             self.old self.new result }
     {
-        let cost = self.cost - statement_cost(&self.statements[at].text) + statement_cost(text);
+        let old = statement_cost(&self.statements[at].text);
+        let cost = self.cost - old + statement_cost(text);
         if cost > self.memory {
             return Err(LoadFault::Full);
         }
@@ -242,6 +233,17 @@ impl Program {
             Ok(text) => Ok(Statement { number, text }),
             Err(_) => Err(LoadFault::Memory),
         }
+    }
+
+    /// The number and the text of the statement at a place, counted from 0 in rising order.
+    pub(crate) fn statement_at(&self, at: usize) -> (u16, &[u8])
+        requires { at < length self.now.lines }
+        ensures line { slice_get self.now.lines at ≡ Some (result.0, result.1.now) }
+        ensures number { result.0 ≤ number_limit }
+        ensures text { length result.1.now ≤ text_limit }
+    {
+        let statement = &self.statements[at];
+        (statement.number, &statement.text)
     }
 
     // The number of the statement at this place, if there is one.

@@ -46,7 +46,7 @@ pub enum Number {
 pub enum Quoted<'a> {
     /// No quote.
     Absent,
-    /// What stands between two equal quotes.
+    /// The text inside its quotes.
     Text(&'a [u8]),
     /// A quote without its partner.
     Unclosed,

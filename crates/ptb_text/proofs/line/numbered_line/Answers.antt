@@ -1,5 +1,5 @@
-use Rattle.std.proofs.Common.{◌≡◌, ◌<◌, ◌≤◌, [], length, drop, min, sym, ap, ◌∙◌, arith}
-use Rattle.ptb_text.specs.Statements.{digits_value, is_digit, number_limit, trim_start}
+use Rattle.std.proofs.Common.{◌≡◌, ◌<◌, length, drop, min, sym, ap, ◌∙◌, arith}
+use Rattle.ptb_text.specs.Statements.{digits_value, is_digit, trim_start}
 use Rattle.ptb_text.proofs.ByteTests.{list_all-prefix}
 use Rattle.ptb_text.proofs.LineParts.{digits_of, no_bytes, some_bytes, after_bad_byte, after_blanks, after_no_number, after_too_big, after_number}
 use Rattle.ptb_text.proofs.line.numbered_line.Goals as goal

@@ -1,6 +1,5 @@
-use Rattle.std.proofs.Common.{◌≡◌, ◌+◌, ◌≤◌, [], ◌∷◌, Ok, length, drop, refl, sym, ap, ◌∙◌, arith}
+use Rattle.std.proofs.Common.{◌≡◌, ◌∷◌, drop, refl, sym, ap, ◌∙◌, arith}
 use Rattle.ptb_text.specs.Lines.{lines}
-use Rattle.ptb_text.specs.Statements.{after_lines}
 use Rattle.ptb_text.proofs.LineParts.{no_bytes}
 use Rattle.ptb_text.proofs.Loaded.{drop_next, accepted, acceptable, refused, all_accepted, none_entered}
 use Rattle.ptb_text.proofs.loading.enter_lines.Goals as goal

@@ -1,4 +1,4 @@
-use Rattle.std.proofs.Common.{◌≡◌, length, map, sym, ap, ◌∙◌, arith}
+use Rattle.std.proofs.Common.{◌≡◌, map, ap, ◌∙◌, arith}
 use Rattle.std.proofs.lemmas.List.{take_at}
 use Rattle.ptb_text.specs.Lines.{tab_as_space}
 use Rattle.ptb_text.proofs.Loaded.{IsLoaded-from_lines, IsRefusedAt-from_lines, AcceptsLines-from_lines, AcceptsLines-none}

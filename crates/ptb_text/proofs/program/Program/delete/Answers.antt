@@ -1,5 +1,5 @@
-use Rattle.std.proofs.Common.{◌≡◌, ℕ, ◌+◌, ◌-◌, ◌≤◌, List, [], length, get_or, map, sym, ap, ◌∙◌, arith}
-use Rattle.ptb_text.specs.Statements.{cost, without_number, text_limit}
+use Rattle.std.proofs.Common.{◌≡◌, ℕ, ◌+◌, ◌-◌, [], length, get_or, map, sym, ap, ◌∙◌, arith}
+use Rattle.ptb_text.specs.Statements.{cost, without_number}
 use Rattle.ptb_text.proofs.Edits.{one_cost, cost-without_place, is_program-without_number, IsKept-after, shown-remove}
 use Rattle.ptb_text.proofs.Entries.{without_number-gap}
 use Rattle.ptb_text.proofs.Sound.{StatementFacts_at}

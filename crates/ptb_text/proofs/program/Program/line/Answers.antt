@@ -1,4 +1,4 @@
-use Rattle.std.proofs.Common.{◌≡◌, Some, sym, ap, ◌∙◌}
+use Rattle.std.proofs.Common.{Some, sym, ap, ◌∙◌}
 use Rattle.std.specs.Option.{option_copied}
 use Rattle.ptb_text.specs.Statements.{text_under}
 use Rattle.ptb_text.proofs.Numbers.{is_whole, text_under-absent, IsAt-found}

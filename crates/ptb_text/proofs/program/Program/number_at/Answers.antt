@@ -1,4 +1,4 @@
-use Rattle.std.proofs.Common.{rules, ◌≡◌, ◌≤◌, ℤ, Some, None, pos, sym, ap, ◌∙◌, arith, slice_get, option_map, get_or, IsSome, is_some, true, List, ℕ, []}
+use Rattle.std.proofs.Common.{◌≡◌, ◌≤◌, Some, pos, sym, ap, ◌∙◌, arith, option_map, is_some, true, ℕ, []}
 use Rattle.std.proofs.lemmas.Int.{ints}
 use Rattle.std.proofs.lemmas.Option.{slice_get-get_or}
 use mir.Syntax.{w16}

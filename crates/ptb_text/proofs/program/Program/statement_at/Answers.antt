@@ -1,9 +1,17 @@
-use Rattle.std.proofs.Common.{rules, ◌≡◌}
-use Rattle.ptb_text.proofs.Sound.{StatementFacts_at}
-use Rattle.ptb_text.proofs.Stored.{line_read}
+use Rattle.std.proofs.Common.{arith}
+use Rattle.ptb_text.proofs.Sound.{StatementFacts, StatementFacts_at}
+use Rattle.ptb_text.proofs.Stored.{line_read, is_program_shown}
 use Rattle.ptb_text.proofs.program.Program.statement_at.Goals as goal
+use Rattle.ptb_text.proofs.program.Program.statement_at.Goals.{After-deref}
+
+-- the statement that is read is the line at its place
+facts : (c : After-deref) → StatementFacts c.index-statement.result.now.number c.index-statement.result.now.text.items
+facts c =
+    let p = c.args.self.now in
+    StatementFacts_at p.lines (is_program_shown c.self.inside p c.self.view_is c.self.invariant) c.args.at _ _ c.requires (line_read c.self.inside p c.self.view_is c.args.at c.index-statement.result.now c.requires c.index-statement.ensures)
+
+pub returns-clause-number : goal.returns-clause-number
+returns-clause-number c = (facts c).high
 
 pub returns-clause-text : goal.returns-clause-text
-returns-clause-text c =
-    let read = line_read c.self.inside _ c.self.view_is _ _ c.requires c.index-statement.ensures in
-    rw c.deref.ensures.value (StatementFacts_at c.args.self.now.lines (rw (← c.self.view_is) c.self.invariant.sound.is_map) _ _ _ c.requires read).text.short
+returns-clause-text c = omega (arith, (facts c).text.short, c.deref.ensures.len)

@@ -1,0 +1,428 @@
+// This file tests loading, entering and listing, over readers and writers that move few bytes or fail.
+
+ghost use Rattle.std.specs.Prelude.{None};
+
+use crate::{
+    Device, DeviceFault, LoadFault, Program, Read, Write, WriteFault, list, load, loading_rows,
+    word_rows,
+};
+use std::alloc::{AllocError, Global};
+use std::io;
+use std::test::Fail;
+
+// Gives bytes in pieces, and fails where they end or at its end gives no more.
+#[derive(Drop)]
+struct Pieces<'a> {
+    bytes: &'a [u8],
+    piece: usize,
+    fails: bool,
+}
+
+impl io::Read for Pieces<'_> {
+    fn read(&mut self, buf: &mut [u8]) -> io::Result<usize> {
+        if self.bytes.is_empty() && self.fails {
+            return Err(io::Error::from(io::ErrorKind::Other));
+        }
+        let taken = self.piece.min(self.bytes.len()).min(buf.len());
+        buf[..taken].copy_from_slice(&self.bytes[..taken]);
+        self.bytes = &self.bytes[taken..];
+        Ok(taken)
+    }
+}
+
+// Gives one byte again and again, so many times that it never ends within a test.
+#[derive(Drop)]
+struct Endless {
+    byte: u8,
+    given: u64,
+    most: u64,
+}
+
+impl io::Read for Endless {
+    fn read(&mut self, buf: &mut [u8]) -> io::Result<usize> {
+        let left = usize::try_from(self.most.saturating_sub(self.given)).unwrap_or(0);
+        let taken = buf.len().min(left);
+        for b in buf[..taken].iter_mut() {
+            *b = self.byte;
+        }
+        self.given = self.given.saturating_add(taken as u64);
+        Ok(taken)
+    }
+}
+
+// Takes a few bytes a call, and fails at one of its calls.
+#[derive(Drop)]
+struct Sink {
+    taken: Vec<u8>,
+    piece: usize,
+    calls: usize,
+    fails_at: usize,
+}
+
+impl io::Write for &mut Sink {
+    fn write(&mut self, buf: &[u8]) -> io::Result<usize> {
+        self.calls = self.calls.saturating_add(1);
+        if self.calls == self.fails_at {
+            return Err(io::Error::from(io::ErrorKind::Interrupted));
+        }
+        let taken = self.piece.min(buf.len());
+        self.taken.extend_from_slice(&buf[..taken])?;
+        Ok(taken)
+    }
+
+    fn flush(&mut self) -> io::Result<()> {
+        Ok(())
+    }
+}
+
+type Refusal = (u32, LoadFault);
+
+// What `--list` would write of a text that is read and written in pieces of this length.
+fn listed(
+    alloc: Global,
+    text: &[u8],
+    piece: usize,
+    memory: u16,
+) -> Result<Result<Vec<u8>, Refusal>, AllocError> {
+    let mut reader = Device::new(Pieces {
+        bytes: text,
+        piece,
+        fails: false,
+    });
+    let program = match load(alloc, memory.clamp(64, 32767), &mut reader) {
+        Ok(program) => program,
+        Err((_, LoadFault::Memory)) => return Err(AllocError),
+        Err(refusal) => return Ok(Err(refusal)),
+    };
+    let mut sink = make_sink(alloc, piece, 0);
+    match list(&program, &mut Device::new(&mut sink)) {
+        Ok(()) => Ok(Ok(sink.taken)),
+        Err(WriteFault) => Err(AllocError),
+    }
+}
+
+// Some bytes between two texts.
+fn around(
+    alloc: Global,
+    before: &[u8],
+    byte: u8,
+    count: usize,
+    behind: &[u8],
+) -> Result<Vec<u8>, AllocError> {
+    let mut text = Vec::from_slice(alloc, before)?;
+    for _ in 0..count {
+        text.push(byte)?;
+    }
+    text.extend_from_slice(behind)?;
+    Ok(text)
+}
+
+#[test]
+fn texts_load_and_list(rt: HostRuntime) -> Result<(), Fail> {
+    let eleven = b"1 P.1\n2 P.1\n3 P.1\n4 P.1\n5 P.1\n6 P.1\n7 P.1\n8 P.1\n9 P.1\n10 P.1\n11 P.1\n";
+    let rows: [(&[u8], u16, Result<&[u8], Refusal>); 24] = [
+        (b"", 4096, Ok(b"")),
+        (b"10 PRINT \"HI\"", 4096, Ok(b"10 PRINT \"HI\"\n")),
+        (b"10 P.1\n20 P.2\n010\tP.3\r\n20", 4096, Ok(b"10 P.3\n")),
+        (
+            b"20 P.\"B\"\n10 P.'A',;P.\n",
+            4096,
+            Ok(b"10 P.'A',;P.\n20 P.\"B\"\n"),
+        ),
+        (b"10P.\t1 \r", 4096, Ok(b"10 P. 1 \n")),
+        (b"\r\n   \n\t\r\n1 A=1\n\r", 4096, Ok(b"1 A=1\n")),
+        (b"10 A=1\n 10", 4096, Ok(b"")),
+        (b"10", 4096, Ok(b"")),
+        (b"32767 STOP", 4096, Ok(b"32767 STOP\n")),
+        (b"32768 P.1", 4096, Err((1, LoadFault::NumberTooBig))),
+        (b"10 P.\x7f", 4096, Err((1, LoadFault::BadByte(6)))),
+        (b"10 P.\r1", 4096, Err((1, LoadFault::BadByte(6)))),
+        (b"10 P.1\r\r\n", 4096, Err((1, LoadFault::BadByte(7)))),
+        (b"0 P.", 4096, Err((1, LoadFault::NoNumber))),
+        (b"10 P.1\n\n\nP.2\n0", 4096, Err((4, LoadFault::NoNumber))),
+        (b"P\x01", 4096, Err((1, LoadFault::BadByte(2)))),
+        (eleven, 64, Err((11, LoadFault::Full))),
+        (eleven, 65, Err((11, LoadFault::Full))),
+        (eleven, 66, Ok(eleven)),
+        (b"0 P.\x7f", 4096, Err((1, LoadFault::BadByte(5)))),
+        (b"32768 P.\n0 P.", 4096, Err((1, LoadFault::NumberTooBig))),
+        (
+            b"1 P.1\n2 P.2\n1\n3 P.3\n1 P.4",
+            4096,
+            Ok(b"1 P.4\n2 P.2\n3 P.3\n"),
+        ),
+        (b"1 ~\n2 !", 4096, Ok(b"1 ~\n2 !\n")),
+        (
+            b"1 A=123456789\n1 A=1234567890",
+            64,
+            Ok(b"1 A=1234567890\n"),
+        ),
+    ];
+    for (text, memory, expected) in rows {
+        for piece in [1, 5, 100_000] {
+            let found = listed(rt.alloc(), text, piece, memory)?;
+            let found = found.as_ref().map(|bytes| bytes.as_slice()).map_err(|e| *e);
+            assert_eq!(rt; found, expected, "{text:?} in pieces of {piece}");
+        }
+    }
+    Ok(())
+}
+
+// Passes whichever of its allocations is refused: the answer is want of memory, or the listing.
+#[test]
+fn refused_growths_are_answered(rt: HostRuntime) -> Result<(), Fail> {
+    if let Ok(found) = listed(rt.alloc(), b"20 P.2\n10 A=1\n20\n30 P.3\n", 5, 4096) {
+        let found = found.as_ref().map(|bytes| bytes.as_slice()).map_err(|e| *e);
+        assert_eq!(rt; found, Ok(b"10 A=1\n30 P.3\n".as_slice()));
+    }
+    Ok(())
+}
+
+// Passes whichever of its allocations is refused: the program stays as it was, and the line can be
+// entered again.
+#[test]
+fn refused_lines_are_entered_again(rt: HostRuntime) -> Result<(), Fail> {
+    let mut program = Program::new(rt.alloc(), 4096);
+    let lines: [&[u8]; 6] = [b"20 P.2", b"10 A=1", b"30 P.3", b"20 P.22", b"40 P.", b"10"];
+    for line in lines {
+        let (count, size) = (program.len(), program.size());
+        if program.enter(line) == Err(LoadFault::Memory) {
+            assert_eq!(rt; (program.len(), program.size()), (count, size), "{line:?}");
+            assert_eq!(rt; program.enter(line), Ok(()), "{line:?}");
+        }
+    }
+    assert_eq!(rt; (program.len(), program.size()), (3, 4096 - 18));
+    assert!(rt; program.line(10) == None);
+    assert!(rt; program.line(20) == Some(b"P.22".as_slice()));
+    assert!(rt; program.line(40) == Some(b"P.".as_slice()));
+    Ok(())
+}
+
+#[test]
+fn long_lines(rt: HostRuntime) -> Result<(), Fail> {
+    let alloc = rt.alloc();
+    let rows = [
+        (
+            around(alloc, b"", b'9', 200, b" P.")?,
+            4096,
+            Some((1, LoadFault::NumberTooBig)),
+        ),
+        (
+            around(alloc, b"10 A=", b'9', 254, b"")?,
+            4096,
+            Some((1, LoadFault::TextTooLong)),
+        ),
+        (around(alloc, b"10 A=", b'9', 253, b"\n")?, 4096, None),
+        (around(alloc, b"", b'0', 200, b"5 P.\n")?, 4096, None),
+        (around(alloc, b"10", b' ', 300, b"P.\n")?, 4096, None),
+        (
+            around(alloc, b"1 P.1\n2 P.1\n1 A=", b'1', 53, b"")?,
+            64,
+            None,
+        ),
+        (
+            around(alloc, b"1 P.1\n2 P.1\n1 A=", b'1', 54, b"")?,
+            64,
+            Some((3, LoadFault::Full)),
+        ),
+        (
+            around(alloc, b"1 A=", b'1', 59, b"\n1 A=1\n2 A=1")?,
+            64,
+            None,
+        ),
+        (
+            around(alloc, b"1 A=", b'1', 59, b"\n2 A")?,
+            64,
+            Some((2, LoadFault::Full)),
+        ),
+        (
+            around(alloc, b"1 ", b'A', 255, b"")?,
+            64,
+            Some((1, LoadFault::Full)),
+        ),
+        (
+            around(alloc, b"1 ", b'A', 256, b"")?,
+            64,
+            Some((1, LoadFault::TextTooLong)),
+        ),
+        (
+            around(alloc, b"32768 ", b'A', 256, b"")?,
+            64,
+            Some((1, LoadFault::NumberTooBig)),
+        ),
+        (
+            around(alloc, b"0 ", b'A', 256, b"")?,
+            64,
+            Some((1, LoadFault::NoNumber)),
+        ),
+        (
+            around(alloc, b"0 ", b'A', 256, b"\x1f")?,
+            64,
+            Some((1, LoadFault::BadByte(259))),
+        ),
+        (around(alloc, b"", b'\n', 1_048_576, b"")?, 4096, None),
+        (
+            around(alloc, b"", b'\n', 1_048_577, b"")?,
+            4096,
+            Some((0, LoadFault::TooLong)),
+        ),
+    ];
+    for (text, memory, refusal) in &rows {
+        let found = listed(alloc, text, 4000, *memory)?;
+        assert_eq!(rt; found.err(), *refusal);
+    }
+    Ok(())
+}
+
+#[test]
+fn devices_that_fail(rt: HostRuntime) -> Result<(), Fail> {
+    let mut broken = Device::new(Pieces {
+        bytes: b"10 P.",
+        piece: 4,
+        fails: true,
+    });
+    let refusal = load(rt.alloc(), 4096, &mut broken).err();
+    assert_eq!(rt; refusal, Some((0, LoadFault::Read)));
+
+    let mut endless = Endless {
+        byte: b'A',
+        given: 0,
+        most: u64::MAX,
+    };
+    let refusal = load(rt.alloc(), 4096, &mut Device::new(&mut endless)).err();
+    assert_eq!(rt; refusal, Some((0, LoadFault::TooLong)));
+    assert!(rt; endless.given <= 1_048_577);
+    Ok(())
+}
+
+// A program of two lines, which list as 16 bytes.
+fn two_lines(alloc: Global) -> Result<Program, LoadFault> {
+    let mut program = Program::new(alloc, 100);
+    program.enter(b"20 P.34")?;
+    program.enter(b"10 P.12")?;
+    Ok(program)
+}
+
+fn make_sink(alloc: Global, piece: usize, fails_at: usize) -> Sink {
+    Sink {
+        taken: Vec::new(alloc),
+        piece,
+        calls: 0,
+        fails_at,
+    }
+}
+
+#[test]
+fn writers_that_fail(rt: HostRuntime) -> Result<(), Fail> {
+    let program = two_lines(rt.alloc())?;
+    let text = b"10 P.12\n20 P.34\n";
+    for fails_at in 1..10 {
+        let mut sink = make_sink(rt.alloc(), 2, fails_at);
+        let result = list(&program, &mut Device::new(&mut sink));
+        let written = text.len().min(2 * (fails_at - 1));
+        assert_eq!(rt; result.is_ok(), fails_at == 9, "at call {fails_at}");
+        assert_eq!(rt;
+            sink.taken.as_slice(),
+            &text[..written],
+            "at call {fails_at}"
+        );
+    }
+
+    let mut takes_nothing = make_sink(rt.alloc(), 0, 0);
+    let result = list(&program, &mut Device::new(&mut takes_nothing));
+    assert_eq!(rt; result, Err(WriteFault));
+    Ok(())
+}
+
+#[test]
+fn devices_move_bytes(rt: HostRuntime) -> Result<(), Fail> {
+    let mut sink = make_sink(rt.alloc(), 3, 3);
+    let mut writer = Device::new(&mut sink);
+    assert_eq!(rt; writer.write(b"ABCDE"), Ok(3));
+    assert_eq!(rt; writer.write_all(b"DEFGH"), Err(DeviceFault));
+    assert_eq!(rt; writer.write_all(b"G"), Ok(()));
+    assert_eq!(rt; sink.taken.as_slice(), b"ABCDEFG".as_slice());
+
+    let mut reader = Device::new(&b"HI"[..]);
+    let mut buf = [0; 4];
+    assert_eq!(rt; reader.read(&mut buf), Ok(2));
+    assert_eq!(rt; buf, [b'H', b'I', 0, 0]);
+    assert_eq!(rt; reader.read(&mut buf), Ok(0));
+    Ok(())
+}
+
+#[test]
+fn lines_are_entered(rt: HostRuntime) -> Result<(), Fail> {
+    let mut program = Program::new(rt.alloc(), 64);
+    assert!(rt; program.is_empty());
+    assert_eq!(rt; program.first(), None);
+    let lines: [(&[u8], Result<(), LoadFault>); 10] = [
+        (b"20 P.2", Ok(())),
+        (b" 010A=1", Ok(())),
+        (b"10\tP.", Err(LoadFault::BadByte(3))),
+        (b"10 P.\r", Err(LoadFault::BadByte(6))),
+        (b"P.", Err(LoadFault::NoNumber)),
+        (b"  ", Ok(())),
+        (b"30", Ok(())),
+        (b"20   P.345", Ok(())),
+        (b"40 P.", Ok(())),
+        (b"00040  ", Ok(())),
+    ];
+    for (line, expected) in lines {
+        assert_eq!(rt; program.enter(line), expected, "{line:?}");
+    }
+    assert_eq!(rt; program.memory(), 64);
+    assert_eq!(rt; program.size(), 50);
+    assert_eq!(rt; program.len(), 2);
+    assert!(rt; !program.is_empty());
+    let texts: [(i16, Option<&[u8]>); 5] = [
+        (10, Some(b"A=1")),
+        (20, Some(b"P.345")),
+        (40, None),
+        (0, None),
+        (-10, None),
+    ];
+    for (number, expected) in texts {
+        assert!(rt; program.line(number) == expected, "line {number}");
+    }
+    assert_eq!(rt; program.first(), Some(10));
+    for (number, next) in [
+        (-5, Some(10)),
+        (0, Some(10)),
+        (10, Some(20)),
+        (15, Some(20)),
+        (20, None),
+    ] {
+        assert_eq!(rt; program.after(number), next, "after {number}");
+    }
+    Ok(())
+}
+
+#[test]
+fn faults_print(rt: HostRuntime) -> Result<(), Fail> {
+    let texts = [
+        (LoadFault::NoNumber, "no statement number"),
+        (LoadFault::NumberTooBig, "number too big"),
+        (LoadFault::TextTooLong, "text too long"),
+        (LoadFault::BadByte(6), "bad byte at 6"),
+        (LoadFault::Full, "program full"),
+        (LoadFault::Memory, "out of memory"),
+        (LoadFault::Read, "cannot read the program"),
+        (LoadFault::TooLong, "program too long"),
+    ];
+    for (fault, text) in texts {
+        assert_eq!(rt; fault.to_string(rt.alloc())?.as_str(), text);
+    }
+    assert_eq!(rt; WriteFault.to_string(rt.alloc())?.as_str(), "cannot write");
+    assert_eq!(rt;
+        DeviceFault.to_string(rt.alloc())?.as_str(),
+        "the device failed"
+    );
+    Ok(())
+}
+
+#[test]
+fn rows_hold() {
+    loading_rows();
+    word_rows();
+}
