@@ -11,7 +11,6 @@ use Rattle.ptb_expr.specs.declared.fault.Fault.{Fault}
 use Rattle.ptb_expr.specs.declared.fault.FaultKind.{FaultKind}
 use Rattle.ptb_expr.specs.declared.fault.FaultKind.TheVariants.{What, How}
 use Rattle.ptb_expr.specs.declared.operator.Operator.{Operator}
-use Rattle.ptb_expr.specs.declared.store.Target.{Target}
 use Rattle.ptb_expr.specs.declared.store.Target.TheVariants as targets
 use Rattle.ptb_expr.specs.Operators.{product_operator, sum_operator, comparison}
 use Rattle.ptb_expr.specs.Outcome.{Answers, Outcome, Done, Asks, Out, go_on, unless_error, ◌>>=◌, success, failure}
@@ -20,7 +19,7 @@ use Rattle.ptb_expr.specs.Tree.{Tree, Num, Size, Elem, Rnd, Abs, Neg, Bin, Bad, 
 use Rattle.ptb_expr.specs.Value.{Work, fault, or_fault, operation, negation, absolute_value, random_number, value, target_of}
 use Rattle.ptb_expr.specs.Reading.{Reading, Whole, Spoilt, if_there, if_number, if_function, after, itself, node_over}
 use Rattle.ptb_expr.specs.Reading as reading
-use Rattle.ptb_expr.specs.Working.{Placed, placed, operate, pick, missing}
+use Rattle.ptb_expr.specs.Working.{Placed, result_at, after_operation, random_at, missing}
 use Rattle.ptb_expr.specs.Working as working
 
 -- ---- one after the other
@@ -87,9 +86,9 @@ if_agrees : {A V : Type 0} (means : Tree → Work V) (o : Option A) (f : A → R
 if_agrees means None f d f' d' h e = e
 if_agrees means (Some x) f d f' d' h e = h x
 
-placed_or_fault : {V W : Type 0} (o : Result V FaultKind) (l : ℕ) (g : V × ℕ → Work W) → (placed o l >>= g) ≡ (or_fault o l >>= λ u. g (u, l))
-placed_or_fault (Ok v) l g = refl
-placed_or_fault (Err k) l g = refl
+result_or_fault : {V W : Type 0} (o : Result V FaultKind) (l : ℕ) (g : V × ℕ → Work W) → (result_at o l >>= g) ≡ (or_fault o l >>= λ u. g (u, l))
+result_or_fault (Ok v) l g = refl
+result_or_fault (Err k) l g = refl
 
 module _ (s : Cells) where
   abbrev Agrees : Reading Tree → Work Placed → Type 0
@@ -108,20 +107,20 @@ module _ (s : Cells) where
   after_agrees (Spoilt x) f k g e h = (e.0, spoilt_then x f g (λ v. success (v, 0)) e)
 
   -- an operator between a tree and a part
-  bin_agrees : (op : Operator) (x : Tree) (m : ℕ) (r : Reading Tree) (f : Work Placed) (k : Tree → ℕ → Reading Tree) (g : Placed → Work Placed) → Agrees r f → ((y : Tree) (j : ℕ) → Agrees (k y j) (value s y >>= λ v. g (v, j))) → Agrees (after r (λ y. Bin op x y m) (λ y l. k (Bin op x y l) l)) (value s x >>= λ v. operate f (operation op v) g)
+  bin_agrees : (op : Operator) (x : Tree) (m : ℕ) (r : Reading Tree) (f : Work Placed) (k : Tree → ℕ → Reading Tree) (g : Placed → Work Placed) → Agrees r f → ((y : Tree) (j : ℕ) → Agrees (k y j) (value s y >>= λ v. g (v, j))) → Agrees (after r (λ y. Bin op x y m) (λ y l. k (Bin op x y l) l)) (value s x >>= λ v. after_operation f (operation op v) g)
   unfolding value
   bin_agrees op x m (Whole y l) f k g e h =
-      agrees_as (value s) (k (Bin op x y l) l) (value s (Bin op x y l) >>= λ u. g (u, l)) (value s x >>= λ v. operate f (operation op v) g)
+      agrees_as (value s) (k (Bin op x y l) l) (value s (Bin op x y l) >>= λ u. g (u, l)) (value s x >>= λ v. after_operation f (operation op v) g)
       (assoc (value s x) (λ v. value s y >>= λ w. or_fault (operation op v w) l) (λ u. g (u, l))
       ∙ same_after (value s x) _ _ (λ v.
       assoc (value s y) (λ w. or_fault (operation op v w) l) (λ u. g (u, l))
-      ∙ same_after (value s y) _ _ (λ w. sym (placed_or_fault (operation op v w) l g))
-      ∙ sym (whole_then y l f (λ q. placed (operation op v q.0) q.1 >>= g) e)))
+      ∙ same_after (value s y) _ _ (λ w. sym (result_or_fault (operation op v w) l g))
+      ∙ sym (whole_then y l f (λ q. result_at (operation op v q.0) q.1 >>= g) e)))
       (h (Bin op x y l) l)
   bin_agrees op x m (Spoilt y) f k g e h = (
     stops_right (value s x) _ (λ v. stops_left (value s y) _ e.0),
     same_after (value s x) _ _ (λ v.
-        spoilt_then y f (λ q. placed (operation op v q.0) q.1 >>= g) (λ w. or_fault (operation op v w) m >>= λ u. success (u, 0)) e
+        spoilt_then y f (λ q. result_at (operation op v q.0) q.1 >>= g) (λ w. or_fault (operation op v w) m >>= λ u. success (u, 0)) e
         ∙ sym (assoc (value s y) (λ w. or_fault (operation op v w) m) (λ u. success (u, 0))))
         ∙ sym (assoc (value s x) (λ v. value s y >>= λ w. or_fault (operation op v w) m) (λ u. success (u, 0))),
   )
@@ -142,7 +141,7 @@ module _ (s : Cells) where
 
   -- ---- the grammar
 
-  more_step : (operator : ℕ → Option (Operator × ℕ)) (part : ℕ → Reading Tree) (part' : ℕ → Work Placed) → ((i : ℕ) → Agrees (part i) (part' i)) → (n : ℕ) → ((x : Tree) (j : ℕ) → Agrees (reading.more operator part n x j) (value s x >>= λ v. working.more operator part' n (v, j))) → (x : Tree) (j : ℕ) (o : Option (Operator × ℕ)) → Agrees (if_there o (λ o. after (part o.1) (λ y. Bin o.0 x y o.1) (λ y l. reading.more operator part n (Bin o.0 x y l) l)) (Whole x j)) (value s x >>= λ v. if_there o (λ o. operate (part' o.1) (operation o.0 v) (working.more operator part' n)) (success (v, j)))
+  more_step : (operator : ℕ → Option (Operator × ℕ)) (part : ℕ → Reading Tree) (part' : ℕ → Work Placed) → ((i : ℕ) → Agrees (part i) (part' i)) → (n : ℕ) → ((x : Tree) (j : ℕ) → Agrees (reading.more operator part n x j) (value s x >>= λ v. working.more operator part' n (v, j))) → (x : Tree) (j : ℕ) (o : Option (Operator × ℕ)) → Agrees (if_there o (λ o. after (part o.1) (λ y. Bin o.0 x y o.1) (λ y l. reading.more operator part n (Bin o.0 x y l) l)) (Whole x j)) (value s x >>= λ v. if_there o (λ o. after_operation (part' o.1) (operation o.0 v) (working.more operator part' n)) (success (v, j)))
   more_step operator part part' h n ih x j None = refl
   more_step operator part part' h n ih x j (Some o) = bin_agrees o.0 x o.1 (part o.1) (part' o.1) (reading.more operator part n) (working.more operator part' n) (h o.1) ih
 
@@ -152,8 +151,8 @@ module _ (s : Cells) where
   more_agrees operator part part' h (suc n) x j = more_step operator part part' h n (more_agrees operator part part' h n) x j (operator j)
 
   module _ (t : List ℕ) (within : ℕ → Reading Tree) (within' : ℕ → Work Placed) (h : (i : ℕ) → Agrees (within i) (within' i)) where
-    close_agrees : (x : Tree) (k : ℕ) → Agrees (if_there (token_at 41 t k) (λ l. Whole x l) (Spoilt (Unclosed x k))) (value s x >>= λ v. working.close t s within' (v, k))
-    unfolding value working.close
+    close_agrees : (x : Tree) (k : ℕ) → Agrees (if_there (token_at 41 t k) (λ l. Whole x l) (Spoilt (Unclosed x k))) (value s x >>= λ v. working.closing t s within' (v, k))
+    unfolding value working.closing
     close_agrees x k = go (token_at 41 t k)
       where
         go : (o : Option ℕ) → Agrees (if_there o (λ l. Whole x l) (Spoilt (Unclosed x k))) (value s x >>= λ v. if_there o (λ l. success (v, l)) (missing k))
@@ -164,13 +163,13 @@ module _ (s : Cells) where
     unfolding reading.paren working.paren value
     paren_agrees i =
         if_agrees (value s) (token_at 40 t i) _ _ _ _
-        (λ j. after_agrees (within j) (within' j) _ (working.close t s within') (h j) close_agrees)
+        (λ j. after_agrees (within j) (within' j) _ (working.closing t s within') (h j) close_agrees)
         (failure_stops (fault What i), refl)
 
     -- "@" paren
-    element_agrees : (j : ℕ) → Agrees (node_over Elem j (reading.paren t within j)) (operate (working.paren t s within' j) (element_of s) success)
+    element_agrees : (j : ℕ) → Agrees (node_over Elem j (reading.paren t within j)) (after_operation (working.paren t s within' j) (element_of s) success)
     unfolding value
-    element_agrees j = un_agrees (value s) Elem (λ v k. or_fault (element_of s v) k) j (λ q. placed (element_of s q.0) q.1 >>= success) (λ x k. refl) (λ v k. placed_or_fault (element_of s v) k success) (reading.paren t within j) (working.paren t s within' j) (paren_agrees j)
+    element_agrees j = un_agrees (value s) Elem (λ v k. or_fault (element_of s v) k) j (λ q. result_at (element_of s q.0) q.1 >>= success) (λ x k. refl) (λ v k. result_or_fault (element_of s v) k success) (reading.paren t within j) (working.paren t s within' j) (paren_agrees j)
 
     number_agrees : (i : ℕ) (o : Number × ℕ) → Agrees (if_number o (λ v j. Whole (Num v) j) (λ j. Spoilt (Bad How j)) (reading.paren t within i)) (if_number o (λ v j. success (v, j)) (λ j. failure (fault How j)) (working.paren t s within' i))
     unfolding value
@@ -188,13 +187,13 @@ module _ (s : Cells) where
     unfolding reading.factor working.factor value
     factor_agrees i = go (word_at Functions t i)
       where
-        rnd : (j : ℕ) → Agrees (node_over Rnd j (reading.paren t within j)) (working.paren t s within' j >>= pick)
-        rnd j = un_agrees (value s) Rnd random_number j pick (λ x k. refl) (λ v k. refl) (reading.paren t within j) (working.paren t s within' j) (paren_agrees j)
+        rnd : (j : ℕ) → Agrees (node_over Rnd j (reading.paren t within j)) (working.paren t s within' j >>= random_at)
+        rnd j = un_agrees (value s) Rnd random_number j random_at (λ x k. refl) (λ v k. refl) (reading.paren t within j) (working.paren t s within' j) (paren_agrees j)
 
-        absolute : (j : ℕ) → Agrees (node_over Abs j (reading.paren t within j)) (operate (working.paren t s within' j) absolute_value success)
-        absolute j = un_agrees (value s) Abs (λ v k. or_fault (absolute_value v) k) j (λ q. placed (absolute_value q.0) q.1 >>= success) (λ x k. refl) (λ v k. placed_or_fault (absolute_value v) k success) (reading.paren t within j) (working.paren t s within' j) (paren_agrees j)
+        absolute : (j : ℕ) → Agrees (node_over Abs j (reading.paren t within j)) (after_operation (working.paren t s within' j) absolute_value success)
+        absolute j = un_agrees (value s) Abs (λ v k. or_fault (absolute_value v) k) j (λ q. result_at (absolute_value q.0) q.1 >>= success) (λ x k. refl) (λ v k. result_or_fault (absolute_value v) k success) (reading.paren t within j) (working.paren t s within' j) (paren_agrees j)
 
-        go : (o : Option (Word × ℕ)) → Agrees (if_function o (λ j. node_over Rnd j (reading.paren t within j)) (λ j. node_over Abs j (reading.paren t within j)) (λ j. Whole Size j) (reading.plain t within i)) (if_function o (λ j. working.paren t s within' j >>= pick) (λ j. operate (working.paren t s within' j) absolute_value success) (λ j. success (s.size, j)) (working.plain t s within' i))
+        go : (o : Option (Word × ℕ)) → Agrees (if_function o (λ j. node_over Rnd j (reading.paren t within j)) (λ j. node_over Abs j (reading.paren t within j)) (λ j. Whole Size j) (reading.plain t within i)) (if_function o (λ j. working.paren t s within' j >>= random_at) (λ j. after_operation (working.paren t s within' j) absolute_value success) (λ j. success (s.size, j)) (working.plain t s within' i))
         go (Some (RndKw, j)) = rnd j
         go (Some (AbsKw, j)) = absolute j
         go (Some (SizeKw, j)) = refl
@@ -210,7 +209,7 @@ module _ (s : Cells) where
     unfolding reading.first_product working.first_product value
     first_agrees i =
         if_agrees (value s) (token_at 45 t i) _ _ _ _
-        (λ j. un_agrees (value s) Neg (λ v k. or_fault (negation v) k) j (λ q. placed (negation q.0) q.1 >>= success) (λ x k. refl) (λ v k. placed_or_fault (negation v) k success) (reading.product t within j) (working.product t s within' j) (product_agrees j))
+        (λ j. un_agrees (value s) Neg (λ v k. or_fault (negation v) k) j (λ q. result_at (negation q.0) q.1 >>= success) (λ x k. refl) (λ v k. result_or_fault (negation v) k success) (reading.product t within j) (working.product t s within' j) (product_agrees j))
         (if_agrees (value s) (token_at 43 t i) _ _ _ _ product_agrees (product_agrees i))
 
     sum_agrees : (i : ℕ) → Agrees (reading.sum t within i) (working.sum t s within' i)
@@ -220,11 +219,11 @@ module _ (s : Cells) where
         (more_agrees (sum_operator t) (reading.product t within) (working.product t s within') product_agrees (length t))
 
     expr_with_agrees : (i : ℕ) → Agrees (reading.expr_with t within i) (working.expr_with t s within' i)
-    unfolding reading.expr_with working.expr_with working.compared
+    unfolding reading.expr_with working.expr_with working.comparison_after
     expr_with_agrees i =
-        after_agrees (reading.sum t within i) (working.sum t s within' i) _ (working.compared t s within') (sum_agrees i) (λ x j. go x j (comparison t j))
+        after_agrees (reading.sum t within i) (working.sum t s within' i) _ (working.comparison_after t s within') (sum_agrees i) (λ x j. go x j (comparison t j))
       where
-        go : (x : Tree) (j : ℕ) (o : Option (Operator × ℕ)) → Agrees (if_there o (λ o. after (reading.sum t within o.1) (λ y. Bin o.0 x y o.1) (λ y l. Whole (Bin o.0 x y l) l)) (Whole x j)) (value s x >>= λ v. if_there o (λ o. operate (working.sum t s within' o.1) (operation o.0 v) success) (success (v, j)))
+        go : (x : Tree) (j : ℕ) (o : Option (Operator × ℕ)) → Agrees (if_there o (λ o. after (reading.sum t within o.1) (λ y. Bin o.0 x y o.1) (λ y l. Whole (Bin o.0 x y l) l)) (Whole x j)) (value s x >>= λ v. if_there o (λ o. after_operation (working.sum t s within' o.1) (operation o.0 v) success) (success (v, j)))
         go x j None = refl
         go x j (Some o) = bin_agrees o.0 x o.1 (reading.sum t within o.1) (working.sum t s within' o.1) Whole success (sum_agrees o.1) (λ y l. refl)
 
@@ -234,7 +233,7 @@ module _ (s : Cells) where
     variable_agrees i =
         if_agrees (target_of s) (letter_at t i) _ _ _ _ (λ b. refl)
         (if_agrees (target_of s) (token_at 64 t i) _ _ _ _
-        (λ j. un_agrees (target_of s) Elem (λ v k. or_fault (map_ok targets.Element (index_of s.size v)) k) j (λ q. placed (map_ok targets.Element (index_of s.size q.0)) q.1 >>= success) (λ x k. refl) (λ v k. placed_or_fault (map_ok targets.Element (index_of s.size v)) k success) (reading.paren t within j) (working.paren t s within' j) (paren_agrees j))
+        (λ j. un_agrees (target_of s) Elem (λ v k. or_fault (map_ok targets.Element (index_of s.size v)) k) j (λ q. result_at (map_ok targets.Element (index_of s.size q.0)) q.1 >>= success) (λ x k. refl) (λ v k. result_or_fault (map_ok targets.Element (index_of s.size v)) k success) (reading.paren t within j) (working.paren t s within' j) (paren_agrees j))
         (failure_stops (fault What i), refl))
 
   -- the value of what was read

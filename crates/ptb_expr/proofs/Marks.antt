@@ -1,22 +1,20 @@
 -- This file proves that the marks of what is read lie within its text.
-use Rattle.std.proofs.Common.{◌≡◌, ℕ, ◌<◌, ◌≤◌, Bool, true, false, cond, List, [], ◌∷◌, refl, arith, ℤ, pos, Result, Ok, Err, length, subst}
+use Rattle.std.proofs.Common.{◌≡◌, ℕ, ◌≤◌, Bool, true, false, cond, List, [], ◌∷◌, refl, arith, ℤ, pos, Result, Ok, Err, length, subst}
 use Rattle.std.specs.Prelude.{int_le, if◌then◌else◌}
 use Rattle.ptb_text.specs.declared.word.Number.TheVariants.{TooBig}
 use Rattle.ptb_text.specs.declared.word.Table.TheVariants.{Functions}
-use Rattle.ptb_text.specs.declared.word.Word.TheVariants.{RndKw, AbsKw, SizeKw}
-use Rattle.ptb_text.specs.Words.{token_at, letter_at, word_at, number_at}
+use Rattle.ptb_text.specs.declared.word.Word.TheVariants.{RndKw, AbsKw}
 use Rattle.ptb_text.specs.Finding.{LiesAhead, FindingLaws}
 use Rattle.ptb_expr.specs.declared.fault.Fault.{Fault}
 use Rattle.ptb_expr.specs.declared.fault.FaultKind.{FaultKind}
 use Rattle.ptb_expr.specs.declared.fault.FaultKind.TheVariants.{What, How}
-use Rattle.ptb_expr.specs.declared.operator.Operator.{Operator}
 use Rattle.ptb_expr.specs.declared.store.Target.{Target}
 use Rattle.ptb_expr.specs.declared.store.Target.TheVariants as targets
 use Rattle.ptb_expr.specs.Outcome.{Answers, Outcome, Done, Asks, Out, go_on, unless_error, ◌>>=◌, success, failure, answer, is_answer}
 use Rattle.ptb_expr.specs.Store.{Cells, index_of, element_of, map_ok}
 use Rattle.ptb_expr.specs.Tree.{Tree, Num, Var, Size, Elem, Rnd, Abs, Neg, Bin, Bad, Unclosed}
 use Rattle.ptb_expr.specs.Value.{Work, fault, or_fault, operation, negation, absolute_value, random_number, value, target_of}
-use Rattle.ptb_expr.specs.Reading.{Reading, Whole, Spoilt, item_of, node_over, missing, expression, variable_tree}
+use Rattle.ptb_expr.specs.Reading.{Reading, Whole, Spoilt, item_of, node_over, expression, variable_tree}
 use Rattle.ptb_expr.specs.Spells.{Part, Expr, Sum, First, MoreSum, Product, MoreProduct, Factor, Variable, Paren, Spells}
 use Rattle.ptb_expr.specs.Spells as spells
 use Rattle.ptb_expr.specs.Marks.{MarksWithin}

@@ -6,7 +6,7 @@ use Rattle.ptb_text.specs.declared.word.Table.TheVariants.{Functions}
 use Rattle.ptb_text.specs.declared.word.Word.TheVariants.{RndKw, AbsKw, SizeKw}
 use Rattle.ptb_text.specs.Words.{token_at, letter_at, word_at, number_at}
 use Rattle.ptb_expr.specs.declared.fault.FaultKind.{FaultKind}
-use Rattle.ptb_expr.specs.declared.fault.FaultKind.TheVariants.{What, How}
+use Rattle.ptb_expr.specs.declared.fault.FaultKind.TheVariants.{How}
 use Rattle.ptb_expr.specs.declared.fault.Stop.{Stop}
 use Rattle.ptb_expr.specs.declared.fault.Stop.TheVariants as stops
 use Rattle.ptb_expr.specs.declared.operator.Operator.{Operator}
@@ -17,8 +17,8 @@ use Rattle.ptb_expr.specs.Outcome.{unless_error, ◌>>=◌, success, failure}
 use Rattle.ptb_expr.specs.Choices.{Choices, Reaches}
 use Rattle.ptb_expr.specs.Store.{Cells, value_at, index_of, element_of, map_ok}
 use Rattle.ptb_expr.specs.Value.{Work, fault, operation, negation, absolute_value}
-use Rattle.ptb_expr.specs.Working.{Placed, placed, operate, pick, missing, more, close, paren, variable, plain, factor, product, first_product, sum, compared, expr_with, expr}
-use Rattle.ptb_expr.specs.Works.{Runs, marked}
+use Rattle.ptb_expr.specs.Working.{Placed, result_at, after_operation, random_at, missing, more, closing, paren, variable, plain, factor, product, first_product, sum, comparison_after, expr_with, expr}
+use Rattle.ptb_expr.specs.Works.{Runs, result_at_mark}
 use Rattle.ptb_expr.proofs.Reaching.{reaches_then, reaches_on, runs_then, runs_stop}
 
 -- ---- a part, and what comes then
@@ -33,32 +33,32 @@ pub part_err : {V W : Type 0} (refused : Pause → ℤ → Type 0) (P f : Work (
 part_err refused P f part next c d e s i j p q r =
     runs_then refused P (part >>= next) c d e (Err s) j (subst (Reaches P c d) q p) (runs_stop refused part next d e s i j r)
 
-ok_step : {V W : Type 0} (P : Work W) (next : V × ℕ → Work W) (c e : Choices) (x : V) (l : ℕ) (v : Result V FaultKind) → marked v l ≡ Ok x → Reaches P c e (placed v l >>= next) → Reaches P c e (next (x, l))
+ok_step : {V W : Type 0} (P : Work W) (next : V × ℕ → Work W) (c e : Choices) (x : V) (l : ℕ) (v : Result V FaultKind) → result_at_mark v l ≡ Ok x → Reaches P c e (result_at v l >>= next) → Reaches P c e (next (x, l))
 ok_step P next c e x l (Ok v) o h = let q : v ≡ x = cc in subst (λ u. Reaches P c e (next (u, l))) q h
 ok_step P next c e x l (Err k) o h = absurd (cc o)
 
-err_step : {V W : Type 0} (refused : Pause → ℤ → Type 0) (P : Work (W × ℕ)) (next : V × ℕ → Work (W × ℕ)) (c e : Choices) (s : Stop) (l j : ℕ) (v : Result V FaultKind) → marked v l ≡ Err s → Reaches P c e (placed v l >>= next) → Runs refused P c e (Err s) j
+err_step : {V W : Type 0} (refused : Pause → ℤ → Type 0) (P : Work (W × ℕ)) (next : V × ℕ → Work (W × ℕ)) (c e : Choices) (s : Stop) (l j : ℕ) (v : Result V FaultKind) → result_at_mark v l ≡ Err s → Reaches P c e (result_at v l >>= next) → Runs refused P c e (Err s) j
 err_step refused P next c e s l j (Ok v) o h = absurd (cc o)
 err_step refused P next c e s l j (Err k) o h = let q : stops.Fault (fault k l) ≡ s = cc in subst (λ u. Runs refused P c e (Err u) j) q (record { by = h })
 
-last_step : {V : Type 0} (refused : Pause → ℤ → Type 0) (P : Work (V × ℕ)) (c e : Choices) (l : ℕ) (v : Result V FaultKind) → Reaches P c e (placed v l >>= success) → Runs refused P c e (marked v l) l
+last_step : {V : Type 0} (refused : Pause → ℤ → Type 0) (P : Work (V × ℕ)) (c e : Choices) (l : ℕ) (v : Result V FaultKind) → Reaches P c e (result_at v l >>= success) → Runs refused P c e (result_at_mark v l) l
 last_step refused P c e l (Ok v) h = record { by = h }
 last_step refused P c e l (Err k) h = record { by = h }
 
 -- an operator on the value of a part, which has a value
-pub operate_ok : {V W : Type 0} (refused : Pause → ℤ → Type 0) (P f : Work W) (part : Work Placed) (op : ℤ → Result V FaultKind) (next : V × ℕ → Work W) (c d e : Choices) (w : ℤ) (x : V) (l : ℕ) → Reaches P c d f → f ≡ operate part op next → Runs refused part d e (Ok w) l → marked (op w) l ≡ Ok x → Reaches P c e (next (x, l))
+pub operate_ok : {V W : Type 0} (refused : Pause → ℤ → Type 0) (P f : Work W) (part : Work Placed) (op : ℤ → Result V FaultKind) (next : V × ℕ → Work W) (c d e : Choices) (w : ℤ) (x : V) (l : ℕ) → Reaches P c d f → f ≡ after_operation part op next → Runs refused part d e (Ok w) l → result_at_mark (op w) l ≡ Ok x → Reaches P c e (next (x, l))
 operate_ok refused P f part op next c d e w x l p q r o =
-    ok_step P next c e x l (op w) o (part_ok refused P f part (λ p. placed (op p.0) p.1 >>= next) c d e w l p q r)
+    ok_step P next c e x l (op w) o (part_ok refused P f part (λ p. result_at (op p.0) p.1 >>= next) c d e w l p q r)
 
 -- or a fault
-pub operate_err : {V W : Type 0} (refused : Pause → ℤ → Type 0) (P f : Work (W × ℕ)) (part : Work Placed) (op : ℤ → Result V FaultKind) (next : V × ℕ → Work (W × ℕ)) (c d e : Choices) (w : ℤ) (s : Stop) (l j : ℕ) → Reaches P c d f → f ≡ operate part op next → Runs refused part d e (Ok w) l → marked (op w) l ≡ Err s → Runs refused P c e (Err s) j
+pub operate_err : {V W : Type 0} (refused : Pause → ℤ → Type 0) (P f : Work (W × ℕ)) (part : Work Placed) (op : ℤ → Result V FaultKind) (next : V × ℕ → Work (W × ℕ)) (c d e : Choices) (w : ℤ) (s : Stop) (l j : ℕ) → Reaches P c d f → f ≡ after_operation part op next → Runs refused part d e (Ok w) l → result_at_mark (op w) l ≡ Err s → Runs refused P c e (Err s) j
 operate_err refused P f part op next c d e w s l j p q r o =
-    err_step refused P next c e s l j (op w) o (part_ok refused P f part (λ p. placed (op p.0) p.1 >>= next) c d e w l p q r)
+    err_step refused P next c e s l j (op w) o (part_ok refused P f part (λ p. result_at (op p.0) p.1 >>= next) c d e w l p q r)
 
 -- or either, where nothing comes then
-pub operate_last : {V : Type 0} (refused : Pause → ℤ → Type 0) (P f : Work (V × ℕ)) (part : Work Placed) (op : ℤ → Result V FaultKind) (c d e : Choices) (w : ℤ) (l : ℕ) → Reaches P c d f → f ≡ operate part op success → Runs refused part d e (Ok w) l → Runs refused P c e (marked (op w) l) l
+pub operate_last : {V : Type 0} (refused : Pause → ℤ → Type 0) (P f : Work (V × ℕ)) (part : Work Placed) (op : ℤ → Result V FaultKind) (c d e : Choices) (w : ℤ) (l : ℕ) → Reaches P c d f → f ≡ after_operation part op success → Runs refused part d e (Ok w) l → Runs refused P c e (result_at_mark (op w) l) l
 operate_last refused P f part op c d e w l p q r =
-    last_step refused P c e l (op w) (part_ok refused P f part (λ p. placed (op p.0) p.1 >>= success) c d e w l p q r)
+    last_step refused P c e l (op w) (part_ok refused P f part (λ p. result_at (op p.0) p.1 >>= success) c d e w l p q r)
 
 -- ---- ends
 
@@ -83,7 +83,7 @@ within_runs refused t s (suc n) j c d r k a h f = f n (omega arith)
 -- ---- lists
 
 -- one more operator and part
-more_goes : (operator : ℕ → Option (Operator × ℕ)) (part : ℕ → Work Placed) (n : ℕ) (p : Placed) (o : Operator × ℕ) → operator p.1 ≡ Some o → more operator part (suc n) p ≡ operate (part o.1) (operation o.0 p.0) (more operator part n)
+more_goes : (operator : ℕ → Option (Operator × ℕ)) (part : ℕ → Work Placed) (n : ℕ) (p : Placed) (o : Operator × ℕ) → operator p.1 ≡ Some o → more operator part (suc n) p ≡ after_operation (part o.1) (operation o.0 p.0) (more operator part n)
 unfolding more
 more_goes operator part n p o e = rw e refl
 
@@ -94,7 +94,7 @@ more_ends operator part (suc n) p e = rw e refl
 
 module _ (refused : Pause → ℤ → Type 0) where
   -- a turn of the loop, with a bytes left before it and b after it
-  pub more_ok : (P : Work Placed) (operator : ℕ → Option (Operator × ℕ)) (part : ℕ → Work Placed) (m : ℕ) (p : Placed) (o : Operator × ℕ) (c d e : Choices) (w x : ℤ) (l a b : ℕ) → a ≤ m → b < a → Reaches P c d (more operator part m p) → operator p.1 ≡ Some o → Runs refused (part o.1) d e (Ok w) l → marked (operation o.0 p.0 w) l ≡ Ok x → (n : ℕ) × (b ≤ n) × Reaches P c e (more operator part n (x, l))
+  pub more_ok : (P : Work Placed) (operator : ℕ → Option (Operator × ℕ)) (part : ℕ → Work Placed) (m : ℕ) (p : Placed) (o : Operator × ℕ) (c d e : Choices) (w x : ℤ) (l a b : ℕ) → a ≤ m → b < a → Reaches P c d (more operator part m p) → operator p.1 ≡ Some o → Runs refused (part o.1) d e (Ok w) l → result_at_mark (operation o.0 p.0 w) l ≡ Ok x → (n : ℕ) × (b ≤ n) × Reaches P c e (more operator part n (x, l))
   more_ok P operator part zero p o c d e w x l a b enough less r h y v = absurd (omega arith)
   more_ok P operator part (suc n) p o c d e w x l a b enough less r h y v =
       (n, omega arith, operate_ok refused P (more operator part (suc n) p) (part o.1) (operation o.0 p.0) (more operator part n) c d e w x l r (more_goes operator part n p o h) y v)
@@ -102,9 +102,9 @@ module _ (refused : Pause → ℤ → Type 0) where
   pub more_err : (P : Work Placed) (operator : ℕ → Option (Operator × ℕ)) (part : ℕ → Work Placed) (m : ℕ) (p : Placed) (o : Operator × ℕ) (c d e : Choices) (s : Stop) (i j a : ℕ) → a ≤ m → 0 < a → Reaches P c d (more operator part m p) → operator p.1 ≡ Some o → Runs refused (part o.1) d e (Err s) i → Runs refused P c e (Err s) j
   more_err P operator part zero p o c d e s i j a enough less r h y = absurd (omega arith)
   more_err P operator part (suc n) p o c d e s i j a enough less r h y =
-      part_err refused P (more operator part (suc n) p) (part o.1) (λ q. placed (operation o.0 p.0 q.0) q.1 >>= more operator part n) c d e s i j r (more_goes operator part n p o h) y
+      part_err refused P (more operator part (suc n) p) (part o.1) (λ q. result_at (operation o.0 p.0 q.0) q.1 >>= more operator part n) c d e s i j r (more_goes operator part n p o h) y
 
-  pub more_how : (P : Work Placed) (operator : ℕ → Option (Operator × ℕ)) (part : ℕ → Work Placed) (m : ℕ) (p : Placed) (o : Operator × ℕ) (c d e : Choices) (w : ℤ) (s : Stop) (l j a : ℕ) → a ≤ m → 0 < a → Reaches P c d (more operator part m p) → operator p.1 ≡ Some o → Runs refused (part o.1) d e (Ok w) l → marked (operation o.0 p.0 w) l ≡ Err s → Runs refused P c e (Err s) j
+  pub more_how : (P : Work Placed) (operator : ℕ → Option (Operator × ℕ)) (part : ℕ → Work Placed) (m : ℕ) (p : Placed) (o : Operator × ℕ) (c d e : Choices) (w : ℤ) (s : Stop) (l j a : ℕ) → a ≤ m → 0 < a → Reaches P c d (more operator part m p) → operator p.1 ≡ Some o → Runs refused (part o.1) d e (Ok w) l → result_at_mark (operation o.0 p.0 w) l ≡ Err s → Runs refused P c e (Err s) j
   more_how P operator part zero p o c d e w s l j a enough less r h y v = absurd (omega arith)
   more_how P operator part (suc n) p o c d e w s l j a enough less r h y v =
       operate_err refused P (more operator part (suc n) p) (part o.1) (operation o.0 p.0) (more operator part n) c d e w s l j r (more_goes operator part n p o h) y v
@@ -130,7 +130,7 @@ module _ (t : List ℕ) (s : Cells) (within : ℕ → Work Placed) where
   unfolding sum
   sum_is i = refl
 
-  pub first_product_minus : (i j : ℕ) → token_at 45 t i ≡ Some j → first_product t s within i ≡ operate (product t s within j) negation success
+  pub first_product_minus : (i j : ℕ) → token_at 45 t i ≡ Some j → first_product t s within i ≡ after_operation (product t s within j) negation success
   unfolding first_product
   first_product_minus i j e = rw e refl
 
@@ -140,19 +140,19 @@ module _ (t : List ℕ) (s : Cells) (within : ℕ → Work Placed) where
   first_product_plain i j true e d h = rw (e, d) refl
   first_product_plain i j false e d h = rw (e, d) (ap (product t s within) (sym (h refl)))
 
-  pub expr_is : (i : ℕ) → expr_with t s within i ≡ (sum t s within i >>= compared t s within)
+  pub expr_is : (i : ℕ) → expr_with t s within i ≡ (sum t s within i >>= comparison_after t s within)
   unfolding expr_with
   expr_is i = refl
 
-  pub compared_goes : (p : Placed) (o : Operator × ℕ) → comparison t p.1 ≡ Some o → compared t s within p ≡ operate (sum t s within o.1) (operation o.0 p.0) success
-  unfolding compared
+  pub compared_goes : (p : Placed) (o : Operator × ℕ) → comparison t p.1 ≡ Some o → comparison_after t s within p ≡ after_operation (sum t s within o.1) (operation o.0 p.0) success
+  unfolding comparison_after
   compared_goes p o e = rw e refl
 
-  pub compared_ends : (p : Placed) → comparison t p.1 ≡ None → compared t s within p ≡ success p
-  unfolding compared
+  pub compared_ends : (p : Placed) → comparison t p.1 ≡ None → comparison_after t s within p ≡ success p
+  unfolding comparison_after
   compared_ends p e = rw e refl
 
-  pub paren_opens : (i j : ℕ) → token_at 40 t i ≡ Some j → paren t s within i ≡ (within j >>= close t s within)
+  pub paren_opens : (i j : ℕ) → token_at 40 t i ≡ Some j → paren t s within i ≡ (within j >>= closing t s within)
   unfolding paren
   paren_opens i j e = rw e refl
 
@@ -160,19 +160,19 @@ module _ (t : List ℕ) (s : Cells) (within : ℕ → Work Placed) where
   unfolding paren
   paren_missing i e = rw e refl
 
-  pub close_closes : (p : Placed) (j : ℕ) → token_at 41 t p.1 ≡ Some j → close t s within p ≡ success (p.0, j)
-  unfolding close
+  pub close_closes : (p : Placed) (j : ℕ) → token_at 41 t p.1 ≡ Some j → closing t s within p ≡ success (p.0, j)
+  unfolding closing
   close_closes p j e = rw e refl
 
-  pub close_missing : (p : Placed) → token_at 41 t p.1 ≡ None → close t s within p ≡ missing p.1
-  unfolding close
+  pub close_missing : (p : Placed) → token_at 41 t p.1 ≡ None → closing t s within p ≡ missing p.1
+  unfolding closing
   close_missing p e = rw e refl
 
-  pub factor_rnd : (i j : ℕ) → word_at Functions t i ≡ Some (RndKw, j) → factor t s within i ≡ (paren t s within j >>= pick)
+  pub factor_rnd : (i j : ℕ) → word_at Functions t i ≡ Some (RndKw, j) → factor t s within i ≡ (paren t s within j >>= random_at)
   unfolding factor
   factor_rnd i j e = rw e refl
 
-  pub factor_abs : (i j : ℕ) → word_at Functions t i ≡ Some (AbsKw, j) → factor t s within i ≡ operate (paren t s within j) absolute_value success
+  pub factor_abs : (i j : ℕ) → word_at Functions t i ≡ Some (AbsKw, j) → factor t s within i ≡ after_operation (paren t s within j) absolute_value success
   unfolding factor
   factor_abs i j e = rw e refl
 
@@ -188,7 +188,7 @@ module _ (t : List ℕ) (s : Cells) (within : ℕ → Work Placed) where
   unfolding plain
   plain_letter i b k e = rw e refl
 
-  pub plain_element : (i j : ℕ) → letter_at t i ≡ None → token_at 64 t i ≡ Some j → plain t s within i ≡ operate (paren t s within j) (element_of s) success
+  pub plain_element : (i j : ℕ) → letter_at t i ≡ None → token_at 64 t i ≡ Some j → plain t s within i ≡ after_operation (paren t s within j) (element_of s) success
   unfolding plain
   plain_element i j e d = rw (e, d) refl
 
@@ -208,7 +208,7 @@ module _ (t : List ℕ) (s : Cells) (within : ℕ → Work Placed) where
   unfolding variable
   variable_letter i b k e = rw e refl
 
-  pub variable_element : (i j : ℕ) → letter_at t i ≡ None → token_at 64 t i ≡ Some j → variable t s within i ≡ operate (paren t s within j) (λ k. map_ok targets.Element (index_of s.size k)) success
+  pub variable_element : (i j : ℕ) → letter_at t i ≡ None → token_at 64 t i ≡ Some j → variable t s within i ≡ after_operation (paren t s within j) (λ k. map_ok targets.Element (index_of s.size k)) success
   unfolding variable
   variable_element i j e d = rw (e, d) refl
 

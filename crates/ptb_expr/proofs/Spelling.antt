@@ -1,5 +1,5 @@
 -- This file proves that what is read of an expression is spelled so, that nothing else is, and where it ends.
-use Rattle.std.proofs.Common.{◌≡◌, ℕ, zero, suc, ◌-◌, ◌<◌, ◌≤◌, ◌⊎◌, inl, inr, List, ◌∙◌, sym, ap, subst, refl, arith, ℤ, Option, Some, None, length}
+use Rattle.std.proofs.Common.{◌≡◌, ℕ, zero, suc, ◌-◌, ◌<◌, ◌≤◌, ◌⊎◌, inl, inr, List, sym, ap, subst, refl, arith, ℤ, Option, Some, None, length}
 use Rattle.std.specs.Prelude.{option_map}
 use Rattle.std.specs.Option.{option_or}
 use Rattle.ptb_text.specs.declared.word.Number.{Number}
@@ -9,7 +9,7 @@ use Rattle.ptb_text.specs.declared.word.Word.{Word}
 use Rattle.ptb_text.specs.declared.word.Word.TheVariants.{RndKw, AbsKw, SizeKw}
 use Rattle.ptb_text.specs.Words.{token_at, pair_at, letter_at, word_at, number_at}
 use Rattle.ptb_text.specs.Finding.{LiesAhead, FindingLaws}
-use Rattle.ptb_expr.specs.declared.fault.FaultKind.TheVariants.{What, How}
+use Rattle.ptb_expr.specs.declared.fault.FaultKind.TheVariants.{How}
 use Rattle.ptb_expr.specs.declared.operator.Operator.{Operator}
 use Rattle.ptb_expr.specs.declared.operator.Operator.TheVariants.{Plus, Minus, Times, Over, AtLeast, NotEqual, Above, Equals, AtMost, Below}
 use Rattle.ptb_expr.specs.Operators.{of_byte, of_pair, product_operator, sum_operator, comparison}

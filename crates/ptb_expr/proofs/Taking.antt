@@ -1,11 +1,10 @@
 -- This file proves which operator stands where a byte stands next.
-use Rattle.std.proofs.Common.{◌≡◌, ℕ, Bool, true, false, cond, List, refl, eqb, sym, ap, Option, Some, None}
+use Rattle.std.proofs.Common.{◌≡◌, ℕ, false, List, refl, eqb, sym, Some, None}
 use Rattle.std.specs.Prelude.{IsFalse}
 use Rattle.std.proofs.lemmas.Bool.{ne_eqb}
 use Rattle.ptb_text.specs.declared.word.Table.TheVariants.{Functions}
-use Rattle.ptb_text.specs.Words.{past_blanks, token_at, pair_at, word_at}
+use Rattle.ptb_text.specs.Words.{pair_at, word_at}
 use Rattle.ptb_text.specs.Finding.{StandsNext, is_next, past_byte}
-use Rattle.ptb_expr.specs.declared.operator.Operator.{Operator}
 use Rattle.ptb_expr.specs.declared.operator.Operator.TheVariants.{Plus, Minus, Times, Over, AtLeast, NotEqual, Above, Equals, AtMost, Below}
 use Rattle.ptb_expr.specs.Operators.{product_operator, sum_operator, comparison}
 

@@ -1,13 +1,14 @@
 -- This file defines what a chooser holds, and what a call that asks it does.
 --     Choices                       the plan, the answers given so far, and their bounds where these are kept
 --     with_answers ts bs c          the same after more answers with these bounds
---     AnswerList                    a list of answers, of which some were given
+--     AnswerList, choices_of l      a list of answers, of which some were given, and what it holds as a chooser
+--     RefusedByList                 why it refuses one
 --     Reaches f c d g               between c and d answers were given, and what f was is what g is for all later answers
 --     Pauses refused f c d z        f came to a question that the chooser refused
-use Rattle.std.specs.Prelude.{◌≡◌, ℕ, ◌<◌, Bool, true, false, List, [], ◌∷◌, ◌++◌, length, take, Option, Some, None, option_map, slice_get, ℤ, pos, Result, Ok, Err}
+use Rattle.std.specs.Prelude.{◌≡◌, ℕ, false, List, [], ◌∷◌, ◌++◌, length, take, Option, Some, None, option_map, slice_get, ℤ}
 use Rattle.ptb_expr.specs.declared.pause.Pause.{Pause}
 use Rattle.ptb_expr.specs.declared.pause.Pause.TheVariants.{Ended, OutOfRange, Memory}
-use Rattle.ptb_expr.specs.Outcome.{Answers, Outcome, Done, Asks, Out, is_answer}
+use Rattle.ptb_expr.specs.Outcome.{Answers, Outcome, Asks, Out, is_answer}
 
 -- ---- what a chooser holds
 

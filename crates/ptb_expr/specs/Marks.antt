@@ -1,7 +1,7 @@
 -- This file states that the marks of what is read lie within its text.
 --     MarksWithin n x      no mark of the tree x is above n
 --     MarkLaws             so it is with what is read of a text, and with the fault of each tree
-use Rattle.std.specs.Prelude.{◌≡◌, ℕ, ◌≤◌, List, length, Result, Ok, Err}
+use Rattle.std.specs.Prelude.{◌≡◌, ℕ, ◌≤◌, List, length, Err}
 use Rattle.ptb_expr.specs.declared.fault.Fault.{Fault}
 use Rattle.ptb_expr.specs.Outcome.{Answers, Done}
 use Rattle.ptb_expr.specs.Store.{Cells}

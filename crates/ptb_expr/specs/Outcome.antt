@@ -5,7 +5,7 @@
 --     answer n w               takes an answer from 1 to n
 --     m >>= next               goes on with a value; a fault stays what it is
 --     IsReader f most          the laws of what takes answers one by one, at most so many
-use Rattle.std.specs.Prelude.{◌≡◌, ℕ, ◌+◌, ◌<◌, ◌≤◌, ◌⊎◌, Bool, true, false, ◌&&◌, List, [], ◌∷◌, ◌++◌, length, ℤ, pos, ◌≤ℤ◌, ◌<ℤ◌, int_le, Result, Ok, Err, if◌then◌else◌}
+use Rattle.std.specs.Prelude.{◌≡◌, ℕ, ◌+◌, ◌<◌, ◌≤◌, Bool, true, false, ◌&&◌, List, [], ◌∷◌, ◌++◌, length, ℤ, pos, ◌≤ℤ◌, int_le, Result, Ok, Err, if◌then◌else◌}
 
 abbrev pub Answers : Type 0
 Answers = List ℤ

@@ -1,9 +1,9 @@
 -- This file has worked rows of expressions.
-use Rattle.std.specs.Prelude.{◌≡◌, ℕ, List, [], ◌∷◌, ◌++◌, ℤ, pos, negsuc, codes, replicate, Result, Ok, Err}
+use Rattle.std.specs.Prelude.{◌≡◌, ℕ, List, [], ◌∷◌, ℤ, pos, negsuc, codes, Result, Ok, Err}
 use Rattle.ptb_expr.specs.declared.fault.Fault.{Fault}
 use Rattle.ptb_expr.specs.declared.fault.FaultKind.TheVariants.{What, How, Sorry}
 use Rattle.ptb_expr.specs.Outcome.{Answers, Outcome, Done, Asks, Out}
-use Rattle.ptb_expr.specs.Store.{Cells, empty_cells}
+use Rattle.ptb_expr.specs.Store.{empty_cells}
 use Rattle.ptb_expr.specs.Value.{value, fault}
 use Rattle.ptb_expr.specs.Reading.{Reading, Whole, Spoilt, item_of, expression}
 
@@ -39,3 +39,32 @@ pub record ValueRows : Type 0 where
   pub towards_zero : worth (codes "(0-7)/2") [] ≡ Done (Ok (negsuc 2)) []
   pub by_zero : worth (codes "1/0") [] ≡ Done (Err (fault How 3)) []
   pub size : worth (codes "S.") [] ≡ Done (Ok (pos 4)) []
+  -- RND of 1 takes an answer, too
+  pub only_answer : worth (codes "RND(1)") (pos 1 ∷ pos 2 ∷ []) ≡ Done (Ok (pos 1)) (pos 2 ∷ [])
+  pub only_answer_asked : worth (codes "RND(1)") [] ≡ Asks (pos 1) tt
+  -- the left operand comes first, with its answers and its faults
+  pub left_first : worth (codes "R.(6)-R.(6)") (pos 2 ∷ pos 5 ∷ []) ≡ Done (Ok (negsuc 2)) []
+  pub left_asked_first : worth (codes "RND(6)*RND(5)") [] ≡ Asks (pos 6) tt
+  pub left_fault_first : worth (codes "1/0+32768") [] ≡ Done (Err (fault How 3)) []
+  pub left_compared_first : worth (codes "RND(6)>RND(6)") (pos 2 ∷ pos 5 ∷ []) ≡ Done (Ok (pos 0)) []
+  -- what stands before a missing part is worked out first
+  pub asked_before_missing : worth (codes "RND(6)+") [] ≡ Asks (pos 6) tt
+  pub asked_before_unclosed : worth (codes "(RND(6)") [] ≡ Asks (pos 6) tt
+  -- a mark stands behind the blanks
+  pub mark_of_operator : worth (codes "1 / 0  +2") [] ≡ Done (Err (fault How 7)) []
+  pub mark_of_function : worth (codes "RND ( 0 )  ") [] ≡ Done (Err (fault How 11)) []
+  pub mark_of_missing : worth (codes "2 * ") [] ≡ Done (Err (fault What 4)) []
+  pub mark_of_unclosed : worth (codes "( 3 ,") [] ≡ Done (Err (fault What 4)) []
+  pub mark_of_number : worth (codes "32768 ") [] ≡ Done (Err (fault How 6)) []
+  pub mark_of_minus : worth (codes "-(-32767-1) ") [] ≡ Done (Err (fault How 12)) []
+  -- ranges
+  pub absolute : worth (codes "ABS(2-9)") [] ≡ Done (Ok (pos 7)) []
+  pub no_absolute : worth (codes "A.(-32767-1)") [] ≡ Done (Err (fault How 12)) []
+  pub product_too_low : worth (codes "(-32767-1)*1") [] ≡ Done (Err (fault How 12)) []
+  pub quotient_too_low : worth (codes "(-32767-1)/1") [] ≡ Done (Err (fault How 12)) []
+  pub difference_too_low : worth (codes "-32767-2") [] ≡ Done (Err (fault How 8)) []
+  pub least_compared : worth (codes "-32767-1<0") [] ≡ Done (Ok (pos 1)) []
+  pub plus_in_front : worth (codes "+2-3") [] ≡ Done (Ok (negsuc 0)) []
+  pub not_equal : worth (codes "2#3") [] ≡ Done (Ok (pos 1)) []
+  pub digits_apart : end_of (expression (codes "1 2") 0) ≡ 2
+  pub one_comparison : end_of (expression (codes "1<2<3") 0) ≡ 3

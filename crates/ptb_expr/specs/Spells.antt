@@ -1,13 +1,13 @@
 -- This file defines the grammar of expressions as a relation, one case a rule, and states its laws.
 --     Spells t part i r        r is the longest reading of the part at place i of the text t
 --     SpellingLaws             what `expression` and `variable_tree` read is so spelled, and nothing else is
-use Rattle.std.specs.Prelude.{◌≡◌, ℕ, ◌-◌, ◌<◌, ◌≤◌, List, length, ℤ, Option, Some, None}
+use Rattle.std.specs.Prelude.{◌≡◌, ℕ, ◌-◌, ◌<◌, List, length, ℤ, Some, None}
 use Rattle.ptb_text.specs.declared.word.Number.TheVariants.{Absent, Value, TooBig}
 use Rattle.ptb_text.specs.declared.word.Table.TheVariants.{Functions}
 use Rattle.ptb_text.specs.declared.word.Word.TheVariants.{RndKw, AbsKw, SizeKw}
 use Rattle.ptb_text.specs.Words.{token_at, letter_at, word_at, number_at}
 use Rattle.ptb_text.specs.Finding.{LiesAhead}
-use Rattle.ptb_expr.specs.declared.fault.FaultKind.TheVariants.{What, How}
+use Rattle.ptb_expr.specs.declared.fault.FaultKind.TheVariants.{How}
 use Rattle.ptb_expr.specs.declared.operator.Operator.{Operator}
 use Rattle.ptb_expr.specs.Operators.{product_operator, sum_operator, comparison}
 use Rattle.ptb_expr.specs.Tree.{Tree, Num, Var, Size, Elem, Rnd, Abs, Neg, Bin, Bad, Unclosed}
@@ -29,7 +29,7 @@ pub data Part : Type 0 where
   Variable : Part
   Paren : Part
 
--- a mark is the place after the node's last token and its blanks; nothing is read after a spoilt part
+-- a node is marked at its end, behind any blanks there; reading stops at a spoilt part
 pub data Spells (t : List ℕ) : Part → ℕ → Reading Tree → Type 0 where
   -- expr = sum [ comparison sum ]
   sum_alone : {i j : ℕ} {x : Tree} → Spells t Sum i (Whole x j) → comparison t j ≡ None → Spells t Expr i (Whole x j)

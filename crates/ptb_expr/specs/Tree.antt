@@ -1,4 +1,4 @@
--- This file defines expressions as trees. A mark is the place after a node's last token and the blanks that follow it.
+-- This file defines expressions as trees. A node is marked at its end, behind any blanks there.
 use Rattle.std.specs.Prelude.{ℕ, ◌+◌, ℤ}
 use Rattle.ptb_expr.specs.declared.fault.FaultKind.{FaultKind}
 use Rattle.ptb_expr.specs.declared.operator.Operator.{Operator}

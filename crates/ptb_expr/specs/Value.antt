@@ -1,4 +1,4 @@
--- This file defines what an expression is worth. Operands go from left to right, each with the answers that are left.
+-- This file defines what an expression is worth. The left operand comes first, and hands on the answers that it didn't take.
 --     value c x                the value of the tree x, with the cells c
 --     target_of c x            what the tree of a variable names: a letter, or an element whose index is worked out
 --     operation op v w         what an operator gives
@@ -13,7 +13,7 @@ use Rattle.ptb_expr.specs.declared.fault.FaultKind.{FaultKind}
 use Rattle.ptb_expr.specs.declared.fault.FaultKind.TheVariants.{What, How}
 use Rattle.ptb_expr.specs.Tree.{Tree, Num, Var, Size, Elem, Rnd, Abs, Neg, Bin, Bad, Unclosed}
 use Rattle.ptb_expr.specs.Store.{Cells, value_at, index_of, element_of, map_ok, with_value, with_element}
-use Rattle.ptb_expr.specs.Outcome.{Answers, Outcome, Done, go_on, ◌>>=◌, success, failure, answer}
+use Rattle.ptb_expr.specs.Outcome.{Answers, Outcome, go_on, ◌>>=◌, success, failure, answer}
 
 -- what is worked out from answers: a value or a fault
 abbrev pub Work : Type 0 → Type 0

@@ -20,17 +20,17 @@ abbrev pub Placed : Type 0
 Placed = ℤ × ℕ
 
 -- a value at this place, or the fault there
-abbrev pub placed : {V : Type 0} → Result V FaultKind → ℕ → Work (V × ℕ)
-placed (Ok v) j = success (v, j)
-placed (Err kind) j = failure (fault kind j)
+abbrev pub result_at : {V : Type 0} → Result V FaultKind → ℕ → Work (V × ℕ)
+result_at (Ok v) j = success (v, j)
+result_at (Err kind) j = failure (fault kind j)
 
 -- an operator on the value of a part, and what comes then
-abbrev pub operate : {V W : Type 0} → Work Placed → (ℤ → Result V FaultKind) → (V × ℕ → Work W) → Work W
-operate part op next = part >>= λ p. placed (op p.0) p.1 >>= next
+abbrev pub after_operation : {V W : Type 0} → Work Placed → (ℤ → Result V FaultKind) → (V × ℕ → Work W) → Work W
+after_operation part op next = part >>= λ p. result_at (op p.0) p.1 >>= next
 
 -- RND of this bound
-abbrev pub pick : Placed → Work Placed
-pick p = random_number p.0 p.1 >>= λ v. success (v, p.1)
+abbrev pub random_at : Placed → Work Placed
+random_at p = random_number p.0 p.1 >>= λ v. success (v, p.1)
 
 -- a part that must stand there and doesn't
 abbrev pub missing : {V : Type 0} → ℕ → Work V
@@ -40,51 +40,51 @@ missing i = failure (fault What i)
 unfoldable pub more : (ℕ → Option (Operator × ℕ)) → (ℕ → Work Placed) → ℕ → Placed → Work Placed
 more operator part zero p = success p
 more operator part (suc n) p =
-    if_there (operator p.1) (λ o. operate (part o.1) (operation o.0 p.0) (more operator part n)) (success p)
+    if_there (operator p.1) (λ o. after_operation (part o.1) (operation o.0 p.0) (more operator part n)) (success p)
 
 module _ (t : List ℕ) (c : Cells) where
   -- `within` is what stands between parentheses
   module _ (within : ℕ → Work Placed) where
-    unfoldable pub close : Placed → Work Placed
-    close p = if_there (token_at 41 t p.1) (λ l. success (p.0, l)) (missing p.1)
+    unfoldable pub closing : Placed → Work Placed
+    closing p = if_there (token_at 41 t p.1) (λ l. success (p.0, l)) (missing p.1)
 
     unfoldable pub paren : ℕ → Work Placed
-    paren i = if_there (token_at 40 t i) (λ j. within j >>= close) (missing i)
+    paren i = if_there (token_at 40 t i) (λ j. within j >>= closing) (missing i)
 
     unfoldable pub variable : ℕ → Work (Target × ℕ)
     variable i =
         if_there (letter_at t i) (λ b. success (targets.Var b.0, b.1))
         (if_there (token_at 64 t i)
-        (λ j. operate (paren j) (λ k. map_ok targets.Element (index_of c.size k)) success)
+        (λ j. after_operation (paren j) (λ k. map_ok targets.Element (index_of c.size k)) success)
         (missing i))
 
     unfoldable pub plain : ℕ → Work Placed
     plain i =
         if_there (letter_at t i) (λ b. success (value_at c b.0, b.1))
-        (if_there (token_at 64 t i) (λ j. operate (paren j) (element_of c) success)
+        (if_there (token_at 64 t i) (λ j. after_operation (paren j) (element_of c) success)
         (if_number (number_at t i) (λ v j. success (v, j)) (λ j. failure (fault How j)) (paren i)))
 
     unfoldable pub factor : ℕ → Work Placed
     factor i =
         if_function (word_at Functions t i)
-        (λ j. paren j >>= pick) (λ j. operate (paren j) absolute_value success) (λ j. success (c.size, j)) (plain i)
+        (λ j. paren j >>= random_at) (λ j. after_operation (paren j) absolute_value success) (λ j. success (c.size, j)) (plain i)
 
     unfoldable pub product : ℕ → Work Placed
     product i = factor i >>= more (product_operator t) factor (length t)
 
     unfoldable pub first_product : ℕ → Work Placed
     first_product i =
-        if_there (token_at 45 t i) (λ j. operate (product j) negation success)
+        if_there (token_at 45 t i) (λ j. after_operation (product j) negation success)
         (if_there (token_at 43 t i) product (product i))
 
     unfoldable pub sum : ℕ → Work Placed
     sum i = first_product i >>= more (sum_operator t) product (length t)
 
-    unfoldable pub compared : Placed → Work Placed
-    compared p = if_there (comparison t p.1) (λ o. operate (sum o.1) (operation o.0 p.0) success) (success p)
+    unfoldable pub comparison_after : Placed → Work Placed
+    comparison_after p = if_there (comparison t p.1) (λ o. after_operation (sum o.1) (operation o.0 p.0) success) (success p)
 
     unfoldable pub expr_with : ℕ → Work Placed
-    expr_with i = sum i >>= compared
+    expr_with i = sum i >>= comparison_after
 
   -- at most n pairs of parentheses deep
   unfoldable pub expr : ℕ → ℕ → Work Placed

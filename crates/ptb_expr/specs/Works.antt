@@ -27,6 +27,6 @@ Works refused part cells a b c d result =
     (t : List ℕ) (n : ℕ) → a.text ≡ t → bytes_left a ≤ n → Runs refused (part t cells (expr t cells n) a.place) c d result b.place
 
 -- a value, or the fault at the mark, as a function returns it
-abbrev pub marked : {V : Type 0} → Result V FaultKind → ℕ → Result V Stop
-marked (Ok v) m = Ok v
-marked (Err kind) m = Err (stops.Fault (fault kind m))
+abbrev pub result_at_mark : {V : Type 0} → Result V FaultKind → ℕ → Result V Stop
+result_at_mark (Ok v) m = Ok v
+result_at_mark (Err kind) m = Err (stops.Fault (fault kind m))

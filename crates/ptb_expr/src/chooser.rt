@@ -10,15 +10,19 @@ use std::marker::Model;
 
 /// Answers the questions of RND.
 pub trait Chooser {
-    /// Its plan, the answers that it gave, and their bounds where it keeps these.
+    /// What it is to answer, what it has answered, and the bounds of these where it keeps bounds.
     ghost choices: { Self → Choices };
 
     /// What stands after a pause at a question with this bound.
     ghost refused: { Self → Pause → ℤ → Type 0 };
 
-    /// An answer from 1 to `bound`, which is at least 1.
+    /// Answers a question with a number from 1 to `bound`, which is at least 1.
     ///
-    /// A pause says that there is none, and leaves the answers as they were.
+    /// # Errors
+    ///
+    /// [`Pause::Ended`] where no answer is left, [`Pause::OutOfRange`] with the next answer where
+    /// that is not from 1 to `bound`, [`Pause::Memory`] where a growth was refused memory. The plan
+    /// and what was given are then as before.
     fn choose(&mut self, bound: i16) -> Result<i16, Pause>
         requires { pos 1 ≤ℤ bound }
         ensures answer { IfOk result (λ k. is_answer bound k ≡ true) }

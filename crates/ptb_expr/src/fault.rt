@@ -1,20 +1,25 @@
 // This file says what can be wrong with an expression, and why it has no value.
 
 use crate::pause::Pause;
+use thiserror::Error;
 
-/// Which word a fault shows: `WHAT?`, `HOW?` or `SORRY`.
-#[derive(Clone, Copy, Debug, PartialEq, Eq)]
+/// Which word a fault shows.
+#[derive(Clone, Copy, Debug, PartialEq, Eq, Error)]
 pub enum FaultKind {
     /// It isn't spelled as the language wants it.
+    #[error("WHAT?")]
     What,
     /// It is well spelled, and can't be done.
+    #[error("HOW?")]
     How,
     /// It is right, and there is no room for it.
+    #[error("SORRY")]
     Sorry,
 }
 
 /// A fault of a program.
-#[derive(Clone, Copy, Debug, PartialEq, Eq)]
+#[derive(Clone, Copy, Debug, PartialEq, Eq, Error)]
+#[error("{kind} at {mark}")]
 pub struct Fault {
     pub kind: FaultKind,
     /// The place in the statement's text at which `?` is put: how many bytes stand before it.
@@ -22,8 +27,12 @@ pub struct Fault {
 }
 
 /// Why there is no value.
-#[derive(Clone, Copy, Debug, PartialEq, Eq)]
+#[derive(Clone, Copy, Debug, PartialEq, Eq, Error)]
 pub enum Stop {
+    /// The program is at fault.
+    #[error(transparent)]
     Fault(Fault),
+    /// The chooser gave no answer.
+    #[error(transparent)]
     Pause(Pause),
 }

@@ -1,4 +1,9 @@
-//! Values of Tiny BASIC: what a program stores, who answers its questions, and expressions.
+//! Expressions of Tiny BASIC: the store of variables and array, the choosers that answer RND, and
+//! the evaluation of an expression while it is read.
+//!
+//! It stands on `ptb_text` and `thiserror`. The crate above may rely on `evaluate` and `target`:
+//! whoever answers, they come to what `specs/Value` makes of the tree that `specs/Spells` reads at
+//! the cursor, be it a value, a fault with its mark or a question; and on the laws of `Chooser`.
 #![tactic(auto)]
 
 mod chooser;

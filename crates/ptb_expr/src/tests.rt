@@ -4,7 +4,7 @@ ghost use Rattle.std.specs.Prelude.{◌≤◌, length, take, Some};
 
 use super::*;
 use ptb_text::Cursor;
-use std::alloc::Global;
+use std::alloc::{AllocError, Global};
 use std::test::Fail;
 
 // A value, and the place after the expression.
@@ -47,6 +47,21 @@ fn expressions(rt: HostRuntime) -> Result<(), Fail> {
         ("5(", Ok((5, 1))),
         ("  SIZE", Ok((4, 6))),
         ("2*(3+4)/S.-A.(0-5)", Ok((-2, 18))),
+        ("(0-7)/(0-2)", Ok((3, 11))),
+        ("8/2*2-7-3", Ok((-2, 9))),
+        ("+5- 3", Ok((2, 5))),
+        ("-7/2*2", Ok((-6, 6))),
+        ("RN(6)", Ok((0, 1))),
+        ("R(6)", Ok((0, 1))),
+        ("AB.(-3)", Ok((3, 7))),
+        ("SIZE(1)", Ok((4, 4))),
+        ("0012 3", Ok((12, 5))),
+        ("3>=3", Ok((1, 4))),
+        ("3#3", Ok((0, 3))),
+        ("2<3=1", Ok((1, 3))),
+        ("(2<3)=1", Ok((1, 7))),
+        ("-1>0", Ok((0, 4))),
+        ("-32767*1", Ok((-32767, 8))),
         ("2*-3", fault(FaultKind::What, 2)),
         ("7> =8", fault(FaultKind::What, 3)),
         ("(3+4", fault(FaultKind::What, 4)),
@@ -54,16 +69,32 @@ fn expressions(rt: HostRuntime) -> Result<(), Fail> {
         ("5+ ", fault(FaultKind::What, 3)),
         (" ", fault(FaultKind::What, 0)),
         ("R. 6", fault(FaultKind::What, 3)),
+        ("+-1", fault(FaultKind::What, 1)),
+        ("--1", fault(FaultKind::What, 1)),
+        ("RND", fault(FaultKind::What, 3)),
+        ("@ ", fault(FaultKind::What, 2)),
+        ("A.(", fault(FaultKind::What, 3)),
+        ("R.(0", fault(FaultKind::What, 4)),
+        ("@(3 ", fault(FaultKind::What, 4)),
+        ("1>= ", fault(FaultKind::What, 4)),
+        (".1", fault(FaultKind::What, 0)),
         ("(1/0", fault(FaultKind::How, 4)),
         ("1/0", fault(FaultKind::How, 3)),
         ("32767+1", fault(FaultKind::How, 7)),
         ("32768 ", fault(FaultKind::How, 6)),
         ("200*200+2", fault(FaultKind::How, 7)),
+        ("(-16384) *2 ", fault(FaultKind::How, 12)),
+        ("(-32767-1)/1", fault(FaultKind::How, 12)),
+        ("(-32767-1)/(0-1)", fault(FaultKind::How, 16)),
+        ("-32768", fault(FaultKind::How, 6)),
+        ("-32767-2", fault(FaultKind::How, 8)),
+        ("0-32767-1-1+1", fault(FaultKind::How, 11)),
         ("-(-32767-1)", fault(FaultKind::How, 11)),
         ("-2*16384", fault(FaultKind::How, 8)),
         ("A.(-32767-1)", fault(FaultKind::How, 12)),
         ("R.(0)", fault(FaultKind::How, 5)),
         ("@(-1)", fault(FaultKind::How, 5)),
+        ("@(32767) ", fault(FaultKind::Sorry, 9)),
         ("@(3)", fault(FaultKind::Sorry, 4)),
     ] {
         assert!(rt; worth(&store, text.as_bytes(), &[]) == (want, 0), "{text}");
@@ -77,14 +108,45 @@ fn answers(rt: HostRuntime) -> Result<(), Fail> {
     for (given, want, left) in [
         (&[2, 5][..], Ok((7, 11)), 0),
         (&[2, 5, 3][..], Ok((7, 11)), 1),
+        (&[6, 1, 9][..], Ok((7, 11)), 1),
         (&[2][..], pause(Pause::Ended), 0),
         (&[][..], pause(Pause::Ended), 0),
+        (&[7][..], pause(Pause::OutOfRange(7)), 1),
+        (&[-1][..], pause(Pause::OutOfRange(-1)), 1),
         (&[2, 7][..], pause(Pause::OutOfRange(7)), 1),
         (&[0][..], pause(Pause::OutOfRange(0)), 1),
     ] {
         assert!(rt;
             worth(&store, b"R.(6)+R.(6)", given) == (want, left),
             "{left}"
+        );
+    }
+    Ok(())
+}
+
+// A question comes before what is wrong behind it, and after what is wrong in front.
+#[test]
+fn questions_in_order(rt: HostRuntime) -> Result<(), Fail> {
+    let store = Store::new(rt.alloc(), 4)?;
+    for (text, given, want, left) in [
+        ("R.(9)-R.(9)", &[2, 5][..], Ok((-3, 11)), 0),
+        ("R.(R.(9))", &[5, 4][..], Ok((4, 9)), 0),
+        ("R.(1)", &[1][..], Ok((1, 5)), 0),
+        ("R.(1)", &[][..], pause(Pause::Ended), 0),
+        ("R.(32767)", &[32767][..], Ok((32767, 9)), 0),
+        ("R.(6)+?", &[][..], pause(Pause::Ended), 0),
+        ("R.(6)+?", &[3][..], fault(FaultKind::What, 6), 0),
+        ("R.(6)/0", &[3][..], fault(FaultKind::How, 7), 0),
+        ("1/0+R.(6)", &[3][..], fault(FaultKind::How, 3), 1),
+        ("R.(6", &[3][..], fault(FaultKind::What, 4), 1),
+        ("(R.(6)", &[3][..], fault(FaultKind::What, 6), 0),
+        ("R.(-1)", &[3][..], fault(FaultKind::How, 6), 1),
+        ("@(R.(6))", &[3][..], fault(FaultKind::Sorry, 8), 0),
+        ("2>R.(2)", &[2][..], Ok((0, 7)), 0),
+    ] {
+        assert!(rt;
+            worth(&store, text.as_bytes(), given) == (want, left),
+            "{text}"
         );
     }
     Ok(())
@@ -143,6 +205,15 @@ fn stored_values(rt: HostRuntime) -> Result<(), Fail> {
     assert!(rt; store.element(3) == Err(FaultKind::Sorry));
     assert!(rt; worth(&store, b"Z-A*@(2)+S.", &[]) == (Ok((98, 11)), 0));
     Ok(())
+}
+
+// Passes whether or not the array is refused memory.
+#[test]
+fn refused_array(rt: HostRuntime) {
+    match Store::new(rt.alloc(), 5) {
+        Ok(store) => assert!(rt; store.element(2) == Ok(0)),
+        Err(AllocError) => {}
+    }
 }
 
 // Gives the answers of a list, and keeps the bounds.

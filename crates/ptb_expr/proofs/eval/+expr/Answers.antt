@@ -1,5 +1,5 @@
 -- This file answers what is left to prove of the functions that read an expression.
-use Rattle.std.proofs.Common.{rules, arith, ◌≡◌, ◌∙◌, sym, ap, length, Some, None, refl}
+use Rattle.std.proofs.Common.{rules, arith, ◌≡◌, ◌∙◌, ap, length, Some, None, refl}
 use Rattle.std.proofs.lemmas.Int.{to_z-of_z}
 use Rattle.std.proofs.lemmas.Result.{err_from_is_err_and}
 use mir.Syntax.{w16}

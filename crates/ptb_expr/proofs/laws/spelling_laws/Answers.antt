@@ -1,6 +1,6 @@
 -- This file proves the laws of the grammar.
 use Rattle.std.proofs.Common.{subst}
-use Rattle.ptb_expr.specs.Reading.{Whole, expr, expression, variable_tree}
+use Rattle.ptb_expr.specs.Reading.{Whole, expr, expression}
 use Rattle.ptb_expr.specs.Spells.{Expr, Variable, Spells}
 use Rattle.ptb_expr.proofs.Spelling.{ahead, expr_spelled, expression_spelled, variable_tree_spelled}
 use Rattle.ptb_expr.proofs.Uniqueness.{unique}

@@ -1,0 +1,86 @@
+#!/bin/sh
+# Times the lower crates through their public calls: expressions worked out, and a text of 1 MiB loaded.
+# It builds a small program over copies of the crates, in a folder of its own, and shows the best of five runs.
+set -eu
+root=$(dirname "$(readlink -f "$0")")/..
+room=$(mktemp -d)
+trap 'rm -rf "$room"' EXIT
+mkdir -p "$room/crates/parts/src"
+cp -a "$root/crates/ptb_text" "$root/crates/ptb_expr" "$room/crates/"
+rm -rf "$room"/crates/ptb_*/must-fail
+cp "$root/HANDLES" "$room/"
+{
+    grep -E '^ptb_(text|expr):' "$root/crates.txt"
+    echo 'parts: ptb_expr ptb_text'
+} >"$room/crates.txt"
+git init -q "$room"
+
+cat >"$room/crates/parts/src/main.rt" <<'END'
+// This file works expressions out and loads a text, again and again, and tells what that takes.
+#![tactic(auto)]
+
+use ptb_expr::{Listed, Stop, Store, evaluate};
+use ptb_text::{Cursor, Device, load};
+use std::io;
+use std::time::Instant;
+
+const TURNS: u32 = 10_000_000;
+
+const LINES: u32 = 16_384;
+
+// The values of an expression, added up over all turns.
+fn sum(text: &[u8], store: &Store) -> Result<i64, Stop> {
+    let mut sum: i64 = 0;
+    for _ in 0..TURNS {
+        let mut cursor = Cursor::new(text, 0);
+        let value = evaluate(&mut cursor, store, &mut Listed::new(&[]))?;
+        sum = sum.wrapping_add(i64::from(value));
+    }
+    Ok(sum)
+}
+
+fn main(rt: HostRuntime) -> io::Result<()> {
+    let mut store = Store::new(rt.alloc(), 4000)?;
+    store.set(b'I', 3);
+    store.set(b'J', 50);
+    for text in ["1", "J/7*7+I", "(I+1)*(J-1)", "I*2<=J+1", "@(I+1)", "ABS(I-J)"] {
+        let start = Instant::now(&rt)?;
+        let sum = sum(text.as_bytes(), &store).unwrap_or(0);
+        let spent = start.elapsed(&rt)?.as_millis();
+        println!(rt; "{text}: {spent} ms for 10000000 evaluations, sum {sum}")?;
+    }
+
+    // 64 bytes a line; each number comes again and again, so that the program has room
+    let mut text = Vec::new(rt.alloc());
+    for at in 0..LINES {
+        let number = 10_000 + at % 256;
+        let line = format!(in rt.alloc(); "{number} REM {:053}\n", at)?;
+        text.extend_from_slice(line.as_bytes())?;
+    }
+    let start = Instant::now(&rt)?;
+    let mut reader = Device::new(text.as_slice());
+    let program = load(rt.alloc(), 32_767, &mut reader);
+    let spent = start.elapsed(&rt)?.as_millis();
+    let count = program.as_ref().map(|p| p.len()).unwrap_or(0);
+    let bytes = text.len();
+    println!(rt; "{bytes} bytes of comments: loaded in {spent} ms, {count} statements are left")
+}
+END
+cd "$room/crates/parts"
+if ! rt run >"$room/log" 2>&1; then
+    cat "$room/log" >&2
+    exit 1
+fi
+for _ in 1 2 3 4 5; do ./out/parts; done | awk '
+{
+    name = $0
+    sub(/: .*/, "", name)
+    match($0, /[0-9]+ ms/)
+    spent = substr($0, RSTART, RLENGTH - 3) + 0
+    if (!(name in best)) names[++count] = name
+    if (!(name in best) || spent < best[name]) {
+        best[name] = spent
+        line[name] = $0
+    }
+}
+END { for (at = 1; at <= count; at++) print line[names[at]] }'
