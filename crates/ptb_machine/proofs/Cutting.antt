@@ -6,7 +6,7 @@ use Rattle.std.proofs.lemmas.Bool.{eqb-true, ne_eqb, eq-eqb}
 use Rattle.std.proofs.lemmas.List.{map-append, take_all, take-append-drop}
 use Rattle.std.proofs.lemmas.List.Elements.{filter-append}
 use Rattle.std.specs.Str.Lines.{strip_carriage_return}
-use Rattle.ptb_text.specs.Lines.{onto_first, pieces, lines, tab_as_space, is_printable, line_limit, clean_line, input_lines}
+use Rattle.ptb_text.specs.Lines.{onto_first, pieces, tab_as_space, is_printable, line_limit, clean_line, input_lines}
 use Rattle.ptb_machine.specs.Cutting.{begun_piece, cleaned_byte, with_byte, kept_bytes, whole_lines, last_piece, last_line, Cuts, AddsLines}
 
 -- ---- one byte more
@@ -149,7 +149,7 @@ AddsUpTo_all p q r bytes rest old new before part =
     let all = AddsLines_more p q r before.front rest old new [] before.adds part in
     subst (λ (l : List ℕ). AddsLines p l old new r) (sym before.whole) (sym (append-nil new) ∙ all.0, all.1)
 
--- ---- a byte 13 at the end of a piece is dropped like any other
+-- ---- a byte 13 in front of a byte 10 is no exception
 
 pub clean_line-return : (l : List ℕ) → clean_line (l ++ 13 ∷ []) ≡ clean_line l
 clean_line-return l =

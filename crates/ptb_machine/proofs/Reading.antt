@@ -1,9 +1,9 @@
 -- This file proves how the input lines come about while an input is read in pieces.
-use Rattle.std.proofs.Common.{◌≡◌, ℕ, ◌+◌, ◌-◌, ◌≤◌, List, [], ◌∷◌, ◌++◌, length, Option, None, IfSome, refl, sym, ap, ◌∙◌, append-nil, append_assoc, arith, length-append}
+use Rattle.std.proofs.Common.{◌≡◌, ℕ, ◌+◌, ◌-◌, ◌≤◌, List, [], ◌∷◌, ◌++◌, length, Option, None, IfSome, refl, sym, ap, ◌∙◌, append-nil, arith, length-append}
 use Rattle.std.specs.Io.KnownBytes.{Consumes, IsAtEnd}
 use Rattle.std.proofs.KnownBytes.{Consumes-nil, Consumes-trans, Consumes-whole}
 use Rattle.ptb_text.specs.Lines.{input_lines}
-use Rattle.ptb_machine.specs.Cutting.{last_line, last_piece, whole_lines, Cuts, AddsLines}
+use Rattle.ptb_machine.specs.Cutting.{last_line, whole_lines, Cuts, AddsLines}
 use Rattle.ptb_machine.specs.Sources.{ConsumesAtMost}
 use Rattle.ptb_machine.proofs.Cutting.{Cuts_none, Cuts_more, input_lines-cut}
 

@@ -22,6 +22,9 @@ answer_rows = record {
   no_answer = refl;
   bad_answer = refl;
   bound_of_0 = refl;
+  index_before_equals = refl;
+  first_value_before_to = refl;
+  roll_before_fault = refl;
 }
 
 pub print_rows : PrintRows
@@ -39,6 +42,14 @@ print_rows = record {
   if_short = refl;
   size_short = refl;
   memory_left = refl;
+  newline = refl;
+  open_line = refl;
+  newline_before_end = refl;
+  width_of_each = refl;
+  least_width = refl;
+  width_below_0 = refl;
+  no_first_item = refl;
+  no_item = refl;
 }
 
 pub input_rows : InputRows
@@ -51,6 +62,20 @@ input_rows = record {
   text_behind_value = refl;
   unread = refl;
   input_quote = refl;
+  index_asks_again = refl;
+  string_again = refl;
+  operator_alone = refl;
+  parenthesis_behind = refl;
+  empty_line = refl;
+  number_too_big = refl;
+  no_room = refl;
+  variables_then = refl;
+  blanks_of_prompt = refl;
+  return_before = refl;
+  faulty_item = refl;
+  no_item = refl;
+  no_second_item = refl;
+  no_variable = refl;
 }
 
 pub loop_rows : LoopRows
@@ -65,6 +90,23 @@ loop_rows = record {
   nested64 = refl;
   no_call = refl;
   limit = refl;
+  newer_loop_stays = refl;
+  older_loop_ends = refl;
+  newer_loops_end = refl;
+  down = refl;
+  step_0 = refl;
+  limit_after_first = refl;
+  no_letter = refl;
+  outer_loop_again = refl;
+  outer_loop_unseen = refl;
+  loop_of_each_level = refl;
+  no_such_subroutine = refl;
+  subroutine_not_last = refl;
+  return_semicolon = refl;
+  stop_semicolon = refl;
+  end_at_limit = refl;
+  limit_after_one = refl;
+  limit_before_fault = refl;
 }
 
 pub fault_rows : FaultRows
@@ -84,6 +126,17 @@ fault_rows = record {
   period = refl;
   letter_alone = refl;
   print_period = refl;
+  mark_behind_blank = refl;
+  blank_at_end = refl;
+  fresh_line = refl;
+  element_not_opened = refl;
+  prompt_not_opened = refl;
+  if_semicolon = refl;
+  if_alone = refl;
+  first_of_table = refl;
+  small_letters = refl;
+  never_reached = refl;
+  no_equals = refl;
 }
 
 pub array_rows : ArrayRows
@@ -119,4 +172,8 @@ step_rows = record {
   endless_calls = refl;
   nested = refl;
   empty = refl;
+  newer_loop_stays = refl;
+  fault = refl;
+  semicolon = refl;
+  empty_command = refl;
 }

@@ -2,7 +2,7 @@
 --     parts_course parts w operands    the parts of a command, one after the other
 --     finish kind p q ..               what a command does once its parts are done
 --     act p q c                        a whole command, whose fault is reported
-use Rattle.std.specs.Prelude.{ℕ, ◌+◌, ◌-◌, Bool, true, false, not, ◌&&◌, ◌||◌, ◌==◌, nat_le, nat_lt, if◌then◌else◌, List, [], ◌∷◌, ◌++◌, length, take, drop, filter, replicate, slice_index, Option, Some, None, is_some, Result, Ok, Err, ℤ, pos, negsuc, neg_ℤ, ◌+ℤ◌, int_lt, int_le, codes, decimal}
+use Rattle.std.specs.Prelude.{ℕ, ◌+◌, ◌-◌, Bool, true, false, not, ◌||◌, ◌==◌, nat_le, if◌then◌else◌, List, [], ◌∷◌, ◌++◌, length, take, drop, filter, replicate, slice_index, Option, Some, None, is_some, Result, Ok, Err, ℤ, pos, negsuc, neg_ℤ, ◌+ℤ◌, int_lt, codes, decimal}
 use Rattle.std.specs.List.{slice_index_or}
 use Rattle.std.specs.Ordering.{int_eq}
 use Rattle.std.specs.Fmt.{signed_decimal}
@@ -13,16 +13,16 @@ use Rattle.ptb_expr.specs.declared.fault.Fault.{Fault}
 use Rattle.ptb_expr.specs.declared.fault.FaultKind.{FaultKind}
 use Rattle.ptb_expr.specs.declared.fault.FaultKind.TheVariants as kinds
 use Rattle.ptb_expr.specs.declared.store.Target.{Target}
-use Rattle.ptb_expr.specs.Outcome.{Answers, Outcome, Done, go_on, map_outcome, success, failure}
-use Rattle.ptb_expr.specs.Store.{Cells, value_at, with_value}
+use Rattle.ptb_expr.specs.Outcome.{Answers, Outcome, map_outcome}
+use Rattle.ptb_expr.specs.Store.{value_at, with_value}
 use Rattle.ptb_expr.specs.Tree.{Tree}
 use Rattle.ptb_expr.specs.Reading.{Reading, Whole, Spoilt, item_of, expression}
-use Rattle.ptb_expr.specs.Value.{Work, fault, or_fault, in_range, value, target_of, with_target}
+use Rattle.ptb_expr.specs.Value.{fault, or_fault, in_range, value, target_of, with_target}
 use Rattle.ptb_machine.specs.declared.ending.Ending.{Ending}
 use Rattle.ptb_machine.specs.declared.ending.Ending.TheVariants as endings
 use Rattle.ptb_machine.specs.Commands.{Part, Assign, Say, Width, Show, NewLine, Take, Letter, Operand, Defect, Command}
 use Rattle.ptb_machine.specs.State.{Place, Loop, Call, State, nesting, nesting_limit, beginning_of, place_after, next_index, text_of}
-use Rattle.ptb_machine.specs.Courses.{Halt, Faults, Ends, Progress, Goes, Halts, Course, and_then, goes_on, halt, change, show, attempt, worked}
+use Rattle.ptb_machine.specs.Courses.{Faults, Ends, Progress, Goes, Halts, Course, and_then, goes_on, halt, change, show, attempt, worked}
 
 -- ---- values
 
@@ -40,7 +40,7 @@ store at v = change (λ S. record S { cells = with_target S.cells at v })
 abbrev pub newline : List ℕ
 newline = 10 ∷ []
 
--- decimals with blanks on the left, up to the width
+-- decimals, with as many blanks before them as the width needs
 abbrev pub padded_decimal : ℕ → ℤ → List ℕ
 padded_decimal w v = let s = signed_decimal v in replicate (w - length s) 32 ++ s
 
@@ -73,7 +73,7 @@ abbrev pub ask_for : List ℕ → Tree → List ℕ → Course Target
 ask_for said x prompt =
     and_then (show said) (λ _. and_then (target_course x) (λ at. and_then (show prompt) (λ _. goes_on at)))
 
--- a value is stored; a fault shows its word, and the item is done again
+-- a value goes into the variable; for a fault its word is shown, and the item starts over
 abbrev pub store_or_again : Target → Course (Unit {0}) → Result ℤ Fault → Course (Unit {0})
 store_or_again at again (Ok v) = store at v
 store_or_again at again (Err f) = and_then (show (word_of f.kind ++ newline)) (λ _. again)

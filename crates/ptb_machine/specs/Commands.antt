@@ -1,9 +1,9 @@
 -- This file defines a statement as a list of commands. A command is its word and its parts in order.
 --     commands t               the commands of the statement text t
 --     commands_from t i        those from place i on
---     command_at t i           the command at place i: without a word it is a LET
+--     command_at t i           the command at place i; LET where no word stands
 --     parts_of word t i        the parts of a command whose word ends at i
-use Rattle.std.specs.Prelude.{ℕ, ◌+◌, Bool, true, false, ◌||◌, is_some, if◌then◌else◌, List, [], ◌∷◌, ◌++◌, reverse, Option, Some, None, slice_range, ℤ, pos}
+use Rattle.std.specs.Prelude.{ℕ, Bool, true, false, ◌||◌, is_some, if◌then◌else◌, List, [], ◌∷◌, ◌++◌, reverse, Option, Some, None, slice_range, pos}
 use Rattle.ptb_text.specs.declared.word.Table.TheVariants.{Commands, To, Step}
 use Rattle.ptb_text.specs.declared.word.Word.{Word}
 use Rattle.ptb_text.specs.declared.word.Word.TheVariants.{NextKw, LetKw, IfKw, GotoKw, GosubKw, ReturnKw, RemKw, ForKw, InputKw, PrintKw, StopKw}
@@ -237,7 +237,7 @@ abbrev pub command_unless : List ℕ → ℕ → Bool → Round Command
 command_unless t i true = Last (Whole [] i)
 command_unless t i false = after_command t (command_at t i) (command_at t i).parts
 
--- the list ends where only blanks are left, and after a spoilt command
+-- behind the last command, or a spoilt one, nothing more is read
 unfoldable pub command_round : List ℕ → ℕ → Round Command
 command_round t i = command_unless t i (is_over t i)
 

@@ -1,5 +1,5 @@
 -- This file proves the laws of a list of lines that is taken line by line, as a line source has to keep them.
-use Rattle.std.proofs.Common.{◌≡◌, ℕ, ◌+◌, ◌-◌, ◌≤◌, List, [], ◌∷◌, ◌++◌, length, drop, Some, refl, sym, ap, ◌∙◌, append_assoc, arith, length-append, length-drop}
+use Rattle.std.proofs.Common.{◌≡◌, ℕ, ◌+◌, ◌-◌, ◌≤◌, List, [], ◌++◌, length, drop, Some, refl, sym, ap, ◌∙◌, append_assoc, arith, length-append, length-drop}
 use Rattle.ptb_machine.specs.Sources.{Loses, LineList, Gives}
 
 pub Gives_none : (s : LineList) → Gives s [] s

@@ -2,7 +2,7 @@
 --     turn p limit S           the next thing that a run does
 --     play p input limit a     what a run of the program p comes to with the answers a
 --     plain p input limit a    the bytes and the ending of a plain run
-use Rattle.std.specs.Prelude.{ℕ, zero, suc, ◌-◌, nat_le, Bool, true, false, List, [], ◌∷◌, Option, Some, None}
+use Rattle.std.specs.Prelude.{ℕ, zero, suc, ◌-◌, nat_le, Bool, true, false, List, Option, Some, None}
 use Rattle.ptb_text.specs.Statements.{StoredProgram}
 use Rattle.ptb_expr.specs.Outcome.{Answers, Outcome, Done, Asks, Out, go_on, map_outcome}
 use Rattle.ptb_machine.specs.declared.ending.Ending.{Ending}

@@ -32,12 +32,12 @@ line_questions l = questions (item_of (expression l 0))
 abbrev pub program_questions : Statements → ℕ
 program_questions p = sum_by (λ s. text_questions s.1) p
 
--- the RNDs in the program's commands and in the expressions of the input lines
+-- all RNDs: those of the statements, and those that input lines begin with
 abbrev pub all_questions : Statements → List (List ℕ) → ℕ
 all_questions p input = program_questions p + sum_by line_questions input
 
--- A command asks each of them once at first; each line that is taken adds as many for its own expression,
--- and as many for the item that is done again.
+-- A step asks each of these at most once before its first line. Each line may ask them twice more: in what it says,
+-- and when its item starts over.
 abbrev pub most_answers : StoredProgram → List (List ℕ) → ℕ → ℕ
 most_answers p input limit = all_questions p.lines input * (limit + 2 * length input)
 

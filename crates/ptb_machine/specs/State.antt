@@ -1,7 +1,7 @@
 -- This file defines the state of a run.
 --     first_state p input              where a run begins
 --     next_command p place             the command that is next at a place, with its own place
-use Rattle.std.specs.Prelude.{ℕ, ◌+◌, ◌-◌, ◌/◌, List, [], ◌∷◌, ◌++◌, length, Option, Some, None, unwrap_or, ℤ, pos, sum_by, slice_get, option_map}
+use Rattle.std.specs.Prelude.{ℕ, ◌+◌, List, [], length, Option, Some, None, unwrap_or, ℤ, pos, sum_by, slice_get, option_map}
 use Rattle.ptb_text.specs.Statements.{Statements, StoredProgram, text_at, first_number, number_after, size_of}
 use Rattle.ptb_expr.specs.Store.{Cells, empty_cells}
 use Rattle.ptb_machine.specs.Commands.{Command, commands}
@@ -24,7 +24,7 @@ pub record Call : Type 0 where
   pub loops : List Loop
 
 -- where a run stands: at the end no place is left; the loops of the newest level, newest first; the calls, newest first;
--- the input lines left, the bytes shown, and the commands begun so far
+-- what is left of the input, what was shown, and how many commands were begun
 pub record State : Type 0 where
   pub place : Option Place
   pub cells : Cells
@@ -83,7 +83,7 @@ next_command p (Some q) = command_or_next p q (command_there p q)
 
 -- ---- the first state
 
--- the first command of the lowest number is next, all variables and elements are 0, and nothing is open
+-- a run starts at the least number, with zeros everywhere and nothing open
 abbrev pub first_state : StoredProgram → List (List ℕ) → State
 first_state p input = record {
   place = first_place p.lines;

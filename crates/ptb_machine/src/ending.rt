@@ -13,7 +13,7 @@ pub enum Ending {
     How,
     /// A fault `SORRY`.
     Sorry,
-    /// The limit on steps was met.
+    /// As many commands were begun as the limit allows, and one more would follow.
     Limit,
     /// INPUT found no line left.
     NoInput,

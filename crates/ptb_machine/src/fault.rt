@@ -1,7 +1,8 @@
-// This file says why bytes are not shown, and why an input line is not given.
+// This file says why bytes are not shown, why an input line is not given, and why a run isn't done.
 
 ghost use Rattle.std.specs.Prelude.{◌≡◌};
 ghost use Rattle.ptb_machine.specs.declared.fault.ReadFault.TheVariants.{Memory, Read};
+ghost use Rattle.ptb_machine.specs.declared.fault.RunFault.TheVariants.{Memory as RunMemory};
 ghost use Rattle.ptb_machine.specs.declared.fault.ScreenFault.TheVariants.{Memory as ScreenMemory, Write};
 
 use ptb_text::DeviceFault;
@@ -41,7 +42,7 @@ pub enum ReadFault {
     /// The reader failed.
     #[error("cannot read the input")]
     Read,
-    /// The input has more than 16,777,216 bytes.
+    /// The input is longer than [`crate::INPUT_LIMIT`] bytes.
     #[error("input too long")]
     TooLong,
     /// A growth was refused memory.
@@ -62,5 +63,43 @@ impl From<AllocError> for ReadFault {
 
     fn from(_refusal: AllocError) -> ReadFault {
         ReadFault::Memory
+    }
+}
+
+/// Why a step or a run isn't done.
+#[derive(Clone, Copy, Debug, PartialEq, Eq, Error)]
+pub enum RunFault {
+    /// A growth was refused memory.
+    #[error("out of memory")]
+    Memory,
+    /// The input could not be read, or is too long.
+    #[error("cannot read the input")]
+    Read,
+    /// The writer failed.
+    #[error("cannot write")]
+    Write,
+    /// The run was over already.
+    #[error("the run is over")]
+    Spent,
+}
+
+impl From<AllocError> for RunFault {
+    ghost from_gives = { λ _ fault. fault ≡ RunMemory };
+
+    fn from(_refusal: AllocError) -> RunFault {
+        RunFault::Memory
+    }
+}
+
+impl From<ScreenFault> for RunFault {
+    ghost use Rattle.ptb_machine.specs.Steps.{fault_of_screen};
+
+    ghost from_gives = { λ fault r. r ≡ fault_of_screen fault };
+
+    fn from(fault: ScreenFault) -> RunFault {
+        match fault {
+            ScreenFault::Write => RunFault::Write,
+            ScreenFault::Memory => RunFault::Memory,
+        }
     }
 }

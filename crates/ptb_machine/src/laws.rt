@@ -1,5 +1,6 @@
 // This file states the laws of commands and runs.
 
+ghost use Rattle.ptb_machine.specs.EndingLaws.{EndingLaws};
 ghost use Rattle.ptb_machine.specs.Laws.{CommandLaws, EffectLaws, RunLaws};
 
 use ptb_expr::{spelling_laws, value_laws};
@@ -27,3 +28,10 @@ pub fn run_laws()
 {
     value_laws();
 }
+
+/// A run that has its answers ends in one of seven ways: behind the last statement, at STOP, with one
+/// of the three faults, at its limit, or for want of a line.
+#[tactic(auto, using(crate::proofs::Endings::ending_laws))]
+pub fn ending_laws()
+    ensures { EndingLaws }
+{}

@@ -1,21 +1,52 @@
-//! The machine of Tiny BASIC: commands, states, and runs.
+//! The machine of Tiny BASIC: commands, the control stack, screens, sources of input lines, runs.
+//!
+//! It stands on `ptb_expr`, `ptb_text`, `arrayvec`, `itoa` and `thiserror`. The crate above may rely
+//! on `Machine::step` (one turn of `specs/Play`: the state after it, what it shows, the lines and
+//! answers it takes), on `run` (all turns), on `run_laws` (answers are taken one by one, a limited
+//! number of them), and on `read_lines`.
 #![tactic(auto)]
 
+mod acting;
+mod assign;
+mod calls;
 mod cutter;
 mod ending;
 mod fault;
+mod input;
+mod jumps;
 mod laws;
+mod levels;
 mod lines;
+mod loops;
+mod machine;
+mod next;
+mod open;
+mod print;
+mod registers;
+mod report;
 mod rows;
+mod running;
 mod screen;
+mod showing;
+mod spot;
+mod statements;
+mod stepping;
+mod stop;
+mod tokens;
+mod values;
 mod whole_input;
 
 pub use ending::Ending;
-pub use fault::{ReadFault, ScreenFault};
-pub use laws::{command_laws, effect_laws, run_laws};
+pub use fault::{ReadFault, RunFault, ScreenFault};
+pub use laws::{command_laws, effect_laws, ending_laws, run_laws};
 pub use lines::{Line, LineSource, Lines};
+pub use machine::Machine;
 pub use rows::{
     answer_rows, array_rows, fault_rows, input_rows, long_rows, loop_rows, print_rows, step_rows,
 };
+pub use running::run;
 pub use screen::{Screen, TextScreen, WriterScreen};
 pub use whole_input::{INPUT_LIMIT, read_lines};
+
+#[cfg(test)]
+mod tests;

@@ -31,10 +31,12 @@ pub trait LineSource {
     ///
     /// # Errors
     ///
-    /// The fault for which it gives no line. The lines left are as they were then.
+    /// [`ReadFault::Read`] where the input could not be read, [`ReadFault::TooLong`] where it has too
+    /// many bytes, [`ReadFault::Memory`] where a growth was refused memory. No line is taken then.
     fn next(&mut self) -> Result<Option<&[u8]>, ReadFault>
         ensures* after { sem 𝓛 (Rests Self.row self.entry (λ new.
-            gives self.old (given_lines result) new × IfErr result (refused new))) }
+            gives self.old (given_lines result) new × IfErr result (refused new)
+            × IfOk result (λ line. IfNone line (NoneLeft (lines new))))) }
         ensures end { IfOk result (λ line. IfNone line (NoneLeft (lines self.old))) };
 
     /// With no call it gives nothing.
@@ -64,8 +66,8 @@ impl Model for Line {
 }
 
 impl Line {
-    /// The line that these bytes are: each tab is a space, another byte outside 32 to 126 is
-    /// dropped, and of the others the first 255 are kept.
+    /// The line that these bytes are: tabs are made spaces, then whatever doesn't print (below 32,
+    /// above 126) goes, and then all behind the 255th byte.
     ///
     /// # Errors
     ///

@@ -31,8 +31,11 @@ pub fn read_lines<R: Read>(alloc: Global, r: &mut R) -> Result<Vec<Line>, ReadFa
     ensures within { OnOk result (IfSome (R.remaining r.old) (λ b. length b ≤ INPUT_LIMIT)) }
     ensures end { OnOk result (IsAtEnd (R.remaining r.new)) }
 
-    ensures too_long { IsErrOf result ReadFault.TooLong → IfSome (R.remaining r.old) (λ b. INPUT_LIMIT < length b) }
+    ensures too_long { IsErrOf result ReadFault.TooLong
+        → IfSome (R.remaining r.old) (λ b. INPUT_LIMIT < length b) }
     ensures read { IsErrOf result ReadFault.Read → HasFailed (R.failures r.old) (R.failures r.new) }
+    ensures unfailed { ¬ IsErrOf result ReadFault.Read
+        → R.failures r.new ≡ R.failures r.old }
     ensures later { R.failures r.old ≤ R.failures r.new }
     ensures bounded { ConsumesAtMost (R.remaining r.old) (R.remaining r.new) (INPUT_LIMIT + 1) }
 {
@@ -60,7 +63,8 @@ fn push_whole(
     cutter: &mut LineCutter,
     bytes: &[u8],
 ) -> Result<(), AllocError>
-    ensures { OnOk result (AddsLines cutter.old bytes.now lines.old.items lines.new.items cutter.new) }
+    ensures { OnOk result
+        (AddsLines cutter.old bytes.now lines.old.items lines.new.items cutter.new) }
 {
     let mut rest = bytes;
     while let Some(count) = cutter.take_line(rest) {

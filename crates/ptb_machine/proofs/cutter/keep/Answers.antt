@@ -1,4 +1,4 @@
-use Rattle.std.proofs.Common.{◌≡◌, ◌<◌, ◌≤◌, length, sym, ◌∙◌, arith, rules}
+use Rattle.std.proofs.Common.{◌<◌, ◌≤◌, length, sym, ◌∙◌, rules}
 use Rattle.std.proofs.lemmas.Bool.{eqb-true}
 use Rattle.ptb_machine.proofs.Cutting.{with_byte-full, with_byte-kept, with_byte-dropped}
 use Rattle.ptb_machine.proofs.cutter.keep.Goals as goal

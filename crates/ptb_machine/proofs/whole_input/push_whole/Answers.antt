@@ -1,6 +1,6 @@
 use Rattle.std.proofs.Common.{◌≡◌, List, ℕ, [], ◌∷◌, ◌++◌, refl, ap, ◌∙◌}
 use Rattle.ptb_machine.specs.Cutting.{kept_bytes}
-use Rattle.ptb_machine.proofs.Cutting.{AddsUpTo, AddsUpTo_more, AddsUpTo_all}
+use Rattle.ptb_machine.proofs.Cutting.{AddsUpTo_more, AddsUpTo_all}
 use Rattle.ptb_machine.proofs.whole_input.push_whole.Goals as goal
 
 pub loop-count-preserved : goal.loop-count-preserved

@@ -1,8 +1,8 @@
-use Rattle.std.proofs.Common.{◌≡◌, List, ℕ, sym, subst, arith, rules, length, take, ◌≤◌, ◌<◌, ◌++◌, drop}
+use Rattle.std.proofs.Common.{◌≡◌, List, ℕ, subst, arith, rules, length, take, ◌≤◌, drop}
 use Rattle.std.proofs.lemmas.List.{take-append-le, length-take-le}
 use Rattle.std.specs.Io.KnownBytes.{IsAtEnd}
 use Rattle.ptb_machine.specs.Cutting.{AddsLines}
-use Rattle.ptb_machine.proofs.Reading.{IsReadUpTo, IsReadUpTo_more, IsReadUpTo_bounded, IsReadUpTo_end}
+use Rattle.ptb_machine.proofs.Reading.{IsReadUpTo_more, IsReadUpTo_bounded, IsReadUpTo_end}
 use Rattle.ptb_machine.proofs.whole_input.read_lines.Goals as goal
 
 pub returns-then-count-eq0-clause-lines : goal.returns-then-count-eq0-clause-lines

@@ -1,5 +1,5 @@
-use Rattle.std.proofs.Common.{◌≡◌, length, arith, subst, sym}
-use Rattle.ptb_machine.proofs.Cutting.{CutsUpTo, CutsUpTo_none, CutsUpTo_more, CutsUpTo_all, CutsUpTo_end}
+use Rattle.std.proofs.Common.{arith}
+use Rattle.ptb_machine.proofs.Cutting.{CutsUpTo_none, CutsUpTo_more, CutsUpTo_all, CutsUpTo_end}
 use Rattle.ptb_machine.proofs.cutter.LineCutter.take_line.Goals as goal
 
 pub loop-i-init : goal.loop-i-init

@@ -1,4 +1,4 @@
-use Rattle.std.proofs.Common.{◌≡◌, sym, ap, ◌∙◌, get_or}
+use Rattle.std.proofs.Common.{sym, ap, ◌∙◌, get_or}
 use Rattle.ptb_machine.specs.Cutting.{kept_bytes, with_byte}
 use Rattle.ptb_machine.proofs.Cutting.{clean_line-take}
 use Rattle.ptb_machine.proofs.lines.Line.clean.Goals as goal

@@ -1,0 +1,27 @@
+use Rattle.std.proofs.Common.{◌≡◌, [], refl, rules, to_z, of_z, w16}
+use Rattle.ptb_text.specs.declared.word.Word.TheVariants.{InputKw}
+use Rattle.ptb_machine.specs.Configuration.{configuration}
+use Rattle.ptb_machine.proofs.Doing.{parts_stopped, plain_done, input_plain}
+use Rattle.ptb_machine.proofs.registers.Registers.do_input.Goals as goal
+
+pub returns-in_err-to : goal.returns-in_err-to
+returns-in_err-to g c =
+    let done = c.in_err-to.ensures.comes in (
+      done.0,
+      (
+        done.1.0,
+        λ p q before begun. parts_stopped _ p _ _ _ _ q InputKw _ _ _ _ c.from_residual.ensures.1 (record { place = refl; stack = refl; steps = refl }) (done.1.1 before),
+      ),
+    )
+
+pub returns : goal.returns
+returns g c =
+    let same : to_z w16 (of_z w16 c.args.number) ≡ c.args.number = search rules in
+    let done = c.in_ok-to.ensures.comes in (
+      done.0,
+      (
+        done.1.0,
+        λ p q before begun. plain_done c.command_laws.ensures p _ (record (configuration c.args.self.now) { cells = c.input.new.store; fresh = c.input.new.fresh }) _ _ _ q _ (to_z w16 (of_z w16 c.args.number)) _ _ c.in_ok-to.to _ InputKw input_plain
+            (record { place = refl; stack = refl; steps = refl }) same refl begun c.in_ok-to.ensures.closed c.follow-at.ensures [] (done.1.1 before),
+      ),
+    )

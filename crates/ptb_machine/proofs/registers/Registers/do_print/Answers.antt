@@ -1,0 +1,17 @@
+use Rattle.std.proofs.Common.{[], refl, rules, to_z, of_z, w16}
+use Rattle.ptb_text.specs.declared.word.Word.TheVariants.{PrintKw}
+use Rattle.ptb_machine.specs.Commands.{parts_of}
+use Rattle.ptb_machine.specs.Configuration.{configuration}
+use Rattle.ptb_machine.proofs.Doing.{parts_stopped, plain_done, print_plain}
+use Rattle.ptb_machine.proofs.registers.Registers.do_print.Goals as goal
+
+pub returns-in_err-to : goal.returns-in_err-to
+unfolding parts_of
+returns-in_err-to g c p q given begun =
+    parts_stopped _ p _ _ _ _ q PrintKw _ _ _ _ c.from_residual.ensures.1 (record { place = refl; stack = refl; steps = refl }) (c.in_err-to.ensures.comes given)
+
+pub returns : goal.returns
+unfolding parts_of
+returns g c p q given begun =
+    plain_done c.command_laws.ensures p _ (record (configuration c.args.self.now) { fresh = c.print.new.fresh }) _ _ _ q _ (to_z w16 (of_z w16 c.args.number)) _ _ c.in_ok-to.to _ PrintKw print_plain
+    (record { place = refl; stack = refl; steps = refl }) (search rules) refl begun c.in_ok-to.ensures.closed c.follow-at.ensures [] (c.in_ok-to.ensures.comes given)

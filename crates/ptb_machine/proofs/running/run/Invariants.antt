@@ -1,0 +1,17 @@
+-- This file says what a run has come to before each step.
+use Rattle.std.proofs.Common.{◌≡◌, ℕ, ◌-◌, false, List, []}
+use Rattle.ptb_machine.specs.Devices.{devices, screen_state}
+use Rattle.ptb_machine.specs.Steps.{FitsProgram}
+use Rattle.ptb_machine.proofs.Runs.{HasRun}
+use Rattle.ptb_machine.proofs.running.run.Given as goal
+
+abbrev pub invariant-steps : goal.invariant-steps
+invariant-steps g l =
+    FitsProgram l.p l.machine × (l.machine.spent ≡ false)
+    × ((given : List (List ℕ)) × (g.L.LineSource.gives l.fn.i given l.i
+    × HasRun l.p l.limit l.machine
+    (devices (g.C.Chooser.choices l.fn.c) (screen_state g.S.Screen l.fn.s) [])
+    (devices (g.C.Chooser.choices l.c) (screen_state g.S.Screen l.s) given)))
+
+abbrev pub decreases-steps : goal.decreases-steps
+decreases-steps g l = l.limit - l.machine.steps

@@ -1,0 +1,76 @@
+-- This file defines what a whole run comes to: the play of its program.
+--     played_bytes o                  what a run has shown, where it is over or asks
+--     Plays p limit input o n x left  with what was exchanged, this is left of the run
+--     Runs refused p limit o n r      the run comes to the result r
+use Rattle.std.specs.Prelude.{◌≡◌, ◌⊎◌, ℕ, ◌≤◌, List, [], ◌++◌, Result, Ok, Err, ℤ}
+use Rattle.ptb_text.specs.Statements.{StoredProgram}
+use Rattle.ptb_expr.specs.declared.pause.Pause.{Pause}
+use Rattle.ptb_expr.specs.declared.pause.Pause.TheVariants as pauses
+use Rattle.ptb_expr.specs.Outcome.{Answers, Outcome, Done, Asks, Out}
+use Rattle.ptb_expr.specs.Choices.{SaysOut}
+use Rattle.ptb_machine.specs.declared.ending.Ending.{Ending}
+use Rattle.ptb_machine.specs.declared.ending.Ending.TheVariants as endings
+use Rattle.ptb_machine.specs.declared.fault.RunFault.{RunFault}
+use Rattle.ptb_machine.specs.declared.fault.RunFault.TheVariants as faults
+use Rattle.ptb_machine.specs.declared.stop.DeviceError.{DeviceError}
+use Rattle.ptb_machine.specs.declared.stop.DeviceError.TheVariants as errors
+use Rattle.ptb_machine.specs.Play.{Finish, play}
+use Rattle.ptb_machine.specs.Effects.{Begins}
+use Rattle.ptb_machine.specs.Devices.{Devices, Exchange, Exchanges, Refusal, Unanswered, NoLine, HasBroken}
+use Rattle.ptb_machine.specs.Moves.{Leaves}
+
+abbrev pub played_bytes : Outcome Finish (List ℕ) → List ℕ
+played_bytes (Done f rest) = f.shown
+played_bytes (Asks n shown) = shown
+played_bytes (Out n shown) = shown
+
+-- the run took the answers that were exchanged, each to a question with its bound
+pub record Plays (p : StoredProgram) (limit : ℕ) (input : List (List ℕ)) (o n : Devices) (x : Exchange) (left : Answers → Outcome Finish (List ℕ)) : Type 0 where
+  pub exchanges : Exchanges o n x
+  pub leaves : Leaves (play p input limit) x.answers x.bounds left
+
+-- from devices that hold o to devices that hold n, where no lines were given before; `refused` is what stands after a refusal
+module _ (refused : Refusal → Type 0) (p : StoredProgram) (limit : ℕ) (input : List (List ℕ)) (o n : Devices) where
+  -- the run is over, with these answers and whatever answers follow them; its bytes were shown
+  pub record IsFinished (ending : Ending) : Type 0 where
+    pub exchange : Exchange
+    pub steps : ℕ
+    pub plays : Plays p limit input o n exchange (λ a. Done (record { ending = ending; steps = steps; shown = exchange.bytes }) a)
+    pub within_limit : steps ≤ limit
+
+  -- the run asks, what it shows before was shown, and the chooser has refused the question
+  pub record IsUnanswered (z : Pause) : Type 0 where
+    pub exchange : Exchange
+    pub bound : ℤ
+    pub left : Answers → Outcome Finish (List ℕ)
+    pub plays : Plays p limit input o n exchange left
+    pub asks : left [] ≡ Asks bound exchange.bytes
+    pub outside : SaysOut left bound exchange.bytes z
+    pub refuses : refused (Unanswered z bound)
+
+  -- a device has failed, or was refused memory; what was shown is a beginning of what the run shows, whatever answers follow
+  pub record IsUnfinished (e : DeviceError) : Type 0 where
+    pub exchange : Exchange
+    pub left : Answers → Outcome Finish (List ℕ)
+    pub plays : Plays p limit input o n exchange left
+    pub begins : (a : Answers) → Begins exchange.bytes (played_bytes (left a))
+    pub broken : HasBroken refused o.screen n.screen e
+
+-- a run with the lines that were given, and then these
+abbrev pub RunComes : (Refusal → Type 0) → StoredProgram → ℕ → List (List ℕ) → Devices → Devices → Result Ending RunFault → Type 0
+RunComes refused p limit rest o n (Ok endings.NoInput) =
+    refused NoLine × (rest ≡ [] → IsFinished refused p limit n.given o n endings.NoInput)
+RunComes refused p limit rest o n (Ok endings.NoAnswer) = IsUnanswered refused p limit (n.given ++ rest) o n pauses.Ended
+RunComes refused p limit rest o n (Ok endings.BadAnswer) =
+    (k : ℤ) × IsUnanswered refused p limit (n.given ++ rest) o n (pauses.OutOfRange k)
+RunComes refused p limit rest o n (Ok ending) = IsFinished refused p limit (n.given ++ rest) o n ending
+-- the machine itself takes memory before the run begins
+RunComes refused p limit rest o n (Err faults.Memory) =
+    (n ≡ o) ⊎ IsUnfinished refused p limit (n.given ++ rest) o n errors.Memory
+RunComes refused p limit rest o n (Err faults.Read) = IsUnfinished refused p limit (n.given ++ rest) o n errors.Read
+RunComes refused p limit rest o n (Err faults.Write) = IsUnfinished refused p limit (n.given ++ rest) o n errors.Write
+RunComes refused p limit rest o n (Err faults.Spent) = ⊥
+
+-- in every play whose lines begin with those that the source gave; o is to have none given
+abbrev pub Runs : (Refusal → Type 0) → StoredProgram → ℕ → Devices → Devices → Result Ending RunFault → Type 0
+Runs refused p limit o n r = (rest : List (List ℕ)) → RunComes refused p limit rest o n r

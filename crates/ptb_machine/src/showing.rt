@@ -1,0 +1,51 @@
+// This file shows bytes of a run.
+
+ghost use Rattle.std.specs.Prelude.{◌≡◌};
+ghost use Rattle.ptb_expr.specs.Store.{Cells};
+ghost use Rattle.ptb_machine.specs.Courses.{goes_on, show as show_course};
+ghost use Rattle.ptb_machine.specs.Devices.{Devices, screen_state, with_screen, nothing_refused};
+ghost use Rattle.ptb_machine.specs.Moves.{trace, fresh_after};
+ghost use Rattle.ptb_machine.specs.Reports.{IsShown};
+ghost use Rattle.ptb_machine.specs.Stops.{Comes};
+
+use crate::fault::ScreenFault;
+use crate::screen::Screen;
+use crate::stop::Stop;
+
+// Whether a transcript is fresh once these bytes were shown.
+fn fresh_after(fresh: bool, bytes: &[u8]) -> bool
+    ensures { result ≡ fresh_after fresh bytes.now }
+{
+    if bytes.is_empty() {
+        fresh
+    } else {
+        bytes[bytes.len() - 1] == b'\n'
+    }
+}
+
+/// Shows bytes, and keeps whether the transcript is fresh.
+pub(crate) fn put<S: Screen>(
+    screen: &mut S,
+    fresh: &mut bool,
+    bytes: &[u8],
+) -> Result<(), ScreenFault>
+    ensures { (d : Devices) (cells : Cells) → IsShown
+        (trace (with_screen (screen_state S.Screen screen.old) d) fresh.old cells)
+        (trace (with_screen (screen_state S.Screen screen.new) d) fresh.new cells)
+        bytes.now result }
+{
+    screen.put(bytes)?;
+    *fresh = fresh_after(*fresh, bytes);
+    Ok(())
+}
+
+/// Shows bytes as a part of a command.
+pub(crate) fn show<S: Screen>(screen: &mut S, fresh: &mut bool, bytes: &[u8]) -> Result<(), Stop>
+    ensures { (d : Devices) (cells : Cells) → Comes nothing_refused
+        (trace (with_screen (screen_state S.Screen screen.old) d) fresh.old cells)
+        (trace (with_screen (screen_state S.Screen screen.new) d) fresh.new cells)
+        (show_course bytes.now) goes_on result }
+{
+    put(screen, fresh, bytes)?;
+    Ok(())
+}
