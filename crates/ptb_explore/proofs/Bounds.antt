@@ -3,6 +3,7 @@ use Rattle.std.proofs.Common.{◌≡◌, ℕ, zero, suc, List, [], ◌∷◌, �
 use Rattle.std.specs.Prelude.{ℤ, Some}
 use Rattle.ptb_expr.specs.Outcome.{Answers, Outcome, bound_of, bounds, bounds_after}
 use Rattle.ptb_expr.specs.Choices.{Choices, with_bounds, Asked, Reaches}
+use Rattle.ptb_explore.specs.Playing.{Holds}
 
 module _ {A W : Type 0} (play : Answers → Outcome A W) where
   pub length-bounds : (p a : Answers) → length (bounds_after play p a) ≡ length a
@@ -31,11 +32,6 @@ asked_bounds f [] (n ∷ bs) h = absurd h
 asked_bounds f (k ∷ ts) [] h = absurd h
 asked_bounds f (k ∷ ts) (n ∷ bs) h =
     ap (λ m. m ∷ bs) (sym (ap bound_of h.0.1)) ∙ ap (λ l. bound_of (f []) ∷ l) (asked_bounds (λ a. f (k ∷ a)) ts bs h.1 ∙ sym (bounds_from f (k ∷ []) [] ts))
-
--- what a chooser that keeps bounds holds, and what of play is left to be done
-pub record Holds {A W : Type 0} (play : Answers → Outcome A W) (c : Choices) (left : Answers → Outcome A W) : Type 0 where
-  pub kept : c.kept ≡ Some (bounds play c.taken)
-  pub rest : (later : Answers) → play (c.taken ++ later) ≡ left later
 
 -- functions that agree ask with the same bounds
 bounds_same : {A W : Type 0} (f g : Answers → Outcome A W) → ((a : Answers) → f a ≡ g a) → (q a : Answers) → bounds_after f q a ≡ bounds_after g q a

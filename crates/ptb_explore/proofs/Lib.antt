@@ -2,11 +2,13 @@ pub mod Order
 pub mod Lists
 pub mod Tree
 pub mod Next
+pub mod Behind
 pub mod Bounds
 pub mod Raising
 pub mod Attempt
 pub mod Recording
 pub mod Trial
+pub mod Underway
 pub mod Gathering
 pub mod ReportText
 pub mod Progress

@@ -7,13 +7,8 @@ use Rattle.std.proofs.KnownBytes.{Appends-nil, Appends-trans}
 use Rattle.ptb_text.specs.Device.{TakesSome}
 use Rattle.ptb_expr.specs.Outcome.{Answers, Outcome, IsReader}
 use Rattle.ptb_explore.specs.Runs.{Front, At, Finished, IsNextRun, IsLast, runs_after, runs_left}
-use Rattle.ptb_explore.specs.Listing.{text, behind, count_of, WritesList, WritesSome, WritesInto}
+use Rattle.ptb_explore.specs.Listing.{less_one, text, behind, count_of, WritesList, WritesSome, WritesInto}
 use Rattle.ptb_explore.proofs.Next.{left_next, left_none}
-
--- how many may still be written after one more
-abbrev pub less_one : Option ℕ → Option ℕ
-less_one None = None
-less_one (Some n) = Some (n - 1)
 
 behind_push : (f : Front) (done : List Answers) (a : Answers) → behind f (done ++ a ∷ []) ≡ At a
 behind_push f [] a = refl

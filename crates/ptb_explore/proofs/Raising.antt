@@ -1,5 +1,5 @@
 -- This file proves which answers the next run begins with.
-use Rattle.std.proofs.Common.{◌≡◌, ℕ, zero, suc, ◌+◌, ◌<◌, ◌≤◌, List, [], ◌∷◌, ◌++◌, length, take, drop, true, refl, ap, sym, ◌∙◌, arith, append_assoc, append-nil, length-append}
+use Rattle.std.proofs.Common.{◌≡◌, ℕ, zero, suc, ◌+◌, ◌<◌, ◌≤◌, List, [], ◌∷◌, ◌++◌, length, take, drop, true, refl, ap, sym, subst, ◌∙◌, arith, append_assoc, append-nil, length-append}
 use Rattle.std.specs.Prelude.{ℤ, pos, Some, None, ◌+ℤ◌, ◌≤ℤ◌, ◌<ℤ◌, int_le, slice_index_or}
 use Rattle.std.proofs.lemmas.Bool.{and_from}
 use Rattle.std.proofs.lemmas.Int.{ints}
@@ -9,6 +9,7 @@ use Rattle.ptb_explore.specs.Runs.{Front, Start, At, IsRun, IsNextRun, IsLast}
 use Rattle.ptb_explore.specs.declared.plan.Standing.{Standing}
 use Rattle.ptb_explore.specs.declared.plan.Standing.TheVariants.{AtStart, AtRun, AtEnd}
 use Rattle.ptb_explore.specs.Plans.{IsPlan, IsLastBelow, PlansNext, IsStanding, front_of, EndsAt}
+use Rattle.ptb_explore.proofs.Bounds.{length-bounds}
 use Rattle.ptb_explore.proofs.Order.{before_from_differ}
 use Rattle.ptb_explore.proofs.Tree.{run_asks}
 use Rattle.ptb_explore.proofs.Next.{AtTop, is_answer_is, between_none, ones_first, top_last}
@@ -107,3 +108,9 @@ pub plan_begins : (answers plan : Answers) (bounded : List ℤ) (i : ℕ) → Pl
 plan_begins answers plan bounded i p =
     let u = p.0.within in
     (omega arith, ap (take i) p.1 ∙ take_front i answers (_ ∷ []) (omega arith))
+
+-- where it stands at a run, there are as many bounds as answers
+pub standing_lengths : {A W : Type 0} (play : Answers → Outcome A W) (standing : Standing) (answers : Answers) (bounded : List ℤ) → IsStanding play standing answers bounded → standing ≡ AtRun → length answers ≡ length bounded
+standing_lengths play standing answers bounded s e =
+    let at = subst (λ (s : Standing). IsStanding play s answers bounded) e s in
+    sym (ap length at.1 ∙ length-bounds play [] answers)

@@ -1,14 +1,20 @@
 -- This file proves what a recorder holds once its plan was played.
-use Rattle.std.proofs.Common.{◌≡◌, ℕ, ◌-◌, [], ◌++◌, length, take, replicate, true, refl, ap, sym, ◌∙◌, arith, append-nil}
+use Rattle.std.proofs.Common.{◌≡◌, ℕ, ◌-◌, ◌≤◌, List, [], ◌∷◌, ◌++◌, length, take, replicate, true, false, refl, ap, sym, ◌∙◌, arith, append-nil, length-append}
+use Rattle.std.proofs.lemmas.List.{length-take-le}
+use Rattle.std.proofs.Math.Seq.{take-length}
 use Rattle.std.specs.Prelude.{ℤ, pos}
 use Rattle.ptb_expr.specs.declared.pause.Pause.TheVariants.{OutOfRange}
-use Rattle.ptb_expr.specs.Outcome.{Answers, Outcome, Done, Asks, IsReader, is_open, bounds}
+use Rattle.ptb_expr.specs.Outcome.{Answers, Outcome, Done, Asks, IsReader, is_open, is_whole, bounds}
 use Rattle.ptb_expr.specs.Choices.{Choices, Pauses}
 use Rattle.ptb_explore.specs.declared.recorder.Recorder.{Recorder}
 use Rattle.ptb_explore.specs.Runs.{IsRun}
-use Rattle.ptb_explore.specs.Plans.{EndsAt}
+use Rattle.ptb_explore.specs.Plans.{IsFresh, EndsAt}
 use Rattle.ptb_explore.specs.Recording.{choices_of, RefusedByPlan}
-use Rattle.ptb_explore.proofs.Bounds.{Holds, holds_on}
+use Rattle.ptb_machine.specs.declared.ending.Ending.{Ending}
+use Rattle.ptb_machine.specs.declared.ending.Ending.TheVariants as endings
+use Rattle.ptb_machine.specs.Play.{Finish}
+use Rattle.ptb_explore.specs.Playing.{Holds, PlayEnds}
+use Rattle.ptb_explore.proofs.Bounds.{holds_on}
 use Rattle.ptb_explore.proofs.Attempt.{Took, out_closes, ends_at, not_whole}
 
 module _ {A W : Type 0} (play : Answers → Outcome A W) (r : Recorder) (result : A) (h : Holds play (choices_of r) (λ later. Done result later)) where
@@ -39,3 +45,80 @@ trial_out play f most c d g reads h p o =
     let now = holds_on play c d f p.left h p.reaches in
     let asks : play d.taken ≡ Asks p.bound p.beside = ap play (sym (append-nil d.taken)) ∙ now.1.rest [] ∙ p.asks in
     out_closes play most reads d.plan d.taken p.refuses.0.0 g p.bound p.beside p.refuses.0.1 asks p.refuses.1 o
+
+-- ---- by the ending
+
+-- what is planned is the plan
+pub fresh_plan : (r : Recorder) → IsFresh r → take r.planned r.answers.items ≡ r.answers.items
+fresh_plan r f = ap (λ n. take n r.answers.items) (f.all_planned ∙ r.answers.ok.0) ∙ take-length r.answers.items
+
+module _ (play : Answers → Outcome Finish (List ℕ)) (r : Recorder) (steps : ℕ) (shown : List ℕ) (most : ℕ) (reads : IsReader play most) (plan : Answers) (planned : take r.planned r.answers.items ≡ plan) where
+  module _ (opens : is_open (play plan) ≡ true) where
+    ended_so : (e : Ending) → Holds play (choices_of r) (λ later. Done (record { ending = e; steps = steps; shown = shown }) later) → EndsAt play plan r.answers.items r.bounds.items (record { ending = e; steps = steps; shown = shown })
+    ended_so e h = rw (← planned) (trial_ends play r (record { ending = e; steps = steps; shown = shown }) h most reads (rw planned opens))
+
+    -- a plan that is open is played to an end
+    pub open_ends : (e : Ending) → PlayEnds play (choices_of r) steps shown e → EndsAt play plan r.answers.items r.bounds.items (record { ending = e; steps = steps; shown = shown })
+    open_ends endings.End h = ended_so endings.End h
+    open_ends endings.Stop h = ended_so endings.Stop h
+    open_ends endings.What h = ended_so endings.What h
+    open_ends endings.How h = ended_so endings.How h
+    open_ends endings.Sorry h = ended_so endings.Sorry h
+    open_ends endings.Limit h = ended_so endings.Limit h
+    open_ends endings.NoInput h = ended_so endings.NoInput h
+    open_ends endings.NoAnswer h = absurd h
+    open_ends endings.BadAnswer h =
+        let closed : is_open (play plan) ≡ false = ap is_open (ap play (sym planned) ∙ h.out) in
+        cc
+
+  -- a plan that is taken whole, and that nothing follows, is a run
+  module _ (taken : length r.bounds.items ≡ length plan) (alone : length r.answers.items ≡ length plan) where
+    all_planned : r.answers.items ≡ plan
+    all_planned =
+        let within : r.planned ≤ length r.answers.items = omega (arith, r.within, r.answers.ok.0) in
+        let n : length (take r.planned r.answers.items) ≡ r.planned = length-take-le r.planned r.answers.items within in
+        let same : r.planned ≡ length r.answers.items = omega (arith, n, ap length planned, alone) in
+        sym (ap (λ n. take n r.answers.items) same ∙ take-length r.answers.items) ∙ planned
+
+    whole_so : (e : Ending) → Holds play (choices_of r) (λ later. Done (record { ending = e; steps = steps; shown = shown }) later) → IsRun play plan × (r.answers.items ≡ plan) × (r.bounds.items ≡ bounds play plan)
+    whole_so e h =
+        let n : length r.bounds.items ≡ length r.answers.items = omega (arith, taken, alone) in
+        let all : take (length r.bounds.items) r.answers.items ≡ plan = ap (λ n. take n r.answers.items) n ∙ take-length r.answers.items ∙ all_planned in
+        let came : play plan ≡ Done (record { ending = e; steps = steps; shown = shown }) [] = ap play (sym (append-nil plan)) ∙ ap (λ t. play (t ++ [])) (sym all) ∙ h.rest [] in
+        (ap is_whole came, all_planned, taken_bounds play r (record { ending = e; steps = steps; shown = shown }) h ∙ ap (bounds play) all)
+
+    too_long : (next : ℤ) (later : Answers) → plan ≡ take (length r.bounds.items) r.answers.items ++ next ∷ later → ⊥
+    too_long next later e =
+        let within : length r.bounds.items ≤ length r.answers.items = omega (arith, taken, alone) in
+        omega (arith, ap length e, length-append (take (length r.bounds.items) r.answers.items) (next ∷ later), length-take-le (length r.bounds.items) r.answers.items within, taken)
+
+    pub whole_plan : (e : Ending) → PlayEnds play (choices_of r) steps shown e → IsRun play plan × (r.answers.items ≡ plan) × (r.bounds.items ≡ bounds play plan)
+    whole_plan endings.End h = whole_so endings.End h
+    whole_plan endings.Stop h = whole_so endings.Stop h
+    whole_plan endings.What h = whole_so endings.What h
+    whole_plan endings.How h = whole_so endings.How h
+    whole_plan endings.Sorry h = whole_so endings.Sorry h
+    whole_plan endings.Limit h = whole_so endings.Limit h
+    whole_plan endings.NoInput h = whole_so endings.NoInput h
+    whole_plan endings.NoAnswer h = absurd h
+    whole_plan endings.BadAnswer h = absurd (too_long h.next h.later (sym planned ∙ h.untaken))
+
+  -- another is none
+  module _ (differs : length r.bounds.items ≡ length plan → length r.answers.items ≡ length plan → ⊥) (run : IsRun play plan) where
+    differs_so : (e : Ending) → Holds play (choices_of r) (λ later. Done (record { ending = e; steps = steps; shown = shown }) later) → ⊥
+    differs_so e h =
+        trial_not_whole play r (record { ending = e; steps = steps; shown = shown }) h most reads
+        (λ a b. differs (a ∙ ap length planned) (b ∙ ap length planned)) (rw planned run)
+
+    pub other_plan : (e : Ending) → PlayEnds play (choices_of r) steps shown e → ⊥
+    other_plan endings.End h = differs_so endings.End h
+    other_plan endings.Stop h = differs_so endings.Stop h
+    other_plan endings.What h = differs_so endings.What h
+    other_plan endings.How h = differs_so endings.How h
+    other_plan endings.Sorry h = differs_so endings.Sorry h
+    other_plan endings.Limit h = differs_so endings.Limit h
+    other_plan endings.NoInput h = differs_so endings.NoInput h
+    other_plan endings.NoAnswer h = h
+    other_plan endings.BadAnswer h =
+        let none : is_whole (play plan) ≡ false = ap is_whole (ap play (sym planned) ∙ h.out) in
+        cc

@@ -25,6 +25,12 @@ run_rows = record {
   their_bounds = refl;
   shorter = refl;
   longer = refl;
+  smaller = refl;
+  greater = refl;
+  numbers = refl;
+  ten_behind_nine = refl;
+  beginning_before = refl;
+  beginning_behind = refl;
 }
 
 pub report_rows : ReportRows

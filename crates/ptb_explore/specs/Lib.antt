@@ -1,8 +1,11 @@
 pub mod Runs
 pub mod Plans
 pub mod Recording
+pub mod Playing
 pub mod Report
 pub mod Listing
 pub mod Keeping
+pub mod Exploring
+pub mod Lending
 pub mod Rows
 pub mod Laws

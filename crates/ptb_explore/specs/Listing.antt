@@ -1,9 +1,10 @@
 -- This file defines what a listing of runs leaves behind it. `report` gives the text of the report of a run.
 --     text report list                  the reports of a list of runs, one after the other
 --     behind f list                     where a listing stands after a list of runs
+--     less_one n                        how many may still be written after one more
 --     NextWrites ..                     what the writing of the next report leaves
 --     WritesRuns ..                     what the writing of a list of reports leaves
-use Rattle.std.specs.Prelude.{◌≡◌, ℕ, ◌-◌, ◌^◌, List, [], ◌∷◌, ◌++◌, length, min, Bool, true, false, ◌⊎◌, Option, Result, Ok, Err}
+use Rattle.std.specs.Prelude.{◌≡◌, ℕ, ◌-◌, ◌^◌, List, [], ◌∷◌, ◌++◌, length, min, Bool, true, false, ◌⊎◌, Option, Some, None, Result, Ok, Err}
 use Rattle.std.specs.Io.KnownBytes.{Appends}
 use Rattle.std.specs.List.{flat_map}
 use Rattle.ptb_text.specs.Device.{TakesSome}
@@ -20,6 +21,11 @@ text report list = flat_map report list
 abbrev pub behind : Front → List Answers → Front
 behind f [] = f
 behind f (a ∷ list) = behind (At a) list
+
+-- how many may still be written after one more
+abbrev pub less_one : Option ℕ → Option ℕ
+less_one None = None
+less_one (Some n) = Some (n - 1)
 
 -- the count of reports stops at the greatest number of 64 bits
 abbrev pub count_of : List Answers → ℕ

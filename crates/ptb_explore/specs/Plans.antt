@@ -1,6 +1,6 @@
 -- This file defines plans: the first answers of the next run, which goes on with the least answers.
 --     IsPlan play front plan                      what goes on from the plan with ones and is a run is the next run after the front
---     IsLastBelow answers bounds i                the last answer that is below its bound is the one at i
+--     IsLastBelow answers bounds i                the last answer that can be raised is the one at i
 --     PlansNext standing answers bounds plan o    the plan raises that answer by one and drops those behind it
 --     IsStanding play standing answers bounds     where it stands at a run, it is that of the answers, with these bounds
 --     IsFresh recorder                            all that a recorder holds is a plan

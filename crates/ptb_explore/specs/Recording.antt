@@ -1,5 +1,5 @@
 -- This file defines what a recorder holds, and why it gives no answer.
---     choices_of r                 the plan of a recorder, the answers that it gave, and their bounds
+--     choices_of r                 a recorder as a chooser: its plan, what it gave, and with which bounds
 --     RefusedByPlan c z n          it pauses at a question with bound n
 use Rattle.std.specs.Prelude.{◌≡◌, List, ◌∷◌, ◌++◌, length, take, false, Some, ℤ}
 use Rattle.ptb_expr.specs.declared.pause.Pause.{Pause}

@@ -2,12 +2,17 @@
 --     spelling answers                        numbers joined by commas, or `none`
 --     header answers word steps size          the first line: RUN, the answers, how the run ended, its steps, how many bytes it showed
 --     report_text answers word steps shown    the header, what the run showed, and a newline
+--     word_of ending                          the word of an ending
+--     report play answers                     the report of the run of these answers
 --     Gathers old new bytes pending           a beginning of the bytes was taken, and the others are pending
 use Rattle.std.specs.Prelude.{◌≡◌, ℕ, List, [], ◌∷◌, ◌++◌, length, codes, decimal, Option}
 use Rattle.std.specs.Fmt.{signed_decimal}
 use Rattle.std.specs.Io.KnownBytes.{Appends}
 use Rattle.std.specs.List.{flat_map}
-use Rattle.ptb_expr.specs.Outcome.{Answers}
+use Rattle.ptb_expr.specs.Outcome.{Answers, Outcome, Done, Asks, Out}
+use Rattle.ptb_machine.specs.declared.ending.Ending.{Ending}
+use Rattle.ptb_machine.specs.declared.ending.Ending.TheVariants as endings
+use Rattle.ptb_machine.specs.Play.{Finish}
 
 -- ---- text
 
@@ -28,6 +33,29 @@ header answers word steps size = codes "RUN " ++ spelling answers ++ field word 
 
 abbrev pub report_text : Answers → List ℕ → ℕ → List ℕ → List ℕ
 report_text answers word steps shown = header answers word steps (length shown) ++ shown ++ codes "\n"
+
+-- ---- the report of a run
+
+-- a run whose answers are all taken never ends for want of one, nor with one outside its bound
+abbrev pub word_of : Ending → List ℕ
+word_of endings.End = codes "END"
+word_of endings.Stop = codes "STOP"
+word_of endings.What = codes "WHAT"
+word_of endings.How = codes "HOW"
+word_of endings.Sorry = codes "SORRY"
+word_of endings.Limit = codes "LIMIT"
+word_of endings.NoInput = codes "NOINPUT"
+word_of endings.NoAnswer = []
+word_of endings.BadAnswer = []
+
+-- what is no run has none
+abbrev pub report_of : Answers → Outcome Finish (List ℕ) → List ℕ
+report_of answers (Done f rest) = report_text answers (word_of f.ending) f.steps f.shown
+report_of answers (Asks n shown) = []
+report_of answers (Out n shown) = []
+
+abbrev pub report : (Answers → Outcome Finish (List ℕ)) → Answers → List ℕ
+report play answers = report_of answers (play answers)
 
 -- ---- writing it in pieces
 

@@ -1,6 +1,6 @@
 -- This file defines the runs of what takes answers one by one, their order, and how a listing goes through them.
 --     IsRun play a                     play comes to a result, and uses up the answers
---     is_before a b, Before a b        a has the smaller answer at the first place at which they differ
+--     is_before a b, Before a b        where a and b first differ, a's answer is the smaller
 --     tree play most                   all runs, where none has more answers than this
 --     Front                            where a listing stands
 --     runs_after play most front       the runs that a listing has left

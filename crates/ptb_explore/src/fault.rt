@@ -1,5 +1,9 @@
 // This file says why runs can't be listed, or a listing can't go on after a list of answers.
 
+ghost use Rattle.std.specs.Prelude.{◌≡◌};
+ghost use Rattle.ptb_explore.specs.declared.fault.AfterFault.TheVariants.{Memory};
+
+use std::alloc::AllocError;
 use thiserror::Error;
 
 /// Why not all reports were written.
@@ -24,6 +28,14 @@ pub enum AfterFault {
     /// A growth was refused memory.
     #[error("out of memory")]
     Memory,
+}
+
+impl From<AllocError> for AfterFault {
+    ghost from_gives = { λ _ fault. fault ≡ Memory };
+
+    fn from(_refusal: AllocError) -> AfterFault {
+        AfterFault::Memory
+    }
 }
 
 /// Why the next report was not written.

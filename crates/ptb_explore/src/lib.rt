@@ -1,15 +1,25 @@
-//! All runs of a Tiny BASIC program.
+//! All runs of a Tiny BASIC program, in the order of their answers, and their reports.
+//!
+//! It stands on `ptb_machine`, `ptb_expr`, `ptb_text`, `arrayvec`, `itoa` and `thiserror`. The crate
+//! above may rely on `Explorer::start` and `after` (where a listing begins, or that the answers are
+//! no run), on `write_all_runs` (the reports of the runs that are left), and on `tree_laws`.
 #![tactic(auto)]
 
+mod explorer;
 mod fault;
 mod laws;
+mod listing;
 mod plan;
+mod playing;
 mod recorder;
 mod report;
 mod rows;
 #[cfg(test)]
 mod tests;
 
+pub use explorer::Explorer;
 pub use fault::{AfterFault, ExploreFault};
-pub use laws::tree_laws;
+pub use laws::{listing_laws, tree_laws};
+pub use listing::write_all_runs;
+pub use report::Report;
 pub use rows::{report_rows, run_rows};

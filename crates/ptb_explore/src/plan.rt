@@ -1,6 +1,6 @@
 // This file has the choice of the answers that the next run begins with.
 
-ghost use Rattle.std.specs.Prelude.{◌≡◌, length, IfOk, IfSome, OnSome, MatchOption, pos, ◌<ℤ◌, slice_index_or};
+ghost use Rattle.std.specs.Prelude.{◌≡◌, Ok, None, length, IfOk, IfSome, OnSome, MatchOption, pos, ◌<ℤ◌, slice_index_or};
 ghost use Rattle.ptb_explore.specs.Plans.{IsLastBelow, AreAtBounds, PlansNext, IsFresh};
 
 use crate::recorder::Recorder;
@@ -35,8 +35,8 @@ fn last_below(answers: &[i16], bounds: &[i16]) -> Option<usize>
     None
 }
 
-/// Plans the run behind the one at which the listing stands: the last answer that is below its
-/// bound is raised by one, and those behind it are dropped.
+/// Plans the run behind the one at which the listing stands: the last answer that its bound leaves
+/// room for is raised by one, and those behind it are dropped.
 ///
 /// It gives the number of answers in front of the raised one, or `None` where no run is left.
 ///
@@ -52,6 +52,7 @@ pub fn plan_next(
     requires { standing ≡ Standing.AtRun → length answers.now ≡ length bounds.now }
     ensures plan { IfOk result (PlansNext standing answers.now bounds.now trial.new.answers.items) }
     ensures fresh { IfOk result (λ o. OnSome o (IsFresh trial.new)) }
+    ensures ended { standing ≡ Standing.AtEnd → result ≡ Ok None }
 {
     match standing {
         Standing::AtEnd => Ok(None),

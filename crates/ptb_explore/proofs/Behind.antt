@@ -1,0 +1,42 @@
+-- This file proves that a listing that begins behind a run goes on where one that ended with it stopped.
+use Rattle.std.proofs.Common.{◌≡◌, ℕ, List, [], ◌∷◌, ◌++◌, Bool, true, false, inl, refl, sym, ap, ◌∙◌, append_assoc}
+use Rattle.std.specs.List.{filter, AllByRecursion}
+use Rattle.std.proofs.lemmas.Bool.{false_from_ne_true}
+use Rattle.ptb_expr.specs.Outcome.{Answers, Outcome, IsReader}
+use Rattle.ptb_explore.specs.Laws.{ListingLaws}
+use Rattle.ptb_explore.specs.Listing.{text}
+use Rattle.ptb_explore.specs.Runs.{At, IsRising, tree, is_before, Before, runs_after}
+use Rattle.ptb_explore.proofs.Lists.{all_at, in_right}
+use Rattle.ptb_explore.proofs.Order.{before_self, before_not_back}
+use Rattle.ptb_explore.proofs.Tree.{tree_rises}
+
+filter-all : (p : Answers → Bool) (xs : List Answers) → AllByRecursion (λ b. p b ≡ true) xs → filter p xs ≡ xs
+filter-all p [] h = refl
+filter-all p (x ∷ xs) h = rw h.0 (ap (λ s. x ∷ s) (filter-all p xs h.1))
+
+-- in a rising list, what is behind a member stands behind it
+filter-behind : (xs ys : List Answers) (r : Answers) → IsRising (xs ++ r ∷ ys) → filter (is_before r) (xs ++ r ∷ ys) ≡ ys
+filter-behind [] ys r up =
+    let self : is_before r r ≡ false = false_from_ne_true _ (λ t. before_self r t) in
+    rw self (filter-all (is_before r) ys up.0)
+filter-behind (x ∷ xs) ys r up =
+    let below : Before x r = all_at (Before x) (xs ++ r ∷ ys) r up.0 (in_right r xs (r ∷ ys) (inl refl)) in
+    let back : is_before r x ≡ false = false_from_ne_true _ (λ t. before_not_back x r below t) in
+    rw back (filter-behind xs ys r up.1)
+
+text-append : (report : Answers → List ℕ) (xs ys : List Answers) → text report (xs ++ ys) ≡ text report xs ++ text report ys
+text-append report [] ys = refl
+text-append report (x ∷ xs) ys = ap (λ s. report x ++ s) (text-append report xs ys) ∙ sym (append_assoc (report x) (text report xs) (text report ys))
+
+module _ {A W : Type 0} (play : Answers → Outcome A W) (most : ℕ) (reads : IsReader play most) where
+  behind : (front back : List Answers) (r : Answers) → tree play most ≡ front ++ r ∷ back → runs_after play most (At r) ≡ back
+  behind front back r e = ap (filter (is_before r)) e ∙ filter-behind front back r (rw e at (tree_rises play most reads))
+
+  pub listing_laws : ListingLaws play most
+  listing_laws = record {
+    behind = behind;
+    joined = λ report front back r e.
+        ap (λ s. text report (front ++ r ∷ []) ++ text report s) (behind front back r e)
+        ∙ sym (text-append report (front ++ r ∷ []) back)
+        ∙ ap (text report) (append_assoc front (r ∷ []) back ∙ sym e);
+  }

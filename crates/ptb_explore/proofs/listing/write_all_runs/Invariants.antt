@@ -1,0 +1,20 @@
+-- This file says what was written after some of the reports.
+use Rattle.std.proofs.Common.{◌≡◌, length}
+use Rattle.ptb_explore.specs.Runs.{runs_left, runs_after}
+use Rattle.ptb_explore.specs.Report.{report}
+use Rattle.ptb_explore.specs.Exploring.{play_of, most_of}
+use Rattle.ptb_explore.proofs.Progress.{Progress}
+use Rattle.ptb_explore.proofs.listing.write_all_runs.Given as goal
+
+abbrev pub invariant-loop-remaining : goal.invariant-loop-remaining
+invariant-loop-remaining g l =
+    let play = play_of l.fn.e in
+    record {
+      same : l.e ≡ record l.fn.e { front = l.e.front };
+      unfailed : g.W.Write.failures l.w ≡ g.W.Write.failures l.fn.w;
+      progress : Progress play (most_of l.fn.e) (report play) (runs_left play (most_of l.fn.e) l.fn.e.front l.fn.first) l.fn.e.front l.e.front l.remaining (g.W.Write.contents l.fn.w) (g.W.Write.contents l.w) l.written;
+    }
+
+-- fewer runs are left after each report
+abbrev pub decreases-loop-remaining : goal.decreases-loop-remaining
+decreases-loop-remaining g l = length (runs_after (play_of l.fn.e) (most_of l.fn.e) l.e.front)

@@ -1,0 +1,17 @@
+-- This file says what is kept while a run is played.
+use Rattle.std.proofs.Common.{◌≡◌, ◌-◌, drop, false}
+use Rattle.ptb_explore.specs.Recording.{choices_of}
+use Rattle.ptb_explore.proofs.Underway.{IsUnderway}
+use Rattle.ptb_explore.proofs.playing.play_plan.Given as goal
+
+abbrev pub invariant-loop-ending : goal.invariant-loop-ending
+invariant-loop-ending l = record {
+  plan : (choices_of l.trial).plan ≡ (choices_of l.fn.trial).plan;
+  same_lines : l.source.lines ≡ l.lines;
+  unspent : l.machine.spent ≡ false;
+  underway : IsUnderway l.program l.lines l.limit (choices_of l.trial) l.screen (drop l.source.taken l.source.lines) l.machine;
+}
+
+-- each step is below the limit
+abbrev pub decreases-loop-ending : goal.decreases-loop-ending
+decreases-loop-ending l = l.limit - l.machine.steps

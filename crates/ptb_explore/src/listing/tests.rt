@@ -1,0 +1,138 @@
+// This file tests listings of runs: all reports, the first of them, those behind a run, and writers that fail.
+
+use super::*;
+use crate::fault::AfterFault;
+use ptb_machine::{Ending, Line, read_lines};
+use ptb_text::{Device, Program, load};
+use std::alloc::Global;
+use std::test::Fail;
+
+const PRODUCTS: &str = "10 PRINT RND(2)*RND(2)";
+
+const PRODUCT_REPORTS: &str =
+    "RUN 1,1 END 1 7\n     1\n\nRUN 1,2 END 1 7\n     2\n\nRUN 2,1 END 1 7\n     2\n\nRUN 2,2 END 1 7\n     4\n\n";
+
+const BRANCHES: &str = "10 A=RND(2);IF A=2 B=RND(3);PRINT B";
+
+const BRANCH_REPORTS: &str =
+    "RUN 1 END 2 0\n\nRUN 2,1 END 4 7\n     1\n\nRUN 2,2 END 4 7\n     2\n\nRUN 2,3 END 4 7\n     3\n\n";
+
+// The program of a text, and the lines of an input.
+fn loaded(alloc: Global, text: &str, input: &str) -> Result<(Program, Vec<Line>), Fail> {
+    let (mut text, mut input) = (text.as_bytes(), input.as_bytes());
+    let Ok(program) = load(alloc, 4096, &mut Device::new(&mut text)) else {
+        return Err(Fail::from("no program"));
+    };
+    let Ok(lines) = read_lines(alloc, &mut Device::new(&mut input)) else {
+        return Err(Fail::from("no input"));
+    };
+    Ok((program, lines))
+}
+
+// What the listing of a program without input writes behind a run, and how many reports.
+fn listed_behind(
+    alloc: Global,
+    text: &str,
+    answers: &[i16],
+    first: Option<u64>,
+) -> Result<(u64, Vec<u8>), Fail> {
+    let (program, lines) = loaded(alloc, text, "")?;
+    let mut bytes = Vec::new(alloc);
+    let Ok(mut explorer) = Explorer::after(alloc, &program, &lines, 10000, answers) else {
+        return Err(Fail::from("no run"));
+    };
+    match write_all_runs(&mut explorer, first, &mut Device::new(&mut bytes)) {
+        Ok(count) => Ok((count, bytes)),
+        Err(_) => Err(Fail::from("not written")),
+    }
+}
+
+#[test]
+fn writes_all(rt: HostRuntime) -> Result<(), Fail> {
+    let programs = [
+        "",
+        PRODUCTS,
+        BRANCHES,
+        "10 A=RND(2)-1;B=RND(A)",
+        "10 INPUT A;PRINT A",
+        "10 INPUT A",
+        "10 A=RND(2);B=RND(2)",
+    ];
+    let inputs = ["", "", "", "", "RND(2)", "", ""];
+    let limits = [10000, 10000, 10000, 10000, 10000, 10000, 1];
+    let texts = [
+        "RUN none END 0 0\n\n",
+        PRODUCT_REPORTS,
+        BRANCH_REPORTS,
+        "RUN 1 HOW 2 29\nHOW?\n10 A=RND(2)-1;B=RND(A)?\n\nRUN 2,1 END 2 0\n\n",
+        "RUN 1 END 2 16\nA:RND(2)\n     1\n\nRUN 2 END 2 16\nA:RND(2)\n     2\n\n",
+        "RUN none NOINPUT 1 2\nA:\n",
+        "RUN 1 LIMIT 1 0\n\nRUN 2 LIMIT 1 0\n\n",
+    ];
+    for i in 0..7 {
+        let (program, lines) = loaded(rt.alloc(), programs[i], inputs[i])?;
+        let mut bytes = Vec::new(rt.alloc());
+        let mut explorer = Explorer::start(rt.alloc(), &program, &lines, limits[i])?;
+        let result = write_all_runs(&mut explorer, None, &mut Device::new(&mut bytes));
+        assert!(rt; result.is_ok(), "listing {i}");
+        assert_eq!(rt; bytes.as_slice(), texts[i].as_bytes(), "listing {i}");
+    }
+    Ok(())
+}
+
+#[test]
+fn writes_those_behind(rt: HostRuntime) -> Result<(), Fail> {
+    let (count, bytes) = listed_behind(rt.alloc(), PRODUCTS, &[1, 1], Some(2))?;
+    assert_eq!(rt; count, 2);
+    assert_eq!(rt; bytes.as_slice(), &PRODUCT_REPORTS.as_bytes()[24..72]);
+    let (count, bytes) = listed_behind(rt.alloc(), BRANCHES, &[2, 3], None)?;
+    assert_eq!(rt; count, 0);
+    assert!(rt; bytes.is_empty());
+    let (count, bytes) = listed_behind(rt.alloc(), "", &[], None)?;
+    assert_eq!(rt; count, 0);
+    assert!(rt; bytes.is_empty());
+    Ok(())
+}
+
+#[test]
+fn lends_each_report(rt: HostRuntime) -> Result<(), Fail> {
+    let (program, lines) = loaded(rt.alloc(), "10 A=RND(1);P.RND(2)", "")?;
+    let mut explorer = Explorer::start(rt.alloc(), &program, &lines, 10000)?;
+    for k in 1..=2 {
+        let Some(report) = explorer.next()? else {
+            return Err(Fail::from("no report"));
+        };
+        assert_eq!(rt; report.answers.as_slice(), [1, k].as_slice());
+        assert_eq!(rt; report.bounds.as_slice(), [1, 2].as_slice());
+        assert_eq!(rt; report.ending, Ending::End);
+        assert_eq!(rt; report.steps, 2);
+        assert_eq!(rt; report.transcript.len(), 7);
+    }
+    assert!(rt; explorer.next()?.is_none());
+    assert!(rt; explorer.next()?.is_none());
+    Ok(())
+}
+
+#[test]
+fn refuses_what_is_no_run(rt: HostRuntime) -> Result<(), Fail> {
+    let (program, lines) = loaded(rt.alloc(), BRANCHES, "")?;
+    let lists: [&[i16]; 5] = [&[], &[2], &[2, 4], &[2, 1, 1], &[0]];
+    for answers in lists {
+        let refusal = Explorer::after(rt.alloc(), &program, &lines, 10000, answers).err();
+        assert_eq!(rt; refusal, Some(AfterFault::NotARun));
+    }
+    Ok(())
+}
+
+#[test]
+fn writes_a_beginning(rt: HostRuntime) -> Result<(), Fail> {
+    let (program, lines) = loaded(rt.alloc(), PRODUCTS, "")?;
+    for size in 0..96 {
+        let mut explorer = Explorer::start(rt.alloc(), &program, &lines, 10000)?;
+        let mut room = [b'.'; 96];
+        let result = write_all_runs(&mut explorer, None, &mut Device::new(&mut room[..size]));
+        assert_eq!(rt; result, Err(ExploreFault::Write(size as u64 / 24)));
+        assert_eq!(rt; &room[..size], &PRODUCT_REPORTS.as_bytes()[..size]);
+    }
+    Ok(())
+}

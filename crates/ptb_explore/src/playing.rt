@@ -1,0 +1,62 @@
+// This file plays a program with the answers of a plan.
+
+ghost use Rattle.std.specs.Prelude.{◌≡◌, [], IfOk, OnOk};
+ghost use Rattle.ptb_machine.specs.Play.{play};
+ghost use Rattle.ptb_explore.specs.Playing.{PlayEnds};
+ghost use Rattle.ptb_explore.specs.Recording.{choices_of};
+
+use crate::recorder::Recorder;
+use ptb_machine::{Ending, Line, Lines, Machine, RunFault, TextScreen, run_laws};
+use ptb_text::Program;
+use std::alloc::{AllocError, Global};
+
+/// How a run ended, and how many commands it began.
+#[derive(Clone, Copy, Debug, PartialEq, Eq)]
+pub struct Played {
+    pub ending: Ending,
+    pub steps: u32,
+}
+
+/// Plays a program from its beginning: with the answers of the plan, and 1 to each question behind
+/// them.
+///
+/// The ending is `BadAnswer` where an answer of the plan is outside its bound. It is never
+/// `NoAnswer`.
+///
+/// # Errors
+///
+/// Where a growth was refused memory.
+pub fn play_plan(
+    alloc: Global,
+    program: &Program,
+    lines: &[Line],
+    limit: u32,
+    trial: &mut Recorder,
+    screen: &mut TextScreen,
+) -> Result<Played, AllocError>
+    requires fresh { trial.old.bounds.items ≡ [] }
+    requires shown { screen.old ≡ [] }
+    ensures plan { OnOk result ((choices_of trial.new).plan ≡ (choices_of trial.old).plan) }
+    ensures ends { IfOk result (λ f. PlayEnds (play program.now lines.now limit)
+        (choices_of trial.new) f.steps screen.new f.ending) }
+{
+    run_laws();
+    let mut machine = Machine::new(alloc, program)?;
+    let mut source = Lines::new(lines);
+    loop {
+        match machine.step(program, limit, trial, screen, &mut source) {
+            Ok(None) => {}
+            Ok(Some(ending)) => {
+                return Ok(Played {
+                    ending,
+                    steps: machine.steps(),
+                });
+            }
+            Err(RunFault::Memory) => return Err(AllocError),
+            // Bytes and lines are in memory, and the run isn't over.
+            Err(RunFault::Read) => unreachable!(),
+            Err(RunFault::Write) => unreachable!(),
+            Err(RunFault::Spent) => unreachable!(),
+        }
+    }
+}
