@@ -1,0 +1,38 @@
+-- This file defines the command line as clap reads it.
+--     tool         the command with its options, in the order in which help shows them
+use Rattle.std.specs.Prelude.{List, [], ◌∷◌, Some, pos, codes, ℕ}
+use Rattle.clap.specs.Words.{App, Rule, new_app, new_rule}
+use Rattle.clap.specs.declared.builder.ArgAction.TheVariants.{SetTrue}
+use Rattle.clap.specs.declared.builder.ValueParser.{ValueParser}
+use Rattle.clap.specs.declared.builder.ValueParser.TheVariants.{Signed, Unsigned}
+
+-- an option with a number
+abbrev pub number_option : List ℕ → ValueParser → Rule
+number_option name parser = record (new_rule name) { long = Some name; value_names = 1; parser = Some parser }
+
+-- an option with a text
+abbrev pub text_option : List ℕ → Rule
+text_option name = record (new_rule name) { long = Some name; value_names = 1 }
+
+-- an option without a value
+abbrev pub flag : List ℕ → Rule
+flag name = record (new_rule name) { long = Some name; action = Some SetTrue }
+
+-- a word that is no option
+abbrev pub operand : List ℕ → Rule
+operand name = record (new_rule name) { value_names = 1 }
+
+abbrev pub rules : List Rule
+rules =
+    number_option (codes "steps") (Signed (pos 1) (pos 1000000000))
+    ∷ number_option (codes "memory") (Signed (pos 64) (pos 32767))
+    ∷ text_option (codes "answers")
+    ∷ flag (codes "all")
+    ∷ text_option (codes "after")
+    ∷ number_option (codes "first") (Unsigned 1 1000000000)
+    ∷ flag (codes "list")
+    ∷ operand (codes "program")
+    ∷ []
+
+abbrev pub tool : App
+tool = record (new_app (codes "ptb")) { top = record (new_app (codes "ptb")).top { rules = rules } }

@@ -1,0 +1,106 @@
+// This file has the command line with its options, and what clap finds there.
+
+ghost use Rattle.std.specs.Prelude.{◌≡◌, IfOk, false, codes, map};
+ghost use Rattle.clap.specs.Words.{FailsBy, app_of, fault_of, matches_of, rule_of};
+ghost use Rattle.ptb.specs.CommandLine.{flag, number_option, operand, text_option, tool};
+ghost use Rattle.ptb.specs.Options.{HasMemorySize, entries_of, options_of};
+ghost use Rattle.ptb.specs.Statuses.{refusal_status};
+
+use crate::help;
+use clap::builder::ValueParser;
+use clap::error::ErrorKind;
+use clap::{Arg, ArgAction, ArgMatches, Command, Error, value_parser};
+use std::alloc::{AllocError, Global};
+use std::convert::AsStr;
+
+/// The command `ptb` with its options.
+///
+/// # Errors
+///
+/// [`AllocError`] where a growth was refused memory.
+pub fn command<'a>(alloc: Global) -> Result<Command<'a>, AllocError>
+    ensures { IfOk result (λ c. app_of c ≡ tool) }
+{
+    let steps = value_parser!(u32).range(1..=1_000_000_000);
+    let memory = value_parser!(u16).range(64..=32767);
+    let first = value_parser!(u64).range(1..=1_000_000_000);
+    Command::new(alloc, "ptb")
+        .about(help::ABOUT)
+        .after_help(help::AFTER)
+        .arg(number(alloc, "steps", steps, help::STEPS))?
+        .arg(number(alloc, "memory", memory, help::MEMORY))?
+        .arg(list(alloc, "answers", help::ANSWERS))?
+        .arg(switch(alloc, "all", help::ALL))?
+        .arg(list(alloc, "after", help::ALL_AFTER))?
+        .arg(number(alloc, "first", first, help::FIRST))?
+        .arg(switch(alloc, "list", help::LIST))?
+        .arg(program(alloc))
+}
+
+/// What clap finds in the words of the command line, of which the first is the program's name.
+///
+/// # Errors
+///
+/// clap's error, with its text; where the words are right that is want of memory alone.
+pub fn parse<'a, S: AsStr>(alloc: Global, words: &'a [S]) -> Result<ArgMatches<'a>, Error>
+    ensures entries { IfOk result (λ m. entries_of m ≡ matches_of tool (map S.text words.entry.now)) }
+    ensures memory { IfOk result (λ m. HasMemorySize (options_of (entries_of m))) }
+    ensures kinds { FailsBy (fault_of tool (map S.text words.entry.now)) result }
+{
+    command(alloc)?.try_get_matches_from(words)
+}
+
+/// The status that the program exits with where clap answers an error of this kind.
+pub fn refusal_status(kind: ErrorKind) -> u8
+    ensures { result ≡ refusal_status kind }
+{
+    match kind {
+        ErrorKind::DisplayHelp => 0,
+        ErrorKind::OutOfMemory => 71,
+        _ => 64,
+    }
+}
+
+// An option with a number.
+fn number<'a>(alloc: Global, name: &'a str, parser: ValueParser<'a>, help: &'a str) -> Arg<'a>
+    ensures rule { rule_of result ≡ number_option name.entry.now parser.entry }
+    ensures local { result.global ≡ false }
+{
+    Arg::new(alloc, name)
+        .long(name)
+        .value_name("N")
+        .value_parser(parser)
+        .help(help)
+}
+
+// An option with a list of answers.
+fn list<'a>(alloc: Global, name: &'a str, help: &'a str) -> Arg<'a>
+    ensures rule { rule_of result ≡ text_option name.entry.now }
+    ensures local { result.global ≡ false }
+{
+    Arg::new(alloc, name)
+        .long(name)
+        .value_name("LIST")
+        .help(help)
+}
+
+// An option without a value.
+fn switch<'a>(alloc: Global, name: &'a str, help: &'a str) -> Arg<'a>
+    ensures rule { rule_of result ≡ flag name.entry.now }
+    ensures local { result.global ≡ false }
+{
+    Arg::new(alloc, name)
+        .long(name)
+        .action(ArgAction::SetTrue)
+        .help(help)
+}
+
+// The word that names the program's file.
+fn program<'a>(alloc: Global) -> Arg<'a>
+    ensures rule { rule_of result ≡ operand (codes "program") }
+    ensures local { result.global ≡ false }
+{
+    Arg::new(alloc, "program")
+        .value_name("PROGRAM")
+        .help(help::PROGRAM)
+}

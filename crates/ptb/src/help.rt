@@ -1,0 +1,47 @@
+// This file has the texts of `--help`.
+
+pub const ABOUT: &str = "Runs a program of Palo Alto Tiny BASIC, version 1, or lists it.";
+
+pub const STEPS: &str = "Begin at most N commands, 1 to 1000000000 [default: 10000]";
+
+pub const MEMORY: &str = "Give the program N bytes of memory, 64 to 32767 [default: 4096]";
+
+pub const ANSWERS: &str =
+    "Answer the questions of RND with these numbers, in order [default: none]";
+
+pub const ALL: &str = "Write a report of every run, in the order of their answers";
+
+pub const ALL_AFTER: &str = "With --all, begin after the run with these answers";
+
+pub const FIRST: &str = "With --all, write at most N reports, 1 to 1000000000";
+
+pub const LIST: &str = "Write the program's lines in the order of their numbers, and run nothing";
+
+pub const PROGRAM: &str =
+    "The program's file; without it standard input is the program, and INPUT finds no line";
+
+pub const AFTER: &str = "\
+A LIST is none, or numbers from 1 to 32767 with commas between them, as 2,1,6.
+
+With PROGRAM the lines of standard input answer INPUT.
+
+Status:
+   0      the program ended, or the listing or the reports are written
+   1 2 3  the program ended with WHAT?, HOW? or SORRY
+   4      it had begun as many commands as it may
+   5      INPUT found no line left
+   6 7    RND found no answer left, or one that is out of its range
+  64      these words ask for nothing
+  65      a line of the program is refused, or the program is too long
+  66      the program or the input can't be read, or the input is too long
+  67      --after names no run
+  71      out of memory
+  74      what was written could not be written
+
+Examples:
+  ptb game.bas < moves.txt
+          runs game.bas on the lines of moves.txt
+  ptb --answers 6,1,3 --steps 500 dice.bas
+          runs dice.bas with these rolls, 500 commands at most
+  ptb --all --first 10 dice.bas < throws.txt
+          reports the first ten runs of dice.bas on the lines of throws.txt";

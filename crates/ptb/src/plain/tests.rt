@@ -1,0 +1,76 @@
+// This file tests plain runs that end, and that can't be read or written.
+
+use super::*;
+use ptb_text::{Device, LoadFault};
+use std::io;
+use std::io::ErrorKind;
+use std::test::Fail;
+
+// A reader and a writer that fail at once.
+#[derive(Drop)]
+struct Broken;
+
+impl io::Read for Broken {
+    fn read(&mut self, _buf: &mut [u8]) -> io::Result<usize> {
+        Err(io::Error::from(ErrorKind::Other))
+    }
+}
+
+impl io::Write for Broken {
+    fn write(&mut self, _buf: &[u8]) -> io::Result<usize> {
+        Err(io::Error::from(ErrorKind::Other))
+    }
+
+    fn flush(&mut self) -> io::Result<()> {
+        Ok(())
+    }
+}
+
+// A program of one statement.
+fn one_line(alloc: Global, line: &[u8]) -> Result<Program, LoadFault> {
+    let mut program = Program::new(alloc, 4096);
+    program.enter(line)?;
+    Ok(program)
+}
+
+#[test]
+fn endings(rt: HostRuntime) -> Result<(), Fail> {
+    for (answers, ending, shown) in [
+        (&[][..], Ending::NoAnswer, &b""[..]),
+        (&[2], Ending::End, b"     2\n"),
+        (&[2, 9], Ending::End, b"     2\n"),
+        (&[3], Ending::BadAnswer, b""),
+    ] {
+        let program = one_line(rt.alloc(), b"10 P.RND(2)")?;
+        let mut input = Device::new(&b""[..]);
+        let mut shown_bytes = Vec::new(rt.alloc());
+        let mut out = Device::new(&mut shown_bytes);
+        let result = run_plain(rt.alloc(), &program, answers, 10, &mut input, &mut out);
+        assert_eq!(rt; result, Ok(ending));
+        assert_eq!(rt; shown_bytes.as_slice(), shown);
+    }
+    Ok(())
+}
+
+#[test]
+fn broken_devices(rt: HostRuntime) -> Result<(), Fail> {
+    let program = one_line(rt.alloc(), b"10 P.")?;
+    let mut shown = Vec::new(rt.alloc());
+    let mut out = Device::new(&mut shown);
+    let unread = run_plain(
+        rt.alloc(),
+        &program,
+        &[],
+        10,
+        &mut Device::new(Broken),
+        &mut out,
+    );
+    assert_eq!(rt; unread, Err(RunFault::Read));
+    assert!(rt; shown.is_empty());
+
+    let mut input = Device::new(&b""[..]);
+    let mut broken = Device::new(Broken);
+    let unwritten = run_plain(rt.alloc(), &program, &[], 10, &mut input, &mut broken);
+    assert_eq!(rt; unwritten, Err(RunFault::Write));
+    Ok(())
+}

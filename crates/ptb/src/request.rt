@@ -1,0 +1,31 @@
+// This file says what the tool is asked to do.
+
+use crate::answers::Answers;
+
+/// What is done with the program.
+#[derive(Debug, Drop)]
+pub enum Mode {
+    /// It is run once, with these answers.
+    Plain(Answers),
+    /// All its runs are listed.
+    All {
+        /// The run after which the listing begins; from the first run on where there is none.
+        after: Option<Answers>,
+        /// The number of runs that are listed, if there are that many; all of them where there is
+        /// none.
+        first: Option<u64>,
+    },
+    /// Its text is listed.
+    List,
+}
+
+/// What the tool is asked to do.
+#[derive(Debug, Drop)]
+pub struct Request {
+    /// The most commands that a run begins, 1 to 1,000,000,000.
+    pub steps: u32,
+    /// The memory that the program is given, 64 to 32767.
+    pub memory: u16,
+    /// What is done with the program.
+    pub mode: Mode,
+}
