@@ -1,0 +1,54 @@
+#!/bin/bash
+# Prints how many commands a second ptb does, and yabasic and bwbasic where they are installed: bench/steps.sh
+#
+# ptb stops a program after 10,000,000 commands by its own limit; the others run a loop of a fixed number of rounds, with
+# as many commands in a round as ptb's program has. Each line shows the best of three runs.
+set -eu
+root=$(dirname "$(readlink -f "$0")")/..
+program=$root/crates/ptb/out/ptb
+[ -x "$program" ] || "$root/ptb" <"$root/examples/hello.bas" >/dev/null
+room=$(mktemp -d)
+trap 'rm -rf "$room"' EXIT
+
+# the least time in milliseconds that the command takes in three runs
+least() {
+    local best= start spent
+    for _ in 1 2 3; do
+        start=$(date +%s%N)
+        timeout 120 "$@" </dev/null >/dev/null 2>&1 || true
+        spent=$((($(date +%s%N) - start) / 1000000 + 1))
+        if [ -z "$best" ] || [ "$spent" -lt "$best" ]; then best=$spent; fi
+    done
+    echo "$best"
+}
+
+# the line of one interpreter: its name, commands done, milliseconds
+line() { printf '  %-8s %6d.%02d million commands a second\n' "$1" $(($2 / $3 / 1000)) $(($2 / $3 % 1000 / 10)); }
+
+# a title, the program for ptb, and for each of the others a program with the number of commands that it does
+compare() {
+    printf '%s\n' "$1"
+    printf '%b' "$2" >"$room/ptb.bas"
+    line ptb 10000000 "$(least "$program" --steps 10000000 "$room/ptb.bas")"
+    printf '%b' "$3" >"$room/other.bas"
+    if command -v yabasic >/dev/null; then line yabasic "$4" "$(least yabasic "$room/other.bas")"; fi
+    printf '%b' "$5" >"$room/other.bas"
+    if command -v bwbasic >/dev/null; then line bwbasic "$6" "$(least bwbasic "$room/other.bas")"; fi
+}
+
+compare 'a sum and a jump' \
+    '10 A=0\n20 A=A+1;IF A<30000 GOTO 20\n30 GOTO 10\n' \
+    '5 K=0\n10 A=0\n20 A=A+1\n25 IF A<30000 GOTO 20\n30 K=K+1\n40 IF K<100 GOTO 10\n50 END\n' 9000000 \
+    '10 A=0\n20 A=A+1\n25 IF A<30000 THEN GOTO 20\n50 QUIT\n' 90000
+compare 'LET, IF and GOTO' \
+    '10 LET A=1,B=7\n20 LET A=A*3+B\n30 IF A>2000 LET A=A/9-B\n40 IF A#B GOTO 20\n50 GOTO 10\n' \
+    '5 K=0\n10 A=1\n15 B=7\n20 A=A*3+B\n30 IF A>2000 THEN A=INT(A/9)-B:FI\n35 K=K+1\n40 IF K<1500000 GOTO 20\n50 END\n' 6300000 \
+    '5 K=0\n10 A=1\n15 B=7\n20 A=A*3+B\n30 IF A>2000 THEN A=INT(A/9)-B\n35 K=K+1\n40 IF K<20000 THEN GOTO 20\n50 QUIT\n' 84000
+compare 'nested FOR loops' \
+    '10 FOR I=1 TO 30000;FOR J=1 TO 300;NEXT J;NEXT I\n' \
+    '10 FOR I=1 TO 10000\n20 FOR J=1 TO 300\n30 NEXT J\n40 NEXT I\n50 END\n' 3000000 \
+    '10 FOR I=1 TO 100\n20 FOR J=1 TO 300\n30 NEXT J\n40 NEXT I\n50 QUIT\n' 30000
+compare 'GOSUB and RETURN' \
+    '10 GOSUB 100;GOTO 10\n100 RETURN\n' \
+    '5 K=0\n10 GOSUB 100\n20 K=K+1\n30 IF K<2000000 GOTO 10\n40 END\n100 RETURN\n' 10000000 \
+    '5 K=0\n10 GOSUB 100\n20 K=K+1\n30 IF K<20000 THEN GOTO 10\n40 QUIT\n100 RETURN\n' 100000

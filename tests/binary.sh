@@ -1,0 +1,208 @@
+#!/bin/bash
+# Runs the built program over files, pipes and devices, and compares what it writes and its status.
+# PTB names another program than the one that ./ptb builds.
+set -u
+root=$(dirname "$(dirname "$(readlink -f "$0")")")
+ptb=${PTB:-$root/ptb}
+folder=$(mktemp -d)
+trap 'rm -rf "$folder"' EXIT
+passed=0
+failed=0
+
+# Counts a check by whether it holds.
+count() {
+    if [ "$2" = yes ]; then
+        passed=$((passed + 1))
+    else
+        failed=$((failed + 1))
+        echo "failed: $1"
+    fi
+}
+
+# Whether the last run had this status, and wrote just these bytes and this text for errors.
+is_as_due() {
+    printf '%b' "$2" >"$folder/output_due"
+    printf '%b' "$3" >"$folder/errors_due"
+    if [ "$status" = "$1" ] && cmp -s "$folder/output" "$folder/output_due" && cmp -s "$folder/errors" "$folder/errors_due"; then
+        echo yes
+    else
+        echo no
+        {
+            echo "    status $status, and $1 is due; output and errors:"
+            cat "$folder/output" "$folder/errors"
+        } >&2
+    fi
+}
+
+# run WORDS..: runs the program with these words; its input is the caller's.
+run() {
+    "$ptb" "$@" >"$folder/output" 2>"$folder/errors"
+    status=$?
+}
+
+# plain NAME PROGRAM STATUS OUTPUT WORDS..: a program on standard input, which has no input lines
+plain() {
+    local name=$1 program=$2 due=$3 output=$4
+    shift 4
+    printf '%b' "$program" >"$folder/program"
+    run "$@" <"$folder/program"
+    count "$name" "$(is_as_due "$due" "$output" '')"
+}
+
+# refused NAME PROGRAM STATUS LINE WORDS..: the same where nothing is written but a line for errors
+refused() {
+    local name=$1 program=$2 due=$3 line=$4
+    shift 4
+    printf '%b' "$program" >"$folder/program"
+    run "$@" <"$folder/program"
+    count "$name" "$(is_as_due "$due" '' "$line\\n")"
+}
+
+# complains NAME WORDS..: words that are refused with a text of their own, before anything is read
+complains() {
+    local name=$1
+    shift
+    run "$@" </dev/null
+    if [ "$status" = 64 ] && [ ! -s "$folder/output" ] && [ -s "$folder/errors" ]; then
+        count "$name" yes
+    else
+        count "$name" no
+    fi
+}
+
+"$ptb" --help >/dev/null || exit 1
+
+# ---- statuses of runs
+
+plain 'END' '10 PRINT "HI"\n' 0 'HI\n'
+plain 'an empty program' '' 0 ''
+plain 'STOP' '10 STOP\n20 PRINT\n' 0 ''
+plain 'WHAT' '10 PRINT 2*-3\n' 1 'WHAT?\n10 PRINT 2*?-3\n'
+plain 'HOW' '10 PRINT 1/0\n' 2 'HOW?\n10 PRINT 1/0?\n'
+plain 'SORRY' '10 PRINT @(32767)\n' 3 'SORRY\n10 PRINT @(32767)?\n'
+plain 'LIMIT' '10 GOTO 10\n' 4 '' --steps 5
+plain 'NOINPUT' '10 INPUT A\n' 5 'A:'
+plain 'NOANSWER' '10 PRINT RND(6)\n' 6 ''
+plain 'BADANSWER' '10 PRINT RND(6)\n' 7 '' --answers 7
+plain 'answers' '10 PRINT RND(6),RND(6)\n' 0 '     2     6\n' --answers 2,6,1
+
+# ---- listings and refused programs
+
+plain 'a listing' '10 P.1\n20 P.2\n010\tP.3\r\n20' 0 '10 P.3\n' --list
+refused 'a number too big' '32768 P.1\n' 65 'ptb: line 1: number too big'
+refused 'a bad byte' '10 P.\n20 P.\0177\n' 65 'ptb: line 2: bad byte at 6' --list
+refused 'a full program' '1 P.1234567890\n2 P.1234567890\n3 P.1234567890\n4 P.1234567890\n5 P.1\n' 65 \
+    'ptb: line 5: program full' --memory 64
+
+# ---- all runs
+
+plain 'all runs' '10 PRINT "HI"\n' 0 'RUN none END 1 3\nHI\n\n' --all
+plain 'the first runs' '10 P.RND(6)\n' 0 'RUN 1 END 1 7\n     1\n\n' --all --first 1
+plain 'the runs behind one' '10 P.RND(2)\n' 0 'RUN 2 END 1 7\n     2\n\n' --all --after 1
+refused 'answers that are no run' '10 P.RND(2)\n' 67 'ptb: not a run' --all --after 3
+
+# ---- files
+
+printf '10 INPUT A\n20 PRINT A+1\n' >"$folder/game.bas"
+printf '41\n' >"$folder/moves.txt"
+run "$folder/game.bas" <"$folder/moves.txt"
+count 'a file with input' "$(is_as_due 0 'A:41\n    42\n' '')"
+
+printf '41' | "$ptb" "$folder/game.bas" >"$folder/output" 2>"$folder/errors"
+status=$?
+count 'a file with input from a pipe' "$(is_as_due 0 'A:41\n    42\n' '')"
+
+run --list "$folder/game.bas" </dev/null
+count 'the listing of a file' "$(is_as_due 0 '10 INPUT A\n20 PRINT A+1\n' '')"
+
+run "$folder/missing.bas" </dev/null
+count 'a missing file' "$(is_as_due 66 '' 'ptb: cannot read the program\n')"
+
+run "$folder" </dev/null
+count 'a folder as the program' "$(is_as_due 66 '' 'ptb: cannot read the program\n')"
+
+run "$folder/game.bas" <"$folder"
+count 'a folder as the input' "$(is_as_due 66 '' 'ptb: cannot read the input\n')"
+
+# ---- words
+
+run --help </dev/null
+if [ "$status" = 0 ] && grep -q -e '--answers <LIST>' "$folder/output" && [ ! -s "$folder/errors" ]; then
+    count '--help' yes
+else
+    count '--help' no
+fi
+
+complains 'an unknown option' --stops 5
+complains 'no steps' --steps 0
+complains 'too many steps' --steps 1000000001
+complains 'too little memory' --memory 63
+complains 'too much memory' --memory 32768
+complains 'a number with a separator' --steps 1,000
+complains 'two programs' one.bas two.bas
+refused '--after without --all' '' 64 'ptb: --after needs --all' --after 1
+refused '--first without --all' '' 64 'ptb: --first needs --all' --first 1
+refused '--answers with --all' '' 64 'ptb: --answers excludes --all' --answers 1 --all
+refused '--list with --answers' '' 64 'ptb: --list stands alone' --list --answers none
+refused 'a bad list' '' 64 'ptb: bad list' --answers 01
+
+# ---- writers that fail
+
+printf '10 PRINT "HI"\n20 GOTO 10\n' >"$folder/loop.bas"
+for words in '' --list; do
+    # shellcheck disable=SC2086
+    "$ptb" $words "$folder/loop.bas" </dev/null >/dev/full 2>"$folder/errors"
+    status=$?
+    : >"$folder/output"
+    count "a full device $words" "$(is_as_due 74 '' 'ptb: cannot write\n')"
+done
+
+mkfifo "$folder/pipe"
+for words in '' --list; do
+    # the reader opens the pipe and goes before the program writes
+    (: <"$folder/pipe") &
+    reader=$!
+    (
+        exec >"$folder/pipe"
+        wait "$reader" 2>/dev/null
+        sleep 0.2
+        # shellcheck disable=SC2086
+        exec "$ptb" $words "$folder/loop.bas" </dev/null 2>"$folder/errors"
+    )
+    status=$?
+    wait "$reader"
+    : >"$folder/output"
+    count "a pipe whose reader has gone $words" "$(is_as_due 74 '' 'ptb: cannot write\n')"
+done
+
+# ---- the examples, each with its input and its answers
+
+for transcript in "$root"/examples/*.transcript; do
+    example=${transcript%.transcript}
+    answers=none
+    if [ -f "$example.answers" ]; then answers=$(cat "$example.answers"); fi
+    run --answers "$answers" "$example.bas" <"$example.input"
+    if cmp -s "$folder/output" "$transcript" && [ ! -s "$folder/errors" ]; then
+        count "example $(basename "$example")" yes
+    else
+        count "example $(basename "$example")" no
+    fi
+done
+
+# six shares of a tree are, one after the other, the whole
+run --all "$root/examples/throw.bas" </dev/null
+mv "$folder/output" "$folder/whole"
+run --all --first 36 "$root/examples/throw.bas" </dev/null
+mv "$folder/output" "$folder/shares"
+for first in 1 2 3 4 5; do
+    run --all --after "$first,6,6" --first 36 "$root/examples/throw.bas" </dev/null
+    cat "$folder/output" >>"$folder/shares"
+done
+if [ "$(grep -c '^RUN ' "$folder/whole")" = 216 ] && cmp -s "$folder/whole" "$folder/shares"; then
+    count 'shares of a tree' yes
+else
+    count 'shares of a tree' no
+fi
+
+echo "$passed passed, $failed failed"
+[ "$failed" = 0 ]
