@@ -14,7 +14,8 @@ use Rattle.std.proofs.lemmas.Int.{ints}
 use Rattle.std.proofs.lemmas.Fmt.{decimal_digit, decimal_is_IsNumeral, first_decimal, decimal-digits_value, parse-signed_decimal, signed_decimal_injective}
 use Rattle.std.proofs.lemmas.Str.Parse.{IsNumeralModel, numerals_by_value, tells_digits, digit_at, parse_signed_plain}
 use mir.Syntax.{w16}
-use Rattle.ptb.specs.AnswerLists.{IsAnswer, SpellsAnswer, spelling, SpellsList}
+use Rattle.ptb_explore.specs.Report.{spelling}
+use Rattle.ptb.specs.AnswerLists.{IsAnswer, SpellsAnswer, SpellsList}
 
 -- the first byte of an answer is a digit, and no zero
 pub SpellsAnswer-first : (s : List ℕ) (k : ℤ) → SpellsAnswer s k → (0 < length s) × (49 ≤ get_or s 0 0) × (get_or s 0 0 ≤ 57)

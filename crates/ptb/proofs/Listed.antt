@@ -124,14 +124,14 @@ module _ (p : StoredProgram) (limit : ℕ) (after : Option Answers) (first : Opt
     serves_written : (input : List (List ℕ)) (f : Front) (n : ℕ) → is_front (course input) after ≡ true → Writes input f (Ok n)
         → Serves (reply input) old new (outcome_of (Ok 0))
     serves_written input f n h w =
-        subst (λ r. Serves r old new (outcome_of (Ok 0))) (sym (reply-listed input h)) (record { bytes = w.written; status = refl; note = refl })
+        subst (λ r. Serves r old new (outcome_of (Ok 0))) (sym (reply-listed input h)) (record { bytes = w.bytes; status = refl; note = refl })
 
     serves_cut : (input : List (List ℕ)) (f : Front) (fault : ExploreFault) → is_front (course input) after ≡ true → Writes input f (Err fault)
         → Serves (reply input) old new (outcome_of (Err (reports_note fault)))
     serves_cut input f (explores.Memory n) h w =
-        takes_due input _ h w.written (text-beginning (report (course input)) _ w.done w.rest w.split)
+        takes_due input _ h w.bytes (text-beginning (report (course input)) _ w.beginning w.rest w.split)
     serves_cut input f (explores.Write n) h w =
-        takes_due input _ h w.written (text-into (report (course input)) _ w.done w.at w.rest w.part w.unwritten w.split w.cut)
+        takes_due input _ h w.bytes (text-into (report (course input)) _ w.beginning w.at w.rest w.part w.remainder w.split w.cut)
 
     -- by the bytes of the input, of which the lines are those that were read, and an explorer that went on from its front
     module _ (c : List ℕ) (input : List (List ℕ)) (is : input ≡ input_lines c) (e : Exploration) (f : Front)

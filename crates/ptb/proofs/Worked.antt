@@ -20,7 +20,7 @@ pub run_rows : RunRows
 unfolding digits after_lines past_blanks spelling_in_front word_at bytes_at letter_at number_at quotation_at answer random_number value target_of product_operator sum_operator comparison more paren variable_or variable plain factor product first_product sum expr_with expr expression variable_tree items_within items assignment string_at print_item print_parts input_item step_parts limit_parts for_parts next_parts parts_of command_at command_round commands_from next_command input_course parts_course finish command_course act turn turns_within turns play program_of_text
 run_rows = record {
   greeting = refl;
-  answered = refl;
+  one_answer = refl;
   answers_left = refl;
   no_answer = refl;
   bad_answer = refl;
@@ -47,7 +47,7 @@ program_rows = record {
   loop_of_subroutine = refl;
   stop = refl;
   end_at_limit = refl;
-  unread = refl;
+  missing_line = refl;
 }
 
 pub example_rows : ExampleRows
@@ -56,7 +56,7 @@ example_rows = record {
   two_dice = refl;
   many = refl;
   twelve = refl;
-  unclosed = refl;
+  open_paren = refl;
   blank_before_mark = refl;
   no_blanks = refl;
   blank_in_word = refl;
@@ -124,7 +124,7 @@ unfolding digits after_lines program_of_text
 listing_rows = record {
   listing = refl;
   empty = refl;
-  rising = refl;
+  line_order = refl;
 }
 
 pub clash_rows : ClashRows

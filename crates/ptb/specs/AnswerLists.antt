@@ -1,12 +1,11 @@
 -- This file defines how a list of answers is written.
 --     IsAnswer k          a number that can stand in a list
 --     SpellsAnswer s k    the text s writes the answer k
---     spelling a          the list as text: `none`, or its answers with commas between them
 --     SpellsList s a      the text s writes the list a
 --     IsMisspelled s      the text s writes no list
-use Rattle.std.specs.Prelude.{◌≡◌, ℕ, List, [], ◌∷◌, ◌++◌, codes, ℤ, pos, ◌≤ℤ◌, All}
-use Rattle.std.specs.List.{flat_map}
+use Rattle.std.specs.Prelude.{◌≡◌, ℕ, List, ℤ, pos, ◌≤ℤ◌, All}
 use Rattle.std.specs.Fmt.{signed_decimal}
+use Rattle.ptb_explore.specs.Report.{spelling}
 
 -- an answer is from 1 to 32767
 abbrev pub IsAnswer : ℤ → Type 0
@@ -16,14 +15,7 @@ IsAnswer k = (pos 1 ≤ℤ k) × (k ≤ℤ pos 32767)
 abbrev pub SpellsAnswer : List ℕ → ℤ → Type 0
 SpellsAnswer s k = IsAnswer k × (signed_decimal k ≡ s)
 
--- answers behind the first, each with a comma in front
-abbrev pub more_spelling : List ℤ → List ℕ
-more_spelling a = flat_map (λ k. codes "," ++ signed_decimal k) a
-
-abbrev pub spelling : List ℤ → List ℕ
-spelling [] = codes "none"
-spelling (k ∷ a) = signed_decimal k ++ more_spelling a
-
+-- as reports write it: `none`, or its answers with commas between them
 abbrev pub SpellsList : List ℕ → List ℤ → Type 0
 SpellsList s a = All IsAnswer a × (spelling a ≡ s)
 

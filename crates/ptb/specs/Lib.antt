@@ -1,3 +1,4 @@
+-- This file names the files of definitions.
 pub mod AnswerLists
 pub mod CommandLine
 pub mod Options

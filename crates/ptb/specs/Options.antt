@@ -5,7 +5,7 @@
 --     clash o                    the fault of options that don't go together
 --     Asks o r                   the options ask for the request r
 --     Refuses o fault            why they ask for none
-use Rattle.std.specs.Prelude.{◌≡◌, ℕ, ◌^◌, ◌≤◌, nat_lt, Bool, true, false, not, ◌&&◌, ◌||◌, if◌then◌else◌, List, length, Option, Some, None, is_some, IsSome, unwrap_or, option_and_then, find, IsSomeAnd, ℤ, codes}
+use Rattle.std.specs.Prelude.{◌≡◌, ℕ, ◌^◌, nat_lt, Bool, true, false, not, ◌&&◌, ◌||◌, if◌then◌else◌, List, length, Option, Some, None, is_some, IsSome, unwrap_or, option_and_then, find, IsSomeAnd, ℤ, codes}
 use Rattle.std.specs.Option.{ForSome, option_or}
 use Rattle.std.specs.Str.{all_ascii_digits, bytes_eq}
 use Rattle.std.specs.Str.Parse.{digits_value, without_leading_plus}
@@ -13,6 +13,7 @@ use Rattle.clap.specs.Words.{Row, first_of, found_of, one_of, rows_of}
 use Rattle.clap.specs.declared.parser.ArgMatches.{ArgMatches}
 use Rattle.clap.specs.declared.parser.ValueSource.{ValueSource}
 use Rattle.clap.specs.declared.parser.ValueSource.TheVariants.{CommandLine}
+use Rattle.ptb_text.specs.Statements.{IsMemorySize}
 use Rattle.ptb.specs.AnswerLists.{SpellsList, IsMisspelled}
 use Rattle.ptb.specs.declared.answers.ListFault.{ListFault}
 use Rattle.ptb.specs.declared.answers.ListFault.TheVariants as lists
@@ -71,10 +72,6 @@ options_of entries = record {
   first = number_of 64 (codes "first") entries;
   list = is_given (codes "list") entries;
 }
-
--- a memory that a program can be given
-abbrev pub IsMemorySize : ℕ → Type 0
-IsMemorySize n = (64 ≤ n) × (n ≤ 32767)
 
 -- the size that --memory gives, if it stands there, is one
 abbrev pub HasMemorySize : Options → Type 0

@@ -8,6 +8,7 @@ use Rattle.ptb_text.specs.Device.{HasFailed}
 use Rattle.ptb_machine.specs.declared.ending.Ending.{Ending}
 use Rattle.ptb_machine.specs.declared.fault.ReadFault.{ReadFault}
 use Rattle.ptb_machine.specs.declared.fault.ReadFault.TheVariants as reads
+use Rattle.ptb_machine.specs.declared.whole_input.TheConstants.{INPUT_LIMIT}
 use Rattle.ptb_machine.specs.declared.fault.RunFault.{RunFault}
 use Rattle.ptb_machine.specs.declared.fault.RunFault.TheVariants as runs
 
@@ -22,7 +23,7 @@ run_fault reads.Memory = runs.Memory
 
 -- the bytes that an input may have
 abbrev pub input_limit : ℕ
-input_limit = 16777216
+input_limit = INPUT_LIMIT
 
 -- by the bytes of a reader, where they are known, and how often it has failed
 abbrev pub IsUnreadable : Option (List ℕ) → ℕ → ℕ → Type 0

@@ -51,7 +51,7 @@ run_end bytes status = record { bytes = bytes; status = status; note = None }
 
 pub record RunRows : Type 0 where
   pub greeting : reply_to (run []) (codes "10 PRINT \"HI\"") [] ≡ success (one_line (codes "HI"))
-  pub answered : reply_to (run (pos 2 ∷ [])) (codes "10 P.RND(2)") [] ≡ run_end (one_line (codes "     2")) 0
+  pub one_answer : reply_to (run (pos 2 ∷ [])) (codes "10 P.RND(2)") [] ≡ run_end (one_line (codes "     2")) 0
   pub answers_left : reply_to (run (pos 1 ∷ pos 9 ∷ [])) (codes "10 P.RND(2)") [] ≡ run_end (one_line (codes "     1")) 0
   pub no_answer : reply_to (run []) (codes "10 P.RND(2)") [] ≡ run_end [] 6
   pub bad_answer : reply_to (run (pos 3 ∷ [])) (codes "10 P.RND(2)") [] ≡ run_end [] 7
@@ -76,7 +76,7 @@ pub record ProgramRows : Type 0 where
   pub loop_of_subroutine : reply_to (run []) (codes "10 GOS.30;N.J\n30 F.J=1TO9;R.\n") [] ≡ run_end (codes "WHAT?\n10 GOS.30;N.J?\n") 1
   pub stop : reply_to (run []) (codes "10 GOSUB 40;P.1\n20 STOP\n40 P.2;RETURN\n") [] ≡ run_end (codes "     2\n     1\n") 0
   pub end_at_limit : reply_to (record (run []) { steps = 1 }) (codes "10 P.1") [] ≡ run_end (codes "     1\n") 0
-  pub unread : reply_to (run []) (codes "10 INPUT A,B") (codes "5\n") ≡ run_end (codes "A:5\nB:") 5
+  pub missing_line : reply_to (run []) (codes "10 INPUT A,B") (codes "5\n") ≡ run_end (codes "A:5\nB:") 5
 
 -- the examples of docs/LANGUAGE.md
 pub record ExampleRows : Type 0 where
@@ -85,7 +85,7 @@ pub record ExampleRows : Type 0 where
       ≡ run_end (codes "YOU ROLL  4  4\nYOU ROLL  1  6\nSUM     7\n") 0
   pub many : reply_to (run []) (codes "10 INPUT \"HOW MANY\"N;PRINT N*N") (codes "MANY\n") ≡ run_end (codes "HOW MANY:MANY\n     0\n") 0
   pub twelve : reply_to (run []) (codes "10 INPUT \"HOW MANY\"N;PRINT N*N") (codes "(\n12\n") ≡ run_end (codes "HOW MANY:(\nWHAT?\nHOW MANY:12\n   144\n") 0
-  pub unclosed : reply_to (run []) (codes "10 PRINT (1+2") [] ≡ run_end (codes "WHAT?\n10 PRINT (1+2?\n") 1
+  pub open_paren : reply_to (run []) (codes "10 PRINT (1+2") [] ≡ run_end (codes "WHAT?\n10 PRINT (1+2?\n") 1
   pub blank_before_mark : reply_to (run []) (codes "10 A=1/0 ;PRINT A") [] ≡ run_end (codes "HOW?\n10 A=1/0 ?;PRINT A\n") 2
   pub no_blanks : reply_to (run []) (codes "10 FORI=1TO3;PRINTI,;NEXTI") [] ≡ run_end (codes "     1     2     3") 0
   pub blank_in_word : reply_to (run []) (codes "10 G O T O 10") [] ≡ run_end (codes "WHAT?\n10 G ?O T O 10\n") 1
@@ -157,7 +157,7 @@ pub record RefusalRows : Type 0 where
 pub record ListingRows : Type 0 where
   pub listing : reply_to list (text (codes "10 P.1" ∷ codes "20 P.2" ∷ (codes "010" ++ 9 ∷ codes "P.3" ++ 13 ∷ []) ∷ codes "20" ∷ [])) [] ≡ success (one_line (codes "10 P.3"))
   pub empty : reply_to list [] [] ≡ success []
-  pub rising : reply_to list (text (codes "20 P.2" ∷ codes "5 P.1" ∷ [])) [] ≡ success (text (codes "5 P.1" ∷ codes "20 P.2" ∷ []))
+  pub line_order : reply_to list (text (codes "20 P.2" ∷ codes "5 P.1" ∷ [])) [] ≡ success (text (codes "5 P.1" ∷ codes "20 P.2" ∷ []))
 
 -- ---- the command line
 

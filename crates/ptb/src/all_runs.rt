@@ -1,6 +1,7 @@
 // This file has the listing of all runs of a program, each with its report.
 
-ghost use Rattle.std.specs.Prelude.{◌≡◌, ◌⊎◌, ◌+◌, ◌≤◌, ℕ, List, length, IfErr, IfOk, IfSome, IsErrOf, OnOk, false, true};
+ghost use Rattle.std.specs.Prelude.{◌≡◌, ◌⊎◌, ◌+◌, ◌≤◌, ℕ, List, length, false, true};
+ghost use Rattle.std.specs.Prelude.{IfErr, IfOk, IfSome, IsErrOf, OnOk};
 ghost use Rattle.ptb_text.specs.Device.{HasFailed};
 ghost use Rattle.ptb_text.specs.Statements.{IsMemorySize, program_limit};
 ghost use Rattle.ptb_machine.specs.Play.{play};
@@ -29,8 +30,8 @@ use std::alloc::Global;
 ///
 /// Those of loading; [`Note::InputUnread`] where the input could not be read or has more than
 /// 16,777,216 bytes; [`Note::NoRun`] where `after` is no run: nothing was written with these.
-/// [`Note::OutOfMemory`] where a growth was refused memory, and [`Note::Unwritten`] where the writer
-/// failed: a beginning of the reports was written.
+/// [`Note::OutOfMemory`] where a growth was refused memory, and [`Note::Unwritten`] where the
+/// writer failed: a beginning of the reports was written.
 pub fn list_runs<P: Read, R: Read, W: Write>(
     alloc: Global,
     request: &Request,
@@ -56,8 +57,10 @@ pub fn list_runs<P: Read, R: Read, W: Write>(
         (IfSome (R.remaining input.old) (λ c. length c ≤ input_limit)) }
     ensures no_run_within { IsErrOf result Note.NoRun
         → IfSome (R.remaining input.old) (λ c. length c ≤ input_limit) }
-    ensures program_bounded { ConsumesAtMost (P.remaining program.old) (P.remaining program.new) (program_limit + 1) }
-    ensures input_bounded { ConsumesAtMost (R.remaining input.old) (R.remaining input.new) (input_limit + 1) }
+    ensures program_bounded { ConsumesAtMost
+        (P.remaining program.old) (P.remaining program.new) (program_limit + 1) }
+    ensures input_bounded { ConsumesAtMost
+        (R.remaining input.old) (R.remaining input.new) (input_limit + 1) }
     ensures silent { SilentBy (All after.now first) (outcome_of result).note
         (W.contents out.old) (W.contents out.new) }
     ensures program_unread { IsErrOf result Note.ProgramUnread

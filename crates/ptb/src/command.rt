@@ -1,6 +1,6 @@
 // This file has the command line with its options, and what clap finds there.
 
-ghost use Rattle.std.specs.Prelude.{◌≡◌, IfOk, false, codes, map};
+ghost use Rattle.std.specs.Prelude.{◌≡◌, IfOk, false, map};
 ghost use Rattle.clap.specs.Words.{FailsBy, app_of, fault_of, matches_of, rule_of};
 ghost use Rattle.ptb.specs.CommandLine.{flag, number_option, operand, text_option, tool};
 ghost use Rattle.ptb.specs.Options.{HasMemorySize, entries_of, options_of};
@@ -27,14 +27,14 @@ pub fn command<'a>(alloc: Global) -> Result<Command<'a>, AllocError>
     Command::new(alloc, "ptb")
         .about(help::ABOUT)
         .after_help(help::AFTER)
-        .arg(number(alloc, "steps", steps, help::STEPS))?
-        .arg(number(alloc, "memory", memory, help::MEMORY))?
-        .arg(list(alloc, "answers", help::ANSWERS))?
-        .arg(switch(alloc, "all", help::ALL))?
-        .arg(list(alloc, "after", help::ALL_AFTER))?
-        .arg(number(alloc, "first", first, help::FIRST))?
-        .arg(switch(alloc, "list", help::LIST))?
-        .arg(program(alloc))
+        .arg(number_option(alloc, "steps", steps, help::STEPS))?
+        .arg(number_option(alloc, "memory", memory, help::MEMORY))?
+        .arg(text_option(alloc, "answers", help::ANSWERS))?
+        .arg(flag(alloc, "all", help::ALL))?
+        .arg(text_option(alloc, "after", help::ALL_AFTER))?
+        .arg(number_option(alloc, "first", first, help::FIRST))?
+        .arg(flag(alloc, "list", help::LIST))?
+        .arg(operand(alloc, "program", "PROGRAM", help::PROGRAM))
 }
 
 /// What clap finds in the words of the command line, of which the first is the program's name.
@@ -43,7 +43,8 @@ pub fn command<'a>(alloc: Global) -> Result<Command<'a>, AllocError>
 ///
 /// clap's error, with its text; where the words are right that is want of memory alone.
 pub fn parse<'a, S: AsStr>(alloc: Global, words: &'a [S]) -> Result<ArgMatches<'a>, Error>
-    ensures entries { IfOk result (λ m. entries_of m ≡ matches_of tool (map S.text words.entry.now)) }
+    ensures entries { IfOk result (λ m.
+        entries_of m ≡ matches_of tool (map S.text words.entry.now)) }
     ensures memory { IfOk result (λ m. HasMemorySize (options_of (entries_of m))) }
     ensures kinds { FailsBy (fault_of tool (map S.text words.entry.now)) result }
 {
@@ -62,7 +63,12 @@ pub fn refusal_status(kind: ErrorKind) -> u8
 }
 
 // An option with a number.
-fn number<'a>(alloc: Global, name: &'a str, parser: ValueParser<'a>, help: &'a str) -> Arg<'a>
+fn number_option<'a>(
+    alloc: Global,
+    name: &'a str,
+    parser: ValueParser<'a>,
+    help: &'a str,
+) -> Arg<'a>
     ensures rule { rule_of result ≡ number_option name.entry.now parser.entry }
     ensures local { result.global ≡ false }
 {
@@ -73,8 +79,8 @@ fn number<'a>(alloc: Global, name: &'a str, parser: ValueParser<'a>, help: &'a s
         .help(help)
 }
 
-// An option with a list of answers.
-fn list<'a>(alloc: Global, name: &'a str, help: &'a str) -> Arg<'a>
+// An option with a text: a list of answers.
+fn text_option<'a>(alloc: Global, name: &'a str, help: &'a str) -> Arg<'a>
     ensures rule { rule_of result ≡ text_option name.entry.now }
     ensures local { result.global ≡ false }
 {
@@ -85,7 +91,7 @@ fn list<'a>(alloc: Global, name: &'a str, help: &'a str) -> Arg<'a>
 }
 
 // An option without a value.
-fn switch<'a>(alloc: Global, name: &'a str, help: &'a str) -> Arg<'a>
+fn flag<'a>(alloc: Global, name: &'a str, help: &'a str) -> Arg<'a>
     ensures rule { rule_of result ≡ flag name.entry.now }
     ensures local { result.global ≡ false }
 {
@@ -95,12 +101,10 @@ fn switch<'a>(alloc: Global, name: &'a str, help: &'a str) -> Arg<'a>
         .help(help)
 }
 
-// The word that names the program's file.
-fn program<'a>(alloc: Global) -> Arg<'a>
-    ensures rule { rule_of result ≡ operand (codes "program") }
+// A word that is no option. Help shows it by its value's name.
+fn operand<'a>(alloc: Global, name: &'a str, value_name: &'a str, help: &'a str) -> Arg<'a>
+    ensures rule { rule_of result ≡ operand name.entry.now }
     ensures local { result.global ≡ false }
 {
-    Arg::new(alloc, "program")
-        .value_name("PROGRAM")
-        .help(help::PROGRAM)
+    Arg::new(alloc, name).value_name(value_name).help(help)
 }

@@ -2,7 +2,10 @@
 
 ghost use Rattle.std.specs.Prelude.{◌≡◌, None, IfErr, IfOk};
 ghost use Rattle.std.specs.Option.{option_copied};
-ghost use Rattle.ptb.specs.Options.{Asks, AsksMode, HasMemorySize, IsMemorySize, Refuses, RefusesList, SpellsIfGiven, clash, entries_of, is_given, list_of, options_of};
+ghost use Rattle.ptb_text.specs.Statements.{IsMemorySize};
+ghost use Rattle.ptb.specs.Options.{Asks, AsksMode, HasMemorySize, Refuses, RefusesList};
+ghost use Rattle.ptb.specs.Options.{SpellsIfGiven, clash, entries_of, is_given, list_of};
+ghost use Rattle.ptb.specs.Options.{options_of};
 
 use crate::answers::{Answers, ListFault, parse_answers};
 use crate::request::{Mode, Request};
@@ -12,8 +15,10 @@ use clap::parser::ValueSource;
 use std::alloc::Global;
 use std::marker::Model;
 
+// Where --steps is left out.
 const DEFAULT_STEPS: u32 = 10_000;
 
+// Where --memory is left out.
 const DEFAULT_MEMORY: u16 = 4096;
 
 /// The request that the words of the command line make.
@@ -71,6 +76,7 @@ impl<'a> Model for CommandLine<'a> {
 }
 
 impl<'a> CommandLine<'a> {
+    // What clap found on the command line.
     fn of(matches: &ArgMatches<'a>) -> CommandLine<'a>
         ensures { result ≡ options_of (entries_of matches.now) }
     {

@@ -1,25 +1,35 @@
 // This file has the texts of `--help`.
 
+/// What the program is for: the first line.
 pub const ABOUT: &str = "Runs a program of Palo Alto Tiny BASIC, version 1, or lists it.";
 
+/// The help of `--steps`.
 pub const STEPS: &str = "Begin at most N commands, 1 to 1000000000 [default: 10000]";
 
+/// The help of `--memory`.
 pub const MEMORY: &str = "Give the program N bytes of memory, 64 to 32767 [default: 4096]";
 
+/// The help of `--answers`.
 pub const ANSWERS: &str =
     "Answer the questions of RND with these numbers, in order [default: none]";
 
+/// The help of `--all`.
 pub const ALL: &str = "Write a report of every run, in the order of their answers";
 
+/// The help of `--after`.
 pub const ALL_AFTER: &str = "With --all, begin after the run with these answers";
 
+/// The help of `--first`.
 pub const FIRST: &str = "With --all, write at most N reports, 1 to 1000000000";
 
+/// The help of `--list`.
 pub const LIST: &str = "Write the program's lines in the order of their numbers, and run nothing";
 
+/// The help of the word that names the program's file.
 pub const PROGRAM: &str =
     "The program's file; without it standard input is the program, and INPUT finds no line";
 
+/// What stands behind the options: how lists are written, the statuses, and examples.
 pub const AFTER: &str = "\
 A LIST is none, or numbers from 1 to 32767 with commas between them, as 2,1,6.
 

@@ -6,7 +6,8 @@
 //! files and streams is tested, not proved.
 #![tactic(auto)]
 
-ghost use Rattle.ptb.specs.Options.{HasMemorySize, IsMemorySize, entries_of, options_of};
+ghost use Rattle.ptb_text.specs.Statements.{IsMemorySize};
+ghost use Rattle.ptb.specs.Options.{HasMemorySize, entries_of, options_of};
 
 mod all_runs;
 mod answers;

@@ -27,20 +27,20 @@ use std::alloc::Global;
 /// [`RunFault::Spent`].
 pub fn run_plain<R: Read, W: Write>(
     alloc: Global,
-    p: &Program,
+    program: &Program,
     answers: &[i16],
     limit: u32,
     input: &mut R,
     out: &mut W,
 ) -> Result<Ending, RunFault>
     ensures ok { IfOk result (λ ending. IfSome (R.remaining input.old) (λ c.
-        ShowsRun (plain p.now (input_lines c) limit answers.now)
+        ShowsRun (plain program.now (input_lines c) limit answers.now)
         (W.contents out.old) (W.contents out.new) ending)) }
     ensures within { OnOk result
         (IfSome (R.remaining input.old) (λ c. length c ≤ input_limit)) }
     ensures write { IsErrOf result RunFault.Write → IfSome (R.remaining input.old) (λ c.
         TakesSome (W.contents out.old) (W.contents out.new)
-        (plain p.now (input_lines c) limit answers.now).0) }
+        (plain program.now (input_lines c) limit answers.now).0) }
     ensures failed { IsErrOf result RunFault.Write
         → HasFailed (W.failures out.old) (W.failures out.new) }
     ensures memory { IsErrOf result RunFault.Memory
@@ -54,7 +54,8 @@ pub fn run_plain<R: Read, W: Write>(
     ensures unfailed { IsErrOf result RunFault.Memory
         → W.failures out.new ≡ W.failures out.old }
     ensures unspent { ¬ IsErrOf result RunFault.Spent }
-    ensures bounded { ConsumesAtMost (R.remaining input.old) (R.remaining input.new) (input_limit + 1) }
+    ensures bounded { ConsumesAtMost (R.remaining input.old) (R.remaining input.new)
+        (input_limit + 1) }
 {
     let lines = match read_lines(alloc, input) {
         Ok(lines) => lines,
@@ -63,7 +64,14 @@ pub fn run_plain<R: Read, W: Write>(
     let mut chooser = Listed::new(answers);
     let mut screen = WriterScreen::new(out);
     let mut source = Lines::new(&lines);
-    run(alloc, p, limit, &mut chooser, &mut screen, &mut source)
+    run(
+        alloc,
+        program,
+        limit,
+        &mut chooser,
+        &mut screen,
+        &mut source,
+    )
 }
 
 // A run on an input that isn't read.

@@ -1,6 +1,8 @@
 // This file states that the worked rows hold of the definitions.
 
-ghost use Rattle.ptb.specs.Rows.{AfterRows, AllRows, ClashRows, ExampleRows, FaultRows, ListRows, ListingRows, LongRunRows, OptionRows, ProgramRows, RefusalRows, RunRows};
+ghost use Rattle.ptb.specs.Rows.{AfterRows, AllRows, ClashRows, ExampleRows, FaultRows, ListRows};
+ghost use Rattle.ptb.specs.Rows.{ListingRows, LongRunRows, OptionRows, ProgramRows, RefusalRows};
+ghost use Rattle.ptb.specs.Rows.{RunRows};
 
 /// Worked rows of plain runs.
 #[tactic(auto, using(crate::proofs::Worked::run_rows))]

@@ -1,6 +1,7 @@
 // This file serves a request: it loads the program, and runs it, reports all its runs, or lists it.
 
-ghost use Rattle.std.specs.Prelude.{◌≡◌, ◌≢◌, ◌+◌, ◌≤◌, ℕ, List, [], length, IfErr, IfOk, IfSome, IsErrOf, MatchOption, OnOk};
+ghost use Rattle.std.specs.Prelude.{◌≡◌, ◌≢◌, ◌+◌, ◌≤◌, ℕ, List, [], length};
+ghost use Rattle.std.specs.Prelude.{IfErr, IfOk, IfSome, IsErrOf, MatchOption, OnOk};
 ghost use Rattle.ptb_text.specs.Device.{HasFailed};
 ghost use Rattle.ptb_text.specs.Statements.{IsMemorySize, program_limit};
 ghost use Rattle.ptb_machine.specs.Play.{status};
@@ -9,7 +10,8 @@ ghost use Rattle.ptb.specs.declared.note.Note.TheVariants.{Load};
 ghost use Rattle.ptb.specs.declared.request.Mode.TheVariants.{List as Listing, Plain};
 ghost use Rattle.ptb.specs.PlainRuns.{IsUnreadable, input_limit};
 ghost use Rattle.ptb.specs.Replies.{program_of_text, refusal, reply_in_mode, reply_to};
-ghost use Rattle.ptb.specs.Serving.{IsInput, IsPlainRun, IsRunNote, NeedsInput, Serves, SilentBy, outcome_of};
+ghost use Rattle.ptb.specs.Serving.{IsInput, IsPlainRun, IsRunNote, NeedsInput, Serves, SilentBy};
+ghost use Rattle.ptb.specs.Serving.{outcome_of};
 ghost use Rattle.ptb.specs.Statuses.{note_status};
 
 use crate::all_runs::list_runs;
@@ -79,8 +81,10 @@ pub fn serve<P: Read, R: Read, W: Write>(
         → IfSome (R.remaining input.old) (λ c. length c ≤ input_limit) }
     ensures no_run_within { result.note ≡ Some Note.NoRun
         → IfSome (R.remaining input.old) (λ c. length c ≤ input_limit) }
-    ensures program_bounded { ConsumesAtMost (P.remaining program.old) (P.remaining program.new) (program_limit + 1) }
-    ensures input_bounded { ConsumesAtMost (R.remaining input.old) (R.remaining input.new) (input_limit + 1) }
+    ensures program_bounded { ConsumesAtMost
+        (P.remaining program.old) (P.remaining program.new) (program_limit + 1) }
+    ensures input_bounded { ConsumesAtMost
+        (R.remaining input.old) (R.remaining input.new) (input_limit + 1) }
     ensures silent { SilentBy request.now.mode result.note
         (W.contents out.old) (W.contents out.new) }
     ensures program_unread { result.note ≡ Some Note.ProgramUnread
@@ -133,8 +137,10 @@ fn run_program<P: Read, R: Read, W: Write>(
     ensures within { OnOk result
         (IfSome (R.remaining input.old) (λ c. length c ≤ input_limit)) }
     ensures no_start { ¬ IsErrOf result Note.NoRun }
-    ensures program_bounded { ConsumesAtMost (P.remaining program.old) (P.remaining program.new) (program_limit + 1) }
-    ensures input_bounded { ConsumesAtMost (R.remaining input.old) (R.remaining input.new) (input_limit + 1) }
+    ensures program_bounded { ConsumesAtMost
+        (P.remaining program.old) (P.remaining program.new) (program_limit + 1) }
+    ensures input_bounded { ConsumesAtMost
+        (R.remaining input.old) (R.remaining input.new) (input_limit + 1) }
     ensures silent { SilentBy (Plain answers.now) (outcome_of result).note
         (W.contents out.old) (W.contents out.new) }
     ensures program_unread { IsErrOf result Note.ProgramUnread
@@ -173,7 +179,8 @@ fn list_program<P: Read, W: Write>(
         IfErr (program_of_text request.now.memory b) (λ e. Serves (refusal (Load e.0 e.1))
         (W.contents out.old) (W.contents out.new) (outcome_of result))) }
     ensures done { OnOk result (result ≡ Ok 0) }
-    ensures program_bounded { ConsumesAtMost (P.remaining program.old) (P.remaining program.new) (program_limit + 1) }
+    ensures program_bounded { ConsumesAtMost
+        (P.remaining program.old) (P.remaining program.new) (program_limit + 1) }
     ensures silent { SilentBy Listing (outcome_of result).note
         (W.contents out.old) (W.contents out.new) }
     ensures program_unread { IsErrOf result Note.ProgramUnread

@@ -65,7 +65,7 @@ module _ {A W : Type 0} (play : Answers → Outcome A W) (most : ℕ) (reads : I
         ones = replicate (length answers - planned) (pos 1);
         all_ones = all_ones (length answers - planned);
         answers_are = took.ones_behind ∙ ap (λ p. p ++ replicate (length answers - planned) (pos 1)) took.plan_is;
-        played = ap play (sym t) ∙ took.came;
+        outcome = ap play (sym t) ∙ took.came;
         bounds_are = b ∙ ap (bounds play) t;
       }
 

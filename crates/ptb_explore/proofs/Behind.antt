@@ -35,7 +35,7 @@ module _ {A W : Type 0} (play : Answers → Outcome A W) (most : ℕ) (reads : I
   pub listing_laws : ListingLaws play most
   listing_laws = record {
     behind = behind;
-    joined = λ report front back r e.
+    whole_text = λ report front back r e.
         ap (λ s. text report (front ++ r ∷ []) ++ text report s) (behind front back r e)
         ∙ sym (text-append report (front ++ r ∷ []) back)
         ∙ ap (text report) (append_assoc front (r ∷ []) back ∙ sym e);

@@ -1,5 +1,5 @@
 -- This file proves laws of the bounds of answers.
-use Rattle.std.proofs.Common.{◌≡◌, ℕ, zero, suc, List, [], ◌∷◌, ◌++◌, length, take, refl, ap, sym, ◌∙◌, arith, append_assoc, append-nil}
+use Rattle.std.proofs.Common.{◌≡◌, List, [], ◌∷◌, ◌++◌, length, refl, ap, sym, ◌∙◌, arith, append_assoc, append-nil}
 use Rattle.std.specs.Prelude.{ℤ, Some}
 use Rattle.ptb_expr.specs.Outcome.{Answers, Outcome, bound_of, bounds, bounds_after}
 use Rattle.ptb_expr.specs.Choices.{Choices, with_bounds, Asked, Reaches}
@@ -14,11 +14,6 @@ module _ {A W : Type 0} (play : Answers → Outcome A W) where
   bounds-append p [] t = ap (λ q. bounds_after play q t) (sym (append-nil p))
   bounds-append p (k ∷ s) t =
       ap (λ l. bound_of (play p) ∷ l) (bounds-append (p ++ k ∷ []) s t ∙ ap (λ q. bounds_after play (p ++ k ∷ []) s ++ bounds_after play q t) (append_assoc p (k ∷ []) s))
-
-  pub bounds-take : (n : ℕ) (p a : Answers) → take n (bounds_after play p a) ≡ bounds_after play p (take n a)
-  bounds-take zero p a = refl
-  bounds-take (suc n) p [] = refl
-  bounds-take (suc n) p (k ∷ a) = ap (λ l. bound_of (play p) ∷ l) (bounds-take n (p ++ k ∷ []) a)
 
   -- the bounds of answers that go on from t
   pub bounds_from : (t q a : Answers) → bounds_after play (t ++ q) a ≡ bounds_after (λ later. play (t ++ later)) q a
@@ -48,11 +43,11 @@ holds_on play c d f g h r =
     ∙ sym (bounds_from play c.taken [] ts) ∙ ap (λ q. bounds_after play q ts) (append-nil c.taken) in (
       ap (λ x. x.plan) r.grown,
       record {
-        kept = ap (λ x. x.kept) r.grown ∙ ap (with_bounds r.bounds) h.kept ∙ ap (λ bs. Some (bounds play c.taken ++ bs)) more ∙ sym (ap Some (ap (bounds play) now ∙ bounds-append play [] c.taken ts));
+        bounds_are = ap (λ x. x.kept) r.grown ∙ ap (with_bounds r.bounds) h.bounds_are ∙ ap (λ bs. Some (bounds play c.taken ++ bs)) more ∙ sym (ap Some (ap (bounds play) now ∙ bounds-append play [] c.taken ts));
         rest = λ later. ap (λ a. play (a ++ later)) now ∙ ap play (append_assoc c.taken ts later) ∙ h.rest (ts ++ later) ∙ ap (λ k. k later) r.rest;
       },
     )
 
 -- at first nothing was taken
 pub holds_at_first : {A W : Type 0} (play : Answers → Outcome A W) (c : Choices) → c.taken ≡ [] → c.kept ≡ Some [] → Holds play c play
-holds_at_first play c t k = record { kept = k ∙ sym (ap (λ a. Some (bounds play a)) t); rest = λ later. ap (λ a. play (a ++ later)) t }
+holds_at_first play c t k = record { bounds_are = k ∙ sym (ap (λ a. Some (bounds play a)) t); rest = λ later. ap (λ a. play (a ++ later)) t }

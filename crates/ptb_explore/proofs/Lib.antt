@@ -1,3 +1,4 @@
+-- This file names the files of lemmas.
 pub mod Order
 pub mod Lists
 pub mod Tree
@@ -12,5 +13,4 @@ pub mod Underway
 pub mod Gathering
 pub mod ReportText
 pub mod Progress
-pub mod Keep
 pub mod Worked

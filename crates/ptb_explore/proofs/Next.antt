@@ -5,7 +5,7 @@ use Rattle.std.proofs.lemmas.Bool.{false_from_ne_true, and_parts}
 use Rattle.std.proofs.lemmas.Int.{ints}
 use Rattle.std.specs.List.{filter}
 use Rattle.ptb_expr.specs.Outcome.{Answers, Outcome, IsReader, bound_of, is_answer}
-use Rattle.ptb_explore.specs.Runs.{IsRun, IsRising, tree, is_before, Before, Front, Start, At, Finished, is_after, runs_after, IsNextRun, IsLast}
+use Rattle.ptb_explore.specs.Runs.{IsRun, IsRising, tree, is_before, Before, Front, Start, At, End, is_after, runs_after, IsNextRun, IsLast}
 use Rattle.ptb_explore.specs.Plans.{AllOnes}
 use Rattle.ptb_explore.proofs.Lists.{IsIn, all_at}
 use Rattle.ptb_explore.proofs.Order.{before_step, before_self, before_then, before_not_back}
@@ -25,7 +25,7 @@ filter_drops p (x ∷ xs) h = rw (h x (inl refl)) (filter_drops p xs (λ b i. h 
 after_then : (front : Front) (a b : Answers) → is_after front a ≡ true → Before a b → is_after front b ≡ true
 after_then Start a b h k = refl
 after_then (At f) a b h k = before_then f a b h k
-after_then Finished a b h k = h
+after_then End a b h k = h
 
 -- in a rising list, what is after the front begins with the first that is, and goes on with what is after that
 filter_next : (front : Front) (r : Answers) (xs : List Answers) → IsRising xs → IsIn r xs → is_after front r ≡ true → ((b : Answers) → IsIn b xs → is_after front b ≡ true → Before b r → ⊥) → filter (is_after front) xs ≡ r ∷ filter (is_after (At r)) xs

@@ -6,7 +6,7 @@ use Rattle.std.specs.Io.KnownBytes.{Appends}
 use Rattle.std.proofs.KnownBytes.{Appends-nil, Appends-trans}
 use Rattle.ptb_text.specs.Device.{TakesSome}
 use Rattle.ptb_expr.specs.Outcome.{Answers, Outcome, IsReader}
-use Rattle.ptb_explore.specs.Runs.{Front, At, Finished, IsNextRun, IsLast, runs_after, runs_left}
+use Rattle.ptb_explore.specs.Runs.{Front, At, End, IsNextRun, IsLast, runs_after, runs_left}
 use Rattle.ptb_explore.specs.Listing.{less_one, text, behind, count_of, WritesList, WritesSome, WritesInto}
 use Rattle.ptb_explore.proofs.Next.{left_next, left_none}
 
@@ -59,27 +59,27 @@ module _ {A W : Type 0} (play : Answers → Outcome A W) (most : ℕ) (reads : I
     pub progress_whole : (front : Front) (new : Option (List ℕ)) (n : ℕ) → Progress play most report list start front (Some 0) old new n → WritesList play report list start front old new n
     progress_whole front new n p =
         let e : list ≡ p.done = p.split ∙ append-nil p.done in
-        record { written = subst (λ x. Appends old new (text report x)) (sym e) p.told; count = p.count ∙ ap count_of (sym e); front = inl (p.stands ∙ ap (behind start) (sym e)) }
+        record { bytes = subst (λ x. Appends old new (text report x)) (sym e) p.told; count = p.count ∙ ap count_of (sym e); front = inl (p.stands ∙ ap (behind start) (sym e)) }
 
-    pub progress_last : (front : Front) (remaining : Option ℕ) (new : Option (List ℕ)) (n : ℕ) → Progress play most report list start front remaining old new n → IsLast play front → WritesList play report list start Finished old new n
+    pub progress_last : (front : Front) (remaining : Option ℕ) (new : Option (List ℕ)) (n : ℕ) → Progress play most report list start front remaining old new n → IsLast play front → WritesList play report list start End old new n
     progress_last front remaining new n p last =
         let e : list ≡ p.done = p.split ∙ ap (λ x. p.done ++ x) (left_last play most reads front remaining last) ∙ append-nil p.done in
         let s : front ≡ behind start list = p.stands ∙ ap (behind start) (sym e) in
-        record { written = subst (λ x. Appends old new (text report x)) (sym e) p.told; count = p.count ∙ ap count_of (sym e); front = inr (refl, rw s at last) }
+        record { bytes = subst (λ x. Appends old new (text report x)) (sym e) p.told; count = p.count ∙ ap count_of (sym e); front = inr (refl, rw s at last) }
 
     pub progress_some : (front : Front) (remaining : Option ℕ) (new : Option (List ℕ)) (n : ℕ) → Progress play most report list start front remaining old new n → WritesSome play report list start front old new n
-    progress_some front remaining new n p = record { done = p.done; rest = runs_left play most front remaining; split = p.split; written = p.told; count = p.count; front = p.stands }
+    progress_some front remaining new n p = record { beginning = p.done; rest = runs_left play most front remaining; split = p.split; bytes = p.told; count = p.count; front = p.stands }
 
     pub progress_into : (front : Front) (remaining : Option ℕ) (new new' : Option (List ℕ)) (n : ℕ) (a : Answers) → Progress play most report list start front remaining old new n → (remaining ≡ Some 0 → ⊥) → IsNextRun play front a → TakesSome new new' (report a) → WritesInto play report list start (At a) old new' n
     progress_into front remaining new new' n a p h next part = record {
-      done = p.done;
+      beginning = p.done;
       at = a;
       rest = runs_left play most (At a) (less_one remaining);
       split = p.split ∙ ap (λ x. p.done ++ x) (left_more play most reads front remaining a h next);
       part = take part.0 (report a);
-      unwritten = drop part.0 (report a);
+      remainder = drop part.0 (report a);
       cut = sym (take-append-drop part.0 (report a));
-      written = Appends-trans old new new' (text report p.done) (take part.0 (report a)) p.told part.2;
+      bytes = Appends-trans old new new' (text report p.done) (take part.0 (report a)) p.told part.2;
       count = p.count;
       front = refl;
     }

@@ -100,7 +100,7 @@ module _ {A W : Type 0} (play : Answers → Outcome A W) (most : ℕ) (reads : I
   -- a plan that was played to its end is the next run
   pub plan_ends : (front : Front) (plan answers : Answers) (bounded : List ℤ) (result : A) → IsPlan play front plan → EndsAt play plan answers bounded result → IsNextRun play front answers
   plan_ends front plan answers bounded result p e =
-      let run : IsRun play (plan ++ e.ones) = rw (← e.answers_are, e.played) refl in
+      let run : IsRun play (plan ++ e.ones) = rw (← e.answers_are, e.outcome) refl in
       rw e.answers_are (p.next e.ones e.all_ones run)
 
 -- the plan begins with the first answers of the run

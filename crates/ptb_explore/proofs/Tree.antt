@@ -113,7 +113,7 @@ module _ {A W : Type 0} (play : Answers → Outcome A W) (most : ℕ) (reads : I
   pub tree_laws : TreeLaws play most
   tree_laws = record {
     runs = λ a. (λ c. (tree_runs a).0 (contained_in a (tree play most) c), λ r. in_contained a (tree play most) ((tree_runs a).1 r));
-    rising = tree_rises;
+    order = tree_rises;
     few = reads.few;
     apart = λ a later k. run_apart a later k;
   }

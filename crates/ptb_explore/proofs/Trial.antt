@@ -19,7 +19,7 @@ use Rattle.ptb_explore.proofs.Attempt.{Took, out_closes, ends_at, not_whole}
 
 module _ {A W : Type 0} (play : Answers → Outcome A W) (r : Recorder) (result : A) (h : Holds play (choices_of r) (λ later. Done result later)) where
   taken_bounds : r.bounds.items ≡ bounds play (take (length r.bounds.items) r.answers.items)
-  taken_bounds = let k = h.kept in cc
+  taken_bounds = let k = h.bounds_are in cc
 
   recorder_took : Took play (take r.planned r.answers.items) r.answers.items r.planned (length r.bounds.items) result
   recorder_took = record {
@@ -101,7 +101,7 @@ module _ (play : Answers → Outcome Finish (List ℕ)) (r : Recorder) (steps : 
     whole_plan endings.Limit h = whole_so endings.Limit h
     whole_plan endings.NoInput h = whole_so endings.NoInput h
     whole_plan endings.NoAnswer h = absurd h
-    whole_plan endings.BadAnswer h = absurd (too_long h.next h.later (sym planned ∙ h.untaken))
+    whole_plan endings.BadAnswer h = absurd (too_long h.next h.later (sym planned ∙ h.plan_is))
 
   -- another is none
   module _ (differs : length r.bounds.items ≡ length plan → length r.answers.items ≡ length plan → ⊥) (run : IsRun play plan) where

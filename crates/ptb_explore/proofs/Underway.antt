@@ -18,7 +18,6 @@ use Rattle.ptb_machine.specs.Configuration.{Configuration}
 use Rattle.ptb_machine.specs.Standing.{Stands}
 use Rattle.ptb_machine.specs.Stops.{Waits, IsDry}
 use Rattle.ptb_machine.specs.Steps.{StepsTo, goes, ends, StepComes, Steps}
-use Rattle.ptb_machine.proofs.Moves.{leaves_under}
 use Rattle.ptb_machine.specs.Questions.{most_answers}
 use Rattle.ptb_explore.specs.Laws.{TreeLaws}
 use Rattle.ptb_explore.specs.Playing.{Holds, NextIsOutside, PlayEnds}
@@ -52,10 +51,17 @@ play-is p input limit a = refl
 pub underway_at_first : (p : StoredProgram) (input : List (List ℕ)) (limit : ℕ) (c : Choices) (m : Configuration) → c.taken ≡ [] → c.kept ≡ Some [] → Stands p.lines m (first_state p input) → IsUnderway p input limit c [] input m
 underway_at_first p input limit c m t k s =
     let h = holds_at_first (play p input limit) c t k in
-    record { state = first_state p input; stands = s; shown_is = refl; left_is = refl; holds = record { kept = h.kept; rest = λ later. h.rest later ∙ play-is p input limit later } }
+    record { state = first_state p input; stands = s; shown_is = refl; left_is = refl; holds = record { bounds_are = h.bounds_are; rest = λ later. h.rest later ∙ play-is p input limit later } }
+
+-- a turn that is put into a run asks what it asked before
+asked_in_run : (p : StoredProgram) (limit : ℕ) (f : Answers → Outcome Deed State) (ts : Answers) (bs : List ℤ) → Asked f ts bs → Asked (λ a. from_turn p limit (f a)) ts bs
+asked_in_run p limit f [] [] h = tt
+asked_in_run p limit f [] (n ∷ bs) h = absurd h
+asked_in_run p limit f (k ∷ ts) [] h = absurd h
+asked_in_run p limit f (k ∷ ts) (n ∷ bs) h = ((h.0.0.shown, ap (from_turn p limit) h.0.1), asked_in_run p limit (λ later. f (k ∷ later)) ts bs h.1)
 
 holds_to : {A W : Type 0} (f : Answers → Outcome A W) (c : Choices) (g h : Answers → Outcome A W) → ((later : Answers) → g later ≡ h later) → Holds f c g → Holds f c h
-holds_to f c g h same x = record { kept = x.kept; rest = λ later. x.rest later ∙ same later }
+holds_to f c g h same x = record { bounds_are = x.bounds_are; rest = λ later. x.rest later ∙ same later }
 
 module _ (laws : RunLaws) (p : StoredProgram) (input : List (List ℕ)) (limit : ℕ) where
   -- a run is one turn, and then the turns after it
@@ -70,13 +76,13 @@ module _ (laws : RunLaws) (p : StoredProgram) (input : List (List ℕ)) (limit :
 
     turn_reaches : Reaches (run_from p limit u.state) c d (λ a. from_turn p limit (g there a))
     turn_reaches =
-        let l = leaves_under (from_turn p limit) (λ (T : State). T.shown) (λ n T. refl) x.leads.leaves in
+        let asked = asked_in_run p limit (turn p limit u.state) x.exchange.answers x.exchange.bounds x.leads.leaves.asked in
         record {
           answers = x.exchange.answers;
           bounds = x.exchange.bounds;
           grown = x.exchanges.grown;
-          asked = subst (λ f. Asked f x.exchange.answers x.exchange.bounds) (sym (by_turn u.state)) l.asked;
-          rest = ap (λ f. λ later. f (x.exchange.answers ++ later)) (by_turn u.state) ∙ l.rest;
+          asked = subst (λ f. Asked f x.exchange.answers x.exchange.bounds) (sym (by_turn u.state)) asked;
+          rest = ap (λ f. λ later. f (x.exchange.answers ++ later)) (by_turn u.state) ∙ ap (λ g. λ later. from_turn p limit (g later)) x.leads.leaves.rest;
         }
 
     turn_holds : (d.plan ≡ c.plan) × Holds (play p input limit) d (λ a. from_turn p limit (g there a))
@@ -139,7 +145,7 @@ module _ (laws : RunLaws) (p : StoredProgram) (input : List (List ℕ)) (limit :
           record {
             next = k;
             later = later;
-            untaken = w.refuses.0.1;
+            plan_is = w.refuses.0.1;
             bound = w.bound;
             beside = T.shown;
             out = ap (play p input limit) (w.refuses.0.1 ∙ sym (append_assoc d.taken (k ∷ []) later)) ∙ all;

@@ -13,7 +13,7 @@ unfolding past_blanks spelling_in_front word_at bytes_at letter_at number_at ans
 run_rows = record {
   no_question = refl;
   two_rolls = refl;
-  nested = refl;
+  nested_roll = refl;
   with_fault = refl;
   after_first = refl;
   after_last = refl;

@@ -13,7 +13,7 @@ use Rattle.ptb_expr.specs.Outcome.{Answers, Outcome, Done, bounds}
 use Rattle.ptb_machine.specs.Play.{Finish, play}
 use Rattle.ptb_machine.specs.Questions.{most_answers}
 use Rattle.ptb_explore.specs.declared.report.Report.{Report}
-use Rattle.ptb_explore.specs.Runs.{Front, At, Finished, IsNextRun, IsLast}
+use Rattle.ptb_explore.specs.Runs.{Front, At, End, IsNextRun, IsLast}
 
 -- ---- explorers
 
@@ -36,8 +36,8 @@ abbrev pub finish_of : Report → Finish
 finish_of r = record { ending = r.ending; steps = r.steps; shown = r.transcript.items }
 
 pub record Reports (play : Answers → Outcome Finish (List ℕ)) (r : Report) : Type 0 where
-  pub played : play r.answers.items ≡ Done (finish_of r) []
-  pub bounded : r.bounds.items ≡ bounds play r.answers.items
+  pub outcome : play r.answers.items ≡ Done (finish_of r) []
+  pub bounds_are : r.bounds.items ≡ bounds play r.answers.items
 
 abbrev pub NextReports : (Answers → Outcome Finish (List ℕ)) → Front → Report → Bool → Type 0
 NextReports play f r true = Reports play r × IsNextRun play f r.answers.items
@@ -48,5 +48,5 @@ NextReports play f r false = IsLast play f
 -- it stands at the run whose report is lent, or past the last run, or where it stood
 abbrev pub NextLeaves : Exploration → Result (Option (Bor Report)) AllocError → Exploration → Type 0
 NextLeaves old (Ok (Some r)) new = new ≡ record old { front = At r.now.answers.items }
-NextLeaves old (Ok None) new = new ≡ record old { front = Finished }
+NextLeaves old (Ok None) new = new ≡ record old { front = End }
 NextLeaves old (Err e) new = new ≡ old

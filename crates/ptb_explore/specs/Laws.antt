@@ -9,7 +9,7 @@ use Rattle.ptb_explore.specs.Runs.{At, IsRun, IsRising, runs_after, tree}
 pub record TreeLaws {A W : Type 0} (play : Answers → Outcome A W) (most : ℕ) : Type 0 where
   -- the tree has the runs and nothing else, in rising order
   pub runs : (a : Answers) → Contains (tree play most) a ↔ IsRun play a
-  pub rising : IsRising (tree play most)
+  pub order : IsRising (tree play most)
   -- where something is asked, fewer answers were given
   pub few : (q : Answers) (n : ℤ) (w : W) → play q ≡ Asks n w → length q < most
   -- a run with more answers behind it is no run
@@ -20,6 +20,6 @@ pub record ListingLaws {A W : Type 0} (play : Answers → Outcome A W) (most : �
   pub behind :
       (front back : List Answers) (r : Answers) → tree play most ≡ front ++ r ∷ back → runs_after play most (At r) ≡ back
   -- so the reports up to a run, and those behind it, are all reports
-  pub joined :
+  pub whole_text :
       (report : Answers → List ℕ) (front back : List Answers) (r : Answers) → tree play most ≡ front ++ r ∷ back
       → text report (front ++ r ∷ []) ++ text report (runs_after play most (At r)) ≡ text report (tree play most)

@@ -1,10 +1,10 @@
+-- This file names the files of definitions.
 pub mod Runs
 pub mod Plans
 pub mod Recording
 pub mod Playing
 pub mod Report
 pub mod Listing
-pub mod Keeping
 pub mod Exploring
 pub mod Lending
 pub mod Rows

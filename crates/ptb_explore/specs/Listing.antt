@@ -13,7 +13,7 @@ use Rattle.ptb_explore.specs.declared.fault.ExploreFault.{ExploreFault}
 use Rattle.ptb_explore.specs.declared.fault.ExploreFault.TheVariants.{Memory, Write}
 use Rattle.ptb_explore.specs.declared.fault.NextFault.{NextFault}
 use Rattle.ptb_explore.specs.declared.fault.NextFault.TheVariants as next
-use Rattle.ptb_explore.specs.Runs.{Front, At, Finished, IsNextRun, IsLast}
+use Rattle.ptb_explore.specs.Runs.{Front, At, End, IsNextRun, IsLast}
 
 abbrev pub text : (Answers → List ℕ) → List Answers → List ℕ
 text report list = flat_map report list
@@ -35,36 +35,36 @@ module _ {A W : Type 0} (play : Answers → Outcome A W) (report : Answers → L
   -- whether there is a next run; its report was written, or there is none, or nothing was written, or a beginning of it
   abbrev pub NextWrites : Front → Front → Option (List ℕ) → Option (List ℕ) → Result Bool NextFault → Type 0
   NextWrites f f' old new (Ok true) = (a : Answers) × IsNextRun play f a × (f' ≡ At a) × Appends old new (report a)
-  NextWrites f f' old new (Ok false) = IsLast play f × (f' ≡ Finished) × (new ≡ old)
+  NextWrites f f' old new (Ok false) = IsLast play f × (f' ≡ End) × (new ≡ old)
   NextWrites f f' old new (Err next.Memory) = (f' ≡ f) × (new ≡ old)
   NextWrites f f' old new (Err next.Write) = (a : Answers) × IsNextRun play f a × (f' ≡ At a) × TakesSome old new (report a)
 
   -- the reports of the whole list were written; it stands behind the list, or past the last run
   pub record WritesList (list : List Answers) (f f' : Front) (old new : Option (List ℕ)) (n : ℕ) : Type 0 where
-    pub written : Appends old new (text report list)
+    pub bytes : Appends old new (text report list)
     pub count : n ≡ count_of list
-    pub front : (f' ≡ behind f list) ⊎ ((f' ≡ Finished) × IsLast play (behind f list))
+    pub front : (f' ≡ behind f list) ⊎ ((f' ≡ End) × IsLast play (behind f list))
 
   -- the reports of a beginning of the list were written, and nothing else; it stands behind them
   pub record WritesSome (list : List Answers) (f f' : Front) (old new : Option (List ℕ)) (n : ℕ) : Type 0 where
-    pub done : List Answers
+    pub beginning : List Answers
     pub rest : List Answers
-    pub split : list ≡ done ++ rest
-    pub written : Appends old new (text report done)
-    pub count : n ≡ count_of done
-    pub front : f' ≡ behind f done
+    pub split : list ≡ beginning ++ rest
+    pub bytes : Appends old new (text report beginning)
+    pub count : n ≡ count_of beginning
+    pub front : f' ≡ behind f beginning
 
   -- the reports of a beginning of the list were written, and a beginning of the next; it stands at that one
   pub record WritesInto (list : List Answers) (f f' : Front) (old new : Option (List ℕ)) (n : ℕ) : Type 0 where
-    pub done : List Answers
+    pub beginning : List Answers
     pub at : Answers
     pub rest : List Answers
-    pub split : list ≡ done ++ at ∷ rest
+    pub split : list ≡ beginning ++ at ∷ rest
     pub part : List ℕ
-    pub unwritten : List ℕ
-    pub cut : report at ≡ part ++ unwritten
-    pub written : Appends old new (text report done ++ part)
-    pub count : n ≡ count_of done
+    pub remainder : List ℕ
+    pub cut : report at ≡ part ++ remainder
+    pub bytes : Appends old new (text report beginning ++ part)
+    pub count : n ≡ count_of beginning
     pub front : f' ≡ At at
 
   abbrev pub WritesRuns : List Answers → Front → Front → Option (List ℕ) → Option (List ℕ) → Result ℕ ExploreFault → Type 0

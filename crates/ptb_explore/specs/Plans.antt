@@ -11,7 +11,7 @@ use Rattle.ptb_expr.specs.Outcome.{Answers, Outcome, Done, is_open, bounds}
 use Rattle.ptb_explore.specs.declared.plan.Standing.{Standing}
 use Rattle.ptb_explore.specs.declared.plan.Standing.TheVariants.{AtStart, AtRun, AtEnd}
 use Rattle.ptb_explore.specs.declared.recorder.Recorder.{Recorder}
-use Rattle.ptb_explore.specs.Runs.{Front, Start, At, Finished, IsRun, IsNextRun}
+use Rattle.ptb_explore.specs.Runs.{Front, Start, At, End, IsRun, IsNextRun}
 
 -- each answer is 1
 abbrev pub AllOnes : Answers → Type 0
@@ -48,12 +48,12 @@ PlansNext AtEnd answers bounds plan (Some i) = ⊥
 abbrev pub front_of : Standing → Answers → Front
 front_of AtStart answers = Start
 front_of AtRun answers = At answers
-front_of AtEnd answers = Finished
+front_of AtEnd answers = End
 
 abbrev pub IsStanding : {A W : Type 0} → (Answers → Outcome A W) → Standing → Answers → List ℤ → Type 0
-IsStanding play AtStart answers bounded = Unit {0}
-IsStanding play AtRun answers bounded = IsRun play answers × (bounded ≡ bounds play answers)
-IsStanding play AtEnd answers bounded = Unit {0}
+IsStanding play AtStart answers their_bounds = Unit {0}
+IsStanding play AtRun answers their_bounds = IsRun play answers × (their_bounds ≡ bounds play answers)
+IsStanding play AtEnd answers their_bounds = Unit {0}
 
 -- ---- a plan that is played
 
@@ -61,9 +61,9 @@ pub record IsFresh (r : Recorder) : Type 0 where
   pub none_given : r.bounds.items ≡ []
   pub all_planned : r.planned ≡ vec_len r.answers
 
-pub record EndsAt {A W : Type 0} (play : Answers → Outcome A W) (plan answers : Answers) (bounded : List ℤ) (result : A) : Type 0 where
+pub record EndsAt {A W : Type 0} (play : Answers → Outcome A W) (plan answers : Answers) (their_bounds : List ℤ) (result : A) : Type 0 where
   pub ones : Answers
   pub all_ones : AllOnes ones
   pub answers_are : answers ≡ plan ++ ones
-  pub played : play answers ≡ Done result []
-  pub bounds_are : bounded ≡ bounds play answers
+  pub outcome : play answers ≡ Done result []
+  pub bounds_are : their_bounds ≡ bounds play answers

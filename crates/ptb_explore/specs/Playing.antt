@@ -12,14 +12,14 @@ use Rattle.ptb_machine.specs.Play.{Finish}
 module _ {A W : Type 0} (play : Answers → Outcome A W) where
   -- the bounds of the answers that were taken are kept, and what is left does what play does behind them
   pub record Holds (c : Choices) (left : Answers → Outcome A W) : Type 0 where
-    pub kept : c.kept ≡ Some (bounds play c.taken)
+    pub bounds_are : c.kept ≡ Some (bounds play c.taken)
     pub rest : (later : Answers) → play (c.taken ++ later) ≡ left later
 
   -- so no list of answers that begins with the plan is played to an end
   pub record NextIsOutside (c : Choices) : Type 0 where
     pub next : ℤ
     pub later : Answers
-    pub untaken : c.plan ≡ c.taken ++ next ∷ later
+    pub plan_is : c.plan ≡ c.taken ++ next ∷ later
     pub bound : ℤ
     pub beside : W
     pub out : play c.plan ≡ Out bound beside

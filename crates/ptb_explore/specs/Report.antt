@@ -62,4 +62,4 @@ report play answers = report_of answers (play answers)
 pub record Gathers (old new : Option (List ℕ)) (bytes pending : List ℕ) : Type 0 where
   pub front : List ℕ
   pub whole : bytes ≡ front ++ pending
-  pub taken : Appends old new front
+  pub growth : Appends old new front

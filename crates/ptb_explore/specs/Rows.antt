@@ -2,7 +2,7 @@
 use Rattle.std.specs.Prelude.{◌≡◌, ℕ, [], ◌∷◌, codes, false, true, Some, None, pos}
 use Rattle.ptb_expr.specs.Outcome.{Answers, is_whole, bounds}
 use Rattle.ptb_expr.specs.Rows.{worth}
-use Rattle.ptb_explore.specs.Runs.{At, Finished, is_before, tree, runs_left}
+use Rattle.ptb_explore.specs.Runs.{At, End, is_before, tree, runs_left}
 use Rattle.ptb_explore.specs.Report.{report_text}
 
 -- a list of one answer, and of two
@@ -16,12 +16,12 @@ pub record RunRows : Type 0 where
   -- the runs of an expression that is worked out
   pub no_question : tree (worth (codes "7")) 0 ≡ [] ∷ []
   pub two_rolls : tree (worth (codes "RND(2)*RND(2)")) 2 ≡ two 1 1 ∷ two 1 2 ∷ two 2 1 ∷ two 2 2 ∷ []
-  pub nested : tree (worth (codes "RND(RND(2))")) 2 ≡ two 1 1 ∷ two 2 1 ∷ two 2 2 ∷ []
+  pub nested_roll : tree (worth (codes "RND(RND(2))")) 2 ≡ two 1 1 ∷ two 2 1 ∷ two 2 2 ∷ []
   pub with_fault : tree (worth (codes "RND(RND(2)-1)")) 2 ≡ one 1 ∷ two 2 1 ∷ []
   -- what is left of them
   pub after_first : runs_left (worth (codes "RND(2)*RND(2)")) 2 (At (two 1 1)) (Some 2) ≡ two 1 2 ∷ two 2 1 ∷ []
   pub after_last : runs_left (worth (codes "RND(2)*RND(2)")) 2 (At (two 2 2)) None ≡ []
-  pub past_end : runs_left (worth (codes "RND(2)*RND(2)")) 2 Finished None ≡ []
+  pub past_end : runs_left (worth (codes "RND(2)*RND(2)")) 2 End None ≡ []
   -- lists that are runs, and that are none
   pub whole : is_whole (worth (codes "RND(RND(2))") (two 2 1)) ≡ true
   pub beginning : is_whole (worth (codes "RND(RND(2))") (one 2)) ≡ false

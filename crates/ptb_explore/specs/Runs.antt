@@ -60,12 +60,12 @@ tree play most = leaves play [] most
 pub data Front : Type 0 where
   Start : Front
   At : (a : Answers) → Front
-  Finished : Front
+  End : Front
 
 abbrev pub is_after : Front → Answers → Bool
 is_after Start a = true
 is_after (At f) a = is_before f a
-is_after Finished a = false
+is_after End a = false
 
 abbrev pub runs_after : {A W : Type 0} → (Answers → Outcome A W) → ℕ → Front → List Answers
 runs_after play most front = filter (is_after front) (tree play most)

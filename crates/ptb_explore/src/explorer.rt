@@ -1,13 +1,14 @@
 // This file has the explorer, which finds all runs of a program.
 
-ghost use Rattle.std.specs.Prelude.{◌≡◌, ◌≤◌, true, false, Ok, None, length, IfOk, OnOk, OnErr, IfSome, IfNone, IsErrOf};
+ghost use Rattle.std.specs.Prelude.{◌≡◌, ◌≤◌, true, false, Ok, None, length};
+ghost use Rattle.std.specs.Prelude.{IfOk, OnOk, OnErr, IfSome, IfNone, IsErrOf};
 ghost use Rattle.ptb_expr.specs.Outcome.{is_open, bounds as bounds_of};
 ghost use Rattle.ptb_machine.specs.Play.{play};
 ghost use Rattle.ptb_machine.specs.Questions.{most_answers};
 ghost use Rattle.ptb_explore.specs.Exploring.{play_of, most_of, finish_of, Reports, NextReports};
 ghost use Rattle.ptb_explore.specs.Laws.{TreeLaws};
 ghost use Rattle.ptb_explore.specs.Plans.{front_of, IsStanding, IsFresh, EndsAt};
-ghost use Rattle.ptb_explore.specs.Runs.{Start, At, Finished, IsRun, IsNextRun, IsLast};
+ghost use Rattle.ptb_explore.specs.Runs.{Start, At, End, IsRun, IsNextRun, IsLast};
 
 use crate::fault::AfterFault;
 use crate::plan::{Standing, plan_next};
@@ -20,7 +21,7 @@ use std::alloc::{AllocError, Global};
 use std::marker::Model;
 use std::mem;
 
-/// Plays a plan, and makes the report of its run.
+// Plays a plan, and makes the report of its run.
 fn report_plan(
     alloc: Global,
     program: &Program,
@@ -48,7 +49,7 @@ fn report_plan(
     Ok(())
 }
 
-/// Makes the report of the next run, and says whether there is one.
+// Makes the report of the next run, and says whether there is one.
 fn report_next(
     alloc: Global,
     program: &Program,
@@ -76,7 +77,7 @@ fn report_next(
     }
 }
 
-/// Plays the answers of a trial, and says whether they are a run.
+// Plays the answers of a trial, and says whether they are a run.
 fn check_run(
     alloc: Global,
     program: &Program,
@@ -109,13 +110,19 @@ fn check_run(
 /// It holds the report of one run and one list of answers more, however many runs there are.
 #[derive(Drop)]
 pub struct Explorer<'a> {
+    /// What is run.
     program: &'a Program,
+    /// The lines that answer INPUT, in each run from the first on.
     lines: &'a [Line],
+    /// The most commands that a run begins.
     limit: u32,
+    /// Where the listing of the runs stands.
     standing: Standing,
     /// Its answers and bounds are those of the run at which the explorer stands.
     report: Report,
+    /// Plans the next run, and answers its questions.
     trial: Recorder,
+    /// Where memory comes from.
     alloc: Global,
 }
 
@@ -149,23 +156,24 @@ impl<'a> Explorer<'a> {
     /// Where a growth was refused memory.
     pub fn start(
         alloc: Global,
-        p: &'a Program,
+        program: &'a Program,
         lines: &'a [Line],
         limit: u32,
     ) -> Result<Explorer<'a>, AllocError>
         ensures start { IfOk result (λ e. e ≡ record {
-          program = p.now;
+          program = program.now;
           input = lines.now;
           limit = limit;
           front = Start;
         }) }
 
         // Laws of the definitions.
-        ensures laws { TreeLaws (play p.now lines.now limit) (most_answers p.now lines.now limit) }
+        ensures laws { TreeLaws (play program.now lines.now limit)
+            (most_answers program.now lines.now limit) }
     {
         run_laws();
         Ok(Explorer {
-            program: p,
+            program,
             lines,
             limit,
             standing: Standing::AtStart,
@@ -183,32 +191,33 @@ impl<'a> Explorer<'a> {
     /// was refused memory.
     pub fn after(
         alloc: Global,
-        p: &'a Program,
+        program: &'a Program,
         lines: &'a [Line],
         limit: u32,
         answers: &[i16],
     ) -> Result<Explorer<'a>, AfterFault>
         ensures after { IfOk result (λ e. e ≡ record {
-          program = p.now;
+          program = program.now;
           input = lines.now;
           limit = limit;
           front = At answers.now;
         }) }
-        ensures run { OnOk result (IsRun (play p.now lines.now limit) answers.now) }
+        ensures run { OnOk result (IsRun (play program.now lines.now limit) answers.now) }
         ensures not_a_run { IsErrOf result AfterFault.NotARun
-            → IsRun (play p.now lines.now limit) answers.now → ⊥ }
+            → IsRun (play program.now lines.now limit) answers.now → ⊥ }
 
         // Laws of the definitions.
-        ensures laws { TreeLaws (play p.now lines.now limit) (most_answers p.now lines.now limit) }
+        ensures laws { TreeLaws (play program.now lines.now limit)
+            (most_answers program.now lines.now limit) }
     {
         run_laws();
         let mut trial = Recorder::new(alloc);
         trial.replay(answers)?;
-        check_run(alloc, p, lines, limit, &mut trial)?;
+        check_run(alloc, program, lines, limit, &mut trial)?;
         let mut run = Report::new(alloc);
         trial.hand_over(&mut run.answers, &mut run.bounds);
         Ok(Explorer {
-            program: p,
+            program,
             lines,
             limit,
             standing: Standing::AtRun,
@@ -232,7 +241,7 @@ impl<'a> Explorer<'a> {
         ensures few { IfOk result (λ o. IfSome o (λ r.
             length r.now.answers.items ≤ most_of self.old)) }
         ensures last { IfOk result (λ o. IfNone o (IsLast (play_of self.old) self.old.front)) }
-        ensures ended { self.old.front ≡ Finished → result ≡ Ok None }
+        ensures ended { self.old.front ≡ End → result ≡ Ok None }
         ensures* leaves { sem 𝓛 (NextRests self.entry result) }
     {
         run_laws();

@@ -13,21 +13,28 @@ use crate::report::{word, write_report};
 use ptb_machine::run_laws;
 use ptb_text::Write;
 
-/// Writes the report of the next run, and says whether there is one.
-fn write_next<W: Write>(e: &mut Explorer, w: &mut W) -> Result<bool, NextFault>
-    ensures same { e.new ≡ record e.old { front = e.new.front } }
-    ensures writes { NextWrites (play_of e.old) (report (play_of e.old)) e.old.front e.new.front
-        (W.contents w.old) (W.contents w.new) result }
+// Writes the report of the next run, and says whether there is one.
+fn write_next<W: Write>(explorer: &mut Explorer, writer: &mut W) -> Result<bool, NextFault>
+    ensures same { explorer.new ≡ record explorer.old { front = explorer.new.front } }
+    ensures writes { NextWrites (play_of explorer.old) (report (play_of explorer.old))
+        explorer.old.front explorer.new.front
+        (W.contents writer.old) (W.contents writer.new) result }
     ensures failed { IsErrOf result NextFault.Write
-        → HasFailed (W.failures w.old) (W.failures w.new) }
+        → HasFailed (W.failures writer.old) (W.failures writer.new) }
     ensures unfailed { ¬ IsErrOf result NextFault.Write
-        → W.failures w.new ≡ W.failures w.old }
+        → W.failures writer.new ≡ W.failures writer.old }
 {
-    match e.next() {
+    match explorer.next() {
         Err(_) => Err(NextFault::Memory),
         Ok(None) => Ok(false),
-        Ok(Some(r)) => {
-            match write_report(w, &r.answers, word(r.ending), r.steps, &r.transcript) {
+        Ok(Some(run)) => {
+            match write_report(
+                writer,
+                &run.answers,
+                word(run.ending),
+                run.steps,
+                &run.transcript,
+            ) {
                 Ok(()) => Ok(true),
                 Err(_) => Err(NextFault::Write),
             }
@@ -35,7 +42,7 @@ fn write_next<W: Write>(e: &mut Explorer, w: &mut W) -> Result<bool, NextFault>
     }
 }
 
-/// How many reports may still be written after one more.
+// How many reports may still be written after one more.
 fn one_less(remaining: Option<u64>) -> Option<u64>
     ensures { result ≡ less_one remaining }
 {
@@ -54,24 +61,25 @@ fn one_less(remaining: Option<u64>) -> Option<u64>
 /// writer failed, each with the number of reports that were written. The explorer then stands at
 /// the last run of them, or at the one whose report was begun.
 pub fn write_all_runs<W: Write>(
-    e: &mut Explorer,
+    explorer: &mut Explorer,
     first: Option<u64>,
-    w: &mut W,
+    writer: &mut W,
 ) -> Result<u64, ExploreFault>
-    ensures same { e.new ≡ record e.old { front = e.new.front } }
-    ensures writes { WritesRuns (play_of e.old) (report (play_of e.old))
-        (runs_left (play_of e.old) (most_of e.old) e.old.front first) e.old.front e.new.front
-        (W.contents w.old) (W.contents w.new) result }
+    ensures same { explorer.new ≡ record explorer.old { front = explorer.new.front } }
+    ensures writes { WritesRuns (play_of explorer.old) (report (play_of explorer.old))
+        (runs_left (play_of explorer.old) (most_of explorer.old) explorer.old.front first)
+        explorer.old.front explorer.new.front
+        (W.contents writer.old) (W.contents writer.new) result }
     ensures failed { (n : ℕ) → IsErrOf result (ExploreFault.Write n)
-        → HasFailed (W.failures w.old) (W.failures w.new) }
+        → HasFailed (W.failures writer.old) (W.failures writer.new) }
     ensures unfailed { ((n : ℕ) → ¬ IsErrOf result (ExploreFault.Write n))
-        → W.failures w.new ≡ W.failures w.old }
+        → W.failures writer.new ≡ W.failures writer.old }
 {
     run_laws();
     let mut written: u64 = 0;
     let mut remaining = first;
     while remaining != Some(0) {
-        match write_next(e, w) {
+        match write_next(explorer, writer) {
             Ok(true) => {}
             Ok(false) => return Ok(written),
             Err(NextFault::Memory) => return Err(ExploreFault::Memory(written)),

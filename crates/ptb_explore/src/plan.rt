@@ -1,6 +1,7 @@
 // This file has the choice of the answers that the next run begins with.
 
-ghost use Rattle.std.specs.Prelude.{◌≡◌, Ok, None, length, IfOk, IfSome, OnSome, MatchOption, pos, ◌<ℤ◌, slice_index_or};
+ghost use Rattle.std.specs.Prelude.{◌≡◌, Ok, None, length, pos, ◌<ℤ◌, slice_index_or};
+ghost use Rattle.std.specs.Prelude.{IfOk, IfSome, OnSome, MatchOption};
 ghost use Rattle.ptb_explore.specs.Plans.{IsLastBelow, AreAtBounds, PlansNext, IsFresh};
 
 use crate::recorder::Recorder;
@@ -8,7 +9,7 @@ use std::alloc::AllocError;
 
 /// Where a listing of all runs stands.
 #[derive(Clone, Copy, Debug, PartialEq, Eq)]
-pub enum Standing {
+pub(crate) enum Standing {
     /// Before the first run.
     AtStart,
     /// At a run.
@@ -17,7 +18,7 @@ pub enum Standing {
     AtEnd,
 }
 
-/// The last place at which the answer is below its bound.
+// The last place at which the answer is below its bound.
 fn last_below(answers: &[i16], bounds: &[i16]) -> Option<usize>
     requires { length answers.now ≡ length bounds.now }
     ensures place { MatchOption result
@@ -43,7 +44,7 @@ fn last_below(answers: &[i16], bounds: &[i16]) -> Option<usize>
 /// # Errors
 ///
 /// Where the plan is refused memory.
-pub fn plan_next(
+pub(crate) fn plan_next(
     standing: Standing,
     answers: &[i16],
     bounds: &[i16],

@@ -10,11 +10,13 @@ use ptb_machine::{Ending, Line, Lines, Machine, RunFault, TextScreen, run_laws};
 use ptb_text::Program;
 use std::alloc::{AllocError, Global};
 
-/// How a run ended, and how many commands it began.
+/// What came of a run, besides what it showed.
 #[derive(Clone, Copy, Debug, PartialEq, Eq)]
-pub struct Played {
-    pub ending: Ending,
-    pub steps: u32,
+pub(crate) struct Played {
+    /// How the run ended.
+    pub(crate) ending: Ending,
+    /// How many commands it began.
+    pub(crate) steps: u32,
 }
 
 /// Plays a program from its beginning: with the answers of the plan, and 1 to each question behind
@@ -26,7 +28,7 @@ pub struct Played {
 /// # Errors
 ///
 /// Where a growth was refused memory.
-pub fn play_plan(
+pub(crate) fn play_plan(
     alloc: Global,
     program: &Program,
     lines: &[Line],

@@ -1,6 +1,7 @@
 // This file has the chooser that plays a plan, and keeps what it answered.
 
-ghost use Rattle.std.specs.Prelude.{◌≡◌, ℕ, ◌+◌, ◌-◌, ◌<◌, ◌≤◌, List, [], ◌∷◌, ◌++◌, length, take, replicate, OnOk, vec_len, ℤ, pos};
+ghost use Rattle.std.specs.Prelude.{◌≡◌, ◌+◌, ◌-◌, ◌<◌, ◌≤◌, pos, OnOk};
+ghost use Rattle.std.specs.Prelude.{[], ◌∷◌, ◌++◌, length, take, replicate, vec_len};
 
 use ptb_expr::{Chooser, Pause};
 use std::alloc::{AllocError, Global};
@@ -11,19 +12,23 @@ use std::mem;
 /// The first `planned` of the answers are the plan, those behind it are ones. As many answers were
 /// given as there are bounds.
 #[derive(Drop)]
-pub struct Recorder {
-    pub answers: Vec<i16>,
-    pub bounds: Vec<i16>,
-    pub planned: usize,
+pub(crate) struct Recorder {
+    /// The answers that were given, and behind them those that are planned and not given yet.
+    pub(crate) answers: Vec<i16>,
+    /// The bound of each answer that was given.
+    pub(crate) bounds: Vec<i16>,
+    /// How many of the answers are the plan.
+    pub(crate) planned: usize,
     ghost bounded: { vec_len bounds ≤ vec_len answers },
     ghost within: { planned ≤ vec_len answers },
-    ghost later_one: { answers.items ≡ take planned answers.items ++ replicate (vec_len answers - planned) (pos 1) },
+    ghost later_one: { answers.items
+        ≡ take planned answers.items ++ replicate (vec_len answers - planned) (pos 1) },
     ghost at_end: { planned < vec_len answers → vec_len bounds ≡ vec_len answers },
 }
 
 impl Recorder {
     /// A recorder with no plan: it answers 1 each time.
-    pub fn new(alloc: Global) -> Self
+    pub(crate) fn new(alloc: Global) -> Self
         ensures answers { result.answers.items ≡ [] }
         ensures bounds { result.bounds.items ≡ [] }
         ensures planned { result.planned ≡ 0 }
@@ -40,7 +45,7 @@ impl Recorder {
     /// # Errors
     ///
     /// Where the plan is refused memory; a beginning of it is planned then.
-    pub fn restart(&mut self, front: &[i16], raised: i16) -> Result<(), AllocError>
+    pub(crate) fn restart(&mut self, front: &[i16], raised: i16) -> Result<(), AllocError>
         ensures answers { OnOk result (self.new.answers.items ≡ front.now ++ raised ∷ []) }
         ensures planned { OnOk result (self.new.planned ≡ length front.now + 1) }
         ensures bounds { OnOk result (self.new.bounds.items ≡ []) }
@@ -58,7 +63,7 @@ impl Recorder {
     /// # Errors
     ///
     /// Where the plan is refused memory; it is empty then.
-    pub fn replay(&mut self, answers: &[i16]) -> Result<(), AllocError>
+    pub(crate) fn replay(&mut self, answers: &[i16]) -> Result<(), AllocError>
         ensures answers { OnOk result (self.new.answers.items ≡ answers.now) }
         ensures planned { OnOk result (self.new.planned ≡ vec_len self.new.answers) }
         ensures bounds { OnOk result (self.new.bounds.items ≡ []) }
@@ -69,24 +74,8 @@ impl Recorder {
         Ok(())
     }
 
-    /// Counts the first answers of its plan as given, with these bounds.
-    ///
-    /// # Errors
-    ///
-    /// Where the bounds are refused memory.
-    pub fn skip(&mut self, bounds: &[i16]) -> Result<(), AllocError>
-        requires fresh { self.old.bounds.items ≡ [] }
-        requires planned { self.old.planned ≡ vec_len self.old.answers }
-        requires within { length bounds.now ≤ vec_len self.old.answers }
-        ensures answers { self.new.answers.items ≡ self.old.answers.items }
-        ensures planned { self.new.planned ≡ self.old.planned }
-        ensures bounds { OnOk result (self.new.bounds.items ≡ bounds.now) }
-    {
-        self.bounds.extend_from_slice(bounds)
-    }
-
     /// Gives its answers and bounds away, and keeps nothing.
-    pub fn hand_over(&mut self, answers: &mut Vec<i16>, bounds: &mut Vec<i16>)
+    pub(crate) fn hand_over(&mut self, answers: &mut Vec<i16>, bounds: &mut Vec<i16>)
         ensures answers { answers.new.items ≡ self.old.answers.items }
         ensures bounds { bounds.new.items ≡ self.old.bounds.items }
     {
@@ -98,7 +87,7 @@ impl Recorder {
     }
 
     /// Forgets its plan and its answers.
-    pub fn clear(&mut self)
+    pub(crate) fn clear(&mut self)
         ensures answers { self.new.answers.items ≡ [] }
         ensures bounds { self.new.bounds.items ≡ [] }
         ensures planned { self.new.planned ≡ 0 }

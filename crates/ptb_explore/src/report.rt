@@ -1,6 +1,6 @@
 // This file has the reports of runs, and their writer.
 
-ghost use Rattle.std.specs.Prelude.{◌≡◌, ℕ, ◌+◌, ◌≤◌, [], ◌++◌, length, OnOk, OnErr};
+ghost use Rattle.std.specs.Prelude.{◌≡◌, [], ◌++◌, OnOk, OnErr};
 ghost use Rattle.std.specs.Io.KnownBytes.{Appends};
 ghost use Rattle.std.specs.List.{flat_map};
 ghost use Rattle.ptb_text.specs.Device.{TakesSome, HasFailed};
@@ -58,11 +58,11 @@ pub(crate) fn word(ending: Ending) -> &'static [u8]
     }
 }
 
-/// Bytes that wait to be written: on the stack, since a report takes no memory.
+// Bytes that wait to be written: on the stack, since a report takes no memory.
 type Pending = ArrayVec<u8, 512>;
 
-/// Adds bytes to the pending ones. Where they don't fit, those are written first, and bytes that
-/// alone are too many are written at once.
+// Adds bytes to the pending ones. Where they don't fit, those are written first, and bytes that
+// alone are too many are written at once.
 fn put<W: Write>(out: &mut W, pending: &mut Pending, bytes: &[u8]) -> Result<(), DeviceFault>
     ensures ok { OnOk result (Gathers (W.contents out.old) (W.contents out.new)
         (pending.old.items ++ bytes.now) pending.new.items) }
@@ -82,7 +82,7 @@ fn put<W: Write>(out: &mut W, pending: &mut Pending, bytes: &[u8]) -> Result<(),
     out.write_all(bytes)
 }
 
-/// Adds the pieces to the pending bytes, one after the other.
+// Adds the pieces to the pending bytes, one after the other.
 fn put_all<W: Write>(
     out: &mut W,
     pending: &mut Pending,
@@ -101,7 +101,7 @@ fn put_all<W: Write>(
     Ok(())
 }
 
-/// Adds the answers to the pending bytes, joined by commas.
+// Adds the answers to the pending bytes, joined by commas.
 fn put_answers<W: Write>(
     out: &mut W,
     pending: &mut Pending,
@@ -135,7 +135,7 @@ fn put_answers<W: Write>(
 /// # Errors
 ///
 /// [`DeviceFault`] where the writer failed. A beginning of the report may have been taken then.
-pub fn write_report<W: Write>(
+pub(crate) fn write_report<W: Write>(
     out: &mut W,
     answers: &[i16],
     word: &[u8],

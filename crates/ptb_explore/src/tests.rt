@@ -31,7 +31,7 @@ fn records_a_plan_and_ones(rt: HostRuntime) -> Result<(), Fail> {
 fn refuses_what_is_out_of_range(rt: HostRuntime) -> Result<(), Fail> {
     let mut recorder = Recorder::new(rt.alloc());
     recorder.replay(&[1, 3, 0])?;
-    recorder.skip(&[6])?;
+    assert_eq!(rt; ask(&mut recorder, 6), Ok(1));
     assert_eq!(rt; ask(&mut recorder, 2), Err(Pause::OutOfRange(3)));
     assert_eq!(rt; ask(&mut recorder, 3), Ok(3));
     assert_eq!(rt; ask(&mut recorder, 9), Err(Pause::OutOfRange(0)));

@@ -1,3 +1,4 @@
+-- This file names the files of lemmas.
 pub mod Agreement
 pub mod Evaluation
 pub mod Marks

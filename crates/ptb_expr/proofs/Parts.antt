@@ -19,6 +19,7 @@ use Rattle.ptb_expr.specs.Store.{Cells, value_at, index_of, element_of, map_ok}
 use Rattle.ptb_expr.specs.Value.{Work, fault, operation, negation, absolute_value}
 use Rattle.ptb_expr.specs.Working.{Placed, result_at, after_operation, random_at, missing, more, closing, paren, variable, plain, factor, product, first_product, sum, comparison_after, expr_with, expr}
 use Rattle.ptb_expr.specs.Works.{Runs, result_at_mark}
+use Rattle.ptb_expr.proofs.Taking.{IsAlone}
 use Rattle.ptb_expr.proofs.Reaching.{reaches_then, reaches_on, runs_then, runs_stop}
 
 -- ---- a part, and what comes then
@@ -192,13 +193,23 @@ module _ (t : List ℕ) (s : Cells) (within : ℕ → Work Placed) where
   unfolding plain
   plain_element i j e d = rw (e, d) refl
 
-  pub plain_number : (i j : ℕ) (v : ℤ) → letter_at t i ≡ None → token_at 64 t i ≡ None → number_at t i ≡ (Value v, j) → plain t s within i ≡ success (v, j)
+  plain_number : (i j : ℕ) (v : ℤ) → letter_at t i ≡ None → token_at 64 t i ≡ None → number_at t i ≡ (Value v, j) → plain t s within i ≡ success (v, j)
   unfolding plain
   plain_number i j v e d h = rw (e, d, h) refl
 
-  pub plain_too_big : (i j : ℕ) → letter_at t i ≡ None → token_at 64 t i ≡ None → number_at t i ≡ (TooBig, j) → plain t s within i ≡ failure (fault How j)
+  plain_too_big : (i j : ℕ) → letter_at t i ≡ None → token_at 64 t i ≡ None → number_at t i ≡ (TooBig, j) → plain t s within i ≡ failure (fault How j)
   unfolding plain
   plain_too_big i j e d h = rw (e, d, h) refl
+
+  -- the same of a factor
+  pub factor_letter : (i b k : ℕ) → word_at Functions t i ≡ None → letter_at t i ≡ Some (b, k) → factor t s within i ≡ success (value_at s b, k)
+  factor_letter i b k none e = factor_plain i none ∙ plain_letter i b k e
+
+  pub factor_number : (i j : ℕ) (v : ℤ) → IsAlone t i → number_at t i ≡ (Value v, j) → factor t s within i ≡ success (v, j)
+  factor_number i j v a h = factor_plain i a.no_function ∙ plain_number i j v a.no_letter a.no_element h
+
+  pub factor_too_big : (i j : ℕ) → IsAlone t i → number_at t i ≡ (TooBig, j) → factor t s within i ≡ failure (fault How j)
+  factor_too_big i j a h = factor_plain i a.no_function ∙ plain_too_big i j a.no_letter a.no_element h
 
   pub plain_paren : (i j : ℕ) → letter_at t i ≡ None → token_at 64 t i ≡ None → number_at t i ≡ (Absent, j) → plain t s within i ≡ paren t s within i
   unfolding plain

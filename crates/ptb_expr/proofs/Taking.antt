@@ -1,10 +1,11 @@
 -- This file proves which operator stands where a byte stands next.
-use Rattle.std.proofs.Common.{◌≡◌, ℕ, false, List, refl, eqb, sym, Some, None}
-use Rattle.std.specs.Prelude.{IsFalse}
-use Rattle.std.proofs.lemmas.Bool.{ne_eqb}
+use Rattle.std.proofs.Common.{◌≡◌, ℕ, ◌+◌, ◌≤◌, ◌∙◌, Bool, true, false, List, refl, ap, eqb, leb, sym, Option, Some, None, arith}
+use Rattle.std.specs.Prelude.{IsFalse, ◌&&◌, if◌then◌else◌}
+use Rattle.std.proofs.lemmas.Bool.{ne_eqb, and_parts, false≢true, leb-true, lt-leb}
 use Rattle.ptb_text.specs.declared.word.Table.TheVariants.{Functions}
-use Rattle.ptb_text.specs.Words.{pair_at, word_at}
-use Rattle.ptb_text.specs.Finding.{StandsNext, is_next, past_byte}
+use Rattle.ptb_text.specs.Statements.{is_digit}
+use Rattle.ptb_text.specs.Words.{past_blanks, next_byte_at, letter_at, number_at, is_number, token_at, pair_at, word_at}
+use Rattle.ptb_text.specs.Finding.{StandsNext, FindingLaws, is_next, past_byte}
 use Rattle.ptb_expr.specs.declared.operator.Operator.TheVariants.{Plus, Minus, Times, Over, AtLeast, NotEqual, Above, Equals, AtMost, Below}
 use Rattle.ptb_expr.specs.Operators.{product_operator, sum_operator, comparison}
 
@@ -92,3 +93,25 @@ no_function_end t i s = s.word Functions refl
 
 pub no_function : (t : List ℕ) (i b : ℕ) → StandsNext t i (Some b) → (b ≡ 82 → ⊥) → (b ≡ 65 → ⊥) → (b ≡ 83 → ⊥) → word_at Functions t i ≡ None
 no_function t i b s r a z = s.word Functions (rw (ne_eqb b 82 r, ne_eqb b 65 a, ne_eqb b 83 z) refl)
+
+-- ---- numbers
+
+-- where a number stands, nothing else does
+pub record IsAlone (t : List ℕ) (i : ℕ) : Type 0 where
+  pub no_function : word_at Functions t i ≡ None
+  pub no_letter : letter_at t i ≡ None
+  pub no_element : token_at 64 t i ≡ None
+
+digit_alone : (t : List ℕ) (i : ℕ) (next : Option ℕ) → StandsNext t i next → is_next is_digit next ≡ true → IsAlone t i
+digit_alone t i None s h = absurd (false≢true h)
+digit_alone t i (Some b) s h =
+    let range = and_parts (leb 48 b) (leb b 57) h in
+    let high : b ≤ 57 = leb-true b 57 range.1 in
+    record {
+      no_function = no_function t i b s (λ e. omega (arith, e)) (λ e. omega (arith, e)) (λ e. omega (arith, e));
+      no_letter = s.letter ∙ ap (λ (x : Bool). if x && leb b 90 then Some (b, past_blanks t (past_blanks t i + 1)) else None) (lt-leb 65 b (omega arith));
+      no_element = s.token 64 ∙ ap (λ (x : Bool). if x then Some (past_byte t i) else None) (ne_eqb 64 b (λ e. omega (arith, e)));
+    }
+
+pub number_alone : FindingLaws → (t : List ℕ) (i : ℕ) → is_number (number_at t i).0 ≡ true → IsAlone t i
+number_alone laws t i e = digit_alone t i (next_byte_at t i) (laws.next t i) (sym (laws.next t i).number ∙ e)

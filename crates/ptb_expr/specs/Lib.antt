@@ -1,3 +1,4 @@
+-- This file names the files of definitions.
 pub mod Outcome
 pub mod Choices
 pub mod Store

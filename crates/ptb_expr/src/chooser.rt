@@ -1,6 +1,7 @@
 // This file has the choosers, which answer the questions of RND.
 
-ghost use Rattle.std.specs.Prelude.{◌≡◌, ℕ, ◌+◌, ◌≤◌, true, List, [], ◌∷◌, length, ℤ, pos, ◌≤ℤ◌, IfOk, IfErr};
+ghost use Rattle.std.specs.Prelude.{◌≡◌, ℕ, ◌+◌, ◌≤◌, true, List, [], ◌∷◌, length, ℤ, pos, ◌≤ℤ◌};
+ghost use Rattle.std.specs.Prelude.{IfOk, IfErr};
 ghost use Rattle.ptb_expr.specs.declared.pause.Pause.{Pause};
 ghost use Rattle.ptb_expr.specs.Outcome.{is_answer};
 ghost use Rattle.ptb_expr.specs.Choices.{Choices, with_answers, IsOutside};
@@ -26,7 +27,8 @@ pub trait Chooser {
     fn choose(&mut self, bound: i16) -> Result<i16, Pause>
         requires { pos 1 ≤ℤ bound }
         ensures answer { IfOk result (λ k. is_answer bound k ≡ true) }
-        ensures grown { IfOk result (λ k. choices self.new ≡ with_answers (k ∷ []) (bound ∷ []) (choices self.old)) }
+        ensures grown { IfOk result
+            (λ k. choices self.new ≡ with_answers (k ∷ []) (bound ∷ []) (choices self.old)) }
         ensures same { IfErr result (λ _. choices self.new ≡ choices self.old) }
         ensures refused { IfErr result (λ z. refused self.new z bound) }
         ensures outside { IfErr result (λ z. IsOutside z bound) };

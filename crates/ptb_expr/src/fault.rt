@@ -21,6 +21,7 @@ pub enum FaultKind {
 #[derive(Clone, Copy, Debug, PartialEq, Eq, Error)]
 #[error("{kind} at {mark}")]
 pub struct Fault {
+    /// Which of the three faults it is.
     pub kind: FaultKind,
     /// The place in the statement's text at which `?` is put: how many bytes stand before it.
     pub mark: usize,

@@ -6,7 +6,8 @@ ghost use Rattle.ptb_expr.specs.Marks.{MarkLaws};
 
 use ptb_text::finding_laws;
 
-/// What is read of an expression or a variable is spelled so by the grammar, in one way, and ends ahead within the text.
+/// What is read of an expression or a variable is spelled so by the grammar, in one way, and ends
+/// ahead within the text.
 pub fn spelling_laws()
     ensures { SpellingLaws }
 {

@@ -1,7 +1,8 @@
 // This file has the values of the variables A to Z and of the array @, and what names one of them.
 
 ghost use Rattle.std.specs.Prelude.{◌≡◌, ℕ, ◌≤◌, ℤ, pos, ◌≤ℤ◌, IfOk};
-ghost use Rattle.ptb_expr.specs.Store.{value_at, with_value, index_of, element_of, with_element, empty_cells};
+ghost use Rattle.ptb_expr.specs.Store.{value_at, with_value, index_of, element_of, with_element};
+ghost use Rattle.ptb_expr.specs.Store.{empty_cells};
 
 use crate::fault::FaultKind;
 use std::alloc::{AllocError, Global};
@@ -32,7 +33,8 @@ impl Model for Store {
 
     ghost view = { λ s. record { size = s.size; values = s.values; elements = s.elements.items } };
 
-    ghost invariant = { λ s. (length s.values ≡ 26) × (pos 0 ≤ℤ s.size) × (vec_len s.elements ≡ unsigned_abs s.size / 2 + 1) };
+    ghost invariant = { λ s. (length s.values ≡ 26) × (pos 0 ≤ℤ s.size)
+        × (vec_len s.elements ≡ unsigned_abs s.size / 2 + 1) };
 }
 
 impl Store {
@@ -85,16 +87,16 @@ impl Store {
     /// # Errors
     ///
     /// `How` below 0, and `Sorry` above half of SIZE.
-    pub fn index(&self, i: i16) -> Result<i16, FaultKind>
-        ensures { result ≡ index_of self.now.size i }
+    pub fn index(&self, index: i16) -> Result<i16, FaultKind>
+        ensures { result ≡ index_of self.now.size index }
     {
-        if i < 0 {
+        if index < 0 {
             return Err(FaultKind::How);
         }
-        if i32::from(i) * 2 > i32::from(self.size) {
+        if i32::from(index) * 2 > i32::from(self.size) {
             return Err(FaultKind::Sorry);
         }
-        Ok(i)
+        Ok(index)
     }
 
     /// The element at an index.
@@ -102,18 +104,18 @@ impl Store {
     /// # Errors
     ///
     /// Those of [`Store::index`].
-    pub fn element(&self, i: i16) -> Result<i16, FaultKind>
-        ensures { result ≡ element_of self.now i }
+    pub fn element(&self, index: i16) -> Result<i16, FaultKind>
+        ensures { result ≡ element_of self.now index }
     {
-        let i = self.index(i)?;
-        Ok(self.elements[i as usize])
+        let index = self.index(index)?;
+        Ok(self.elements[index as usize])
     }
 
     /// Stores an element at an index that the array has.
-    pub fn set_element(&mut self, i: i16, value: i16)
-        requires { index_of self.old.size i ≡ Ok i }
-        ensures { self.new ≡ with_element self.old i value }
+    pub fn set_element(&mut self, index: i16, value: i16)
+        requires { index_of self.old.size index ≡ Ok index }
+        ensures { self.new ≡ with_element self.old index value }
     {
-        self.elements[i as usize] = value;
+        self.elements[index as usize] = value;
     }
 }

@@ -9,7 +9,7 @@ use Rattle.ptb_expr.specs.Tree.{Tree}
 use Rattle.ptb_expr.specs.Reading.{Reading, Whole, Spoilt, after, map_reading, expression, variable_tree}
 use Rattle.ptb_expr.specs.Spells.{SpellingLaws}
 use Rattle.ptb_machine.specs.Items.{Round, Last, Onward, in_front, with_others, items_within, items, Advances, LiesOn}
-use Rattle.ptb_machine.specs.Commands.{Part, Assign, Show, NewLine, Letter, Operand, Command, at_end, defect, end_check, over_check, part_and, after_part, comma_round, value_part, assignment, or_quotation, string_at, string_or_value, width_or, print_item, next_item, after_item, item_round, print_parts_if, print_parts, prompted, said_before, input_item_by, input_item, step_by, step_parts, limit_by, limit_parts, first_parts, for_by, for_parts, next_by, next_parts, parts_of, command_of, command_by, command_at, next_begin, command_and, after_command, command_unless, command_round}
+use Rattle.ptb_machine.specs.Commands.{Part, Assign, Show, NewLine, Letter, Operand, Command, at_end, defect, end_check, over_check, part_and, after_part, comma_round, value_part, assignment, or_quotation, string_at, string_or_value, width_or, print_item, next_item, after_item, item_round, print_parts_if, print_parts, variable_item, string_item, input_item_by, input_item, step_by, step_parts, limit_by, limit_parts, first_parts, for_by, for_parts, next_by, next_parts, parts_of, command_of, command_by, command_at, next_begin, command_and, after_command, command_unless, command_round}
 
 -- ---- places
 
@@ -176,11 +176,11 @@ module _ (finding : FindingLaws) (spelling : SpellingLaws) (t : List ℕ) where
   unfolding input_item
   input_item_ends i = by_string (string_at t i) (string_ends i)
     where
-      by_said : (s : List ℕ) (j : ℕ) (b : Bool) → LiesAhead t i j → EndsAhead t i (said_before t s j b)
+      by_said : (s : List ℕ) (j : ℕ) (b : Bool) → LiesAhead t i j → EndsAhead t i (string_item t s j b)
       by_said s j true a = map_ahead t _ i (variable_tree t j) (variable_behind i j a)
       by_said s j false a = a
 
-      by_variable : (b : Bool) → EndsAhead t i (prompted t i b)
+      by_variable : (b : Bool) → EndsAhead t i (variable_item t i b)
       by_variable true = after_ahead t i (variable_tree t i) _ _ (variable_ends i) (λ x j a. a)
       by_variable false = tt
 

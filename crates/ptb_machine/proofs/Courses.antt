@@ -7,7 +7,7 @@ use Rattle.ptb_expr.specs.Value.{Work, fault, or_fault}
 use Rattle.ptb_machine.specs.declared.stop.Stop.{Stop}
 use Rattle.ptb_machine.specs.declared.stop.Stop.TheVariants as stops
 use Rattle.ptb_machine.specs.State.{State}
-use Rattle.ptb_machine.specs.Courses.{Faults, Halt, Course, and_then, goes_on, halt, show, attempt, or_halt, worked}
+use Rattle.ptb_machine.specs.Courses.{Faults, Halt, Course, and_then, goes_on, halt, show, attempt, or_halt, work_course}
 use Rattle.ptb_machine.specs.Devices.{Refusal, nothing_refused}
 use Rattle.ptb_machine.specs.Moves.{Trace, Moves}
 use Rattle.ptb_machine.specs.Stops.{Stops, MovesTo}
@@ -29,8 +29,8 @@ show_adds bytes = record { at = λ S a. (bytes, refl) }
 pub then_adds : {A B : Type 0} (f : Course A) (next : A → Course B) → Adds f → ((x : A) → Adds (next x)) → Adds (and_then f next)
 then_adds f next a b = then_keeps ShowsMore (λ S T U p q. begins_joined S.shown T.shown U.shown p q) f next a b
 
-pub worked_adds : {A : Type 0} (f : Cells → Work A) → Adds (worked f)
-worked_adds f = then_adds (attempt f) or_halt (record { at = λ S a. ([], ap (λ (T : State). T.shown) (attempt_state f S a) ∙ sym (append-nil S.shown)) }) or_halt_adds
+pub work_course_adds : {A : Type 0} (f : Cells → Work A) → Adds (work_course f)
+work_course_adds f = then_adds (attempt f) or_halt (record { at = λ S a. ([], ap (λ (T : State). T.shown) (attempt_state f S a) ∙ sym (append-nil S.shown)) }) or_halt_adds
 
 -- ---- one after the other
 
@@ -52,8 +52,8 @@ stops_fault refused o n f e x k m = subst (λ (y : Stop). Stops refused (MovesTo
 
 -- ---- what is known already
 
-pub known_value : {A : Type 0} (o : Trace) (r : Result A FaultKind) (m : ℕ) (v : A) → r ≡ Ok v → Moves o o (worked (λ c. or_fault r m)) (goes_on v)
-known_value o r m v e = subst (λ (x : Result _ FaultKind). Moves o o (worked (λ c. or_fault x m)) (goes_on v)) (sym e) (moves_refl o (goes_on v))
+pub known_value : {A : Type 0} (o : Trace) (r : Result A FaultKind) (m : ℕ) (v : A) → r ≡ Ok v → Moves o o (work_course (λ c. or_fault r m)) (goes_on v)
+known_value o r m v e = subst (λ (x : Result _ FaultKind). Moves o o (work_course (λ c. or_fault x m)) (goes_on v)) (sym e) (moves_refl o (goes_on v))
 
-pub known_fault : {A : Type 0} (o : Trace) (r : Result A FaultKind) (m : ℕ) (kind : FaultKind) → r ≡ Err kind → Moves o o (worked (λ c. or_fault r m)) (halt (Faults (fault kind m)))
-known_fault o r m kind e = subst (λ (x : Result _ FaultKind). Moves o o (worked (λ c. or_fault x m)) (halt (Faults (fault kind m)))) (sym e) (moves_refl o (halt (Faults (fault kind m))))
+pub known_fault : {A : Type 0} (o : Trace) (r : Result A FaultKind) (m : ℕ) (kind : FaultKind) → r ≡ Err kind → Moves o o (work_course (λ c. or_fault r m)) (halt (Faults (fault kind m)))
+known_fault o r m kind e = subst (λ (x : Result _ FaultKind). Moves o o (work_course (λ c. or_fault x m)) (halt (Faults (fault kind m)))) (sym e) (moves_refl o (halt (Faults (fault kind m))))

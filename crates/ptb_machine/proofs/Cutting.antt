@@ -184,9 +184,9 @@ abbrev bytes_of : Option (List ℕ) → List ℕ
 bytes_of None = []
 bytes_of (Some l) = l
 
-abbrev cleaned : Option (List ℕ) → Option (List ℕ)
-cleaned None = None
-cleaned (Some l) = Some (clean_line l)
+abbrev clean_piece : Option (List ℕ) → Option (List ℕ)
+clean_piece None = None
+clean_piece (Some l) = Some (clean_line l)
 
 -- the lines of bytes before which a piece may have begun
 abbrev all_lines : Option (List ℕ) → List ℕ → List (List ℕ)
@@ -204,27 +204,27 @@ onto_pieces-first None b (m ∷ ms) = refl
 onto_pieces-first (Some l) b [] = refl
 onto_pieces-first (Some l) b (m ∷ ms) = ap (λ k. k ∷ ms) (sym (append_assoc l (b ∷ []) m))
 
-kept_bytes-cleaned : (p : Option (List ℕ)) → kept_bytes (cleaned p) ≡ clean_line (bytes_of p)
-kept_bytes-cleaned None = refl
-kept_bytes-cleaned (Some l) = refl
+kept_bytes-clean_piece : (p : Option (List ℕ)) → kept_bytes (clean_piece p) ≡ clean_line (bytes_of p)
+kept_bytes-clean_piece None = refl
+kept_bytes-clean_piece (Some l) = refl
 
 at_byte : (p : Option (List ℕ)) (b : ℕ) (bytes : List ℕ) (t : Bool)
-    → ((q : Option (List ℕ)) → all_lines (cleaned q) bytes ≡ map clean_line (onto_pieces q (pieces bytes)))
-    → (if t then kept_bytes (cleaned p) ∷ whole_lines None bytes else whole_lines (Some (with_byte (kept_bytes (cleaned p)) b)) bytes)
-    ++ last_line (if t then last_piece None bytes else last_piece (Some (with_byte (kept_bytes (cleaned p)) b)) bytes)
+    → ((q : Option (List ℕ)) → all_lines (clean_piece q) bytes ≡ map clean_line (onto_pieces q (pieces bytes)))
+    → (if t then kept_bytes (clean_piece p) ∷ whole_lines None bytes else whole_lines (Some (with_byte (kept_bytes (clean_piece p)) b)) bytes)
+    ++ last_line (if t then last_piece None bytes else last_piece (Some (with_byte (kept_bytes (clean_piece p)) b)) bytes)
     ≡ map clean_line (onto_pieces p (if t then [] ∷ pieces bytes else onto_first b (pieces bytes)))
 at_byte None b bytes true rest = ap (λ ls. [] ∷ ls) (rest None)
 at_byte (Some l) b bytes true rest = ap (λ m. clean_line m ∷ all_lines None bytes) (sym (append-nil l)) ∙ ap (λ ls. clean_line (l ++ []) ∷ ls) (rest None)
 at_byte p b bytes false rest =
-    let kept : with_byte (kept_bytes (cleaned p)) b ≡ clean_line (bytes_of p ++ b ∷ []) =
-    ap (λ k. with_byte k b) (kept_bytes-cleaned p) ∙ sym (clean_line-byte (bytes_of p) b) in
+    let kept : with_byte (kept_bytes (clean_piece p)) b ≡ clean_line (bytes_of p ++ b ∷ []) =
+    ap (λ k. with_byte k b) (kept_bytes-clean_piece p) ∙ sym (clean_line-byte (bytes_of p) b) in
     ap (λ k. all_lines (Some k) bytes) kept ∙ rest (Some (bytes_of p ++ b ∷ [])) ∙ ap (map clean_line) (sym (onto_pieces-first p b (pieces bytes)))
 
-all_lines-cleaned : (p : Option (List ℕ)) (bytes : List ℕ) → all_lines (cleaned p) bytes ≡ map clean_line (onto_pieces p (pieces bytes))
-all_lines-cleaned None [] = refl
-all_lines-cleaned (Some l) [] = refl
-all_lines-cleaned p (b ∷ bytes) = at_byte p b bytes (b == 10) (λ q. all_lines-cleaned q bytes)
+all_lines-clean_piece : (p : Option (List ℕ)) (bytes : List ℕ) → all_lines (clean_piece p) bytes ≡ map clean_line (onto_pieces p (pieces bytes))
+all_lines-clean_piece None [] = refl
+all_lines-clean_piece (Some l) [] = refl
+all_lines-clean_piece p (b ∷ bytes) = at_byte p b bytes (b == 10) (λ q. all_lines-clean_piece q bytes)
 
 -- the input lines are those that the bytes end, and a last piece that has begun
 pub input_lines-cut : (bytes : List ℕ) → input_lines bytes ≡ whole_lines None bytes ++ last_line (last_piece None bytes)
-input_lines-cut bytes = clean_line-strip_all (pieces bytes) ∙ sym (all_lines-cleaned None bytes)
+input_lines-cut bytes = clean_line-strip_all (pieces bytes) ∙ sym (all_lines-clean_piece None bytes)

@@ -1,5 +1,5 @@
 -- This file proves what a command comes to by its word.
-use Rattle.std.proofs.Common.{◌≡◌, ◌≢◌, ℕ, List, [], ◌++◌, Option, Result, Ok, Err, ℤ, refl, sym, subst, ◌∙◌, append-nil}
+use Rattle.std.proofs.Common.{◌≡◌, ◌≢◌, ℕ, List, [], ◌++◌, Option, Result, Ok, Err, ℤ, refl, sym, subst, append-nil}
 use Rattle.ptb_text.specs.declared.word.Word.{Word}
 use Rattle.ptb_text.specs.declared.word.Word.TheVariants as words
 use Rattle.ptb_text.specs.Statements.{Statements}
@@ -43,9 +43,9 @@ let_word words.SizeKw a b c d e f h i j k is = absurd is
 let_word words.ToKw a b c d e f h i j k is = absurd is
 let_word words.StepKw a b c d e f h i j k is = absurd is
 
--- the code has the statement's number as z, and the word is known
-pub begun_with : (p : Statements) (q : Place) (n z : ℤ) (t : List ℕ) (word v : Word) (i : ℕ) → z ≡ n → word ≡ v → Begun p q n t word i → Begun p q z t v i
-begun_with p q n z t word v i e k b = subst (λ (x : ℤ). Begun p q x t v i) (sym e) (subst (λ (x : Word). Begun p q n t x i) k b)
+-- the word is known
+pub begun_with : (p : Statements) (q : Place) (n : ℕ) (t : List ℕ) (word v : Word) (i : ℕ) → word ≡ v → Begun p q n t word i → Begun p q n t v i
+begun_with p q n t word v i k b = subst (λ (x : Word). Begun p q n t x i) k b
 
 -- ---- refusals
 
@@ -76,9 +76,9 @@ acts_alone refused others more p m n o choices screen before q t i word v r e a 
 
 -- ---- the next command
 
-pub begun_next : (p : Statements) (o : Option Place) (here : Spot) (z : ℤ) (t : List ℕ) (word : Word) (i : ℕ) → z ≡ here.number → (n : NextIs p o here t) → IsFirstWord t here.at word i → Begun p n.place z t word i
-begun_next p o here z t word i e n f = record {
-  number = e ∙ n.is.number;
+pub begun_next : (p : Statements) (o : Option Place) (here : Spot) (t : List ℕ) (word : Word) (i : ℕ) (n : NextIs p o here t) → IsFirstWord t here.at word i → Begun p n.place here.statement t word i
+begun_next p o here t word i n f = record {
+  statement = n.is.statement;
   text = n.text;
   begin = here.at;
   at = subst (λ (x : List ℕ). At x n.place.index here.at) n.text n.is.at;

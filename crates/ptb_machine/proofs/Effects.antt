@@ -17,7 +17,7 @@ use Rattle.ptb_expr.specs.Reading.{item_of, expression}
 use Rattle.ptb_expr.specs.Value.{Work, value}
 use Rattle.ptb_machine.specs.Commands.{Part, Assign, Say, Width, Show, NewLine, Take, Letter, Operand, Defect, Command}
 use Rattle.ptb_machine.specs.State.{Place, Loop, Call, State, text_of, nesting, nesting_limit}
-use Rattle.ptb_machine.specs.Courses.{Halt, Faults, Ends, Progress, Goes, Halts, Course, on_progress, and_then, goes_on, halt, change, show, attempt, or_halt, worked}
+use Rattle.ptb_machine.specs.Courses.{Halt, Faults, Ends, Progress, Goes, Halts, Course, on_progress, and_then, goes_on, halt, change, show, attempt, or_halt, work_course}
 use Rattle.ptb_machine.specs.Act.{newline, fails, is_full, go_to, if_room, goto_course, with_call, gosub_course, return_course, without_loop, with_loop, for_course, loops_from, is_past, loop_end, loop_turn, after_sum, next_course, finish, end_of, letter_of, first_width, command_course, is_fresh, report_bytes, deed_of, with_step, act, value_course, target_course, store, take_line, ask_for, store_or_again, input_course, parts_course}
 use Rattle.ptb_machine.specs.Effects.{progress_state, course_state, deed_state, act_state, Begins, PartChange, EndChange, CommandChange}
 
@@ -84,7 +84,7 @@ or_halt_part : {A : Type 0} (r : Result A Fault) → Keeps PartChange (or_halt r
 or_halt_part (Ok v) = goes_part v
 or_halt_part (Err f) = halt_part (Faults f)
 
-worked_part : {A : Type 0} (m : Cells → Work A) → Keeps PartChange (worked m)
+worked_part : {A : Type 0} (m : Cells → Work A) → Keeps PartChange (work_course m)
 worked_part m = then_part (attempt m) or_halt (attempt_part m) or_halt_part
 
 show_part : (s : List ℕ) → Keeps PartChange (show s)
@@ -127,7 +127,7 @@ parts_part (Assign x y ∷ parts) w operands =
     then_part (target_course x) _ (worked_part _) (λ at. then_part (value_course y) _ (worked_part _) (λ v. then_part (store at v) _ (store_part at v) (λ _. parts_part parts w operands)))
 parts_part (Say s ∷ parts) w operands = then_part (show s) _ (show_part s) (λ _. parts_part parts w operands)
 parts_part (Width x m ∷ parts) w operands =
-    then_part (value_course x) _ (worked_part _) (λ v. then_part (worked _) _ (worked_part _) (λ u. parts_part parts u operands))
+    then_part (value_course x) _ (worked_part _) (λ v. then_part (work_course _) _ (worked_part _) (λ u. parts_part parts u operands))
 parts_part (Show x ∷ parts) w operands =
     then_part (value_course x) _ (worked_part _) (λ v. then_part (show _) _ (show_part _) (λ _. parts_part parts w operands))
 parts_part (NewLine ∷ parts) w operands = then_part (show newline) _ (show_part newline) (λ _. parts_part parts w operands)

@@ -15,7 +15,7 @@ use Rattle.ptb_expr.specs.Reading.{item_of, expression}
 use Rattle.ptb_expr.specs.Value.{Work, value}
 use Rattle.ptb_machine.specs.Commands.{Part, Assign, Say, Width, Show, NewLine, Take, Letter, Operand, Defect, Command}
 use Rattle.ptb_machine.specs.State.{State, Place, Loop, Call, first_state, text_of, next_command}
-use Rattle.ptb_machine.specs.Courses.{Halt, Faults, Ends, Progress, Goes, Halts, Course, on_progress, and_then, goes_on, halt, change, show, attempt, or_halt, worked}
+use Rattle.ptb_machine.specs.Courses.{Halt, Faults, Ends, Progress, Goes, Halts, Course, on_progress, and_then, goes_on, halt, change, show, attempt, or_halt, work_course}
 use Rattle.ptb_machine.specs.Act.{newline, fails, is_full, if_room, goto_course, gosub_course, return_course, without_loop, with_loop, with_call, for_course, loops_from, next_course, finish, end_of, letter_of, first_width, command_course, Deed, Next, Over, deed_of, ending_of, with_step, act, value_course, target_course, store, take_line, ask_for, store_or_again, input_course, parts_course}
 use Rattle.ptb_machine.specs.Play.{act_unless, turn_by, turn, Finish, after_deed, turns_within, turns, play}
 use Rattle.ptb_machine.specs.EndingLaws.{IsRunEnding, EndingLaws}
@@ -65,14 +65,14 @@ or_halt_ends : {A : Type 0} (r : Result A Fault) → EndsLikeRun (or_halt r)
 or_halt_ends (Ok v) = goes_ends v
 or_halt_ends (Err f) = halt_ends (Faults f) tt
 
-worked_ends : {A : Type 0} (m : Cells → Work A) → EndsLikeRun (worked m)
-worked_ends m = then_ends (attempt m) or_halt (attempt_ends m) or_halt_ends
+work_course_ends : {A : Type 0} (m : Cells → Work A) → EndsLikeRun (work_course m)
+work_course_ends m = then_ends (attempt m) or_halt (attempt_ends m) or_halt_ends
 
 -- ---- parts
 
 ask_ends : (said : List ℕ) (x : Tree) (prompt : List ℕ) → EndsLikeRun (ask_for said x prompt)
 ask_ends said x prompt =
-    then_ends (show said) _ (change_ends _) (λ _. then_ends (target_course x) _ (worked_ends _) (λ at. then_ends (show prompt) (λ _. goes_on at) (change_ends _) (λ _. goes_ends at)))
+    then_ends (show said) _ (change_ends _) (λ _. then_ends (target_course x) _ (work_course_ends _) (λ at. then_ends (show prompt) (λ _. goes_on at) (change_ends _) (λ _. goes_ends at)))
 
 line_value : List ℕ → Cells → Work ℤ
 line_value l c = value c (item_of (expression l 0))
@@ -96,17 +96,17 @@ parts_ends : (parts : List Part) (w : ℕ) (operands : List ℤ) → EndsLikeRun
 unfolding parts_course
 parts_ends [] w operands = goes_ends operands
 parts_ends (Assign x y ∷ parts) w operands =
-    then_ends (target_course x) _ (worked_ends _) (λ at. then_ends (value_course y) _ (worked_ends _) (λ v. then_ends (store at v) _ (change_ends _) (λ _. parts_ends parts w operands)))
+    then_ends (target_course x) _ (work_course_ends _) (λ at. then_ends (value_course y) _ (work_course_ends _) (λ v. then_ends (store at v) _ (change_ends _) (λ _. parts_ends parts w operands)))
 parts_ends (Say s ∷ parts) w operands = then_ends (show s) _ (change_ends _) (λ _. parts_ends parts w operands)
 parts_ends (Width x m ∷ parts) w operands =
-    then_ends (value_course x) _ (worked_ends _) (λ v. then_ends (worked _) _ (worked_ends _) (λ u. parts_ends parts u operands))
+    then_ends (value_course x) _ (work_course_ends _) (λ v. then_ends (work_course _) _ (work_course_ends _) (λ u. parts_ends parts u operands))
 parts_ends (Show x ∷ parts) w operands =
-    then_ends (value_course x) _ (worked_ends _) (λ v. then_ends (show _) _ (change_ends _) (λ _. parts_ends parts w operands))
+    then_ends (value_course x) _ (work_course_ends _) (λ v. then_ends (show _) _ (change_ends _) (λ _. parts_ends parts w operands))
 parts_ends (NewLine ∷ parts) w operands = then_ends (show newline) _ (change_ends _) (λ _. parts_ends parts w operands)
 parts_ends (Take said x prompt ∷ parts) w operands =
     then_ends (λ S. input_course said x prompt S.lines S) _ (take_course_ends said x prompt) (λ _. parts_ends parts w operands)
 parts_ends (Letter x ∷ parts) w operands = parts_ends parts w operands
-parts_ends (Operand x ∷ parts) w operands = then_ends (value_course x) _ (worked_ends _) (λ v. parts_ends parts w (operands ++ v ∷ []))
+parts_ends (Operand x ∷ parts) w operands = then_ends (value_course x) _ (work_course_ends _) (λ v. parts_ends parts w (operands ++ v ∷ []))
 parts_ends (Defect kind m ∷ parts) w operands = halt_ends _ tt
 
 -- ---- commands

@@ -9,7 +9,7 @@ use Rattle.ptb_expr.specs.Choices.{Choices, with_answers, with_bounds}
 use Rattle.ptb_machine.specs.declared.stop.DeviceError.{DeviceError}
 use Rattle.ptb_machine.specs.declared.stop.DeviceError.TheVariants as errors
 use Rattle.ptb_machine.specs.declared.fault.ReadFault.TheVariants as faults
-use Rattle.ptb_machine.specs.Devices.{ScreenState, Devices, Exchange, no_exchange, joined, Shows, Exchanges, Refusal, Unanswered, Unread, HasNoMemory, IsUnread, HasBroken}
+use Rattle.ptb_machine.specs.Devices.{ScreenState, Devices, Exchange, no_exchange, both_exchanges, Shows, Exchanges, Refusal, Unanswered, Unread, HasNoMemory, IsUnread, HasBroken}
 use Rattle.ptb_expr.specs.declared.pause.Pause.TheVariants as pauses
 
 -- ---- choices
@@ -56,7 +56,7 @@ shows_then a b c xs ys p q = record {
 pub exchanges_none : (d : Devices) → Exchanges d d no_exchange
 exchanges_none d = record { grown = sym (with_answers_nil d.choices); shows = shows_nothing d.screen; given = sym (append-nil d.given) }
 
-pub exchanges_then : {c d e : Devices} {x y : Exchange} → Exchanges c d x → Exchanges d e y → Exchanges c e (joined x y)
+pub exchanges_then : {c d e : Devices} {x y : Exchange} → Exchanges c d x → Exchanges d e y → Exchanges c e (both_exchanges x y)
 exchanges_then {c = c} {d = d} {e = e} {x = x} {y = y} p q = record {
   grown = q.grown ∙ ap (with_answers y.answers y.bounds) p.grown ∙ with_answers_twice x.answers y.answers x.bounds y.bounds c.choices;
   shows = shows_then c.screen d.screen e.screen x.bytes y.bytes p.shows q.shows;

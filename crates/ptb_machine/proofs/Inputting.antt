@@ -24,7 +24,7 @@ use Rattle.ptb_machine.specs.Commands.{Part, Take}
 use Rattle.ptb_machine.specs.State.{State}
 use Rattle.ptb_machine.specs.Courses.{Ends, Progress, Goes, Halts, Course, on_progress, and_then, goes_on, halt, show, attempt, or_halt}
 use Rattle.ptb_machine.specs.Act.{newline, word_of, target_course, store, take_line, ask_for, store_or_again, input_course, parts_course}
-use Rattle.ptb_machine.specs.Asking.{taking}
+use Rattle.ptb_machine.specs.Asking.{item_course}
 use Rattle.ptb_machine.specs.Effects.{course_state}
 use Rattle.ptb_machine.specs.Sources.{given_lines}
 use Rattle.ptb_machine.specs.Devices.{Devices, ScreenState, devices, with_choices, Refusal, Unanswered, Unread, NoLine, refused_answers, refused_by, HasBroken}
@@ -34,7 +34,7 @@ use Rattle.ptb_machine.proofs.Effects.{Keeps, then_keeps, attempt_state, input_p
 use Rattle.ptb_machine.proofs.Exchanges.{shows_nothing, exchanges_none, with_answers_nil}
 use Rattle.ptb_machine.proofs.Moves.{leaves_to, leaves_itself, after_nothing, freshens_nothing, moves_refl, moves_then}
 use Rattle.ptb_machine.proofs.Stops.{Adds, parts_add, stops_after}
-use Rattle.ptb_machine.proofs.Courses.{goes_adds, halt_adds, show_adds, then_adds, worked_adds, moves_on, stops_first}
+use Rattle.ptb_machine.proofs.Courses.{goes_adds, halt_adds, show_adds, then_adds, work_course_adds, moves_on, stops_first}
 use Rattle.ptb_machine.proofs.Assigning.{store_adds}
 use Rattle.ptb_machine.proofs.Parts.{moves_part, stops_part}
 use Rattle.ptb_machine.proofs.Working.{has_result, has_paused}
@@ -119,7 +119,7 @@ module _ (said : List ℕ) (x : Tree) (prompt : List ℕ) where
 
   target_next_adds : Adds target_next
   unfolding target_next
-  target_next_adds = then_adds (target_course x) prompt_next (worked_adds _) prompt_next_adds
+  target_next_adds = then_adds (target_course x) prompt_next (work_course_adds _) prompt_next_adds
 
   pub ask_adds : Adds (ask_for said x prompt)
   unfolding target_next prompt_next
@@ -174,17 +174,17 @@ module _ (said : List ℕ) (x : Tree) (prompt : List ℕ) where
 
   -- ---- a line is taken
 
-  pub taking_adds : Adds (taking said x prompt)
-  taking_adds = record { at = λ S a. ((input_part said x prompt S.lines).at S a).shown }
+  pub item_course_adds : Adds (item_course said x prompt)
+  item_course_adds = record { at = λ S a. ((input_part said x prompt S.lines).at S a).shown }
 
   -- once a line's value is known, or its fault
   pub answered : Target → Result ℤ Fault → Course (Unit {0})
-  answered at = store_or_again at (taking said x prompt)
+  answered at = store_or_again at (item_course said x prompt)
 
   answered_adds : (at : Target) (r : Result ℤ Fault) → Adds (answered at r)
   unfolding answered
   answered_adds at (Ok v) = store_adds at v
-  answered_adds at (Err f) = then_adds (show (word_of f.kind ++ newline)) (λ u. taking said x prompt) (show_adds _) (λ u. taking_adds)
+  answered_adds at (Err f) = then_adds (show (word_of f.kind ++ newline)) (λ u. item_course said x prompt) (show_adds _) (λ u. item_course_adds)
 
   -- once a line is shown
   pub worth : Target → List ℕ → Course (Unit {0})
@@ -226,24 +226,24 @@ module _ (said : List ℕ) (x : Tree) (prompt : List ℕ) where
   by_lines (l ∷ ls) S a e =
       next_same (λ at. answer_by at (l ∷ ls)) wants (l ∷ ls) (λ at T k. ap (λ ls. answer_by at ls T) (sym k)) (ask_for said x prompt S a) (ask_lines.at S a ∙ e)
 
-  taking_asks : taking said x prompt ≡ and_then (ask_for said x prompt) wants
-  taking_asks = fun_ext (λ S. fun_ext (λ a. by_lines S.lines S a refl))
+  item_course_asks : item_course said x prompt ≡ and_then (ask_for said x prompt) wants
+  item_course_asks = fun_ext (λ S. fun_ext (λ a. by_lines S.lines S a refl))
 
   wants_adds : (at : Target) → Adds (wants at)
   unfolding wants answer_by
   wants_adds at = record { at = λ S a. (answer_adds at S.lines).at S a }
 
   -- what asks has come to a target, and wants a line
-  wanted : {o n : Trace} (at : Target) → Moves o n (ask_for said x prompt) (goes_on at) → Moves o n (taking said x prompt) (wants at)
-  wanted {o = o} {n = n} at a = subst (λ (f : Course (Unit {0})). Moves o n f (wants at)) (sym taking_asks) (moves_on wants a)
+  wanted : {o n : Trace} (at : Target) → Moves o n (ask_for said x prompt) (goes_on at) → Moves o n (item_course said x prompt) (wants at)
+  wanted {o = o} {n = n} at a = subst (λ (f : Course (Unit {0})). Moves o n f (wants at)) (sym item_course_asks) (moves_on wants a)
 
   -- it stops before
-  pub take_ask_stops : (refused : Refusal → Type 0) (o n : Trace) (e : Stop) → Stops refused (MovesTo o n (ask_for said x prompt)) n.devices e → Stops refused (MovesTo o n (taking said x prompt)) n.devices e
+  pub take_ask_stops : (refused : Refusal → Type 0) (o n : Trace) (e : Stop) → Stops refused (MovesTo o n (ask_for said x prompt)) n.devices e → Stops refused (MovesTo o n (item_course said x prompt)) n.devices e
   take_ask_stops refused o n e h =
-      subst (λ (f : Course (Unit {0})). Stops refused (MovesTo o n f) n.devices e) (sym taking_asks) (stops_first refused o n (ask_for said x prompt) wants wants_adds e h)
+      subst (λ (f : Course (Unit {0})). Stops refused (MovesTo o n f) n.devices e) (sym item_course_asks) (stops_first refused o n (ask_for said x prompt) wants wants_adds e h)
 
   -- no line is left
-  pub take_dry : (refused : Refusal → Type 0) {o n : Trace} (at : Target) → Moves o n (ask_for said x prompt) (goes_on at) → refused NoLine → Stops refused (MovesTo o n (taking said x prompt)) n.devices stops.NoInput
+  pub take_dry : (refused : Refusal → Type 0) {o n : Trace} (at : Target) → Moves o n (ask_for said x prompt) (goes_on at) → refused NoLine → Stops refused (MovesTo o n (item_course said x prompt)) n.devices stops.NoInput
   unfolding wants answer_by
   take_dry refused at a h = record {
     left = wants at;
@@ -253,7 +253,7 @@ module _ (said : List ℕ) (x : Tree) (prompt : List ℕ) where
   }
 
   -- the lines can't be read
-  unread : (refused : Refusal → Type 0) {o n : Trace} (at : Target) (e : DeviceError) → Moves o n (ask_for said x prompt) (goes_on at) → HasBroken refused n.devices.screen n.devices.screen e → Stops refused (MovesTo o n (taking said x prompt)) n.devices (stops.Broke e)
+  unread : (refused : Refusal → Type 0) {o n : Trace} (at : Target) (e : DeviceError) → Moves o n (ask_for said x prompt) (goes_on at) → HasBroken refused n.devices.screen n.devices.screen e → Stops refused (MovesTo o n (item_course said x prompt)) n.devices (stops.Broke e)
   unread refused {n = n} at e a h = record {
     left = wants at;
     middle = n.devices;
@@ -264,7 +264,7 @@ module _ (said : List ℕ) (x : Tree) (prompt : List ℕ) where
     broken = h;
   }
 
-  pub take_unread : (refused : Refusal → Type 0) {o n : Trace} (at : Target) (f : ReadFault) → Moves o n (ask_for said x prompt) (goes_on at) → refused (Unread f) → Stops refused (MovesTo o n (taking said x prompt)) n.devices (stop_of_read f)
+  pub take_unread : (refused : Refusal → Type 0) {o n : Trace} (at : Target) (f : ReadFault) → Moves o n (ask_for said x prompt) (goes_on at) → refused (Unread f) → Stops refused (MovesTo o n (item_course said x prompt)) n.devices (stop_of_read f)
   take_unread refused at reads.Read a h = unread refused at errors.Read a (record { by = inl h })
   take_unread refused at reads.TooLong a h = unread refused at errors.Read a (record { by = inr h })
   take_unread refused at reads.Memory a h = unread refused at errors.Memory a (record { by = inr (inr h) })
@@ -298,7 +298,7 @@ module _ (said : List ℕ) (x : Tree) (prompt : List ℕ) where
         (leaves_itself (wants at S));
   }
 
-  pub take_given : {o m : Trace} (at : Target) (l : List ℕ) (k : List (List ℕ)) → k ≡ m.devices.given ++ l ∷ [] → Moves o m (ask_for said x prompt) (goes_on at) → Moves o (record m { devices = record m.devices { given = k } }) (taking said x prompt) (line_next at l)
+  pub take_given : {o m : Trace} (at : Target) (l : List ℕ) (k : List (List ℕ)) → k ≡ m.devices.given ++ l ∷ [] → Moves o m (ask_for said x prompt) (goes_on at) → Moves o (record m { devices = record m.devices { given = k } }) (item_course said x prompt) (line_next at l)
   take_given {m = m} at l k e a = moves_then (wanted at a) (line_given m at l k e)
 
   -- ---- once a line is given
@@ -324,31 +324,31 @@ module _ (said : List ℕ) (x : Tree) (prompt : List ℕ) where
   unfolding worth answered
   stored_moves {m = m} {n = n} at l v u k a b = moves_then (moves_on (answered at) a) (subst (λ (z : ℤ). Moves m n (store at z) (goes_on tt)) k b)
 
-  pub again_moves : {o m n : Trace} (at : Target) (l : List ℕ) (f : Fault) (bytes : List ℕ) → bytes ≡ word_of f.kind ++ newline → Moves o m (line_value l) (goes_on (Err f)) → Moves m n (show bytes) (goes_on tt) → Moves o n (worth at l) (taking said x prompt)
+  pub again_moves : {o m n : Trace} (at : Target) (l : List ℕ) (f : Fault) (bytes : List ℕ) → bytes ≡ word_of f.kind ++ newline → Moves o m (line_value l) (goes_on (Err f)) → Moves m n (show bytes) (goes_on tt) → Moves o n (worth at l) (item_course said x prompt)
   unfolding worth answered
   again_moves {m = m} {n = n} at l f bytes k a b =
-      moves_then (moves_on (answered at) a) (moves_on (λ u. taking said x prompt) (subst (λ (s : List ℕ). Moves m n (show s) (goes_on tt)) k b))
+      moves_then (moves_on (answered at) a) (moves_on (λ u. item_course said x prompt) (subst (λ (s : List ℕ). Moves m n (show s) (goes_on tt)) k b))
 
   pub again_stops : (refused : Refusal → Type 0) {o m : Trace} (n : Trace) (at : Target) (l : List ℕ) (f : Fault) (bytes : List ℕ) → bytes ≡ word_of f.kind ++ newline → (e : Stop) → Moves o m (line_value l) (goes_on (Err f)) → Stops refused (MovesTo m n (show bytes)) n.devices e → Stops refused (MovesTo o n (worth at l)) n.devices e
   unfolding worth answered
   again_stops refused {m = m} n at l f bytes k e a h =
       stops_after refused n (moves_on (answered at) a) e
-      (stops_first refused m n (show (word_of f.kind ++ newline)) (λ u. taking said x prompt) (λ u. taking_adds) e
+      (stops_first refused m n (show (word_of f.kind ++ newline)) (λ u. item_course said x prompt) (λ u. item_course_adds) e
       (subst (λ (s : List ℕ). Stops refused (MovesTo m n (show s)) n.devices e) k h))
 
 -- ---- the part
 
 module _ (rest : List Part) (w : ℕ) (operands : List ℤ) where
-  pub take_moves : {o n : Trace} (said : List ℕ) (x : Tree) (prompt : List ℕ) → Moves o n (taking said x prompt) (goes_on tt) → Moves o n (parts_course (Take said x prompt ∷ rest) w operands) (parts_course rest w operands)
+  pub take_moves : {o n : Trace} (said : List ℕ) (x : Tree) (prompt : List ℕ) → Moves o n (item_course said x prompt) (goes_on tt) → Moves o n (parts_course (Take said x prompt ∷ rest) w operands) (parts_course rest w operands)
   unfolding parts_course
   take_moves said x prompt a = moves_on (λ u. parts_course rest w operands) a
 
-  pub take_stops : (refused : Refusal → Type 0) (o n : Trace) (said : List ℕ) (x : Tree) (prompt : List ℕ) (e : Stop) → Stops refused (MovesTo o n (taking said x prompt)) n.devices e → Stops refused (MovesTo o n (parts_course (Take said x prompt ∷ rest) w operands)) n.devices e
+  pub take_stops : (refused : Refusal → Type 0) (o n : Trace) (said : List ℕ) (x : Tree) (prompt : List ℕ) (e : Stop) → Stops refused (MovesTo o n (item_course said x prompt)) n.devices e → Stops refused (MovesTo o n (parts_course (Take said x prompt ∷ rest) w operands)) n.devices e
   unfolding parts_course
-  take_stops refused o n said x prompt e h = stops_first refused o n (taking said x prompt) (λ u. parts_course rest w operands) (λ u. parts_add rest w operands) e h
+  take_stops refused o n said x prompt e h = stops_first refused o n (item_course said x prompt) (λ u. parts_course rest w operands) (λ u. parts_add rest w operands) e h
 
   -- all that it comes to
-  pub take_comes : {X : Type 0} (refused : Refusal → Type 0) (o n : Trace) (said : List ℕ) (x : Tree) (prompt : List ℕ) (p : Part) → p ≡ Take said x prompt → (r : Result X Stop) → Comes refused o n (taking said x prompt) (λ u. goes_on tt) r → Comes refused o n (parts_course (p ∷ rest) w operands) (λ u. parts_course rest w operands) r
+  pub take_comes : {X : Type 0} (refused : Refusal → Type 0) (o n : Trace) (said : List ℕ) (x : Tree) (prompt : List ℕ) (p : Part) → p ≡ Take said x prompt → (r : Result X Stop) → Comes refused o n (item_course said x prompt) (λ u. goes_on tt) r → Comes refused o n (parts_course (p ∷ rest) w operands) (λ u. parts_course rest w operands) r
   take_comes refused o n said x prompt p k (Ok y) h = moves_part rest w operands p (Take said x prompt) k (take_moves said x prompt h)
   take_comes refused o n said x prompt p k (Err e) h = stops_part rest w operands refused o n p (Take said x prompt) k e (take_stops refused o n said x prompt e h)
 

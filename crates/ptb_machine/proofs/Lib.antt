@@ -1,3 +1,4 @@
+-- This file names the files of lemmas.
 pub mod Ahead
 pub mod Budgets
 pub mod Assigning
@@ -22,6 +23,7 @@ pub mod Nexts
 pub mod Parts
 pub mod PartsSpend
 pub mod Prompts
+pub mod Placed
 pub mod Places
 pub mod PlayReads
 pub mod ProgramQuestions

@@ -7,7 +7,7 @@ use Rattle.ptb_expr.specs.Store.{Cells}
 use Rattle.ptb_machine.specs.State.{State}
 use Rattle.ptb_machine.specs.Courses.{Course, on_progress, and_then}
 use Rattle.ptb_machine.specs.Act.{is_fresh}
-use Rattle.ptb_machine.specs.Devices.{Exchange, no_exchange, joined}
+use Rattle.ptb_machine.specs.Devices.{Exchange, no_exchange, both_exchanges}
 use Rattle.ptb_machine.specs.Moves.{Trace, Freshens, Fits, after, Leaves, Moves}
 use Rattle.ptb_machine.proofs.Exchanges.{exchanges_none, exchanges_then}
 
@@ -90,7 +90,7 @@ moves_refl o f = moves_same o f f (λ S rest w. refl)
 
 pub moves_then : {A : Type 0} {o m n : Trace} {f g h : State → Answers → Outcome A State} → Moves o m f g → Moves m n g h → Moves o n f h
 moves_then {o = o} {m = m} {n = n} {f = f} {g = g} {h = h} a b = record {
-  exchange = joined a.exchange b.exchange;
+  exchange = both_exchanges a.exchange b.exchange;
   exchanges = exchanges_then a.exchanges b.exchanges;
   fresh = freshens_then o.fresh m.fresh n.fresh a.exchange.bytes b.exchange.bytes a.fresh b.fresh;
   leaves = λ S rest w.

@@ -8,14 +8,14 @@ use Rattle.ptb_expr.specs.Reading.{Whole, Spoilt, item_of}
 use Rattle.ptb_expr.specs.Value.{fault, or_fault}
 use Rattle.ptb_machine.specs.declared.stop.Stop.{Stop}
 use Rattle.ptb_machine.specs.Commands.{Part, Say, Width, Show, NewLine, Letter, Operand, Defect, at_end, defect, end_check}
-use Rattle.ptb_machine.specs.Courses.{Faults, Course, and_then, goes_on, halt, show, worked}
+use Rattle.ptb_machine.specs.Courses.{Faults, Course, and_then, goes_on, halt, show, work_course}
 use Rattle.ptb_machine.specs.Act.{value_course, padded_decimal, width_of, newline, parts_course}
 use Rattle.ptb_machine.specs.Devices.{Refusal}
 use Rattle.ptb_machine.specs.Moves.{Trace, Moves}
 use Rattle.ptb_machine.specs.Stops.{Stops, MovesTo}
 use Rattle.ptb_machine.proofs.Moves.{moves_refl, moves_then}
 use Rattle.ptb_machine.proofs.Stops.{Adds, parts_add, stops_after}
-use Rattle.ptb_machine.proofs.Courses.{show_adds, then_adds, worked_adds, moves_on, stops_first}
+use Rattle.ptb_machine.proofs.Courses.{show_adds, then_adds, work_course_adds, moves_on, stops_first}
 
 -- ---- lists of parts
 
@@ -96,31 +96,31 @@ module _ (rest : List Part) (w : ℕ) (operands : List ℤ) where
   -- ---- widths
 
   width_next : ℕ → ℤ → Course (List ℤ)
-  width_next mark v = and_then (worked (λ c. or_fault (width_of v) mark)) (λ u. parts_course rest u operands)
+  width_next mark v = and_then (work_course (λ c. or_fault (width_of v) mark)) (λ u. parts_course rest u operands)
 
   width_next_adds : (mark : ℕ) (v : ℤ) → Adds (width_next mark v)
   unfolding width_next
-  width_next_adds mark v = then_adds (worked (λ c. or_fault (width_of v) mark)) (λ u. parts_course rest u operands) (worked_adds (λ c. or_fault (width_of v) mark)) (λ u. parts_add rest u operands)
+  width_next_adds mark v = then_adds (work_course (λ c. or_fault (width_of v) mark)) (λ u. parts_course rest u operands) (work_course_adds (λ c. or_fault (width_of v) mark)) (λ u. parts_add rest u operands)
 
   width_first : {o m : Trace} (x : Tree) (mark : ℕ) (v : ℤ) → Moves o m (value_course x) (goes_on v) → Moves o m (parts_course (Width x mark ∷ rest) w operands) (width_next mark v)
   unfolding parts_course width_next
-  width_first x mark v a = moves_on (λ v. and_then (worked (λ c. or_fault (width_of v) mark)) (λ u. parts_course rest u operands)) a
+  width_first x mark v a = moves_on (λ v. and_then (work_course (λ c. or_fault (width_of v) mark)) (λ u. parts_course rest u operands)) a
 
-  pub width_moves : {o m n : Trace} (x : Tree) (mark : ℕ) (v u : ℤ) → u ≡ v → (wide : ℕ) → Moves o m (value_course x) (goes_on v) → Moves m n (worked (λ c. or_fault (width_of u) mark)) (goes_on wide) → Moves o n (parts_course (Width x mark ∷ rest) w operands) (parts_course rest wide operands)
+  pub width_moves : {o m n : Trace} (x : Tree) (mark : ℕ) (v u : ℤ) → u ≡ v → (wide : ℕ) → Moves o m (value_course x) (goes_on v) → Moves m n (work_course (λ c. or_fault (width_of u) mark)) (goes_on wide) → Moves o n (parts_course (Width x mark ∷ rest) w operands) (parts_course rest wide operands)
   unfolding width_next
   width_moves {m = m} {n = n} x mark v u k wide a b =
-      moves_then (width_first x mark v a) (moves_on (λ u. parts_course rest u operands) (subst (λ (z : ℤ). Moves m n (worked (λ c. or_fault (width_of z) mark)) (goes_on wide)) k b))
+      moves_then (width_first x mark v a) (moves_on (λ u. parts_course rest u operands) (subst (λ (z : ℤ). Moves m n (work_course (λ c. or_fault (width_of z) mark)) (goes_on wide)) k b))
 
   pub width_value_stops : (refused : Refusal → Type 0) (o n : Trace) (x : Tree) (mark : ℕ) (e : Stop) → Stops refused (MovesTo o n (value_course x)) n.devices e → Stops refused (MovesTo o n (parts_course (Width x mark ∷ rest) w operands)) n.devices e
   unfolding parts_course width_next
   width_value_stops refused o n x mark e h = stops_first refused o n (value_course x) (width_next mark) (width_next_adds mark) e h
 
-  pub width_stops : (refused : Refusal → Type 0) {o m : Trace} (n : Trace) (x : Tree) (mark : ℕ) (v u : ℤ) → u ≡ v → (e : Stop) → Moves o m (value_course x) (goes_on v) → Stops refused (MovesTo m n (worked (λ c. or_fault (width_of u) mark))) n.devices e → Stops refused (MovesTo o n (parts_course (Width x mark ∷ rest) w operands)) n.devices e
+  pub width_stops : (refused : Refusal → Type 0) {o m : Trace} (n : Trace) (x : Tree) (mark : ℕ) (v u : ℤ) → u ≡ v → (e : Stop) → Moves o m (value_course x) (goes_on v) → Stops refused (MovesTo m n (work_course (λ c. or_fault (width_of u) mark))) n.devices e → Stops refused (MovesTo o n (parts_course (Width x mark ∷ rest) w operands)) n.devices e
   unfolding width_next
   width_stops refused {m = m} n x mark v u k e a h =
       stops_after refused n (width_first x mark v a) e
-      (stops_first refused m n (worked (λ c. or_fault (width_of v) mark)) (λ u. parts_course rest u operands) (λ u. parts_add rest u operands) e
-      (subst (λ (z : ℤ). Stops refused (MovesTo m n (worked (λ c. or_fault (width_of z) mark))) n.devices e) k h))
+      (stops_first refused m n (work_course (λ c. or_fault (width_of v) mark)) (λ u. parts_course rest u operands) (λ u. parts_add rest u operands) e
+      (subst (λ (z : ℤ). Stops refused (MovesTo m n (work_course (λ c. or_fault (width_of z) mark))) n.devices e) k h))
 
   -- ---- values that the command uses
 

@@ -14,11 +14,11 @@ use Rattle.ptb_expr.proofs.Readers.{success_reader, failure_reader}
 use Rattle.ptb_expr.specs.Laws.{ValueLaws}
 use Rattle.ptb_machine.specs.Commands.{Part, Assign, Say, Width, Show, NewLine, Take, Letter, Operand, Defect}
 use Rattle.ptb_machine.specs.State.{State}
-use Rattle.ptb_machine.specs.Courses.{Progress, Goes, Halts, Course, on_progress, and_then, goes_on, halt, show, worked}
+use Rattle.ptb_machine.specs.Courses.{Progress, Goes, Halts, Course, on_progress, and_then, goes_on, halt, show, work_course}
 use Rattle.ptb_machine.specs.Act.{newline, width_of, value_course, target_course, store, ask_for, store_or_again, input_course, parts_course}
 use Rattle.ptb_machine.specs.Questions.{part_questions, line_questions}
 use Rattle.ptb_machine.proofs.Budgets.{Budget, wider_budget, with_more, done_budget, then_budget}
-use Rattle.ptb_machine.proofs.Spending.{left_for, Spends, wider_spends, change_spends, goes_spends, halt_spends, then_spends, after_spends, worked_spends, attempt_then, lines_cost, lines_cost-cons, later}
+use Rattle.ptb_machine.proofs.Spending.{left_for, Spends, wider_spends, change_spends, goes_spends, halt_spends, then_spends, after_spends, work_course_spends, attempt_then, lines_cost, lines_cost-cons, later}
 
 or_fault_reader : {A : Type 0} (r : Result A FaultKind) (m : ℕ) → IsReader (or_fault r m) 0
 or_fault_reader (Ok v) m = success_reader v 0
@@ -45,10 +45,10 @@ parts_questions-cons part parts = sum_by-cons part_questions part parts
 
 module _ (values : ValueLaws) where
   value_spends : (cost : State → ℕ) (x : Tree) → Spends cost (value_course x) (questions x)
-  value_spends cost x = worked_spends cost (questions x) (λ c. value c x) (λ c. values.value_reads c x)
+  value_spends cost x = work_course_spends cost (questions x) (λ c. value c x) (λ c. values.value_reads c x)
 
   target_spends : (cost : State → ℕ) (x : Tree) → Spends cost (target_course x) (questions x)
-  target_spends cost x = worked_spends cost (questions x) (λ c. target_of c x) (λ c. values.target_reads c x)
+  target_spends cost x = work_course_spends cost (questions x) (λ c. target_of c x) (λ c. values.target_reads c x)
 
   ask_spends : (said : List ℕ) (x : Tree) (prompt : List ℕ) → Spends nothing (ask_for said x prompt) (questions x)
   unfolding nothing
@@ -99,8 +99,8 @@ module _ (values : ValueLaws) where
     unfolding later
     take_spends said x prompt few = record { at = λ S. input_budget again said x prompt few S.lines S }
 
-    width_spends : (v : ℤ) (m : ℕ) → Spends (later again) (worked (λ _. or_fault (width_of v) m)) 0
-    width_spends v m = worked_spends (later again) 0 (λ _. or_fault (width_of v) m) (λ _. or_fault_reader (width_of v) m)
+    width_spends : (v : ℤ) (m : ℕ) → Spends (later again) (work_course (λ _. or_fault (width_of v) m)) 0
+    width_spends v m = work_course_spends (later again) 0 (λ _. or_fault (width_of v) m) (λ _. or_fault_reader (width_of v) m)
 
     -- a part, and those behind it
     part_and : {A : Type 0} (part : Part) (parts : List Part) (m : Course A) (next : A → Course (List ℤ)) → Spends (later again) m (part_questions part) → ((x : A) → Spends (later again) (next x) (parts_questions parts)) → Spends (later again) (and_then m next) (parts_questions (part ∷ parts))
@@ -121,7 +121,7 @@ module _ (values : ValueLaws) where
     parts_spends (Say s ∷ parts) w operands h = part_and (Say s) parts (show s) _ (show_spends s) (λ _. parts_spends parts w operands (fewer (Say s) parts h).1)
     parts_spends (Width x m ∷ parts) w operands h =
         part_and (Width x m) parts (value_course x) _ (value_spends _ x) (λ v.
-        after_spends _ (worked (λ _. or_fault (width_of v) m)) _ _ (width_spends v m) (λ u. parts_spends parts u operands (fewer (Width x m) parts h).1))
+        after_spends _ (work_course (λ _. or_fault (width_of v) m)) _ _ (width_spends v m) (λ u. parts_spends parts u operands (fewer (Width x m) parts h).1))
     parts_spends (Show x ∷ parts) w operands h =
         part_and (Show x) parts (value_course x) _ (value_spends _ x) (λ v.
         after_spends _ (show _) _ _ (show_spends _) (λ _. parts_spends parts w operands (fewer (Show x) parts h).1))

@@ -19,7 +19,7 @@ use Rattle.ptb_machine.specs.State.{State, first_state}
 use Rattle.ptb_machine.specs.Act.{Deed, Next, Over}
 use Rattle.ptb_machine.specs.Play.{Finish, finish_in, after_deed, turn, turns, play}
 use Rattle.ptb_machine.specs.Effects.{act_state, run_shown, run_steps, Begins}
-use Rattle.ptb_machine.specs.Devices.{Devices, Exchange, no_exchange, bytes_alone, joined, Exchanges, Refusal}
+use Rattle.ptb_machine.specs.Devices.{Devices, Exchange, no_exchange, bytes_alone, both_exchanges, Exchanges, Refusal}
 use Rattle.ptb_machine.specs.Moves.{Leaves}
 use Rattle.ptb_machine.specs.Stops.{Waits, IsDry, Breaks}
 use Rattle.ptb_machine.specs.Configuration.{Configuration}
@@ -75,7 +75,7 @@ run_begins p limit m o none first input rest e = record {
 -- where the run has come to a machine, its next turn leads it on
 run_then : (p : StoredProgram) (limit : ℕ) (m n : Configuration) (o d e : Devices) (input left rest : List (List ℕ)) (g : State → Answers → Outcome Deed State) (h : RunsTo p limit m o input left d (turns p limit)) → StepsTo p.lines n (record d { given = [] }) h.leads.state rest (turn p limit h.leads.state) e g → RunsTo p limit n o input rest (onto d e) (then_turns p limit g)
 run_then p limit m n o d e input left rest g h s = record {
-  exchange = joined h.exchange s.exchange;
+  exchange = both_exchanges h.exchange s.exchange;
   exchanges = exchanges_then h.exchanges (exchanges_onto d e s.exchange s.exchanges);
   leads = record {
     state = s.leads.state;
@@ -137,7 +137,7 @@ more_shown p limit shown (Done (Over e S) rest) b = b
 more_shown p limit shown (Asks k S) b = b
 more_shown p limit shown (Out k S) b = b
 
-exchange_more : (x : Exchange) (part : List ℕ) → joined x (bytes_alone part) ≡ record x { bytes = x.bytes ++ part }
+exchange_more : (x : Exchange) (part : List ℕ) → both_exchanges x (bytes_alone part) ≡ record x { bytes = x.bytes ++ part }
 exchange_more x part = rw (append-nil x.answers, append-nil x.bounds, append-nil x.given) refl
 
 -- ---- steps, one after the other

@@ -9,7 +9,7 @@ use Rattle.ptb_expr.specs.Outcome.{Outcome, Done, Asks, Out, go_on, map_outcome,
 use Rattle.ptb_expr.specs.Store.{Cells}
 use Rattle.ptb_expr.specs.Value.{Work}
 use Rattle.ptb_machine.specs.State.{State}
-use Rattle.ptb_machine.specs.Courses.{Halt, Progress, Goes, Halts, Course, on_progress, and_then, goes_on, halt, change, attempt, or_halt, worked}
+use Rattle.ptb_machine.specs.Courses.{Halt, Progress, Goes, Halts, Course, on_progress, and_then, goes_on, halt, change, attempt, or_halt, work_course}
 use Rattle.ptb_machine.specs.Questions.{line_questions}
 use Rattle.ptb_machine.proofs.Budgets.{Budget, same_budget, wider_budget, with_more, reader_budget, done_budget, then_budget, map_budget}
 
@@ -63,8 +63,8 @@ pub or_halt_spends : {A : Type 0} (cost : State → ℕ) (r : Result A Fault) �
 or_halt_spends cost (Ok v) = goes_spends cost 0 v
 or_halt_spends cost (Err f) = halt_spends cost 0 _
 
-pub worked_spends : {A : Type 0} (cost : State → ℕ) (k : ℕ) (m : Cells → Work A) → ((c : Cells) → IsReader (m c) k) → Spends cost (worked m) k
-worked_spends cost k m reads = wider_spends cost (worked m) (k + 0) k (omega arith) (then_spends cost (attempt m) or_halt k 0 (attempt_spends cost k m reads) (or_halt_spends cost))
+pub work_course_spends : {A : Type 0} (cost : State → ℕ) (k : ℕ) (m : Cells → Work A) → ((c : Cells) → IsReader (m c) k) → Spends cost (work_course m) k
+work_course_spends cost k m reads = wider_spends cost (work_course m) (k + 0) k (omega arith) (then_spends cost (attempt m) or_halt k 0 (attempt_spends cost k m reads) (or_halt_spends cost))
 
 -- what is worked out changes nothing, so what comes next begins in the same state
 pub attempt_then : {A B : Type 0} (m : Cells → Work A) (next : Result A Fault → Course B) (S : State) (k j : ℕ) (left : Progress B → ℕ) → IsReader (m S.cells) k → ((r : Result A Fault) → Budget (next r S) j left) → Budget (and_then (attempt m) next S) (k + j) left

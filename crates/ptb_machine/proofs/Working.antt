@@ -12,7 +12,7 @@ use Rattle.ptb_expr.specs.Value.{Work}
 use Rattle.ptb_expr.specs.Evaluate.{Gives}
 use Rattle.ptb_machine.specs.declared.stop.DeviceError.TheVariants as errors
 use Rattle.ptb_machine.specs.State.{State}
-use Rattle.ptb_machine.specs.Courses.{Progress, Goes, goes_on, attempt, or_halt, worked}
+use Rattle.ptb_machine.specs.Courses.{Progress, Goes, goes_on, attempt, or_halt, work_course}
 use Rattle.ptb_machine.specs.Effects.{course_state}
 use Rattle.ptb_machine.specs.Effects.{course_state}
 use Rattle.ptb_machine.specs.Devices.{Devices, answers_alone, refused_answers, with_choices}
@@ -73,12 +73,12 @@ module _ {A : Type 0} (f : Cells → Work A) (c e : Choices) (d : Devices) (fres
   has_paused refused pauses.Memory p = breaks refused p
 
   -- a value, which the code has as v
-  pub has_value : (w v : A) → v ≡ w → Reaches (f cells) c e (success w) → Moves (trace (with_choices c d) fresh cells) (trace (with_choices e d) fresh cells) (worked f) (goes_on v)
+  pub has_value : (w v : A) → v ≡ w → Reaches (f cells) c e (success w) → Moves (trace (with_choices c d) fresh cells) (trace (with_choices e d) fresh cells) (work_course f) (goes_on v)
   has_value w v h p =
-      subst (λ (x : A). Moves (trace (with_choices c d) fresh cells) (trace (with_choices e d) fresh cells) (worked f) (goes_on x)) (sym h)
+      subst (λ (x : A). Moves (trace (with_choices c d) fresh cells) (trace (with_choices e d) fresh cells) (work_course f) (goes_on x)) (sym h)
       (moves_under or_halt (has_result (Ok w) p))
 
   -- no value
-  pub has_no_value : (refused : Pause → ℤ → Type 0) (s : NoValue) → Gives refused (f cells) c e (Err s) → Stops (refused_answers refused) (MovesTo (trace (with_choices c d) fresh cells) (trace (with_choices e d) fresh cells) (worked f)) (with_choices e d) (stop_of s)
+  pub has_no_value : (refused : Pause → ℤ → Type 0) (s : NoValue) → Gives refused (f cells) c e (Err s) → Stops (refused_answers refused) (MovesTo (trace (with_choices c d) fresh cells) (trace (with_choices e d) fresh cells) (work_course f)) (with_choices e d) (stop_of s)
   has_no_value refused (values.Fault x) p = moves_under or_halt (has_result (Err x) p)
   has_no_value refused (values.Pause z) p = stops_under (refused_answers refused) _ _ (attempt f) or_halt or_halt_adds (stop_of_pause z) (has_paused refused z p)

@@ -22,15 +22,15 @@ use Rattle.ptb_machine.specs.declared.ending.Ending.{Ending}
 use Rattle.ptb_machine.specs.declared.ending.Ending.TheVariants as endings
 use Rattle.ptb_machine.specs.Commands.{Part, Assign, Say, Width, Show, NewLine, Take, Letter, Operand, Defect, Command}
 use Rattle.ptb_machine.specs.State.{Place, Loop, Call, State, nesting, nesting_limit, beginning_of, place_after, next_index, text_of}
-use Rattle.ptb_machine.specs.Courses.{Faults, Ends, Progress, Goes, Halts, Course, and_then, goes_on, halt, change, show, attempt, worked}
+use Rattle.ptb_machine.specs.Courses.{Faults, Ends, Progress, Goes, Halts, Course, and_then, goes_on, halt, change, show, attempt, work_course}
 
 -- ---- values
 
 abbrev pub value_course : Tree → Course ℤ
-value_course x = worked (λ c. value c x)
+value_course x = work_course (λ c. value c x)
 
 abbrev pub target_course : Tree → Course Target
-target_course x = worked (λ c. target_of c x)
+target_course x = work_course (λ c. target_of c x)
 
 abbrev pub store : Target → ℤ → Course (Unit {0})
 store at v = change (λ S. record S { cells = with_target S.cells at v })
@@ -95,7 +95,7 @@ parts_course (Assign x y ∷ parts) w operands =
     and_then (target_course x) (λ at. and_then (value_course y) (λ v. and_then (store at v) (λ _. parts_course parts w operands)))
 parts_course (Say s ∷ parts) w operands = and_then (show s) (λ _. parts_course parts w operands)
 parts_course (Width x m ∷ parts) w operands =
-    and_then (value_course x) (λ v. and_then (worked (λ _. or_fault (width_of v) m)) (λ u. parts_course parts u operands))
+    and_then (value_course x) (λ v. and_then (work_course (λ _. or_fault (width_of v) m)) (λ u. parts_course parts u operands))
 parts_course (Show x ∷ parts) w operands =
     and_then (value_course x) (λ v. and_then (show (padded_decimal w v)) (λ _. parts_course parts w operands))
 parts_course (NewLine ∷ parts) w operands = and_then (show newline) (λ _. parts_course parts w operands)

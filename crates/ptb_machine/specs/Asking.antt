@@ -1,9 +1,9 @@
 -- This file defines what an item of INPUT asks for, as its reader gives it.
---     prompt_of named t i r    the prompt of the variable r, which was read at place i
---     taking said x prompt     such an item, done over the lines that the state has left
---     ask_course t a           what is done before a line is taken for the item a
---     take_course t a          all that is done for it
---     IsItem t i item          the item that stands at place i
+--     prompt_of named t i r      the prompt of the variable r, which was read at place i
+--     item_course said x prompt  such an item, done over the lines that the state has left
+--     ask_course t a             what is done before a line is taken for the item a
+--     take_course t a            all that is done for it
+--     IsItem t i item            the item that stands at place i
 use Rattle.std.specs.Prelude.{◌≡◌, ◌≤◌, ℕ, Bool, true, false, List, [], ◌∷◌, ◌++◌, length}
 use Rattle.ptb_text.specs.Finding.{LiesAhead}
 use Rattle.ptb_expr.specs.declared.fault.FaultKind.TheVariants.{What}
@@ -24,8 +24,8 @@ prompt_of true t i (Whole x j) = source t i j ++ 58 ∷ []
 prompt_of true t i (Spoilt x) = []
 prompt_of false t i r = 58 ∷ []
 
-abbrev pub taking : List ℕ → Tree → List ℕ → Course (Unit {0})
-taking said x prompt S = input_course said x prompt S.lines S
+abbrev pub item_course : List ℕ → Tree → List ℕ → Course (Unit {0})
+item_course said x prompt S = input_course said x prompt S.lines S
 
 -- the prompt of an item
 abbrev pub prompt_there : List ℕ → Asking → List ℕ
@@ -35,7 +35,7 @@ abbrev pub ask_course : List ℕ → Asking → Course Target
 ask_course t a = ask_for a.said.now (item_of (variable_tree t a.at)) (prompt_there t a)
 
 abbrev pub take_course : List ℕ → Asking → Course (Unit {0})
-take_course t a = taking a.said.now (item_of (variable_tree t a.at)) (prompt_there t a)
+take_course t a = item_course a.said.now (item_of (variable_tree t a.at)) (prompt_there t a)
 
 -- a variable stands at a.at
 pub record IsAsked (t : List ℕ) (i : ℕ) (a : Asking) : Type 0 where

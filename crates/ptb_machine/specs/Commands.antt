@@ -137,19 +137,19 @@ abbrev pub source : List ℕ → ℕ → ℕ → List ℕ
 source t i j = reverse (trim_start (reverse (slice_range t (past_blanks t i) j)))
 
 -- a variable, whose source is its prompt
-abbrev pub prompted : List ℕ → ℕ → Bool → Reading Part
-prompted t i true = after (variable_tree t i) (λ x. Take [] x []) (λ x j. Whole (Take [] x (source t i j ++ 58 ∷ [])) j)
-prompted t i false = Spoilt (Defect What i)
+abbrev pub variable_item : List ℕ → ℕ → Bool → Reading Part
+variable_item t i true = after (variable_tree t i) (λ x. Take [] x []) (λ x j. Whole (Take [] x (source t i j ++ 58 ∷ [])) j)
+variable_item t i false = Spoilt (Defect What i)
 
 -- a string, and a variable where one stands behind it
-abbrev pub said_before : List ℕ → List ℕ → ℕ → Bool → Reading Part
-said_before t s j true = map_reading (λ x. Take s x (58 ∷ [])) (variable_tree t j)
-said_before t s j false = Whole (Say s) j
+abbrev pub string_item : List ℕ → List ℕ → ℕ → Bool → Reading Part
+string_item t s j true = map_reading (λ x. Take s x (58 ∷ [])) (variable_tree t j)
+string_item t s j false = Whole (Say s) j
 
 abbrev pub input_item_by : List ℕ → ℕ → Quotation → Reading Part
-input_item_by t i (QuotedText s j) = said_before t s j (variable_begins t j)
+input_item_by t i (QuotedText s j) = string_item t s j (variable_begins t j)
 input_item_by t i OpenQuote = Spoilt (Defect What i)
-input_item_by t i NoQuote = prompted t i (variable_begins t i)
+input_item_by t i NoQuote = variable_item t i (variable_begins t i)
 
 unfoldable pub input_item : List ℕ → ℕ → Reading Part
 input_item t i = input_item_by t i (string_at t i)

@@ -1,8 +1,8 @@
 -- This file defines what a part of a command comes to, and how one part follows another.
---     Course A                 what is done in a state with a list of answers: it goes on with an A in another state, or halts
---     and_then m next          one after the other
---     goes_on x, halt h        nothing is done; the command stops
---     attempt m, worked m      something is worked out; its fault is a result, or halts
+--     Course A                  what is done in a state with a list of answers: it goes on with an A in another state, or halts
+--     and_then m next           one after the other
+--     goes_on x, halt h         nothing is done; the command stops
+--     attempt m, work_course m  something is worked out; its fault is a result, or halts
 use Rattle.std.specs.Prelude.{ℕ, List, ◌++◌, Result, Ok, Err}
 use Rattle.ptb_expr.specs.declared.fault.Fault.{Fault}
 use Rattle.ptb_expr.specs.Outcome.{Answers, Outcome, Done, go_on, map_outcome}
@@ -57,5 +57,5 @@ or_halt (Ok v) = goes_on v
 or_halt (Err f) = halt (Faults f)
 
 -- a fault halts
-abbrev pub worked : {A : Type 0} → (Cells → Work A) → Course A
-worked m = and_then (attempt m) or_halt
+abbrev pub work_course : {A : Type 0} → (Cells → Work A) → Course A
+work_course m = and_then (attempt m) or_halt

@@ -1,7 +1,7 @@
 -- This file defines what the devices of a run hold, and what passes between them and the run.
 --     Devices                  the chooser's answers, the screen, and the lines that the source gave
 --     Exchange                 answers with their bounds, bytes that are shown, and lines that are given
---     joined x y               one exchange after another
+--     both_exchanges x y       one exchange after another
 --     Exchanges o n x          from o to n the devices exchange x
 --     Refusal                  what the chooser or the line source refuses
 --     HasBroken refused o n e  between o and n the device that the error e names has failed
@@ -68,8 +68,8 @@ answers_alone answers bounds = record { answers = answers; bounds = bounds; byte
 abbrev pub bytes_alone : List ℕ → Exchange
 bytes_alone bytes = record { answers = []; bounds = []; bytes = bytes; given = [] }
 
-abbrev pub joined : Exchange → Exchange → Exchange
-joined x y = record {
+abbrev pub both_exchanges : Exchange → Exchange → Exchange
+both_exchanges x y = record {
   answers = x.answers ++ y.answers;
   bounds = x.bounds ++ y.bounds;
   bytes = x.bytes ++ y.bytes;

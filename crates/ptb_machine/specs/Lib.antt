@@ -1,3 +1,4 @@
+-- This file names the files of definitions.
 pub mod Items
 pub mod Commands
 pub mod State
@@ -21,7 +22,6 @@ pub mod Configuration
 pub mod Standing
 pub mod Acts
 pub mod Asking
-pub mod Spots
 pub mod Reports
 pub mod Steps
 pub mod Runs

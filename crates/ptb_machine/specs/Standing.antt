@@ -1,9 +1,10 @@
 -- This file defines which states of a run a machine stands for.
 --     PlaceIs p q m            a place of the definition is one of the machine
+--     IsLineAt p i n t         the number and the text of a statement
 --     Nested p os loops calls  the levels of the definition are what is open, newest first
 --     Stands p m S             the machine stands for the state S, whatever was shown and whichever lines are left
---     Begun p q n t word i     a command is begun: its word, which ends at i, was read
-use Rattle.std.specs.Prelude.{◌≡◌, ◌≤◌, ℕ, false, List, [], ◌∷◌, length, reverse, Option, Some, None, ℤ, pos}
+--     Begun p q k t word i     a command is begun: its word, which ends at i, was read
+use Rattle.std.specs.Prelude.{◌≡◌, ◌≤◌, ℕ, false, List, [], ◌∷◌, length, reverse, Option, Some, None, ℤ, pos, slice_get}
 use Rattle.ptb_text.specs.declared.word.Word.{Word}
 use Rattle.ptb_text.specs.Statements.{Statements}
 use Rattle.ptb_text.specs.Words.{is_over}
@@ -19,10 +20,14 @@ use Rattle.ptb_machine.specs.Configuration.{Configuration}
 
 -- ---- places
 
--- the index of a command beside the byte place at which it begins
+-- the number of a statement and the index of a command, beside the place of the statement and the byte place at which the command begins
 pub record PlaceIs (p : Statements) (q : Place) (m : Spot) : Type 0 where
-  pub number : m.number ≡ pos q.number
+  pub statement : slice_get p m.statement ≡ Some (q.number, text_of p q.number)
   pub at : At (text_of p q.number) q.index m.at
+
+-- n and t are the number and the text of the statement at place i, if there is one
+abbrev pub IsLineAt : Statements → ℕ → ℤ → List ℕ → Type 0
+IsLineAt p i n t = (m : ℕ) (u : List ℕ) → slice_get p i ≡ Some (m, u) → (n ≡ pos m) × (t ≡ u)
 
 abbrev pub PlacesAre : Statements → Option Place → Option Spot → Type 0
 PlacesAre p None None = Unit {0}
@@ -60,9 +65,9 @@ pub record Stands (p : Statements) (m : Configuration) (S : State) : Type 0 wher
 
 -- ---- commands
 
--- q is the place of the command, n and t are the number and the text of its statement
-pub record Begun (p : Statements) (q : Place) (n : ℤ) (t : List ℕ) (word : Word) (i : ℕ) : Type 0 where
-  pub number : n ≡ pos q.number
+-- q is the place of the command, k and t are the place and the text of its statement
+pub record Begun (p : Statements) (q : Place) (k : ℕ) (t : List ℕ) (word : Word) (i : ℕ) : Type 0 where
+  pub statement : slice_get p k ≡ Some (q.number, text_of p q.number)
   pub text : text_of p q.number ≡ t
   pub begin : ℕ
   pub at : At t q.index begin

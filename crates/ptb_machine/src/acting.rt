@@ -18,11 +18,11 @@ use ptb_expr::Chooser;
 use ptb_text::{Program, Word};
 
 impl Registers {
-    /// Does a command whose word ends at a place of the statement of this number and text.
+    /// Does a command of this statement, whose word ends at a place of its text.
     pub(crate) fn act<C: Chooser, S: Screen, L: LineSource>(
         &mut self,
         program: &Program,
-        number: i16,
+        statement: usize,
         text: &[u8],
         word: Word,
         from: usize,
@@ -33,29 +33,31 @@ impl Registers {
         requires within { from ≤ length text.now }
         requires command { IsCommand word }
         ensures { (given : List (List ℕ)) × (L.gives source.old given source.new
-            × ((q : Place) (before : List (List ℕ)) → Begun program.now.lines q number text.now word from →
+            × ((q : Place) (before : List (List ℕ)) →
+            Begun program.now.lines q statement text.now word from →
             Acts (refused_by (C.refused chooser.new) (L.refused source.new) (L.lines source.new))
             program.now.lines (configuration self.old) (configuration self.new)
             (devices (C.choices chooser.old) (screen_state S.Screen screen.old) before)
             (devices (C.choices chooser.new) (screen_state S.Screen screen.new) (before ++ given))
-            (command_course program.now.lines q (command_of word (parts_of word text.now from))) result)) }
+            (command_course program.now.lines q
+            (command_of word (parts_of word text.now from))) result)) }
     {
         match word {
             Word::RemKw => {
-                self.do_rem(program, number);
+                self.do_rem(program, statement);
                 Ok(())
             }
             Word::StopKw => Err(self.do_stop(text, from)),
             Word::GotoKw => self.do_goto(program, text, from, chooser),
-            Word::IfKw => self.do_if(program, number, text, from, chooser),
-            Word::GosubKw => self.do_gosub(program, number, text, from, chooser),
+            Word::IfKw => self.do_if(program, statement, text, from, chooser),
+            Word::GosubKw => self.do_gosub(program, statement, text, from, chooser),
             Word::ReturnKw => self.do_return(text, from),
-            Word::ForKw => self.do_for(number, text, from, chooser),
-            Word::NextKw => self.do_next(number, text, from),
-            Word::PrintKw => self.do_print(number, text, from, chooser, screen),
-            Word::InputKw => self.do_input(number, text, from, chooser, screen, source),
+            Word::ForKw => self.do_for(statement, text, from, chooser),
+            Word::NextKw => self.do_next(statement, text, from),
+            Word::PrintKw => self.do_print(statement, text, from, chooser, screen),
+            Word::InputKw => self.do_input(statement, text, from, chooser, screen, source),
             // no other word begins a command
-            _ => self.do_let(number, text, from, chooser),
+            _ => self.do_let(statement, text, from, chooser),
         }
     }
 }

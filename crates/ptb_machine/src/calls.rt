@@ -7,7 +7,8 @@ ghost use Rattle.ptb_machine.specs.Act.{command_course};
 ghost use Rattle.ptb_machine.specs.Acts.{Acts};
 ghost use Rattle.ptb_machine.specs.Commands.{command_of, parts_of};
 ghost use Rattle.ptb_machine.specs.Configuration.{configuration};
-ghost use Rattle.ptb_machine.specs.Devices.{Devices, with_choices, nothing_refused, refused_answers};
+ghost use Rattle.ptb_machine.specs.Devices.{Devices, with_choices, nothing_refused};
+ghost use Rattle.ptb_machine.specs.Devices.{refused_answers};
 ghost use Rattle.ptb_machine.specs.Standing.{Begun};
 ghost use Rattle.ptb_machine.specs.State.{Place};
 
@@ -16,7 +17,7 @@ use crate::levels::{add_open, close_call};
 use crate::open::Open;
 use crate::registers::Registers;
 use crate::spot::Spot;
-use crate::statements::statement;
+use crate::statements::beginning_of;
 use crate::stop::{Stop, fault};
 use crate::tokens::{at_end, follow, is_over};
 use crate::values::value_at;
@@ -28,27 +29,30 @@ impl Registers {
     pub(crate) fn do_gosub<C: Chooser>(
         &mut self,
         program: &Program,
-        number: i16,
+        statement: usize,
         text: &[u8],
         from: usize,
         chooser: &mut C,
     ) -> Result<(), Stop>
         requires { from ≤ length text.now }
-        ensures { (q : Place) (d : Devices) → Begun program.now.lines q number text.now GosubKw from →
-            Acts (refused_answers (C.refused chooser.new)) program.now.lines (configuration self.old) (configuration self.new)
+        ensures { (q : Place) (d : Devices) →
+            Begun program.now.lines q statement text.now GosubKw from →
+            Acts (refused_answers (C.refused chooser.new)) program.now.lines
+            (configuration self.old) (configuration self.new)
             (with_choices (C.choices chooser.old) d) (with_choices (C.choices chooser.new) d)
-            (command_course program.now.lines q (command_of GosubKw (parts_of GosubKw text.now from))) result }
+            (command_course program.now.lines q
+            (command_of GosubKw (parts_of GosubKw text.now from))) result }
     {
         command_laws();
         let (called, to) = value_at(text, from, &self.store, chooser)?;
         if !at_end(text, to) {
             return Err(fault(FaultKind::What, to));
         }
-        let Some(place) = statement(program, called) else {
+        let Some(place) = beginning_of(program, called) else {
             return Err(fault(FaultKind::How, to));
         };
         let at = follow(text, to);
-        if !add_open(&mut self.stack, Open::Call(Spot { number, at })) {
+        if !add_open(&mut self.stack, Open::Call(Spot { statement, at })) {
             return Err(fault(FaultKind::Sorry, to));
         }
         self.place = Some(place);

@@ -1,6 +1,8 @@
 // This file cuts cleaned lines from bytes that come one after the other.
 
-ghost use Rattle.std.specs.Prelude.{◌≡◌, ◌↔◌, ℕ, ◌<◌, ◌≤◌, List, [], ◌∷◌, ◌++◌, length, take, Option, Some, None, IfSome, IfNone, IsSome, IsTrue, MatchOption};
+ghost use Rattle.std.specs.Prelude.{◌≡◌, ◌↔◌, ℕ, ◌<◌, ◌≤◌, List, [], ◌∷◌, ◌++◌, length, take};
+ghost use Rattle.std.specs.Prelude.{Option, Some, None, IfSome, IfNone, IsSome, IsTrue};
+ghost use Rattle.std.specs.Prelude.{MatchOption};
 ghost use Rattle.ptb_machine.specs.Cutting.{cleaned_byte, with_byte, kept_bytes, Cuts};
 
 use arrayvec::ArrayVec;
@@ -73,7 +75,8 @@ impl LineCutter {
     /// them it takes them all.
     pub(crate) fn take_line(&mut self, bytes: &[u8]) -> Option<usize>
         ensures size { IfSome result (λ n. (0 < n) × (n ≤ length bytes.now)) }
-        ensures whole { IfSome result (λ n. Cuts self.old (take n bytes.now) (kept_bytes self.new ∷ []) None) }
+        ensures whole { IfSome result
+            (λ n. Cuts self.old (take n bytes.now) (kept_bytes self.new ∷ []) None) }
         ensures part { IfNone result (Cuts self.old bytes.now [] self.new) }
     {
         for (i, byte) in bytes.iter().enumerate() {
@@ -93,13 +96,13 @@ fn keep(kept: &mut ArrayVec<u8, LINE_LIMIT>, byte: u8)
     if kept.is_full() {
         return;
     }
-    if let Some(cleaned) = cleaned(byte) {
-        kept.push(cleaned);
+    if let Some(clean) = cleaned_byte(byte) {
+        kept.push(clean);
     }
 }
 
 /// What the cleaning makes of a byte, if it doesn't drop it.
-fn cleaned(byte: u8) -> Option<u8>
+fn cleaned_byte(byte: u8) -> Option<u8>
     ensures { MatchOption result (cleaned_byte byte ≡ []) (λ b. cleaned_byte byte ≡ b ∷ []) }
 {
     match byte {

@@ -3,7 +3,8 @@
 ghost use Rattle.std.specs.Prelude.{◌≡◌};
 ghost use Rattle.ptb_machine.specs.declared.fault.ReadFault.TheVariants.{Memory, Read};
 ghost use Rattle.ptb_machine.specs.declared.fault.RunFault.TheVariants.{Memory as RunMemory};
-ghost use Rattle.ptb_machine.specs.declared.fault.ScreenFault.TheVariants.{Memory as ScreenMemory, Write};
+ghost use Rattle.ptb_machine.specs.declared.fault.ScreenFault.TheVariants.{Memory as ScreenMemory};
+ghost use Rattle.ptb_machine.specs.declared.fault.ScreenFault.TheVariants.{Write};
 
 use ptb_text::DeviceFault;
 use std::alloc::AllocError;

@@ -1,6 +1,6 @@
 // This file does the commands that say where a run goes on: REM, STOP, GOTO and IF.
 
-ghost use Rattle.std.specs.Prelude.{◌≡◌, ◌≤◌, ℕ, List, length, pos};
+ghost use Rattle.std.specs.Prelude.{◌≡◌, ◌≤◌, ℕ, List, length, Some, slice_get};
 ghost use Rattle.ptb_text.specs.Statements.{Statements};
 ghost use Rattle.ptb_text.specs.declared.word.Word.TheVariants.{RemKw, StopKw, GotoKw, IfKw};
 ghost use Rattle.ptb_machine.specs.Act.{command_course};
@@ -8,15 +8,16 @@ ghost use Rattle.ptb_machine.specs.Acts.{Acts, Does, DoesTo};
 ghost use Rattle.ptb_machine.specs.Commands.{command_of, parts_of};
 ghost use Rattle.ptb_machine.specs.Configuration.{configuration};
 ghost use Rattle.ptb_machine.specs.Courses.{goes_on};
-ghost use Rattle.ptb_machine.specs.Devices.{Devices, with_choices, nothing_refused, refused_answers};
+ghost use Rattle.ptb_machine.specs.Devices.{Devices, with_choices, nothing_refused};
+ghost use Rattle.ptb_machine.specs.Devices.{refused_answers};
 ghost use Rattle.ptb_machine.specs.Standing.{Begun};
-ghost use Rattle.ptb_machine.specs.State.{Place};
+ghost use Rattle.ptb_machine.specs.State.{Place, text_of};
 ghost use Rattle.ptb_machine.specs.Stops.{Stops};
 
 use crate::laws::command_laws;
 use crate::registers::Registers;
 use crate::spot::Spot;
-use crate::statements::{is_zero, place_after, statement};
+use crate::statements::{beginning_of, is_zero, place_after};
 use crate::stop::{Stop, fault};
 use crate::tokens::is_over;
 use crate::values::value_at;
@@ -24,14 +25,17 @@ use ptb_expr::{Chooser, FaultKind};
 use ptb_text::Program;
 
 impl Registers {
-    /// Does a REM of the statement of this number.
-    pub(crate) fn do_rem(&mut self, program: &Program, number: i16)
-        ensures { (q : Place) (t : List ℕ) (from : ℕ) (d : Devices) → number ≡ pos q.number →
+    /// Does a REM of this statement.
+    pub(crate) fn do_rem(&mut self, program: &Program, statement: usize)
+        ensures { (q : Place) (t : List ℕ) (from : ℕ) (d : Devices) →
+            slice_get program.now.lines statement
+            ≡ Some (q.number, text_of program.now.lines q.number) →
             Does program.now.lines (configuration self.old) (configuration self.new) d d
-            (command_course program.now.lines q (command_of RemKw (parts_of RemKw t from))) (goes_on tt) }
+            (command_course program.now.lines q
+            (command_of RemKw (parts_of RemKw t from))) (goes_on tt) }
     {
         command_laws();
-        self.place = place_after(program, number);
+        self.place = place_after(program, statement);
     }
 
     /// Does a STOP whose word ends at a place.
@@ -61,14 +65,15 @@ impl Registers {
             Acts (refused_answers (C.refused chooser.new)) program.now.lines
             (configuration self.old) (configuration self.new)
             (with_choices (C.choices chooser.old) d) (with_choices (C.choices chooser.new) d)
-            (command_course program.now.lines q (command_of GotoKw (parts_of GotoKw text.now from))) result }
+            (command_course program.now.lines q
+            (command_of GotoKw (parts_of GotoKw text.now from))) result }
     {
         command_laws();
         let (number, to) = value_at(text, from, &self.store, chooser)?;
         if !is_over(text, to) {
             return Err(fault(FaultKind::What, to));
         }
-        let Some(place) = statement(program, number) else {
+        let Some(place) = beginning_of(program, number) else {
             return Err(fault(FaultKind::How, to));
         };
         self.place = Some(place);
@@ -79,24 +84,26 @@ impl Registers {
     pub(crate) fn do_if<C: Chooser>(
         &mut self,
         program: &Program,
-        number: i16,
+        statement: usize,
         text: &[u8],
         from: usize,
         chooser: &mut C,
     ) -> Result<(), Stop>
         requires { from ≤ length text.now }
-        ensures { (q : Place) (d : Devices) → Begun program.now.lines q number text.now IfKw from →
+        ensures { (q : Place) (d : Devices) →
+            Begun program.now.lines q statement text.now IfKw from →
             Acts (refused_answers (C.refused chooser.new)) program.now.lines
             (configuration self.old) (configuration self.new)
             (with_choices (C.choices chooser.old) d) (with_choices (C.choices chooser.new) d)
-            (command_course program.now.lines q (command_of IfKw (parts_of IfKw text.now from))) result }
+            (command_course program.now.lines q
+            (command_of IfKw (parts_of IfKw text.now from))) result }
     {
         command_laws();
         let (value, at) = value_at(text, from, &self.store, chooser)?;
         if is_zero(value) {
-            self.place = place_after(program, number);
+            self.place = place_after(program, statement);
         } else {
-            self.place = Some(Spot { number, at });
+            self.place = Some(Spot { statement, at });
         }
         Ok(())
     }

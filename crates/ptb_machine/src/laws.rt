@@ -6,7 +6,8 @@ ghost use Rattle.ptb_machine.specs.Laws.{CommandLaws, EffectLaws, RunLaws};
 use ptb_expr::{spelling_laws, value_laws};
 use ptb_text::finding_laws;
 
-/// The parts of a command and the commands of a statement are read one after the other, and each command has a byte place.
+/// The parts of a command and the commands of a statement are read one after the other, and each
+/// command has a byte place.
 #[tactic(auto, using(crate::proofs::Lawful::command_laws))]
 pub fn command_laws()
     ensures { CommandLaws }
@@ -21,7 +22,8 @@ pub fn effect_laws()
     ensures { EffectLaws }
 {}
 
-/// A run is one turn and then the turns after it, its commands are at most as many as its limit says, and it takes its answers one by one.
+/// A run is one turn and then the turns after it, its commands are at most as many as its limit
+/// says, and it takes its answers one by one.
 #[tactic(auto, using(crate::proofs::Lawful::run_laws))]
 pub fn run_laws()
     ensures { RunLaws }
@@ -29,8 +31,8 @@ pub fn run_laws()
     value_laws();
 }
 
-/// A run that has its answers ends in one of seven ways: behind the last statement, at STOP, with one
-/// of the three faults, at its limit, or for want of a line.
+/// A run that has its answers ends in one of seven ways: behind the last statement, at STOP, with
+/// one of the three faults, at its limit, or for want of a line.
 #[tactic(auto, using(crate::proofs::Endings::ending_laws))]
 pub fn ending_laws()
     ensures { EndingLaws }

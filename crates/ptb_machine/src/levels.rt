@@ -1,7 +1,9 @@
 // This file opens, finds and closes loops and calls, newest last.
 
-ghost use Rattle.std.specs.Prelude.{◌≡◌, ◌+◌, ◌<◌, ◌≤◌, [], ◌∷◌, ◌++◌, length, reverse, take, IfSome, MatchBool};
-ghost use Rattle.ptb_machine.specs.Levels.{NewestCall, NewestLoop, ClosesCall, ClosesNewer, without};
+ghost use Rattle.std.specs.Prelude.{◌≡◌, ◌+◌, ◌<◌, ◌≤◌, [], ◌∷◌, ◌++◌, length, reverse, take};
+ghost use Rattle.std.specs.Prelude.{IfSome, MatchBool};
+ghost use Rattle.ptb_machine.specs.Levels.{NewestCall, NewestLoop, ClosesCall, ClosesNewer};
+ghost use Rattle.ptb_machine.specs.Levels.{without};
 ghost use Rattle.ptb_machine.specs.State.{nesting_limit};
 
 use crate::open::{Open, OpenLoop};
@@ -24,8 +26,8 @@ pub(crate) fn newest_call(opens: &[Open]) -> Option<(usize, Spot)>
     None
 }
 
-/// Closes the newest call with the loops above it, and gives the place to which it returns. Where no
-/// call is open, nothing is closed.
+/// Closes the newest call with the loops above it, and gives the place to which it returns. Where
+/// no call is open, nothing is closed.
 pub(crate) fn close_call(opens: &mut ArrayVec<Open, NESTING_LIMIT>) -> Option<Spot>
     ensures { ClosesCall opens.old.items opens.new.items result }
 {
@@ -37,7 +39,8 @@ pub(crate) fn close_call(opens: &mut ArrayVec<Open, NESTING_LIMIT>) -> Option<Sp
 /// Opens a loop or a call, where there is room for one more; whether there is.
 pub(crate) fn add_open(opens: &mut ArrayVec<Open, NESTING_LIMIT>, item: Open) -> bool
     ensures { MatchBool result
-        ((opens.new.items ≡ opens.old.items ++ item ∷ []) × (length opens.old.items < nesting_limit))
+        ((opens.new.items ≡ opens.old.items ++ item ∷ [])
+        × (length opens.old.items < nesting_limit))
         ((opens.new.items ≡ opens.old.items) × (nesting_limit ≤ length opens.old.items)) }
 {
     if opens.is_full() {
@@ -47,8 +50,8 @@ pub(crate) fn add_open(opens: &mut ArrayVec<Open, NESTING_LIMIT>, item: Open) ->
     true
 }
 
-/// Opens a loop, where there is room for one more; whether there is. The loop of its variable in the
-/// newest level is removed first.
+/// Opens a loop, where there is room for one more; whether there is. The loop of its variable in
+/// the newest level is removed first.
 pub(crate) fn open_loop(opens: &mut ArrayVec<Open, NESTING_LIMIT>, item: OpenLoop) -> bool
     ensures { MatchBool result
         ((reverse opens.new.items ≡ Open.Loop item ∷ without item.letter (reverse opens.old.items))
@@ -67,13 +70,11 @@ pub(crate) fn remove_loops(opens: &mut ArrayVec<Open, NESTING_LIMIT>, letter: u8
     let mut k = opens.len();
     'levels: while k > 0 {
         k -= 1;
-        match opens[k] {
-            Open::Call(_) => return,
-            Open::Loop(open) => {
-                if open.letter == letter {
-                    opens.remove(k);
-                }
-            }
+        let Open::Loop(open) = opens[k] else {
+            return;
+        };
+        if open.letter == letter {
+            opens.remove(k);
         }
     }
 }
@@ -81,18 +82,17 @@ pub(crate) fn remove_loops(opens: &mut ArrayVec<Open, NESTING_LIMIT>, letter: u8
 /// How many are open below the newest level's loop of a variable, and that loop.
 pub(crate) fn newest_loop(opens: &[Open], letter: u8) -> Option<(usize, OpenLoop)>
     ensures found { NewestLoop letter opens.now result }
-    ensures there { IfSome result (λ x. take (x.0 + 1) opens.now ≡ take x.0 opens.now ++ Open.Loop x.1 ∷ []) }
+    ensures there { IfSome result
+        (λ x. take (x.0 + 1) opens.now ≡ take x.0 opens.now ++ Open.Loop x.1 ∷ []) }
 {
     let mut k = opens.len();
     'levels: while k > 0 {
         k -= 1;
-        match opens[k] {
-            Open::Call(_) => return None,
-            Open::Loop(open) => {
-                if open.letter == letter {
-                    return Some((k, open));
-                }
-            }
+        let Open::Loop(open) = opens[k] else {
+            return None;
+        };
+        if open.letter == letter {
+            return Some((k, open));
         }
     }
     None

@@ -1,9 +1,9 @@
 //! The machine of Tiny BASIC: commands, the control stack, screens, sources of input lines, runs.
 //!
-//! It stands on `ptb_expr`, `ptb_text`, `arrayvec`, `itoa` and `thiserror`. The crate above may rely
-//! on `Machine::step` (one turn of `specs/Play`: the state after it, what it shows, the lines and
-//! answers it takes), on `run` (all turns), on `run_laws` (answers are taken one by one, a limited
-//! number of them), and on `read_lines`.
+//! It stands on `ptb_expr`, `ptb_text`, `arrayvec`, `itoa` and `thiserror`. The crate above may
+//! rely on `Machine::step` (one turn of `specs/Play`: the state after it, what it shows, the lines
+//! and answers it takes), on `run` (all turns), on `run_laws` (answers are taken one by one, a
+//! limited number of them), and on `read_lines`.
 #![tactic(auto)]
 
 mod acting;

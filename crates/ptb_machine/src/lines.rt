@@ -1,6 +1,7 @@
 // This file has the input lines of a run, and the sources that give them.
 
-ghost use Rattle.std.specs.Prelude.{◌≡◌, ℕ, ◌+◌, ◌-◌, ◌<◌, ◌≤◌, List, [], ◌∷◌, ◌++◌, length, drop, take, Option, Some, IfOk, IfErr, IfNone};
+ghost use Rattle.std.specs.Prelude.{◌≡◌, ℕ, ◌+◌, ◌-◌, ◌<◌, ◌≤◌, List, [], ◌∷◌, ◌++◌, length, drop};
+ghost use Rattle.std.specs.Prelude.{take, Option, Some, IfOk, IfErr, IfNone};
 ghost use Rattle.std.specs.Borrow.{sem};
 ghost use Rattle.std.specs.Io.BufRead.{Rests};
 ghost use Rattle.ptb_text.specs.Lines.{clean_line};
@@ -31,8 +32,9 @@ pub trait LineSource {
     ///
     /// # Errors
     ///
-    /// [`ReadFault::Read`] where the input could not be read, [`ReadFault::TooLong`] where it has too
-    /// many bytes, [`ReadFault::Memory`] where a growth was refused memory. No line is taken then.
+    /// [`ReadFault::Read`] where the input could not be read, [`ReadFault::TooLong`] where it has
+    /// too many bytes, [`ReadFault::Memory`] where a growth was refused memory. No line is taken
+    /// then.
     fn next(&mut self) -> Result<Option<&[u8]>, ReadFault>
         ensures* after { sem 𝓛 (Rests Self.row self.entry (λ new.
             gives self.old (given_lines result) new × IfErr result (refused new)
@@ -47,7 +49,8 @@ pub trait LineSource {
         → gives s (xs ++ ys) u };
 
     /// The lines left lose those that it gives.
-    ghost loses: { (s t : Self) (xs : List (List ℕ)) → gives s xs t → Loses (lines s) (lines t) xs };
+    ghost loses: { (s t : Self) (xs : List (List ℕ)) → gives s xs t
+        → Loses (lines s) (lines t) xs };
 
     /// Each line that it gives is one fewer that it can give.
     ghost falls: { (s t : Self) (xs : List (List ℕ)) → gives s xs t → most t + length xs ≤ most s };
@@ -132,12 +135,12 @@ impl<'a> Lines<'a> {
         self.taken
     }
 
-    /// Goes to where `n` of the lines were taken.
-    pub fn go(&mut self, n: usize)
-        requires { n ≤ length self.old.lines }
-        ensures { self.new ≡ record self.old { taken = n } }
+    /// Goes to where `count` of the lines were taken.
+    pub fn go(&mut self, count: usize)
+        requires { count ≤ length self.old.lines }
+        ensures { self.new ≡ record self.old { taken = count } }
     {
-        self.taken = n;
+        self.taken = count;
     }
 }
 

@@ -7,7 +7,7 @@ ghost use Rattle.ptb_machine.specs.Steps.{IsPlaceOf, NextIs};
 
 use crate::laws::command_laws;
 use crate::spot::Spot;
-use crate::statements::{place_after, text_of};
+use crate::statements::{line_at, place_after};
 use crate::tokens::is_over;
 use ptb_text::Program;
 
@@ -19,20 +19,21 @@ pub(crate) fn next_command<'a>(
     requires { IsPlaceOf program.now.lines place }
     ensures within { IfSome result (λ x. x.0.at ≤ length x.1.now) }
     ensures next { (q : Option Place) → PlacesAre program.now.lines q place →
-        MatchOption result (next_command program.now.lines q ≡ None) (λ x. NextIs program.now.lines q x.0 x.1.now) }
+        MatchOption result (next_command program.now.lines q ≡ None)
+        (λ x. NextIs program.now.lines q x.0 x.1.now) }
 {
     command_laws();
     let Some(spot) = place else {
         return None;
     };
-    let text = text_of(program, spot.number);
+    let (_, text) = line_at(program, spot.statement);
     if !is_over(text, spot.at) {
         return Some((spot, text));
     }
-    let Some(behind) = place_after(program, spot.number) else {
+    let Some(behind) = place_after(program, spot.statement) else {
         return None;
     };
-    let text = text_of(program, behind.number);
+    let (_, text) = line_at(program, behind.statement);
     if is_over(text, behind.at) {
         return None;
     }

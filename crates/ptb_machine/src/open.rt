@@ -7,22 +7,29 @@ use crate::spot::Spot;
 pub(crate) struct OpenLoop {
     /// The letter of its variable, `b'A'` to `b'Z'`.
     pub(crate) letter: u8,
+    /// The loop ends when its variable goes past this.
     pub(crate) limit: i16,
+    /// What NEXT adds to its variable.
     pub(crate) step: i16,
-    /// The command behind the FOR.
+    /// The command behind the FOR, where each turn begins.
     pub(crate) back: Spot,
 }
 
-/// An open FOR, or an open GOSUB with the command behind it.
+/// An open FOR or GOSUB.
 #[derive(Clone, Copy)]
 pub(crate) enum Open {
+    /// An open FOR.
     Loop(OpenLoop),
+    /// An open GOSUB, and the command behind it, to which RETURN goes back.
     Call(Spot),
 }
 
 // a place of the control stack that is not in use
 impl Default for Open {
     fn default() -> Self {
-        Open::Call(Spot { number: 0, at: 0 })
+        Open::Call(Spot {
+            statement: 0,
+            at: 0,
+        })
     }
 }

@@ -6,8 +6,9 @@ ghost use Rattle.ptb_expr.specs.Store.{Cells};
 ghost use Rattle.ptb_expr.specs.Value.{or_fault};
 ghost use Rattle.ptb_machine.specs.Act.{width_of, padded_decimal, first_width, parts_course};
 ghost use Rattle.ptb_machine.specs.Commands.{Part, print_item, print_parts};
-ghost use Rattle.ptb_machine.specs.Courses.{goes_on, worked, show};
-ghost use Rattle.ptb_machine.specs.Devices.{Devices, devices, screen_state, with_screen, nothing_refused, refused_answers};
+ghost use Rattle.ptb_machine.specs.Courses.{goes_on, work_course, show};
+ghost use Rattle.ptb_machine.specs.Devices.{Devices, devices, screen_state, with_screen};
+ghost use Rattle.ptb_machine.specs.Devices.{nothing_refused, refused_answers};
 ghost use Rattle.ptb_machine.specs.Moves.{Trace, trace};
 ghost use Rattle.ptb_machine.specs.Reads.{IsRead, IsClosed};
 ghost use Rattle.ptb_machine.specs.Stops.{Comes};
@@ -31,7 +32,8 @@ const WIDTH_LIMIT: usize = 255;
 
 // A value as a width.
 fn width_of(value: i16, mark: usize) -> Result<u8, Stop>
-    ensures { (o : Trace) → Comes nothing_refused o o (worked (λ _. or_fault (width_of value) mark)) goes_on result }
+    ensures { (o : Trace) → Comes nothing_refused o o
+        (work_course (λ _. or_fault (width_of value) mark)) goes_on result }
 {
     match u8::try_from(value) {
         Ok(width) => Ok(width),
@@ -81,8 +83,10 @@ fn print_item<C: Chooser, S: Screen>(
     requires { at ≤ length text.now }
     ensures comes { (given : List (List ℕ)) (rest : List Part) (operands : List ℤ) →
         Comes (refused_answers (C.refused chooser.new))
-        (trace (devices (C.choices chooser.old) (screen_state S.Screen screen.old) given) fresh.old store.now)
-        (trace (devices (C.choices chooser.new) (screen_state S.Screen screen.new) given) fresh.new store.now)
+        (trace (devices (C.choices chooser.old) (screen_state S.Screen screen.old) given)
+        fresh.old store.now)
+        (trace (devices (C.choices chooser.new) (screen_state S.Screen screen.new) given)
+        fresh.new store.now)
         (parts_course (item_of (print_item text.now at) ∷ rest) width.old operands)
         (λ _. parts_course rest width.new operands) result }
     ensures read { IfOk result (IsRead text.now at (print_item text.now at)) }
@@ -117,8 +121,10 @@ pub(crate) fn print<C: Chooser, S: Screen>(
 ) -> Result<usize, Stop>
     requires { at ≤ length text.now }
     ensures comes { (given : List (List ℕ)) → Comes (refused_answers (C.refused chooser.new))
-        (trace (devices (C.choices chooser.old) (screen_state S.Screen screen.old) given) fresh.old store.now)
-        (trace (devices (C.choices chooser.new) (screen_state S.Screen screen.new) given) fresh.new store.now)
+        (trace (devices (C.choices chooser.old) (screen_state S.Screen screen.old) given)
+        fresh.old store.now)
+        (trace (devices (C.choices chooser.new) (screen_state S.Screen screen.new) given)
+        fresh.new store.now)
         (parts_course (item_of (print_parts text.now at)) first_width []) (λ _. goes_on []) result }
     ensures closed { IfOk result (IsClosed text.now at (print_parts text.now at)) }
 {
@@ -155,15 +161,17 @@ impl Registers {
     /// Does a PRINT whose word ends at a place.
     pub(crate) fn do_print<C: Chooser, S: Screen>(
         &mut self,
-        number: i16,
+        statement: usize,
         text: &[u8],
         from: usize,
         chooser: &mut C,
         screen: &mut S,
     ) -> Result<(), Stop>
         requires { from ≤ length text.now }
-        ensures { (p : Statements) (q : Place) (given : List (List ℕ)) → Begun p q number text.now PrintKw from →
-            Acts (refused_answers (C.refused chooser.new)) p (configuration self.old) (configuration self.new)
+        ensures { (p : Statements) (q : Place) (given : List (List ℕ)) →
+            Begun p q statement text.now PrintKw from →
+            Acts (refused_answers (C.refused chooser.new)) p
+            (configuration self.old) (configuration self.new)
             (devices (C.choices chooser.old) (screen_state S.Screen screen.old) given)
             (devices (C.choices chooser.new) (screen_state S.Screen screen.new) given)
             (command_course p q (command_of PrintKw (parts_of PrintKw text.now from))) result }
@@ -171,7 +179,7 @@ impl Registers {
         command_laws();
         let to = print(text, from, &self.store, chooser, screen, &mut self.fresh)?;
         let at = follow(text, to);
-        self.place = Some(Spot { number, at });
+        self.place = Some(Spot { statement, at });
         Ok(())
     }
 }

@@ -11,8 +11,10 @@ pub(crate) const NESTING_LIMIT: usize = 64;
 /// What a machine holds.
 #[derive(Drop)]
 pub(crate) struct Registers {
-    /// The next command, if one is left. Where the text is over at its place, the next statement is meant.
+    /// The next command, if one is left. Where the text is over at its place, the next statement is
+    /// meant.
     pub(crate) place: Option<Spot>,
+    /// The values of the variables and of the array.
     pub(crate) store: Store,
     /// The open loops and calls, newest last.
     pub(crate) stack: ArrayVec<Open, NESTING_LIMIT>,

@@ -1,6 +1,7 @@
 // This file states that the worked rows hold of the definitions.
 
-ghost use Rattle.ptb_machine.specs.Rows.{AnswerRows, PrintRows, InputRows, LoopRows, FaultRows, ArrayRows, LongRows, StepRows};
+ghost use Rattle.ptb_machine.specs.Rows.{AnswerRows, PrintRows, InputRows, LoopRows, FaultRows};
+ghost use Rattle.ptb_machine.specs.Rows.{ArrayRows, LongRows, StepRows};
 
 /// Worked rows of answers to RND.
 #[tactic(auto, using(crate::proofs::Worked::answer_rows))]

@@ -22,20 +22,21 @@ use std::alloc::Global;
 /// beginning of what the run shows may have been shown then. Never [`RunFault::Spent`].
 pub fn run<C: Chooser, S: Screen, L: LineSource>(
     alloc: Global,
-    p: &Program,
+    program: &Program,
     limit: u32,
-    c: &mut C,
-    s: &mut S,
-    i: &mut L,
+    chooser: &mut C,
+    screen: &mut S,
+    source: &mut L,
 ) -> Result<Ending, RunFault>
-    ensures runs { (given : List (List ℕ)) × (L.gives i.old given i.new
-        × Runs (refused_by (C.refused c.new) (L.refused i.new) (L.lines i.new)) p.now limit
-        (devices (C.choices c.old) (screen_state S.Screen s.old) [])
-        (devices (C.choices c.new) (screen_state S.Screen s.new) given) result) }
+    ensures runs { (given : List (List ℕ)) × (L.gives source.old given source.new
+        × Runs (refused_by (C.refused chooser.new) (L.refused source.new) (L.lines source.new))
+        program.now limit
+        (devices (C.choices chooser.old) (screen_state S.Screen screen.old) [])
+        (devices (C.choices chooser.new) (screen_state S.Screen screen.new) given) result) }
 {
-    let mut machine = Machine::new(alloc, p)?;
+    let mut machine = Machine::new(alloc, program)?;
     'steps: loop {
-        if let Some(ending) = machine.step(p, limit, c, s, i)? {
+        if let Some(ending) = machine.step(program, limit, chooser, screen, source)? {
             return Ok(ending);
         }
     }

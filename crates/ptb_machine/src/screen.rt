@@ -1,6 +1,7 @@
 // This file has the screens, which show the bytes of a run.
 
-ghost use Rattle.std.specs.Prelude.{◌≡◌, ◌↔◌, ℕ, ◌≤◌, Bool, true, false, List, [], length, take, Option, Some, None, OnOk, OnErr, IsErrOf, IsTrue};
+ghost use Rattle.std.specs.Prelude.{◌≡◌, ◌↔◌, ℕ, ◌≤◌, Bool, true, false, List, [], length, take};
+ghost use Rattle.std.specs.Prelude.{Option, Some, None, OnOk, OnErr, IsErrOf, IsTrue};
 ghost use Rattle.std.specs.Borrow.{GName};
 ghost use Rattle.std.specs.Io.KnownBytes.{Appends};
 ghost use Rattle.ptb_text.specs.Device.{HasFailed, TakesSome};
@@ -34,7 +35,8 @@ pub trait Screen {
     fn put(&mut self, bytes: &[u8]) -> Result<(), ScreenFault>
         ensures ok { OnOk result (Appends (shown self.old) (shown self.new) bytes.now) }
         ensures fault { OnErr result (TakesSome (shown self.old) (shown self.new) bytes.now) }
-        ensures write { IsErrOf result ScreenFault.Write → HasFailed (failures self.old) (failures self.new) }
+        ensures write { IsErrOf result ScreenFault.Write
+            → HasFailed (failures self.old) (failures self.new) }
         ensures memory { IsErrOf result ScreenFault.Memory → IsTrue takes_memory }
         ensures later { failures self.old ≤ failures self.new }
         ensures same_borrow { borrow self.new ≡ borrow self.old };
@@ -129,12 +131,12 @@ impl TextScreen {
         self.text.is_empty()
     }
 
-    /// Keeps the first `n` bytes, and forgets that it has shown more.
-    pub fn cut(&mut self, n: usize)
-        requires { n ≤ length self.old }
-        ensures { self.new ≡ take n self.old }
+    /// Keeps the first `count` bytes, and forgets that it has shown more.
+    pub fn cut(&mut self, count: usize)
+        requires { count ≤ length self.old }
+        ensures { self.new ≡ take count self.old }
     {
-        self.text.truncate(n);
+        self.text.truncate(count);
     }
 }
 

@@ -1,9 +1,10 @@
 // This file says where a command begins.
 
-/// A statement's number, and a place in its text.
+/// One of a program's statements, and a place in its text.
 #[derive(Clone, Copy)]
 pub(crate) struct Spot {
-    pub(crate) number: i16,
-    /// How many bytes stand before it.
+    /// How many statements stand before it.
+    pub(crate) statement: usize,
+    /// How many bytes of the text stand before the place.
     pub(crate) at: usize,
 }

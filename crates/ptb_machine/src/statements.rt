@@ -1,52 +1,69 @@
 // This file finds the places of a program at which a run can go on.
 
-ghost use Rattle.std.specs.Prelude.{◌≡◌, ℕ, pos};
+ghost use Rattle.std.specs.Prelude.{◌≡◌, Some, pos, slice_get};
 ghost use Rattle.std.specs.Ordering.{int_eq};
-ghost use Rattle.ptb_machine.specs.State.{text_of, first_place, place_after};
+ghost use Rattle.ptb_machine.specs.State.{Place, first_place, place_after, text_of};
 ghost use Rattle.ptb_machine.specs.Act.{statement};
-ghost use Rattle.ptb_machine.specs.Spots.{spots_of};
+ghost use Rattle.ptb_machine.specs.Standing.{IsLineAt, PlacesAre};
 
+use crate::laws::command_laws;
 use crate::spot::Spot;
-use ptb_text::Program;
+use ptb_text::{Program, statement_laws};
 
-/// The text of the statement of this number, empty where there is none.
-pub(crate) fn text_of(program: &Program, number: i16) -> &[u8]
-    ensures { (n : ℕ) → number ≡ pos n → result.now ≡ text_of program.now.lines n }
+/// The number and the text of this statement; 0 and nothing where there is none.
+pub(crate) fn line_at(program: &Program, statement: usize) -> (i16, &[u8])
+    ensures { IsLineAt program.now.lines statement result.0 result.1.now }
 {
-    match program.line(number) {
-        Some(text) => text,
-        None => b"",
+    match program.get(statement) {
+        Some(line) => line,
+        None => (0, b""),
     }
 }
 
 /// The beginning of the first statement, if there is one.
 pub(crate) fn first_place(program: &Program) -> Option<Spot>
-    ensures { result ≡ spots_of (first_place program.now.lines) }
+    ensures { PlacesAre program.now.lines (first_place program.now.lines) result }
 {
-    match program.first() {
-        Some(number) => Some(Spot { number, at: 0 }),
-        None => None,
+    command_laws();
+    statement_laws();
+    if program.is_empty() {
+        None
+    } else {
+        Some(Spot {
+            statement: 0,
+            at: 0,
+        })
     }
 }
 
-/// The beginning of the statement behind that of this number, if there is one.
-pub(crate) fn place_after(program: &Program, number: i16) -> Option<Spot>
-    ensures { (n : ℕ) → number ≡ pos n → result ≡ spots_of (place_after program.now.lines n) }
+/// The beginning of the statement behind this one, if there is one.
+pub(crate) fn place_after(program: &Program, statement: usize) -> Option<Spot>
+    ensures { (q : Place) →
+        slice_get program.now.lines statement
+        ≡ Some (q.number, text_of program.now.lines q.number) →
+        PlacesAre program.now.lines (place_after program.now.lines q.number) result }
 {
-    match program.after(number) {
-        Some(number) => Some(Spot { number, at: 0 }),
-        None => None,
+    command_laws();
+    statement_laws();
+    let count = program.len();
+    if statement >= count || statement + 1 == count {
+        return None;
     }
+    Some(Spot {
+        statement: statement + 1,
+        at: 0,
+    })
 }
 
 /// The beginning of the statement of this number, if there is one.
-pub(crate) fn statement(program: &Program, number: i16) -> Option<Spot>
-    ensures { result ≡ spots_of (statement program.now.lines number) }
+pub(crate) fn beginning_of(program: &Program, number: i16) -> Option<Spot>
+    ensures { PlacesAre program.now.lines (statement program.now.lines number) result }
 {
-    if program.line(number).is_some() {
-        Some(Spot { number, at: 0 })
-    } else {
-        None
+    command_laws();
+    statement_laws();
+    match program.index_of(number) {
+        Some(statement) => Some(Spot { statement, at: 0 }),
+        None => None,
     }
 }
 

@@ -68,10 +68,10 @@ impl From<ReadFault> for Stop {
 impl From<ptb_expr::Stop> for Stop {
     ghost use Rattle.ptb_machine.specs.Stops.{stop_of};
 
-    ghost from_gives = { λ e r. r ≡ stop_of e };
+    ghost from_gives = { λ stop r. r ≡ stop_of stop };
 
-    fn from(e: ptb_expr::Stop) -> Stop {
-        match e {
+    fn from(stop: ptb_expr::Stop) -> Stop {
+        match stop {
             ptb_expr::Stop::Fault(fault) => Stop::Fault(fault),
             ptb_expr::Stop::Pause(Pause::Memory) => Stop::Broke(DeviceError::Memory),
             ptb_expr::Stop::Pause(pause) => Stop::Pause(pause),

@@ -1,13 +1,14 @@
 // This file reads the tokens of a statement. A place in its text counts the bytes before it.
 
 ghost use Rattle.std.specs.Prelude.{◌≡◌, ◌≤◌, ℕ, ℤ, true, List, [], length, IfSome, OnOk};
-ghost use Rattle.ptb_text.specs.Words.{is_over, token_at, IsCommand};
+ghost use Rattle.ptb_text.specs.Words.{is_over, token_at, letter_at, word_at, IsCommand};
 ghost use Rattle.ptb_text.specs.Finding.{LiesAhead};
 ghost use Rattle.ptb_expr.specs.Reading.{Whole, item_of};
 ghost use Rattle.ptb_machine.specs.Act.{parts_course};
 ghost use Rattle.ptb_machine.specs.Commands.{at_end, end_check};
 ghost use Rattle.ptb_machine.specs.Courses.{goes_on};
 ghost use Rattle.ptb_machine.specs.Devices.{nothing_refused};
+ghost use Rattle.ptb_machine.specs.Loops.{place_of};
 ghost use Rattle.ptb_machine.specs.Moves.{Trace};
 ghost use Rattle.ptb_machine.specs.Reads.{IsLiteral, IsFirstWord, Follows};
 ghost use Rattle.ptb_machine.specs.Stops.{Comes};
@@ -18,6 +19,7 @@ use ptb_text::{Cursor, Quoted, Table, Word, finding_laws};
 
 /// A string, or `_` in its place.
 pub(crate) enum Literal<'a> {
+    /// Neither stands there.
     Absent,
     /// A quote without its partner.
     Unclosed,
@@ -48,6 +50,35 @@ pub(crate) fn token_at(text: &[u8], at: usize, byte: u8) -> Option<usize>
     }
 }
 
+/// The letter that stands there, and the place after it.
+pub(crate) fn letter_at(text: &[u8], at: usize) -> Option<(u8, usize)>
+    requires { at ≤ length text.now }
+    ensures found { result ≡ letter_at text.now at }
+    ensures ahead { IfSome result (λ x. LiesAhead text.now at x.1) }
+    ensures range { IfSome result (λ x. (65 ≤ x.0) × (x.0 ≤ 90)) }
+{
+    finding_laws();
+    let mut cursor = Cursor::new(text, at);
+    match cursor.letter() {
+        Some(letter) => Some((letter, cursor.place())),
+        None => None,
+    }
+}
+
+/// The place after the table's word, if it stands there.
+pub(crate) fn word_at(text: &[u8], at: usize, table: Table) -> Option<usize>
+    requires { at ≤ length text.now }
+    ensures found { result ≡ place_of (word_at table text.now at) }
+    ensures ahead { IfSome result (LiesAhead text.now at) }
+{
+    finding_laws();
+    let mut cursor = Cursor::new(text, at);
+    match cursor.word(table) {
+        Some(_) => Some(cursor.place()),
+        None => None,
+    }
+}
+
 /// Whether a command ends there: the text is over, or `;` stands next.
 pub(crate) fn at_end(text: &[u8], at: usize) -> bool
     requires { at ≤ length text.now }
@@ -56,7 +87,8 @@ pub(crate) fn at_end(text: &[u8], at: usize) -> bool
     is_over(text, at) || token_at(text, at, b';').is_some()
 }
 
-/// Where the next command begins, behind one that ends there: after `;`, or there where the text is over.
+/// Where the next command begins, behind one that ends there: after `;`, or there where the text is
+/// over.
 pub(crate) fn follow(text: &[u8], at: usize) -> usize
     requires { at ≤ length text.now }
     ensures { Follows text.now at result }

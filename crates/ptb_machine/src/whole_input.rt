@@ -1,6 +1,7 @@
 // This file reads all the input lines of a run at once.
 
-ghost use Rattle.std.specs.Prelude.{◌≡◌, ◌+◌, ◌<◌, ◌≤◌, ℕ, List, ◌++◌, length, Option, Some, OnOk, IfOk, IfSome, IsErrOf};
+ghost use Rattle.std.specs.Prelude.{◌≡◌, ◌+◌, ◌<◌, ◌≤◌, ℕ, List, ◌++◌, length, Option, Some, OnOk};
+ghost use Rattle.std.specs.Prelude.{IfOk, IfSome, IsErrOf};
 ghost use Rattle.std.specs.Io.KnownBytes.{IsAtEnd};
 ghost use Rattle.ptb_text.specs.Device.{HasFailed};
 ghost use Rattle.ptb_text.specs.Lines.{input_lines};
@@ -26,18 +27,21 @@ const BUFFER_SIZE: usize = 4096;
 ///
 /// [`ReadFault::Read`] where the reader failed, [`ReadFault::TooLong`] where the input has more
 /// than [`INPUT_LIMIT`] bytes, [`ReadFault::Memory`] where a growth was refused memory.
-pub fn read_lines<R: Read>(alloc: Global, r: &mut R) -> Result<Vec<Line>, ReadFault>
-    ensures lines { IfOk result (λ ls. IfSome (R.remaining r.old) (λ b. ls.items ≡ input_lines b)) }
-    ensures within { OnOk result (IfSome (R.remaining r.old) (λ b. length b ≤ INPUT_LIMIT)) }
-    ensures end { OnOk result (IsAtEnd (R.remaining r.new)) }
+pub fn read_lines<R: Read>(alloc: Global, reader: &mut R) -> Result<Vec<Line>, ReadFault>
+    ensures lines { IfOk result
+        (λ ls. IfSome (R.remaining reader.old) (λ b. ls.items ≡ input_lines b)) }
+    ensures within { OnOk result (IfSome (R.remaining reader.old) (λ b. length b ≤ INPUT_LIMIT)) }
+    ensures end { OnOk result (IsAtEnd (R.remaining reader.new)) }
 
     ensures too_long { IsErrOf result ReadFault.TooLong
-        → IfSome (R.remaining r.old) (λ b. INPUT_LIMIT < length b) }
-    ensures read { IsErrOf result ReadFault.Read → HasFailed (R.failures r.old) (R.failures r.new) }
+        → IfSome (R.remaining reader.old) (λ b. INPUT_LIMIT < length b) }
+    ensures read { IsErrOf result ReadFault.Read
+        → HasFailed (R.failures reader.old) (R.failures reader.new) }
     ensures unfailed { ¬ IsErrOf result ReadFault.Read
-        → R.failures r.new ≡ R.failures r.old }
-    ensures later { R.failures r.old ≤ R.failures r.new }
-    ensures bounded { ConsumesAtMost (R.remaining r.old) (R.remaining r.new) (INPUT_LIMIT + 1) }
+        → R.failures reader.new ≡ R.failures reader.old }
+    ensures later { R.failures reader.old ≤ R.failures reader.new }
+    ensures bounded { ConsumesAtMost (R.remaining reader.old) (R.remaining reader.new)
+        (INPUT_LIMIT + 1) }
 {
     let mut buffer = [0; BUFFER_SIZE];
     let mut cutter = LineCutter::new();
@@ -45,7 +49,7 @@ pub fn read_lines<R: Read>(alloc: Global, r: &mut R) -> Result<Vec<Line>, ReadFa
     let mut left = INPUT_LIMIT + 1;
     while left > 0 {
         let room = left.min(BUFFER_SIZE);
-        let count = r.read(&mut buffer[..room])?;
+        let count = reader.read(&mut buffer[..room])?;
         if count == 0 {
             push_last(alloc, &mut lines, &cutter)?;
             return Ok(lines);

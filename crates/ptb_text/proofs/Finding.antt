@@ -16,6 +16,7 @@ use Rattle.ptb_text.specs.declared.word.Number.TheVariants.{Absent, Value, TooBi
 use Rattle.ptb_text.specs.Statements.{is_digit, digits_value}
 use Rattle.ptb_text.specs.Words.{past_blanks, next_byte_at, Entry, words, abbreviations, spellings, spelling_in_front, first_word, word_at, begins_word, IsWordOf, bytes_at, is_letter, letter_there, letter_at, small_number, is_number, number_at, Quotation, NoQuote, QuotedText, is_quote, quotation_up_to, quotation_there, quotation_at, is_quotation}
 use Rattle.ptb_text.specs.Finding.{LiesAhead, past_byte, StandsNext, FindingLaws}
+use Rattle.ptb_text.proofs.Lone.{lone_letter}
 use Rattle.ptb_text.proofs.Words.{words_have_letters, first_word_end, finds_none}
 use Rattle.ptb_text.proofs.Blanks.{past_blanks_from, past_blanks_within, past_blanks_twice}
 
@@ -299,5 +300,6 @@ finding_laws = record {
   no_number = no_number;
   number_range = number_range;
   quotation = quotation_ahead;
+  lone_letter = lone_letter;
   next = λ t i. stands_next t i (next_byte_at t i) refl;
 }

@@ -1,3 +1,4 @@
+-- This file names the files of lemmas.
 pub mod Blanks
 pub mod Pairs
 pub mod Digits
@@ -8,6 +9,7 @@ pub mod Edits
 pub mod Entries
 pub mod LineParts
 pub mod Listed
+pub mod Lone
 pub mod Loaded
 pub mod Numbers
 pub mod Pieces
@@ -16,3 +18,4 @@ pub mod Sound
 pub mod Stored
 pub mod Taking
 pub mod Worked
+pub mod Standing

@@ -1,12 +1,13 @@
 -- This file proves what is known of a number with a sign once it was converted to one without.
-use Rattle.std.proofs.Common.{◌≡◌, ℕ, ◌+◌, ℤ, pos, negsuc, nat_abs, Result, Ok, Err, Option, Some, None, List, option_map, slice_get, add-one, IfOk, IfErr, refl, sym, ap, ◌∙◌}
+use Rattle.std.proofs.Common.{◌≡◌, ℕ, ◌+◌, ℤ, pos, negsuc, nat_abs, Result, Ok, Err, Option, Some, None, List, [], IfSome, IsNone, option_map, slice_get, add-one, IfOk, IfErr, refl, sym, ap, ◌∙◌}
 use Rattle.std.specs.Result.{OkIff, result_ok}
 use Rattle.std.specs.Int.{FitsUnsignedBits}
 use mir.Syntax.{w16}
 use mir.Val.{to_z, of_z, SFits}
 use Rattle.std.proofs.lemmas.Int.{to_z-of_z}
+use Rattle.std.proofs.lemmas.Option.{slice_get-get_or}
 use Rattle.ptb_text.specs.Statements.{Statements, text_under, number_above}
-use Rattle.ptb_text.specs.Places.{IsGapFor, IsAt}
+use Rattle.ptb_text.specs.Places.{IsGapFor, IsAt, statement_at}
 use Rattle.ptb_text.proofs.Entries.{text_at-gap, number_after-place, number_after-gap}
 
 converted : {E : Type 0} (r : Result ℕ E) (n : ℤ) (m : ℕ) → OkIff r (FitsUnsignedBits 16 n) (nat_abs n) → result_ok r ≡ Some m → n ≡ pos m
@@ -27,6 +28,22 @@ text_under-absent p n m (Err i) is gap e = ap (text_under p) is ∙ text_at-gap 
 pub IsAt-found : (p : Statements) (m i : ℕ) (r : Result ℕ ℕ) → IfOk r (IsAt p m) → result_ok r ≡ Some i → IsAt p m i
 IsAt-found p m i (Ok j) at e = let same : j ≡ i = cc in rw same at at
 IsAt-found p m i (Err j) at e = cc
+
+number_there : (o : Option (ℕ × List ℕ)) → option_map {T = ℤ × List ℕ} (λ s. s.0) (option_map (λ s. (pos s.0, s.1)) o) ≡ option_map (λ s. pos s.0) o
+number_there None = refl
+number_there (Some s) = refl
+
+-- the place that a look-up gives
+pub look_up-found : (p : Statements) (n : ℤ) (m : ℕ) (o : Option ℕ) (r : Result ℕ ℕ) → n ≡ pos m → IfOk r (IsAt p m) → o ≡ result_ok r → IfSome o (λ i. option_map (λ s. s.0) (statement_at p i) ≡ Some n)
+look_up-found p n m None r is at e = tt
+look_up-found p n m (Some i) r is at e =
+    let place = IsAt-found p m i r at (sym e) in
+    let line = slice_get-get_or p i (0, []) place.in_range in
+    number_there (slice_get p i) ∙ ap (option_map (λ s. pos s.0)) line ∙ ap (λ k. Some (pos k)) place.has_number ∙ ap Some (sym is)
+
+pub look_up-absent : (p : Statements) (n : ℤ) (m : ℕ) (o : Option ℕ) (r : Result ℕ ℕ) → n ≡ pos m → IfErr r (IsGapFor p m) → o ≡ result_ok r → IsNone o → text_under p n ≡ None
+look_up-absent p n m None r is gap e none = text_under-absent p n m r is gap (sym e)
+look_up-absent p n m (Some i) r is gap e none = cc
 
 -- ---- the next number
 

@@ -1,14 +1,15 @@
 -- This file states what holds of all that is found at a place: where it ends, and what the byte that stands next tells of it.
 --     LiesAhead t i j          j is a place that something found at i may end at
 --     StandsNext t i next      what the byte that stands next tells of each thing that may be found at i
+--     lone_letter_at t i       a letter with which no word can begin, and the place after it
 --     FindingLaws              both hold of all that is found
-use Rattle.std.specs.Prelude.{◌≡◌, ℕ, ◌+◌, ◌<◌, ◌≤◌, Bool, false, ◌==◌, if◌then◌else◌, List, length, Option, Some, None, is_none, IsTrue, IsFalse, ℤ, pos, ◌≤ℤ◌}
+use Rattle.std.specs.Prelude.{◌≡◌, ℕ, ◌+◌, ◌<◌, ◌≤◌, Bool, false, ◌||◌, ◌==◌, if◌then◌else◌, List, length, Option, Some, None, is_none, slice_get, IsTrue, IsFalse, ℤ, pos, ◌≤ℤ◌}
 use Rattle.ptb_text.specs.declared.word.Table.{Table}
 use Rattle.ptb_text.specs.declared.word.Word.{Word}
 use Rattle.ptb_text.specs.declared.word.Number.{Number}
 use Rattle.ptb_text.specs.declared.word.Number.TheVariants.{Absent, Value}
 use Rattle.ptb_text.specs.Statements.{is_digit, number_limit}
-use Rattle.ptb_text.specs.Words.{past_blanks, next_byte_at, is_over, word_at, begins_word, IsWordOf, token_at, pair_at, letter_at, letter_there, number_at, is_number, is_quote, is_quotation, quotation_at, NoQuote, QuotedText}
+use Rattle.ptb_text.specs.Words.{past_blanks, next_byte_at, is_over, word_at, begins_word, IsWordOf, token_at, pair_at, is_letter, letter_at, letter_there, number_at, is_number, is_quote, is_quotation, quotation_at, NoQuote, QuotedText}
 
 -- ---- where it ends
 
@@ -42,6 +43,15 @@ pub record StandsNext (t : List ℕ) (i : ℕ) (next : Option ℕ) : Type 0 wher
   pub no_quotation : IsFalse (is_next is_quote next) → quotation_at t i ≡ NoQuote
   pub quotation : is_quotation (quotation_at t i) ≡ is_next is_quote next
 
+-- ---- a letter that begins no word
+
+-- whether a word can go on with this byte behind its first letter: a letter, or the period of a cut word
+abbrev pub continues_word : ℕ → Bool
+continues_word b = is_letter b || b == 46
+
+abbrev pub lone_letter_at : List ℕ → ℕ → Option (ℕ × ℕ)
+lone_letter_at t i = if is_next continues_word (slice_get t (past_blanks t i + 1)) then None else letter_at t i
+
 -- ---- the laws
 
 pub record FindingLaws : Type 0 where
@@ -58,4 +68,5 @@ pub record FindingLaws : Type 0 where
   pub no_number : (t : List ℕ) (i j : ℕ) → number_at t i ≡ (Absent, j) → j ≡ i
   pub number_range : (t : List ℕ) (i : ℕ) (v : ℤ) (j : ℕ) → number_at t i ≡ (Value v, j) → (pos 0 ≤ℤ v) × (v ≤ℤ pos number_limit)
   pub quotation : (t : List ℕ) (i : ℕ) (s : List ℕ) (j : ℕ) → quotation_at t i ≡ QuotedText s j → LiesAhead t i j
+  pub lone_letter : (table : Table) (t : List ℕ) (i c j : ℕ) → lone_letter_at t i ≡ Some (c, j) → word_at table t i ≡ None
   pub next : (t : List ℕ) (i : ℕ) → StandsNext t i (next_byte_at t i)

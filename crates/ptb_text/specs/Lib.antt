@@ -1,3 +1,4 @@
+-- This file names the files of definitions.
 pub mod Device
 pub mod Entry
 pub mod Lines

@@ -1,11 +1,15 @@
 // This file has a cursor over a text, which takes what stands there piece by piece.
 
-ghost use Rattle.std.specs.Prelude.{◌≡◌, ℕ, ◌+◌, ◌<◌, ◌≤◌, length, if◌then◌else◌, Some, None, IsTrue, IsFalse, IsSome, IsNone, IfSome, option_map, take, min, position, ◌==◌};
+ghost use Rattle.std.specs.Prelude.{◌≡◌, ℕ, ◌+◌, ◌<◌, ◌≤◌, length, if◌then◌else◌, Some, None};
+ghost use Rattle.std.specs.Prelude.{IsTrue, IsFalse, IsSome, IsNone, IfSome, option_map, take, min};
+ghost use Rattle.std.specs.Prelude.{position, ◌==◌};
 ghost use Rattle.std.specs.List.{prefix_len};
 ghost use Rattle.ptb_text.specs.Spot.{Spot, bytes_left};
 ghost use Rattle.ptb_text.specs.Statements.{is_digit, digits_value};
-ghost use Rattle.ptb_text.specs.Finding.{past_byte, StandsNext};
-ghost use Rattle.ptb_text.specs.Words.{past_blanks, next_byte_at, is_over, token_at, pair_at, letter_at, number_at, is_number, quotation_at, quotation_of, is_text, IsPieceFrom, word_at, IsWordOf};
+ghost use Rattle.ptb_text.specs.Finding.{past_byte, StandsNext, lone_letter_at};
+ghost use Rattle.ptb_text.specs.Words.{past_blanks, next_byte_at, is_over, token_at, pair_at};
+ghost use Rattle.ptb_text.specs.Words.{letter_at, number_at, is_number, quotation_at, quotation_of};
+ghost use Rattle.ptb_text.specs.Words.{is_text, IsPieceFrom, word_at, IsWordOf};
 
 use crate::spelling::table_word_at;
 use crate::word::{Number, Quoted, Table, Word};
@@ -188,6 +192,28 @@ impl<'a> Cursor<'a> {
         }
     }
 
+    /// Takes a letter A to Z that neither a letter nor a period follows at once. So no word begins
+    /// there.
+    ///
+    /// Most letters in expressions are such, and it pays to look for one before any word.
+    #[inline(always)]
+    pub fn lone_letter(&mut self) -> Option<u8>
+        ensures value { lone_letter_at self.old.text self.old.place
+            ≡ option_map (λ b. (b, self.new.place)) result }
+        ensures letter { IfSome result (λ b.
+            letter_at self.old.text self.old.place ≡ Some (b, self.new.place)) }
+        ensures range { IfSome result (λ b. (65 ≤ b) × (b ≤ 90)) }
+        ensures text { self.new.text ≡ self.old.text }
+        ensures taken { IsSome result → bytes_left self.new < bytes_left self.old }
+        ensures left { bytes_left self.new ≤ bytes_left self.old }
+        ensures absent { IsNone result → self.new.place ≡ self.old.place }
+    {
+        match self.text.get(self.next + 1) {
+            Some(byte) if byte.is_ascii_uppercase() || *byte == b'.' => None,
+            _ => self.letter(),
+        }
+    }
+
     /// Takes the longest run of digits that stands next.
     ///
     /// A number over 32767 is taken too. Where no digit stands, nothing is taken.
@@ -211,6 +237,7 @@ impl<'a> Cursor<'a> {
     }
 
     /// Takes the first word of the table that stands next, whole or cut with a period.
+    #[inline(always)]
     #[tactic(auto, using(crate::proofs::Words::word_at_end), unfolding(crate::specs::Words::word_at))]
     pub fn word(&mut self, table: Table) -> Option<Word>
         ensures value { word_at table self.old.text self.old.place

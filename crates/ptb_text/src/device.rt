@@ -1,8 +1,10 @@
 // This file has readers and writers, which count how often they have failed.
 
-ghost use Rattle.std.specs.Prelude.{◌≡◌, ℕ, ◌<◌, ◌≤◌, List, length, take, Option, Some, IfOk, OnOk, OnErr};
+ghost use Rattle.std.specs.Prelude.{◌≡◌, ℕ, ◌<◌, ◌≤◌, List, length, take, Option, Some, IfOk, OnOk};
+ghost use Rattle.std.specs.Prelude.{OnErr};
 ghost use Rattle.std.specs.Io.KnownBytes.{Keeps, Appends, ReadConsumes};
-ghost use Rattle.ptb_text.specs.Device.{CountsFaults, HasFailed, TakesSome, device_inner, failure_count};
+ghost use Rattle.ptb_text.specs.Device.{CountsFaults, HasFailed, TakesSome, device_inner};
+ghost use Rattle.ptb_text.specs.Device.{failure_count};
 
 use std::io;
 use thiserror::Error;
@@ -54,7 +56,8 @@ pub trait Write {
     fn write(&mut self, bytes: &[u8]) -> Result<usize, DeviceFault>
         ensures room { IfOk result (λ n. n ≤ length bytes.now) }
         ensures some { IfOk result (λ n. 0 < length bytes.now → 0 < n) }
-        ensures bytes { IfOk result (λ n. Appends (contents self.old) (contents self.new) (take n bytes.now)) }
+        ensures bytes { IfOk result
+            (λ n. Appends (contents self.old) (contents self.new) (take n bytes.now)) }
         ensures fault { OnErr result (TakesSome (contents self.old) (contents self.new) bytes.now) }
         ensures count { CountsFaults (failures self.old) (failures self.new) result };
 

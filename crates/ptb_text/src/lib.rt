@@ -1,9 +1,9 @@
 //! Program texts of Tiny BASIC: readers and writers, the lines of a text, the statements under
 //! their numbers, and a cursor over the text of one statement.
 //!
-//! It stands on `itoa`, `thiserror` and std. The crate above may rely on `load` (the statements that
-//! a text comes to, or which of its lines is refused first), on the look-ups of `Program`, and on
-//! `Cursor` (each call finds what `specs/Words` says stands there, and takes only that).
+//! It stands on `itoa`, `thiserror` and std. The crate above may rely on `load` (the statements
+//! that a text comes to, or which of its lines is refused first), on the look-ups of `Program`, and
+//! on `Cursor` (each call finds what `specs/Words` says stands there, and takes only that).
 #![tactic(auto)]
 
 mod cursor;
@@ -21,7 +21,7 @@ mod word;
 pub use cursor::Cursor;
 pub use device::{Device, DeviceFault, Read, Write};
 pub use fault::LoadFault;
-pub use laws::finding_laws;
+pub use laws::{finding_laws, statement_laws};
 pub use listing::{WriteFault, list};
 pub use loading::load;
 pub use program::Program;

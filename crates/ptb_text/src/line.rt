@@ -1,6 +1,7 @@
 // This file takes a program line apart: the number in front, and the text behind it.
 
-ghost use Rattle.std.specs.Prelude.{◌≡◌, ◌<◌, ◌≤◌, IfSome, IsTrue, MatchOption, MatchResult, length, min, not, position};
+ghost use Rattle.std.specs.Prelude.{◌≡◌, ◌<◌, ◌≤◌, IfSome, IsTrue, MatchOption, MatchResult};
+ghost use Rattle.std.specs.Prelude.{length, min, not, position};
 ghost use Rattle.std.specs.List.{list_all, prefix_len};
 ghost use Rattle.ptb_text.specs.Entry.{EntersNothing, IsNumbered, IsRefused};
 ghost use Rattle.ptb_text.specs.Lines.{is_printable};
@@ -28,7 +29,8 @@ pub(crate) struct NumberedLine<'a> {
 /// stands in front; else `NumberTooBig` for a number over 32767.
 pub(crate) fn numbered_line(line: &[u8]) -> Result<Option<NumberedLine<'_>>, LoadFault>
     ensures { MatchResult result
-        (λ found. MatchOption found (EntersNothing line.now) (λ l. IsNumbered line.now l.number l.text.now))
+        (λ found. MatchOption found (EntersNothing line.now)
+        (λ l. IsNumbered line.now l.number l.text.now))
         (IsRefused line.now) }
 {
     if let Some(place) = first_unprintable(line) {

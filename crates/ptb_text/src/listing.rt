@@ -4,7 +4,8 @@ ghost use Rattle.std.specs.Prelude.{◌≡◌, ◌+◌, ◌≤◌, ◌++◌, ℕ
 ghost use Rattle.std.specs.Io.KnownBytes.{Appends};
 ghost use Rattle.ptb_text.specs.Device.{HasFailed, TakesSome};
 ghost use Rattle.ptb_text.specs.Loading.{GivesProgram};
-ghost use Rattle.ptb_text.specs.Statements.{Statements, cost, is_program, line_of, listing, number_limit, text_limit};
+ghost use Rattle.ptb_text.specs.Statements.{Statements, cost, is_program, line_of, listing};
+ghost use Rattle.ptb_text.specs.Statements.{number_limit, text_limit};
 
 use crate::{Program, Write};
 use itoa::Buffer;

@@ -1,6 +1,7 @@
 // This file loads a program text: it reads the bytes, and enters the lines one after the other.
 
-ghost use Rattle.std.specs.Prelude.{◌≡◌, ◌+◌, ◌<◌, ◌≤◌, ◌≢◌, ◌==◌, ℕ, [], ◌∷◌, List, length, map, IfErr, IfOk, IfSome, IsOk, OnOk, position, take, vec_len};
+ghost use Rattle.std.specs.Prelude.{◌≡◌, ◌+◌, ◌<◌, ◌≤◌, ◌≢◌, ◌==◌, ℕ, [], ◌∷◌, List, length, map};
+ghost use Rattle.std.specs.Prelude.{IfErr, IfOk, IfSome, IsOk, OnOk, position, take, vec_len};
 ghost use Rattle.std.specs.Io.KnownBytes.{Consumes, IsAtEnd};
 ghost use Rattle.std.specs.Str.Lines.{strip_carriage_return};
 ghost use Rattle.ptb_text.specs.Device.{HasFailed};
@@ -20,8 +21,8 @@ const PIECE: usize = 4096;
 
 /// Loads a program text into a program that is given this memory, 64 to 32767.
 ///
-/// All bytes are read first, at most 1,048,577. Tabs are read as spaces, and a line loses one byte 13
-/// at its end. Then the lines are entered one after the other, by [`Program::enter`].
+/// All bytes are read first, at most 1,048,577. Tabs are read as spaces, and a line loses one byte
+/// 13 at its end. Then the lines are entered one after the other, by [`Program::enter`].
 ///
 /// # Errors
 ///
@@ -48,7 +49,8 @@ pub fn load<R: Read>(
 
     // What the reader gave, and that it did not fail where no other fault is answered.
     ensures bounded { (bs : List ℕ)
-        × Consumes (R.remaining reader.old) (R.remaining reader.new) bs × (length bs ≤ program_limit + 1) }
+        × Consumes (R.remaining reader.old) (R.remaining reader.new) bs
+        × (length bs ≤ program_limit + 1) }
     ensures unfailed { IfErr result (λ e. e.1 ≢ LoadFault.Read
         → R.failures reader.new ≡ R.failures reader.old) }
     ensures unfailed_ok { OnOk result (R.failures reader.new ≡ R.failures reader.old) }
@@ -75,7 +77,8 @@ fn program_text<R: Read>(alloc: Global, reader: &mut R) -> Result<Vec<u8>, LoadF
     ensures unfailed_ok { OnOk result (R.failures reader.new ≡ R.failures reader.old) }
     ensures line_fault { IfErr result (λ f. ¬ IsLineFault f) }
     ensures bounded { (bs : List ℕ)
-        × Consumes (R.remaining reader.old) (R.remaining reader.new) bs × (length bs ≤ program_limit + 1) }
+        × Consumes (R.remaining reader.old) (R.remaining reader.new) bs
+        × (length bs ≤ program_limit + 1) }
 {
     let mut text = Vec::new(alloc);
     let mut piece = [0; PIECE];

@@ -1,10 +1,15 @@
 // This file has the program: the texts of its statements under their numbers.
 
-ghost use Rattle.std.specs.Prelude.{◌≡◌, ◌+◌, ◌<◌, ◌≤◌, ◌^◌, [], length, IsOk, IfOk, IfErr, OnOk, OnErr, IsSome, IfSome, OnSome, option_map, pos, ◌<ℤ◌, IsTrue, ◌↔◌, slice_get};
+ghost use Rattle.std.specs.Prelude.{◌≡◌, ℕ, ℤ, ◌+◌, ◌<◌, ◌≤◌, ◌^◌, List, [], Some, None, length};
+ghost use Rattle.std.specs.Prelude.{IsOk, IfOk, IfErr, OnOk, OnErr, IsSome, IsNone, IfSome, OnSome};
+ghost use Rattle.std.specs.Prelude.{option_map, pos, ◌<ℤ◌, IsTrue, ◌↔◌, slice_get};
 ghost use Rattle.std.specs.Option.{option_copied};
 ghost use Rattle.ptb_text.specs.Entry.{Enters, IsLineFault};
-ghost use Rattle.ptb_text.specs.Statements.{IsMemorySize, IsSound, IsText, after_line, first_number, if_room, is_statement, number_above, number_limit, size_of, text_limit, text_under, with_text, without_number};
-ghost use Rattle.ptb_text.specs.Places.{IsAt, IsGapFor};
+ghost use Rattle.ptb_text.specs.Statements.{IsMemorySize, IsSound, IsText, after_line};
+ghost use Rattle.ptb_text.specs.Statements.{first_number, if_room, is_statement, number_above};
+ghost use Rattle.ptb_text.specs.Statements.{number_limit, size_of, text_limit, text_under};
+ghost use Rattle.ptb_text.specs.Statements.{with_text, without_number};
+ghost use Rattle.ptb_text.specs.Places.{IsAt, IsGapFor, statement_at};
 
 use crate::LoadFault;
 use crate::line::numbered_line;
@@ -92,14 +97,38 @@ impl Program {
     }
 
     /// The text of the statement of this number, if there is one.
-    pub fn line(&self, n: i16) -> Option<&[u8]>
-        ensures value { option_copied result ≡ text_under self.now.lines n }
-        ensures number { OnSome result (pos 0 <ℤ n) }
+    pub fn line(&self, number: i16) -> Option<&[u8]>
+        ensures value { option_copied result ≡ text_under self.now.lines number }
+        ensures number { OnSome result (pos 0 <ℤ number) }
         ensures text { IfSome result (λ t. IsText t.now) }
     {
-        let number = u16::try_from(n).ok()?;
+        let number = u16::try_from(number).ok()?;
         let at = self.search(number).ok()?;
         Some(&self.statements[at].text)
+    }
+
+    /// Which of the statements has this number, if one has: how many stand before it.
+    pub fn index_of(&self, number: i16) -> Option<usize>
+        ensures found { IfSome result (λ index.
+            option_map (λ s. s.0) (statement_at self.now.lines index) ≡ Some number) }
+        ensures absent { IsNone result → text_under self.now.lines number ≡ None }
+        ensures sound { IsSome result → IsSound self.now }
+    {
+        let number = u16::try_from(number).ok()?;
+        self.search(number).ok()
+    }
+
+    /// The number and the text of the statement that stands behind so many others, if there is one.
+    pub fn get(&self, index: usize) -> Option<(i16, &[u8])>
+        ensures value { option_map {U = ℤ × List ℕ} (λ s. (s.0, s.1.now)) result
+            ≡ statement_at self.now.lines index }
+        ensures sound { IsSound self.now }
+    {
+        if index >= self.len() {
+            return None;
+        }
+        let (number, text) = self.statement_at(index);
+        Some((number as i16, text))
     }
 
     /// The least number of a statement, if there is one.
@@ -111,13 +140,13 @@ impl Program {
         self.number_at(0)
     }
 
-    /// The least number of a statement above `n`, if there is one.
-    pub fn after(&self, n: i16) -> Option<i16>
-        ensures value { result ≡ option_map pos (number_above self.now.lines n) }
+    /// The least number of a statement above `number`, if there is one.
+    pub fn after(&self, number: i16) -> Option<i16>
+        ensures value { result ≡ option_map pos (number_above self.now.lines number) }
         ensures text { IfSome result (λ n. IsSome (text_under self.now.lines n)) }
         ensures number { IfSome result (λ k. pos 0 <ℤ k) }
     {
-        let Ok(number) = u16::try_from(n) else {
+        let Ok(number) = u16::try_from(number) else {
             return self.first();
         };
         match self.search(number) {
@@ -126,8 +155,9 @@ impl Program {
         }
     }
 
-    /// Enters a line: the statement of its number gets its text, whether there was one or not. A line
-    /// without a text deletes the statement, if there is one, and a line of blanks does nothing.
+    /// Enters a line: the statement of its number gets its text, whether there was one or not. A
+    /// line without a text deletes the statement, if there is one, and a line of blanks does
+    /// nothing.
     ///
     /// The program stays as it was on each fault.
     ///

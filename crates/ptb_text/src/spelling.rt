@@ -1,6 +1,7 @@
 // This file finds the words of the tables in a text.
 
-ghost use Rattle.std.specs.Prelude.{◌≡◌, ◌+◌, ◌<◌, ◌≤◌, [], ◌∷◌, length, IsTrue, IfSome, option_map, drop, not, ◌==◌};
+ghost use Rattle.std.specs.Prelude.{◌≡◌, ◌+◌, ◌<◌, ◌≤◌, [], ◌∷◌, length, IsTrue, IfSome};
+ghost use Rattle.std.specs.Prelude.{option_map, drop, not, ◌==◌};
 ghost use Rattle.std.specs.List.{list_all};
 ghost use Rattle.ptb_text.specs.WordSearch.{FindsWord};
 ghost use Rattle.ptb_text.specs.Words.{spelling_in_front, words, IsCommand, IsFunction, IsWordOf};
@@ -35,7 +36,7 @@ fn spelling_end(text: &[u8], place: usize, letters: &[u8]) -> Option<usize>
 }
 
 // The word, if it stands at `place`, and the place after it.
-fn spelled(text: &[u8], place: usize, word: Word, letters: &[u8]) -> Option<(Word, usize)>
+fn spelled_word(text: &[u8], place: usize, word: Word, letters: &[u8]) -> Option<(Word, usize)>
     requires within { place ≤ length text.now }
     requires some { 0 < length letters.now }
     requires no_period { IsTrue (list_all (λ c. not (c == PERIOD)) letters.now) }
@@ -52,23 +53,23 @@ fn command_at(text: &[u8], place: usize) -> Option<(Word, usize)>
     ensures word { IfSome result (λ found. IsCommand found.0) }
 {
     match text[place] {
-        b'N' => spelled(text, place, Word::NextKw, b"NEXT"),
-        b'L' => spelled(text, place, Word::LetKw, b"LET"),
+        b'N' => spelled_word(text, place, Word::NextKw, b"NEXT"),
+        b'L' => spelled_word(text, place, Word::LetKw, b"LET"),
         b'I' => {
-            let found_if = spelled(text, place, Word::IfKw, b"IF");
-            found_if.or_else(|| spelled(text, place, Word::InputKw, b"INPUT"))
+            let found_if = spelled_word(text, place, Word::IfKw, b"IF");
+            found_if.or_else(|| spelled_word(text, place, Word::InputKw, b"INPUT"))
         }
         b'G' => {
-            let found_goto = spelled(text, place, Word::GotoKw, b"GOTO");
-            found_goto.or_else(|| spelled(text, place, Word::GosubKw, b"GOSUB"))
+            let found_goto = spelled_word(text, place, Word::GotoKw, b"GOTO");
+            found_goto.or_else(|| spelled_word(text, place, Word::GosubKw, b"GOSUB"))
         }
         b'R' => {
-            let found_return = spelled(text, place, Word::ReturnKw, b"RETURN");
-            found_return.or_else(|| spelled(text, place, Word::RemKw, b"REM"))
+            let found_return = spelled_word(text, place, Word::ReturnKw, b"RETURN");
+            found_return.or_else(|| spelled_word(text, place, Word::RemKw, b"REM"))
         }
-        b'F' => spelled(text, place, Word::ForKw, b"FOR"),
-        b'P' => spelled(text, place, Word::PrintKw, b"PRINT"),
-        b'S' => spelled(text, place, Word::StopKw, b"STOP"),
+        b'F' => spelled_word(text, place, Word::ForKw, b"FOR"),
+        b'P' => spelled_word(text, place, Word::PrintKw, b"PRINT"),
+        b'S' => spelled_word(text, place, Word::StopKw, b"STOP"),
         _ => None,
     }
 }
@@ -80,14 +81,16 @@ fn function_at(text: &[u8], place: usize) -> Option<(Word, usize)>
     ensures word { IfSome result (λ found. IsFunction found.0) }
 {
     match text[place] {
-        b'R' => spelled(text, place, Word::RndKw, b"RND"),
-        b'A' => spelled(text, place, Word::AbsKw, b"ABS"),
-        b'S' => spelled(text, place, Word::SizeKw, b"SIZE"),
+        b'R' => spelled_word(text, place, Word::RndKw, b"RND"),
+        b'A' => spelled_word(text, place, Word::AbsKw, b"ABS"),
+        b'S' => spelled_word(text, place, Word::SizeKw, b"SIZE"),
         _ => None,
     }
 }
 
-// The first word of the table that stands at `place`, and the place after it.
+// The first word of the table that stands at `place`, and the place after it. Each caller names its
+// table, so the choice costs nothing where this is inlined.
+#[inline(always)]
 pub fn table_word_at(text: &[u8], place: usize, table: Table) -> Option<(Word, usize)>
     requires { place < length text.now }
     ensures value { FindsWord (words table) text.now place result }
@@ -96,7 +99,7 @@ pub fn table_word_at(text: &[u8], place: usize, table: Table) -> Option<(Word, u
     match table {
         Table::Commands => command_at(text, place),
         Table::Functions => function_at(text, place),
-        Table::To => spelled(text, place, Word::ToKw, b"TO"),
-        Table::Step => spelled(text, place, Word::StepKw, b"STEP"),
+        Table::To => spelled_word(text, place, Word::ToKw, b"TO"),
+        Table::Step => spelled_word(text, place, Word::StepKw, b"STEP"),
     }
 }

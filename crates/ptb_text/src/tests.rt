@@ -1,4 +1,5 @@
-// This file tests loading, entering and listing, over readers and writers that move few bytes or fail.
+// This file tests loading, entering and listing, over readers and writers that move few bytes or
+// fail.
 
 ghost use Rattle.std.specs.Prelude.{None};
 
@@ -385,6 +386,12 @@ fn lines_are_entered(rt: HostRuntime) -> Result<(), Fail> {
     for (number, expected) in texts {
         assert!(rt; program.line(number) == expected, "line {number}");
     }
+    for (number, index) in [(10, Some(0)), (20, Some(1)), (15, None), (-10, None)] {
+        assert_eq!(rt; program.index_of(number), index, "index of {number}");
+    }
+    assert!(rt; program.get(0) == Some((10, b"A=1".as_slice())));
+    assert!(rt; program.get(1) == Some((20, b"P.345".as_slice())));
+    assert!(rt; program.get(2) == None);
     assert_eq!(rt; program.first(), Some(10));
     for (number, next) in [
         (-5, Some(10)),

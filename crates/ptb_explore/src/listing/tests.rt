@@ -1,4 +1,5 @@
-// This file tests listings of runs: all reports, the first of them, those behind a run, and writers that fail.
+// This file tests listings of runs: all reports, the first of them, those behind a run, and writers
+// that fail.
 
 use super::*;
 use crate::fault::AfterFault;
@@ -9,13 +10,13 @@ use std::test::Fail;
 
 const PRODUCTS: &str = "10 PRINT RND(2)*RND(2)";
 
-const PRODUCT_REPORTS: &str =
-    "RUN 1,1 END 1 7\n     1\n\nRUN 1,2 END 1 7\n     2\n\nRUN 2,1 END 1 7\n     2\n\nRUN 2,2 END 1 7\n     4\n\n";
+const PRODUCT_REPORTS: &str = "RUN 1,1 END 1 7\n     1\n\nRUN 1,2 END 1 7\n     2\n\n\
+RUN 2,1 END 1 7\n     2\n\nRUN 2,2 END 1 7\n     4\n\n";
 
 const BRANCHES: &str = "10 A=RND(2);IF A=2 B=RND(3);PRINT B";
 
-const BRANCH_REPORTS: &str =
-    "RUN 1 END 2 0\n\nRUN 2,1 END 4 7\n     1\n\nRUN 2,2 END 4 7\n     2\n\nRUN 2,3 END 4 7\n     3\n\n";
+const BRANCH_REPORTS: &str = "RUN 1 END 2 0\n\nRUN 2,1 END 4 7\n     1\n\n\
+RUN 2,2 END 4 7\n     2\n\nRUN 2,3 END 4 7\n     3\n\n";
 
 // The program of a text, and the lines of an input.
 fn loaded(alloc: Global, text: &str, input: &str) -> Result<(Program, Vec<Line>), Fail> {

@@ -1,4 +1,5 @@
-// This file tests how a whole input is read: in pieces, to a fault, and from a reader that never ends.
+// This file tests how a whole input is read: in pieces, to a fault, and from a reader that never
+// ends.
 
 use super::*;
 use ptb_text::Device;

@@ -97,6 +97,19 @@ fn finds_letters(rt: HostRuntime) {
         assert_eq!(rt; cur.letter(), letter, "in {text:?}");
         assert_eq!(rt; cur.place(), after, "after {text:?}");
     }
+    let rows: [(&[u8], Option<u8>, usize); 6] = [
+        (b"A*3", Some(b'A'), 1),
+        (b" Z  (", Some(b'Z'), 4),
+        (b"S", Some(b'S'), 1),
+        (b"A.(1)", None, 0),
+        (b"ABS(1)", None, 0),
+        (b"1", None, 0),
+    ];
+    for (text, letter, after) in rows {
+        let mut cur = Cursor::new(text, 0);
+        assert_eq!(rt; cur.lone_letter(), letter, "in {text:?}");
+        assert_eq!(rt; cur.place(), after, "after {text:?}");
+    }
 }
 
 #[test]

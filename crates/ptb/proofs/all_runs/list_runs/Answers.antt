@@ -38,19 +38,19 @@ returns-in_err-write_all_runs-clause-served g c = λ i is.
     let p = err_from_is_err_and c.from_residual-in_err-write_all_runs.result c.from_residual-in_err-write_all_runs.ensures.1 in
     let input = c.deref.ensures.value ∙ at_known (λ b. c.in_ok-lines.lines.items ≡ input_lines b) i is c.in_ok-lines.ensures.lines in
     rw (p.1, p.2)
-    (serves_loaded _ _ (runs_due c.args.request.now.steps c.args.after.now c.args.first i) c.in_ok-program.program (g.W.Write.contents c.args.out.now) (g.W.Write.contents c.write_all_runs.new.w)
+    (serves_loaded _ _ (runs_due c.args.request.now.steps c.args.after.now c.args.first i) c.in_ok-program.program (g.W.Write.contents c.args.out.now) (g.W.Write.contents c.write_all_runs.new.writer)
     (Err (reports_note c.in_err-write_all_runs.field-0.0)) c.in_ok-program.ensures.ok c.in_ok-program.ensures.memory
-    (serves_some c.in_ok-program.program c.args.request.now.steps c.args.after.now c.args.first (g.W.Write.contents c.args.out.now) (g.W.Write.contents c.write_all_runs.new.w) i c.deref.result.now input
-    c.in_ok-explorer.explorer c.write_all_runs.new.e.front c.in_ok-explorer.ensures.explorer c.in_ok-explorer.ensures.front
+    (serves_some c.in_ok-program.program c.args.request.now.steps c.args.after.now c.args.first (g.W.Write.contents c.args.out.now) (g.W.Write.contents c.write_all_runs.new.writer) i c.deref.result.now input
+    c.in_ok-explorer.explorer c.write_all_runs.new.explorer.front c.in_ok-explorer.ensures.explorer c.in_ok-explorer.ensures.front
     c.in_err-write_all_runs.field-0.0 c.in_err-write_all_runs.ensures.writes))
 
 pub returns-clause-served : goal.returns-clause-served
 returns-clause-served g c = λ i is.
     let input = c.deref.ensures.value ∙ at_known (λ b. c.in_ok-lines.lines.items ≡ input_lines b) i is c.in_ok-lines.ensures.lines in
-    serves_loaded _ _ (runs_due c.args.request.now.steps c.args.after.now c.args.first i) c.in_ok-program.program (g.W.Write.contents c.args.out.now) (g.W.Write.contents c.write_all_runs.new.w) (Ok 0)
+    serves_loaded _ _ (runs_due c.args.request.now.steps c.args.after.now c.args.first i) c.in_ok-program.program (g.W.Write.contents c.args.out.now) (g.W.Write.contents c.write_all_runs.new.writer) (Ok 0)
     c.in_ok-program.ensures.ok c.in_ok-program.ensures.memory
-    (serves_reports c.in_ok-program.program c.args.request.now.steps c.args.after.now c.args.first (g.W.Write.contents c.args.out.now) (g.W.Write.contents c.write_all_runs.new.w) i c.deref.result.now input
-    c.in_ok-explorer.explorer c.write_all_runs.new.e.front c.in_ok-explorer.ensures.explorer c.in_ok-explorer.ensures.front
+    (serves_reports c.in_ok-program.program c.args.request.now.steps c.args.after.now c.args.first (g.W.Write.contents c.args.out.now) (g.W.Write.contents c.write_all_runs.new.writer) i c.deref.result.now input
+    c.in_ok-explorer.explorer c.write_all_runs.new.explorer.front c.in_ok-explorer.ensures.explorer c.in_ok-explorer.ensures.front
     c.in_ok-write_all_runs.field-0 c.in_ok-write_all_runs.ensures.writes)
 
 -- ---- a text that is refused

@@ -1,3 +1,4 @@
+-- This file answers what is left to prove of `parse_answer`.
 use Rattle.std.proofs.Common.{ap, ◌∙◌, ℤ, Result, Ok, Err, IfOk, IfSome, ◌≤◌, get_or, arith}
 use Rattle.std.specs.Result.{result_ok}
 use Rattle.ptb.specs.AnswerLists.{SpellsAnswer}

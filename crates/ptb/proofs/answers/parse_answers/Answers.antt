@@ -1,3 +1,4 @@
+-- This file answers what is left to prove of `parse_answers`.
 use Rattle.std.proofs.Common.{rules, ◌≡◌, ◌≢◌, ◌∙◌, ap, sym, List, ℤ, ℕ, Option, Some, None, lit<, [], ◌∷◌, ◌++◌}
 use Rattle.std.specs.Prelude.{codes, nat_eq}
 use lib.Pointwise.{pointwise}

@@ -1,3 +1,4 @@
+-- This file says what the loops of `parse_answers` keep.
 use Rattle.std.proofs.Common.{◌≡◌, map}
 use Rattle.std.specs.Prelude.{All}
 use Rattle.std.specs.Fmt.{signed_decimal}

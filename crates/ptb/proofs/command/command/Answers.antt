@@ -1,3 +1,4 @@
+-- This file answers what is left to prove of `command`.
 use Rattle.std.proofs.Common.{◌≡◌, ◌∙◌, ap, ap₂, false, ℤ, Some, subst}
 use Rattle.std.specs.Prelude.{codes, pos}
 use Rattle.std.proofs.lemmas.Result.{IfOk-weaker}
@@ -30,11 +31,11 @@ returns c =
     narrows c.range-memory.result c.value_parser-2.ensures c.new-2.ensures.start c.new-2.ensures.end c.range-memory.ensures in
     let first : c.range-first.result ≡ Unsigned 1 1000000000 =
     narrows c.range-first.result c.value_parser-3.ensures c.new-3.ensures.start c.new-3.ensures.end c.range-first.ensures in
-    let one = with_arg _ c.in_ok-arg.field-0 _ _ _ c.in_ok-arg.ensures c.number.ensures.local start (c.number.ensures.rule ∙ ap (number_option (codes "steps")) steps) in
-    let two = with_arg _ c.in_ok-arg-2.field-0 _ _ _ c.in_ok-arg-2.ensures c.number-2.ensures.local one (c.number-2.ensures.rule ∙ ap (number_option (codes "memory")) memory) in
-    let three = with_arg _ c.in_ok-arg-3.field-0 _ _ _ c.in_ok-arg-3.ensures c.list.ensures.local two c.list.ensures.rule in
-    let four = with_arg _ c.in_ok-arg-4.field-0 _ _ _ c.in_ok-arg-4.ensures c.switch.ensures.local three c.switch.ensures.rule in
-    let five = with_arg _ c.in_ok-arg-5.field-0 _ _ _ c.in_ok-arg-5.ensures c.list-2.ensures.local four c.list-2.ensures.rule in
-    let six = with_arg _ c.in_ok-arg-6.field-0 _ _ _ c.in_ok-arg-6.ensures c.number-3.ensures.local five (c.number-3.ensures.rule ∙ ap (number_option (codes "first")) first) in
-    let seven = with_arg _ c.in_ok-arg-7.field-0 _ _ _ c.in_ok-arg-7.ensures c.switch-2.ensures.local six c.switch-2.ensures.rule in
-    IfOk-weaker c.arg-8.result _ _ (λ whole added. with_arg _ whole _ _ _ added c.program.ensures.local seven c.program.ensures.rule) c.arg-8.ensures
+    let one = with_arg _ c.in_ok-arg.field-0 _ _ _ c.in_ok-arg.ensures c.number_option.ensures.local start (c.number_option.ensures.rule ∙ ap (number_option (codes "steps")) steps) in
+    let two = with_arg _ c.in_ok-arg-2.field-0 _ _ _ c.in_ok-arg-2.ensures c.number_option-2.ensures.local one (c.number_option-2.ensures.rule ∙ ap (number_option (codes "memory")) memory) in
+    let three = with_arg _ c.in_ok-arg-3.field-0 _ _ _ c.in_ok-arg-3.ensures c.text_option.ensures.local two c.text_option.ensures.rule in
+    let four = with_arg _ c.in_ok-arg-4.field-0 _ _ _ c.in_ok-arg-4.ensures c.flag.ensures.local three c.flag.ensures.rule in
+    let five = with_arg _ c.in_ok-arg-5.field-0 _ _ _ c.in_ok-arg-5.ensures c.text_option-2.ensures.local four c.text_option-2.ensures.rule in
+    let six = with_arg _ c.in_ok-arg-6.field-0 _ _ _ c.in_ok-arg-6.ensures c.number_option-3.ensures.local five (c.number_option-3.ensures.rule ∙ ap (number_option (codes "first")) first) in
+    let seven = with_arg _ c.in_ok-arg-7.field-0 _ _ _ c.in_ok-arg-7.ensures c.flag-2.ensures.local six c.flag-2.ensures.rule in
+    IfOk-weaker c.arg-8.result _ _ (λ whole added. with_arg _ whole _ _ _ added c.operand.ensures.local seven c.operand.ensures.rule) c.arg-8.ensures

@@ -1,3 +1,4 @@
+-- This file answers what is left to prove of `parse`.
 use Rattle.std.proofs.Common.{◌≡◌, ◌∙◌, ap, refl, true, List, map}
 use Rattle.std.proofs.lemmas.Result.{IfOk-weaker}
 use Rattle.clap.specs.Words.{App, HasMatchesOf, Text, is_simple, matches_of}

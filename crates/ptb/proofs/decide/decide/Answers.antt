@@ -1,3 +1,4 @@
+-- This file answers what is left to prove of `decide`.
 use Rattle.std.proofs.Common.{◌≡◌, sym, Bool, true, false, Option, Some, None}
 use Rattle.std.specs.Prelude.{if◌then◌else◌}
 use Rattle.ptb.specs.Options.{Options, Refuses, clash}

@@ -1,3 +1,4 @@
+-- This file answers what is left to prove of `is_given`.
 use Rattle.std.proofs.Common.{◌∙◌, ap, sym, arith, Some}
 use Rattle.ptb.specs.Options.{is_command_line}
 use Rattle.ptb.proofs.OptionReads.{is_given-value_source}

@@ -1,3 +1,4 @@
+-- This file answers what is left to prove of `run_plain`.
 use Rattle.std.proofs.Common.{◌≡◌, IfSome, refl, sym, ap, ◌∙◌}
 use Rattle.ptb_text.specs.Lines.{input_lines}
 use Rattle.ptb.proofs.Playing.{IsRunBetween, plain_run, run_between, state_of, shows_known, takes_known}
@@ -6,14 +7,14 @@ use Rattle.ptb.proofs.plain.run_plain.Goals.{After-drop-lines}
 
 -- what is said of the run
 ran : (g : _) (c : After-drop-lines g)
-    → IsRunBetween g.W.Write.contents g.W.Write.failures c.args.p.now c.args.limit c.in-Ok.lines.items c.args.answers.now c.args.out.now c.out-1.given.0 c.run.result
+    → IsRunBetween g.W.Write.contents g.W.Write.failures c.args.program.now c.args.limit c.in-Ok.lines.items c.args.answers.now c.args.out.now c.out-1.given.0 c.run.result
 ran g c =
     let contents = g.W.Write.contents in
     let failures = g.W.Write.failures in
-    run_between contents failures _ _ _ _ c.new-screen.result.writer c.run.new.s.writer _ _ c.run.result
+    run_between contents failures _ _ _ _ c.new-screen.result.writer c.run.new.screen.writer _ _ c.run.result
     c.new-screen.ensures.writer (λ e. c.out-1.given.1 (sym c.new-screen.ensures.same_borrow ∙ e))
-    (plain_run c.args.p.now c.args.limit c.in-Ok.lines.items c.args.answers.now c.new-chooser.result c.run.new.c c.new-source.result c.run.new.i
-    (state_of contents failures c.new-screen.result.writer) (state_of contents failures c.run.new.s.writer) c.run.result
+    (plain_run c.args.program.now c.args.limit c.in-Ok.lines.items c.args.answers.now c.new-chooser.result c.run.new.chooser c.new-source.result c.run.new.source
+    (state_of contents failures c.new-screen.result.writer) (state_of contents failures c.run.new.screen.writer) c.run.result
     c.new-chooser.ensures (c.new-source.ensures ∙ ap (λ l. record { lines = l; taken = 0 }) c.deref.ensures.value) refl c.run.ensures.runs)
 
 -- the lines are those of the input, where it is known

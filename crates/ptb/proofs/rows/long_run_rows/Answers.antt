@@ -1,3 +1,4 @@
+-- This file answers what is left to prove of `long_run_rows`.
 use Rattle.ptb.proofs.Worked.{long_run_rows}
 use Rattle.ptb.proofs.rows.long_run_rows.Goals as goal
 

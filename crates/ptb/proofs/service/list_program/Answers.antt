@@ -1,3 +1,4 @@
+-- This file answers what is left to prove of `list_program`.
 use Rattle.std.proofs.Common.{Ok, Err, refl}
 use Rattle.std.proofs.lemmas.Result.{err_from_is_err_and}
 use Rattle.ptb.specs.declared.note.Note.TheVariants.{Unwritten}

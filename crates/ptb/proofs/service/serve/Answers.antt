@@ -1,6 +1,6 @@
-use Rattle.std.proofs.Common.{refl}
+-- This file answers what is left to prove of `serve`.
 use Rattle.ptb.specs.declared.note.Note.TheVariants as notes
-use Rattle.ptb.proofs.Served.{consumes_nothing, outcome_of-none, outcome_of-note, outcome_of-other, outcome_of-success, outcome_of-unread, when_refused}
+use Rattle.ptb.proofs.Served.{outcome_of-none, outcome_of-note, outcome_of-other, outcome_of-success, outcome_of-unread}
 use Rattle.ptb.proofs.service.serve.Goals as goal
 
 pub returns-in-Plain-clause-served : goal.returns-in-Plain-clause-served

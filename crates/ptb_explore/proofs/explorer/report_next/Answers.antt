@@ -37,6 +37,6 @@ returns-in_ok-report_plan-in-Some-clause-next c =
     let plans : PlansNext c.args.standing report.answers.items report.bounds.items plan (Some c.in-Some.field-0) = rw (← c.deref.ensures.value, ← c.deref-2.ensures.value, ← c.in-Some.is) c.in_ok-plan_next.ensures.plan in
     let next = next_plan (play p input limit) (most_answers p input limit) (c.run_laws.ensures.reads p input limit) c.args.standing report.answers.items plan report.bounds.items c.in-Some.field-0 c.requires plans in
     let run = c.in_ok-report_plan-in-Some.ensures.ends in (
-      record { played = run.played; bounded = run.bounds_are },
+      record { outcome = run.outcome; bounds_are = run.bounds_are },
       plan_ends (play p input limit) (most_answers p input limit) (c.run_laws.ensures.reads p input limit) (front_of c.args.standing report.answers.items) plan _ _ _ next run,
     )

@@ -20,51 +20,51 @@ of_first first e f old new r same h = subst (λ (x : Exploration). NextWrites (p
 
 pub returns-in-Ok-false-clause-writes : goal.returns-in-Ok-false-clause-writes
 returns-in-Ok-false-clause-writes g c =
-    let first = c.args.e.now in
+    let first = c.args.explorer.now in
     let play = play_of first in
     let reads = c.run_laws.ensures.reads first.program first.input first.limit in
     let l = c.loop-remaining in
     let new = c.write_next.new in
-    let said : NextWrites (play_of l.e) (report (play_of l.e)) l.e.front new.e.front (g.W.Write.contents l.w) (g.W.Write.contents new.w) (Ok false) = rw c.in-Ok-false.field-0-test at c.in-Ok-false.ensures.writes in
-    let last = of_first first l.e new.e.front (g.W.Write.contents l.w) (g.W.Write.contents new.w) (Ok false) l.invariant.same said in
+    let said : NextWrites (play_of l.explorer) (report (play_of l.explorer)) l.explorer.front new.explorer.front (g.W.Write.contents l.writer) (g.W.Write.contents new.writer) (Ok false) = rw c.in-Ok-false.field-0-test at c.in-Ok-false.ensures.writes in
+    let last = of_first first l.explorer new.explorer.front (g.W.Write.contents l.writer) (g.W.Write.contents new.writer) (Ok false) l.invariant.same said in
     rw (last.1, last.2)
-    (progress_last play (most_of first) reads (report play) (runs_left play (most_of first) first.front c.args.first) first.front (g.W.Write.contents c.args.w.now) l.e.front l.remaining (g.W.Write.contents l.w) l.written l.invariant.progress last.0)
+    (progress_last play (most_of first) reads (report play) (runs_left play (most_of first) first.front c.args.first) first.front (g.W.Write.contents c.args.writer.now) l.explorer.front l.remaining (g.W.Write.contents l.writer) l.written l.invariant.progress last.0)
 
 pub returns-in-Err-Write-clause-writes : goal.returns-in-Err-Write-clause-writes
 returns-in-Err-Write-clause-writes g c =
-    let first = c.args.e.now in
+    let first = c.args.explorer.now in
     let play = play_of first in
     let reads = c.run_laws.ensures.reads first.program first.input first.limit in
     let l = c.loop-remaining in
     let new = c.write_next.new in
-    let said : NextWrites (play_of l.e) (report (play_of l.e)) l.e.front new.e.front (g.W.Write.contents l.w) (g.W.Write.contents new.w) (Err next.Write) = rw c.in-Err-Write.field-0-is at c.in-Err-Write.ensures.writes in
-    let part = of_first first l.e new.e.front (g.W.Write.contents l.w) (g.W.Write.contents new.w) (Err next.Write) l.invariant.same said in
+    let said : NextWrites (play_of l.explorer) (report (play_of l.explorer)) l.explorer.front new.explorer.front (g.W.Write.contents l.writer) (g.W.Write.contents new.writer) (Err next.Write) = rw c.in-Err-Write.field-0-is at c.in-Err-Write.ensures.writes in
+    let part = of_first first l.explorer new.explorer.front (g.W.Write.contents l.writer) (g.W.Write.contents new.writer) (Err next.Write) l.invariant.same said in
     rw part.2
-    (progress_into play (most_of first) reads (report play) (runs_left play (most_of first) first.front c.args.first) first.front (g.W.Write.contents c.args.w.now) l.e.front l.remaining (g.W.Write.contents l.w) (g.W.Write.contents new.w) l.written part.0 l.invariant.progress (goes_on l.remaining c.loop-remaining-test.ensures) part.1 part.3)
+    (progress_into play (most_of first) reads (report play) (runs_left play (most_of first) first.front c.args.first) first.front (g.W.Write.contents c.args.writer.now) l.explorer.front l.remaining (g.W.Write.contents l.writer) (g.W.Write.contents new.writer) l.written part.0 l.invariant.progress (goes_on l.remaining c.loop-remaining-test.ensures) part.1 part.3)
 
 pub loop-remaining-smaller : goal.loop-remaining-smaller
 loop-remaining-smaller g c =
-    let first = c.args.e.now in
+    let first = c.args.explorer.now in
     let play = play_of first in
     let reads = c.run_laws.ensures.reads first.program first.input first.limit in
     let l = c.loop-remaining in
     let new = c.write_next.new in
-    let said : NextWrites (play_of l.e) (report (play_of l.e)) l.e.front new.e.front (g.W.Write.contents l.w) (g.W.Write.contents new.w) (Ok true) = rw c.in-Ok-true.field-0-test at c.in-Ok-true.ensures.writes in
-    let one = of_first first l.e new.e.front (g.W.Write.contents l.w) (g.W.Write.contents new.w) (Ok true) l.invariant.same said in
-    rw one.2 (fewer_left play (most_of first) reads l.e.front one.0 one.1)
+    let said : NextWrites (play_of l.explorer) (report (play_of l.explorer)) l.explorer.front new.explorer.front (g.W.Write.contents l.writer) (g.W.Write.contents new.writer) (Ok true) = rw c.in-Ok-true.field-0-test at c.in-Ok-true.ensures.writes in
+    let one = of_first first l.explorer new.explorer.front (g.W.Write.contents l.writer) (g.W.Write.contents new.writer) (Ok true) l.invariant.same said in
+    rw one.2 (fewer_left play (most_of first) reads l.explorer.front one.0 one.1)
 
 pub loop-remaining-preserved : goal.loop-remaining-preserved
 loop-remaining-preserved g c =
-    let first = c.args.e.now in
+    let first = c.args.explorer.now in
     let play = play_of first in
     let reads = c.run_laws.ensures.reads first.program first.input first.limit in
     let l = c.loop-remaining in
     let new = c.write_next.new in
-    let said : NextWrites (play_of l.e) (report (play_of l.e)) l.e.front new.e.front (g.W.Write.contents l.w) (g.W.Write.contents new.w) (Ok true) = rw c.in-Ok-true.field-0-test at c.in-Ok-true.ensures.writes in
-    let one = of_first first l.e new.e.front (g.W.Write.contents l.w) (g.W.Write.contents new.w) (Ok true) l.invariant.same said in
-    let more = progress_more play (most_of first) reads (report play) (runs_left play (most_of first) first.front c.args.first) first.front (g.W.Write.contents c.args.w.now) l.e.front new.e.front l.remaining (g.W.Write.contents l.w) (g.W.Write.contents new.w) l.written c.saturating_add-written.result one.0 l.invariant.progress (goes_on l.remaining c.loop-remaining-test.ensures) one.1 one.2 one.3 c.saturating_add-written.ensures in
+    let said : NextWrites (play_of l.explorer) (report (play_of l.explorer)) l.explorer.front new.explorer.front (g.W.Write.contents l.writer) (g.W.Write.contents new.writer) (Ok true) = rw c.in-Ok-true.field-0-test at c.in-Ok-true.ensures.writes in
+    let one = of_first first l.explorer new.explorer.front (g.W.Write.contents l.writer) (g.W.Write.contents new.writer) (Ok true) l.invariant.same said in
+    let more = progress_more play (most_of first) reads (report play) (runs_left play (most_of first) first.front c.args.first) first.front (g.W.Write.contents c.args.writer.now) l.explorer.front new.explorer.front l.remaining (g.W.Write.contents l.writer) (g.W.Write.contents new.writer) l.written c.saturating_add-written.result one.0 l.invariant.progress (goes_on l.remaining c.loop-remaining-test.ensures) one.1 one.2 one.3 c.saturating_add-written.ensures in
     record {
-      same = c.in-Ok-true.ensures.same ∙ ap (λ (x : Exploration). record x { front = new.e.front }) l.invariant.same;
+      same = c.in-Ok-true.ensures.same ∙ ap (λ (x : Exploration). record x { front = new.explorer.front }) l.invariant.same;
       unfailed = c.in-Ok-true.ensures.unfailed (λ h. absurd cc) ∙ l.invariant.unfailed;
       progress = rw c.one_less-remaining.ensures more;
     }

@@ -8,13 +8,13 @@ use Rattle.ptb_explore.proofs.listing.write_all_runs.Given as goal
 
 abbrev pub invariant-loop-remaining : goal.invariant-loop-remaining
 invariant-loop-remaining g l =
-    let play = play_of l.fn.e in
+    let play = play_of l.fn.explorer in
     record {
-      same : l.e ≡ record l.fn.e { front = l.e.front };
-      unfailed : g.W.Write.failures l.w ≡ g.W.Write.failures l.fn.w;
-      progress : Progress play (most_of l.fn.e) (report play) (runs_left play (most_of l.fn.e) l.fn.e.front l.fn.first) l.fn.e.front l.e.front l.remaining (g.W.Write.contents l.fn.w) (g.W.Write.contents l.w) l.written;
+      same : l.explorer ≡ record l.fn.explorer { front = l.explorer.front };
+      unfailed : g.W.Write.failures l.writer ≡ g.W.Write.failures l.fn.writer;
+      progress : Progress play (most_of l.fn.explorer) (report play) (runs_left play (most_of l.fn.explorer) l.fn.explorer.front l.fn.first) l.fn.explorer.front l.explorer.front l.remaining (g.W.Write.contents l.fn.writer) (g.W.Write.contents l.writer) l.written;
     }
 
 -- fewer runs are left after each report
 abbrev pub decreases-loop-remaining : goal.decreases-loop-remaining
-decreases-loop-remaining g l = length (runs_after (play_of l.fn.e) (most_of l.fn.e) l.e.front)
+decreases-loop-remaining g l = length (runs_after (play_of l.fn.explorer) (most_of l.fn.explorer) l.explorer.front)

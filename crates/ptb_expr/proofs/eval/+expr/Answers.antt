@@ -5,10 +5,12 @@ use Rattle.std.proofs.lemmas.Result.{err_from_is_err_and}
 use mir.Syntax.{w16}
 use Rattle.ptb_text.specs.declared.word.Table.TheVariants.{Functions}
 use Rattle.ptb_text.specs.declared.word.Word.TheVariants.{RndKw, AbsKw, SizeKw}
-use Rattle.ptb_text.specs.Words.{token_at, word_at, number_at, letter_at}
+use Rattle.ptb_text.specs.Words.{token_at, word_at, number_at, is_number, letter_at}
+use Rattle.ptb_text.specs.Finding.{lone_letter_at}
 use Rattle.ptb_expr.specs.Operators.{product_operator, sum_operator, comparison}
 use Rattle.ptb_expr.proofs.Reaching.{reaches_same, runs_then}
-use Rattle.ptb_expr.proofs.Parts.{part_ok, part_err, operate_last, part_ends, part_is, more_ok, more_err, more_how, more_ends, at_text, product_is, sum_is, first_product_minus, first_product_plain, expr_is, compared_goes, compared_ends, at_spot, part_faults, within_runs, paren_opens, paren_missing, close_closes, close_missing, factor_rnd, factor_abs, factor_size, factor_plain, plain_letter, plain_element, plain_number, plain_too_big, plain_paren}
+use Rattle.ptb_expr.proofs.Parts.{part_ok, part_err, operate_last, part_ends, part_is, more_ok, more_err, more_how, more_ends, at_text, product_is, sum_is, first_product_minus, first_product_plain, expr_is, compared_goes, compared_ends, at_spot, part_faults, within_runs, paren_opens, paren_missing, close_closes, close_missing, factor_rnd, factor_abs, factor_size, factor_plain, factor_letter, factor_number, factor_too_big, plain_letter, plain_element, plain_paren}
+use Rattle.ptb_expr.proofs.Taking.{number_alone}
 use Rattle.ptb_expr.proofs.eval.+expr.Goals as goal
 
 pub expr-returns-in_err-x-clause-value : goal.expr-returns-in_err-x-clause-value
@@ -214,48 +216,77 @@ paren-returns-clause-value g m c = λ t n same enough.
     let shut : token_at 41 t c.expr.new.cursor.place ≡ Some c.token-2.new.self.place = at_text (λ u. token_at 41 u c.expr.new.cursor.place) (c.in_ok-x.ensures.text ∙ text') c.if-not-token-2.ensures.value in
     rw ex (part_ends _ _ _ _ _ _ _ _ (part_ok _ _ _ _ _ _ _ _ _ _ (reaches_same _ _) (paren_opens _ _ _ _ _ here) (within_runs _ t c.args.store.now n _ _ _ _ _ _ (omega arith) (λ k h. c.in_ok-x.ensures.value t k text' h))) (close_closes _ _ _ _ _ shut) refl)
 
-pub factor-returns-in_err-bound-in-Some-RndKw-clause-value : goal.factor-returns-in_err-bound-in-Some-RndKw-clause-value
-factor-returns-in_err-bound-in-Some-RndKw-clause-value g m c = λ t n same enough.
+pub factor-returns-in-Some-clause-value : goal.factor-returns-in-Some-clause-value
+factor-returns-in-Some-clause-value g m c = λ t n same enough.
+    let here = at_text (λ u. lone_letter_at u c.args.cursor.now.place) same c.in-Some.ensures.value in
+    let at = at_text (λ u. letter_at u c.args.cursor.now.place) same c.in-Some.ensures.letter in
+    let none = c.finding_laws.ensures.lone_letter Functions t _ _ _ here in
+    let ev = to_z-of_z w16 c.get.result (search rules) in
+    rw (ev, c.get.ensures) (part_ends _ _ _ _ _ _ _ _ (reaches_same _ _) (factor_letter _ _ _ _ _ _ none at) refl)
+
+pub factor-returns-in-Value-clause-value : goal.factor-returns-in-Value-clause-value
+factor-returns-in-Value-clause-value g m c = λ t n same enough.
+    let text1 = c.in_default.ensures.text ∙ same in
+    let place1 = c.in_default.ensures.absent refl in
+    let here = at_spot number_at text1 place1 c.in-Value.ensures.value in
+    let ev = to_z-of_z w16 c.in-Value.value (search rules) in
+    rw ev (part_ends _ _ _ _ _ _ _ _ (reaches_same _ _) (factor_number _ _ _ _ _ _ (number_alone c.finding_laws.ensures t _ (ap (λ r. is_number r.0) here)) here) refl)
+
+pub factor-returns-in-TooBig-clause-value : goal.factor-returns-in-TooBig-clause-value
+factor-returns-in-TooBig-clause-value g m c = λ t n same enough.
+    let text1 = c.in_default.ensures.text ∙ same in
+    let place1 = c.in_default.ensures.absent refl in
+    let here = at_spot number_at text1 place1 c.in-TooBig.ensures.value in
+    part_faults _ _ _ _ _ _ _ _ _ _ (reaches_same _ _) (factor_too_big _ _ _ _ _ (number_alone c.finding_laws.ensures t _ (ap (λ r. is_number r.0) here)) here) c.fault_at.ensures c.place.ensures
+
+pub factor-returns-in-Absent-clause-value : goal.factor-returns-in-Absent-clause-value
+factor-returns-in-Absent-clause-value g m c = λ t n same enough.
+    let text1 = c.in_default.ensures.text ∙ same in
+    let place = c.in-Absent.ensures.absent refl ∙ c.in_default.ensures.absent refl in
+    rw place at (c.other_factor.ensures.value t n (c.in-Absent.ensures.text ∙ text1) (omega (arith, c.in-Absent.ensures.left, c.in_default.ensures.left)))
+
+pub other_factor-returns-in_err-bound-in-Some-RndKw-clause-value : goal.other_factor-returns-in_err-bound-in-Some-RndKw-clause-value
+other_factor-returns-in_err-bound-in-Some-RndKw-clause-value g m c = λ t n same enough.
     let here : word_at Functions t c.args.cursor.now.place ≡ Some (RndKw, c.take_function.new.cursor.place) = at_text (λ u. word_at Functions u c.args.cursor.now.place) same (c.in-Some-RndKw.ensures.value ∙ ap (λ w. Some (w, c.take_function.new.cursor.place)) c.in-Some-RndKw.field-0-is) in
     let left' = c.in-Some-RndKw.ensures.left in
     let text' = c.in-Some-RndKw.ensures.text ∙ same in
     let p = err_from_is_err_and c.from_residual.result c.from_residual.ensures.1 in
     rw (p.1, p.2) (part_err _ _ _ _ _ _ _ _ _ _ _ (reaches_same _ _) (factor_rnd _ _ _ _ _ here) (c.in_err-bound-in-Some-RndKw.ensures.value t n text' (omega arith)))
 
-pub factor-returns-in_err-x-in-Some-AbsKw-clause-value : goal.factor-returns-in_err-x-in-Some-AbsKw-clause-value
-factor-returns-in_err-x-in-Some-AbsKw-clause-value g m c = λ t n same enough.
+pub other_factor-returns-in_err-x-in-Some-AbsKw-clause-value : goal.other_factor-returns-in_err-x-in-Some-AbsKw-clause-value
+other_factor-returns-in_err-x-in-Some-AbsKw-clause-value g m c = λ t n same enough.
     let here : word_at Functions t c.args.cursor.now.place ≡ Some (AbsKw, c.take_function.new.cursor.place) = at_text (λ u. word_at Functions u c.args.cursor.now.place) same (c.in-Some-AbsKw.ensures.value ∙ ap (λ w. Some (w, c.take_function.new.cursor.place)) c.in-Some-AbsKw.field-0-is) in
     let left' = c.in-Some-AbsKw.ensures.left in
     let text' = c.in-Some-AbsKw.ensures.text ∙ same in
     let p = err_from_is_err_and c.from_residual-in_err-x-in-Some-AbsKw.result c.from_residual-in_err-x-in-Some-AbsKw.ensures.1 in
     rw (p.1, p.2) (part_err _ _ _ _ _ _ _ _ _ _ _ (reaches_same _ _) (factor_abs _ _ _ _ _ here) (c.in_err-x-in-Some-AbsKw.ensures.value t n text' (omega arith)))
 
-pub factor-returns-in_ok-bound-in-Some-RndKw-clause-value : goal.factor-returns-in_ok-bound-in-Some-RndKw-clause-value
-factor-returns-in_ok-bound-in-Some-RndKw-clause-value g m c = λ t n same enough.
+pub other_factor-returns-in_ok-bound-in-Some-RndKw-clause-value : goal.other_factor-returns-in_ok-bound-in-Some-RndKw-clause-value
+other_factor-returns-in_ok-bound-in-Some-RndKw-clause-value g m c = λ t n same enough.
     let here : word_at Functions t c.args.cursor.now.place ≡ Some (RndKw, c.take_function.new.cursor.place) = at_text (λ u. word_at Functions u c.args.cursor.now.place) same (c.in-Some-RndKw.ensures.value ∙ ap (λ w. Some (w, c.take_function.new.cursor.place)) c.in-Some-RndKw.field-0-is) in
     let left' = c.in-Some-RndKw.ensures.left in
     let text' = c.in-Some-RndKw.ensures.text ∙ same in
     let eb = to_z-of_z w16 c.in_ok-bound-in-Some-RndKw.bound (search rules) in
     runs_then _ _ _ _ _ _ _ _ (part_ok _ _ _ _ _ _ _ _ _ _ (reaches_same _ _) (factor_rnd _ _ _ _ _ here) (c.in_ok-bound-in-Some-RndKw.ensures.value t n text' (omega arith))) (rw (eb, c.place.ensures) at c.ask.ensures)
 
-pub factor-returns-in_ok-x-in-Some-AbsKw-clause-value : goal.factor-returns-in_ok-x-in-Some-AbsKw-clause-value
-factor-returns-in_ok-x-in-Some-AbsKw-clause-value g m c = λ t n same enough.
+pub other_factor-returns-in_ok-x-in-Some-AbsKw-clause-value : goal.other_factor-returns-in_ok-x-in-Some-AbsKw-clause-value
+other_factor-returns-in_ok-x-in-Some-AbsKw-clause-value g m c = λ t n same enough.
     let here : word_at Functions t c.args.cursor.now.place ≡ Some (AbsKw, c.take_function.new.cursor.place) = at_text (λ u. word_at Functions u c.args.cursor.now.place) same (c.in-Some-AbsKw.ensures.value ∙ ap (λ w. Some (w, c.take_function.new.cursor.place)) c.in-Some-AbsKw.field-0-is) in
     let left' = c.in-Some-AbsKw.ensures.left in
     let text' = c.in-Some-AbsKw.ensures.text ∙ same in
     let ex = to_z-of_z w16 c.in_ok-x-in-Some-AbsKw.x (search rules) in
     rw (c.at_mark.ensures, c.absolute.ensures, c.place-in-Some-AbsKw.ensures, ex) (operate_last _ _ _ _ _ _ _ _ _ _ (reaches_same _ _) (factor_abs _ _ _ _ _ here) (c.in_ok-x-in-Some-AbsKw.ensures.value t n text' (omega arith)))
 
-pub factor-returns-in-Some-SizeKw-clause-value : goal.factor-returns-in-Some-SizeKw-clause-value
-factor-returns-in-Some-SizeKw-clause-value g m c = λ t n same enough.
+pub other_factor-returns-in-Some-SizeKw-clause-value : goal.other_factor-returns-in-Some-SizeKw-clause-value
+other_factor-returns-in-Some-SizeKw-clause-value g m c = λ t n same enough.
     let here : word_at Functions t c.args.cursor.now.place ≡ Some (SizeKw, c.take_function.new.cursor.place) = at_text (λ u. word_at Functions u c.args.cursor.now.place) same (c.in-Some-SizeKw.ensures.value ∙ ap (λ w. Some (w, c.take_function.new.cursor.place)) c.in-Some-SizeKw.field-0-is) in
     let left' = c.in-Some-SizeKw.ensures.left in
     let text' = c.in-Some-SizeKw.ensures.text ∙ same in
     let es = to_z-of_z w16 c.size.result (search rules) in
     rw (es, c.size.ensures) (part_ends _ _ _ _ _ _ _ _ (reaches_same _ _) (factor_size _ _ _ _ _ here) refl)
 
-pub factor-returns-in-None-clause-value : goal.factor-returns-in-None-clause-value
-factor-returns-in-None-clause-value g m c = λ t n same enough.
+pub other_factor-returns-in-None-clause-value : goal.other_factor-returns-in-None-clause-value
+other_factor-returns-in-None-clause-value g m c = λ t n same enough.
     let none : word_at Functions t c.args.cursor.now.place ≡ None = at_text (λ u. word_at Functions u c.args.cursor.now.place) same c.in-None.ensures.value in
     part_is _ _ _ _ _ _ _ (factor_plain _ _ _ _ none) (rw (c.in-None.ensures.absent refl) at (c.plain.ensures.value t n (c.in-None.ensures.text ∙ same) (omega (arith, c.in-None.ensures.left))))
 
@@ -289,8 +320,8 @@ plain-returns-then-token-clause-value g m c = λ t n same enough.
     let ei = to_z-of_z w16 c.in_ok-i.i (search rules) in
     rw (c.at_mark.ensures, c.element.ensures, c.place.ensures, ei) (operate_last _ _ _ _ _ _ _ _ _ _ (reaches_same _ _) (plain_element _ _ _ _ _ no here) (c.in_ok-i.ensures.value t n text2 (omega arith)))
 
-pub plain-returns-in-Value-clause-value : goal.plain-returns-in-Value-clause-value
-plain-returns-in-Value-clause-value g m c = λ t n same enough.
+pub plain-returns-clause-value : goal.plain-returns-clause-value
+plain-returns-clause-value g m c = λ t n same enough.
     let no = at_text (λ u. letter_at u c.args.cursor.now.place) same c.in_default.ensures.value in
     let left1 = c.in_default.ensures.left in
     let text1 = c.in_default.ensures.text ∙ same in
@@ -299,30 +330,5 @@ plain-returns-in-Value-clause-value g m c = λ t n same enough.
     let left2 = c.if-token.ensures.left in
     let text2 = c.if-token.ensures.text ∙ text1 in
     let place2 = c.if-token.ensures.absent refl ∙ place1 in
-    let ev = to_z-of_z w16 c.in-Value.value (search rules) in
-    rw ev (part_ends _ _ _ _ _ _ _ _ (reaches_same _ _) (plain_number _ _ _ _ _ _ no none (at_spot number_at text2 place2 c.in-Value.ensures.value)) refl)
-
-pub plain-returns-in-TooBig-clause-value : goal.plain-returns-in-TooBig-clause-value
-plain-returns-in-TooBig-clause-value g m c = λ t n same enough.
-    let no = at_text (λ u. letter_at u c.args.cursor.now.place) same c.in_default.ensures.value in
-    let left1 = c.in_default.ensures.left in
-    let text1 = c.in_default.ensures.text ∙ same in
-    let place1 = c.in_default.ensures.absent refl in
-    let none = at_spot (λ u i. token_at 64 u i) text1 place1 c.if-token.ensures.value in
-    let left2 = c.if-token.ensures.left in
-    let text2 = c.if-token.ensures.text ∙ text1 in
-    let place2 = c.if-token.ensures.absent refl ∙ place1 in
-    part_faults _ _ _ _ _ _ _ _ _ _ (reaches_same _ _) (plain_too_big _ _ _ _ _ no none (at_spot number_at text2 place2 c.in-TooBig.ensures.value)) c.fault_at.ensures c.place-in-TooBig.ensures
-
-pub plain-returns-in-Absent-clause-value : goal.plain-returns-in-Absent-clause-value
-plain-returns-in-Absent-clause-value g m c = λ t n same enough.
-    let no = at_text (λ u. letter_at u c.args.cursor.now.place) same c.in_default.ensures.value in
-    let left1 = c.in_default.ensures.left in
-    let text1 = c.in_default.ensures.text ∙ same in
-    let place1 = c.in_default.ensures.absent refl in
-    let none = at_spot (λ u i. token_at 64 u i) text1 place1 c.if-token.ensures.value in
-    let left2 = c.if-token.ensures.left in
-    let text2 = c.if-token.ensures.text ∙ text1 in
-    let place2 = c.if-token.ensures.absent refl ∙ place1 in
-    let place3 = c.in-Absent.ensures.absent refl ∙ place2 in
-    part_is _ _ _ _ _ _ _ (plain_paren _ _ _ _ _ no none (at_spot number_at text2 place2 c.in-Absent.ensures.value)) (rw place3 at (c.paren-in-Absent.ensures.value t n (c.in-Absent.ensures.text ∙ text2) (omega (arith, c.in-Absent.ensures.left))))
+    let absent = at_text (λ u. number_at u c.args.cursor.now.place) same c.requires in
+    part_is _ _ _ _ _ _ _ (plain_paren _ _ _ _ _ no none absent) (rw place2 at (c.paren-2.ensures.value t n text2 (omega arith)))

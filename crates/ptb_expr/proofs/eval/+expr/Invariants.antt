@@ -7,25 +7,28 @@ use Rattle.ptb_expr.specs.Working.{expr, more, factor, product, sum}
 use Rattle.ptb_expr.proofs.eval.+expr.Given as goal
 
 abbrev pub decreases-expr : goal.decreases-expr
-decreases-expr g l = 7 * bytes_left l.cursor.now + 6
+decreases-expr g l = 8 * bytes_left l.cursor.now + 7
 
 abbrev pub decreases-sum : goal.decreases-sum
-decreases-sum g l = 7 * bytes_left l.cursor.now + 5
+decreases-sum g l = 8 * bytes_left l.cursor.now + 6
 
 abbrev pub decreases-first_product : goal.decreases-first_product
-decreases-first_product g l = 7 * bytes_left l.cursor.now + 4
+decreases-first_product g l = 8 * bytes_left l.cursor.now + 5
 
 abbrev pub decreases-product : goal.decreases-product
-decreases-product g l = 7 * bytes_left l.cursor.now + 3
+decreases-product g l = 8 * bytes_left l.cursor.now + 4
 
 abbrev pub decreases-factor : goal.decreases-factor
-decreases-factor g l = 7 * bytes_left l.cursor.now + 2
+decreases-factor g l = 8 * bytes_left l.cursor.now + 3
+
+abbrev pub decreases-other_factor : goal.decreases-other_factor
+decreases-other_factor g l = 8 * bytes_left l.cursor.now + 2
 
 abbrev pub decreases-plain : goal.decreases-plain
-decreases-plain g l = 7 * bytes_left l.cursor.now + 1
+decreases-plain g l = 8 * bytes_left l.cursor.now + 1
 
 abbrev pub decreases-paren : goal.decreases-paren
-decreases-paren g l = 7 * bytes_left l.cursor.now
+decreases-paren g l = 8 * bytes_left l.cursor.now
 
 abbrev pub invariant-product-loop-op : goal.invariant-product-loop-op
 invariant-product-loop-op g l = record {

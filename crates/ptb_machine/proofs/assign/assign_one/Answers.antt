@@ -1,3 +1,4 @@
+-- This file answers what is left to prove of `assign_one`.
 use Rattle.std.proofs.Common.{◌≡◌, arith, rules, sym, to_z, of_z, w16}
 use Rattle.ptb_machine.proofs.Assigning.{assigns_something, assigns_nothing, assigns_value, assigns_whole, store_moves, assign_moves, assign_target_stops, assign_value_stops, assign_nothing}
 use Rattle.ptb_machine.proofs.Courses.{stops_fault}

@@ -1,3 +1,4 @@
+-- This file answers what is left to prove of `keep`.
 use Rattle.std.proofs.Common.{◌<◌, ◌≤◌, length, sym, ◌∙◌, rules}
 use Rattle.std.proofs.lemmas.Bool.{eqb-true}
 use Rattle.ptb_machine.proofs.Cutting.{with_byte-full, with_byte-kept, with_byte-dropped}

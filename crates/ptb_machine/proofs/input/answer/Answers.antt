@@ -1,3 +1,4 @@
+-- This file answers what is left to prove of `answer`.
 use Rattle.std.proofs.Common.{Ok, Err, rules, subst}
 use Rattle.ptb_text.specs.Spot.{Spot}
 use Rattle.ptb_expr.specs.Evaluate.{Gives, expression_value}

@@ -1,3 +1,4 @@
+-- This file says what the loops of `input` keep.
 use Rattle.std.proofs.Common.{◌-◌, List, ℕ, ◌++◌, length, []}
 use Rattle.ptb_text.specs.declared.word.Word.TheVariants.{InputKw}
 use Rattle.ptb_expr.specs.Reading.{item_of}

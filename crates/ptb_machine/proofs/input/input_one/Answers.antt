@@ -1,3 +1,4 @@
+-- This file answers what is left to prove of `input_one`.
 use Rattle.std.proofs.Common.{◌++◌, [], ap}
 use Rattle.ptb_expr.specs.Reading.{item_of}
 use Rattle.ptb_machine.specs.Devices.{devices, screen_state}

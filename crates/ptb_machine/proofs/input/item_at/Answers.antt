@@ -1,3 +1,4 @@
+-- This file answers what is left to prove of `item_at`.
 use Rattle.std.proofs.Common.{◌≡◌, ◌∙◌, true, arith, sym}
 use Rattle.ptb_machine.specs.Commands.{variable_begins}
 use Rattle.ptb_machine.proofs.Prompts.{item_says, item_unclosed, item_missing, item_said, item_whole_said, item_named, item_whole_named}

@@ -1,3 +1,4 @@
+-- This file answers what is left to prove of `name`.
 use Rattle.ptb_machine.proofs.Prompts.{prompt_named, prompt_alone}
 use Rattle.ptb_machine.proofs.input.name.Goals as goal
 

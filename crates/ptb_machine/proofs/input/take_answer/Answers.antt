@@ -1,3 +1,4 @@
+-- This file answers what is left to prove of `take_answer`.
 use Rattle.std.proofs.Common.{◌≡◌, ◌∙◌, ◌++◌, [], ◌∷◌, Ok, None, IfErr, IfOk, IfNone, ap, append_assoc, rules, subst, sym, to_z, of_z, w16}
 use Rattle.ptb_machine.specs.declared.stop.Stop.TheVariants as stops
 use Rattle.ptb_machine.specs.Devices.{devices, screen_state, refused_answers}

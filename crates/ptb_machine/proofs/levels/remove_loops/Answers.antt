@@ -5,8 +5,8 @@ use Rattle.std.proofs.lemmas.List.{take-append-drop, reverse-append}
 use Rattle.ptb_machine.specs.declared.open.Open.{Open}
 use Rattle.ptb_machine.proofs.levels.remove_loops.Goals as goal
 
-pub returns-in-Call : goal.returns-in-Call
-returns-in-Call c =
+pub returns-in_default : goal.returns-in_default
+returns-in_default c =
     let s = c.levels.opens.items in
     let k = c.levels.k in
     let whole = ap (λ (xs : List Open). reverse xs) (sym (take-append-drop k s)) ∙ reverse-append (take k s) (drop k s) in

@@ -1,3 +1,4 @@
+-- This file answers what is left to prove of `print`.
 use Rattle.std.proofs.Common.{◌≡◌, ◌∙◌, [], ◌∷◌, true, ap, arith, sym}
 use Rattle.ptb_expr.specs.Reading.{item_of}
 use Rattle.ptb_machine.specs.Act.{first_width}

@@ -1,3 +1,4 @@
+-- This file says what the loops of `print` keep.
 use Rattle.std.proofs.Common.{◌-◌, List, ℕ, length, []}
 use Rattle.ptb_expr.specs.Reading.{item_of}
 use Rattle.ptb_machine.specs.Act.{parts_course, first_width}

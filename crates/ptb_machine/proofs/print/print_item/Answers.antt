@@ -1,3 +1,4 @@
+-- This file answers what is left to prove of `print_item`.
 use Rattle.std.proofs.Common.{◌≡◌, ap, arith, rules, sym, to_z, of_z, w16}
 use Rattle.ptb_expr.specs.Reading.{item_of}
 use Rattle.ptb_machine.specs.Devices.{devices, screen_state}

@@ -1,3 +1,4 @@
+-- This file answers what is left to prove of `show_value`.
 use Rattle.std.proofs.Common.{◌≡◌, ◌∙◌, ap, rules, to_z, of_z, w16, arith, ◌≤◌}
 use Rattle.std.specs.Fmt.{signed_decimal}
 use Rattle.std.specs.Prelude.{length, ◌-◌}

@@ -1,3 +1,4 @@
+-- This file answers what is left to prove of `width_of`.
 use Rattle.std.proofs.Common.{◌≡◌, ◌∙◌, ap, rules, sym, to_z, of_z, w16}
 use Rattle.ptb_machine.specs.Act.{width_of}
 use Rattle.ptb_machine.proofs.Courses.{known_value, known_fault, stops_fault}

@@ -1,3 +1,4 @@
+-- This file answers what is left to prove of `report`.
 use Rattle.std.proofs.Common.{◌≡◌, ◌∙◌, ap, refl, rules, to_z, of_z, w16}
 use Rattle.std.specs.Fmt.{signed_decimal}
 use Rattle.ptb_machine.specs.Act.{newline}

@@ -1,3 +1,4 @@
+-- This file answers what is left to prove of `run`.
 use Rattle.std.proofs.Common.{[], ◌++◌, refl, ap, Ok, Err}
 use Rattle.ptb_machine.specs.Devices.{devices, screen_state, nothing_refused}
 use Rattle.ptb_machine.proofs.Runs.{run_begins, run_on, run_falls, run_over, run_breaks, runs_nothing, runs_err, steps_at, not_spent}
@@ -5,14 +6,14 @@ use Rattle.ptb_machine.proofs.running.run.Goals as goal
 
 pub returns-in_err-machine : goal.returns-in_err-machine
 returns-in_err-machine g c = record {
-  runs = ([], (g.met.L.LineSource.gives_none c.args.i.now, runs_nothing _ _ _ (devices (g.C.Chooser.choices c.args.c.now) (screen_state g.S.Screen c.args.s.now) []) _ c.from_residual.ensures.1));
+  runs = ([], (g.met.L.LineSource.gives_none c.args.source.now, runs_nothing _ _ _ (devices (g.C.Chooser.choices c.args.chooser.now) (screen_state g.S.Screen c.args.screen.now) []) _ c.from_residual.ensures.1));
 }
 
 pub steps-init : goal.steps-init
 steps-init g c = (
   c.in_ok-machine.ensures.fits,
   c.in_ok-machine.ensures.unspent,
-  ([], (g.met.L.LineSource.gives_none c.args.i.now, run_begins c.args.p.now c.args.limit c.in_ok-machine.machine _ refl c.in_ok-machine.ensures.first)),
+  ([], (g.met.L.LineSource.gives_none c.args.source.now, run_begins c.args.program.now c.args.limit c.in_ok-machine.machine _ refl c.in_ok-machine.ensures.first)),
 )
 
 pub step-requires : goal.step-requires
@@ -22,15 +23,15 @@ pub returns-in_err-ending : goal.returns-in_err-ending
 returns-in_err-ending g c =
     let run = c.steps.invariant.2 in
     let step = c.in_err-ending.ensures in
-    let d = devices (g.C.Chooser.choices c.steps.c) (screen_state g.S.Screen c.steps.s) run.0 in
-    let e = devices (g.C.Chooser.choices c.step.new.c) (screen_state g.S.Screen c.step.new.s) step.steps.0 in
+    let d = devices (g.C.Chooser.choices c.steps.chooser) (screen_state g.S.Screen c.steps.screen) run.0 in
+    let e = devices (g.C.Chooser.choices c.step.new.chooser) (screen_state g.S.Screen c.step.new.screen) step.steps.0 in
     record {
       runs = (
         run.0 ++ step.steps.0,
         (
           g.met.L.LineSource.gives_more _ _ _ _ _ run.1.0 step.steps.1.0,
           runs_err _ _ _ _ _ _ _ c.from_residual-in_err-ending.ensures.1
-              (run_breaks _ c.args.p.now c.args.limit _ _ _ d e run.1.1 _ (not_spent _ _ c.steps.invariant.1 (λ k. step.spent.0 (ap Err k))) step.steps.1.1),
+              (run_breaks _ c.args.program.now c.args.limit _ _ _ d e run.1.1 _ (not_spent _ _ c.steps.invariant.1 (λ k. step.spent.0 (ap Err k))) step.steps.1.1),
         ),
       );
     }
@@ -39,14 +40,14 @@ pub returns-in-Some : goal.returns-in-Some
 returns-in-Some g c =
     let run = c.steps.invariant.2 in
     let step = c.in_ok-ending.ensures in
-    let d = devices (g.C.Chooser.choices c.steps.c) (screen_state g.S.Screen c.steps.s) run.0 in
-    let e = devices (g.C.Chooser.choices c.step.new.c) (screen_state g.S.Screen c.step.new.s) step.steps.0 in
+    let d = devices (g.C.Chooser.choices c.steps.chooser) (screen_state g.S.Screen c.steps.screen) run.0 in
+    let e = devices (g.C.Chooser.choices c.step.new.chooser) (screen_state g.S.Screen c.step.new.screen) step.steps.0 in
     record {
       runs = (
         run.0 ++ step.steps.0,
         (
           g.met.L.LineSource.gives_more _ _ _ _ _ run.1.0 step.steps.1.0,
-          run_over _ c.args.p.now c.args.limit _ _ _ d e run.1.1 _ (steps_at _ _ _ _ _ _ _ _ _ c.in-Some.is step.steps.1.1),
+          run_over _ c.args.program.now c.args.limit _ _ _ d e run.1.1 _ (steps_at _ _ _ _ _ _ _ _ _ c.in-Some.is step.steps.1.1),
         ),
       );
     }
@@ -55,23 +56,23 @@ pub steps-smaller : goal.steps-smaller
 steps-smaller g c =
     let run = c.steps.invariant.2 in
     let step = c.in_ok-ending.ensures in
-    let d = devices (g.C.Chooser.choices c.steps.c) (screen_state g.S.Screen c.steps.s) run.0 in
-    let e = devices (g.C.Chooser.choices c.step.new.c) (screen_state g.S.Screen c.step.new.s) step.steps.0 in
-    run_falls nothing_refused c.args.p.now c.args.limit _ _ _ d e run.1.1 (steps_at _ _ _ _ _ _ _ _ _ c.in_default.is step.steps.1.1)
+    let d = devices (g.C.Chooser.choices c.steps.chooser) (screen_state g.S.Screen c.steps.screen) run.0 in
+    let e = devices (g.C.Chooser.choices c.step.new.chooser) (screen_state g.S.Screen c.step.new.screen) step.steps.0 in
+    run_falls nothing_refused c.args.program.now c.args.limit _ _ _ d e run.1.1 (steps_at _ _ _ _ _ _ _ _ _ c.in_default.is step.steps.1.1)
 
 pub steps-preserved : goal.steps-preserved
 steps-preserved g c =
     let run = c.steps.invariant.2 in
     let step = c.in_ok-ending.ensures in
-    let d = devices (g.C.Chooser.choices c.steps.c) (screen_state g.S.Screen c.steps.s) run.0 in
-    let e = devices (g.C.Chooser.choices c.step.new.c) (screen_state g.S.Screen c.step.new.s) step.steps.0 in (
+    let d = devices (g.C.Chooser.choices c.steps.chooser) (screen_state g.S.Screen c.steps.screen) run.0 in
+    let e = devices (g.C.Chooser.choices c.step.new.chooser) (screen_state g.S.Screen c.step.new.screen) step.steps.0 in (
       step.fits,
       step.spends.0 (ap Ok c.in_default.is),
       (
         run.0 ++ step.steps.0,
         (
           g.met.L.LineSource.gives_more _ _ _ _ _ run.1.0 step.steps.1.0,
-          run_on nothing_refused c.args.p.now c.args.limit _ _ _ d e run.1.1 (steps_at _ _ _ _ _ _ _ _ _ c.in_default.is step.steps.1.1),
+          run_on nothing_refused c.args.program.now c.args.limit _ _ _ d e run.1.1 (steps_at _ _ _ _ _ _ _ _ _ c.in_default.is step.steps.1.1),
         ),
       ),
     )

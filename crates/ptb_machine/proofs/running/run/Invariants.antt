@@ -7,11 +7,11 @@ use Rattle.ptb_machine.proofs.running.run.Given as goal
 
 abbrev pub invariant-steps : goal.invariant-steps
 invariant-steps g l =
-    FitsProgram l.p l.machine × (l.machine.spent ≡ false)
-    × ((given : List (List ℕ)) × (g.L.LineSource.gives l.fn.i given l.i
-    × HasRun l.p l.limit l.machine
-    (devices (g.C.Chooser.choices l.fn.c) (screen_state g.S.Screen l.fn.s) [])
-    (devices (g.C.Chooser.choices l.c) (screen_state g.S.Screen l.s) given)))
+    FitsProgram l.program l.machine × (l.machine.spent ≡ false)
+    × ((given : List (List ℕ)) × (g.L.LineSource.gives l.fn.source given l.source
+    × HasRun l.program l.limit l.machine
+    (devices (g.C.Chooser.choices l.fn.chooser) (screen_state g.S.Screen l.fn.screen) [])
+    (devices (g.C.Chooser.choices l.chooser) (screen_state g.S.Screen l.screen) given)))
 
 abbrev pub decreases-steps : goal.decreases-steps
 decreases-steps g l = l.limit - l.machine.steps

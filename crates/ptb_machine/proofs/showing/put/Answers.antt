@@ -1,3 +1,4 @@
+-- This file answers what is left to prove of `put`.
 use Rattle.std.proofs.Common.{refl}
 use Rattle.ptb_machine.proofs.Shown.{shown, not_shown}
 use Rattle.ptb_machine.proofs.Reporting.{shown_err}

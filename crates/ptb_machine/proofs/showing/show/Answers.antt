@@ -1,3 +1,4 @@
+-- This file answers what is left to prove of `show`.
 use Rattle.ptb_machine.proofs.Stops.{comes_err}
 use Rattle.ptb_machine.proofs.showing.show.Goals as goal
 

@@ -1,3 +1,4 @@
+-- This file answers what is left to prove of `check_end`.
 use Rattle.std.proofs.Common.{◌∙◌, sym}
 use Rattle.ptb_machine.proofs.Courses.{stops_fault}
 use Rattle.ptb_machine.proofs.Parts.{end_moves, end_stops}

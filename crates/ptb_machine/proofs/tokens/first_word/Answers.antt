@@ -1,3 +1,4 @@
+-- This file answers what is left to prove of `first_word`.
 use Rattle.std.proofs.Common.{◌∙◌, ap, sym}
 use Rattle.ptb_text.specs.declared.word.Table.TheVariants.{Commands}
 use Rattle.ptb_text.specs.Spot.{Spot}

@@ -1,3 +1,4 @@
+-- This file answers what is left to prove of `literal_at`.
 use Rattle.std.proofs.Common.{◌∙◌, ap, sym}
 use Rattle.ptb_text.specs.Spot.{Spot}
 use Rattle.ptb_text.specs.Words.{quotation_at}

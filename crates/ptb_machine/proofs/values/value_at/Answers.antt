@@ -1,3 +1,4 @@
+-- This file answers what is left to prove of `value_at`.
 use Rattle.std.proofs.Common.{Err, rules, subst}
 use Rattle.ptb_text.specs.Spot.{Spot}
 use Rattle.ptb_expr.specs.Choices.{Reaches}

@@ -1,3 +1,4 @@
+-- This file answers what is left to prove of `push_whole`.
 use Rattle.std.proofs.Common.{◌≡◌, List, ℕ, [], ◌∷◌, ◌++◌, refl, ap, ◌∙◌}
 use Rattle.ptb_machine.specs.Cutting.{kept_bytes}
 use Rattle.ptb_machine.proofs.Cutting.{AddsUpTo_more, AddsUpTo_all}

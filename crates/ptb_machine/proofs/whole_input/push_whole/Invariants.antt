@@ -1,3 +1,4 @@
+-- This file says what the loops of `push_whole` keep.
 use Rattle.std.proofs.Common.{length}
 use Rattle.ptb_machine.proofs.Cutting.{AddsUpTo}
 use Rattle.ptb_machine.proofs.whole_input.push_whole.Given as goal

@@ -1,3 +1,4 @@
+-- This file answers what is left to prove of `read_lines`.
 use Rattle.std.proofs.Common.{◌≡◌, List, ℕ, subst, arith, rules, length, take, ◌≤◌, drop}
 use Rattle.std.proofs.lemmas.List.{take-append-le, length-take-le}
 use Rattle.std.specs.Io.KnownBytes.{IsAtEnd}

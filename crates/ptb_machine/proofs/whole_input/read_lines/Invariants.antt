@@ -1,3 +1,4 @@
+-- This file says what the loops of `read_lines` keep.
 use Rattle.std.proofs.Common.{◌≡◌}
 use Rattle.ptb_machine.proofs.Reading.{IsReadUpTo}
 use Rattle.ptb_machine.proofs.whole_input.read_lines.Given as goal
@@ -5,8 +6,8 @@ use Rattle.ptb_machine.proofs.whole_input.read_lines.Given as goal
 -- no read failed, and the lines are those of the bytes that were taken
 abbrev pub invariant-loop-left : goal.invariant-loop-left
 invariant-loop-left g l = record {
-  unfailed : g.R.Read.failures l.r ≡ g.R.Read.failures l.initial.r;
-  read : IsReadUpTo (g.R.Read.remaining l.initial.r) (g.R.Read.remaining l.r) l.lines.items l.cutter 16777217 l.left;
+  unfailed : g.R.Read.failures l.reader ≡ g.R.Read.failures l.initial.reader;
+  read : IsReadUpTo (g.R.Read.remaining l.initial.reader) (g.R.Read.remaining l.reader) l.lines.items l.cutter 16777217 l.left;
 }
 
 abbrev pub decreases-loop-left : goal.decreases-loop-left

@@ -1,3 +1,4 @@
+-- This file says what the loops of `capped_value` keep.
 use Rattle.std.proofs.Common.{◌≡◌, min, take}
 use Rattle.ptb_text.specs.Statements.{digits_value}
 use Rattle.ptb_text.proofs.line.capped_value.Given as goal

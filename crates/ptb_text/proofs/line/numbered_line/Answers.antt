@@ -1,3 +1,4 @@
+-- This file answers what is left to prove of `numbered_line`.
 use Rattle.std.proofs.Common.{◌≡◌, ◌<◌, length, drop, min, sym, ap, ◌∙◌, arith}
 use Rattle.ptb_text.specs.Statements.{digits_value, is_digit, trim_start}
 use Rattle.ptb_text.proofs.ByteTests.{list_all-prefix}

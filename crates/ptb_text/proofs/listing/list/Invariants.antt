@@ -1,3 +1,4 @@
+-- This file says what the loops of `list` keep.
 use Rattle.std.proofs.Common.{◌≡◌, drop, length}
 use Rattle.ptb_text.specs.Statements.{listing}
 use Rattle.ptb_text.proofs.Taking.{IsTakenUpTo}

@@ -1,3 +1,4 @@
+-- This file answers what is left to prove of `enter_lines`.
 use Rattle.std.proofs.Common.{◌≡◌, ◌∷◌, drop, refl, sym, ap, ◌∙◌, arith}
 use Rattle.ptb_text.specs.Lines.{lines}
 use Rattle.ptb_text.proofs.LineParts.{no_bytes}

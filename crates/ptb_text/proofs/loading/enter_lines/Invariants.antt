@@ -1,3 +1,4 @@
+-- This file says what the loops of `enter_lines` keep.
 use Rattle.std.proofs.Common.{◌≡◌, ◌+◌, ◌≤◌, [], length, take, drop, Ok}
 use Rattle.ptb_text.specs.Lines.{lines}
 use Rattle.ptb_text.specs.Statements.{after_lines}

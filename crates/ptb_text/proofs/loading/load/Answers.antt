@@ -1,3 +1,4 @@
+-- This file answers what is left to prove of `load`.
 use Rattle.std.proofs.Common.{◌≡◌, map, ap, ◌∙◌, arith}
 use Rattle.std.proofs.lemmas.List.{take_at}
 use Rattle.ptb_text.specs.Lines.{tab_as_space}

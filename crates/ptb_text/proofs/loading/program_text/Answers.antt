@@ -1,3 +1,4 @@
+-- This file answers what is left to prove of `program_text`.
 use Rattle.std.proofs.Common.{◌≤◌, ◌+◌, ◌++◌, length, take, arith, length-append, length-take}
 use Rattle.std.proofs.KnownBytes.{Consumes-trans}
 use Rattle.ptb_text.specs.Statements.{program_limit}

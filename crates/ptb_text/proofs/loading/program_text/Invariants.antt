@@ -1,3 +1,4 @@
+-- This file says what the loops of `program_text` keep.
 use Rattle.std.proofs.Common.{◌≡◌, ◌≤◌, ◌-◌, vec_len}
 use Rattle.std.specs.Io.KnownBytes.{Consumes}
 use Rattle.ptb_text.proofs.loading.program_text.Given as goal

@@ -1,3 +1,4 @@
+-- This file answers what is left to prove of `split_line`.
 use Rattle.std.proofs.Common.{◌≡◌, ◌+◌, ◌-◌, [], ◌∷◌, length, take, drop, sym, ap, ◌∙◌, arith}
 use Rattle.std.proofs.lemmas.Slice.{between_to_end}
 use Rattle.ptb_text.specs.Lines.{lines}

@@ -1,3 +1,4 @@
+-- This file answers what is left to prove of `tabs_to_spaces`.
 use Rattle.std.proofs.Common.{◌∙◌}
 use Rattle.ptb_text.proofs.Pieces.{spaces_more, spaces_same}
 use Rattle.ptb_text.proofs.loading.tabs_to_spaces.Goals as goal

@@ -7,13 +7,13 @@ use Rattle.ptb_text.proofs.Words.{finds_begins, finds_none}
 use Rattle.ptb_text.proofs.spelling.function_at.Goals as goal
 
 pub returns-in-82-clause-value : goal.returns-in-82-clause-value
-returns-in-82-clause-value c = finds_begins Functions 82 _ _ _ c.requires c.in-82.is c.spelled.ensures.value
+returns-in-82-clause-value c = finds_begins Functions 82 _ _ _ c.requires c.in-82.is c.spelled_word.ensures.value
 
 pub returns-in-65-clause-value : goal.returns-in-65-clause-value
-returns-in-65-clause-value c = finds_begins Functions 65 _ _ _ c.requires c.in-65.is c.spelled-in-65.ensures.value
+returns-in-65-clause-value c = finds_begins Functions 65 _ _ _ c.requires c.in-65.is c.spelled_word-in-65.ensures.value
 
 pub returns-in-83-clause-value : goal.returns-in-83-clause-value
-returns-in-83-clause-value c = finds_begins Functions 83 _ _ _ c.requires c.in-83.is c.spelled-in-83.ensures.value
+returns-in-83-clause-value c = finds_begins Functions 83 _ _ _ c.requires c.in-83.is c.spelled_word-in-83.ensures.value
 
 pub returns-in_default-clause-value : goal.returns-in_default-clause-value
 returns-in_default-clause-value c =

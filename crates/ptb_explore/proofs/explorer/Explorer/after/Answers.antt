@@ -3,10 +3,10 @@ use Rattle.ptb_explore.proofs.Underway.{program_laws}
 use Rattle.ptb_explore.proofs.explorer.Explorer.after.Goals as goal
 
 pub returns-in_err-replay-clause-laws : goal.returns-in_err-replay-clause-laws
-returns-in_err-replay-clause-laws c = program_laws c.run_laws.ensures c.args.p.now c.args.lines.now c.args.limit
+returns-in_err-replay-clause-laws c = program_laws c.run_laws.ensures c.args.program.now c.args.lines.now c.args.limit
 
 pub returns-in_err-check_run-clause-laws : goal.returns-in_err-check_run-clause-laws
-returns-in_err-check_run-clause-laws c = program_laws c.run_laws.ensures c.args.p.now c.args.lines.now c.args.limit
+returns-in_err-check_run-clause-laws c = program_laws c.run_laws.ensures c.args.program.now c.args.lines.now c.args.limit
 
 pub returns-clause-laws : goal.returns-clause-laws
-returns-clause-laws c = program_laws c.run_laws.ensures c.args.p.now c.args.lines.now c.args.limit
+returns-clause-laws c = program_laws c.run_laws.ensures c.args.program.now c.args.lines.now c.args.limit

@@ -3,4 +3,4 @@ use Rattle.ptb_explore.proofs.Underway.{program_laws}
 use Rattle.ptb_explore.proofs.explorer.Explorer.start.Goals as goal
 
 pub returns-clause-laws : goal.returns-clause-laws
-returns-clause-laws c = program_laws c.run_laws.ensures c.args.p.now c.args.lines.now c.args.limit
+returns-clause-laws c = program_laws c.run_laws.ensures c.args.program.now c.args.lines.now c.args.limit

@@ -1,3 +1,4 @@
+-- This file answers what is left to prove of `LineCutter::take_line`.
 use Rattle.std.proofs.Common.{arith}
 use Rattle.ptb_machine.proofs.Cutting.{CutsUpTo_none, CutsUpTo_more, CutsUpTo_all, CutsUpTo_end}
 use Rattle.ptb_machine.proofs.cutter.LineCutter.take_line.Goals as goal

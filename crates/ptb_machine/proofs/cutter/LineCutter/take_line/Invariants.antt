@@ -1,3 +1,4 @@
+-- This file says what the loops of `LineCutter::take_line` keep.
 use Rattle.ptb_machine.proofs.Cutting.{CutsUpTo}
 use Rattle.ptb_machine.proofs.cutter.LineCutter.take_line.Given as goal
 

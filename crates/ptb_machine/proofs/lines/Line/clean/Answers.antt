@@ -1,3 +1,4 @@
+-- This file answers what is left to prove of `Line::clean`.
 use Rattle.std.proofs.Common.{sym, ap, ◌∙◌, get_or}
 use Rattle.ptb_machine.specs.Cutting.{kept_bytes, with_byte}
 use Rattle.ptb_machine.proofs.Cutting.{clean_line-take}

@@ -1,3 +1,4 @@
+-- This file says what the loops of `Line::clean` keep.
 use Rattle.std.proofs.Common.{◌≡◌, take}
 use Rattle.ptb_text.specs.Lines.{clean_line}
 use Rattle.ptb_machine.specs.Cutting.{kept_bytes}

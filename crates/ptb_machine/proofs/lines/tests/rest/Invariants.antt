@@ -1,3 +1,4 @@
+-- This file says why `rest` ends.
 use Rattle.ptb_machine.proofs.lines.tests.rest.Given as goal
 
 abbrev pub decreases-loop-lines : goal.decreases-loop-lines

@@ -1,20 +1,20 @@
-use Rattle.std.proofs.Common.{◌≡◌, ◌∙◌, [], Ok, Err, rules, to_z, of_z, w16}
+-- This file answers what is left to prove of `Registers::act`.
+use Rattle.std.proofs.Common.{[], Ok, Err}
 use Rattle.ptb_text.specs.declared.word.Word.TheVariants.{NextKw, LetKw, IfKw, GotoKw, GosubKw, ReturnKw, RemKw, ForKw, InputKw, PrintKw, StopKw}
 use Rattle.ptb_machine.specs.Devices.{devices, screen_state, nothing_refused}
 use Rattle.ptb_machine.proofs.Dispatch.{let_word, begun_with, none_refused, answers_refused, acts_word, acts_alone}
 use Rattle.ptb_machine.proofs.registers.Registers.act.Goals as goal
 
 pub returns-in-RemKw : goal.returns-in-RemKw
-returns-in-RemKw g c =
-    let number : to_z w16 (of_z w16 c.args.number) ≡ c.args.number = search rules in (
-      [],
-      (
-        g.met.L.LineSource.gives_none c.args.source.now,
-        λ q before begun.
-            acts_alone {X = Unit {0}} nothing_refused nothing_refused (λ r x. x) _ _ _ _ _ _ before q _ _ _ RemKw (Ok tt) c.in-RemKw.is
-            (c.do_rem.ensures q c.args.text.now c.args.from (devices (g.C.Chooser.choices c.args.chooser.now) (screen_state g.S.Screen c.args.screen.now) before) (number ∙ begun.number)),
-      ),
-    )
+returns-in-RemKw g c = (
+  [],
+  (
+    g.met.L.LineSource.gives_none c.args.source.now,
+    λ q before begun.
+        acts_alone {X = Unit {0}} nothing_refused nothing_refused (λ r x. x) _ _ _ _ _ _ before q _ _ _ RemKw (Ok tt) c.in-RemKw.is
+        (c.do_rem.ensures q c.args.text.now c.args.from (devices (g.C.Chooser.choices c.args.chooser.now) (screen_state g.S.Screen c.args.screen.now) before) begun.statement),
+  ),
+)
 
 pub returns-in-StopKw : goal.returns-in-StopKw
 returns-in-StopKw g c = (
@@ -39,28 +39,26 @@ returns-in-GotoKw g c = (
 )
 
 pub returns-in-IfKw : goal.returns-in-IfKw
-returns-in-IfKw g c =
-    let number : to_z w16 (of_z w16 c.args.number) ≡ c.args.number = search rules in (
-      [],
-      (
-        g.met.L.LineSource.gives_none c.args.source.now,
-        λ q before begun.
-            acts_alone _ _ (answers_refused _ _ _) _ _ _ _ _ _ before q _ _ _ IfKw _ c.in-IfKw.is
-            (c.do_if.ensures q (devices (g.C.Chooser.choices c.args.chooser.now) (screen_state g.S.Screen c.args.screen.now) before) (begun_with _ q _ _ _ _ IfKw _ number c.in-IfKw.is begun)),
-      ),
-    )
+returns-in-IfKw g c = (
+  [],
+  (
+    g.met.L.LineSource.gives_none c.args.source.now,
+    λ q before begun.
+        acts_alone _ _ (answers_refused _ _ _) _ _ _ _ _ _ before q _ _ _ IfKw _ c.in-IfKw.is
+        (c.do_if.ensures q (devices (g.C.Chooser.choices c.args.chooser.now) (screen_state g.S.Screen c.args.screen.now) before) (begun_with _ q _ _ _ IfKw _ c.in-IfKw.is begun)),
+  ),
+)
 
 pub returns-in-GosubKw : goal.returns-in-GosubKw
-returns-in-GosubKw g c =
-    let number : to_z w16 (of_z w16 c.args.number) ≡ c.args.number = search rules in (
-      [],
-      (
-        g.met.L.LineSource.gives_none c.args.source.now,
-        λ q before begun.
-            acts_alone _ _ (answers_refused _ _ _) _ _ _ _ _ _ before q _ _ _ GosubKw _ c.in-GosubKw.is
-            (c.do_gosub.ensures q (devices (g.C.Chooser.choices c.args.chooser.now) (screen_state g.S.Screen c.args.screen.now) before) (begun_with _ q _ _ _ _ GosubKw _ number c.in-GosubKw.is begun)),
-      ),
-    )
+returns-in-GosubKw g c = (
+  [],
+  (
+    g.met.L.LineSource.gives_none c.args.source.now,
+    λ q before begun.
+        acts_alone _ _ (answers_refused _ _ _) _ _ _ _ _ _ before q _ _ _ GosubKw _ c.in-GosubKw.is
+        (c.do_gosub.ensures q (devices (g.C.Chooser.choices c.args.chooser.now) (screen_state g.S.Screen c.args.screen.now) before) (begun_with _ q _ _ _ GosubKw _ c.in-GosubKw.is begun)),
+  ),
+)
 
 pub returns-in-ReturnKw : goal.returns-in-ReturnKw
 returns-in-ReturnKw g c = (
@@ -74,63 +72,58 @@ returns-in-ReturnKw g c = (
 )
 
 pub returns-in-ForKw : goal.returns-in-ForKw
-returns-in-ForKw g c =
-    let number : to_z w16 (of_z w16 c.args.number) ≡ c.args.number = search rules in (
-      [],
-      (
-        g.met.L.LineSource.gives_none c.args.source.now,
-        λ q before begun.
-            acts_alone _ _ (answers_refused _ _ _) _ _ _ _ _ _ before q _ _ _ ForKw _ c.in-ForKw.is
-            (c.do_for.ensures _ q (devices (g.C.Chooser.choices c.args.chooser.now) (screen_state g.S.Screen c.args.screen.now) before) (begun_with _ q _ _ _ _ ForKw _ number c.in-ForKw.is begun)),
-      ),
-    )
+returns-in-ForKw g c = (
+  [],
+  (
+    g.met.L.LineSource.gives_none c.args.source.now,
+    λ q before begun.
+        acts_alone _ _ (answers_refused _ _ _) _ _ _ _ _ _ before q _ _ _ ForKw _ c.in-ForKw.is
+        (c.do_for.ensures _ q (devices (g.C.Chooser.choices c.args.chooser.now) (screen_state g.S.Screen c.args.screen.now) before) (begun_with _ q _ _ _ ForKw _ c.in-ForKw.is begun)),
+  ),
+)
 
 pub returns-in-NextKw : goal.returns-in-NextKw
-returns-in-NextKw g c =
-    let number : to_z w16 (of_z w16 c.args.number) ≡ c.args.number = search rules in (
-      [],
-      (
-        g.met.L.LineSource.gives_none c.args.source.now,
-        λ q before begun.
-            acts_alone _ _ (none_refused _) _ _ _ _ _ _ before q _ _ _ NextKw _ c.in-NextKw.is
-            (c.do_next.ensures _ q (devices (g.C.Chooser.choices c.args.chooser.now) (screen_state g.S.Screen c.args.screen.now) before) (begun_with _ q _ _ _ _ NextKw _ number c.in-NextKw.is begun)),
-      ),
-    )
+returns-in-NextKw g c = (
+  [],
+  (
+    g.met.L.LineSource.gives_none c.args.source.now,
+    λ q before begun.
+        acts_alone _ _ (none_refused _) _ _ _ _ _ _ before q _ _ _ NextKw _ c.in-NextKw.is
+        (c.do_next.ensures _ q (devices (g.C.Chooser.choices c.args.chooser.now) (screen_state g.S.Screen c.args.screen.now) before) (begun_with _ q _ _ _ NextKw _ c.in-NextKw.is begun)),
+  ),
+)
 
 pub returns-in-PrintKw : goal.returns-in-PrintKw
-returns-in-PrintKw g c =
-    let number : to_z w16 (of_z w16 c.args.number) ≡ c.args.number = search rules in (
-      [],
-      (
-        g.met.L.LineSource.gives_none c.args.source.now,
-        λ q before begun.
-            acts_alone _ _ (answers_refused _ _ _) _ _ _ _ _ _ before q _ _ _ PrintKw _ c.in-PrintKw.is
-            (c.do_print.ensures _ q before (begun_with _ q _ _ _ _ PrintKw _ number c.in-PrintKw.is begun)),
-      ),
-    )
+returns-in-PrintKw g c = (
+  [],
+  (
+    g.met.L.LineSource.gives_none c.args.source.now,
+    λ q before begun.
+        acts_alone _ _ (answers_refused _ _ _) _ _ _ _ _ _ before q _ _ _ PrintKw _ c.in-PrintKw.is
+        (c.do_print.ensures _ q before (begun_with _ q _ _ _ PrintKw _ c.in-PrintKw.is begun)),
+  ),
+)
 
 pub returns-in-InputKw : goal.returns-in-InputKw
 returns-in-InputKw g c =
-    let number : to_z w16 (of_z w16 c.args.number) ≡ c.args.number = search rules in
     let given = c.do_input.ensures in (
       given.0,
       (
         given.1.0,
         λ q before begun.
             acts_word _ _ _ _ _ _ q _ _ _ InputKw _ c.in-InputKw.is
-            (given.1.1 _ q before (begun_with _ q _ _ _ _ InputKw _ number c.in-InputKw.is begun)),
+            (given.1.1 _ q before (begun_with _ q _ _ _ InputKw _ c.in-InputKw.is begun)),
       ),
     )
 
 pub returns-in_default : goal.returns-in_default
 returns-in_default g c =
-    let number : to_z w16 (of_z w16 c.args.number) ≡ c.args.number = search rules in
     let word = let_word _ c.in_default.not-RemKw c.in_default.not-StopKw c.in_default.not-GotoKw c.in_default.not-IfKw c.in_default.not-GosubKw c.in_default.not-ReturnKw c.in_default.not-ForKw c.in_default.not-NextKw c.in_default.not-PrintKw c.in_default.not-InputKw c.requires.command in (
       [],
       (
         g.met.L.LineSource.gives_none c.args.source.now,
         λ q before begun.
             acts_alone _ _ (answers_refused _ _ _) _ _ _ _ _ _ before q _ _ _ LetKw _ word
-            (c.do_let.ensures _ q (devices (g.C.Chooser.choices c.args.chooser.now) (screen_state g.S.Screen c.args.screen.now) before) (begun_with _ q _ _ _ _ LetKw _ number word begun)),
+            (c.do_let.ensures _ q (devices (g.C.Chooser.choices c.args.chooser.now) (screen_state g.S.Screen c.args.screen.now) before) (begun_with _ q _ _ _ LetKw _ word begun)),
       ),
     )

@@ -1,5 +1,5 @@
 -- This file answers the goals of FOR.
-use Rattle.std.proofs.Common.{◌≡◌, ap, sym, length, reverse, refl, rules, to_z, of_z, w16, ℤ}
+use Rattle.std.proofs.Common.{◌≡◌, sym, length, reverse, refl, rules, to_z, of_z, w16}
 use Rattle.std.proofs.lemmas.Bool.{le-leb, lt-leb}
 use Rattle.ptb_text.specs.declared.word.Word.TheVariants.{ForKw}
 use Rattle.ptb_machine.specs.Commands.{parts_of}
@@ -26,12 +26,11 @@ pub returns : goal.returns
 returns g c p q d begun =
     let m = configuration c.args.self.now in
     let parts = c.in_ok-parts.parts in
-    let number : to_z w16 (of_z w16 c.args.number) ≡ c.args.number = search rules in
     let limit : to_z w16 (of_z w16 c.in_ok-parts.parts.limit) ≡ c.in_ok-parts.parts.limit = search rules in
     let step : to_z w16 (of_z w16 c.in_ok-parts.parts.step) ≡ c.in_ok-parts.parts.step = search rules in
     for_done p m (record m { cells = c.for_parts.new.store }) _ _ q c.args.text.now c.args.from parts.end parts.letter parts.limit parts.step
     (record { place = refl; stack = refl; steps = refl }) c.in_ok-parts.ensures.closed c.in_ok-parts.ensures.letter (c.in_ok-parts.ensures.comes d c.args.self.now.fresh)
-    c.command_laws.ensures _ c.args.number c.follow-at.result
-    (record { letter = parts.letter; limit = to_z w16 (of_z w16 parts.limit); step = to_z w16 (of_z w16 parts.step); back = spot_at (to_z w16 (of_z w16 c.args.number)) c.follow-at.result })
+    c.command_laws.ensures _ c.args.statement c.follow-at.result
+    (record { letter = parts.letter; limit = to_z w16 (of_z w16 parts.limit); step = to_z w16 (of_z w16 parts.step); back = spot_at c.args.statement c.follow-at.result })
     c.open_loop.new.opens.items c.if-not-open_loop.ensures.0 (lt-leb 64 (length (without parts.letter (reverse c.args.self.now.stack.items))) c.if-not-open_loop.ensures.1)
-    begun c.follow-at.ensures refl (sym limit) (sym step) (ap (λ (n : ℤ). spot_at n c.follow-at.result) number) refl
+    begun c.follow-at.ensures refl (sym limit) (sym step) refl refl

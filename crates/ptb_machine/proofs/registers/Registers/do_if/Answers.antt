@@ -1,10 +1,11 @@
-use Rattle.std.proofs.Common.{◌≡◌, ◌∙◌, sym, ap, rules, to_z, of_z, w16, ℤ, pos, []}
+-- This file answers what is left to prove of `Registers::do_if`.
+use Rattle.std.proofs.Common.{◌≡◌, ◌∙◌, sym, ap, rules, to_z, of_z, w16, pos, [], refl}
 use Rattle.std.specs.Ordering.{int_eq}
 use Rattle.ptb_text.specs.declared.word.Word.TheVariants.{IfKw}
 use Rattle.ptb_expr.specs.Reading.{Whole}
 use Rattle.ptb_machine.specs.Configuration.{configuration}
 use Rattle.ptb_machine.proofs.Doing.{parts_stopped}
-use Rattle.ptb_machine.proofs.Jumping.{placed_at, alike_itself, if_value, value_stops, if_not, if_done}
+use Rattle.ptb_machine.proofs.Jumping.{alike_itself, if_value, value_stops, if_not, if_done}
 use Rattle.ptb_machine.proofs.registers.Registers.do_if.Goals as goal
 
 pub returns-in_err-value : goal.returns-in_err-value
@@ -14,16 +15,12 @@ returns-in_err-value g c q d begun =
 
 pub returns-then-is_zero : goal.returns-then-is_zero
 returns-then-is_zero g c q d begun =
-    let number : to_z w16 (of_z w16 c.args.number) ≡ c.args.number = search rules in
     let same : to_z w16 (of_z w16 c.in_ok-value.value) ≡ c.in_ok-value.value = search rules in
     if_not _ (configuration c.args.self.now) _ _ q c.args.text.now c.args.from _ _ c.in_ok-value.ensures.read.whole (c.in_ok-value.ensures.comes d c.args.self.now.fresh)
-    c.command_laws.ensures _ (ap (λ v. int_eq v (pos 0)) (sym same) ∙ (sym c.is_zero.ensures ∙ c.if-is_zero.true))
-    (ap (λ place. record (configuration c.args.self.now) { place = place }) (c.place_after-self.ensures q.number (number ∙ begun.number)))
+    _ _ (ap (λ v. int_eq v (pos 0)) (sym same) ∙ (sym c.is_zero.ensures ∙ c.if-is_zero.true)) (c.place_after-self.ensures q begun.statement) refl
 
 pub returns-else-is_zero : goal.returns-else-is_zero
 returns-else-is_zero g c q d begun =
-    let number : to_z w16 (of_z w16 c.args.number) ≡ c.args.number = search rules in
     let same : to_z w16 (of_z w16 c.in_ok-value.value) ≡ c.in_ok-value.value = search rules in
     if_done _ (configuration c.args.self.now) _ _ q c.args.text.now c.args.from _ _ c.in_ok-value.ensures.read.whole (c.in_ok-value.ensures.comes d c.args.self.now.fresh)
-    c.command_laws.ensures _ _ begun (ap (λ v. int_eq v (pos 0)) (sym same) ∙ (sym c.is_zero.ensures ∙ c.if-is_zero.false))
-    (ap (λ (n : ℤ). placed_at (configuration c.args.self.now) n c.in_ok-value.at) number)
+    c.command_laws.ensures _ _ begun (ap (λ v. int_eq v (pos 0)) (sym same) ∙ (sym c.is_zero.ensures ∙ c.if-is_zero.false)) refl

@@ -1,4 +1,5 @@
-use Rattle.std.proofs.Common.{◌≡◌, [], refl, rules, to_z, of_z, w16}
+-- This file answers what is left to prove of `Registers::do_input`.
+use Rattle.std.proofs.Common.{[], refl}
 use Rattle.ptb_text.specs.declared.word.Word.TheVariants.{InputKw}
 use Rattle.ptb_machine.specs.Configuration.{configuration}
 use Rattle.ptb_machine.proofs.Doing.{parts_stopped, plain_done, input_plain}
@@ -16,12 +17,11 @@ returns-in_err-to g c =
 
 pub returns : goal.returns
 returns g c =
-    let same : to_z w16 (of_z w16 c.args.number) ≡ c.args.number = search rules in
     let done = c.in_ok-to.ensures.comes in (
       done.0,
       (
         done.1.0,
-        λ p q before begun. plain_done c.command_laws.ensures p _ (record (configuration c.args.self.now) { cells = c.input.new.store; fresh = c.input.new.fresh }) _ _ _ q _ (to_z w16 (of_z w16 c.args.number)) _ _ c.in_ok-to.to _ InputKw input_plain
-            (record { place = refl; stack = refl; steps = refl }) same refl begun c.in_ok-to.ensures.closed c.follow-at.ensures [] (done.1.1 before),
+        λ p q before begun. plain_done c.command_laws.ensures p _ (record (configuration c.args.self.now) { cells = c.input.new.store; fresh = c.input.new.fresh }) _ _ _ q _ _ _ c.in_ok-to.to _ InputKw input_plain
+            (record { place = refl; stack = refl; steps = refl }) refl begun c.in_ok-to.ensures.closed c.follow-at.ensures [] (done.1.1 before),
       ),
     )

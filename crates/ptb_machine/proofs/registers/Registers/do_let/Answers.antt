@@ -1,4 +1,5 @@
-use Rattle.std.proofs.Common.{[], refl, rules, to_z, of_z, w16}
+-- This file answers what is left to prove of `Registers::do_let`.
+use Rattle.std.proofs.Common.{[], refl}
 use Rattle.ptb_text.specs.declared.word.Word.TheVariants.{LetKw}
 use Rattle.ptb_machine.specs.Configuration.{configuration}
 use Rattle.ptb_machine.proofs.Doing.{parts_stopped, plain_done, let_plain}
@@ -10,5 +11,5 @@ returns-in_err-to g c p q d begun =
 
 pub returns : goal.returns
 returns g c p q d begun =
-    plain_done c.command_laws.ensures p _ (record (configuration c.args.self.now) { cells = c.assign.new.store }) _ _ _ q _ (to_z w16 (of_z w16 c.args.number)) _ _ c.in_ok-to.to _ LetKw let_plain
-    (record { place = refl; stack = refl; steps = refl }) (search rules) refl begun c.in_ok-to.ensures.closed c.follow-at.ensures [] (c.in_ok-to.ensures.comes d c.args.self.now.fresh)
+    plain_done c.command_laws.ensures p _ (record (configuration c.args.self.now) { cells = c.assign.new.store }) _ _ _ q _ _ _ c.in_ok-to.to _ LetKw let_plain
+    (record { place = refl; stack = refl; steps = refl }) refl begun c.in_ok-to.ensures.closed c.follow-at.ensures [] (c.in_ok-to.ensures.comes d c.args.self.now.fresh)

@@ -1,4 +1,5 @@
-use Rattle.std.proofs.Common.{[], refl, rules, to_z, of_z, w16}
+-- This file answers what is left to prove of `Registers::do_print`.
+use Rattle.std.proofs.Common.{[], refl}
 use Rattle.ptb_text.specs.declared.word.Word.TheVariants.{PrintKw}
 use Rattle.ptb_machine.specs.Commands.{parts_of}
 use Rattle.ptb_machine.specs.Configuration.{configuration}
@@ -13,5 +14,5 @@ returns-in_err-to g c p q given begun =
 pub returns : goal.returns
 unfolding parts_of
 returns g c p q given begun =
-    plain_done c.command_laws.ensures p _ (record (configuration c.args.self.now) { fresh = c.print.new.fresh }) _ _ _ q _ (to_z w16 (of_z w16 c.args.number)) _ _ c.in_ok-to.to _ PrintKw print_plain
-    (record { place = refl; stack = refl; steps = refl }) (search rules) refl begun c.in_ok-to.ensures.closed c.follow-at.ensures [] (c.in_ok-to.ensures.comes given)
+    plain_done c.command_laws.ensures p _ (record (configuration c.args.self.now) { fresh = c.print.new.fresh }) _ _ _ q _ _ _ c.in_ok-to.to _ PrintKw print_plain
+    (record { place = refl; stack = refl; steps = refl }) refl begun c.in_ok-to.ensures.closed c.follow-at.ensures [] (c.in_ok-to.ensures.comes given)

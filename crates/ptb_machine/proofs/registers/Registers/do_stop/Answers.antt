@@ -1,3 +1,4 @@
+-- This file answers what is left to prove of `Registers::do_stop`.
 use Rattle.std.proofs.Common.{◌∙◌, sym}
 use Rattle.ptb_machine.specs.Configuration.{configuration}
 use Rattle.ptb_machine.proofs.Jumping.{stop_done, stop_wrong}

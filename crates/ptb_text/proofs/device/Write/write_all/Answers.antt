@@ -1,3 +1,4 @@
+-- This file answers what is left to prove of `Write::write_all`.
 use Rattle.std.proofs.Common.{rules, refl}
 use Rattle.std.proofs.lemmas.Result.{err_from_is_err_and}
 use Rattle.ptb_text.proofs.Taking.{IsTakenUpTo_none, IsTakenUpTo_more, IsTakenUpTo_all, IsTakenUpTo_fault}

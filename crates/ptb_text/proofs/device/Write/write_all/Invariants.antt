@@ -1,3 +1,4 @@
+-- This file says what the loops of `Write::write_all` keep.
 use Rattle.std.proofs.Common.{◌≡◌, length}
 use Rattle.ptb_text.proofs.Taking.{IsTakenUpTo}
 use Rattle.ptb_text.proofs.device.Write.write_all.Given as goal

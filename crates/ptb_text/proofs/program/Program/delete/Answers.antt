@@ -1,3 +1,4 @@
+-- This file answers what is left to prove of `Program::delete`.
 use Rattle.std.proofs.Common.{◌≡◌, ℕ, ◌+◌, ◌-◌, [], length, get_or, map, sym, ap, ◌∙◌, arith}
 use Rattle.ptb_text.specs.Statements.{cost, without_number}
 use Rattle.ptb_text.proofs.Edits.{one_cost, cost-without_place, is_program-without_number, IsKept-after, shown-remove}

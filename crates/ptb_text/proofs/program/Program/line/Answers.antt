@@ -1,3 +1,4 @@
+-- This file answers what is left to prove of `Program::line`.
 use Rattle.std.proofs.Common.{Some, sym, ap, ◌∙◌}
 use Rattle.std.specs.Option.{option_copied}
 use Rattle.ptb_text.specs.Statements.{text_under}
@@ -9,13 +10,13 @@ use Rattle.ptb_text.proofs.program.Program.line.Goals as goal
 
 pub returns-in_err-at-clause-value : goal.returns-in_err-at-clause-value
 returns-in_err-at-clause-value c =
-    let whole = is_whole c.try_from.result c.args.n c.in_ok-number.number c.ranges.n c.try_from.ensures (sym c.ok.ensures.value ∙ c.in_ok-number.was) in
-    let none = text_under-absent c.args.self.now.lines c.args.n _ c.search.result whole c.search.ensures.absent (sym c.ok-2.ensures.value ∙ c.in_err-at.was) in
+    let whole = is_whole c.try_from.result c.args.number c.in_ok-number.number c.ranges.number c.try_from.ensures (sym c.ok.ensures.value ∙ c.in_ok-number.was) in
+    let none = text_under-absent c.args.self.now.lines c.args.number _ c.search.result whole c.search.ensures.absent (sym c.ok-2.ensures.value ∙ c.in_err-at.was) in
     ap option_copied c.from_residual-in_err-at.ensures ∙ sym none
 
 pub returns-clause-value : goal.returns-clause-value
 returns-clause-value c =
-    let whole = is_whole c.try_from.result c.args.n c.in_ok-number.number c.ranges.n c.try_from.ensures (sym c.ok.ensures.value ∙ c.in_ok-number.was) in
+    let whole = is_whole c.try_from.result c.args.number c.in_ok-number.number c.ranges.number c.try_from.ensures (sym c.ok.ensures.value ∙ c.in_ok-number.was) in
     let at = IsAt-found c.args.self.now.lines _ c.in_ok-at.at c.search.result c.search.ensures.found (sym c.ok-2.ensures.value ∙ c.in_ok-at.was) in
     let read = line_read c.self.inside _ c.self.view_is _ _ at.in_range c.index.ensures in
     ap Some (c.deref.ensures.value ∙ ap (λ s. s.1) (sym read)) ∙ sym (ap (text_under c.args.self.now.lines) whole ∙ text_at-place c.args.self.now.lines _ _ at)

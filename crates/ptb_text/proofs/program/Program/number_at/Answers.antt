@@ -1,3 +1,4 @@
+-- This file answers what is left to prove of `Program::number_at`.
 use Rattle.std.proofs.Common.{◌≡◌, ◌≤◌, Some, pos, sym, ap, ◌∙◌, arith, option_map, is_some, true, ℕ, []}
 use Rattle.std.proofs.lemmas.Int.{ints}
 use Rattle.std.proofs.lemmas.Option.{slice_get-get_or}

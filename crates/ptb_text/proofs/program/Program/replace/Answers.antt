@@ -1,3 +1,4 @@
+-- This file answers what is left to prove of `Program::replace`.
 use Rattle.std.proofs.Common.{◌≡◌, ◌+◌, ◌-◌, [], length, get_or, refl, sym, ap, ◌∙◌, arith}
 use Rattle.std.proofs.lemmas.Result.{err_from_is_err_and}
 use Rattle.ptb_text.specs.Statements.{cost, with_text}

@@ -1,3 +1,4 @@
+-- This file answers what is left to prove of `Program::search`.
 use Rattle.std.proofs.Common.{rules, ◌≡◌, ◌-◌, ◌<◌, length, map, true, Option, Some, None, IfSome, slice_get}
 use Rattle.std.specs.FinMap.{is_sorted}
 use Rattle.std.specs.Ordering.{nat_cmp}

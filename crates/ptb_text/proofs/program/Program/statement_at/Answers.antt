@@ -1,3 +1,4 @@
+-- This file answers what is left to prove of `Program::statement_at`.
 use Rattle.std.proofs.Common.{arith}
 use Rattle.ptb_text.proofs.Sound.{StatementFacts, StatementFacts_at}
 use Rattle.ptb_text.proofs.Stored.{line_read, is_program_shown}
