@@ -36,6 +36,7 @@ compare() {
     if command -v bwbasic >/dev/null; then line bwbasic "$6" "$(least bwbasic "$room/other.bas")"; fi
 }
 
+# A=A+1;GOTO 10 alone would end with HOW? after 65,534 commands, so A begins again in time
 compare 'a sum and a jump' \
     '10 A=0\n20 A=A+1;IF A<30000 GOTO 20\n30 GOTO 10\n' \
     '5 K=0\n10 A=0\n20 A=A+1\n25 IF A<30000 GOTO 20\n30 K=K+1\n40 IF K<100 GOTO 10\n50 END\n' 9000000 \
@@ -44,6 +45,10 @@ compare 'LET, IF and GOTO' \
     '10 LET A=1,B=7\n20 LET A=A*3+B\n30 IF A>2000 LET A=A/9-B\n40 IF A#B GOTO 20\n50 GOTO 10\n' \
     '5 K=0\n10 A=1\n15 B=7\n20 A=A*3+B\n30 IF A>2000 THEN A=INT(A/9)-B:FI\n35 K=K+1\n40 IF K<1500000 GOTO 20\n50 END\n' 6300000 \
     '5 K=0\n10 A=1\n15 B=7\n20 A=A*3+B\n30 IF A>2000 THEN A=INT(A/9)-B\n35 K=K+1\n40 IF K<20000 THEN GOTO 20\n50 QUIT\n' 84000
+compare 'LET and NEXT' \
+    '10 FOR I=1 TO 20000\n20 LET A=J/7*7+I\n30 NEXT I\n40 GOTO 10\n' \
+    '5 K=0\n10 FOR I=1 TO 20000\n20 LET A=INT(J/7)*7+I\n30 NEXT I\n40 K=K+1\n50 IF K<100 GOTO 10\n60 END\n' 4000000 \
+    '5 K=0\n10 FOR I=1 TO 20000\n20 LET A=INT(J/7)*7+I\n30 NEXT I\n40 QUIT\n' 40000
 compare 'nested FOR loops' \
     '10 FOR I=1 TO 30000;FOR J=1 TO 300;NEXT J;NEXT I\n' \
     '10 FOR I=1 TO 10000\n20 FOR J=1 TO 300\n30 NEXT J\n40 NEXT I\n50 END\n' 3000000 \
