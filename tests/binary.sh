@@ -127,11 +127,11 @@ count 'a folder as the input' "$(is_as_due 66 '' 'ptb: cannot read the input\n')
 # ---- words
 
 run --help </dev/null
-if [ "$status" = 0 ] && grep -q -e '--answers <LIST>' "$folder/output" && [ ! -s "$folder/errors" ]; then
-    count '--help' yes
-else
-    count '--help' no
-fi
+helps=yes
+for option in steps memory answers all after first list help; do
+    grep -q -e "--$option" "$folder/output" || helps=no
+done
+if [ "$status" = 0 ] && [ ! -s "$folder/errors" ]; then count '--help' "$helps"; else count '--help' no; fi
 
 complains 'an unknown option' --stops 5
 complains 'no steps' --steps 0
