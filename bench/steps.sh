@@ -1,8 +1,8 @@
 #!/bin/bash
 # Prints how many commands a second ptb does, and yabasic and bwbasic where they are installed: bench/steps.sh
 #
-# ptb stops a program after 10,000,000 commands by its own limit; the others run a loop of a fixed number of rounds, with
-# as many commands in a round as ptb's program has. Each line shows the best of three runs.
+# ptb stops a program after 10,000,000 commands by its own limit; the others run the same loop for a fixed number of
+# rounds. Each line shows the best of three runs.
 set -eu
 root=$(dirname "$(readlink -f "$0")")/..
 program=$root/crates/ptb/out/ptb
@@ -42,18 +42,18 @@ compare 'a sum and a jump' \
     '5 K=0\n10 A=0\n20 A=A+1\n25 IF A<30000 GOTO 20\n30 K=K+1\n40 IF K<100 GOTO 10\n50 END\n' 9000000 \
     '10 A=0\n20 A=A+1\n25 IF A<30000 THEN GOTO 20\n50 QUIT\n' 90000
 compare 'LET, IF and GOTO' \
-    '10 LET A=1,B=7\n20 LET A=A*3+B\n30 IF A>2000 LET A=A/9-B\n40 IF A#B GOTO 20\n50 GOTO 10\n' \
-    '5 K=0\n10 A=1\n15 B=7\n20 A=A*3+B\n30 IF A>2000 THEN A=INT(A/9)-B:FI\n35 K=K+1\n40 IF K<1500000 GOTO 20\n50 END\n' 6300000 \
-    '5 K=0\n10 A=1\n15 B=7\n20 A=A*3+B\n30 IF A>2000 THEN A=INT(A/9)-B\n35 K=K+1\n40 IF K<20000 THEN GOTO 20\n50 QUIT\n' 84000
+    '10 LET A=1,B=7,K=0\n20 LET A=A*3+B\n30 IF A>2000 LET A=A/9-B\n40 LET K=K+1\n50 IF K<30000 GOTO 20\n60 GOTO 10\n' \
+    '5 L=0\n10 A=1\n12 B=7\n14 K=0\n20 A=A*3+B\n30 IF A>2000 THEN A=INT(A/9)-B:FI\n40 K=K+1\n50 IF K<30000 GOTO 20\n60 L=L+1\n70 IF L<50 GOTO 10\n80 END\n' 8250000 \
+    '10 A=1\n12 B=7\n14 K=0\n20 A=A*3+B\n30 IF A>2000 THEN A=INT(A/9)-B\n40 K=K+1\n50 IF K<30000 THEN GOTO 20\n80 QUIT\n' 165000
 compare 'LET and NEXT' \
     '10 FOR I=1 TO 20000\n20 LET A=J/7*7+I\n30 NEXT I\n40 GOTO 10\n' \
     '5 K=0\n10 FOR I=1 TO 20000\n20 LET A=INT(J/7)*7+I\n30 NEXT I\n40 K=K+1\n50 IF K<100 GOTO 10\n60 END\n' 4000000 \
     '5 K=0\n10 FOR I=1 TO 20000\n20 LET A=INT(J/7)*7+I\n30 NEXT I\n40 QUIT\n' 40000
 compare 'nested FOR loops' \
-    '10 FOR I=1 TO 30000;FOR J=1 TO 300;NEXT J;NEXT I\n' \
+    '10 FOR I=1 TO 30000;FOR J=1 TO 300;NEXT J;NEXT I\n20 GOTO 10\n' \
     '10 FOR I=1 TO 10000\n20 FOR J=1 TO 300\n30 NEXT J\n40 NEXT I\n50 END\n' 3000000 \
     '10 FOR I=1 TO 100\n20 FOR J=1 TO 300\n30 NEXT J\n40 NEXT I\n50 QUIT\n' 30000
 compare 'GOSUB and RETURN' \
-    '10 GOSUB 100;GOTO 10\n100 RETURN\n' \
-    '5 K=0\n10 GOSUB 100\n20 K=K+1\n30 IF K<2000000 GOTO 10\n40 END\n100 RETURN\n' 10000000 \
-    '5 K=0\n10 GOSUB 100\n20 K=K+1\n30 IF K<20000 THEN GOTO 10\n40 QUIT\n100 RETURN\n' 100000
+    '10 K=0\n20 GOSUB 100\n30 K=K+1\n40 IF K<30000 GOTO 20\n50 GOTO 10\n100 RETURN\n' \
+    '5 L=0\n10 K=0\n20 GOSUB 100\n30 K=K+1\n40 IF K<30000 GOTO 20\n50 L=L+1\n60 IF L<50 GOTO 10\n70 END\n100 RETURN\n' 7500000 \
+    '10 K=0\n20 GOSUB 100\n30 K=K+1\n40 IF K<30000 THEN GOTO 20\n50 QUIT\n100 RETURN\n' 150000

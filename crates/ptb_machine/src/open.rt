@@ -3,16 +3,18 @@
 use crate::spot::Spot;
 
 /// An open FOR.
+// The place is first: behind the smaller parts it is copied together with the gap before it and read
+// back late, and NEXT took 17 ns so, in place of 11.
 #[derive(Clone, Copy)]
 pub(crate) struct OpenLoop {
+    /// The command behind the FOR, where each turn begins.
+    pub(crate) back: Spot,
     /// The letter of its variable, `b'A'` to `b'Z'`.
     pub(crate) letter: u8,
     /// The loop ends when its variable goes past this.
     pub(crate) limit: i16,
     /// What NEXT adds to its variable.
     pub(crate) step: i16,
-    /// The command behind the FOR, where each turn begins.
-    pub(crate) back: Spot,
 }
 
 /// An open FOR or GOSUB.

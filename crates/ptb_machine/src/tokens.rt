@@ -84,7 +84,8 @@ pub(crate) fn at_end(text: &[u8], at: usize) -> bool
     requires { at ≤ length text.now }
     ensures { result ≡ at_end text.now at }
 {
-    is_over(text, at) || token_at(text, at, b';').is_some()
+    let mut cursor = Cursor::new(text, at);
+    cursor.at_end() || cursor.token(b';')
 }
 
 /// Where the next command begins, behind one that ends there: after `;`, or there where the text is

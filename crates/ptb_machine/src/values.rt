@@ -34,6 +34,8 @@ pub(crate) fn value_at<C: Chooser>(
 }
 
 /// What the variable that stands there names, with its index worked out, and the place after it.
+// inlined, as what it calls: each LET waits for what it gives
+#[inline(always)]
 pub(crate) fn target_at<C: Chooser>(
     text: &[u8],
     at: usize,

@@ -208,9 +208,16 @@ impl<'a> Cursor<'a> {
         ensures left { bytes_left self.new ≤ bytes_left self.old }
         ensures absent { IsNone result → self.new.place ≡ self.old.place }
     {
+        let letter = self.next_byte()?;
+        if !letter.is_ascii_uppercase() {
+            return None;
+        }
         match self.text.get(self.next + 1) {
             Some(byte) if byte.is_ascii_uppercase() || *byte == b'.' => None,
-            _ => self.letter(),
+            _ => {
+                self.take_byte();
+                Some(letter)
+            }
         }
     }
 
