@@ -32,7 +32,7 @@ impl Registers {
     ) -> Result<(), Stop>
         requires within { from ≤ length text.now }
         requires command { IsCommand word }
-        ensures { (given : List (List ℕ)) × (L.gives source.old given source.new
+        ensures acts { (given : List (List ℕ)) × (L.gives source.old given source.new
             × ((q : Place) (before : List (List ℕ)) →
             Begun program.now.lines q statement text.now word from →
             Acts (refused_by (C.refused chooser.new) (L.refused source.new) (L.lines source.new))
@@ -41,6 +41,7 @@ impl Registers {
             (devices (C.choices chooser.new) (screen_state S.Screen screen.new) (before ++ given))
             (command_course program.now.lines q
             (command_of word (parts_of word text.now from))) result)) }
+        ensures steps { self.new.steps ≡ self.old.steps }
     {
         match word {
             Word::RemKw => {

@@ -35,13 +35,14 @@ impl Registers {
         chooser: &mut C,
     ) -> Result<(), Stop>
         requires { from ≤ length text.now }
-        ensures { (q : Place) (d : Devices) →
+        ensures acts { (q : Place) (d : Devices) →
             Begun program.now.lines q statement text.now GosubKw from →
             Acts (refused_answers (C.refused chooser.new)) program.now.lines
             (configuration self.old) (configuration self.new)
             (with_choices (C.choices chooser.old) d) (with_choices (C.choices chooser.new) d)
             (command_course program.now.lines q
             (command_of GosubKw (parts_of GosubKw text.now from))) result }
+        ensures steps { self.new.steps ≡ self.old.steps }
     {
         command_laws();
         let (called, to) = value_at(text, from, &self.store, chooser)?;
@@ -62,9 +63,10 @@ impl Registers {
     /// Does a RETURN whose word ends at a place.
     pub(crate) fn do_return(&mut self, text: &[u8], from: usize) -> Result<(), Stop>
         requires { from ≤ length text.now }
-        ensures { (p : Statements) (q : Place) (d : Devices) →
+        ensures acts { (p : Statements) (q : Place) (d : Devices) →
             Acts nothing_refused p (configuration self.old) (configuration self.new) d d
             (command_course p q (command_of ReturnKw (parts_of ReturnKw text.now from))) result }
+        ensures steps { self.new.steps ≡ self.old.steps }
     {
         if !is_over(text, from) {
             return Err(fault(FaultKind::What, from));

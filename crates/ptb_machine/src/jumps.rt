@@ -27,12 +27,13 @@ use ptb_text::Program;
 impl Registers {
     /// Does a REM of this statement.
     pub(crate) fn do_rem(&mut self, program: &Program, statement: usize)
-        ensures { (q : Place) (t : List ℕ) (from : ℕ) (d : Devices) →
+        ensures acts { (q : Place) (t : List ℕ) (from : ℕ) (d : Devices) →
             slice_get program.now.lines statement
             ≡ Some (q.number, text_of program.now.lines q.number) →
             Does program.now.lines (configuration self.old) (configuration self.new) d d
             (command_course program.now.lines q
             (command_of RemKw (parts_of RemKw t from))) (goes_on tt) }
+        ensures steps { self.new.steps ≡ self.old.steps }
     {
         command_laws();
         self.place = place_after(program, statement);
@@ -61,12 +62,13 @@ impl Registers {
         chooser: &mut C,
     ) -> Result<(), Stop>
         requires { from ≤ length text.now }
-        ensures { (q : Place) (d : Devices) →
+        ensures acts { (q : Place) (d : Devices) →
             Acts (refused_answers (C.refused chooser.new)) program.now.lines
             (configuration self.old) (configuration self.new)
             (with_choices (C.choices chooser.old) d) (with_choices (C.choices chooser.new) d)
             (command_course program.now.lines q
             (command_of GotoKw (parts_of GotoKw text.now from))) result }
+        ensures steps { self.new.steps ≡ self.old.steps }
     {
         command_laws();
         let (number, to) = value_at(text, from, &self.store, chooser)?;
@@ -90,13 +92,14 @@ impl Registers {
         chooser: &mut C,
     ) -> Result<(), Stop>
         requires { from ≤ length text.now }
-        ensures { (q : Place) (d : Devices) →
+        ensures acts { (q : Place) (d : Devices) →
             Begun program.now.lines q statement text.now IfKw from →
             Acts (refused_answers (C.refused chooser.new)) program.now.lines
             (configuration self.old) (configuration self.new)
             (with_choices (C.choices chooser.old) d) (with_choices (C.choices chooser.new) d)
             (command_course program.now.lines q
             (command_of IfKw (parts_of IfKw text.now from))) result }
+        ensures steps { self.new.steps ≡ self.old.steps }
     {
         command_laws();
         let (value, at) = value_at(text, from, &self.store, chooser)?;

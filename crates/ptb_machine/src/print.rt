@@ -168,13 +168,14 @@ impl Registers {
         screen: &mut S,
     ) -> Result<(), Stop>
         requires { from ≤ length text.now }
-        ensures { (p : Statements) (q : Place) (given : List (List ℕ)) →
+        ensures acts { (p : Statements) (q : Place) (given : List (List ℕ)) →
             Begun p q statement text.now PrintKw from →
             Acts (refused_answers (C.refused chooser.new)) p
             (configuration self.old) (configuration self.new)
             (devices (C.choices chooser.old) (screen_state S.Screen screen.old) given)
             (devices (C.choices chooser.new) (screen_state S.Screen screen.new) given)
             (command_course p q (command_of PrintKw (parts_of PrintKw text.now from))) result }
+        ensures steps { self.new.steps ≡ self.old.steps }
     {
         command_laws();
         let to = print(text, from, &self.store, chooser, screen, &mut self.fresh)?;

@@ -5,19 +5,19 @@ use Rattle.ptb_machine.specs.Devices.{devices, screen_state, nothing_refused}
 use Rattle.ptb_machine.proofs.Dispatch.{let_word, begun_with, none_refused, answers_refused, acts_word, acts_alone}
 use Rattle.ptb_machine.proofs.registers.Registers.act.Goals as goal
 
-pub returns-in-RemKw : goal.returns-in-RemKw
-returns-in-RemKw g c = (
+pub returns-in-RemKw-clause-acts : goal.returns-in-RemKw-clause-acts
+returns-in-RemKw-clause-acts g c = (
   [],
   (
     g.met.L.LineSource.gives_none c.args.source.now,
     λ q before begun.
         acts_alone {X = Unit {0}} nothing_refused nothing_refused (λ r x. x) _ _ _ _ _ _ before q _ _ _ RemKw (Ok tt) c.in-RemKw.is
-        (c.do_rem.ensures q c.args.text.now c.args.from (devices (g.C.Chooser.choices c.args.chooser.now) (screen_state g.S.Screen c.args.screen.now) before) begun.statement),
+        (c.do_rem.ensures.acts q c.args.text.now c.args.from (devices (g.C.Chooser.choices c.args.chooser.now) (screen_state g.S.Screen c.args.screen.now) before) begun.statement),
   ),
 )
 
-pub returns-in-StopKw : goal.returns-in-StopKw
-returns-in-StopKw g c = (
+pub returns-in-StopKw-clause-acts : goal.returns-in-StopKw-clause-acts
+returns-in-StopKw-clause-acts g c = (
   [],
   (
     g.met.L.LineSource.gives_none c.args.source.now,
@@ -27,86 +27,86 @@ returns-in-StopKw g c = (
   ),
 )
 
-pub returns-in-GotoKw : goal.returns-in-GotoKw
-returns-in-GotoKw g c = (
+pub returns-in-GotoKw-clause-acts : goal.returns-in-GotoKw-clause-acts
+returns-in-GotoKw-clause-acts g c = (
   [],
   (
     g.met.L.LineSource.gives_none c.args.source.now,
     λ q before begun.
         acts_alone _ _ (answers_refused _ _ _) _ _ _ _ _ _ before q _ _ _ GotoKw _ c.in-GotoKw.is
-        (c.do_goto.ensures q (devices (g.C.Chooser.choices c.args.chooser.now) (screen_state g.S.Screen c.args.screen.now) before)),
+        (c.do_goto.ensures.acts q (devices (g.C.Chooser.choices c.args.chooser.now) (screen_state g.S.Screen c.args.screen.now) before)),
   ),
 )
 
-pub returns-in-IfKw : goal.returns-in-IfKw
-returns-in-IfKw g c = (
+pub returns-in-IfKw-clause-acts : goal.returns-in-IfKw-clause-acts
+returns-in-IfKw-clause-acts g c = (
   [],
   (
     g.met.L.LineSource.gives_none c.args.source.now,
     λ q before begun.
         acts_alone _ _ (answers_refused _ _ _) _ _ _ _ _ _ before q _ _ _ IfKw _ c.in-IfKw.is
-        (c.do_if.ensures q (devices (g.C.Chooser.choices c.args.chooser.now) (screen_state g.S.Screen c.args.screen.now) before) (begun_with _ q _ _ _ IfKw _ c.in-IfKw.is begun)),
+        (c.do_if.ensures.acts q (devices (g.C.Chooser.choices c.args.chooser.now) (screen_state g.S.Screen c.args.screen.now) before) (begun_with _ q _ _ _ IfKw _ c.in-IfKw.is begun)),
   ),
 )
 
-pub returns-in-GosubKw : goal.returns-in-GosubKw
-returns-in-GosubKw g c = (
+pub returns-in-GosubKw-clause-acts : goal.returns-in-GosubKw-clause-acts
+returns-in-GosubKw-clause-acts g c = (
   [],
   (
     g.met.L.LineSource.gives_none c.args.source.now,
     λ q before begun.
         acts_alone _ _ (answers_refused _ _ _) _ _ _ _ _ _ before q _ _ _ GosubKw _ c.in-GosubKw.is
-        (c.do_gosub.ensures q (devices (g.C.Chooser.choices c.args.chooser.now) (screen_state g.S.Screen c.args.screen.now) before) (begun_with _ q _ _ _ GosubKw _ c.in-GosubKw.is begun)),
+        (c.do_gosub.ensures.acts q (devices (g.C.Chooser.choices c.args.chooser.now) (screen_state g.S.Screen c.args.screen.now) before) (begun_with _ q _ _ _ GosubKw _ c.in-GosubKw.is begun)),
   ),
 )
 
-pub returns-in-ReturnKw : goal.returns-in-ReturnKw
-returns-in-ReturnKw g c = (
+pub returns-in-ReturnKw-clause-acts : goal.returns-in-ReturnKw-clause-acts
+returns-in-ReturnKw-clause-acts g c = (
   [],
   (
     g.met.L.LineSource.gives_none c.args.source.now,
     λ q before begun.
         acts_alone _ _ (none_refused _) _ _ _ _ _ _ before q _ _ _ ReturnKw _ c.in-ReturnKw.is
-        (c.do_return.ensures _ q (devices (g.C.Chooser.choices c.args.chooser.now) (screen_state g.S.Screen c.args.screen.now) before)),
+        (c.do_return.ensures.acts _ q (devices (g.C.Chooser.choices c.args.chooser.now) (screen_state g.S.Screen c.args.screen.now) before)),
   ),
 )
 
-pub returns-in-ForKw : goal.returns-in-ForKw
-returns-in-ForKw g c = (
+pub returns-in-ForKw-clause-acts : goal.returns-in-ForKw-clause-acts
+returns-in-ForKw-clause-acts g c = (
   [],
   (
     g.met.L.LineSource.gives_none c.args.source.now,
     λ q before begun.
         acts_alone _ _ (answers_refused _ _ _) _ _ _ _ _ _ before q _ _ _ ForKw _ c.in-ForKw.is
-        (c.do_for.ensures _ q (devices (g.C.Chooser.choices c.args.chooser.now) (screen_state g.S.Screen c.args.screen.now) before) (begun_with _ q _ _ _ ForKw _ c.in-ForKw.is begun)),
+        (c.do_for.ensures.acts _ q (devices (g.C.Chooser.choices c.args.chooser.now) (screen_state g.S.Screen c.args.screen.now) before) (begun_with _ q _ _ _ ForKw _ c.in-ForKw.is begun)),
   ),
 )
 
-pub returns-in-NextKw : goal.returns-in-NextKw
-returns-in-NextKw g c = (
+pub returns-in-NextKw-clause-acts : goal.returns-in-NextKw-clause-acts
+returns-in-NextKw-clause-acts g c = (
   [],
   (
     g.met.L.LineSource.gives_none c.args.source.now,
     λ q before begun.
         acts_alone _ _ (none_refused _) _ _ _ _ _ _ before q _ _ _ NextKw _ c.in-NextKw.is
-        (c.do_next.ensures _ q (devices (g.C.Chooser.choices c.args.chooser.now) (screen_state g.S.Screen c.args.screen.now) before) (begun_with _ q _ _ _ NextKw _ c.in-NextKw.is begun)),
+        (c.do_next.ensures.acts _ q (devices (g.C.Chooser.choices c.args.chooser.now) (screen_state g.S.Screen c.args.screen.now) before) (begun_with _ q _ _ _ NextKw _ c.in-NextKw.is begun)),
   ),
 )
 
-pub returns-in-PrintKw : goal.returns-in-PrintKw
-returns-in-PrintKw g c = (
+pub returns-in-PrintKw-clause-acts : goal.returns-in-PrintKw-clause-acts
+returns-in-PrintKw-clause-acts g c = (
   [],
   (
     g.met.L.LineSource.gives_none c.args.source.now,
     λ q before begun.
         acts_alone _ _ (answers_refused _ _ _) _ _ _ _ _ _ before q _ _ _ PrintKw _ c.in-PrintKw.is
-        (c.do_print.ensures _ q before (begun_with _ q _ _ _ PrintKw _ c.in-PrintKw.is begun)),
+        (c.do_print.ensures.acts _ q before (begun_with _ q _ _ _ PrintKw _ c.in-PrintKw.is begun)),
   ),
 )
 
-pub returns-in-InputKw : goal.returns-in-InputKw
-returns-in-InputKw g c =
-    let given = c.do_input.ensures in (
+pub returns-in-InputKw-clause-acts : goal.returns-in-InputKw-clause-acts
+returns-in-InputKw-clause-acts g c =
+    let given = c.do_input.ensures.acts in (
       given.0,
       (
         given.1.0,
@@ -116,14 +116,14 @@ returns-in-InputKw g c =
       ),
     )
 
-pub returns-in_default : goal.returns-in_default
-returns-in_default g c =
+pub returns-in_default-clause-acts : goal.returns-in_default-clause-acts
+returns-in_default-clause-acts g c =
     let word = let_word _ c.in_default.not-RemKw c.in_default.not-StopKw c.in_default.not-GotoKw c.in_default.not-IfKw c.in_default.not-GosubKw c.in_default.not-ReturnKw c.in_default.not-ForKw c.in_default.not-NextKw c.in_default.not-PrintKw c.in_default.not-InputKw c.requires.command in (
       [],
       (
         g.met.L.LineSource.gives_none c.args.source.now,
         λ q before begun.
             acts_alone _ _ (answers_refused _ _ _) _ _ _ _ _ _ before q _ _ _ LetKw _ word
-            (c.do_let.ensures _ q (devices (g.C.Chooser.choices c.args.chooser.now) (screen_state g.S.Screen c.args.screen.now) before) (begun_with _ q _ _ _ LetKw _ word begun)),
+            (c.do_let.ensures.acts _ q (devices (g.C.Chooser.choices c.args.chooser.now) (screen_state g.S.Screen c.args.screen.now) before) (begun_with _ q _ _ _ LetKw _ word begun)),
       ),
     )

@@ -9,21 +9,21 @@ use Rattle.ptb_machine.proofs.Doing.{parts_stopped}
 use Rattle.ptb_machine.proofs.Looping.{spot_at, for_full, for_done}
 use Rattle.ptb_machine.proofs.registers.Registers.do_for.Goals as goal
 
-pub returns-in_err-parts : goal.returns-in_err-parts
+pub returns-in_err-parts-clause-acts : goal.returns-in_err-parts-clause-acts
 unfolding parts_of
-returns-in_err-parts g c p q d begun =
+returns-in_err-parts-clause-acts g c p q d begun =
     parts_stopped _ p _ _ _ _ q ForKw _ _ _ _ c.from_residual.ensures.1 (record { place = refl; stack = refl; steps = refl }) (c.in_err-parts.ensures.comes d c.args.self.now.fresh)
 
-pub returns-then-not-open_loop : goal.returns-then-not-open_loop
-returns-then-not-open_loop g c p q d begun =
+pub returns-then-not-open_loop-clause-acts : goal.returns-then-not-open_loop-clause-acts
+returns-then-not-open_loop-clause-acts g c p q d begun =
     let m = configuration c.args.self.now in
     let parts = c.in_ok-parts.parts in
     for_full p m (record m { cells = c.for_parts.new.store }) _ _ q c.args.text.now c.args.from parts.end parts.letter parts.limit parts.step
     (record { place = refl; stack = refl; steps = refl }) c.in_ok-parts.ensures.closed c.in_ok-parts.ensures.letter (c.in_ok-parts.ensures.comes d c.args.self.now.fresh)
     _ c.open_loop.new.opens.items _ c.if-not-open_loop.ensures.0 (le-leb 64 (length (without parts.letter (reverse c.args.self.now.stack.items))) c.if-not-open_loop.ensures.1) c.fault.ensures
 
-pub returns : goal.returns
-returns g c p q d begun =
+pub returns-clause-acts : goal.returns-clause-acts
+returns-clause-acts g c p q d begun =
     let m = configuration c.args.self.now in
     let parts = c.in_ok-parts.parts in
     let limit : to_z w16 (of_z w16 c.in_ok-parts.parts.limit) ≡ c.in_ok-parts.parts.limit = search rules in

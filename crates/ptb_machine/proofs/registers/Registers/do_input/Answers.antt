@@ -5,8 +5,8 @@ use Rattle.ptb_machine.specs.Configuration.{configuration}
 use Rattle.ptb_machine.proofs.Doing.{parts_stopped, plain_done, input_plain}
 use Rattle.ptb_machine.proofs.registers.Registers.do_input.Goals as goal
 
-pub returns-in_err-to : goal.returns-in_err-to
-returns-in_err-to g c =
+pub returns-in_err-to-clause-acts : goal.returns-in_err-to-clause-acts
+returns-in_err-to-clause-acts g c =
     let done = c.in_err-to.ensures.comes in (
       done.0,
       (
@@ -15,8 +15,8 @@ returns-in_err-to g c =
       ),
     )
 
-pub returns : goal.returns
-returns g c =
+pub returns-clause-acts : goal.returns-clause-acts
+returns-clause-acts g c =
     let done = c.in_ok-to.ensures.comes in (
       done.0,
       (

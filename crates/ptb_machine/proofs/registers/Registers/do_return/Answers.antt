@@ -4,15 +4,15 @@ use Rattle.ptb_machine.specs.Configuration.{configuration}
 use Rattle.ptb_machine.proofs.Calling.{return_wrong, return_nowhere, return_done}
 use Rattle.ptb_machine.proofs.registers.Registers.do_return.Goals as goal
 
-pub returns-then-not-is_over : goal.returns-then-not-is_over
-returns-then-not-is_over c p q d = return_wrong p (configuration c.args.self.now) d q _ _ _ c.fault.ensures (sym c.is_over.ensures ∙ c.if-not-is_over.true)
+pub returns-then-not-is_over-clause-acts : goal.returns-then-not-is_over-clause-acts
+returns-then-not-is_over-clause-acts c p q d = return_wrong p (configuration c.args.self.now) d q _ _ _ c.fault.ensures (sym c.is_over.ensures ∙ c.if-not-is_over.true)
 
-pub returns-in_default : goal.returns-in_default
-returns-in_default c p q d =
+pub returns-in_default-clause-acts : goal.returns-in_default-clause-acts
+returns-in_default-clause-acts c p q d =
     return_nowhere p (configuration c.args.self.now) d q _ _ c.close_call.new.opens.items _ c.fault-in_default.ensures
     (sym c.is_over.ensures ∙ c.if-not-is_over.false) c.in_default.ensures.0 c.in_default.ensures.1
 
-pub returns : goal.returns
-returns c p q d =
+pub returns-clause-acts : goal.returns-clause-acts
+returns-clause-acts c p q d =
     return_done p (configuration c.args.self.now) d q _ _ _ c.in-Some.back c.close_call.new.opens.items
     (sym c.is_over.ensures ∙ c.if-not-is_over.false) c.in-Some.ensures refl
