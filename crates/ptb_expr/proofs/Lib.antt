@@ -1,6 +1,7 @@
 -- This file names the files of lemmas.
 pub mod Agreement
 pub mod Evaluation
+pub mod Formulas
 pub mod Marks
 pub mod Parts
 pub mod Reaching

@@ -3,12 +3,14 @@
 //!
 //! It stands on `ptb_text` and `thiserror`. The crate above may rely on `evaluate` and `target`:
 //! whoever answers, they come to what `specs/Value` makes of the tree that `specs/Spells` reads at
-//! the cursor, be it a value, a fault with its mark or a question; and on the laws of `Chooser`.
+//! the cursor, be it a value, a fault with its mark or a question; on the laws of `Chooser`; and on
+//! `Formula`, a short expression that is read once and worked out often.
 #![tactic(auto)]
 
 mod chooser;
 mod eval;
 mod fault;
+mod formula;
 mod laws;
 mod operator;
 mod pause;
@@ -20,6 +22,7 @@ mod tests;
 pub use chooser::{Chooser, Listed};
 pub use eval::{evaluate, target};
 pub use fault::{Fault, FaultKind, Stop};
+pub use formula::{Formula, Operand, Operation};
 pub use laws::{mark_laws, spelling_laws, value_laws};
 pub use operator::Operator;
 pub use pause::Pause;

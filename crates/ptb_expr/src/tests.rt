@@ -273,3 +273,143 @@ fn kept_bounds(rt: HostRuntime) -> Result<(), Fail> {
     assert!(rt; kept.bounds.as_slice() == [2].as_slice());
     Ok(())
 }
+
+// The formula at the front of a text, and the place after it.
+fn formula_of(text: &[u8]) -> Option<(Formula, usize)> {
+    let mut cursor = Cursor::new(text, 0);
+    let formula = Formula::read(&mut cursor)?;
+    Some((formula, cursor.place()))
+}
+
+fn with_variable(operator: Operator, letter: u8) -> Operation {
+    Operation {
+        operator,
+        right: Operand::Variable(letter),
+    }
+}
+
+fn with_number(operator: Operator, value: i16) -> Operation {
+    Operation {
+        operator,
+        right: Operand::Number(value),
+    }
+}
+
+// A is 5, B is -7, I is 2 and J is 100.
+fn lettered_store(rt: HostRuntime) -> Result<Store, AllocError> {
+    let mut store = Store::new(rt.alloc(), 4)?;
+    store.set(b'A', 5);
+    store.set(b'B', -7);
+    store.set(b'I', 2);
+    store.set(b'J', 100);
+    Ok(store)
+}
+
+#[test]
+fn formulas(rt: HostRuntime) -> Result<(), Fail> {
+    let store = lettered_store(rt)?;
+    let a = Operand::Variable(b'A');
+    let j = Operand::Variable(b'J');
+    let over7 = with_number(Operator::Over, 7);
+    let times7 = with_number(Operator::Times, 7);
+    let times3 = with_number(Operator::Times, 3);
+    let plus1 = with_number(Operator::Plus, 1);
+    for (text, formula, place, value) in [
+        ("7", Formula::Plain(Operand::Number(7)), 1, Some(7)),
+        (" J )", Formula::Plain(j), 3, Some(100)),
+        ("A+1", Formula::One(a, plus1), 3, Some(6)),
+        (
+            " A < 30000 ",
+            Formula::One(a, with_number(Operator::Below, 30000)),
+            11,
+            Some(1),
+        ),
+        (
+            "A*3+B",
+            Formula::Two(a, times3, with_variable(Operator::Plus, b'B')),
+            5,
+            Some(8),
+        ),
+        (
+            "A/9-B",
+            Formula::Two(
+                a,
+                with_number(Operator::Over, 9),
+                with_variable(Operator::Minus, b'B'),
+            ),
+            5,
+            Some(7),
+        ),
+        (
+            "A+1>B",
+            Formula::Two(a, plus1, with_variable(Operator::Above, b'B')),
+            5,
+            Some(1),
+        ),
+        (
+            "J/7*7+I",
+            Formula::Three(j, over7, times7, with_variable(Operator::Plus, b'I')),
+            7,
+            Some(100),
+        ),
+        // one comparison is read, and what comes behind it isn't
+        (
+            "A=5=1",
+            Formula::One(a, with_number(Operator::Equals, 5)),
+            3,
+            Some(1),
+        ),
+        (
+            "32767+1",
+            Formula::One(Operand::Number(32767), plus1),
+            7,
+            None,
+        ),
+        (
+            "A/Z",
+            Formula::One(a, with_variable(Operator::Over, b'Z')),
+            3,
+            None,
+        ),
+    ] {
+        assert!(rt;
+            formula_of(text.as_bytes()) == Some((formula, place)),
+            "{text}"
+        );
+        assert!(rt; formula.value(&store) == value, "{text}");
+    }
+    assert!(rt; Formula::Plain(Operand::Variable(b'a')).value(&store) == None);
+    Ok(())
+}
+
+#[test]
+fn no_formulas(rt: HostRuntime) {
+    for text in [
+        "",
+        "32768",
+        "(A)",
+        "-A",
+        "+A",
+        "S.",
+        "A.(1)",
+        "@(1)",
+        "A+B*C",
+        "A*(B)",
+        "A<B+1",
+        "A<-1",
+        "A*B*C*D*E",
+        "A+B+C+D<E",
+        "A+",
+    ] {
+        assert!(rt; formula_of(text.as_bytes()) == None, "{text}");
+    }
+}
+
+#[test]
+fn constants(rt: HostRuntime) {
+    assert!(rt; Formula::Plain(Operand::Number(7)).constant() == Some(7));
+    assert!(rt; Formula::Plain(Operand::Variable(b'A')).constant() == None);
+    assert!(rt;
+        Formula::One(Operand::Number(7), with_number(Operator::Plus, 1)).constant() == None
+    );
+}
