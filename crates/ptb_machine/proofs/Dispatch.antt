@@ -19,7 +19,7 @@ use Rattle.ptb_machine.specs.Devices.{ScreenState, Devices, devices, Refusal, Un
 use Rattle.ptb_machine.specs.Configuration.{Configuration}
 use Rattle.ptb_machine.specs.Standing.{Begun}
 use Rattle.ptb_machine.specs.Acts.{DoesTo, Acts}
-use Rattle.ptb_machine.specs.Steps.{NextIs}
+use Rattle.ptb_machine.specs.Standing.{NextIs}
 use Rattle.ptb_machine.proofs.Stops.{stops_along}
 
 -- ---- words

@@ -1,4 +1,5 @@
 -- This file names the files of lemmas.
+pub mod Advancing
 pub mod Ahead
 pub mod Budgets
 pub mod Assigning
@@ -11,6 +12,7 @@ pub mod Effects
 pub mod Endings
 pub mod EndSpends
 pub mod Exchanges
+pub mod Instructed
 pub mod Finding
 pub mod Following
 pub mod Going

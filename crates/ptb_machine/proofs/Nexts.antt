@@ -9,7 +9,7 @@ use Rattle.ptb_machine.specs.State.{Place, place_after, text_of, command_there, 
 use Rattle.ptb_machine.specs.Places.{At}
 use Rattle.ptb_machine.specs.Laws.{CommandLaws}
 use Rattle.ptb_machine.specs.Standing.{PlaceIs, IsLineAt, PlacesAre}
-use Rattle.ptb_machine.specs.Steps.{NextIs}
+use Rattle.ptb_machine.specs.Standing.{NextIs}
 use Rattle.ptb_machine.proofs.Placed.{is_placed}
 
 pub next_nowhere : (p : Statements) (q : Option Place) → PlacesAre p q None → next_command p q ≡ None

@@ -24,6 +24,7 @@ pub mod Acts
 pub mod Asking
 pub mod Reports
 pub mod Steps
+pub mod Instructions
 pub mod Runs
 pub mod Rows
 pub mod Levels

@@ -3,6 +3,7 @@
 --     IsLineAt p i n t         the number and the text of a statement
 --     Nested p os loops calls  the levels of the definition are what is open, newest first
 --     Stands p m S             the machine stands for the state S, whatever was shown and whichever lines are left
+--     NextIs p q here t        the command that is next at a place, by its byte place and its text
 --     Begun p q k t word i     a command is begun: its word, which ends at i, was read
 use Rattle.std.specs.Prelude.{◌≡◌, ◌≤◌, ℕ, false, List, [], ◌∷◌, length, reverse, Option, Some, None, ℤ, pos, slice_get}
 use Rattle.ptb_text.specs.declared.word.Word.{Word}
@@ -13,7 +14,7 @@ use Rattle.ptb_machine.specs.declared.open.OpenLoop.{OpenLoop}
 use Rattle.ptb_machine.specs.declared.open.Open.{Open}
 use Rattle.ptb_machine.specs.declared.open.Open.TheVariants as opens
 use Rattle.ptb_machine.specs.Commands.{parts_of, command_of, command_at}
-use Rattle.ptb_machine.specs.State.{State, Place, Loop, Call, text_of}
+use Rattle.ptb_machine.specs.State.{State, Place, Loop, Call, text_of, next_command}
 use Rattle.ptb_machine.specs.Act.{is_fresh}
 use Rattle.ptb_machine.specs.Places.{At}
 use Rattle.ptb_machine.specs.Configuration.{Configuration}
@@ -34,6 +35,21 @@ PlacesAre p None None = Unit {0}
 PlacesAre p None (Some m) = ⊥
 PlacesAre p (Some q) None = ⊥
 PlacesAre p (Some q) (Some m) = PlaceIs p q m
+
+-- a place of the program, if there is one
+pub record IsPlaceOf (p : Statements) (m : Option Spot) : Type 0 where
+  pub place : Option Place
+  pub are : PlacesAre p place m
+
+-- ---- the next command
+
+-- here and t are the byte place of the command and the text of its statement
+pub record NextIs (p : Statements) (q : Option Place) (here : Spot) (t : List ℕ) : Type 0 where
+  pub place : Place
+  pub next : next_command p q ≡ Some (place, command_at t here.at)
+  pub is : PlaceIs p place here
+  pub text : text_of p place.number ≡ t
+  pub more : is_over t here.at ≡ false
 
 -- ---- levels
 

@@ -42,6 +42,7 @@ impl Registers {
             (command_course program.now.lines q
             (command_of word (parts_of word text.now from))) result)) }
         ensures steps { self.new.steps ≡ self.old.steps }
+        ensures cache { self.new.cache ≡ self.old.cache }
     {
         match word {
             Word::RemKw => {

@@ -43,6 +43,7 @@ impl Registers {
             (command_course program.now.lines q
             (command_of GosubKw (parts_of GosubKw text.now from))) result }
         ensures steps { self.new.steps ≡ self.old.steps }
+        ensures cache { self.new.cache ≡ self.old.cache }
     {
         command_laws();
         let (called, to) = value_at(text, from, &self.store, chooser)?;
@@ -67,6 +68,7 @@ impl Registers {
             Acts nothing_refused p (configuration self.old) (configuration self.new) d d
             (command_course p q (command_of ReturnKw (parts_of ReturnKw text.now from))) result }
         ensures steps { self.new.steps ≡ self.old.steps }
+        ensures cache { self.new.cache ≡ self.old.cache }
     {
         if !is_over(text, from) {
             return Err(fault(FaultKind::What, from));

@@ -34,6 +34,7 @@ impl Registers {
             (command_course program.now.lines q
             (command_of RemKw (parts_of RemKw t from))) (goes_on tt) }
         ensures steps { self.new.steps ≡ self.old.steps }
+        ensures cache { self.new.cache ≡ self.old.cache }
     {
         command_laws();
         self.place = place_after(program, statement);
@@ -69,6 +70,7 @@ impl Registers {
             (command_course program.now.lines q
             (command_of GotoKw (parts_of GotoKw text.now from))) result }
         ensures steps { self.new.steps ≡ self.old.steps }
+        ensures cache { self.new.cache ≡ self.old.cache }
     {
         command_laws();
         let (number, to) = value_at(text, from, &self.store, chooser)?;
@@ -100,6 +102,7 @@ impl Registers {
             (command_course program.now.lines q
             (command_of IfKw (parts_of IfKw text.now from))) result }
         ensures steps { self.new.steps ≡ self.old.steps }
+        ensures cache { self.new.cache ≡ self.old.cache }
     {
         command_laws();
         let (value, at) = value_at(text, from, &self.store, chooser)?;

@@ -8,11 +8,15 @@
 
 mod acting;
 mod assign;
+mod cache;
 mod calls;
 mod cutter;
+mod decoding;
 mod ending;
+mod executing;
 mod fault;
 mod input;
+mod instruction;
 mod jumps;
 mod laws;
 mod levels;

@@ -3,7 +3,7 @@
 ghost use Rattle.std.specs.Prelude.{◌≡◌, ◌≤◌, length, Option, None, IfSome, MatchOption};
 ghost use Rattle.ptb_machine.specs.Standing.{PlacesAre};
 ghost use Rattle.ptb_machine.specs.State.{Place, next_command};
-ghost use Rattle.ptb_machine.specs.Steps.{IsPlaceOf, NextIs};
+ghost use Rattle.ptb_machine.specs.Standing.{IsPlaceOf, NextIs};
 
 use crate::laws::command_laws;
 use crate::spot::Spot;

@@ -176,6 +176,7 @@ impl Registers {
             (devices (C.choices chooser.new) (screen_state S.Screen screen.new) given)
             (command_course p q (command_of PrintKw (parts_of PrintKw text.now from))) result }
         ensures steps { self.new.steps ≡ self.old.steps }
+        ensures cache { self.new.cache ≡ self.old.cache }
     {
         command_laws();
         let to = print(text, from, &self.store, chooser, screen, &mut self.fresh)?;

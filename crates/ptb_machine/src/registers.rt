@@ -1,5 +1,6 @@
 // This file says what a machine holds.
 
+use crate::cache::Cache;
 use crate::open::Open;
 use crate::spot::Spot;
 use arrayvec::ArrayVec;
@@ -16,6 +17,8 @@ pub(crate) struct Registers {
     pub(crate) place: Option<Spot>,
     /// The values of the variables and of the array.
     pub(crate) store: Store,
+    /// The instructions of commands that were done before.
+    pub(crate) cache: Cache,
     /// The open loops and calls, newest last.
     pub(crate) stack: ArrayVec<Open, NESTING_LIMIT>,
     /// How many commands were begun.

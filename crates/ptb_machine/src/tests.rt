@@ -2,7 +2,7 @@
 
 use super::*;
 use ptb_expr::Listed;
-use ptb_text::Program;
+use ptb_text::{Device, Program, load};
 use std::alloc::Global;
 use std::test::Fail;
 
@@ -181,5 +181,367 @@ fn steps(rt: HostRuntime) -> Result<(), Fail> {
     assert!(rt; spent == Err(RunFault::Spent));
     assert_eq!(rt; machine.steps(), 2);
     assert_eq!(rt; screen.bytes(), &b"     1     2\n"[..]);
+    Ok(())
+}
+
+// How a run of a program's text without input ends, and what it shows.
+fn ending_of(
+    alloc: Global,
+    text: &[u8],
+    limit: u32,
+) -> Result<(Result<Ending, RunFault>, TextScreen), Fail> {
+    let mut text = text;
+    let program = load(alloc, MEMORY, &mut Device::new(&mut text))?;
+    let mut list = Listed::new(&[]);
+    let mut screen = TextScreen::new(alloc);
+    let mut input = Lines::new(&[]);
+    let result = run(alloc, &program, limit, &mut list, &mut screen, &mut input);
+    Ok((result, screen))
+}
+
+// Commands that are done often, up to one whose expression has no value. The run takes as many
+// steps as it is given, and one fewer are too few.
+#[test]
+fn formulas_without_a_value(rt: HostRuntime) -> Result<(), Fail> {
+    for (text, steps, want, shown) in [
+        (
+            &b"10 A=32760\n20 A=A+1;GOTO 20\n"[..],
+            16,
+            Ending::How,
+            &b"HOW?\n20 A=A+1?;GOTO 20\n"[..],
+        ),
+        (
+            b"10 A=A-8192;GOTO 10\n",
+            9,
+            Ending::How,
+            b"HOW?\n10 A=A-8192?;GOTO 10\n",
+        ),
+        (
+            b"10 A=-1\n20 A=A*2;GOTO 20\n",
+            30,
+            Ending::How,
+            b"HOW?\n20 A=A*2?;GOTO 20\n",
+        ),
+        (
+            b"10 A=3\n20 B=6/A\n30 A=A-1;GOTO 20\n",
+            11,
+            Ending::How,
+            b"HOW?\n20 B=6/A?\n",
+        ),
+    ] {
+        let (result, screen) = ending_of(rt.alloc(), text, steps)?;
+        assert!(rt; result == Ok(want), "{text:?}");
+        assert_eq!(rt; screen.bytes(), shown, "{text:?}");
+        let (result, _) = ending_of(rt.alloc(), text, steps.saturating_sub(1))?;
+        assert!(rt; result == Ok(Ending::Limit), "{text:?}");
+    }
+    Ok(())
+}
+
+// Jumps to a number beside jumps to the value of a variable.
+#[test]
+fn jumps_done_often(rt: HostRuntime) -> Result<(), Fail> {
+    for (text, steps, want, shown) in [(
+        &b"10 A=40\n20 B=B+1;A=90-A;GOTO A\n40 IF B=6 STOP\n45 GOTO 20\n50 P.B,;GOTO 20\n"[..],
+        31,
+        Ending::Stop,
+        &b"     1     3     5"[..],
+    )] {
+        let (result, screen) = ending_of(rt.alloc(), text, steps)?;
+        assert!(rt; result == Ok(want), "{text:?}");
+        assert_eq!(rt; screen.bytes(), shown, "{text:?}");
+        let (result, _) = ending_of(rt.alloc(), text, steps.saturating_sub(1))?;
+        assert!(rt; result == Ok(Ending::Limit), "{text:?}");
+    }
+    Ok(())
+}
+
+// Conditions that change, one behind which the text is over, and one that has no value at last.
+#[test]
+fn conditions_done_often(rt: HostRuntime) -> Result<(), Fail> {
+    for (text, steps, want, shown) in [
+        (
+            &b"10 A=A+1;IF A<5 GOTO 10\n20 P.A\n"[..],
+            15,
+            Ending::End,
+            &b"     5\n"[..],
+        ),
+        (b"10 A=A+1;IF A>4 STOP\n20 GOTO 10\n", 15, Ending::Stop, b""),
+        (b"10 A=A+1;IF A<4 GOTO 10\n", 11, Ending::End, b""),
+        (
+            b"10 A=A+3000;IF A+A>0 GOTO 10\n",
+            17,
+            Ending::How,
+            b"HOW?\n10 A=A+3000;IF A+A?>0 GOTO 10\n",
+        ),
+        (
+            b"10 A=A+1;IF A<6\n20 IF A<7 GOTO 10\n30 P.A\n",
+            28,
+            Ending::End,
+            b"     7\n",
+        ),
+        (
+            b"10 IF A;P.1\n20 B=B+1;IF B<4 GOTO 10\n30 A=1;GOTO 10\n",
+            19,
+            Ending::What,
+            b"WHAT?\n10 IF A?;P.1\n",
+        ),
+    ] {
+        let (result, screen) = ending_of(rt.alloc(), text, steps)?;
+        assert!(rt; result == Ok(want), "{text:?}");
+        assert_eq!(rt; screen.bytes(), shown, "{text:?}");
+        let (result, _) = ending_of(rt.alloc(), text, steps.saturating_sub(1))?;
+        assert!(rt; result == Ok(Ending::Limit), "{text:?}");
+    }
+    Ok(())
+}
+
+// Commands behind one another, at the end of a text and behind blanks, and assignments of more
+// than one value.
+#[test]
+fn places_of_commands_done_often(rt: HostRuntime) -> Result<(), Fail> {
+    for (text, steps, want, shown) in [
+        (
+            &b"10 A=A+1\n20 B=B+A;C=C+1\n30 IF C<5 GOTO 10\n40 P.A,B,C\n"[..],
+            25,
+            Ending::End,
+            &b"     5    15     5\n"[..],
+        ),
+        (
+            b"10 A=A+1  \n20 B=B+A ;  \n30 IF B<15 GOTO 10  \n40 P.A,B\n",
+            20,
+            Ending::End,
+            b"     5    15\n",
+        ),
+        (
+            b"10 A=A+1,B=B+A\n20 IF A<5 GOTO 10\n30 P.A,B\n",
+            15,
+            Ending::End,
+            b"     5    15\n",
+        ),
+        (
+            b"10 A=A+1;@(A)=A*A;B=B+@(A)\n20 IF A<5 GOTO 10\n30 P.B,@(4)\n",
+            25,
+            Ending::End,
+            b"    55    16\n",
+        ),
+    ] {
+        let (result, screen) = ending_of(rt.alloc(), text, steps)?;
+        assert!(rt; result == Ok(want), "{text:?}");
+        assert_eq!(rt; screen.bytes(), shown, "{text:?}");
+        let (result, _) = ending_of(rt.alloc(), text, steps.saturating_sub(1))?;
+        assert!(rt; result == Ok(Ending::Limit), "{text:?}");
+    }
+    Ok(())
+}
+
+// Calls until no room is left, and RETURN where no call is open any more.
+#[test]
+fn calls_done_often(rt: HostRuntime) -> Result<(), Fail> {
+    for (text, steps, want, shown) in [
+        (
+            &b"10 D=D+1;GOSUB 10\n"[..],
+            130,
+            Ending::Sorry,
+            &b"SORRY\n10 D=D+1;GOSUB 10?\n"[..],
+        ),
+        (
+            b"10 GOSUB 10;P.1\n",
+            65,
+            Ending::Sorry,
+            b"SORRY\n10 GOSUB 10?;P.1\n",
+        ),
+        (
+            b"10 I=I+1;GOSUB 40\n20 IF I<5 GOTO 10\n40 RETURN\n",
+            25,
+            Ending::What,
+            b"WHAT?\n40 RETURN?\n",
+        ),
+        (
+            b"10 I=I+1;GOSUB 40;P.I,\n20 IF I<4 GOTO 10\n30 STOP\n40 RETURN\n",
+            24,
+            Ending::Stop,
+            b"     1     2     3     4",
+        ),
+    ] {
+        let (result, screen) = ending_of(rt.alloc(), text, steps)?;
+        assert!(rt; result == Ok(want), "{text:?}");
+        assert_eq!(rt; screen.bytes(), shown, "{text:?}");
+        let (result, _) = ending_of(rt.alloc(), text, steps.saturating_sub(1))?;
+        assert!(rt; result == Ok(Ending::Limit), "{text:?}");
+    }
+    Ok(())
+}
+
+// A downward loop, loops closed by an outer one and by RETURN, and NEXT where none is open any
+// more.
+#[test]
+fn loops_done_often(rt: HostRuntime) -> Result<(), Fail> {
+    for (text, steps, want, shown) in [
+        (
+            &b"10 A=A+1;IF A=4 GOTO 30\n20 FOR I=1 TO 2;GOTO 30\n30 NEXT I\n40 GOTO 10\n"[..],
+            28,
+            Ending::What,
+            &b"WHAT?\n30 NEXT I?\n"[..],
+        ),
+        (
+            b"10 A=A+1;GOSUB 40\n20 IF A<4 GOTO 10\n30 NEXT I\n40 FOR I=1 TO 9;RETURN\n",
+            24,
+            Ending::What,
+            b"WHAT?\n30 NEXT I?\n",
+        ),
+        (
+            b"10 FOR I=9 TO 1 STEP -2\n20 P.I,;NEXT I\n30 P.I\n",
+            12,
+            Ending::End,
+            b"     9     7     5     3     1    -1\n",
+        ),
+        (
+            b"10 FOR I=1 TO 3\n20 FOR J=1 TO 3\n30 A=A+1;NEXT I\n40 P.A,I,J;NEXT J\n",
+            12,
+            Ending::What,
+            b"     3     4     1\nWHAT?\n40 P.A,I,J;NEXT J?\n",
+        ),
+    ] {
+        let (result, screen) = ending_of(rt.alloc(), text, steps)?;
+        assert!(rt; result == Ok(want), "{text:?}");
+        assert_eq!(rt; screen.bytes(), shown, "{text:?}");
+        let (result, _) = ending_of(rt.alloc(), text, steps.saturating_sub(1))?;
+        assert!(rt; result == Ok(Ending::Limit), "{text:?}");
+    }
+    Ok(())
+}
+
+// A loop ends where its next value is out of range, and its variable keeps the value before.
+#[test]
+fn loops_to_the_ends_of_the_range(rt: HostRuntime) -> Result<(), Fail> {
+    for (text, steps, want, shown) in [
+        (
+            &b"10 FOR I=32760 TO 32767\n20 NEXT I\n30 P.I\n"[..],
+            10,
+            Ending::End,
+            &b" 32767\n"[..],
+        ),
+        (
+            b"10 FOR I=32760 TO 32767\n20 NEXT I\n30 P.I;NEXT I\n",
+            11,
+            Ending::What,
+            b" 32767\nWHAT?\n30 P.I;NEXT I?\n",
+        ),
+        (
+            b"10 FOR I=-32760 TO -32767-1 STEP -2\n20 NEXT I\n30 P.I\n",
+            7,
+            Ending::End,
+            b"-32768\n",
+        ),
+    ] {
+        let (result, screen) = ending_of(rt.alloc(), text, steps)?;
+        assert!(rt; result == Ok(want), "{text:?}");
+        assert_eq!(rt; screen.bytes(), shown, "{text:?}");
+        let (result, _) = ending_of(rt.alloc(), text, steps.saturating_sub(1))?;
+        assert!(rt; result == Ok(Ending::Limit), "{text:?}");
+    }
+    Ok(())
+}
+
+// The place 29 of the first statement and the beginning of the second share the room that is kept
+// for what was read of a command.
+#[test]
+fn places_that_share_an_entry(rt: HostRuntime) -> Result<(), Fail> {
+    for (text, steps, want, shown) in [
+        (
+            &b"10 A=A+10;B=B+1;C=C+1;D=2;E=A-B;IF B<G GOTO 10\n20 G=G+5;IF G<20 GOTO 10\n30 P.A,B,C,D,E,G\n"[..],
+            113,
+            Ending::End,
+            &b"   150    15    15     2   135    20\n"[..],
+        ),
+        (
+            b"10 A=A+10;B=B+1;C=C+1;D=2;E=A-B;IF B=4 STOP\n20 F=F+E;P.F,;GOTO 10\n",
+            34,
+            Ending::Stop,
+            b"     9    27    54",
+        ),
+    ] {
+        let (result, screen) = ending_of(rt.alloc(), text, steps)?;
+        assert!(rt; result == Ok(want), "{text:?}");
+        assert_eq!(rt; screen.bytes(), shown, "{text:?}");
+        let (result, _) = ending_of(rt.alloc(), text, steps.saturating_sub(1))?;
+        assert!(rt; result == Ok(Ending::Limit), "{text:?}");
+    }
+    Ok(())
+}
+
+// Each command counts as one step, however it is done: only every third one is shown.
+#[test]
+fn limits_on_commands_done_often(rt: HostRuntime) -> Result<(), Fail> {
+    for (limit, shown) in [
+        (7, &b"     1     2"[..]),
+        (8, b"     1     2     3"),
+        (9, b"     1     2     3"),
+        (10, b"     1     2     3"),
+        (11, b"     1     2     3     4"),
+        (12, b"     1     2     3     4"),
+        (20, b"     1     2     3     4     5     6     7"),
+    ] {
+        let (result, screen) = ending_of(rt.alloc(), b"10 A=A+1;P.A,;GOTO 10", limit)?;
+        assert!(rt; result == Ok(Ending::Limit), "{limit}");
+        assert_eq!(rt; screen.bytes(), shown, "{limit}");
+    }
+    Ok(())
+}
+
+// The limit falls on a command that was done twice before, and the run is over then.
+#[test]
+fn steps_of_commands_done_often(rt: HostRuntime) -> Result<(), Fail> {
+    let program = program(rt.alloc(), b"10 GOTO 10", b"")?;
+    let mut list = Listed::new(&[]);
+    let mut screen = TextScreen::new(rt.alloc());
+    let mut input = Lines::new(&[]);
+    let mut machine = Machine::new(rt.alloc(), &program)?;
+    assert!(rt; machine.step(&program, 4, &mut list, &mut screen, &mut input) == Ok(None));
+    assert!(rt; machine.step(&program, 4, &mut list, &mut screen, &mut input) == Ok(None));
+    assert!(rt; machine.step(&program, 4, &mut list, &mut screen, &mut input) == Ok(None));
+    assert_eq!(rt; machine.steps(), 3);
+    assert!(rt; machine.step(&program, 4, &mut list, &mut screen, &mut input) == Ok(None));
+    assert_eq!(rt; machine.steps(), 4);
+    let last = machine.step(&program, 4, &mut list, &mut screen, &mut input);
+    assert!(rt; last == Ok(Some(Ending::Limit)));
+    let spent = machine.step(&program, 5, &mut list, &mut screen, &mut input);
+    assert!(rt; spent == Err(RunFault::Spent));
+    assert_eq!(rt; machine.steps(), 4);
+    Ok(())
+}
+
+// The places 0 and 128 of a statement share the room that is kept for what was read.
+#[test]
+fn places_of_one_statement_that_share_an_entry(rt: HostRuntime) -> Result<(), Fail> {
+    let mut text = Vec::from_slice(rt.alloc(), b"10 A=A+1")?;
+    text.resize(3 + 127, b' ')?;
+    text.extend_from_slice(b";IF A<5 GOTO 10\n20 P.A\n")?;
+    let (result, screen) = ending_of(rt.alloc(), text.as_slice(), 15)?;
+    assert!(rt; result == Ok(Ending::End));
+    assert_eq!(rt; screen.bytes(), &b"     5\n"[..]);
+    let (result, _) = ending_of(rt.alloc(), text.as_slice(), 14)?;
+    assert!(rt; result == Ok(Ending::Limit));
+    Ok(())
+}
+
+// So do the beginnings of the first statement and of the 129th.
+#[test]
+fn statements_that_share_an_entry(rt: HostRuntime) -> Result<(), Fail> {
+    let mut text = Vec::from_slice(rt.alloc(), b"10 A=A+1;GOTO 5000\n")?;
+    for n in 0..127_u8 {
+        text.push(b'1')?;
+        text.push((n / 100).wrapping_add(b'0'))?;
+        text.push((n / 10 % 10).wrapping_add(b'0'))?;
+        text.push((n % 10).wrapping_add(b'0'))?;
+        text.extend_from_slice(b" REM\n")?;
+    }
+    text.extend_from_slice(b"5000 IF A<5 GOTO 10\n5010 P.A\n")?;
+    let (result, screen) = ending_of(rt.alloc(), text.as_slice(), 20)?;
+    assert!(rt; result == Ok(Ending::End));
+    assert_eq!(rt; screen.bytes(), &b"     5\n"[..]);
+    let (result, _) = ending_of(rt.alloc(), text.as_slice(), 19)?;
+    assert!(rt; result == Ok(Ending::Limit));
     Ok(())
 }

@@ -17,6 +17,7 @@ loop-ending-init c =
       plan = refl;
       same_lines = ap (λ (s : LineList). s.lines) c.new-source.ensures;
       unspent = c.in_ok-machine.ensures.unspent;
+      fits = c.in_ok-machine.ensures.fits;
       underway = subst (λ shown. P shown (drop c.new-source.result.taken c.new-source.result.lines)) (sym c.requires.shown) (subst (P []) (sym all) first);
     }
 
@@ -37,6 +38,7 @@ loop-ending-preserved c =
       plan = x.0 ∙ i.plan;
       same_lines = steps.1.0.same_lines ∙ i.same_lines;
       unspent = c.step.ensures.spends.0 is;
+      fits = c.step.ensures.fits;
       underway = x.1;
     }
 

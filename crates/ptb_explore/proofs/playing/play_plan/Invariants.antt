@@ -1,5 +1,6 @@
 -- This file says what is kept while a run is played.
 use Rattle.std.proofs.Common.{◌≡◌, ◌-◌, drop, false}
+use Rattle.ptb_machine.specs.Steps.{FitsProgram}
 use Rattle.ptb_explore.specs.Recording.{choices_of}
 use Rattle.ptb_explore.proofs.Underway.{IsUnderway}
 use Rattle.ptb_explore.proofs.playing.play_plan.Given as goal
@@ -9,6 +10,7 @@ invariant-loop-ending l = record {
   plan : (choices_of l.trial).plan ≡ (choices_of l.fn.trial).plan;
   same_lines : l.source.lines ≡ l.lines;
   unspent : l.machine.spent ≡ false;
+  fits : FitsProgram l.program l.machine;
   underway : IsUnderway l.program l.lines l.limit (choices_of l.trial) l.screen (drop l.source.taken l.source.lines) l.machine;
 }
 

@@ -2,7 +2,7 @@
 use Rattle.std.proofs.Common.{◌≡◌, ◌∙◌, Option, None, sym, subst}
 use Rattle.ptb_machine.specs.Standing.{PlacesAre}
 use Rattle.ptb_machine.specs.State.{Place, next_command}
-use Rattle.ptb_machine.specs.Steps.{NextIs}
+use Rattle.ptb_machine.specs.Standing.{NextIs}
 use Rattle.ptb_machine.proofs.Placed.{not_placed}
 use Rattle.ptb_machine.proofs.Nexts.{placed, text_there, next_nowhere, next_here, next_last, next_empty, next_behind}
 use Rattle.ptb_machine.proofs.next.next_command.Goals as goal
