@@ -8,8 +8,9 @@ ghost use Rattle.ptb_text.specs.Words.{spelling_in_front, words, IsCommand, IsFu
 
 use crate::word::{Table, Word};
 
-// All that looks for a command's word is inlined: a result that a call hands over in memory is read
-// back late, and a loop of LET, IF and GOTO took 31 ns a command so, in place of 20.
+// All that looks for a command's word is inlined, for a result that a call hands over in memory is
+// read back late. With it and the variable of LET inlined, a command that is read took 20 ns in a
+// loop of LET, IF and GOTO, and 31 before.
 
 // what stands behind a word that is cut
 const PERIOD: u8 = b'.';
