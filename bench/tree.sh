@@ -1,13 +1,48 @@
 #!/bin/bash
-# Prints how many runs a second ptb --all lists, and the memory that it takes, for trees of 1,000 and of 100,000 runs: bench/tree.sh
+# Times ptb --all: bench/tree.sh [OTHER_PTB]
+#
+# Prints the microseconds that a run takes in listings of 10,000 runs of 4, 25, 110 and 790 commands: the middle and the least of ten
+# rounds, and beside them those of another build of ptb where one is named, in turn with it. Then the runs a second and the memory of trees of
+# 1,000 and of 100,000 runs.
 set -eu
 root=$(dirname "$(readlink -f "$0")")/..
 program=$root/crates/ptb/out/ptb
+other=${1:-}
 [ -x "$program" ] || "$root/ptb" <"$root/examples/hello.bas" >/dev/null
 room=$(mktemp -d)
 trap 'rm -rf "$room"' EXIT
-printf '10 PRINT RND(10)+RND(10)+RND(10)+RND(10)+RND(10)\n' >"$room/five.bas"
 
+# the nanoseconds that a listing of this program takes
+listing_time() {
+    local start
+    start=$(date +%s%N)
+    "$1" --all "$2" </dev/null >/dev/null
+    echo $(($(date +%s%N) - start))
+}
+
+# the middle and the least of ten times, a line each, as microseconds a run of 10,000
+summary() { sort -n | awk '{ t[NR] = $1 } END { printf "%6.2f (least %.2f)", (t[5] + t[6]) / 2 / 1e7, t[1] / 1e7 }'; }
+
+# runs of 5 + 2 * rounds commands, or of 4
+for rounds in 0 10 52 392; do
+    printf '10 B=RND(10);C=RND(10);D=RND(10);E=RND(10)\n' >"$room/runs.bas"
+    commands=4
+    if [ "$rounds" -gt 0 ]; then
+        printf '20 F.I=1TO%d;A=I/2;N.I\n' "$rounds" >>"$room/runs.bas"
+        commands=$((5 + 2 * rounds))
+    fi
+    : >"$room/times"
+    : >"$room/other"
+    for _ in 1 2 3 4 5 6 7 8 9 10; do
+        listing_time "$program" "$room/runs.bas" >>"$room/times"
+        if [ -n "$other" ]; then listing_time "$other" "$room/runs.bas" >>"$room/other"; fi
+    done
+    printf '%4d commands a run: %s microseconds' "$commands" "$(summary <"$room/times")"
+    if [ -n "$other" ]; then printf ', other build %s' "$(summary <"$room/other")"; fi
+    printf '\n'
+done
+
+printf '10 PRINT RND(10)+RND(10)+RND(10)+RND(10)+RND(10)\n' >"$room/five.bas"
 for runs in 1000 100000; do
     start=$(date +%s%N)
     "$program" --all --first "$runs" "$room/five.bas" </dev/null >"$room/reports" &

@@ -70,7 +70,7 @@ complains() {
     fi
 }
 
-"$ptb" --help >/dev/null || exit 1
+"$ptb" <"$root/examples/hello.bas" >/dev/null || exit 1
 
 # ---- statuses of runs
 
@@ -203,6 +203,45 @@ if [ "$(grep -c '^RUN ' "$folder/whole")" = 216 ] && cmp -s "$folder/whole" "$fo
 else
     count 'shares of a tree' no
 fi
+
+# ---- the start script, with a command rt that builds nothing or a program that says its words
+
+# started NAME STATUS OUTPUT ERRORS WORDS..: a start in a copy of the repository's shape; a line for errors fits the pattern
+# ERRORS, or there is none where the pattern is empty
+started() {
+    local name=$1 due=$2 output=$3 errors=$4
+    shift 4
+    PATH=$folder/bin:$PATH "$folder/copy/ptb" "$@" </dev/null >"$folder/output" 2>"$folder/errors"
+    status=$?
+    if [ "$status" = "$due" ] && [ "$(cat "$folder/output")" = "$output" ] &&
+        { if [ -n "$errors" ]; then grep -q "$errors" "$folder/errors"; else [ ! -s "$folder/errors" ]; fi; }; then
+        count "$name" yes
+    else
+        count "$name" no
+    fi
+}
+
+mkdir -p "$folder/bin" "$folder/copy/crates/ptb/src" "$folder/copy/crates/ptb/specs" "$folder/copy/crates/ptb/proofs"
+cp "$root/ptb" "$root/crates.txt" "$folder/copy/"
+printf '#!/bin/sh\necho "so far: 3 of 9 functions checked"\nsleep 2\nexit 1\n' >"$folder/bin/rt"
+chmod +x "$folder/bin/rt"
+started 'help is no reason to build' 70 '' '^ptb: not built yet: ' --help
+started 'a build tells its crate' 70 '' '^ptb: crate 1 of 5 (ptb_text)$' --all
+started 'a build that fails names its log' 70 '' '^ptb: not built; what was said of it: /' --all
+log=$(sed -n 's/^ptb: not built; what was said of it: //p' "$folder/errors")
+if grep -q '^so far: 3 of 9 functions checked$' "$log"; then count 'the log is there' yes; else count 'the log is there' no; fi
+rm -f "$log"
+cat >"$folder/bin/rt" <<'END'
+#!/bin/sh
+mkdir -p out
+printf '#!/bin/sh\necho "said $*"\n' >out/ptb
+chmod +x out/ptb
+echo 'crate ptb_explore: modules loaded=1 checked=1'
+echo 'logic=proved functions=1'
+sleep 2
+END
+started 'a program that is built is run' 0 'said --all a' '^ptb: crate 5 of 5 (ptb)$' --all a
+started 'and is not built again' 0 'said --help' '' --help
 
 echo "$passed passed, $failed failed"
 [ "$failed" = 0 ]

@@ -16,10 +16,10 @@ use Rattle.ptb_explore.specs.declared.fault.ExploreFault.TheVariants as explores
 use Rattle.ptb_explore.specs.Exploring.{Exploration, play_of, most_of}
 use Rattle.ptb_explore.specs.Listing.{text, WritesRuns}
 use Rattle.ptb_explore.specs.Report.{report}
-use Rattle.ptb_explore.specs.Runs.{Front, runs_left}
+use Rattle.ptb_explore.specs.RunTree.{Front, runs_left}
 use Rattle.ptb.specs.declared.note.Note.{Note}
 use Rattle.ptb.specs.declared.note.Note.TheVariants as notes
-use Rattle.ptb.specs.Replies.{Reply, refusal, success, front_of, is_front, listed_runs, runs_reply, all_reply}
+use Rattle.ptb.specs.Replies.{Reply, refusal, success, first_front, is_front, listed_runs, runs_reply, all_reply}
 use Rattle.ptb.specs.Serving.{outcome_of, input_note, reports_note, Serves}
 use Rattle.ptb.proofs.Playing.{takes_beginning}
 use Rattle.ptb.proofs.Served.{takes_nothing, replies_refusal}
@@ -67,20 +67,20 @@ abbrev pub runs_due : ℕ → Option Answers → Option ℕ → List ℕ → Sto
 runs_due limit after first c p = all_reply p (input_lines c) limit after first
 
 module _ (p : StoredProgram) (limit : ℕ) (after : Option Answers) (first : Option ℕ) where
-  abbrev course : List (List ℕ) → Answers → Outcome Finish (List ℕ)
-  course input = play p input limit
+  abbrev game : List (List ℕ) → Answers → Outcome Finish (List ℕ)
+  game input = play p input limit
 
   abbrev reply : List (List ℕ) → Reply
   reply input = all_reply p input limit after first
 
   abbrev due : List (List ℕ) → List ℕ
-  due input = listed_runs (course input) (most_answers p input limit) after first
+  due input = listed_runs (game input) (most_answers p input limit) after first
 
-  reply-listed : (input : List (List ℕ)) → is_front (course input) after ≡ true → reply input ≡ success (due input)
+  reply-listed : (input : List (List ℕ)) → is_front (game input) after ≡ true → reply input ≡ success (due input)
   unfolding runs_reply
   reply-listed input h = ap (λ (t : Bool). elim t [ true ↦ success (due input) | false ↦ refusal notes.NoRun ]) h
 
-  reply-refused : (input : List (List ℕ)) → is_front (course input) after ≡ false → reply input ≡ refusal notes.NoRun
+  reply-refused : (input : List (List ℕ)) → is_front (game input) after ≡ false → reply input ≡ refusal notes.NoRun
   unfolding runs_reply
   reply-refused input h = ap (λ (t : Bool). elim t [ true ↦ success (due input) | false ↦ refusal notes.NoRun ]) h
 
@@ -93,7 +93,7 @@ module _ (p : StoredProgram) (limit : ℕ) (after : Option Answers) (first : Opt
     serves_unread input reads.Memory = takes_nothing held _
 
     serves_unbegun : (input : List (List ℕ)) (note : Note) → (note ≡ notes.NoRun) ⊎ (note ≡ notes.OutOfMemory)
-        → (note ≡ notes.NoRun → is_front (course input) after ≡ false) → Serves (reply input) held held (outcome_of (Err note))
+        → (note ≡ notes.NoRun → is_front (game input) after ≡ false) → Serves (reply input) held held (outcome_of (Err note))
     serves_unbegun input note (inl e) h =
         subst (λ m. Serves (reply input) held held (outcome_of (Err m))) (sym e)
         (subst (λ r. Serves r held held (outcome_of (Err notes.NoRun))) (sym (reply-refused input (h e))) (replies_refusal held notes.NoRun))
@@ -106,36 +106,36 @@ module _ (p : StoredProgram) (limit : ℕ) (after : Option Answers) (first : Opt
       serves_input fault = serves_unread (input_lines c) fault
 
       pub serves_front : (input : List (List ℕ)) → input ≡ input_lines c → (note : Note) → (note ≡ notes.NoRun) ⊎ (note ≡ notes.OutOfMemory)
-          → (note ≡ notes.NoRun → is_front (course input) after ≡ false) → Serves (runs_due limit after first c p) held held (outcome_of (Err note))
+          → (note ≡ notes.NoRun → is_front (game input) after ≡ false) → Serves (runs_due limit after first c p) held held (outcome_of (Err note))
       serves_front input is note one h = subst (λ i. Serves (reply i) held held (outcome_of (Err note))) is (serves_unbegun input note one h)
 
   -- ---- how it is served, where reports were written
 
   module _ (old new : Option (List ℕ)) where
-    takes_due : (input : List (List ℕ)) (written : List ℕ) → is_front (course input) after ≡ true → Appends old new written → Begins written (due input)
+    takes_due : (input : List (List ℕ)) (written : List ℕ) → is_front (game input) after ≡ true → Appends old new written → Begins written (due input)
         → TakesSome old new (reply input).bytes
     takes_due input written h w begins =
         subst (λ r. TakesSome old new r.bytes) (sym (reply-listed input h)) (takes_beginning old new written (due input) w begins)
 
     abbrev Writes : List (List ℕ) → Front → Result ℕ ExploreFault → Type 0
     Writes input f result =
-        WritesRuns (course input) (report (course input)) (runs_left (course input) (most_answers p input limit) (front_of after) first) (front_of after) f old new result
+        WritesRuns (game input) (report (game input)) (runs_left (game input) (most_answers p input limit) (first_front after) first) (first_front after) f old new result
 
-    serves_written : (input : List (List ℕ)) (f : Front) (n : ℕ) → is_front (course input) after ≡ true → Writes input f (Ok n)
+    serves_written : (input : List (List ℕ)) (f : Front) (n : ℕ) → is_front (game input) after ≡ true → Writes input f (Ok n)
         → Serves (reply input) old new (outcome_of (Ok 0))
     serves_written input f n h w =
         subst (λ r. Serves r old new (outcome_of (Ok 0))) (sym (reply-listed input h)) (record { bytes = w.bytes; status = refl; note = refl })
 
-    serves_cut : (input : List (List ℕ)) (f : Front) (fault : ExploreFault) → is_front (course input) after ≡ true → Writes input f (Err fault)
+    serves_cut : (input : List (List ℕ)) (f : Front) (fault : ExploreFault) → is_front (game input) after ≡ true → Writes input f (Err fault)
         → Serves (reply input) old new (outcome_of (Err (reports_note fault)))
     serves_cut input f (explores.Memory n) h w =
-        takes_due input _ h w.bytes (text-beginning (report (course input)) _ w.beginning w.rest w.split)
+        takes_due input _ h w.bytes (text-beginning (report (game input)) _ w.beginning w.rest w.split)
     serves_cut input f (explores.Write n) h w =
-        takes_due input _ h w.bytes (text-into (report (course input)) _ w.beginning w.at w.rest w.part w.remainder w.split w.cut)
+        takes_due input _ h w.bytes (text-into (report (game input)) _ w.beginning w.at w.rest w.part w.remainder w.split w.cut)
 
     -- by the bytes of the input, of which the lines are those that were read, and an explorer that went on from its front
     module _ (c : List ℕ) (input : List (List ℕ)) (is : input ≡ input_lines c) (e : Exploration) (f : Front)
-        (same : e ≡ record { program = p; input = input; limit = limit; front = front_of after }) (h : is_front (course input) after ≡ true) where
+        (same : e ≡ record { program = p; input = input; limit = limit; front = first_front after }) (h : is_front (game input) after ≡ true) where
       abbrev WritesFrom : Exploration → Result ℕ ExploreFault → Type 0
       WritesFrom e result = WritesRuns (play_of e) (report (play_of e)) (runs_left (play_of e) (most_of e) e.front first) e.front f old new result
 

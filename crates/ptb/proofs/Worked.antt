@@ -10,14 +10,14 @@ use Rattle.ptb_expr.specs.Reading.{more, paren, variable_or, variable, plain, fa
 use Rattle.ptb_machine.specs.Items.{items_within, items}
 use Rattle.ptb_machine.specs.Commands.{assignment, string_at, print_item, print_parts, input_item, step_parts, limit_parts, for_parts, next_parts, parts_of, command_at, command_round, commands_from}
 use Rattle.ptb_machine.specs.State.{next_command}
-use Rattle.ptb_machine.specs.Act.{input_course, parts_course, finish, command_course, act}
+use Rattle.ptb_machine.specs.Act.{input_action, parts_action, finish, command_action, act}
 use Rattle.ptb_machine.specs.Play.{turn, turns_within, turns, play}
 use Rattle.clap.proofs.OnLiterals.{clap_on_literals}
 use Rattle.ptb.specs.Replies.{program_of_text, runs_reply}
 use Rattle.ptb.specs.Rows.{RunRows, ProgramRows, ExampleRows, LongRunRows, AllRows, AfterRows, RefusalRows, ListingRows, ClashRows, OptionRows, FaultRows}
 
 pub run_rows : RunRows
-unfolding digits after_lines past_blanks spelling_in_front word_at bytes_at letter_at number_at quotation_at answer random_number value target_of product_operator sum_operator comparison more paren variable_or variable plain factor product first_product sum expr_with expr expression variable_tree items_within items assignment string_at print_item print_parts input_item step_parts limit_parts for_parts next_parts parts_of command_at command_round commands_from next_command input_course parts_course finish command_course act turn turns_within turns play program_of_text
+unfolding digits after_lines past_blanks spelling_in_front word_at bytes_at letter_at number_at quotation_at answer random_number value target_of product_operator sum_operator comparison more paren variable_or variable plain factor product first_product sum expr_with expr expression variable_tree items_within items assignment string_at print_item print_parts input_item step_parts limit_parts for_parts next_parts parts_of command_at command_round commands_from next_command input_action parts_action finish command_action act turn turns_within turns play program_of_text
 run_rows = record {
   greeting = refl;
   one_answer = refl;
@@ -32,7 +32,7 @@ run_rows = record {
 }
 
 pub program_rows : ProgramRows
-unfolding digits after_lines past_blanks spelling_in_front word_at bytes_at letter_at number_at quotation_at answer random_number value target_of product_operator sum_operator comparison more paren variable_or variable plain factor product first_product sum expr_with expr expression variable_tree items_within items assignment string_at print_item print_parts input_item step_parts limit_parts for_parts next_parts parts_of command_at command_round commands_from next_command input_course parts_course finish command_course act turn turns_within turns play program_of_text
+unfolding digits after_lines past_blanks spelling_in_front word_at bytes_at letter_at number_at quotation_at answer random_number value target_of product_operator sum_operator comparison more paren variable_or variable plain factor product first_product sum expr_with expr expression variable_tree items_within items assignment string_at print_item print_parts input_item step_parts limit_parts for_parts next_parts parts_of command_at command_round commands_from next_command input_action parts_action finish command_action act turn turns_within turns play program_of_text
 program_rows = record {
   lines_in_order = refl;
   least_number = refl;
@@ -51,7 +51,7 @@ program_rows = record {
 }
 
 pub example_rows : ExampleRows
-unfolding digits after_lines past_blanks spelling_in_front word_at bytes_at letter_at number_at quotation_at answer random_number value target_of product_operator sum_operator comparison more paren variable_or variable plain factor product first_product sum expr_with expr expression variable_tree items_within items assignment string_at print_item print_parts input_item step_parts limit_parts for_parts next_parts parts_of command_at command_round commands_from next_command input_course parts_course finish command_course act turn turns_within turns play program_of_text
+unfolding digits after_lines past_blanks spelling_in_front word_at bytes_at letter_at number_at quotation_at answer random_number value target_of product_operator sum_operator comparison more paren variable_or variable plain factor product first_product sum expr_with expr expression variable_tree items_within items assignment string_at print_item print_parts input_item step_parts limit_parts for_parts next_parts parts_of command_at command_round commands_from next_command input_action parts_action finish command_action act turn turns_within turns play program_of_text
 example_rows = record {
   two_dice = refl;
   many = refl;
@@ -63,7 +63,7 @@ example_rows = record {
 }
 
 pub long_run_rows : LongRunRows
-unfolding digits after_lines past_blanks spelling_in_front word_at bytes_at letter_at number_at quotation_at answer random_number value target_of product_operator sum_operator comparison more paren variable_or variable plain factor product first_product sum expr_with expr expression variable_tree items_within items assignment string_at print_item print_parts input_item step_parts limit_parts for_parts next_parts parts_of command_at command_round commands_from next_command input_course parts_course finish command_course act turn turns_within turns play program_of_text runs_reply
+unfolding digits after_lines past_blanks spelling_in_front word_at bytes_at letter_at number_at quotation_at answer random_number value target_of product_operator sum_operator comparison more paren variable_or variable plain factor product first_product sum expr_with expr expression variable_tree items_within items assignment string_at print_item print_parts input_item step_parts limit_parts for_parts next_parts parts_of command_at command_round commands_from next_command input_action parts_action finish command_action act turn turns_within turns play program_of_text runs_reply
 long_run_rows = record {
   long_loop = refl;
   many_answers = refl;
@@ -71,7 +71,7 @@ long_run_rows = record {
 }
 
 pub all_rows : AllRows
-unfolding digits after_lines past_blanks spelling_in_front word_at bytes_at letter_at number_at quotation_at answer random_number value target_of product_operator sum_operator comparison more paren variable_or variable plain factor product first_product sum expr_with expr expression variable_tree items_within items assignment string_at print_item print_parts input_item step_parts limit_parts for_parts next_parts parts_of command_at command_round commands_from next_command input_course parts_course finish command_course act turn turns_within turns play program_of_text runs_reply
+unfolding digits after_lines past_blanks spelling_in_front word_at bytes_at letter_at number_at quotation_at answer random_number value target_of product_operator sum_operator comparison more paren variable_or variable plain factor product first_product sum expr_with expr expression variable_tree items_within items assignment string_at print_item print_parts input_item step_parts limit_parts for_parts next_parts parts_of command_at command_round commands_from next_command input_action parts_action finish command_action act turn turns_within turns play program_of_text runs_reply
 all_rows = record {
   no_program = refl;
   one_roll = refl;
@@ -90,7 +90,7 @@ all_rows = record {
 }
 
 pub after_rows : AfterRows
-unfolding digits after_lines past_blanks spelling_in_front word_at bytes_at letter_at number_at quotation_at answer random_number value target_of product_operator sum_operator comparison more paren variable_or variable plain factor product first_product sum expr_with expr expression variable_tree items_within items assignment string_at print_item print_parts input_item step_parts limit_parts for_parts next_parts parts_of command_at command_round commands_from next_command input_course parts_course finish command_course act turn turns_within turns play program_of_text runs_reply
+unfolding digits after_lines past_blanks spelling_in_front word_at bytes_at letter_at number_at quotation_at answer random_number value target_of product_operator sum_operator comparison more paren variable_or variable plain factor product first_product sum expr_with expr expression variable_tree items_within items assignment string_at print_item print_parts input_item step_parts limit_parts for_parts next_parts parts_of command_at command_round commands_from next_command input_action parts_action finish command_action act turn turns_within turns play program_of_text runs_reply
 after_rows = record {
   first_two = refl;
   two_behind = refl;

@@ -3,6 +3,7 @@
 --     Options, options_of e      what the options say by these entries
 --     HasMemorySize o            --memory gives a size that a program can have
 --     clash o                    the fault of options that don't go together
+--     default_steps, default_memory     the numbers of a request that gives none
 --     Asks o r                   the options ask for the request r
 --     Refuses o fault            why they ask for none
 use Rattle.std.specs.Prelude.{◌≡◌, ℕ, ◌^◌, nat_lt, Bool, true, false, not, ◌&&◌, ◌||◌, if◌then◌else◌, List, length, Option, Some, None, is_some, IsSome, unwrap_or, option_and_then, find, IsSomeAnd, ℤ, codes}
@@ -101,10 +102,18 @@ AsksMode o modes.List = o.list ≡ true
 AsksMode o (modes.All after first) = (o.list ≡ false) × (o.all ≡ true) × SpellsIfGiven o.after after × (first ≡ o.first)
 AsksMode o (modes.Plain a) = (o.list ≡ false) × (o.all ≡ false) × SpellsList (unwrap_or o.answers (codes "none")) a
 
+-- without --steps a run begins at most so many commands
+abbrev pub default_steps : ℕ
+default_steps = 10000
+
+-- without --memory a program has so many bytes
+abbrev pub default_memory : ℕ
+default_memory = 4096
+
 pub record Asks (o : Options) (r : Request) : Type 0 where
   pub clash : clash o ≡ None
-  pub steps : r.steps ≡ unwrap_or o.steps 10000
-  pub memory : r.memory ≡ unwrap_or o.memory 4096
+  pub steps : r.steps ≡ unwrap_or o.steps default_steps
+  pub memory : r.memory ≡ unwrap_or o.memory default_memory
   pub mode : AsksMode o r.mode
 
 -- the list among options that don't clash, if there is one

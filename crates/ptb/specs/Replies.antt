@@ -10,7 +10,7 @@ use Rattle.ptb_expr.specs.Outcome.{Answers, Outcome, is_whole}
 use Rattle.ptb_machine.specs.declared.ending.Ending.{Ending}
 use Rattle.ptb_machine.specs.Play.{Finish, play, plain, status}
 use Rattle.ptb_machine.specs.Questions.{most_answers}
-use Rattle.ptb_explore.specs.Runs.{Front, Start, At, runs_left}
+use Rattle.ptb_explore.specs.RunTree.{Front, Start, At, runs_left}
 use Rattle.ptb_explore.specs.Listing.{text}
 use Rattle.ptb_explore.specs.Report.{report}
 use Rattle.ptb.specs.declared.note.Note.{Note}
@@ -62,22 +62,22 @@ program_reply memory b next = reply_or_refusal next memory (program_of_text memo
 -- ---- all runs
 
 -- a listing begins with the first run, or behind a run that is named
-abbrev pub front_of : Option Answers → Front
-front_of None = Start
-front_of (Some a) = At a
+abbrev pub first_front : Option Answers → Front
+first_front None = Start
+first_front (Some a) = At a
 
 abbrev pub is_front : (Answers → Outcome Finish (List ℕ)) → Option Answers → Bool
-is_front course None = true
-is_front course (Some a) = is_whole (course a)
+is_front game None = true
+is_front game (Some a) = is_whole (game a)
 
 -- the reports of the runs that are left, where none has more answers than `most`
 abbrev pub listed_runs : (Answers → Outcome Finish (List ℕ)) → ℕ → Option Answers → Option ℕ → List ℕ
-listed_runs course most after first = text (report course) (runs_left course most (front_of after) first)
+listed_runs game most after first = text (report game) (runs_left game most (first_front after) first)
 
 -- answers to list behind that are no run are refused, before anything is written
 unfoldable pub runs_reply : (Answers → Outcome Finish (List ℕ)) → ℕ → Option Answers → Option ℕ → Reply
-runs_reply course most after first =
-    elim (is_front course after) [ true ↦ success (listed_runs course most after first) | false ↦ refusal notes.NoRun ]
+runs_reply game most after first =
+    elim (is_front game after) [ true ↦ success (listed_runs game most after first) | false ↦ refusal notes.NoRun ]
 
 -- the runs of a program on these input lines
 abbrev pub all_reply : StoredProgram → List (List ℕ) → ℕ → Option Answers → Option ℕ → Reply

@@ -7,7 +7,7 @@ use Rattle.clap.specs.declared.error.ErrorKind.TheVariants.{ArgumentConflict, Di
 use Rattle.ptb.specs.declared.usage.UsageFault.TheVariants.{ListWithOther, AfterWithoutAll, FirstWithoutAll, AnswersWithAll}
 use Rattle.ptb.specs.AnswerLists.{SpellsList, IsMisspelled}
 use Rattle.ptb.specs.CommandLine.{tool}
-use Rattle.ptb.specs.Options.{Options, no_options, options_of, clash}
+use Rattle.ptb.specs.Options.{default_memory, default_steps, Options, no_options, options_of, clash}
 use Rattle.ptb.specs.declared.note.Note.TheVariants as notes
 use Rattle.ptb.specs.declared.request.Mode.TheVariants as modes
 use Rattle.ptb.specs.declared.request.Request.{Request}
@@ -24,22 +24,22 @@ text lines = flat_map (λ l. l ++ 10 ∷ []) lines
 abbrev pub one_line : List ℕ → List ℕ
 one_line l = text (l ∷ [])
 
--- requests with 10000 steps and a memory of 4096
+-- requests with the steps and the memory of one that gives none
 abbrev pub run : List ℤ → Request
-run answers = record { steps = 10000; memory = 4096; mode = modes.Plain answers }
+run answers = record { steps = default_steps; memory = default_memory; mode = modes.Plain answers }
 
 -- all runs, or the first n of those behind a run
 abbrev pub all : Request
-all = record { steps = 10000; memory = 4096; mode = modes.All None None }
+all = record { steps = default_steps; memory = default_memory; mode = modes.All None None }
 
 abbrev pub all_from : Option (List ℤ) → Option ℕ → Request
-all_from after first = record { steps = 10000; memory = 4096; mode = modes.All after first }
+all_from after first = record { steps = default_steps; memory = default_memory; mode = modes.All after first }
 
 abbrev pub behind : List ℤ → Request
 behind a = all_from (Some a) None
 
 abbrev pub list : Request
-list = record { steps = 10000; memory = 4096; mode = modes.List }
+list = record { steps = default_steps; memory = default_memory; mode = modes.List }
 
 -- the report of a run whose answers are 69 times 1 and then these
 abbrev pub long_report : List ℕ → List ℕ
@@ -93,8 +93,8 @@ pub record ExampleRows : Type 0 where
 -- whether a list of answers is a run of a program without input, and its report
 abbrev pub run_of : List ℕ → ℕ → List ℤ → Option (Bool × List ℕ)
 run_of b limit a =
-    elim (program 4096 b) [
-      | Ok p ↦ (let course = play (record { lines = p; memory = 4096 }) [] limit in Some (is_whole (course a), report course a))
+    elim (program default_memory b) [
+      | Ok p ↦ (let game = play (record { lines = p; memory = default_memory }) [] limit in Some (is_whole (game a), report game a))
       | Err fault ↦ None
     ]
 

@@ -9,7 +9,7 @@ ghost use Rattle.ptb_machine.specs.Sources.{ConsumesAtMost};
 ghost use Rattle.ptb.specs.declared.note.Note.TheVariants.{Load};
 ghost use Rattle.ptb.specs.declared.request.Mode.TheVariants.{All};
 ghost use Rattle.ptb.specs.PlainRuns.{IsUnreadable, input_limit};
-ghost use Rattle.ptb.specs.Replies.{front_of, is_front, program_of_text, refusal, reply_in_mode};
+ghost use Rattle.ptb.specs.Replies.{first_front, is_front, program_of_text, refusal, reply_in_mode};
 ghost use Rattle.ptb.specs.Serving.{Serves, SilentBy, outcome_of};
 
 use crate::answers::Answers;
@@ -95,7 +95,7 @@ fn explorer_behind<'a>(
       program = program.now;
       input = lines.now;
       limit = limit;
-      front = front_of after.now;
+      front = first_front after.now;
     }) }
     ensures front { OnOk result (is_front (play program.now lines.now limit) after.now ≡ true) }
     ensures no_run { IsErrOf result Note.NoRun

@@ -8,18 +8,12 @@ ghost use Rattle.ptb.specs.Options.{SpellsIfGiven, clash, entries_of, is_given, 
 ghost use Rattle.ptb.specs.Options.{options_of};
 
 use crate::answers::{Answers, ListFault, parse_answers};
-use crate::request::{Mode, Request};
+use crate::request::{DEFAULT_MEMORY, DEFAULT_STEPS, Mode, Request};
 use crate::usage::UsageFault;
 use clap::ArgMatches;
 use clap::parser::ValueSource;
 use std::alloc::Global;
 use std::marker::Model;
-
-// Where --steps is left out.
-const DEFAULT_STEPS: u32 = 10_000;
-
-// Where --memory is left out.
-const DEFAULT_MEMORY: u16 = 4096;
 
 /// The request that the words of the command line make.
 ///
@@ -35,7 +29,7 @@ pub fn decide(alloc: Global, matches: &ArgMatches<'_>) -> Result<Request, UsageF
     ensures fault { IfErr result (Refuses (options_of (entries_of matches.now))) }
     ensures memory { IfOk result (λ r. IsMemorySize r.memory) }
 {
-    let line = CommandLine::of(matches);
+    let line = GivenOptions::of(matches);
     if let Some(fault) = line.clash() {
         return Err(fault);
     }
@@ -48,7 +42,7 @@ pub fn decide(alloc: Global, matches: &ArgMatches<'_>) -> Result<Request, UsageF
 
 // What stands on the command line, option by option. Lists are texts.
 #[derive(Drop)]
-struct CommandLine<'a> {
+struct GivenOptions<'a> {
     steps: Option<u32>,
     memory: Option<u16>,
     answers: Option<&'a str>,
@@ -58,7 +52,7 @@ struct CommandLine<'a> {
     list: bool,
 }
 
-impl<'a> Model for CommandLine<'a> {
+impl<'a> Model for GivenOptions<'a> {
     ghost use Rattle.std.specs.Option.{option_copied};
     ghost use Rattle.ptb.specs.Options.{Options};
 
@@ -75,12 +69,12 @@ impl<'a> Model for CommandLine<'a> {
     } };
 }
 
-impl<'a> CommandLine<'a> {
+impl<'a> GivenOptions<'a> {
     // What clap found on the command line.
-    fn of(matches: &ArgMatches<'a>) -> CommandLine<'a>
+    fn of(matches: &ArgMatches<'a>) -> GivenOptions<'a>
         ensures { result ≡ options_of (entries_of matches.now) }
     {
-        CommandLine {
+        GivenOptions {
             steps: matches.get_one("steps"),
             memory: matches.get_one("memory"),
             answers: matches.get_str("answers"),

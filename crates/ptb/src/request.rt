@@ -2,6 +2,12 @@
 
 use crate::answers::Answers;
 
+/// The most commands that a run begins, where `--steps` is left out.
+pub const DEFAULT_STEPS: u32 = 10_000;
+
+/// The memory that the program is given, where `--memory` is left out.
+pub const DEFAULT_MEMORY: u16 = 4096;
+
 /// What is done with the program.
 #[derive(Debug, Drop)]
 pub enum Mode {

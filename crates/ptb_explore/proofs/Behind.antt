@@ -5,7 +5,7 @@ use Rattle.std.proofs.lemmas.Bool.{false_from_ne_true}
 use Rattle.ptb_expr.specs.Outcome.{Answers, Outcome, IsReader}
 use Rattle.ptb_explore.specs.Laws.{ListingLaws}
 use Rattle.ptb_explore.specs.Listing.{text}
-use Rattle.ptb_explore.specs.Runs.{At, IsRising, tree, is_before, Before, runs_after}
+use Rattle.ptb_explore.specs.RunTree.{At, IsRising, tree, is_before, Before, runs_after}
 use Rattle.ptb_explore.proofs.Lists.{all_at, in_right}
 use Rattle.ptb_explore.proofs.Order.{before_self, before_not_back}
 use Rattle.ptb_explore.proofs.Tree.{tree_rises}

@@ -9,7 +9,7 @@ pub mod Raising
 pub mod Attempt
 pub mod Recording
 pub mod Trial
-pub mod Underway
+pub mod RunPrefix
 pub mod Gathering
 pub mod ReportText
 pub mod Progress

@@ -5,7 +5,7 @@ use Rattle.std.specs.List.{flat_map, range_with_len, AllByRecursion}
 use Rattle.std.proofs.lemmas.Bool.{cases_lt, and_parts, and_from, leb-true, le-leb}
 use Rattle.std.proofs.lemmas.Int.{ints}
 use Rattle.ptb_expr.specs.Outcome.{Answers, is_answer}
-use Rattle.ptb_explore.specs.Runs.{Before, IsRising, answers_to}
+use Rattle.ptb_explore.specs.RunTree.{Before, IsRising, answers_to}
 
 -- ---- members
 

@@ -5,7 +5,7 @@ use Rattle.std.proofs.lemmas.Bool.{false_from_ne_true, and_parts}
 use Rattle.std.proofs.lemmas.Int.{ints}
 use Rattle.std.specs.List.{filter}
 use Rattle.ptb_expr.specs.Outcome.{Answers, Outcome, IsReader, bound_of, is_answer}
-use Rattle.ptb_explore.specs.Runs.{IsRun, IsRising, tree, is_before, Before, Front, Start, At, End, is_after, runs_after, IsNextRun, IsLast}
+use Rattle.ptb_explore.specs.RunTree.{IsRun, IsRising, tree, is_before, Before, Front, Start, At, End, is_after, runs_after, IsNextRun, IsLast}
 use Rattle.ptb_explore.specs.Plans.{AllOnes}
 use Rattle.ptb_explore.proofs.Lists.{IsIn, all_at}
 use Rattle.ptb_explore.proofs.Order.{before_step, before_self, before_then, before_not_back}

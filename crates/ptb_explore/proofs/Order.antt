@@ -6,7 +6,7 @@ use Rattle.std.proofs.lemmas.Bool.{or_cases, and_parts, and_from, or_left, or_ri
 use Rattle.std.proofs.lemmas.Bool.Decides.{Decides-int_eq}
 use Rattle.std.proofs.lemmas.Int.{ints, by_lt_z}
 use Rattle.ptb_expr.specs.Outcome.{Answers}
-use Rattle.ptb_explore.specs.Runs.{is_before, Before}
+use Rattle.ptb_explore.specs.RunTree.{is_before, Before}
 
 -- ---- tests of numbers
 

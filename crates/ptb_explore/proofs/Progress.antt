@@ -6,7 +6,7 @@ use Rattle.std.specs.Io.KnownBytes.{Appends}
 use Rattle.std.proofs.KnownBytes.{Appends-nil, Appends-trans}
 use Rattle.ptb_text.specs.Device.{TakesSome}
 use Rattle.ptb_expr.specs.Outcome.{Answers, Outcome, IsReader}
-use Rattle.ptb_explore.specs.Runs.{Front, At, End, IsNextRun, IsLast, runs_after, runs_left}
+use Rattle.ptb_explore.specs.RunTree.{Front, At, End, IsNextRun, IsLast, runs_after, runs_left}
 use Rattle.ptb_explore.specs.Listing.{less_one, text, behind, count_of, WritesList, WritesSome, WritesInto}
 use Rattle.ptb_explore.proofs.Next.{left_next, left_none}
 
@@ -36,7 +36,7 @@ pub record Progress {A W : Type 0} (play : Answers → Outcome A W) (most : ℕ)
   pub done : List Answers
   pub split : list ≡ done ++ runs_left play most front remaining
   pub told : Appends old new (text report done)
-  pub stands : front ≡ behind start done
+  pub front_is : front ≡ behind start done
   pub count : n ≡ count_of done
 
 module _ {A W : Type 0} (play : Answers → Outcome A W) (most : ℕ) (reads : IsReader play most) (report : Answers → List ℕ) where
@@ -45,30 +45,30 @@ module _ {A W : Type 0} (play : Answers → Outcome A W) (most : ℕ) (reads : I
 
   module _ (list : List Answers) (start : Front) (old : Option (List ℕ)) where
     pub progress_none : (remaining : Option ℕ) → list ≡ runs_left play most start remaining → Progress play most report list start start remaining old old 0
-    progress_none remaining e = record { done = []; split = e; told = Appends-nil old; stands = refl; count = refl }
+    progress_none remaining e = record { done = []; split = e; told = Appends-nil old; front_is = refl; count = refl }
 
     pub progress_more : (front f' : Front) (remaining : Option ℕ) (new new' : Option (List ℕ)) (n n' : ℕ) (a : Answers) → Progress play most report list start front remaining old new n → (remaining ≡ Some 0 → ⊥) → IsNextRun play front a → f' ≡ At a → Appends new new' (report a) → n' ≡ min (n + 1) (2 ^ 64 - 1) → Progress play most report list start f' (less_one remaining) old new' n'
     progress_more front f' remaining new new' n n' a p h next e w c = record {
       done = p.done ++ a ∷ [];
       split = p.split ∙ ap (λ x. p.done ++ x) (left_more play most reads front remaining a h next) ∙ sym (append_assoc p.done (a ∷ []) (runs_left play most (At a) (less_one remaining))) ∙ ap (λ x. (p.done ++ a ∷ []) ++ runs_left play most x (less_one remaining)) (sym e);
       told = subst (Appends old new') (text_push p.done a) (Appends-trans old new new' (text report p.done) (report a) p.told w);
-      stands = e ∙ sym (behind_push start p.done a);
+      front_is = e ∙ sym (behind_push start p.done a);
       count = let l = length-append p.done (a ∷ []) in let k = p.count in omega (arith, l, k, c);
     }
 
     pub progress_whole : (front : Front) (new : Option (List ℕ)) (n : ℕ) → Progress play most report list start front (Some 0) old new n → WritesList play report list start front old new n
     progress_whole front new n p =
         let e : list ≡ p.done = p.split ∙ append-nil p.done in
-        record { bytes = subst (λ x. Appends old new (text report x)) (sym e) p.told; count = p.count ∙ ap count_of (sym e); front = inl (p.stands ∙ ap (behind start) (sym e)) }
+        record { bytes = subst (λ x. Appends old new (text report x)) (sym e) p.told; count = p.count ∙ ap count_of (sym e); front = inl (p.front_is ∙ ap (behind start) (sym e)) }
 
     pub progress_last : (front : Front) (remaining : Option ℕ) (new : Option (List ℕ)) (n : ℕ) → Progress play most report list start front remaining old new n → IsLast play front → WritesList play report list start End old new n
     progress_last front remaining new n p last =
         let e : list ≡ p.done = p.split ∙ ap (λ x. p.done ++ x) (left_last play most reads front remaining last) ∙ append-nil p.done in
-        let s : front ≡ behind start list = p.stands ∙ ap (behind start) (sym e) in
+        let s : front ≡ behind start list = p.front_is ∙ ap (behind start) (sym e) in
         record { bytes = subst (λ x. Appends old new (text report x)) (sym e) p.told; count = p.count ∙ ap count_of (sym e); front = inr (refl, rw s at last) }
 
     pub progress_some : (front : Front) (remaining : Option ℕ) (new : Option (List ℕ)) (n : ℕ) → Progress play most report list start front remaining old new n → WritesSome play report list start front old new n
-    progress_some front remaining new n p = record { beginning = p.done; rest = runs_left play most front remaining; split = p.split; bytes = p.told; count = p.count; front = p.stands }
+    progress_some front remaining new n p = record { beginning = p.done; rest = runs_left play most front remaining; split = p.split; bytes = p.told; count = p.count; front = p.front_is }
 
     pub progress_into : (front : Front) (remaining : Option ℕ) (new new' : Option (List ℕ)) (n : ℕ) (a : Answers) → Progress play most report list start front remaining old new n → (remaining ≡ Some 0 → ⊥) → IsNextRun play front a → TakesSome new new' (report a) → WritesInto play report list start (At a) old new' n
     progress_into front remaining new new' n a p h next part = record {

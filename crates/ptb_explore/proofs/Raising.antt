@@ -5,10 +5,10 @@ use Rattle.std.proofs.lemmas.Bool.{and_from}
 use Rattle.std.proofs.lemmas.Int.{ints}
 use Rattle.std.proofs.lemmas.List.{length-take-le}
 use Rattle.ptb_expr.specs.Outcome.{Answers, Outcome, Asks, IsReader, is_answer, bound_of, bounds, bounds_after}
-use Rattle.ptb_explore.specs.Runs.{Front, Start, At, IsRun, IsNextRun, IsLast}
-use Rattle.ptb_explore.specs.declared.plan.Standing.{Standing}
-use Rattle.ptb_explore.specs.declared.plan.Standing.TheVariants.{AtStart, AtRun, AtEnd}
-use Rattle.ptb_explore.specs.Plans.{IsPlan, IsLastBelow, PlansNext, IsStanding, front_of, EndsAt}
+use Rattle.ptb_explore.specs.RunTree.{Front, Start, At, IsRun, IsNextRun, IsLast}
+use Rattle.ptb_explore.specs.declared.plan.Position.{Position}
+use Rattle.ptb_explore.specs.declared.plan.Position.TheVariants.{AtStart, AtRun, AtEnd}
+use Rattle.ptb_explore.specs.Plans.{IsPlan, IsLastBelow, PlansNext, IsPosition, front_at, EndsAt}
 use Rattle.ptb_explore.proofs.Bounds.{length-bounds}
 use Rattle.ptb_explore.proofs.Order.{before_from_differ}
 use Rattle.ptb_explore.proofs.Tree.{run_asks}
@@ -85,14 +85,14 @@ module _ {A W : Type 0} (play : Answers → Outcome A W) (most : ℕ) (reads : I
 
   -- ---- the plan that follows where a listing stands
 
-  pub next_plan : (standing : Standing) (answers plan : Answers) (bounded : List ℤ) (i : ℕ) → IsStanding play standing answers bounded → PlansNext standing answers bounded plan (Some i) → IsPlan play (front_of standing answers) plan
+  pub next_plan : (position : Position) (answers plan : Answers) (bounded : List ℤ) (i : ℕ) → IsPosition play position answers bounded → PlansNext position answers bounded plan (Some i) → IsPlan play (front_at position answers) plan
   next_plan AtStart answers plan bounded i s p = rw p.1 start_plan
   next_plan AtRun answers plan bounded i s p =
       let last : IsLastBelow answers (bounds play answers) i = rw s.1 at p.0 in
       rw p.1 (raise_plan answers i s.0 last.within last.below last.last)
   next_plan AtEnd answers plan bounded i s p = absurd p
 
-  pub last_plan : (standing : Standing) (answers plan : Answers) (bounded : List ℤ) → IsStanding play standing answers bounded → PlansNext standing answers bounded plan None → IsLast play (front_of standing answers)
+  pub last_plan : (position : Position) (answers plan : Answers) (bounded : List ℤ) → IsPosition play position answers bounded → PlansNext position answers bounded plan None → IsLast play (front_at position answers)
   last_plan AtStart answers plan bounded s p = absurd p
   last_plan AtRun answers plan bounded s p = top_plan answers s.0 (rw s.1 at p)
   last_plan AtEnd answers plan bounded s p = λ b r h. absurd cc
@@ -110,7 +110,7 @@ plan_begins answers plan bounded i p =
     (omega arith, ap (take i) p.1 ∙ take_front i answers (_ ∷ []) (omega arith))
 
 -- where it stands at a run, there are as many bounds as answers
-pub standing_lengths : {A W : Type 0} (play : Answers → Outcome A W) (standing : Standing) (answers : Answers) (bounded : List ℤ) → IsStanding play standing answers bounded → standing ≡ AtRun → length answers ≡ length bounded
-standing_lengths play standing answers bounded s e =
-    let at = subst (λ (s : Standing). IsStanding play s answers bounded) e s in
+pub position_lengths : {A W : Type 0} (play : Answers → Outcome A W) (position : Position) (answers : Answers) (bounded : List ℤ) → IsPosition play position answers bounded → position ≡ AtRun → length answers ≡ length bounded
+position_lengths play position answers bounded s e =
+    let at = subst (λ (s : Position). IsPosition play s answers bounded) e s in
     sym (ap length at.1 ∙ length-bounds play [] answers)

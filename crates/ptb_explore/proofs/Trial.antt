@@ -7,7 +7,7 @@ use Rattle.ptb_expr.specs.declared.pause.Pause.TheVariants.{OutOfRange}
 use Rattle.ptb_expr.specs.Outcome.{Answers, Outcome, Done, Asks, IsReader, is_open, is_whole, bounds}
 use Rattle.ptb_expr.specs.Choices.{Choices, Pauses}
 use Rattle.ptb_explore.specs.declared.recorder.Recorder.{Recorder}
-use Rattle.ptb_explore.specs.Runs.{IsRun}
+use Rattle.ptb_explore.specs.RunTree.{IsRun}
 use Rattle.ptb_explore.specs.Plans.{IsFresh, EndsAt}
 use Rattle.ptb_explore.specs.Recording.{choices_of, RefusedByPlan}
 use Rattle.ptb_machine.specs.declared.ending.Ending.{Ending}

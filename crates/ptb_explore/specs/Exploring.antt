@@ -13,7 +13,7 @@ use Rattle.ptb_expr.specs.Outcome.{Answers, Outcome, Done, bounds}
 use Rattle.ptb_machine.specs.Play.{Finish, play}
 use Rattle.ptb_machine.specs.Questions.{most_answers}
 use Rattle.ptb_explore.specs.declared.report.Report.{Report}
-use Rattle.ptb_explore.specs.Runs.{Front, At, End, IsNextRun, IsLast}
+use Rattle.ptb_explore.specs.RunTree.{Front, At, End, IsNextRun, IsLast}
 
 -- ---- explorers
 

@@ -4,7 +4,7 @@
 use Rattle.std.specs.Prelude.{◌≡◌, ℕ, ◌<◌, List, [], ◌∷◌, ◌++◌, length, ℤ, ◌↔◌, Contains}
 use Rattle.ptb_expr.specs.Outcome.{Answers, Outcome, Asks}
 use Rattle.ptb_explore.specs.Listing.{text}
-use Rattle.ptb_explore.specs.Runs.{At, IsRun, IsRising, runs_after, tree}
+use Rattle.ptb_explore.specs.RunTree.{At, IsRun, IsRising, runs_after, tree}
 
 pub record TreeLaws {A W : Type 0} (play : Answers → Outcome A W) (most : ℕ) : Type 0 where
   -- the tree has the runs and nothing else, in rising order

@@ -1,5 +1,5 @@
 -- This file names the files of definitions.
-pub mod Runs
+pub mod RunTree
 pub mod Plans
 pub mod Recording
 pub mod Playing

@@ -13,7 +13,7 @@ use Rattle.ptb_explore.specs.declared.fault.ExploreFault.{ExploreFault}
 use Rattle.ptb_explore.specs.declared.fault.ExploreFault.TheVariants.{Memory, Write}
 use Rattle.ptb_explore.specs.declared.fault.NextFault.{NextFault}
 use Rattle.ptb_explore.specs.declared.fault.NextFault.TheVariants as next
-use Rattle.ptb_explore.specs.Runs.{Front, At, End, IsNextRun, IsLast}
+use Rattle.ptb_explore.specs.RunTree.{Front, At, End, IsNextRun, IsLast}
 
 abbrev pub text : (Answers → List ℕ) → List Answers → List ℕ
 text report list = flat_map report list

@@ -1,17 +1,17 @@
 -- This file defines plans: the first answers of the next run, which goes on with the least answers.
 --     IsPlan play front plan                      what goes on from the plan with ones and is a run is the next run after the front
 --     IsLastBelow answers bounds i                the last answer that can be raised is the one at i
---     PlansNext standing answers bounds plan o    the plan raises that answer by one and drops those behind it
---     IsStanding play standing answers bounds     where it stands at a run, it is that of the answers, with these bounds
+--     PlansNext position answers bounds plan o    the plan raises that answer by one and drops those behind it
+--     IsPosition play position answers bounds     where it stands at a run, it is that of the answers, with these bounds
 --     IsFresh recorder                            all that a recorder holds is a plan
 --     EndsAt play plan answers bounds result      the plan and then ones are a run, with these bounds and this result
 use Rattle.std.specs.Prelude.{◌≡◌, ℕ, ◌<◌, List, [], ◌∷◌, ◌++◌, length, take, true, Option, Some, None, ℤ, pos, ◌+ℤ◌, ◌<ℤ◌, ◌≤ℤ◌, slice_index_or, vec_len}
 use Rattle.std.specs.List.{AllByRecursion}
 use Rattle.ptb_expr.specs.Outcome.{Answers, Outcome, Done, is_open, bounds}
-use Rattle.ptb_explore.specs.declared.plan.Standing.{Standing}
-use Rattle.ptb_explore.specs.declared.plan.Standing.TheVariants.{AtStart, AtRun, AtEnd}
+use Rattle.ptb_explore.specs.declared.plan.Position.{Position}
+use Rattle.ptb_explore.specs.declared.plan.Position.TheVariants.{AtStart, AtRun, AtEnd}
 use Rattle.ptb_explore.specs.declared.recorder.Recorder.{Recorder}
-use Rattle.ptb_explore.specs.Runs.{Front, Start, At, End, IsRun, IsNextRun}
+use Rattle.ptb_explore.specs.RunTree.{Front, Start, At, End, IsRun, IsNextRun}
 
 -- each answer is 1
 abbrev pub AllOnes : Answers → Type 0
@@ -35,7 +35,7 @@ abbrev pub AreAtBounds : Answers → List ℤ → Type 0
 AreAtBounds answers bounds = (k : ℕ) → k < length answers → IsAtBound answers bounds k
 
 -- with how many answers of the run the plan begins; none where no run is left
-abbrev pub PlansNext : Standing → Answers → List ℤ → Answers → Option ℕ → Type 0
+abbrev pub PlansNext : Position → Answers → List ℤ → Answers → Option ℕ → Type 0
 PlansNext AtStart answers bounds plan None = ⊥
 PlansNext AtStart answers bounds plan (Some i) = (i ≡ 0) × (plan ≡ [])
 PlansNext AtRun answers bounds plan None = AreAtBounds answers bounds
@@ -45,15 +45,15 @@ PlansNext AtEnd answers bounds plan (Some i) = ⊥
 
 -- ---- where a listing stands
 
-abbrev pub front_of : Standing → Answers → Front
-front_of AtStart answers = Start
-front_of AtRun answers = At answers
-front_of AtEnd answers = End
+abbrev pub front_at : Position → Answers → Front
+front_at AtStart answers = Start
+front_at AtRun answers = At answers
+front_at AtEnd answers = End
 
-abbrev pub IsStanding : {A W : Type 0} → (Answers → Outcome A W) → Standing → Answers → List ℤ → Type 0
-IsStanding play AtStart answers their_bounds = Unit {0}
-IsStanding play AtRun answers their_bounds = IsRun play answers × (their_bounds ≡ bounds play answers)
-IsStanding play AtEnd answers their_bounds = Unit {0}
+abbrev pub IsPosition : {A W : Type 0} → (Answers → Outcome A W) → Position → Answers → List ℤ → Type 0
+IsPosition play AtStart answers their_bounds = Unit {0}
+IsPosition play AtRun answers their_bounds = IsRun play answers × (their_bounds ≡ bounds play answers)
+IsPosition play AtEnd answers their_bounds = Unit {0}
 
 -- ---- a plan that is played
 

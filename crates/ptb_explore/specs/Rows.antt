@@ -2,7 +2,7 @@
 use Rattle.std.specs.Prelude.{◌≡◌, ℕ, [], ◌∷◌, codes, false, true, Some, None, pos}
 use Rattle.ptb_expr.specs.Outcome.{Answers, is_whole, bounds}
 use Rattle.ptb_expr.specs.Rows.{worth}
-use Rattle.ptb_explore.specs.Runs.{At, End, is_before, tree, runs_left}
+use Rattle.ptb_explore.specs.RunTree.{At, End, is_before, tree, runs_left}
 use Rattle.ptb_explore.specs.Report.{report_text}
 
 -- a list of one answer, and of two

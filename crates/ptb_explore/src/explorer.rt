@@ -7,15 +7,15 @@ ghost use Rattle.ptb_machine.specs.Play.{play};
 ghost use Rattle.ptb_machine.specs.Questions.{most_answers};
 ghost use Rattle.ptb_explore.specs.Exploring.{play_of, most_of, finish_of, Reports, NextReports};
 ghost use Rattle.ptb_explore.specs.Laws.{TreeLaws};
-ghost use Rattle.ptb_explore.specs.Plans.{front_of, IsStanding, IsFresh, EndsAt};
-ghost use Rattle.ptb_explore.specs.Runs.{Start, At, End, IsRun, IsNextRun, IsLast};
+ghost use Rattle.ptb_explore.specs.Plans.{front_at, IsPosition, IsFresh, EndsAt};
+ghost use Rattle.ptb_explore.specs.RunTree.{Start, At, End, IsRun, IsNextRun, IsLast};
 
 use crate::fault::AfterFault;
-use crate::plan::{Standing, plan_next};
+use crate::plan::{Position, plan_next};
 use crate::playing::play_plan;
 use crate::recorder::Recorder;
 use crate::report::Report;
-use ptb_machine::{Line, TextScreen, run_laws};
+use ptb_machine::{Line, Player, TextScreen, run_laws};
 use ptb_text::Program;
 use std::alloc::{AllocError, Global};
 use std::marker::Model;
@@ -24,15 +24,16 @@ use std::mem;
 // Plays a plan, and makes the report of its run.
 fn report_plan(
     alloc: Global,
-    program: &Program,
+    player: &mut Player,
     lines: &[Line],
     limit: u32,
     trial: &mut Recorder,
     report: &mut Report,
 ) -> Result<(), AllocError>
     requires fresh { IsFresh trial.old }
-    requires opens { is_open (play program.now lines.now limit trial.old.answers.items) ≡ true }
-    ensures ends { OnOk result (EndsAt (play program.now lines.now limit) trial.old.answers.items
+    requires opens { is_open (play player.old lines.now limit trial.old.answers.items) ≡ true }
+    ensures program { player.new ≡ player.old }
+    ensures ends { OnOk result (EndsAt (play player.old lines.now limit) trial.old.answers.items
         report.new.answers.items report.new.bounds.items (finish_of report.new)) }
     ensures answers { OnErr result (report.new.answers.items ≡ report.old.answers.items) }
     ensures bounds { OnErr result (report.new.bounds.items ≡ report.old.bounds.items) }
@@ -40,7 +41,7 @@ fn report_plan(
     run_laws();
     let mut screen = TextScreen::from_vec(mem::replace(&mut report.transcript, Vec::new(alloc)));
     screen.cut(0);
-    let played = play_plan(alloc, program, lines, limit, trial, &mut screen);
+    let played = play_plan(alloc, player, lines, limit, trial, &mut screen);
     report.transcript = screen.into_vec();
     let played = played?;
     trial.hand_over(&mut report.answers, &mut report.bounds);
@@ -52,26 +53,27 @@ fn report_plan(
 // Makes the report of the next run, and says whether there is one.
 fn report_next(
     alloc: Global,
-    program: &Program,
+    player: &mut Player,
     lines: &[Line],
     limit: u32,
-    standing: Standing,
+    position: Position,
     trial: &mut Recorder,
     report: &mut Report,
 ) -> Result<bool, AllocError>
-    requires { IsStanding (play program.now lines.now limit) standing
+    requires { IsPosition (play player.old lines.now limit) position
         report.old.answers.items report.old.bounds.items }
-    ensures next { IfOk result (NextReports (play program.now lines.now limit)
-        (front_of standing report.old.answers.items) report.new) }
+    ensures program { player.new ≡ player.old }
+    ensures next { IfOk result (NextReports (play player.old lines.now limit)
+        (front_at position report.old.answers.items) report.new) }
     ensures answers { OnErr result (report.new.answers.items ≡ report.old.answers.items) }
     ensures bounds { OnErr result (report.new.bounds.items ≡ report.old.bounds.items) }
-    ensures ended { standing ≡ Standing.AtEnd → result ≡ Ok false }
+    ensures ended { position ≡ Position.AtEnd → result ≡ Ok false }
 {
     run_laws();
-    match plan_next(standing, &report.answers, &report.bounds, trial)? {
+    match plan_next(position, &report.answers, &report.bounds, trial)? {
         None => Ok(false),
         Some(_) => {
-            report_plan(alloc, program, lines, limit, trial, report)?;
+            report_plan(alloc, player, lines, limit, trial, report)?;
             Ok(true)
         }
     }
@@ -80,23 +82,24 @@ fn report_next(
 // Plays the answers of a trial, and says whether they are a run.
 fn check_run(
     alloc: Global,
-    program: &Program,
+    player: &mut Player,
     lines: &[Line],
     limit: u32,
     trial: &mut Recorder,
 ) -> Result<(), AfterFault>
     requires { IsFresh trial.old }
-    ensures run { OnOk result (IsRun (play program.now lines.now limit) trial.old.answers.items) }
+    ensures program { player.new ≡ player.old }
+    ensures run { OnOk result (IsRun (play player.old lines.now limit) trial.old.answers.items) }
     ensures answers { OnOk result (trial.new.answers.items ≡ trial.old.answers.items) }
     ensures bounds { OnOk result (trial.new.bounds.items
-        ≡ bounds_of (play program.now lines.now limit) trial.old.answers.items) }
+        ≡ bounds_of (play player.old lines.now limit) trial.old.answers.items) }
     ensures not_a_run { IsErrOf result AfterFault.NotARun
-        → IsRun (play program.now lines.now limit) trial.old.answers.items → ⊥ }
+        → IsRun (play player.old lines.now limit) trial.old.answers.items → ⊥ }
 {
     run_laws();
     let planned = trial.answers.len();
     let mut screen = TextScreen::new(alloc);
-    play_plan(alloc, program, lines, limit, trial, &mut screen)?;
+    play_plan(alloc, player, lines, limit, trial, &mut screen)?;
     // An answer outside its bound isn't taken, so fewer are taken than planned where there is one.
     if trial.bounds.len() == planned && trial.answers.len() == planned {
         Ok(())
@@ -107,17 +110,18 @@ fn check_run(
 
 /// Finds the runs of a program, one after the other, in the order of their answers.
 ///
-/// It holds the report of one run and one list of answers more, however many runs there are.
+/// It holds the report of one run and one list of answers more, however many runs there are. One
+/// player plays them all, so that a command that was read in one run need not be read in the next.
 #[derive(Drop)]
 pub struct Explorer<'a> {
-    /// What is run.
-    program: &'a Program,
+    /// Plays the runs.
+    player: Player<'a>,
     /// The lines that answer INPUT, in each run from the first on.
     lines: &'a [Line],
     /// The most commands that a run begins.
     limit: u32,
     /// Where the listing of the runs stands.
-    standing: Standing,
+    position: Position,
     /// Its answers and bounds are those of the run at which the explorer stands.
     report: Report,
     /// Plans the next run, and answers its questions.
@@ -129,18 +133,18 @@ pub struct Explorer<'a> {
 impl<'a> Model for Explorer<'a> {
     ghost use Rattle.ptb_machine.specs.Play.{play};
     ghost use Rattle.ptb_explore.specs.Exploring.{Exploration};
-    ghost use Rattle.ptb_explore.specs.Plans.{IsStanding, front_of};
+    ghost use Rattle.ptb_explore.specs.Plans.{IsPosition, front_at};
 
     ghost Value = { Exploration };
 
     ghost view = { λ e. record {
-      program = e.program.now;
+      program = e.player;
       input = e.lines.now;
       limit = e.limit;
-      front = front_of e.standing e.report.answers.items;
+      front = front_at e.position e.report.answers.items;
     } };
 
-    ghost invariant = { λ e. IsStanding (play e.program.now e.lines.now e.limit) e.standing
+    ghost invariant = { λ e. IsPosition (play e.player e.lines.now e.limit) e.position
         e.report.answers.items e.report.bounds.items };
 }
 
@@ -172,11 +176,12 @@ impl<'a> Explorer<'a> {
             (most_answers program.now lines.now limit) }
     {
         run_laws();
+        let player = Player::new(alloc, program)?;
         Ok(Explorer {
-            program,
+            player,
             lines,
             limit,
-            standing: Standing::AtStart,
+            position: Position::AtStart,
             report: Report::new(alloc),
             trial: Recorder::new(alloc),
             alloc,
@@ -213,14 +218,15 @@ impl<'a> Explorer<'a> {
         run_laws();
         let mut trial = Recorder::new(alloc);
         trial.replay(answers)?;
-        check_run(alloc, program, lines, limit, &mut trial)?;
+        let mut player = Player::new(alloc, program)?;
+        check_run(alloc, &mut player, lines, limit, &mut trial)?;
         let mut run = Report::new(alloc);
         trial.hand_over(&mut run.answers, &mut run.bounds);
         Ok(Explorer {
-            program,
+            player,
             lines,
             limit,
-            standing: Standing::AtRun,
+            position: Position::AtRun,
             report: run,
             trial,
             alloc,
@@ -247,18 +253,18 @@ impl<'a> Explorer<'a> {
         run_laws();
         let found = report_next(
             self.alloc,
-            self.program,
+            &mut self.player,
             self.lines,
             self.limit,
-            self.standing,
+            self.position,
             &mut self.trial,
             &mut self.report,
         )?;
         if found {
-            self.standing = Standing::AtRun;
+            self.position = Position::AtRun;
             Ok(Some(&self.report))
         } else {
-            self.standing = Standing::AtEnd;
+            self.position = Position::AtEnd;
             Ok(None)
         }
     }

@@ -5,7 +5,7 @@ ghost use Rattle.ptb_text.specs.Device.{HasFailed};
 ghost use Rattle.ptb_explore.specs.Exploring.{play_of, most_of};
 ghost use Rattle.ptb_explore.specs.Listing.{less_one, NextWrites, WritesRuns};
 ghost use Rattle.ptb_explore.specs.Report.{report};
-ghost use Rattle.ptb_explore.specs.Runs.{runs_left};
+ghost use Rattle.ptb_explore.specs.RunTree.{runs_left};
 
 use crate::explorer::Explorer;
 use crate::fault::{ExploreFault, NextFault};

@@ -9,7 +9,7 @@ use std::alloc::AllocError;
 
 /// Where a listing of all runs stands.
 #[derive(Clone, Copy, Debug, PartialEq, Eq)]
-pub(crate) enum Standing {
+pub(crate) enum Position {
     /// Before the first run.
     AtStart,
     /// At a run.
@@ -45,23 +45,23 @@ fn last_below(answers: &[i16], bounds: &[i16]) -> Option<usize>
 ///
 /// Where the plan is refused memory.
 pub(crate) fn plan_next(
-    standing: Standing,
+    position: Position,
     answers: &[i16],
     bounds: &[i16],
     trial: &mut Recorder,
 ) -> Result<Option<usize>, AllocError>
-    requires { standing ≡ Standing.AtRun → length answers.now ≡ length bounds.now }
-    ensures plan { IfOk result (PlansNext standing answers.now bounds.now trial.new.answers.items) }
+    requires { position ≡ Position.AtRun → length answers.now ≡ length bounds.now }
+    ensures plan { IfOk result (PlansNext position answers.now bounds.now trial.new.answers.items) }
     ensures fresh { IfOk result (λ o. OnSome o (IsFresh trial.new)) }
-    ensures ended { standing ≡ Standing.AtEnd → result ≡ Ok None }
+    ensures ended { position ≡ Position.AtEnd → result ≡ Ok None }
 {
-    match standing {
-        Standing::AtEnd => Ok(None),
-        Standing::AtStart => {
+    match position {
+        Position::AtEnd => Ok(None),
+        Position::AtStart => {
             trial.clear();
             Ok(Some(0))
         }
-        Standing::AtRun => match last_below(answers, bounds) {
+        Position::AtRun => match last_below(answers, bounds) {
             None => Ok(None),
             Some(i) => {
                 trial.restart(&answers[..i], answers[i] + 1)?;

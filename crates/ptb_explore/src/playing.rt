@@ -6,8 +6,7 @@ ghost use Rattle.ptb_explore.specs.Playing.{PlayEnds};
 ghost use Rattle.ptb_explore.specs.Recording.{choices_of};
 
 use crate::recorder::Recorder;
-use ptb_machine::{Ending, Line, Lines, Machine, RunFault, TextScreen, run_laws};
-use ptb_text::Program;
+use ptb_machine::{Ending, Line, Lines, Player, RunFault, TextScreen, run_laws};
 use std::alloc::{AllocError, Global};
 
 /// What came of a run, besides what it showed.
@@ -19,8 +18,8 @@ pub(crate) struct Played {
     pub(crate) steps: u32,
 }
 
-/// Plays a program from its beginning: with the answers of the plan, and 1 to each question behind
-/// them.
+/// Plays a run of the player's program from its beginning: with the answers of the plan, and 1 to
+/// each question behind them.
 ///
 /// The ending is `BadAnswer` where an answer of the plan is outside its bound. It is never
 /// `NoAnswer`.
@@ -30,7 +29,7 @@ pub(crate) struct Played {
 /// Where a growth was refused memory.
 pub(crate) fn play_plan(
     alloc: Global,
-    program: &Program,
+    player: &mut Player,
     lines: &[Line],
     limit: u32,
     trial: &mut Recorder,
@@ -38,15 +37,16 @@ pub(crate) fn play_plan(
 ) -> Result<Played, AllocError>
     requires fresh { trial.old.bounds.items ≡ [] }
     requires shown { screen.old ≡ [] }
+    ensures program { player.new ≡ player.old }
     ensures plan { OnOk result ((choices_of trial.new).plan ≡ (choices_of trial.old).plan) }
-    ensures ends { IfOk result (λ f. PlayEnds (play program.now lines.now limit)
+    ensures ends { IfOk result (λ f. PlayEnds (play player.old lines.now limit)
         (choices_of trial.new) f.steps screen.new f.ending) }
 {
     run_laws();
-    let mut machine = Machine::new(alloc, program)?;
+    let mut machine = player.machine(alloc)?;
     let mut source = Lines::new(lines);
     loop {
-        match machine.step(program, limit, trial, screen, &mut source) {
+        match player.step(&mut machine, limit, trial, screen, &mut source) {
             Ok(None) => {}
             Ok(Some(ending)) => {
                 return Ok(Played {

@@ -17,9 +17,9 @@ use Rattle.ptb_expr.specs.Outcome.{Answers, Outcome, Done, Asks, Out, go_on, unl
 use Rattle.ptb_expr.specs.Store.{Cells, index_of, element_of, map_ok}
 use Rattle.ptb_expr.specs.Tree.{Tree, Num, Size, Elem, Rnd, Abs, Neg, Bin, Bad, Unclosed}
 use Rattle.ptb_expr.specs.Value.{Work, fault, or_fault, operation, negation, absolute_value, random_number, value, target_of}
-use Rattle.ptb_expr.specs.Reading.{Reading, Whole, Spoilt, if_there, if_number, if_function, after, itself, node_over}
+use Rattle.ptb_expr.specs.Reading.{Reading, Whole, Malformed, if_there, if_number, if_function, after, itself, node_over}
 use Rattle.ptb_expr.specs.Reading as reading
-use Rattle.ptb_expr.specs.Working.{Placed, result_at, after_operation, random_at, missing}
+use Rattle.ptb_expr.specs.Working.{Placed, result_at, after_operation, random_at, missing_work}
 use Rattle.ptb_expr.specs.Working as working
 
 -- ---- one after the other
@@ -38,7 +38,7 @@ same_after m f g e = ap (λ h. m >>= h) (fun_ext e)
 
 -- ---- what has no value, whatever is answered
 
-pub record Stops {A : Type 0} (m : Work A) : Type 0 where
+pub record HasNoValue {A : Type 0} (m : Work A) : Type 0 where
   pub by : (a : Answers) (v : A) (r : Answers) → m a ≡ Done (Ok v) r → ⊥
 
 any_go : {A B : Type 0} (f g : A → Work B) (o : Outcome (Result A Fault) (Unit {0})) → ((v : A) (r : Answers) → o ≡ Done (Ok v) r → ⊥) → go_on o (unless_error f) ≡ go_on o (unless_error g)
@@ -48,7 +48,7 @@ any_go f g (Asks n w) h = refl
 any_go f g (Out n w) h = refl
 
 -- so it doesn't matter what would come then
-pub any_then : {A B : Type 0} (m : Work A) → Stops m → (f g : A → Work B) → (m >>= f) ≡ (m >>= g)
+pub any_then : {A B : Type 0} (m : Work A) → HasNoValue m → (f g : A → Work B) → (m >>= f) ≡ (m >>= g)
 any_then m h f g = fun_ext (λ a. any_go f g (m a) (h.by a))
 
 left_go : {A B : Type 0} (k : A → Work B) (o : Outcome (Result A Fault) (Unit {0})) → ((v : A) (r : Answers) → o ≡ Done (Ok v) r → ⊥) → (w : B) (r : Answers) → go_on o (unless_error k) ≡ Done (Ok w) r → ⊥
@@ -57,27 +57,27 @@ left_go k (Done (Err x) a) h w r e = cc e
 left_go k (Asks n u) h w r e = cc e
 left_go k (Out n u) h w r e = cc e
 
-stops_left : {A B : Type 0} (m : Work A) (k : A → Work B) → Stops m → Stops (m >>= k)
+stops_left : {A B : Type 0} (m : Work A) (k : A → Work B) → HasNoValue m → HasNoValue (m >>= k)
 stops_left m k h = record { by = λ a w r e. left_go k (m a) (h.by a) w r e }
 
-right_go : {A B : Type 0} (k : A → Work B) (o : Outcome (Result A Fault) (Unit {0})) → ((v : A) → Stops (k v)) → (w : B) (r : Answers) → go_on o (unless_error k) ≡ Done (Ok w) r → ⊥
+right_go : {A B : Type 0} (k : A → Work B) (o : Outcome (Result A Fault) (Unit {0})) → ((v : A) → HasNoValue (k v)) → (w : B) (r : Answers) → go_on o (unless_error k) ≡ Done (Ok w) r → ⊥
 right_go k (Done (Ok v) a) h w r e = (h v).by a w r e
 right_go k (Done (Err x) a) h w r e = cc e
 right_go k (Asks n u) h w r e = cc e
 right_go k (Out n u) h w r e = cc e
 
-stops_right : {A B : Type 0} (m : Work A) (k : A → Work B) → ((v : A) → Stops (k v)) → Stops (m >>= k)
+stops_right : {A B : Type 0} (m : Work A) (k : A → Work B) → ((v : A) → HasNoValue (k v)) → HasNoValue (m >>= k)
 stops_right m k h = record { by = λ a w r e. right_go k (m a) h w r e }
 
-failure_stops : {A : Type 0} (x : Fault) → Stops {A = A} (failure x)
+failure_stops : {A : Type 0} (x : Fault) → HasNoValue {A = A} (failure x)
 failure_stops x = record { by = λ a v r e. cc e }
 
 -- ---- what a part comes to, where a tree comes to `means`
 
--- a whole tree comes to what it means, with the place after it; a spoilt one has no value
+-- a whole tree comes to what it means, with the place after it; a malformed one has no value
 abbrev pub AgreesAs : {V : Type 0} → (Tree → Work V) → Reading Tree → Work (V × ℕ) → Type 0
 AgreesAs means (Whole x j) f = f ≡ (means x >>= λ v. success (v, j))
-AgreesAs means (Spoilt x) f = Stops (means x) × (f ≡ (means x >>= λ v. success (v, 0)))
+AgreesAs means (Malformed x) f = HasNoValue (means x) × (f ≡ (means x >>= λ v. success (v, 0)))
 
 agrees_as : {V : Type 0} (means : Tree → Work V) (r : Reading Tree) (f g : Work (V × ℕ)) → f ≡ g → AgreesAs means r f → AgreesAs means r g
 agrees_as means r f g e h = subst (AgreesAs means r) e h
@@ -94,9 +94,9 @@ module _ (s : Cells) where
   abbrev Agrees : Reading Tree → Work Placed → Type 0
   Agrees r f = AgreesAs (value s) r f
 
-  -- a spoilt tree, and anything after it
-  spoilt_then : {B : Type 0} (x : Tree) (f : Work Placed) (g : Placed → Work B) (k : ℤ → Work B) → Agrees (Spoilt x) f → (f >>= g) ≡ (value s x >>= k)
-  spoilt_then x f g k e = ap (λ p. p >>= g) e.1 ∙ assoc (value s x) (λ v. success (v, 0)) g ∙ any_then (value s x) e.0 _ _
+  -- a malformed tree, and anything after it
+  malformed_then : {B : Type 0} (x : Tree) (f : Work Placed) (g : Placed → Work B) (k : ℤ → Work B) → Agrees (Malformed x) f → (f >>= g) ≡ (value s x >>= k)
+  malformed_then x f g k e = ap (λ p. p >>= g) e.1 ∙ assoc (value s x) (λ v. success (v, 0)) g ∙ any_then (value s x) e.0 _ _
 
   whole_then : {B : Type 0} (x : Tree) (j : ℕ) (f : Work Placed) (g : Placed → Work B) → Agrees (Whole x j) f → (f >>= g) ≡ (value s x >>= λ v. g (v, j))
   whole_then x j f g e = ap (λ p. p >>= g) e ∙ assoc (value s x) (λ v. success (v, j)) g
@@ -104,7 +104,7 @@ module _ (s : Cells) where
   -- a part and what comes then
   after_agrees : (r : Reading Tree) (f : Work Placed) (k : Tree → ℕ → Reading Tree) (g : Placed → Work Placed) → Agrees r f → ((x : Tree) (j : ℕ) → Agrees (k x j) (value s x >>= λ v. g (v, j))) → Agrees (after r itself k) (f >>= g)
   after_agrees (Whole x j) f k g e h = agrees_as (value s) (k x j) (value s x >>= λ v. g (v, j)) (f >>= g) (sym (whole_then x j f g e)) (h x j)
-  after_agrees (Spoilt x) f k g e h = (e.0, spoilt_then x f g (λ v. success (v, 0)) e)
+  after_agrees (Malformed x) f k g e h = (e.0, malformed_then x f g (λ v. success (v, 0)) e)
 
   -- an operator between a tree and a part
   bin_agrees : (op : Operator) (x : Tree) (m : ℕ) (r : Reading Tree) (f : Work Placed) (k : Tree → ℕ → Reading Tree) (g : Placed → Work Placed) → Agrees r f → ((y : Tree) (j : ℕ) → Agrees (k y j) (value s y >>= λ v. g (v, j))) → Agrees (after r (λ y. Bin op x y m) (λ y l. k (Bin op x y l) l)) (value s x >>= λ v. after_operation f (operation op v) g)
@@ -117,10 +117,10 @@ module _ (s : Cells) where
       ∙ same_after (value s y) _ _ (λ w. sym (result_or_fault (operation op v w) l g))
       ∙ sym (whole_then y l f (λ q. result_at (operation op v q.0) q.1 >>= g) e)))
       (h (Bin op x y l) l)
-  bin_agrees op x m (Spoilt y) f k g e h = (
+  bin_agrees op x m (Malformed y) f k g e h = (
     stops_right (value s x) _ (λ v. stops_left (value s y) _ e.0),
     same_after (value s x) _ _ (λ v.
-        spoilt_then y f (λ q. result_at (operation op v q.0) q.1 >>= g) (λ w. or_fault (operation op v w) m >>= λ u. success (u, 0)) e
+        malformed_then y f (λ q. result_at (operation op v q.0) q.1 >>= g) (λ w. or_fault (operation op v w) m >>= λ u. success (u, 0)) e
         ∙ sym (assoc (value s y) (λ w. or_fault (operation op v w) m) (λ u. success (u, 0))))
         ∙ sym (assoc (value s x) (λ v. value s y >>= λ w. or_fault (operation op v w) m) (λ u. success (u, 0))),
   )
@@ -132,9 +132,9 @@ module _ (s : Cells) where
       ∙ same_after (value s x) _ _ (λ v. h v j)
       ∙ sym (assoc (value s x) (λ v. act v j) (λ u. success (u, j)))
       ∙ sym (ap (λ p. p >>= λ u. success (u, j)) (d x j))
-  un_agrees means node act m g d h (Spoilt x) f e = (
-    subst Stops (sym (d x m)) (stops_left (value s x) (λ v. act v m) e.0),
-    spoilt_then x f g (λ v. act v m >>= λ u. success (u, 0)) e
+  un_agrees means node act m g d h (Malformed x) f e = (
+    subst HasNoValue (sym (d x m)) (stops_left (value s x) (λ v. act v m) e.0),
+    malformed_then x f g (λ v. act v m >>= λ u. success (u, 0)) e
         ∙ sym (assoc (value s x) (λ v. act v m) (λ u. success (u, 0)))
         ∙ sym (ap (λ p. p >>= λ u. success (u, 0)) (d x m)),
   )
@@ -151,11 +151,11 @@ module _ (s : Cells) where
   more_agrees operator part part' h (suc n) x j = more_step operator part part' h n (more_agrees operator part part' h n) x j (operator j)
 
   module _ (t : List ℕ) (within : ℕ → Reading Tree) (within' : ℕ → Work Placed) (h : (i : ℕ) → Agrees (within i) (within' i)) where
-    close_agrees : (x : Tree) (k : ℕ) → Agrees (if_there (token_at 41 t k) (λ l. Whole x l) (Spoilt (Unclosed x k))) (value s x >>= λ v. working.closing t s within' (v, k))
+    close_agrees : (x : Tree) (k : ℕ) → Agrees (if_there (token_at 41 t k) (λ l. Whole x l) (Malformed (Unclosed x k))) (value s x >>= λ v. working.closing t s within' (v, k))
     unfolding value working.closing
     close_agrees x k = go (token_at 41 t k)
       where
-        go : (o : Option ℕ) → Agrees (if_there o (λ l. Whole x l) (Spoilt (Unclosed x k))) (value s x >>= λ v. if_there o (λ l. success (v, l)) (missing k))
+        go : (o : Option ℕ) → Agrees (if_there o (λ l. Whole x l) (Malformed (Unclosed x k))) (value s x >>= λ v. if_there o (λ l. success (v, l)) (missing_work k))
         go None = (stops_right (value s x) _ (λ v. failure_stops (fault What k)), sym (assoc (value s x) (λ v. failure (fault What k)) (λ v. success (v, 0))))
         go (Some l) = refl
 
@@ -171,7 +171,7 @@ module _ (s : Cells) where
     unfolding value
     element_agrees j = un_agrees (value s) Elem (λ v k. or_fault (element_of s v) k) j (λ q. result_at (element_of s q.0) q.1 >>= success) (λ x k. refl) (λ v k. result_or_fault (element_of s v) k success) (reading.paren t within j) (working.paren t s within' j) (paren_agrees j)
 
-    number_agrees : (i : ℕ) (o : Number × ℕ) → Agrees (if_number o (λ v j. Whole (Num v) j) (λ j. Spoilt (Bad How j)) (reading.paren t within i)) (if_number o (λ v j. success (v, j)) (λ j. failure (fault How j)) (working.paren t s within' i))
+    number_agrees : (i : ℕ) (o : Number × ℕ) → Agrees (if_number o (λ v j. Whole (Num v) j) (λ j. Malformed (Bad How j)) (reading.paren t within i)) (if_number o (λ v j. success (v, j)) (λ j. failure (fault How j)) (working.paren t s within' i))
     unfolding value
     number_agrees i (Absent, j) = paren_agrees i
     number_agrees i (Value v, j) = refl

@@ -14,7 +14,7 @@ use Rattle.ptb_expr.specs.Outcome.{Answers, Outcome, Done, Asks, Out, go_on, unl
 use Rattle.ptb_expr.specs.Store.{Cells, index_of, element_of, map_ok}
 use Rattle.ptb_expr.specs.Tree.{Tree, Num, Var, Size, Elem, Rnd, Abs, Neg, Bin, Bad, Unclosed}
 use Rattle.ptb_expr.specs.Value.{Work, fault, or_fault, operation, negation, absolute_value, random_number, value, target_of}
-use Rattle.ptb_expr.specs.Reading.{Reading, Whole, Spoilt, item_of, node_over, expression, variable_tree}
+use Rattle.ptb_expr.specs.Reading.{Reading, Whole, Malformed, item_of, node_over, expression, variable_tree}
 use Rattle.ptb_expr.specs.Spells.{Part, Expr, Sum, First, MoreSum, Product, MoreProduct, Factor, Variable, Paren, Spells}
 use Rattle.ptb_expr.specs.Spells as spells
 use Rattle.ptb_expr.specs.Marks.{MarksWithin}
@@ -105,10 +105,10 @@ module _ (laws : FindingLaws) (t : List ℕ) where
   abbrev Marked : Reading Tree → Type 0
   Marked r = MarksWithin (length t) (item_of r)
 
-  -- a node whose mark, or that of its spoilt part, lies within
+  -- a node whose mark, or that of its malformed part, lies within
   node_marked : (node : Tree → ℕ → Tree) (i m : ℕ) (r : Reading Tree) → ((x : Tree) (k : ℕ) → MarksWithin (length t) x → k ≤ length t → MarksWithin (length t) (node x k)) → m ≤ length t → ((x : Tree) (k : ℕ) → r ≡ Whole x k → k ≤ length t) → Marked r → Marked (node_over node m r)
   node_marked node i m (Whole x k) f h g d = f x k d (g x k refl)
-  node_marked node i m (Spoilt x) f h g d = f x m d h
+  node_marked node i m (Malformed x) f h g d = f x m d h
 
   -- the tree that a list goes on from
   abbrev IsBefore : Part → Type 0
@@ -131,11 +131,11 @@ module _ (laws : FindingLaws) (t : List ℕ) where
       let a : LiesAhead t j k = comparison_ahead laws t j op k e in
       let m = marked Sum i (Whole x j) d low tt in
       node_marked (Bin op x) i k q (λ y l p q. (m, p, q)) a.within (sum_end k q h) (marked Sum k q h a.within tt)
-  marked part i r (spells.sum_spoilt {x = x} d) low b = marked Sum i (Spoilt x) d low tt
+  marked part i r (spells.sum_malformed {x = x} d) low b = marked Sum i (Malformed x) d low tt
   marked part i r (spells.sum {j = j} {x = x} d h) low b =
       let a : LiesAhead t i j = ahead laws t First i (Whole x j) d in
       marked (MoreSum x) j r h a.within (marked First i (Whole x j) d low tt)
-  marked part i r (spells.first_spoilt {x = x} d) low b = marked First i (Spoilt x) d low tt
+  marked part i r (spells.first_malformed {x = x} d) low b = marked First i (Malformed x) d low tt
   marked part i r (spells.minus_sign {j = j} {r = q} e h) low b =
       let a = laws.token 45 t i j e in
       node_marked Neg i j q (λ y l p q. (p, q)) a.within (product_end j q h) (marked Product j q h a.within tt)
@@ -146,21 +146,21 @@ module _ (laws : FindingLaws) (t : List ℕ) where
       let a : LiesAhead t i k = sum_operator_ahead laws t i op k e in
       let z : LiesAhead t k l = ahead laws t Product k (Whole y l) d in
       marked (MoreSum (Bin op x y l)) l r h z.within (b, marked Product k (Whole y l) d a.within tt, z.within)
-  marked part i r (spells.product_spoilt {k = k} {x = x} {y = y} {op = op} e d) low b =
+  marked part i r (spells.product_malformed {k = k} {x = x} {y = y} {op = op} e d) low b =
       let a : LiesAhead t i k = sum_operator_ahead laws t i op k e in
-      (b, marked Product k (Spoilt y) d a.within tt, a.within)
+      (b, marked Product k (Malformed y) d a.within tt, a.within)
   marked part i r (spells.product {j = j} {x = x} d h) low b =
       let a : LiesAhead t i j = ahead laws t Factor i (Whole x j) d in
       marked (MoreProduct x) j r h a.within (marked Factor i (Whole x j) d low tt)
-  marked part i r (spells.first_factor_spoilt {x = x} d) low b = marked Factor i (Spoilt x) d low tt
+  marked part i r (spells.first_factor_malformed {x = x} d) low b = marked Factor i (Malformed x) d low tt
   marked part i r (spells.product_end e) low b = b
   marked part i r (spells.product_more {k = k} {l = l} {x = x} {y = y} {op = op} e d h) low b =
       let a : LiesAhead t i k = product_operator_ahead laws t i op k e in
       let z : LiesAhead t k l = ahead laws t Factor k (Whole y l) d in
       marked (MoreProduct (Bin op x y l)) l r h z.within (b, marked Factor k (Whole y l) d a.within tt, z.within)
-  marked part i r (spells.factor_spoilt {k = k} {x = x} {y = y} {op = op} e d) low b =
+  marked part i r (spells.factor_malformed {k = k} {x = x} {y = y} {op = op} e d) low b =
       let a : LiesAhead t i k = product_operator_ahead laws t i op k e in
-      (b, marked Factor k (Spoilt y) d a.within tt, a.within)
+      (b, marked Factor k (Malformed y) d a.within tt, a.within)
   marked part i r (spells.rnd {j = j} {r = q} e h) low b =
       let a = laws.word Functions t i RndKw j e in
       node_marked Rnd i j q (λ y l p q. (p, q)) a.within (paren_end j q h) (marked Paren j q h a.within tt)
@@ -183,7 +183,7 @@ module _ (laws : FindingLaws) (t : List ℕ) where
       let a = laws.token 40 t i j e in
       let z : LiesAhead t j k = ahead laws t Expr j (Whole x k) d in
       (marked Expr j (Whole x k) d a.within tt, z.within)
-  marked part i r (spells.inside_spoilt {j = j} {x = x} e d) low b = let a = laws.token 40 t i j e in marked Expr j (Spoilt x) d a.within tt
+  marked part i r (spells.inside_malformed {j = j} {x = x} e d) low b = let a = laws.token 40 t i j e in marked Expr j (Malformed x) d a.within tt
   marked part i r (spells.not_opened e) low b = low
 
   pub expression_marks : (i : ℕ) → i ≤ length t → MarksWithin (length t) (item_of (expression t i))

@@ -17,20 +17,20 @@ use Rattle.ptb_expr.specs.Outcome.{unless_error, ◌>>=◌, success, failure}
 use Rattle.ptb_expr.specs.Choices.{Choices, Reaches}
 use Rattle.ptb_expr.specs.Store.{Cells, value_at, index_of, element_of, map_ok}
 use Rattle.ptb_expr.specs.Value.{Work, fault, operation, negation, absolute_value}
-use Rattle.ptb_expr.specs.Working.{Placed, result_at, after_operation, random_at, missing, more, closing, paren, variable, plain, factor, product, first_product, sum, comparison_after, expr_with, expr}
-use Rattle.ptb_expr.specs.Works.{Runs, result_at_mark}
+use Rattle.ptb_expr.specs.Working.{Placed, result_at, after_operation, random_at, missing_work, more, closing, paren, variable, plain, factor, product, first_product, sum, comparison_after, expr_with, expr}
+use Rattle.ptb_expr.specs.Works.{WorkComesAt, result_at_mark}
 use Rattle.ptb_expr.proofs.Taking.{IsAlone}
 use Rattle.ptb_expr.proofs.Reaching.{reaches_then, reaches_on, runs_then, runs_stop}
 
 -- ---- a part, and what comes then
 
 -- a part has a value, and what comes then goes on
-pub part_ok : {V W : Type 0} (refused : Pause → ℤ → Type 0) (P f : Work W) (part : Work (V × ℕ)) (next : V × ℕ → Work W) (c d e : Choices) (w : V) (l : ℕ) → Reaches P c d f → f ≡ (part >>= next) → Runs refused part d e (Ok w) l → Reaches P c e (next (w, l))
+pub part_ok : {V W : Type 0} (refused : Pause → ℤ → Type 0) (P f : Work W) (part : Work (V × ℕ)) (next : V × ℕ → Work W) (c d e : Choices) (w : V) (l : ℕ) → Reaches P c d f → f ≡ (part >>= next) → WorkComesAt refused part d e (Ok w) l → Reaches P c e (next (w, l))
 part_ok refused P f part next c d e w l p q r =
     reaches_then P (part >>= next) (next (w, l)) c d e (subst (Reaches P c d) q p) (reaches_on part (success (w, l)) (unless_error next) d e r.by)
 
 -- a part stops
-pub part_err : {V W : Type 0} (refused : Pause → ℤ → Type 0) (P f : Work (W × ℕ)) (part : Work (V × ℕ)) (next : V × ℕ → Work (W × ℕ)) (c d e : Choices) (s : Stop) (i j : ℕ) → Reaches P c d f → f ≡ (part >>= next) → Runs refused part d e (Err s) i → Runs refused P c e (Err s) j
+pub part_err : {V W : Type 0} (refused : Pause → ℤ → Type 0) (P f : Work (W × ℕ)) (part : Work (V × ℕ)) (next : V × ℕ → Work (W × ℕ)) (c d e : Choices) (s : Stop) (i j : ℕ) → Reaches P c d f → f ≡ (part >>= next) → WorkComesAt refused part d e (Err s) i → WorkComesAt refused P c e (Err s) j
 part_err refused P f part next c d e s i j p q r =
     runs_then refused P (part >>= next) c d e (Err s) j (subst (Reaches P c d) q p) (runs_stop refused part next d e s i j r)
 
@@ -38,45 +38,45 @@ ok_step : {V W : Type 0} (P : Work W) (next : V × ℕ → Work W) (c e : Choice
 ok_step P next c e x l (Ok v) o h = let q : v ≡ x = cc in subst (λ u. Reaches P c e (next (u, l))) q h
 ok_step P next c e x l (Err k) o h = absurd (cc o)
 
-err_step : {V W : Type 0} (refused : Pause → ℤ → Type 0) (P : Work (W × ℕ)) (next : V × ℕ → Work (W × ℕ)) (c e : Choices) (s : Stop) (l j : ℕ) (v : Result V FaultKind) → result_at_mark v l ≡ Err s → Reaches P c e (result_at v l >>= next) → Runs refused P c e (Err s) j
+err_step : {V W : Type 0} (refused : Pause → ℤ → Type 0) (P : Work (W × ℕ)) (next : V × ℕ → Work (W × ℕ)) (c e : Choices) (s : Stop) (l j : ℕ) (v : Result V FaultKind) → result_at_mark v l ≡ Err s → Reaches P c e (result_at v l >>= next) → WorkComesAt refused P c e (Err s) j
 err_step refused P next c e s l j (Ok v) o h = absurd (cc o)
-err_step refused P next c e s l j (Err k) o h = let q : stops.Fault (fault k l) ≡ s = cc in subst (λ u. Runs refused P c e (Err u) j) q (record { by = h })
+err_step refused P next c e s l j (Err k) o h = let q : stops.Fault (fault k l) ≡ s = cc in subst (λ u. WorkComesAt refused P c e (Err u) j) q (record { by = h })
 
-last_step : {V : Type 0} (refused : Pause → ℤ → Type 0) (P : Work (V × ℕ)) (c e : Choices) (l : ℕ) (v : Result V FaultKind) → Reaches P c e (result_at v l >>= success) → Runs refused P c e (result_at_mark v l) l
+last_step : {V : Type 0} (refused : Pause → ℤ → Type 0) (P : Work (V × ℕ)) (c e : Choices) (l : ℕ) (v : Result V FaultKind) → Reaches P c e (result_at v l >>= success) → WorkComesAt refused P c e (result_at_mark v l) l
 last_step refused P c e l (Ok v) h = record { by = h }
 last_step refused P c e l (Err k) h = record { by = h }
 
 -- an operator on the value of a part, which has a value
-pub operate_ok : {V W : Type 0} (refused : Pause → ℤ → Type 0) (P f : Work W) (part : Work Placed) (op : ℤ → Result V FaultKind) (next : V × ℕ → Work W) (c d e : Choices) (w : ℤ) (x : V) (l : ℕ) → Reaches P c d f → f ≡ after_operation part op next → Runs refused part d e (Ok w) l → result_at_mark (op w) l ≡ Ok x → Reaches P c e (next (x, l))
+pub operate_ok : {V W : Type 0} (refused : Pause → ℤ → Type 0) (P f : Work W) (part : Work Placed) (op : ℤ → Result V FaultKind) (next : V × ℕ → Work W) (c d e : Choices) (w : ℤ) (x : V) (l : ℕ) → Reaches P c d f → f ≡ after_operation part op next → WorkComesAt refused part d e (Ok w) l → result_at_mark (op w) l ≡ Ok x → Reaches P c e (next (x, l))
 operate_ok refused P f part op next c d e w x l p q r o =
     ok_step P next c e x l (op w) o (part_ok refused P f part (λ p. result_at (op p.0) p.1 >>= next) c d e w l p q r)
 
 -- or a fault
-pub operate_err : {V W : Type 0} (refused : Pause → ℤ → Type 0) (P f : Work (W × ℕ)) (part : Work Placed) (op : ℤ → Result V FaultKind) (next : V × ℕ → Work (W × ℕ)) (c d e : Choices) (w : ℤ) (s : Stop) (l j : ℕ) → Reaches P c d f → f ≡ after_operation part op next → Runs refused part d e (Ok w) l → result_at_mark (op w) l ≡ Err s → Runs refused P c e (Err s) j
+pub operate_err : {V W : Type 0} (refused : Pause → ℤ → Type 0) (P f : Work (W × ℕ)) (part : Work Placed) (op : ℤ → Result V FaultKind) (next : V × ℕ → Work (W × ℕ)) (c d e : Choices) (w : ℤ) (s : Stop) (l j : ℕ) → Reaches P c d f → f ≡ after_operation part op next → WorkComesAt refused part d e (Ok w) l → result_at_mark (op w) l ≡ Err s → WorkComesAt refused P c e (Err s) j
 operate_err refused P f part op next c d e w s l j p q r o =
     err_step refused P next c e s l j (op w) o (part_ok refused P f part (λ p. result_at (op p.0) p.1 >>= next) c d e w l p q r)
 
 -- or either, where nothing comes then
-pub operate_last : {V : Type 0} (refused : Pause → ℤ → Type 0) (P f : Work (V × ℕ)) (part : Work Placed) (op : ℤ → Result V FaultKind) (c d e : Choices) (w : ℤ) (l : ℕ) → Reaches P c d f → f ≡ after_operation part op success → Runs refused part d e (Ok w) l → Runs refused P c e (result_at_mark (op w) l) l
+pub operate_last : {V : Type 0} (refused : Pause → ℤ → Type 0) (P f : Work (V × ℕ)) (part : Work Placed) (op : ℤ → Result V FaultKind) (c d e : Choices) (w : ℤ) (l : ℕ) → Reaches P c d f → f ≡ after_operation part op success → WorkComesAt refused part d e (Ok w) l → WorkComesAt refused P c e (result_at_mark (op w) l) l
 operate_last refused P f part op c d e w l p q r =
     last_step refused P c e l (op w) (part_ok refused P f part (λ p. result_at (op p.0) p.1 >>= success) c d e w l p q r)
 
 -- ---- ends
 
 -- the last step
-pub part_ends : {V : Type 0} (refused : Pause → ℤ → Type 0) (P f : Work (V × ℕ)) (c d : Choices) (v : V) (k l : ℕ) → Reaches P c d f → f ≡ success (v, l) → k ≡ l → Runs refused P c d (Ok v) k
+pub part_ends : {V : Type 0} (refused : Pause → ℤ → Type 0) (P f : Work (V × ℕ)) (c d : Choices) (v : V) (k l : ℕ) → Reaches P c d f → f ≡ success (v, l) → k ≡ l → WorkComesAt refused P c d (Ok v) k
 part_ends refused P f c d v k l p q h = record { by = subst (Reaches P c d) (q ∙ ap (λ j. success (v, j)) (sym h)) p }
 
 -- P is the part itself
-pub part_is : {V : Type 0} (refused : Pause → ℤ → Type 0) (P f : Work (V × ℕ)) (c d : Choices) (r : Result V Stop) (j : ℕ) → P ≡ f → Runs refused f c d r j → Runs refused P c d r j
-part_is refused P f c d r j q p = subst (λ h. Runs refused h c d r j) (sym q) p
+pub part_is : {V : Type 0} (refused : Pause → ℤ → Type 0) (P f : Work (V × ℕ)) (c d : Choices) (r : Result V Stop) (j : ℕ) → P ≡ f → WorkComesAt refused f c d r j → WorkComesAt refused P c d r j
+part_is refused P f c d r j q p = subst (λ h. WorkComesAt refused h c d r j) (sym q) p
 
-pub part_faults : {V : Type 0} (refused : Pause → ℤ → Type 0) (P f : Work (V × ℕ)) (c d : Choices) (k : FaultKind) (m n j : ℕ) (s : Stop) → Reaches P c d f → f ≡ failure (fault k m) → s ≡ stops.Fault (fault k n) → n ≡ m → Runs refused P c d (Err s) j
+pub part_faults : {V : Type 0} (refused : Pause → ℤ → Type 0) (P f : Work (V × ℕ)) (c d : Choices) (k : FaultKind) (m n j : ℕ) (s : Stop) → Reaches P c d f → f ≡ failure (fault k m) → s ≡ stops.Fault (fault k n) → n ≡ m → WorkComesAt refused P c d (Err s) j
 part_faults refused P f c d k m n j s p q e h =
-    subst (λ u. Runs refused P c d (Err u) j) (sym e) (record { by = subst (Reaches P c d) (q ∙ ap (λ i. failure (fault k i)) (sym h)) p })
+    subst (λ u. WorkComesAt refused P c d (Err u) j) (sym e) (record { by = subst (Reaches P c d) (q ∙ ap (λ i. failure (fault k i)) (sym h)) p })
 
 -- the expression between parentheses, where a bytes are left
-pub within_runs : (refused : Pause → ℤ → Type 0) (t : List ℕ) (s : Cells) (n j : ℕ) (c d : Choices) (r : Result ℤ Stop) (k a : ℕ) → a < n → ((m : ℕ) → a ≤ m → Runs refused (expr_with t s (expr t s m) j) c d r k) → Runs refused (expr t s n j) c d r k
+pub within_runs : (refused : Pause → ℤ → Type 0) (t : List ℕ) (s : Cells) (n j : ℕ) (c d : Choices) (r : Result ℤ Stop) (k a : ℕ) → a < n → ((m : ℕ) → a ≤ m → WorkComesAt refused (expr_with t s (expr t s m) j) c d r k) → WorkComesAt refused (expr t s n j) c d r k
 unfolding expr
 within_runs refused t s zero j c d r k a h f = absurd (omega arith)
 within_runs refused t s (suc n) j c d r k a h f = f n (omega arith)
@@ -95,17 +95,17 @@ more_ends operator part (suc n) p e = rw e refl
 
 module _ (refused : Pause → ℤ → Type 0) where
   -- a turn of the loop, with a bytes left before it and b after it
-  pub more_ok : (P : Work Placed) (operator : ℕ → Option (Operator × ℕ)) (part : ℕ → Work Placed) (m : ℕ) (p : Placed) (o : Operator × ℕ) (c d e : Choices) (w x : ℤ) (l a b : ℕ) → a ≤ m → b < a → Reaches P c d (more operator part m p) → operator p.1 ≡ Some o → Runs refused (part o.1) d e (Ok w) l → result_at_mark (operation o.0 p.0 w) l ≡ Ok x → (n : ℕ) × (b ≤ n) × Reaches P c e (more operator part n (x, l))
+  pub more_ok : (P : Work Placed) (operator : ℕ → Option (Operator × ℕ)) (part : ℕ → Work Placed) (m : ℕ) (p : Placed) (o : Operator × ℕ) (c d e : Choices) (w x : ℤ) (l a b : ℕ) → a ≤ m → b < a → Reaches P c d (more operator part m p) → operator p.1 ≡ Some o → WorkComesAt refused (part o.1) d e (Ok w) l → result_at_mark (operation o.0 p.0 w) l ≡ Ok x → (n : ℕ) × (b ≤ n) × Reaches P c e (more operator part n (x, l))
   more_ok P operator part zero p o c d e w x l a b enough less r h y v = absurd (omega arith)
   more_ok P operator part (suc n) p o c d e w x l a b enough less r h y v =
       (n, omega arith, operate_ok refused P (more operator part (suc n) p) (part o.1) (operation o.0 p.0) (more operator part n) c d e w x l r (more_goes operator part n p o h) y v)
 
-  pub more_err : (P : Work Placed) (operator : ℕ → Option (Operator × ℕ)) (part : ℕ → Work Placed) (m : ℕ) (p : Placed) (o : Operator × ℕ) (c d e : Choices) (s : Stop) (i j a : ℕ) → a ≤ m → 0 < a → Reaches P c d (more operator part m p) → operator p.1 ≡ Some o → Runs refused (part o.1) d e (Err s) i → Runs refused P c e (Err s) j
+  pub more_err : (P : Work Placed) (operator : ℕ → Option (Operator × ℕ)) (part : ℕ → Work Placed) (m : ℕ) (p : Placed) (o : Operator × ℕ) (c d e : Choices) (s : Stop) (i j a : ℕ) → a ≤ m → 0 < a → Reaches P c d (more operator part m p) → operator p.1 ≡ Some o → WorkComesAt refused (part o.1) d e (Err s) i → WorkComesAt refused P c e (Err s) j
   more_err P operator part zero p o c d e s i j a enough less r h y = absurd (omega arith)
   more_err P operator part (suc n) p o c d e s i j a enough less r h y =
       part_err refused P (more operator part (suc n) p) (part o.1) (λ q. result_at (operation o.0 p.0 q.0) q.1 >>= more operator part n) c d e s i j r (more_goes operator part n p o h) y
 
-  pub more_how : (P : Work Placed) (operator : ℕ → Option (Operator × ℕ)) (part : ℕ → Work Placed) (m : ℕ) (p : Placed) (o : Operator × ℕ) (c d e : Choices) (w : ℤ) (s : Stop) (l j a : ℕ) → a ≤ m → 0 < a → Reaches P c d (more operator part m p) → operator p.1 ≡ Some o → Runs refused (part o.1) d e (Ok w) l → result_at_mark (operation o.0 p.0 w) l ≡ Err s → Runs refused P c e (Err s) j
+  pub more_how : (P : Work Placed) (operator : ℕ → Option (Operator × ℕ)) (part : ℕ → Work Placed) (m : ℕ) (p : Placed) (o : Operator × ℕ) (c d e : Choices) (w : ℤ) (s : Stop) (l j a : ℕ) → a ≤ m → 0 < a → Reaches P c d (more operator part m p) → operator p.1 ≡ Some o → WorkComesAt refused (part o.1) d e (Ok w) l → result_at_mark (operation o.0 p.0 w) l ≡ Err s → WorkComesAt refused P c e (Err s) j
   more_how P operator part zero p o c d e w s l j a enough less r h y v = absurd (omega arith)
   more_how P operator part (suc n) p o c d e w s l j a enough less r h y v =
       operate_err refused P (more operator part (suc n) p) (part o.1) (operation o.0 p.0) (more operator part n) c d e w s l j r (more_goes operator part n p o h) y v
@@ -117,8 +117,8 @@ pub at_text : {A : Type 0} (f : List ℕ → A) {t u : List ℕ} {x : A} → t �
 at_text f e h = ap f (sym e) ∙ h
 
 -- a fact of a text and a place is one of the same text and the same place
-pub at_spot : {A : Type 0} (f : List ℕ → ℕ → A) {t u : List ℕ} {i j : ℕ} {x : A} → t ≡ u → i ≡ j → f t i ≡ x → f u j ≡ x
-at_spot f {u = u} {i = i} d e h = ap (f u) (sym e) ∙ ap (λ v. f v i) (sym d) ∙ h
+pub at_place : {A : Type 0} (f : List ℕ → ℕ → A) {t u : List ℕ} {i j : ℕ} {x : A} → t ≡ u → i ≡ j → f t i ≡ x → f u j ≡ x
+at_place f {u = u} {i = i} d e h = ap (f u) (sym e) ∙ ap (λ v. f v i) (sym d) ∙ h
 
 -- ---- each branch of each part
 
@@ -157,7 +157,7 @@ module _ (t : List ℕ) (s : Cells) (within : ℕ → Work Placed) where
   unfolding paren
   paren_opens i j e = rw e refl
 
-  pub paren_missing : (i : ℕ) → token_at 40 t i ≡ None → paren t s within i ≡ missing i
+  pub paren_missing : (i : ℕ) → token_at 40 t i ≡ None → paren t s within i ≡ missing_work i
   unfolding paren
   paren_missing i e = rw e refl
 
@@ -165,7 +165,7 @@ module _ (t : List ℕ) (s : Cells) (within : ℕ → Work Placed) where
   unfolding closing
   close_closes p j e = rw e refl
 
-  pub close_missing : (p : Placed) → token_at 41 t p.1 ≡ None → closing t s within p ≡ missing p.1
+  pub close_missing : (p : Placed) → token_at 41 t p.1 ≡ None → closing t s within p ≡ missing_work p.1
   unfolding closing
   close_missing p e = rw e refl
 
@@ -223,6 +223,6 @@ module _ (t : List ℕ) (s : Cells) (within : ℕ → Work Placed) where
   unfolding variable
   variable_element i j e d = rw (e, d) refl
 
-  pub variable_missing : (i : ℕ) → letter_at t i ≡ None → token_at 64 t i ≡ None → variable t s within i ≡ missing i
+  pub variable_missing : (i : ℕ) → letter_at t i ≡ None → token_at 64 t i ≡ None → variable t s within i ≡ missing_work i
   unfolding variable
   variable_missing i e d = rw (e, d) refl

@@ -14,7 +14,7 @@ use Rattle.ptb_expr.specs.declared.operator.Operator.{Operator}
 use Rattle.ptb_expr.specs.declared.operator.Operator.TheVariants.{Plus, Minus, Times, Over, AtLeast, NotEqual, Above, Equals, AtMost, Below}
 use Rattle.ptb_expr.specs.Operators.{of_byte, of_pair, product_operator, sum_operator, comparison}
 use Rattle.ptb_expr.specs.Tree.{Tree, Num, Var, Size, Elem, Rnd, Abs, Neg, Bin, Bad, Unclosed}
-use Rattle.ptb_expr.specs.Reading.{Reading, Whole, Spoilt, if_there, if_number, if_function, after, itself, node_over, missing}
+use Rattle.ptb_expr.specs.Reading.{Reading, Whole, Malformed, if_there, if_number, if_function, after, itself, node_over, missing_part}
 use Rattle.ptb_expr.specs.Reading as reading
 use Rattle.ptb_expr.specs.Spells.{Part, Expr, Sum, First, MoreSum, Product, MoreProduct, Factor, Variable, Paren, Spells}
 use Rattle.ptb_expr.specs.Spells as spells
@@ -70,28 +70,28 @@ module _ (laws : FindingLaws) (t : List ℕ) where
   -- the place after a whole reading lies ahead
   abbrev pub Ahead : ℕ → Reading Tree → Type 0
   Ahead i (Whole y j) = LiesAhead t i j
-  Ahead i (Spoilt y) = Unit {0}
+  Ahead i (Malformed y) = Unit {0}
 
   -- or it is the same, where nothing follows in a list
   abbrev pub Onward : ℕ → Reading Tree → Type 0
   Onward i (Whole y j) = (j ≡ i) ⊎ LiesAhead t i j
-  Onward i (Spoilt y) = Unit {0}
+  Onward i (Malformed y) = Unit {0}
 
   onward : (i : ℕ) (r : Reading Tree) → Ahead i r → Onward i r
   onward i (Whole y j) h = inr h
-  onward i (Spoilt y) h = tt
+  onward i (Malformed y) h = tt
 
   further_on : (i j : ℕ) (r : Reading Tree) → LiesAhead t i j → Onward j r → Ahead i r
   further_on i j (Whole y k) h (inl e) = subst (LiesAhead t i) (sym e) h
   further_on i j (Whole y k) h (inr g) = further i j k h g
-  further_on i j (Spoilt y) h g = tt
+  further_on i j (Malformed y) h g = tt
 
   further_ahead : (i j : ℕ) (r : Reading Tree) → LiesAhead t i j → Ahead j r → Ahead i r
   further_ahead i j r h g = further_on i j r h (onward j r g)
 
   node_ahead : (node : Tree → ℕ → Tree) (m i : ℕ) (r : Reading Tree) → Ahead i r → Ahead i (node_over node m r)
   node_ahead node m i (Whole y j) h = h
-  node_ahead node m i (Spoilt y) h = tt
+  node_ahead node m i (Malformed y) h = tt
 
   abbrev pub AheadOf : Part → ℕ → Reading Tree → Type 0
   AheadOf (MoreSum x) i r = Onward i r
@@ -105,22 +105,22 @@ module _ (laws : FindingLaws) (t : List ℕ) where
   ahead part i r (spells.sum_alone {j = j} {x = x} d e) = ahead Sum i (Whole x j) d
   ahead part i r (spells.compared {j = j} {k = k} {x = x} {op = op} {r = q} d e h) =
       further_ahead i k (node_over (Bin op x) k q) (further i j k (ahead Sum i (Whole x j) d) (comparison_ahead j op k e)) (node_ahead (Bin op x) k k q (ahead Sum k q h))
-  ahead part i r (spells.sum_spoilt d) = tt
+  ahead part i r (spells.sum_malformed d) = tt
   ahead part i r (spells.sum {j = j} {x = x} d h) = further_on i j r (ahead First i (Whole x j) d) (ahead (MoreSum x) j r h)
-  ahead part i r (spells.first_spoilt d) = tt
+  ahead part i r (spells.first_malformed d) = tt
   ahead part i r (spells.minus_sign {j = j} {r = q} e h) = further_ahead i j (node_over Neg j q) (laws.token 45 t i j e) (node_ahead Neg j j q (ahead Product j q h))
   ahead part i r (spells.plus_sign {j = j} e f h) = further_ahead i j r (laws.token 43 t i j f) (ahead Product j r h)
   ahead part i r (spells.no_sign e f h) = ahead Product i r h
   ahead part i r (spells.sum_end e) = inl refl
   ahead part i r (spells.sum_more {k = k} {l = l} {x = x} {y = y} {op = op} e d h) =
       onward i r (further_on i l r (further i k l (sum_operator_ahead i op k e) (ahead Product k (Whole y l) d)) (ahead (MoreSum (Bin op x y l)) l r h))
-  ahead part i r (spells.product_spoilt e d) = tt
+  ahead part i r (spells.product_malformed e d) = tt
   ahead part i r (spells.product {j = j} {x = x} d h) = further_on i j r (ahead Factor i (Whole x j) d) (ahead (MoreProduct x) j r h)
-  ahead part i r (spells.first_factor_spoilt d) = tt
+  ahead part i r (spells.first_factor_malformed d) = tt
   ahead part i r (spells.product_end e) = inl refl
   ahead part i r (spells.product_more {k = k} {l = l} {x = x} {y = y} {op = op} e d h) =
       onward i r (further_on i l r (further i k l (product_operator_ahead i op k e) (ahead Factor k (Whole y l) d)) (ahead (MoreProduct (Bin op x y l)) l r h))
-  ahead part i r (spells.factor_spoilt e d) = tt
+  ahead part i r (spells.factor_malformed e d) = tt
   ahead part i r (spells.rnd {j = j} {r = q} e h) = further_ahead i j (node_over Rnd j q) (laws.word Functions t i RndKw j e) (node_ahead Rnd j j q (ahead Paren j q h))
   ahead part i r (spells.abs {j = j} {r = q} e h) = further_ahead i j (node_over Abs j q) (laws.word Functions t i AbsKw j e) (node_ahead Abs j j q (ahead Paren j q h))
   ahead part i r (spells.size {j = j} e) = laws.word Functions t i SizeKw j e
@@ -134,7 +134,7 @@ module _ (laws : FindingLaws) (t : List ℕ) where
   ahead part i r (spells.no_variable e f) = tt
   ahead part i r (spells.closed {j = j} {k = k} {l = l} {x = x} e d f) = further i j l (laws.token 40 t i j e) (further j k l (ahead Expr j (Whole x k) d) (laws.token 41 t k l f))
   ahead part i r (spells.unclosed e d f) = tt
-  ahead part i r (spells.inside_spoilt e d) = tt
+  ahead part i r (spells.inside_malformed e d) = tt
   ahead part i r (spells.not_opened e) = tt
 
   -- ---- what is read is spelled so: no text is deeper, and no list is longer, than the text is long
@@ -144,7 +144,7 @@ module _ (laws : FindingLaws) (t : List ℕ) where
       → ((i j : ℕ) (x : Tree) → Spells t part i (Whole x j) → LiesAhead t i j)
       → ((j : ℕ) (x : Tree) → operator j ≡ None → Spells t (rest_of x) j (Whole x j))
       → ((j k l : ℕ) (x y : Tree) (op : Operator) (r : Reading Tree) → operator j ≡ Some (op, k) → Spells t part k (Whole y l) → Spells t (rest_of (Bin op x y l)) l r → Spells t (rest_of x) j r)
-      → ((j k : ℕ) (x y : Tree) (op : Operator) → operator j ≡ Some (op, k) → Spells t part k (Spoilt y) → Spells t (rest_of x) j (Spoilt (Bin op x y k)))
+      → ((j k : ℕ) (x y : Tree) (op : Operator) → operator j ≡ Some (op, k) → Spells t part k (Malformed y) → Spells t (rest_of x) j (Malformed (Bin op x y k)))
       → (n : ℕ) → ((i : ℕ) → rest i ≤ n → Spells t part i (read i))
       → (m : ℕ) (x : Tree) (j : ℕ) → rest j ≤ m → rest j ≤ n → Spells t (rest_of x) j (reading.more operator read m x j)
   unfolding reading.more
@@ -161,32 +161,32 @@ module _ (laws : FindingLaws) (t : List ℕ) where
           let less : rest k < rest j = falls j k (op_ahead j op k e) in
           let near : rest l < rest k = falls k l (on k l y s) in
           goes j k l x y op _ e s (ih (Bin op x y l) l (omega arith) (omega arith))
-      inner op k e ih (Spoilt y) s = spoils j k x y op e s
+      inner op k e ih (Malformed y) s = spoils j k x y op e s
 
       go : (o : Option (Operator × ℕ)) → operator j ≡ o → ((y : Tree) (l : ℕ) → rest l ≤ m → rest l ≤ n → Spells t (rest_of y) l (reading.more operator read m y l)) → Spells t (rest_of x) j (if_there o (λ o. after (read o.1) (λ y. Bin o.0 x y o.1) (λ y l. reading.more operator read m (Bin o.0 x y l) l)) (Whole x j))
       go None e ih = ends j x e
       go (Some (op, k)) e ih = inner op k e ih (read k) (h k (omega (arith, falls j k (op_ahead j op k e))))
 
   -- a part, and then the rest of its list
-  list_spelled : (part list : Part) (rest_of : Tree → Part) → ((i j : ℕ) (x : Tree) (r : Reading Tree) → Spells t part i (Whole x j) → Spells t (rest_of x) j r → Spells t list i r) → ((i : ℕ) (x : Tree) → Spells t part i (Spoilt x) → Spells t list i (Spoilt x)) → ((i j : ℕ) (x : Tree) → Spells t part i (Whole x j) → LiesAhead t i j) → (i : ℕ) (r : Reading Tree) (k : Tree → ℕ → Reading Tree) → ((x : Tree) (j : ℕ) → rest j ≤ rest i → Spells t (rest_of x) j (k x j)) → Spells t part i r → Spells t list i (after r itself k)
+  list_spelled : (part list : Part) (rest_of : Tree → Part) → ((i j : ℕ) (x : Tree) (r : Reading Tree) → Spells t part i (Whole x j) → Spells t (rest_of x) j r → Spells t list i r) → ((i : ℕ) (x : Tree) → Spells t part i (Malformed x) → Spells t list i (Malformed x)) → ((i j : ℕ) (x : Tree) → Spells t part i (Whole x j) → LiesAhead t i j) → (i : ℕ) (r : Reading Tree) (k : Tree → ℕ → Reading Tree) → ((x : Tree) (j : ℕ) → rest j ≤ rest i → Spells t (rest_of x) j (k x j)) → Spells t part i r → Spells t list i (after r itself k)
   list_spelled part list rest_of both spoils on i (Whole x j) k h s =
       let near : rest j < rest i = falls i j (on i j x s) in both i j x _ s (h x j (omega arith))
-  list_spelled part list rest_of both spoils on i (Spoilt x) k h s = spoils i x s
+  list_spelled part list rest_of both spoils on i (Malformed x) k h s = spoils i x s
 
   module _ (n : ℕ) (within : ℕ → Reading Tree) (h : (j : ℕ) → rest j < n → Spells t Expr j (within j)) where
-    close_spelled : (i j k : ℕ) (x : Tree) → token_at 40 t i ≡ Some j → Spells t Expr j (Whole x k) → (o : Option ℕ) → token_at 41 t k ≡ o → Spells t Paren i (if_there o (λ l. Whole x l) (Spoilt (Unclosed x k)))
+    close_spelled : (i j k : ℕ) (x : Tree) → token_at 40 t i ≡ Some j → Spells t Expr j (Whole x k) → (o : Option ℕ) → token_at 41 t k ≡ o → Spells t Paren i (if_there o (λ l. Whole x l) (Malformed (Unclosed x k)))
     close_spelled i j k x e s None d = spells.unclosed e s d
     close_spelled i j k x e s (Some l) d = spells.closed e s d
 
-    inside_spelled : (i j : ℕ) → token_at 40 t i ≡ Some j → (r : Reading Tree) → Spells t Expr j r → Spells t Paren i (after r itself (λ x k. if_there (token_at 41 t k) (λ l. Whole x l) (Spoilt (Unclosed x k))))
+    inside_spelled : (i j : ℕ) → token_at 40 t i ≡ Some j → (r : Reading Tree) → Spells t Expr j r → Spells t Paren i (after r itself (λ x k. if_there (token_at 41 t k) (λ l. Whole x l) (Malformed (Unclosed x k))))
     inside_spelled i j e (Whole x k) s = close_spelled i j k x e s (token_at 41 t k) refl
-    inside_spelled i j e (Spoilt x) s = spells.inside_spoilt e s
+    inside_spelled i j e (Malformed x) s = spells.inside_malformed e s
 
     paren_spelled : (i : ℕ) → rest i ≤ n → Spells t Paren i (reading.paren t within i)
     unfolding reading.paren
     paren_spelled i low = go (token_at 40 t i) refl
       where
-        go : (o : Option ℕ) → token_at 40 t i ≡ o → Spells t Paren i (if_there o (λ j. after (within j) itself (λ x k. if_there (token_at 41 t k) (λ l. Whole x l) (Spoilt (Unclosed x k)))) (missing i))
+        go : (o : Option ℕ) → token_at 40 t i ≡ o → Spells t Paren i (if_there o (λ j. after (within j) itself (λ x k. if_there (token_at 41 t k) (λ l. Whole x l) (Malformed (Unclosed x k)))) (missing_part i))
         go None e = spells.not_opened e
         go (Some j) e = inside_spelled i j e (within j) (h j (omega (arith, falls i j (laws.token 40 t i j e))))
 
@@ -198,15 +198,15 @@ module _ (laws : FindingLaws) (t : List ℕ) where
     unfolding reading.variable reading.variable_or
     variable_spelled i low = go (letter_at t i) refl
       where
-        at_sign : letter_at t i ≡ None → (o : Option ℕ) → token_at 64 t i ≡ o → Spells t Variable i (if_there o (λ j. node_over Elem j (reading.paren t within j)) (missing i))
+        at_sign : letter_at t i ≡ None → (o : Option ℕ) → token_at 64 t i ≡ o → Spells t Variable i (if_there o (λ j. node_over Elem j (reading.paren t within j)) (missing_part i))
         at_sign e None d = spells.no_variable e d
         at_sign e (Some j) d = element_spelled i j low e d
 
-        go : (o : Option (ℕ × ℕ)) → letter_at t i ≡ o → Spells t Variable i (if_there o (λ b. Whole (Var b.0) b.1) (if_there (token_at 64 t i) (λ j. node_over Elem j (reading.paren t within j)) (missing i)))
+        go : (o : Option (ℕ × ℕ)) → letter_at t i ≡ o → Spells t Variable i (if_there o (λ b. Whole (Var b.0) b.1) (if_there (token_at 64 t i) (λ j. node_over Elem j (reading.paren t within j)) (missing_part i)))
         go None e = at_sign e (token_at 64 t i) refl
         go (Some (b, j)) e = spells.letter e
 
-    number_spelled : (i : ℕ) → rest i ≤ n → word_at Functions t i ≡ None → letter_at t i ≡ None → token_at 64 t i ≡ None → (o : Number × ℕ) → number_at t i ≡ o → Spells t Factor i (if_number o (λ v j. Whole (Num v) j) (λ j. Spoilt (Bad How j)) (reading.paren t within i))
+    number_spelled : (i : ℕ) → rest i ≤ n → word_at Functions t i ≡ None → letter_at t i ≡ None → token_at 64 t i ≡ None → (o : Number × ℕ) → number_at t i ≡ o → Spells t Factor i (if_number o (λ v j. Whole (Num v) j) (λ j. Malformed (Bad How j)) (reading.paren t within i))
     number_spelled i low f e d (Absent, j) g = spells.paren f e d g (paren_spelled i low)
     number_spelled i low f e d (Value v, j) g = spells.number f e d g
     number_spelled i low f e d (TooBig, j) g = spells.number_too_big f e d g
@@ -215,11 +215,11 @@ module _ (laws : FindingLaws) (t : List ℕ) where
     unfolding reading.plain reading.variable_or
     plain_spelled i low f = go (letter_at t i) refl
       where
-        at_sign : letter_at t i ≡ None → (o : Option ℕ) → token_at 64 t i ≡ o → Spells t Factor i (if_there o (λ j. node_over Elem j (reading.paren t within j)) (if_number (number_at t i) (λ v j. Whole (Num v) j) (λ j. Spoilt (Bad How j)) (reading.paren t within i)))
+        at_sign : letter_at t i ≡ None → (o : Option ℕ) → token_at 64 t i ≡ o → Spells t Factor i (if_there o (λ j. node_over Elem j (reading.paren t within j)) (if_number (number_at t i) (λ v j. Whole (Num v) j) (λ j. Malformed (Bad How j)) (reading.paren t within i)))
         at_sign e None d = number_spelled i low f e d (number_at t i) refl
         at_sign e (Some j) d = spells.element_variable f d (element_spelled i j low e d)
 
-        go : (o : Option (ℕ × ℕ)) → letter_at t i ≡ o → Spells t Factor i (if_there o (λ b. Whole (Var b.0) b.1) (if_there (token_at 64 t i) (λ j. node_over Elem j (reading.paren t within j)) (if_number (number_at t i) (λ v j. Whole (Num v) j) (λ j. Spoilt (Bad How j)) (reading.paren t within i))))
+        go : (o : Option (ℕ × ℕ)) → letter_at t i ≡ o → Spells t Factor i (if_there o (λ b. Whole (Var b.0) b.1) (if_there (token_at 64 t i) (λ j. node_over Elem j (reading.paren t within j)) (if_number (number_at t i) (λ v j. Whole (Num v) j) (λ j. Malformed (Bad How j)) (reading.paren t within i))))
         go None e = at_sign e (token_at 64 t i) refl
         go (Some (b, j)) e = spells.letter_variable f e (spells.letter e)
 
@@ -243,9 +243,9 @@ module _ (laws : FindingLaws) (t : List ℕ) where
     product_spelled : (i : ℕ) → rest i ≤ n → Spells t Product i (reading.product t within i)
     unfolding reading.product
     product_spelled i low =
-        list_spelled Factor Product MoreProduct (λ i j x r s q. spells.product s q) (λ i x s. spells.first_factor_spoilt s) factor_place i (reading.factor t within i) _
+        list_spelled Factor Product MoreProduct (λ i j x r s q. spells.product s q) (λ i x s. spells.first_factor_malformed s) factor_place i (reading.factor t within i) _
         (λ x j near. more_spelled (product_operator t) product_operator_ahead (reading.factor t within) Factor MoreProduct factor_place
-        (λ j x e. spells.product_end e) (λ j k l x y op r e s q. spells.product_more e s q) (λ j k x y op e s. spells.factor_spoilt e s)
+        (λ j x e. spells.product_end e) (λ j k l x y op r e s q. spells.product_more e s q) (λ j k x y op e s. spells.factor_malformed e s)
         n factor_spelled (length t) x j (omega arith) (omega arith))
         (factor_spelled i low)
 
@@ -270,9 +270,9 @@ module _ (laws : FindingLaws) (t : List ℕ) where
     sum_spelled : (i : ℕ) → rest i ≤ n → Spells t Sum i (reading.sum t within i)
     unfolding reading.sum
     sum_spelled i low =
-        list_spelled First Sum MoreSum (λ i j x r s q. spells.sum s q) (λ i x s. spells.first_spoilt s) (λ i j x s. ahead First i (Whole x j) s) i (reading.first_product t within i) _
+        list_spelled First Sum MoreSum (λ i j x r s q. spells.sum s q) (λ i x s. spells.first_malformed s) (λ i j x s. ahead First i (Whole x j) s) i (reading.first_product t within i) _
         (λ x j near. more_spelled (sum_operator t) sum_operator_ahead (reading.product t within) Product MoreSum product_place
-        (λ j x e. spells.sum_end e) (λ j k l x y op r e s q. spells.sum_more e s q) (λ j k x y op e s. spells.product_spoilt e s)
+        (λ j x e. spells.sum_end e) (λ j k l x y op r e s q. spells.sum_more e s q) (λ j k x y op e s. spells.product_malformed e s)
         n product_spelled (length t) x j (omega arith) (omega arith))
         (first_spelled i low)
 
@@ -289,7 +289,7 @@ module _ (laws : FindingLaws) (t : List ℕ) where
 
         go : (r : Reading Tree) → Spells t Sum i r → Spells t Expr i (after r itself (λ x j. if_there (comparison t j) (λ o. node_over (Bin o.0 x) o.1 (reading.sum t within o.1)) (Whole x j)))
         go (Whole x j) s = compare x j s (comparison t j) refl
-        go (Spoilt x) s = spells.sum_spoilt s
+        go (Malformed x) s = spells.sum_malformed s
 
   pub expr_spelled : (n i : ℕ) → rest i < n → Spells t Expr i (reading.expr t n i)
   unfolding reading.expr

@@ -9,7 +9,7 @@ use Rattle.ptb_expr.specs.declared.fault.FaultKind.TheVariants.{How}
 use Rattle.ptb_expr.specs.declared.operator.Operator.{Operator}
 use Rattle.ptb_expr.specs.Operators.{product_operator, sum_operator, comparison}
 use Rattle.ptb_expr.specs.Tree.{Tree, Num, Var, Size, Elem, Rnd, Abs, Neg, Bin, Bad, Unclosed}
-use Rattle.ptb_expr.specs.Reading.{Reading, Whole, Spoilt, node_over, missing, more, paren, variable_or, variable, plain, factor, product, first_product, sum, expr_with, expr}
+use Rattle.ptb_expr.specs.Reading.{Reading, Whole, Malformed, node_over, missing_part, more, paren, variable_or, variable, plain, factor, product, first_product, sum, expr_with, expr}
 use Rattle.ptb_expr.specs.Spells.{Part, Expr, Sum, First, MoreSum, Product, MoreProduct, Factor, Variable, Paren, Spells}
 use Rattle.ptb_expr.specs.Spells as spells
 use Rattle.ptb_expr.proofs.Spelling.{rest, falls, product_operator_ahead, sum_operator_ahead, comparison_ahead, ahead}
@@ -25,9 +25,9 @@ more_more : (operator : ℕ → Option (Operator × ℕ)) (read : ℕ → Readin
 unfolding more
 more_more operator read m x y op j k l e d = rw (e, sym d) refl
 
-more_spoilt : (operator : ℕ → Option (Operator × ℕ)) (read : ℕ → Reading Tree) (m : ℕ) (x y : Tree) (op : Operator) (j k : ℕ) → operator j ≡ Some (op, k) → Spoilt y ≡ read k → more operator read (suc m) x j ≡ Spoilt (Bin op x y k)
+more_malformed : (operator : ℕ → Option (Operator × ℕ)) (read : ℕ → Reading Tree) (m : ℕ) (x y : Tree) (op : Operator) (j k : ℕ) → operator j ≡ Some (op, k) → Malformed y ≡ read k → more operator read (suc m) x j ≡ Malformed (Bin op x y k)
 unfolding more
-more_spoilt operator read m x y op j k e d = rw (e, sym d) refl
+more_malformed operator read m x y op j k e d = rw (e, sym d) refl
 
 -- ---- each branch of each part
 
@@ -40,17 +40,17 @@ module _ (t : List ℕ) (within : ℕ → Reading Tree) where
   unfolding expr_with
   expr_compared i j k x op d e = rw (sym d, e) refl
 
-  expr_spoilt : (i : ℕ) (x : Tree) → Spoilt x ≡ sum t within i → Spoilt x ≡ expr_with t within i
+  expr_malformed : (i : ℕ) (x : Tree) → Malformed x ≡ sum t within i → Malformed x ≡ expr_with t within i
   unfolding expr_with
-  expr_spoilt i x d = rw (sym d) refl
+  expr_malformed i x d = rw (sym d) refl
 
   sum_whole : (i j : ℕ) (x : Tree) → Whole x j ≡ first_product t within i → more (sum_operator t) (product t within) (length t) x j ≡ sum t within i
   unfolding sum
   sum_whole i j x d = rw (sym d) refl
 
-  sum_spoilt : (i : ℕ) (x : Tree) → Spoilt x ≡ first_product t within i → Spoilt x ≡ sum t within i
+  sum_malformed : (i : ℕ) (x : Tree) → Malformed x ≡ first_product t within i → Malformed x ≡ sum t within i
   unfolding sum
-  sum_spoilt i x d = rw (sym d) refl
+  sum_malformed i x d = rw (sym d) refl
 
   first_minus : (i j : ℕ) → token_at 45 t i ≡ Some j → node_over Neg j (product t within j) ≡ first_product t within i
   unfolding first_product
@@ -68,9 +68,9 @@ module _ (t : List ℕ) (within : ℕ → Reading Tree) where
   unfolding product
   product_whole i j x d = rw (sym d) refl
 
-  product_spoilt : (i : ℕ) (x : Tree) → Spoilt x ≡ factor t within i → Spoilt x ≡ product t within i
+  product_malformed : (i : ℕ) (x : Tree) → Malformed x ≡ factor t within i → Malformed x ≡ product t within i
   unfolding product
-  product_spoilt i x d = rw (sym d) refl
+  product_malformed i x d = rw (sym d) refl
 
   factor_rnd : (i j : ℕ) → word_at Functions t i ≡ Some (RndKw, j) → node_over Rnd j (paren t within j) ≡ factor t within i
   unfolding factor
@@ -102,7 +102,7 @@ module _ (t : List ℕ) (within : ℕ → Reading Tree) where
   unfolding factor plain variable_or
   factor_number i j v e f g h = rw (e, f, g, h) refl
 
-  factor_too_big : (i j : ℕ) → word_at Functions t i ≡ None → letter_at t i ≡ None → token_at 64 t i ≡ None → number_at t i ≡ (TooBig, j) → Spoilt (Bad How j) ≡ factor t within i
+  factor_too_big : (i j : ℕ) → word_at Functions t i ≡ None → letter_at t i ≡ None → token_at 64 t i ≡ None → number_at t i ≡ (TooBig, j) → Malformed (Bad How j) ≡ factor t within i
   unfolding factor plain variable_or
   factor_too_big i j e f g h = rw (e, f, g, h) refl
 
@@ -118,7 +118,7 @@ module _ (t : List ℕ) (within : ℕ → Reading Tree) where
   unfolding variable variable_or
   variable_element i j e f = rw (e, f) refl
 
-  variable_missing : (i : ℕ) → letter_at t i ≡ None → token_at 64 t i ≡ None → missing i ≡ variable t within i
+  variable_missing : (i : ℕ) → letter_at t i ≡ None → token_at 64 t i ≡ None → missing_part i ≡ variable t within i
   unfolding variable variable_or
   variable_missing i e f = rw (e, f) refl
 
@@ -126,15 +126,15 @@ module _ (t : List ℕ) (within : ℕ → Reading Tree) where
   unfolding paren
   paren_closed i j k l x e d f = rw (e, sym d, f) refl
 
-  paren_unclosed : (i j k : ℕ) (x : Tree) → token_at 40 t i ≡ Some j → Whole x k ≡ within j → token_at 41 t k ≡ None → Spoilt (Unclosed x k) ≡ paren t within i
+  paren_unclosed : (i j k : ℕ) (x : Tree) → token_at 40 t i ≡ Some j → Whole x k ≡ within j → token_at 41 t k ≡ None → Malformed (Unclosed x k) ≡ paren t within i
   unfolding paren
   paren_unclosed i j k x e d f = rw (e, sym d, f) refl
 
-  paren_spoilt : (i j : ℕ) (x : Tree) → token_at 40 t i ≡ Some j → Spoilt x ≡ within j → Spoilt x ≡ paren t within i
+  paren_malformed : (i j : ℕ) (x : Tree) → token_at 40 t i ≡ Some j → Malformed x ≡ within j → Malformed x ≡ paren t within i
   unfolding paren
-  paren_spoilt i j x e d = rw (e, sym d) refl
+  paren_malformed i j x e d = rw (e, sym d) refl
 
-  paren_missing : (i : ℕ) → token_at 40 t i ≡ None → missing i ≡ paren t within i
+  paren_missing : (i : ℕ) → token_at 40 t i ≡ None → missing_part i ≡ paren t within i
   unfolding paren
   paren_missing i e = rw e refl
 
@@ -164,9 +164,9 @@ module _ (laws : FindingLaws) (t : List ℕ) where
   goes operator reads x y op r j k l zero less low e d h = absurd (omega arith)
   goes operator reads x y op r j k l (suc m) less low e d h = h m (omega arith) ∙ sym (more_more operator reads m x y op j k l e d)
 
-  spoils : (operator : ℕ → Option (Operator × ℕ)) (reads : ℕ → Reading Tree) (x y : Tree) (op : Operator) (j k m : ℕ) → rest laws t k < rest laws t j → rest laws t j ≤ m → operator j ≡ Some (op, k) → Spoilt y ≡ reads k → Spoilt (Bin op x y k) ≡ more operator reads m x j
+  spoils : (operator : ℕ → Option (Operator × ℕ)) (reads : ℕ → Reading Tree) (x y : Tree) (op : Operator) (j k m : ℕ) → rest laws t k < rest laws t j → rest laws t j ≤ m → operator j ≡ Some (op, k) → Malformed y ≡ reads k → Malformed (Bin op x y k) ≡ more operator reads m x j
   spoils operator reads x y op j k zero less low e d = absurd (omega arith)
-  spoils operator reads x y op j k (suc m) less low e d = sym (more_spoilt operator reads m x y op j k e d)
+  spoils operator reads x y op j k (suc m) less low e d = sym (more_malformed operator reads m x y op j k e d)
 
   is_read : (part : Part) (i : ℕ) (r : Reading Tree) → Spells t part i r → IsRead part i r
   is_read part i r (spells.sum_alone {j = j} {x = x} d e) = λ n m p q. expr_alone t (expr t n) i j x (is_read Sum i (Whole x j) d n m p q) e
@@ -174,11 +174,11 @@ module _ (laws : FindingLaws) (t : List ℕ) where
       let a : rest laws t j < rest laws t i = falls laws t i j (ahead laws t Sum i (Whole x j) d) in
       let b : rest laws t k < rest laws t j = falls laws t j k (comparison_ahead laws t j op k e) in
       ap (node_over (Bin op x) k) (is_read Sum k s h n m (omega arith) (omega arith)) ∙ expr_compared t (expr t n) i j k x op (is_read Sum i (Whole x j) d n m p q) e
-  is_read part i r (spells.sum_spoilt {x = x} d) = λ n m p q. expr_spoilt t (expr t n) i x (is_read Sum i (Spoilt x) d n m p q)
+  is_read part i r (spells.sum_malformed {x = x} d) = λ n m p q. expr_malformed t (expr t n) i x (is_read Sum i (Malformed x) d n m p q)
   is_read part i r (spells.sum {j = j} {x = x} d h) = λ n m p q.
       let a : rest laws t j < rest laws t i = falls laws t i j (ahead laws t First i (Whole x j) d) in
       is_read (MoreSum x) j r h n (length t) (omega arith) (omega arith) ∙ sum_whole t (expr t n) i j x (is_read First i (Whole x j) d n m p q)
-  is_read part i r (spells.first_spoilt {x = x} d) = λ n m p q. sum_spoilt t (expr t n) i x (is_read First i (Spoilt x) d n m p q)
+  is_read part i r (spells.first_malformed {x = x} d) = λ n m p q. sum_malformed t (expr t n) i x (is_read First i (Malformed x) d n m p q)
   is_read part i r (spells.minus_sign {j = j} {r = s} e h) = λ n m p q.
       let a : rest laws t j < rest laws t i = falls laws t i j (laws.token 45 t i j e) in
       ap (node_over Neg j) (is_read Product j s h n m (omega arith) (omega arith)) ∙ first_minus t (expr t n) i j e
@@ -191,21 +191,21 @@ module _ (laws : FindingLaws) (t : List ℕ) where
       let a : rest laws t k < rest laws t i = falls laws t i k (sum_operator_ahead laws t i op k e) in
       let b : rest laws t l < rest laws t k = falls laws t k l (ahead laws t Product k (Whole y l) d) in
       goes (sum_operator t) (product t (expr t n)) x y op r i k l m (omega arith) q e (is_read Product k (Whole y l) d n m (omega arith) (omega arith)) (λ m q. is_read (MoreSum (Bin op x y l)) l r h n m (omega arith) q)
-  is_read part i r (spells.product_spoilt {k = k} {x = x} {y = y} {op = op} e d) = λ n m p q.
+  is_read part i r (spells.product_malformed {k = k} {x = x} {y = y} {op = op} e d) = λ n m p q.
       let a : rest laws t k < rest laws t i = falls laws t i k (sum_operator_ahead laws t i op k e) in
-      spoils (sum_operator t) (product t (expr t n)) x y op i k m a q e (is_read Product k (Spoilt y) d n m (omega arith) (omega arith))
+      spoils (sum_operator t) (product t (expr t n)) x y op i k m a q e (is_read Product k (Malformed y) d n m (omega arith) (omega arith))
   is_read part i r (spells.product {j = j} {x = x} d h) = λ n m p q.
       let a : rest laws t j < rest laws t i = falls laws t i j (ahead laws t Factor i (Whole x j) d) in
       is_read (MoreProduct x) j r h n (length t) (omega arith) (omega arith) ∙ product_whole t (expr t n) i j x (is_read Factor i (Whole x j) d n m p q)
-  is_read part i r (spells.first_factor_spoilt {x = x} d) = λ n m p q. product_spoilt t (expr t n) i x (is_read Factor i (Spoilt x) d n m p q)
+  is_read part i r (spells.first_factor_malformed {x = x} d) = λ n m p q. product_malformed t (expr t n) i x (is_read Factor i (Malformed x) d n m p q)
   is_read part i r (spells.product_end {x = x} e) = λ n m p q. sym (more_end (product_operator t) (factor t (expr t n)) m x i e)
   is_read part i r (spells.product_more {k = k} {l = l} {x = x} {y = y} {op = op} e d h) = λ n m p q.
       let a : rest laws t k < rest laws t i = falls laws t i k (product_operator_ahead laws t i op k e) in
       let b : rest laws t l < rest laws t k = falls laws t k l (ahead laws t Factor k (Whole y l) d) in
       goes (product_operator t) (factor t (expr t n)) x y op r i k l m (omega arith) q e (is_read Factor k (Whole y l) d n m (omega arith) (omega arith)) (λ m q. is_read (MoreProduct (Bin op x y l)) l r h n m (omega arith) q)
-  is_read part i r (spells.factor_spoilt {k = k} {x = x} {y = y} {op = op} e d) = λ n m p q.
+  is_read part i r (spells.factor_malformed {k = k} {x = x} {y = y} {op = op} e d) = λ n m p q.
       let a : rest laws t k < rest laws t i = falls laws t i k (product_operator_ahead laws t i op k e) in
-      spoils (product_operator t) (factor t (expr t n)) x y op i k m a q e (is_read Factor k (Spoilt y) d n m (omega arith) (omega arith))
+      spoils (product_operator t) (factor t (expr t n)) x y op i k m a q e (is_read Factor k (Malformed y) d n m (omega arith) (omega arith))
   is_read part i r (spells.rnd {j = j} {r = s} e h) = λ n m p q.
       let a : rest laws t j < rest laws t i = falls laws t i j (laws.word Functions t i RndKw j e) in
       ap (node_over Rnd j) (is_read Paren j s h n m (omega arith) (omega arith)) ∙ factor_rnd t (expr t n) i j e
@@ -227,8 +227,8 @@ module _ (laws : FindingLaws) (t : List ℕ) where
       paren_closed t (expr t n) i j k l x e (inside i j (Whole x k) (falls laws t i j (laws.token 40 t i j e)) (is_read Expr j (Whole x k) d) n p) f
   is_read part i r (spells.unclosed {j = j} {k = k} {x = x} e d f) = λ n m p q.
       paren_unclosed t (expr t n) i j k x e (inside i j (Whole x k) (falls laws t i j (laws.token 40 t i j e)) (is_read Expr j (Whole x k) d) n p) f
-  is_read part i r (spells.inside_spoilt {j = j} {x = x} e d) = λ n m p q.
-      paren_spoilt t (expr t n) i j x e (inside i j (Spoilt x) (falls laws t i j (laws.token 40 t i j e)) (is_read Expr j (Spoilt x) d) n p)
+  is_read part i r (spells.inside_malformed {j = j} {x = x} e d) = λ n m p q.
+      paren_malformed t (expr t n) i j x e (inside i j (Malformed x) (falls laws t i j (laws.token 40 t i j e)) (is_read Expr j (Malformed x) d) n p)
   is_read part i r (spells.not_opened e) = λ n m p q. paren_missing t (expr t n) i e
 
   pub unique : (part : Part) (i : ℕ) (r s : Reading Tree) → Spells t part i r → Spells t part i s → r ≡ s

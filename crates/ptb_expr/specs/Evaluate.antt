@@ -6,7 +6,7 @@
 --     IsTarget c v                                   a value can be stored there
 --     IsMarkedWithin t result                        a fault is marked inside the text
 use Rattle.std.specs.Prelude.{◌≡◌, ℕ, ◌≤◌, List, length, ℤ, Result, Ok, Err}
-use Rattle.ptb_text.specs.Spot.{Spot}
+use Rattle.ptb_text.specs.CursorState.{CursorState}
 use Rattle.ptb_expr.specs.declared.fault.Stop.{Stop}
 use Rattle.ptb_expr.specs.declared.fault.Stop.TheVariants as stops
 use Rattle.ptb_expr.specs.declared.pause.Pause.{Pause}
@@ -19,33 +19,33 @@ use Rattle.ptb_expr.specs.Tree.{Tree}
 use Rattle.ptb_expr.specs.Value.{Work, value, target_of}
 use Rattle.ptb_expr.specs.Reading.{Reading, Whole, item_of, expression, variable_tree}
 
-abbrev pub expression_there : Spot → Reading Tree
+abbrev pub expression_there : CursorState → Reading Tree
 expression_there s = expression s.text s.place
 
-abbrev pub variable_there : Spot → Reading Tree
+abbrev pub variable_there : CursorState → Reading Tree
 variable_there s = variable_tree s.text s.place
 
-abbrev pub expression_value : Cells → Spot → Work ℤ
+abbrev pub expression_value : Cells → CursorState → Work ℤ
 expression_value c s = value c (item_of (expression_there s))
 
-abbrev pub variable_target : Cells → Spot → Work Target
+abbrev pub variable_target : Cells → CursorState → Work Target
 variable_target c s = target_of c (item_of (variable_there s))
 
 -- with the answers that were taken f comes to the result, whatever answers may follow
-abbrev pub Gives : {V : Type 0} → (Pause → ℤ → Type 0) → Work V → Choices → Choices → Result V Stop → Type 0
-Gives refused f c d (Ok v) = Reaches f c d (success v)
-Gives refused f c d (Err (stops.Fault e)) = Reaches f c d (failure e)
-Gives refused f c d (Err (stops.Pause z)) = Pauses refused f c d z
+abbrev pub WorkComes : {V : Type 0} → (Pause → ℤ → Type 0) → Work V → Choices → Choices → Result V Stop → Type 0
+WorkComes refused f c d (Ok v) = Reaches f c d (success v)
+WorkComes refused f c d (Err (stops.Fault e)) = Reaches f c d (failure e)
+WorkComes refused f c d (Err (stops.Pause z)) = Pauses refused f c d z
 
 pub record Evaluates {V : Type 0} (refused : Pause → ℤ → Type 0) (f : Work V) (c d : Choices) (result : Result V Stop) : Type 0 where
-  pub gives : Gives refused f c d result
+  pub gives : WorkComes refused f c d result
 
 abbrev pub IsWhole : {A : Type 0} → Reading A → ℕ → Type 0
 IsWhole r j = r ≡ Whole (item_of r) j
 
--- a letter, or an index that the array has
+-- a variable, or an index that the array has
 abbrev pub IsTarget : Cells → Target → Type 0
-IsTarget c (targets.Var x) = (65 ≤ x) × (x ≤ 90)
+IsTarget c (targets.Var x) = Unit {0}
 IsTarget c (targets.Element i) = index_of c.size i ≡ Ok i
 
 abbrev pub IsMarkedWithin : {V : Type 0} → List ℕ → Result V Stop → Type 0

@@ -14,6 +14,6 @@ pub mod Working
 pub mod Works
 pub mod Rows
 pub mod Laws
-pub use Rattle.ptb_text.specs.Spot
+pub use Rattle.ptb_text.specs.CursorState
 pub use Rattle.ptb_text.specs.Words
 pub use Rattle.ptb_text.specs.Finding

@@ -22,20 +22,20 @@ use Rattle.ptb_expr.specs.Tree.{Tree, Num, Var, Size, Elem, Rnd, Abs, Neg, Bin, 
 
 -- ---- readings
 
--- something whole and the place after it, or something spoilt, after which nothing is read
+-- something whole and the place after it, or something malformed, after which nothing is read
 pub data Reading (A : Type 0) : Type 0 where
   Whole : (x : A) (next : ℕ) → Reading A
-  Spoilt : (x : A) → Reading A
+  Malformed : (x : A) → Reading A
 
 -- what was read
 abbrev pub item_of : {A : Type 0} → Reading A → A
 item_of (Whole x j) = x
-item_of (Spoilt x) = x
+item_of (Malformed x) = x
 
--- goes on after a whole part; a spoilt part spoils what it stands in
+-- goes on after a whole part; a malformed part spoils what it stands in
 abbrev pub after : {A B : Type 0} → Reading A → (A → B) → (A → ℕ → Reading B) → Reading B
 after (Whole x j) wrap next = next x j
-after (Spoilt x) wrap next = Spoilt (wrap x)
+after (Malformed x) wrap next = Malformed (wrap x)
 
 abbrev pub itself : {A : Type 0} → A → A
 itself x = x
@@ -66,13 +66,13 @@ if_function _ f g h d = d
 
 -- ---- trees
 
--- a node over what was read; m is its mark where the part is spoilt, which is never looked at
+-- a node over what was read; m is its mark where the part is malformed, which is never looked at
 abbrev pub node_over : (Tree → ℕ → Tree) → ℕ → Reading Tree → Reading Tree
 node_over node m r = after r (λ x. node x m) (λ x k. Whole (node x k) k)
 
 -- a part that must stand there and doesn't
-abbrev pub missing : ℕ → Reading Tree
-missing i = Spoilt (Bad What i)
+abbrev pub missing_part : ℕ → Reading Tree
+missing_part i = Malformed (Bad What i)
 
 -- x and, as long as such an operator stands next, the operator and one more part; at most n of them
 unfoldable pub more : (ℕ → Option (Operator × ℕ)) → (ℕ → Reading Tree) → ℕ → Tree → ℕ → Reading Tree
@@ -91,8 +91,8 @@ module _ (t : List ℕ) where
     unfoldable pub paren : ℕ → Reading Tree
     paren i =
         if_there (token_at 40 t i)
-        (λ j. after (within j) itself (λ x k. if_there (token_at 41 t k) (λ l. Whole x l) (Spoilt (Unclosed x k))))
-        (missing i)
+        (λ j. after (within j) itself (λ x k. if_there (token_at 41 t k) (λ l. Whole x l) (Malformed (Unclosed x k))))
+        (missing_part i)
 
     -- variable = letter | "@" paren
     unfoldable pub variable_or : Reading Tree → ℕ → Reading Tree
@@ -101,11 +101,11 @@ module _ (t : List ℕ) where
         (if_there (token_at 64 t i) (λ j. node_over Elem j (paren j)) other)
 
     unfoldable pub variable : ℕ → Reading Tree
-    variable i = variable_or (missing i) i
+    variable i = variable_or (missing_part i) i
 
     -- factor = "RND" paren | "ABS" paren | "SIZE" | variable | number | paren
     unfoldable pub plain : ℕ → Reading Tree
-    plain i = variable_or (if_number (number_at t i) (λ v j. Whole (Num v) j) (λ j. Spoilt (Bad How j)) (paren i)) i
+    plain i = variable_or (if_number (number_at t i) (λ v j. Whole (Num v) j) (λ j. Malformed (Bad How j)) (paren i)) i
 
     unfoldable pub factor : ℕ → Reading Tree
     factor i =
@@ -133,7 +133,7 @@ module _ (t : List ℕ) where
 
   -- at most n pairs of parentheses deep
   unfoldable pub expr : ℕ → ℕ → Reading Tree
-  expr zero i = missing i
+  expr zero i = missing_part i
   expr (suc n) i = expr_with (expr n) i
 
   -- no text is deeper than it is long

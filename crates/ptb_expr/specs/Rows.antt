@@ -5,7 +5,7 @@ use Rattle.ptb_expr.specs.declared.fault.FaultKind.TheVariants.{What, How, Sorry
 use Rattle.ptb_expr.specs.Outcome.{Answers, Outcome, Done, Asks, Out}
 use Rattle.ptb_expr.specs.Store.{empty_cells}
 use Rattle.ptb_expr.specs.Value.{value, fault}
-use Rattle.ptb_expr.specs.Reading.{Reading, Whole, Spoilt, item_of, expression}
+use Rattle.ptb_expr.specs.Reading.{Reading, Whole, Malformed, item_of, expression}
 
 -- the value of an expression where all variables are 0 and SIZE is 4
 abbrev pub worth : List ℕ → Answers → Outcome (Result ℤ Fault) (Unit {0})
@@ -14,7 +14,7 @@ worth t a = value (empty_cells (pos 4)) (item_of (expression t 0)) a
 -- the place after an expression
 abbrev pub end_of : {A : Type 0} → Reading A → ℕ
 end_of (Whole x j) = j
-end_of (Spoilt x) = 0
+end_of (Malformed x) = 0
 
 pub record ValueRows : Type 0 where
   pub two_rolls : worth (codes "R.(6)+R.(6)") (pos 2 ∷ pos 5 ∷ []) ≡ Done (Ok (pos 7)) []

@@ -33,8 +33,8 @@ abbrev pub random_at : Placed → Work Placed
 random_at p = random_number p.0 p.1 >>= λ v. success (v, p.1)
 
 -- a part that must stand there and doesn't
-abbrev pub missing : {V : Type 0} → ℕ → Work V
-missing i = failure (fault What i)
+abbrev pub missing_work : {V : Type 0} → ℕ → Work V
+missing_work i = failure (fault What i)
 
 -- a value and what follows it: operators, each with one more part; at most n of them
 unfoldable pub more : (ℕ → Option (Operator × ℕ)) → (ℕ → Work Placed) → ℕ → Placed → Work Placed
@@ -46,17 +46,17 @@ module _ (t : List ℕ) (c : Cells) where
   -- `within` is what stands between parentheses
   module _ (within : ℕ → Work Placed) where
     unfoldable pub closing : Placed → Work Placed
-    closing p = if_there (token_at 41 t p.1) (λ l. success (p.0, l)) (missing p.1)
+    closing p = if_there (token_at 41 t p.1) (λ l. success (p.0, l)) (missing_work p.1)
 
     unfoldable pub paren : ℕ → Work Placed
-    paren i = if_there (token_at 40 t i) (λ j. within j >>= closing) (missing i)
+    paren i = if_there (token_at 40 t i) (λ j. within j >>= closing) (missing_work i)
 
     unfoldable pub variable : ℕ → Work (Target × ℕ)
     variable i =
         if_there (letter_at t i) (λ b. success (targets.Var b.0, b.1))
         (if_there (token_at 64 t i)
         (λ j. after_operation (paren j) (λ k. map_ok targets.Element (index_of c.size k)) success)
-        (missing i))
+        (missing_work i))
 
     unfoldable pub plain : ℕ → Work Placed
     plain i =
@@ -88,5 +88,5 @@ module _ (t : List ℕ) (c : Cells) where
 
   -- at most n pairs of parentheses deep
   unfoldable pub expr : ℕ → ℕ → Work Placed
-  expr zero i = missing i
+  expr zero i = missing_work i
   expr (suc n) i = expr_with (expr n) i

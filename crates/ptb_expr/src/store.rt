@@ -1,18 +1,19 @@
 // This file has the values of the variables A to Z and of the array @, and what names one of them.
 
-ghost use Rattle.std.specs.Prelude.{◌≡◌, ℕ, ◌≤◌, ℤ, pos, ◌≤ℤ◌, IfOk};
+ghost use Rattle.std.specs.Prelude.{◌≡◌, ℕ, ℤ, pos, ◌≤ℤ◌, IfOk};
 ghost use Rattle.ptb_expr.specs.Store.{value_at, with_value, index_of, element_of, with_element};
 ghost use Rattle.ptb_expr.specs.Store.{empty_cells};
 
 use crate::fault::FaultKind;
+use ptb_text::Letter;
 use std::alloc::{AllocError, Global};
 use std::marker::Model;
 
 /// What a value can be stored in.
 #[derive(Clone, Copy, Debug, PartialEq, Eq)]
 pub enum Target {
-    /// A variable, by its letter, `b'A'` to `b'Z'`.
-    Var(u8),
+    /// A variable, by its letter.
+    Var(Letter),
     /// An element of `@`, by its index, 0 to SIZE/2.
     Element(i16),
 }
@@ -63,23 +64,19 @@ impl Store {
         self.size
     }
 
-    /// The value of a variable, whose letter is from `b'A'` to `b'Z'`.
-    pub fn get(&self, letter: u8) -> i16
-        requires low { 65 ≤ letter }
-        requires high { letter ≤ 90 }
+    /// The value of a variable.
+    pub fn get(&self, letter: Letter) -> i16
         ensures { result ≡ value_at self.now letter }
     {
-        let at = usize::from(letter - b'A');
+        let at = letter.index();
         self.values[at]
     }
 
-    /// Stores the value of a variable, whose letter is from `b'A'` to `b'Z'`.
-    pub fn set(&mut self, letter: u8, value: i16)
-        requires low { 65 ≤ letter }
-        requires high { letter ≤ 90 }
+    /// Stores the value of a variable.
+    pub fn set(&mut self, letter: Letter, value: i16)
         ensures { self.new ≡ with_value self.old letter value }
     {
-        self.values[usize::from(letter - b'A')] = value;
+        self.values[letter.index()] = value;
     }
 
     /// The index itself, if the array has an element there.

@@ -1,11 +1,20 @@
 // This file tests worked rows of expressions: from place 0, with all values 0 and SIZE 4.
 
-ghost use Rattle.std.specs.Prelude.{◌≤◌, length, take, Some};
+ghost use Rattle.std.specs.Prelude.{◌≡◌, ◌≤◌, length, take, Some, IsTrue};
+ghost use Rattle.ptb_text.specs.Words.{is_letter};
 
 use super::*;
-use ptb_text::Cursor;
+use ptb_text::{Cursor, Letter};
 use std::alloc::{AllocError, Global};
 use std::test::Fail;
+
+// The letter of a byte that is one.
+fn letter(byte: u8) -> Letter
+    requires { IsTrue (is_letter byte) }
+    ensures { result ≡ byte }
+{
+    Letter::new(byte).unwrap()
+}
 
 // A value, and the place after the expression.
 type Worked = Result<(i16, usize), Stop>;
@@ -172,7 +181,7 @@ fn long_texts(rt: HostRuntime) -> Result<(), Fail> {
 fn targets(rt: HostRuntime) -> Result<(), Fail> {
     let store = Store::new(rt.alloc(), 4)?;
     for (text, want, place) in [
-        ("B=1", Ok(Target::Var(b'B')), 1),
+        ("B=1", Ok(Target::Var(letter(b'B'))), 1),
         (" @ (1+1) =", Ok(Target::Element(2)), 9),
         ("1", Err((FaultKind::What, 0)), 0),
         (" @ ", Err((FaultKind::What, 3)), 3),
@@ -196,9 +205,9 @@ fn targets(rt: HostRuntime) -> Result<(), Fail> {
 #[test]
 fn stored_values(rt: HostRuntime) -> Result<(), Fail> {
     let mut store = Store::new(rt.alloc(), 5)?;
-    store.set(b'A', -7);
-    store.set(b'Z', 9);
-    assert_eq!(rt; store.get(b'A'), -7);
+    store.set(letter(b'A'), -7);
+    store.set(letter(b'Z'), 9);
+    assert_eq!(rt; store.get(letter(b'A')), -7);
     assert!(rt; store.index(2) == Ok(2));
     store.set_element(2, 12);
     assert!(rt; store.element(2) == Ok(12));
@@ -281,10 +290,19 @@ fn formula_of(text: &[u8]) -> Option<(Formula, usize)> {
     Some((formula, cursor.place()))
 }
 
-fn with_variable(operator: Operator, letter: u8) -> Operation {
+// The variable that a byte names.
+fn variable(byte: u8) -> Operand
+    requires { IsTrue (is_letter byte) }
+{
+    Operand::Variable(letter(byte))
+}
+
+fn with_variable(operator: Operator, byte: u8) -> Operation
+    requires { IsTrue (is_letter byte) }
+{
     Operation {
         operator,
-        right: Operand::Variable(letter),
+        right: variable(byte),
     }
 }
 
@@ -298,42 +316,44 @@ fn with_number(operator: Operator, value: i16) -> Operation {
 // A is 5, B is -7, I is 2 and J is 100.
 fn lettered_store(rt: HostRuntime) -> Result<Store, AllocError> {
     let mut store = Store::new(rt.alloc(), 4)?;
-    store.set(b'A', 5);
-    store.set(b'B', -7);
-    store.set(b'I', 2);
-    store.set(b'J', 100);
+    store.set(letter(b'A'), 5);
+    store.set(letter(b'B'), -7);
+    store.set(letter(b'I'), 2);
+    store.set(letter(b'J'), 100);
     Ok(store)
 }
 
 #[test]
 fn formulas(rt: HostRuntime) -> Result<(), Fail> {
     let store = lettered_store(rt)?;
-    let a = Operand::Variable(b'A');
-    let j = Operand::Variable(b'J');
     let over7 = with_number(Operator::Over, 7);
     let times7 = with_number(Operator::Times, 7);
     let times3 = with_number(Operator::Times, 3);
-    let plus1 = with_number(Operator::Plus, 1);
     for (text, formula, place, value) in [
         ("7", Formula::Plain(Operand::Number(7)), 1, Some(7)),
-        (" J )", Formula::Plain(j), 3, Some(100)),
-        ("A+1", Formula::One(a, plus1), 3, Some(6)),
+        (" J )", Formula::Plain(variable(b'J')), 3, Some(100)),
+        (
+            "A+1",
+            Formula::One(variable(b'A'), with_number(Operator::Plus, 1)),
+            3,
+            Some(6),
+        ),
         (
             " A < 30000 ",
-            Formula::One(a, with_number(Operator::Below, 30000)),
+            Formula::One(variable(b'A'), with_number(Operator::Below, 30000)),
             11,
             Some(1),
         ),
         (
             "A*3+B",
-            Formula::Two(a, times3, with_variable(Operator::Plus, b'B')),
+            Formula::Two(variable(b'A'), times3, with_variable(Operator::Plus, b'B')),
             5,
             Some(8),
         ),
         (
             "A/9-B",
             Formula::Two(
-                a,
+                variable(b'A'),
                 with_number(Operator::Over, 9),
                 with_variable(Operator::Minus, b'B'),
             ),
@@ -342,32 +362,41 @@ fn formulas(rt: HostRuntime) -> Result<(), Fail> {
         ),
         (
             "A+1>B",
-            Formula::Two(a, plus1, with_variable(Operator::Above, b'B')),
+            Formula::Two(
+                variable(b'A'),
+                with_number(Operator::Plus, 1),
+                with_variable(Operator::Above, b'B'),
+            ),
             5,
             Some(1),
         ),
         (
             "J/7*7+I",
-            Formula::Three(j, over7, times7, with_variable(Operator::Plus, b'I')),
+            Formula::Three(
+                variable(b'J'),
+                over7,
+                times7,
+                with_variable(Operator::Plus, b'I'),
+            ),
             7,
             Some(100),
         ),
         // one comparison is read, and what comes behind it isn't
         (
             "A=5=1",
-            Formula::One(a, with_number(Operator::Equals, 5)),
+            Formula::One(variable(b'A'), with_number(Operator::Equals, 5)),
             3,
             Some(1),
         ),
         (
             "32767+1",
-            Formula::One(Operand::Number(32767), plus1),
+            Formula::One(Operand::Number(32767), with_number(Operator::Plus, 1)),
             7,
             None,
         ),
         (
             "A/Z",
-            Formula::One(a, with_variable(Operator::Over, b'Z')),
+            Formula::One(variable(b'A'), with_variable(Operator::Over, b'Z')),
             3,
             None,
         ),
@@ -378,7 +407,6 @@ fn formulas(rt: HostRuntime) -> Result<(), Fail> {
         );
         assert!(rt; formula.value(&store) == value, "{text}");
     }
-    assert!(rt; Formula::Plain(Operand::Variable(b'a')).value(&store) == None);
     Ok(())
 }
 
@@ -408,7 +436,7 @@ fn no_formulas(rt: HostRuntime) {
 #[test]
 fn constants(rt: HostRuntime) {
     assert!(rt; Formula::Plain(Operand::Number(7)).constant() == Some(7));
-    assert!(rt; Formula::Plain(Operand::Variable(b'A')).constant() == None);
+    assert!(rt; Formula::Plain(variable(b'A')).constant() == None);
     assert!(rt;
         Formula::One(Operand::Number(7), with_number(Operator::Plus, 1)).constant() == None
     );

@@ -6,7 +6,7 @@ use Rattle.ptb_text.specs.declared.word.Word.TheVariants.{NextKw, LetKw, IfKw, G
 use Rattle.ptb_text.specs.Words.{is_over, word_at, token_at, letter_at, Quotation, NoQuote, OpenQuote, QuotedText, quotation_at}
 use Rattle.ptb_text.specs.Finding.{LiesAhead, FindingLaws}
 use Rattle.ptb_expr.specs.Tree.{Tree}
-use Rattle.ptb_expr.specs.Reading.{Reading, Whole, Spoilt, after, map_reading, expression, variable_tree}
+use Rattle.ptb_expr.specs.Reading.{Reading, Whole, Malformed, after, map_reading, expression, variable_tree}
 use Rattle.ptb_expr.specs.Spells.{SpellingLaws}
 use Rattle.ptb_machine.specs.Items.{Round, Last, Onward, in_front, with_others, items_within, items, Advances, LiesOn}
 use Rattle.ptb_machine.specs.Commands.{Part, Assign, Show, NewLine, Letter, Operand, Command, at_end, defect, end_check, over_check, part_and, after_part, comma_round, value_part, assignment, or_quotation, string_at, string_or_value, width_or, print_item, next_item, after_item, item_round, print_parts_if, print_parts, variable_item, string_item, input_item_by, input_item, step_by, step_parts, limit_by, limit_parts, first_parts, for_by, for_parts, next_by, next_parts, parts_of, command_of, command_by, command_at, next_begin, command_and, after_command, command_unless, command_round}
@@ -37,39 +37,39 @@ module _ (t : List ℕ) where
   -- a whole reading ends ahead, or at least not before it began
   abbrev pub EndsAhead : {A : Type 0} → ℕ → Reading A → Type 0
   EndsAhead i (Whole x j) = LiesAhead t i j
-  EndsAhead i (Spoilt x) = Unit {0}
+  EndsAhead i (Malformed x) = Unit {0}
 
   abbrev pub EndsOn : {A : Type 0} → ℕ → Reading A → Type 0
   EndsOn i (Whole x j) = LiesOn t i j
-  EndsOn i (Spoilt x) = Unit {0}
+  EndsOn i (Malformed x) = Unit {0}
 
   ends_on : {A : Type 0} (i : ℕ) (r : Reading A) → EndsAhead i r → EndsOn i r
   ends_on i (Whole x j) a = on_ahead i j a
-  ends_on i (Spoilt x) a = tt
+  ends_on i (Malformed x) a = tt
 
   behind : {A : Type 0} (i j : ℕ) (r : Reading A) → LiesAhead t i j → EndsAhead j r → EndsAhead i r
   behind i j (Whole x k) a b = further i j k a b
-  behind i j (Spoilt x) a b = tt
+  behind i j (Malformed x) a b = tt
 
   on_behind : {A : Type 0} (i j : ℕ) (r : Reading A) → LiesOn t i j → EndsOn j r → EndsOn i r
   on_behind i j (Whole x k) a b = on_on i j k a b
-  on_behind i j (Spoilt x) a b = tt
+  on_behind i j (Malformed x) a b = tt
 
   after_ahead : {A B : Type 0} (i : ℕ) (r : Reading A) (wrap : A → B) (next : A → ℕ → Reading B) → EndsAhead i r → ((x : A) (j : ℕ) → LiesAhead t i j → EndsAhead i (next x j)) → EndsAhead i (after r wrap next)
   after_ahead i (Whole x j) wrap next a each = each x j a
-  after_ahead i (Spoilt x) wrap next a each = tt
+  after_ahead i (Malformed x) wrap next a each = tt
 
   after_on : {A B : Type 0} (i : ℕ) (r : Reading A) (wrap : A → B) (next : A → ℕ → Reading B) → EndsOn i r → ((x : A) (j : ℕ) → EndsOn j (next x j)) → EndsOn i (after r wrap next)
   after_on i (Whole x j) wrap next a each = on_behind i j (next x j) a (each x j)
-  after_on i (Spoilt x) wrap next a each = tt
+  after_on i (Malformed x) wrap next a each = tt
 
   map_ahead : {A B : Type 0} (f : A → B) (i : ℕ) (r : Reading A) → EndsAhead i r → EndsAhead i (map_reading f r)
   map_ahead f i (Whole x j) a = a
-  map_ahead f i (Spoilt x) a = tt
+  map_ahead f i (Malformed x) a = tt
 
   in_front_on : {X : Type 0} (x : X) (i : ℕ) (r : Reading (List X)) → EndsOn i r → EndsOn i (in_front x r)
   in_front_on x i (Whole xs j) a = a
-  in_front_on x i (Spoilt xs) a = tt
+  in_front_on x i (Malformed xs) a = tt
 
   -- ---- rounds
 
@@ -100,14 +100,14 @@ module _ (finding : FindingLaws) (spelling : SpellingLaws) (t : List ℕ) where
     where
       by_reading : (r : Reading Tree) → expression t i ≡ r → EndsAhead t i r
       by_reading (Whole x j) e = spelling.expression_ahead t i j x e
-      by_reading (Spoilt x) e = tt
+      by_reading (Malformed x) e = tt
 
   variable_ends : (i : ℕ) → EndsAhead t i (variable_tree t i)
   variable_ends i = by_reading (variable_tree t i) refl
     where
       by_reading : (r : Reading Tree) → variable_tree t i ≡ r → EndsAhead t i r
       by_reading (Whole x j) e = spelling.variable_ahead t i j x e
-      by_reading (Spoilt x) e = tt
+      by_reading (Malformed x) e = tt
 
   expression_behind : (i j : ℕ) → LiesAhead t i j → EndsAhead t i (expression t j)
   expression_behind i j a = behind t i j (expression t j) a (expression_ends j)
@@ -135,7 +135,7 @@ module _ (finding : FindingLaws) (spelling : SpellingLaws) (t : List ℕ) where
 
   -- a part that ends ahead, and a comma or an end
   comma_on : (i : ℕ) (r : Reading Part) → EndsAhead t i r → RoundOn t i (comma_round t r)
-  comma_on i (Spoilt part) a = tt
+  comma_on i (Malformed part) a = tt
   comma_on i (Whole part j) a = by_comma (token_at 44 t j) refl
     where
       by_comma : (o : Option ℕ) → token_at 44 t j ≡ o → RoundOn t i (after_part t part j o)
@@ -208,7 +208,7 @@ module _ (finding : FindingLaws) (spelling : SpellingLaws) (t : List ℕ) where
       by_width None e = by_string (string_at t i) (string_ends i)
 
   item_on : (i : ℕ) (r : Reading Part) → EndsAhead t i r → RoundOn t i (item_round t r)
-  item_on i (Spoilt part) a = tt
+  item_on i (Malformed part) a = tt
   item_on i (Whole part j) a = by_comma (token_at 44 t j) refl
     where
       by_next : (k : ℕ) (b : Bool) → LiesAhead t i k → RoundOn t i (next_item t part k b)
@@ -312,7 +312,7 @@ module _ (finding : FindingLaws) (spelling : SpellingLaws) (t : List ℕ) where
   next_ahead _ i e j a h = further t i e j a (finding.token 59 t e j h)
 
   after_command_on : (c : Command) (i : ℕ) (r : Reading (List Part)) → EndsOn t i r → ((parts : List Part) (e j : ℕ) → r ≡ Whole parts e → next_begin c.kind t e ≡ Some j → LiesAhead t i j) → RoundOn t i (after_command t c r)
-  after_command_on c i (Spoilt parts) a next = tt
+  after_command_on c i (Malformed parts) a next = tt
   after_command_on c i (Whole parts e) a next = by_begin (next_begin c.kind t e) (λ j h. next parts e j refl h)
     where
       by_begin : (o : Option ℕ) → ((j : ℕ) → o ≡ Some j → LiesAhead t i j) → RoundOn t i (command_and c e o)

@@ -9,8 +9,8 @@ use Rattle.ptb_expr.specs.declared.fault.FaultKind.TheVariants as kinds
 use Rattle.ptb_expr.specs.Store.{value_at, with_value}
 use Rattle.ptb_expr.specs.Value.{in_range}
 use Rattle.ptb_machine.specs.State.{Place, Loop, Call, State}
-use Rattle.ptb_machine.specs.Courses.{change}
-use Rattle.ptb_machine.specs.Act.{fails, is_full, if_room, goto_course, with_call, gosub_course, return_course, without_loop, with_loop, for_course, loops_from, after_sum, is_past, loop_end, loop_turn, next_course, finish}
+use Rattle.ptb_machine.specs.Actions.{change}
+use Rattle.ptb_machine.specs.Act.{fails, is_full, if_room, goto_action, with_call, gosub_action, return_action, without_loop, with_loop, for_action, loops_from, after_sum, is_past, loop_end, loop_turn, next_action, finish}
 use Rattle.ptb_machine.proofs.Budgets.{Budget, done_budget}
 use Rattle.ptb_machine.proofs.Spending.{left_for, Spends, halt_spends, after_spends, lines_cost, later, become_spends}
 
@@ -22,23 +22,23 @@ module _ (again : ℕ) where
       by_room S true = (halt_spends (later again) 0 _).at S
       by_room S false = (become_spends again f same).at S
 
-  goto_spends : (e : ℕ) (r : Option Place) → Spends (later again) (goto_course e r) 0
+  goto_spends : (e : ℕ) (r : Option Place) → Spends (later again) (goto_action e r) 0
   goto_spends e (Some r) = become_spends again _ (λ S. refl)
   goto_spends e None = halt_spends _ 0 _
 
-  gosub_spends : (e : ℕ) (back : Place) (r : Option Place) → Spends (later again) (gosub_course e back r) 0
+  gosub_spends : (e : ℕ) (back : Place) (r : Option Place) → Spends (later again) (gosub_action e back r) 0
   gosub_spends e back (Some r) = if_room_spends e (with_call back r) (λ S. refl)
   gosub_spends e back None = halt_spends _ 0 _
 
-  return_spends : (e : ℕ) → Spends (later again) (λ S. return_course e S.calls S) 0
+  return_spends : (e : ℕ) → Spends (later again) (λ S. return_action e S.calls S) 0
   unfolding left_for later
   return_spends e = record { at = λ S. by_calls S S.calls }
     where
-      by_calls : (S : State) (calls : List Call) → Budget (return_course e calls S) (0 + later again S) (left_for (later again))
+      by_calls : (S : State) (calls : List Call) → Budget (return_action e calls S) (0 + later again S) (left_for (later again))
       by_calls S [] = done_budget _ _ _ (omega arith)
       by_calls S (c ∷ calls) = done_budget _ _ _ (omega arith)
 
-  for_spends : (e : ℕ) (loop : Loop) → Spends (later again) (for_course e loop) 0
+  for_spends : (e : ℕ) (loop : Loop) → Spends (later again) (for_action e loop) 0
   for_spends e loop = after_spends _ (change (without_loop loop.letter)) _ 0 (become_spends again _ (λ S. refl)) (λ _. if_room_spends e (with_loop loop) (λ S. refl))
 
   after_sum_lines : (next : Place) (l : Loop) (ls : List Loop) (r : Result ℤ FaultKind) (S : State) → (after_sum next l ls r S).lines ≡ S.lines
@@ -49,11 +49,11 @@ module _ (again : ℕ) where
       by_limit true T = refl
       by_limit false T = refl
 
-  next_spends : (e x : ℕ) (next : Place) → Spends (later again) (λ S. next_course e next (loops_from x S.loops) S) 0
+  next_spends : (e x : ℕ) (next : Place) → Spends (later again) (λ S. next_action e next (loops_from x S.loops) S) 0
   unfolding left_for later
   next_spends e x next = record { at = λ S. by_loops S (loops_from x S.loops) }
     where
-      by_loops : (S : State) (ls : List Loop) → Budget (next_course e next ls S) (0 + later again S) (left_for (later again))
+      by_loops : (S : State) (ls : List Loop) → Budget (next_action e next ls S) (0 + later again S) (left_for (later again))
       by_loops S [] = done_budget _ _ _ (omega arith)
       by_loops S (l ∷ ls) = done_budget _ _ _ (omega (arith, ap (lines_cost again) (after_sum_lines next l ls (in_range (neg_ℤ (pos 32768)) (value_at S.cells l.letter +ℤ l.step)) S)))
 

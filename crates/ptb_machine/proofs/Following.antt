@@ -12,7 +12,7 @@ use Rattle.ptb_machine.specs.State.{Place, next_index}
 use Rattle.ptb_machine.specs.Places.{At}
 use Rattle.ptb_machine.specs.Laws.{CommandLaws}
 use Rattle.ptb_machine.specs.Reads.{IsClosed, Follows}
-use Rattle.ptb_machine.specs.Standing.{PlaceIs, Begun}
+use Rattle.ptb_machine.specs.Representation.{PlaceIs, Begun}
 
 -- the words of the commands behind which `;` begins the next one
 pub record ChecksEnd (word : Word) : Type 0 where

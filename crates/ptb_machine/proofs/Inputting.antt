@@ -1,5 +1,6 @@
 -- This file proves what an item of INPUT comes to, step by step.
-use Rattle.std.proofs.Common.{◌≡◌, ℕ, Bool, List, [], ◌∷◌, ◌++◌, Option, Result, Ok, Err, ℤ, refl, sym, ap, subst, ◌∙◌, append_assoc, append-nil, inl, inr, Bor}
+use Rattle.std.proofs.Common.{◌≡◌, ℕ, Bool, List, [], ◌∷◌, ◌++◌, Option, Result, Ok, Err, ℤ, refl, sym, ap, subst, ◌∙◌, append_assoc, append-nil, arith, inl, inr, Bor}
+use Rattle.std.specs.Prelude.{IfOk}
 use Rattle.std.proofs.Math.Path.{fun_ext}
 use Rattle.ptb_expr.specs.declared.fault.Fault.{Fault}
 use Rattle.ptb_expr.specs.declared.fault.Stop.{Stop as NoValue}
@@ -7,36 +8,41 @@ use Rattle.ptb_expr.specs.declared.fault.Stop.TheVariants as values
 use Rattle.ptb_expr.specs.declared.pause.Pause.{Pause}
 use Rattle.ptb_expr.specs.declared.store.Target.{Target}
 use Rattle.ptb_expr.specs.Choices.{Choices}
-use Rattle.ptb_expr.specs.Evaluate.{Gives}
+use Rattle.ptb_expr.specs.Evaluate.{WorkComes}
 use Rattle.ptb_expr.specs.Outcome.{Answers, Outcome, Done, Asks, Out, go_on, map_outcome}
-use Rattle.ptb_expr.specs.Reading.{item_of, expression}
+use Rattle.ptb_expr.specs.Reading.{item_of, expression, variable_tree}
 use Rattle.ptb_expr.specs.Store.{Cells}
 use Rattle.ptb_expr.specs.Tree.{Tree}
 use Rattle.ptb_expr.specs.Value.{value, target_of}
+use Rattle.ptb_machine.specs.declared.commands.input.Asking.{Asking}
 use Rattle.ptb_machine.specs.declared.ending.Ending.TheVariants as endings
 use Rattle.ptb_machine.specs.declared.fault.ReadFault.{ReadFault}
 use Rattle.ptb_machine.specs.declared.fault.ReadFault.TheVariants as reads
+use Rattle.ptb_machine.specs.declared.io.Io.{Io}
+use Rattle.ptb_machine.specs.declared.screen.Screen.{Ghosts}
 use Rattle.ptb_machine.specs.declared.stop.DeviceError.{DeviceError}
 use Rattle.ptb_machine.specs.declared.stop.DeviceError.TheVariants as errors
 use Rattle.ptb_machine.specs.declared.stop.Stop.{Stop}
 use Rattle.ptb_machine.specs.declared.stop.Stop.TheVariants as stops
-use Rattle.ptb_machine.specs.Commands.{Part, Take}
+use Rattle.ptb_machine.specs.Commands.{Part, Take, input_item}
 use Rattle.ptb_machine.specs.State.{State}
-use Rattle.ptb_machine.specs.Courses.{Ends, Progress, Goes, Halts, Course, on_progress, and_then, goes_on, halt, show, attempt, or_halt}
-use Rattle.ptb_machine.specs.Act.{newline, word_of, target_course, store, take_line, ask_for, store_or_again, input_course, parts_course}
-use Rattle.ptb_machine.specs.Asking.{item_course}
-use Rattle.ptb_machine.specs.Effects.{course_state}
+use Rattle.ptb_machine.specs.Actions.{Ends, Progress, Goes, Halts, Action, on_progress, and_then, goes_on, halt, show, attempt, or_halt}
+use Rattle.ptb_machine.specs.Act.{newline, word_of, target_action, store, take_line, ask_for, store_or_again, input_action, parts_action}
+use Rattle.ptb_machine.specs.Asking.{item_action, IsAsked}
+use Rattle.ptb_machine.specs.Reads.{IsRead}
+use Rattle.ptb_machine.specs.Effects.{action_state}
 use Rattle.ptb_machine.specs.Sources.{given_lines}
-use Rattle.ptb_machine.specs.Devices.{Devices, ScreenState, devices, with_choices, Refusal, Unanswered, Unread, NoLine, refused_answers, refused_by, HasBroken}
-use Rattle.ptb_machine.specs.Moves.{Trace, trace, after, Moves}
-use Rattle.ptb_machine.specs.Stops.{stop_of, stop_of_read, Stops, MovesTo, Comes}
-use Rattle.ptb_machine.proofs.Effects.{Keeps, then_keeps, attempt_state, input_part}
+use Rattle.ptb_machine.specs.Devices.{Devices, with_choices, Refusal, Unanswered, Unread, NoLine, refused_answers, refused_by, HasBroken}
+use Rattle.ptb_machine.specs.Io.{io_devices, io_trace}
+use Rattle.ptb_machine.specs.Traces.{Trace, trace, after, RefinesPart}
+use Rattle.ptb_machine.specs.Stops.{stop_of, stop_of_read, Stops, RefinesPartTo, Comes}
+use Rattle.ptb_machine.proofs.Effects.{Preserves, then_keeps, attempt_state, input_part}
 use Rattle.ptb_machine.proofs.Exchanges.{shows_nothing, exchanges_none, with_answers_nil}
-use Rattle.ptb_machine.proofs.Moves.{leaves_to, leaves_itself, after_nothing, freshens_nothing, moves_refl, moves_then}
+use Rattle.ptb_machine.proofs.PartRefinement.{leaves_to, leaves_itself, after_nothing, freshens_nothing, refines_part_refl, refines_part_then}
 use Rattle.ptb_machine.proofs.Stops.{Adds, parts_add, stops_after}
-use Rattle.ptb_machine.proofs.Courses.{goes_adds, halt_adds, show_adds, then_adds, work_course_adds, moves_on, stops_first}
+use Rattle.ptb_machine.proofs.Actions.{goes_adds, halt_adds, show_adds, then_adds, work_action_adds, refines_part_on, stops_first}
 use Rattle.ptb_machine.proofs.Assigning.{store_adds}
-use Rattle.ptb_machine.proofs.Parts.{moves_part, stops_part}
+use Rattle.ptb_machine.proofs.Parts.{refines_part_part, stops_part}
 use Rattle.ptb_machine.proofs.Working.{has_result, has_paused}
 
 -- ---- bytes in two pieces
@@ -45,38 +51,38 @@ shown_twice : (xs ys : List ℕ) → show (xs ++ ys) ≡ and_then (show xs) (λ 
 shown_twice xs ys = fun_ext (λ S. ap (λ (s : List ℕ). goes_on tt (record S { shown = s })) (sym (append_assoc S.shown xs ys)))
 
 module _ (xs ys : List ℕ) where
-  pub both_move : {o m n : Trace} → Moves o m (show xs) (goes_on tt) → Moves m n (show ys) (goes_on tt) → Moves o n (show (xs ++ ys)) (goes_on tt)
-  both_move {o = o} {n = n} a b = subst (λ (f : Course (Unit {0})). Moves o n f (goes_on tt)) (sym (shown_twice xs ys)) (moves_then (moves_on (λ u. show ys) a) b)
+  pub both_move : {o m n : Trace} → RefinesPart o m (show xs) (goes_on tt) → RefinesPart m n (show ys) (goes_on tt) → RefinesPart o n (show (xs ++ ys)) (goes_on tt)
+  both_move {o = o} {n = n} a b = subst (λ (f : Action (Unit {0})). RefinesPart o n f (goes_on tt)) (sym (shown_twice xs ys)) (refines_part_then (refines_part_on (λ u. show ys) a) b)
 
-  pub first_stops : (refused : Refusal → Type 0) (o n : Trace) (e : Stop) → Stops refused (MovesTo o n (show xs)) n.devices e → Stops refused (MovesTo o n (show (xs ++ ys))) n.devices e
+  pub first_stops : (refused : Refusal → Type 0) (o n : Trace) (e : Stop) → Stops refused (RefinesPartTo o n (show xs)) n.devices e → Stops refused (RefinesPartTo o n (show (xs ++ ys))) n.devices e
   first_stops refused o n e h =
-      subst (λ (f : Course (Unit {0})). Stops refused (MovesTo o n f) n.devices e) (sym (shown_twice xs ys)) (stops_first refused o n (show xs) (λ u. show ys) (λ u. show_adds ys) e h)
+      subst (λ (f : Action (Unit {0})). Stops refused (RefinesPartTo o n f) n.devices e) (sym (shown_twice xs ys)) (stops_first refused o n (show xs) (λ u. show ys) (λ u. show_adds ys) e h)
 
-  pub second_stops : (refused : Refusal → Type 0) {o m : Trace} (n : Trace) (e : Stop) → Moves o m (show xs) (goes_on tt) → Stops refused (MovesTo m n (show ys)) n.devices e → Stops refused (MovesTo o n (show (xs ++ ys))) n.devices e
+  pub second_stops : (refused : Refusal → Type 0) {o m : Trace} (n : Trace) (e : Stop) → RefinesPart o m (show xs) (goes_on tt) → Stops refused (RefinesPartTo m n (show ys)) n.devices e → Stops refused (RefinesPartTo o n (show (xs ++ ys))) n.devices e
   second_stops refused {o = o} n e a h =
-      subst (λ (f : Course (Unit {0})). Stops refused (MovesTo o n f) n.devices e) (sym (shown_twice xs ys)) (stops_after refused n (moves_on (λ u. show ys) a) e h)
+      subst (λ (f : Action (Unit {0})). Stops refused (RefinesPartTo o n f) n.devices e) (sym (shown_twice xs ys)) (stops_after refused n (refines_part_on (λ u. show ys) a) e h)
 
 -- ---- a line is worth a value, or has a fault
 
-abbrev pub line_value : List ℕ → Course (Result ℤ Fault)
+abbrev pub line_value : List ℕ → Action (Result ℤ Fault)
 line_value l = attempt (λ c. value c (item_of (expression l 0)))
 
 module _ (refused : Pause → ℤ → Type 0) (l : List ℕ) (c e : Choices) (d : Devices) (fresh : Bool) (cells : Cells) where
-  pub line_values : (v u : ℤ) → u ≡ v → Gives refused (value cells (item_of (expression l 0))) c e (Ok v) → Moves (trace (with_choices c d) fresh cells) (trace (with_choices e d) fresh cells) (line_value l) (goes_on (Ok u))
+  pub line_values : (v u : ℤ) → u ≡ v → WorkComes refused (value cells (item_of (expression l 0))) c e (Ok v) → RefinesPart (trace (with_choices c d) fresh cells) (trace (with_choices e d) fresh cells) (line_value l) (goes_on (Ok u))
   line_values v u k h =
-      subst (λ (z : ℤ). Moves (trace (with_choices c d) fresh cells) (trace (with_choices e d) fresh cells) (line_value l) (goes_on (Ok z))) (sym k)
+      subst (λ (z : ℤ). RefinesPart (trace (with_choices c d) fresh cells) (trace (with_choices e d) fresh cells) (line_value l) (goes_on (Ok z))) (sym k)
       (has_result (λ c. value c (item_of (expression l 0))) c e d fresh cells (Ok v) h)
 
-  pub line_faults : (s : NoValue) (f : Fault) → s ≡ values.Fault f → Gives refused (value cells (item_of (expression l 0))) c e (Err s) → Moves (trace (with_choices c d) fresh cells) (trace (with_choices e d) fresh cells) (line_value l) (goes_on (Err f))
+  pub line_faults : (s : NoValue) (f : Fault) → s ≡ values.Fault f → WorkComes refused (value cells (item_of (expression l 0))) c e (Err s) → RefinesPart (trace (with_choices c d) fresh cells) (trace (with_choices e d) fresh cells) (line_value l) (goes_on (Err f))
   line_faults s f k h =
       has_result (λ c. value c (item_of (expression l 0))) c e d fresh cells (Err f)
-      (subst (λ (x : NoValue). Gives refused (value cells (item_of (expression l 0))) c e (Err x)) k h)
+      (subst (λ (x : NoValue). WorkComes refused (value cells (item_of (expression l 0))) c e (Err x)) k h)
 
-  pub line_pauses : (s : NoValue) (z : Pause) → s ≡ values.Pause z → Gives refused (value cells (item_of (expression l 0))) c e (Err s) → (k : Stop) → k ≡ stop_of (values.Pause z) → Stops (refused_answers refused) (MovesTo (trace (with_choices c d) fresh cells) (trace (with_choices e d) fresh cells) (line_value l)) (with_choices e d) k
+  pub line_pauses : (s : NoValue) (z : Pause) → s ≡ values.Pause z → WorkComes refused (value cells (item_of (expression l 0))) c e (Err s) → (k : Stop) → k ≡ stop_of (values.Pause z) → Stops (refused_answers refused) (RefinesPartTo (trace (with_choices c d) fresh cells) (trace (with_choices e d) fresh cells) (line_value l)) (with_choices e d) k
   line_pauses s z p h k q =
-      subst (λ (x : Stop). Stops (refused_answers refused) (MovesTo (trace (with_choices c d) fresh cells) (trace (with_choices e d) fresh cells) (line_value l)) (with_choices e d) x) (sym q)
+      subst (λ (x : Stop). Stops (refused_answers refused) (RefinesPartTo (trace (with_choices c d) fresh cells) (trace (with_choices e d) fresh cells) (line_value l)) (with_choices e d) x) (sym q)
       (has_paused (λ c. value c (item_of (expression l 0))) c e d fresh cells refused z
-      (subst (λ (x : NoValue). Gives refused (value cells (item_of (expression l 0))) c e (Err x)) p h))
+      (subst (λ (x : NoValue). WorkComes refused (value cells (item_of (expression l 0))) c e (Err x)) p h))
 
 line_adds : (l : List ℕ) → Adds (line_value l)
 line_adds l = record { at = λ S a. ([], ap (λ (T : State). T.shown) (attempt_state (λ c. value c (item_of (expression l 0))) S a) ∙ sym (append-nil S.shown)) }
@@ -86,14 +92,14 @@ line_adds l = record { at = λ S a. ([], ap (λ (T : State). T.shown) (attempt_s
 abbrev pub SameLines : State → State → Type 0
 SameLines S T = T.lines ≡ S.lines
 
-abbrev pub LeavesLines : {A : Type 0} → Course A → Type 0
-LeavesLines m = Keeps SameLines m
+abbrev pub LeavesLines : {A : Type 0} → Action A → Type 0
+LeavesLines m = Preserves SameLines m
 
-lines_then : {A B : Type 0} (f : Course A) (next : A → Course B) → LeavesLines f → ((x : A) → LeavesLines (next x)) → LeavesLines (and_then f next)
+lines_then : {A B : Type 0} (f : Action A) (next : A → Action B) → LeavesLines f → ((x : A) → LeavesLines (next x)) → LeavesLines (and_then f next)
 lines_then f next a b = then_keeps SameLines (λ S T U p q. q ∙ p) f next a b
 
 -- what comes next is looked at in states with these lines alone
-next_same : {A B : Type 0} (F G : A → Course B) (ls : List (List ℕ)) → ((x : A) (T : State) → T.lines ≡ ls → F x T ≡ G x T) → (o : Outcome (Progress A) State) → (course_state o).lines ≡ ls → go_on o (on_progress F) ≡ go_on o (on_progress G)
+next_same : {A B : Type 0} (F G : A → Action B) (ls : List (List ℕ)) → ((x : A) (T : State) → T.lines ≡ ls → F x T ≡ G x T) → (o : Outcome (Progress A) State) → (action_state o).lines ≡ ls → go_on o (on_progress F) ≡ go_on o (on_progress G)
 next_same F G ls same (Done (Goes x T) rest) e = ap (λ h. h rest) (same x T e)
 next_same F G ls same (Done (Halts h T) rest) e = refl
 next_same F G ls same (Asks n T) e = refl
@@ -107,11 +113,11 @@ or_halt_lines (Err e) = record { at = λ S a. refl }
 
 -- an item that asks: what it says, its variable, and its prompt
 module _ (said : List ℕ) (x : Tree) (prompt : List ℕ) where
-  prompt_next : Target → Course Target
+  prompt_next : Target → Action Target
   prompt_next at = and_then (show prompt) (λ u. goes_on at)
 
-  target_next : Course Target
-  target_next = and_then (target_course x) prompt_next
+  target_next : Action Target
+  target_next = and_then (target_action x) prompt_next
 
   prompt_next_adds : (at : Target) → Adds (prompt_next at)
   unfolding prompt_next
@@ -119,7 +125,7 @@ module _ (said : List ℕ) (x : Tree) (prompt : List ℕ) where
 
   target_next_adds : Adds target_next
   unfolding target_next
-  target_next_adds = then_adds (target_course x) prompt_next (work_course_adds _) prompt_next_adds
+  target_next_adds = then_adds (target_action x) prompt_next (work_action_adds _) prompt_next_adds
 
   pub ask_adds : Adds (ask_for said x prompt)
   unfolding target_next prompt_next
@@ -128,66 +134,66 @@ module _ (said : List ℕ) (x : Tree) (prompt : List ℕ) where
   ask_lines : LeavesLines (ask_for said x prompt)
   ask_lines =
       lines_then (show said) _ (record { at = λ S a. refl }) (λ u.
-      lines_then (target_course x) _ (lines_then (attempt _) _ (record { at = λ S a. ap (λ (T : State). T.lines) (attempt_state (λ c. target_of c x) S a) }) or_halt_lines) (λ at.
+      lines_then (target_action x) _ (lines_then (attempt _) _ (record { at = λ S a. ap (λ (T : State). T.lines) (attempt_state (λ c. target_of c x) S a) }) or_halt_lines) (λ at.
       lines_then (show prompt) (λ u. goes_on at) (record { at = λ S a. refl }) (λ u. record { at = λ S a. refl })))
 
-  said_first : {o m : Trace} → Moves o m (show said) (goes_on tt) → Moves o m (ask_for said x prompt) target_next
+  said_first : {o m : Trace} → RefinesPart o m (show said) (goes_on tt) → RefinesPart o m (ask_for said x prompt) target_next
   unfolding target_next prompt_next
-  said_first a = moves_on (λ u. target_next) a
+  said_first a = refines_part_on (λ u. target_next) a
 
-  target_then : {o m n : Trace} (at : Target) → Moves o m (show said) (goes_on tt) → Moves m n (target_course x) (goes_on at) → Moves o n (ask_for said x prompt) (prompt_next at)
+  target_then : {o m n : Trace} (at : Target) → RefinesPart o m (show said) (goes_on tt) → RefinesPart m n (target_action x) (goes_on at) → RefinesPart o n (ask_for said x prompt) (prompt_next at)
   unfolding target_next
-  target_then at a b = moves_then (said_first a) (moves_on prompt_next b)
+  target_then at a b = refines_part_then (said_first a) (refines_part_on prompt_next b)
 
-  pub ask_moves : {o m k n : Trace} (at : Target) → Moves o m (show said) (goes_on tt) → Moves m k (target_course x) (goes_on at) → Moves k n (show prompt) (goes_on tt) → Moves o n (ask_for said x prompt) (goes_on at)
+  pub ask_refines_part : {o m k n : Trace} (at : Target) → RefinesPart o m (show said) (goes_on tt) → RefinesPart m k (target_action x) (goes_on at) → RefinesPart k n (show prompt) (goes_on tt) → RefinesPart o n (ask_for said x prompt) (goes_on at)
   unfolding prompt_next
-  ask_moves at a b c = moves_then (target_then at a b) (moves_on (λ u. goes_on at) c)
+  ask_refines_part at a b c = refines_part_then (target_then at a b) (refines_part_on (λ u. goes_on at) c)
 
-  pub ask_said_stops : (refused : Refusal → Type 0) (o n : Trace) (e : Stop) → Stops refused (MovesTo o n (show said)) n.devices e → Stops refused (MovesTo o n (ask_for said x prompt)) n.devices e
+  pub ask_said_stops : (refused : Refusal → Type 0) (o n : Trace) (e : Stop) → Stops refused (RefinesPartTo o n (show said)) n.devices e → Stops refused (RefinesPartTo o n (ask_for said x prompt)) n.devices e
   unfolding target_next prompt_next
   ask_said_stops refused o n e h = stops_first refused o n (show said) (λ u. target_next) (λ u. target_next_adds) e h
 
-  pub ask_target_stops : (refused : Refusal → Type 0) {o m : Trace} (n : Trace) (e : Stop) → Moves o m (show said) (goes_on tt) → Stops refused (MovesTo m n (target_course x)) n.devices e → Stops refused (MovesTo o n (ask_for said x prompt)) n.devices e
+  pub ask_target_stops : (refused : Refusal → Type 0) {o m : Trace} (n : Trace) (e : Stop) → RefinesPart o m (show said) (goes_on tt) → Stops refused (RefinesPartTo m n (target_action x)) n.devices e → Stops refused (RefinesPartTo o n (ask_for said x prompt)) n.devices e
   unfolding target_next
-  ask_target_stops refused {m = m} n e a h = stops_after refused n (said_first a) e (stops_first refused m n (target_course x) prompt_next prompt_next_adds e h)
+  ask_target_stops refused {m = m} n e a h = stops_after refused n (said_first a) e (stops_first refused m n (target_action x) prompt_next prompt_next_adds e h)
 
-  pub ask_prompt_stops : (refused : Refusal → Type 0) {o m k : Trace} (n : Trace) (at : Target) (e : Stop) → Moves o m (show said) (goes_on tt) → Moves m k (target_course x) (goes_on at) → Stops refused (MovesTo k n (show prompt)) n.devices e → Stops refused (MovesTo o n (ask_for said x prompt)) n.devices e
+  pub ask_prompt_stops : (refused : Refusal → Type 0) {o m k : Trace} (n : Trace) (at : Target) (e : Stop) → RefinesPart o m (show said) (goes_on tt) → RefinesPart m k (target_action x) (goes_on at) → Stops refused (RefinesPartTo k n (show prompt)) n.devices e → Stops refused (RefinesPartTo o n (ask_for said x prompt)) n.devices e
   unfolding prompt_next
   ask_prompt_stops refused {k = k} n at e a b h =
       stops_after refused n (target_then at a b) e (stops_first refused k n (show prompt) (λ u. goes_on at) (λ u. goes_adds at) e h)
 
   -- a prompt in two pieces
   module _ (name : List ℕ) (is : prompt ≡ name ++ 58 ∷ []) where
-    pub ask_name_stops : (refused : Refusal → Type 0) {o m k : Trace} (n : Trace) (at : Target) (e : Stop) → Moves o m (show said) (goes_on tt) → Moves m k (target_course x) (goes_on at) → Stops refused (MovesTo k n (show name)) n.devices e → Stops refused (MovesTo o n (ask_for said x prompt)) n.devices e
+    pub ask_name_stops : (refused : Refusal → Type 0) {o m k : Trace} (n : Trace) (at : Target) (e : Stop) → RefinesPart o m (show said) (goes_on tt) → RefinesPart m k (target_action x) (goes_on at) → Stops refused (RefinesPartTo k n (show name)) n.devices e → Stops refused (RefinesPartTo o n (ask_for said x prompt)) n.devices e
     ask_name_stops refused {k = k} n at e a b h =
         ask_prompt_stops refused n at e a b
-        (subst (λ (s : List ℕ). Stops refused (MovesTo k n (show s)) n.devices e) (sym is) (first_stops name (58 ∷ []) refused k n e h))
+        (subst (λ (s : List ℕ). Stops refused (RefinesPartTo k n (show s)) n.devices e) (sym is) (first_stops name (58 ∷ []) refused k n e h))
 
-    pub ask_colon_stops : (refused : Refusal → Type 0) {o m k l : Trace} (n : Trace) (at : Target) (e : Stop) → Moves o m (show said) (goes_on tt) → Moves m k (target_course x) (goes_on at) → Moves k l (show name) (goes_on tt) → Stops refused (MovesTo l n (show (58 ∷ []))) n.devices e → Stops refused (MovesTo o n (ask_for said x prompt)) n.devices e
+    pub ask_colon_stops : (refused : Refusal → Type 0) {o m k l : Trace} (n : Trace) (at : Target) (e : Stop) → RefinesPart o m (show said) (goes_on tt) → RefinesPart m k (target_action x) (goes_on at) → RefinesPart k l (show name) (goes_on tt) → Stops refused (RefinesPartTo l n (show (58 ∷ []))) n.devices e → Stops refused (RefinesPartTo o n (ask_for said x prompt)) n.devices e
     ask_colon_stops refused {k = k} n at e a b c h =
         ask_prompt_stops refused n at e a b
-        (subst (λ (s : List ℕ). Stops refused (MovesTo k n (show s)) n.devices e) (sym is) (second_stops name (58 ∷ []) refused n e c h))
+        (subst (λ (s : List ℕ). Stops refused (RefinesPartTo k n (show s)) n.devices e) (sym is) (second_stops name (58 ∷ []) refused n e c h))
 
-    pub ask_all_moves : {o m k l n : Trace} (at : Target) → Moves o m (show said) (goes_on tt) → Moves m k (target_course x) (goes_on at) → Moves k l (show name) (goes_on tt) → Moves l n (show (58 ∷ [])) (goes_on tt) → Moves o n (ask_for said x prompt) (goes_on at)
-    ask_all_moves {k = k} {n = n} at a b c d =
-        ask_moves at a b (subst (λ (s : List ℕ). Moves k n (show s) (goes_on tt)) (sym is) (both_move name (58 ∷ []) c d))
+    pub ask_all_refines_part : {o m k l n : Trace} (at : Target) → RefinesPart o m (show said) (goes_on tt) → RefinesPart m k (target_action x) (goes_on at) → RefinesPart k l (show name) (goes_on tt) → RefinesPart l n (show (58 ∷ [])) (goes_on tt) → RefinesPart o n (ask_for said x prompt) (goes_on at)
+    ask_all_refines_part {k = k} {n = n} at a b c d =
+        ask_refines_part at a b (subst (λ (s : List ℕ). RefinesPart k n (show s) (goes_on tt)) (sym is) (both_move name (58 ∷ []) c d))
 
   -- ---- a line is taken
 
-  pub item_course_adds : Adds (item_course said x prompt)
-  item_course_adds = record { at = λ S a. ((input_part said x prompt S.lines).at S a).shown }
+  pub item_action_adds : Adds (item_action said x prompt)
+  item_action_adds = record { at = λ S a. ((input_part said x prompt S.lines).at S a).shown }
 
   -- once a line's value is known, or its fault
-  pub answered : Target → Result ℤ Fault → Course (Unit {0})
-  answered at = store_or_again at (item_course said x prompt)
+  pub answered : Target → Result ℤ Fault → Action (Unit {0})
+  answered at = store_or_again at (item_action said x prompt)
 
   answered_adds : (at : Target) (r : Result ℤ Fault) → Adds (answered at r)
   unfolding answered
   answered_adds at (Ok v) = store_adds at v
-  answered_adds at (Err f) = then_adds (show (word_of f.kind ++ newline)) (λ u. item_course said x prompt) (show_adds _) (λ u. item_course_adds)
+  answered_adds at (Err f) = then_adds (show (word_of f.kind ++ newline)) (λ u. item_action said x prompt) (show_adds _) (λ u. item_action_adds)
 
   -- once a line is shown
-  pub worth : Target → List ℕ → Course (Unit {0})
+  pub worth : Target → List ℕ → Action (Unit {0})
   worth at l = and_then (line_value l) (answered at)
 
   worth_adds : (at : Target) (l : List ℕ) → Adds (worth at l)
@@ -195,55 +201,55 @@ module _ (said : List ℕ) (x : Tree) (prompt : List ℕ) where
   worth_adds at l = then_adds (line_value l) (answered at) (line_adds l) (answered_adds at)
 
   -- once a line is given
-  pub line_next : Target → List ℕ → Course (Unit {0})
+  pub line_next : Target → List ℕ → Action (Unit {0})
   line_next at l = and_then (show (l ++ newline)) (λ u. worth at l)
 
-  again_adds : (at : Target) (ls : List (List ℕ)) (r : Result ℤ Fault) → Adds (store_or_again at (input_course said x prompt ls) r)
+  again_adds : (at : Target) (ls : List (List ℕ)) (r : Result ℤ Fault) → Adds (store_or_again at (input_action said x prompt ls) r)
   again_adds at ls (Ok v) = store_adds at v
   again_adds at ls (Err f) =
-      then_adds (show (word_of f.kind ++ newline)) (λ u. input_course said x prompt ls) (show_adds _) (λ u. record { at = λ S a. ((input_part said x prompt ls).at S a).shown })
+      then_adds (show (word_of f.kind ++ newline)) (λ u. input_action said x prompt ls) (show_adds _) (λ u. record { at = λ S a. ((input_part said x prompt ls).at S a).shown })
 
   -- by the lines that are left
-  answer_by : Target → List (List ℕ) → Course (Unit {0})
+  answer_by : Target → List (List ℕ) → Action (Unit {0})
   answer_by at [] = halt (Ends endings.NoInput)
-  answer_by at (l ∷ ls) = and_then (take_line l ls) (λ u. and_then (line_value l) (store_or_again at (input_course said x prompt ls)))
+  answer_by at (l ∷ ls) = and_then (take_line l ls) (λ u. and_then (line_value l) (store_or_again at (input_action said x prompt ls)))
 
   answer_adds : (at : Target) (ls : List (List ℕ)) → Adds (answer_by at ls)
   unfolding answer_by
   answer_adds at [] = halt_adds (Ends endings.NoInput)
   answer_adds at (l ∷ ls) =
       then_adds (take_line l ls) _ (record { at = λ S a. (l ++ newline, append_assoc S.shown l newline) }) (λ u.
-      then_adds (line_value l) (store_or_again at (input_course said x prompt ls)) (line_adds l) (again_adds at ls))
+      then_adds (line_value l) (store_or_again at (input_action said x prompt ls)) (line_adds l) (again_adds at ls))
 
   -- a line is wanted
-  pub wants : Target → Course (Unit {0})
+  pub wants : Target → Action (Unit {0})
   wants at S = answer_by at S.lines S
 
-  by_lines : (ls : List (List ℕ)) (S : State) (a : Answers) → S.lines ≡ ls → input_course said x prompt ls S a ≡ and_then (ask_for said x prompt) wants S a
-  unfolding input_course wants answer_by
+  by_lines : (ls : List (List ℕ)) (S : State) (a : Answers) → S.lines ≡ ls → input_action said x prompt ls S a ≡ and_then (ask_for said x prompt) wants S a
+  unfolding input_action wants answer_by
   by_lines [] S a e =
       next_same (λ at. answer_by at []) wants [] (λ at T k. ap (λ ls. answer_by at ls T) (sym k)) (ask_for said x prompt S a) (ask_lines.at S a ∙ e)
   by_lines (l ∷ ls) S a e =
       next_same (λ at. answer_by at (l ∷ ls)) wants (l ∷ ls) (λ at T k. ap (λ ls. answer_by at ls T) (sym k)) (ask_for said x prompt S a) (ask_lines.at S a ∙ e)
 
-  item_course_asks : item_course said x prompt ≡ and_then (ask_for said x prompt) wants
-  item_course_asks = fun_ext (λ S. fun_ext (λ a. by_lines S.lines S a refl))
+  item_action_asks : item_action said x prompt ≡ and_then (ask_for said x prompt) wants
+  item_action_asks = fun_ext (λ S. fun_ext (λ a. by_lines S.lines S a refl))
 
   wants_adds : (at : Target) → Adds (wants at)
   unfolding wants answer_by
   wants_adds at = record { at = λ S a. (answer_adds at S.lines).at S a }
 
   -- what asks has come to a target, and wants a line
-  wanted : {o n : Trace} (at : Target) → Moves o n (ask_for said x prompt) (goes_on at) → Moves o n (item_course said x prompt) (wants at)
-  wanted {o = o} {n = n} at a = subst (λ (f : Course (Unit {0})). Moves o n f (wants at)) (sym item_course_asks) (moves_on wants a)
+  wanted : {o n : Trace} (at : Target) → RefinesPart o n (ask_for said x prompt) (goes_on at) → RefinesPart o n (item_action said x prompt) (wants at)
+  wanted {o = o} {n = n} at a = subst (λ (f : Action (Unit {0})). RefinesPart o n f (wants at)) (sym item_action_asks) (refines_part_on wants a)
 
   -- it stops before
-  pub take_ask_stops : (refused : Refusal → Type 0) (o n : Trace) (e : Stop) → Stops refused (MovesTo o n (ask_for said x prompt)) n.devices e → Stops refused (MovesTo o n (item_course said x prompt)) n.devices e
+  pub take_ask_stops : (refused : Refusal → Type 0) (o n : Trace) (e : Stop) → Stops refused (RefinesPartTo o n (ask_for said x prompt)) n.devices e → Stops refused (RefinesPartTo o n (item_action said x prompt)) n.devices e
   take_ask_stops refused o n e h =
-      subst (λ (f : Course (Unit {0})). Stops refused (MovesTo o n f) n.devices e) (sym item_course_asks) (stops_first refused o n (ask_for said x prompt) wants wants_adds e h)
+      subst (λ (f : Action (Unit {0})). Stops refused (RefinesPartTo o n f) n.devices e) (sym item_action_asks) (stops_first refused o n (ask_for said x prompt) wants wants_adds e h)
 
   -- no line is left
-  pub take_dry : (refused : Refusal → Type 0) {o n : Trace} (at : Target) → Moves o n (ask_for said x prompt) (goes_on at) → refused NoLine → Stops refused (MovesTo o n (item_course said x prompt)) n.devices stops.NoInput
+  pub take_dry : (refused : Refusal → Type 0) {o n : Trace} (at : Target) → RefinesPart o n (ask_for said x prompt) (goes_on at) → refused NoLine → Stops refused (RefinesPartTo o n (item_action said x prompt)) n.devices stops.NoInput
   unfolding wants answer_by
   take_dry refused at a h = record {
     left = wants at;
@@ -253,7 +259,7 @@ module _ (said : List ℕ) (x : Tree) (prompt : List ℕ) where
   }
 
   -- the lines can't be read
-  unread : (refused : Refusal → Type 0) {o n : Trace} (at : Target) (e : DeviceError) → Moves o n (ask_for said x prompt) (goes_on at) → HasBroken refused n.devices.screen n.devices.screen e → Stops refused (MovesTo o n (item_course said x prompt)) n.devices (stops.Broke e)
+  unread : (refused : Refusal → Type 0) {o n : Trace} (at : Target) (e : DeviceError) → RefinesPart o n (ask_for said x prompt) (goes_on at) → HasBroken refused n.devices.screen n.devices.screen e → Stops refused (RefinesPartTo o n (item_action said x prompt)) n.devices (stops.Broke e)
   unread refused {n = n} at e a h = record {
     left = wants at;
     middle = n.devices;
@@ -264,27 +270,27 @@ module _ (said : List ℕ) (x : Tree) (prompt : List ℕ) where
     broken = h;
   }
 
-  pub take_unread : (refused : Refusal → Type 0) {o n : Trace} (at : Target) (f : ReadFault) → Moves o n (ask_for said x prompt) (goes_on at) → refused (Unread f) → Stops refused (MovesTo o n (item_course said x prompt)) n.devices (stop_of_read f)
+  pub take_unread : (refused : Refusal → Type 0) {o n : Trace} (at : Target) (f : ReadFault) → RefinesPart o n (ask_for said x prompt) (goes_on at) → refused (Unread f) → Stops refused (RefinesPartTo o n (item_action said x prompt)) n.devices (stop_of_read f)
   take_unread refused at reads.Read a h = unread refused at errors.Read a (record { by = inl h })
   take_unread refused at reads.TooLong a h = unread refused at errors.Read a (record { by = inr h })
   take_unread refused at reads.Memory a h = unread refused at errors.Memory a (record { by = inr (inr h) })
 
   -- a line is given
-  again_same : (at : Target) (ls : List (List ℕ)) (S : State) → S.lines ≡ ls → (o : Outcome (Result ℤ Fault) (Unit {0})) → go_on (map_outcome (λ r. Goes r S) (λ u. S) o) (on_progress (store_or_again at (input_course said x prompt ls))) ≡ go_on (map_outcome (λ r. Goes r S) (λ u. S) o) (on_progress (answered at))
+  again_same : (at : Target) (ls : List (List ℕ)) (S : State) → S.lines ≡ ls → (o : Outcome (Result ℤ Fault) (Unit {0})) → go_on (map_outcome (λ r. Goes r S) (λ u. S) o) (on_progress (store_or_again at (input_action said x prompt ls))) ≡ go_on (map_outcome (λ r. Goes r S) (λ u. S) o) (on_progress (answered at))
   unfolding answered
   again_same at ls S e (Done (Ok v) rest) = refl
-  again_same at ls S e (Done (Err f) rest) = ap (λ k. input_course said x prompt k (record S { shown = S.shown ++ (word_of f.kind ++ newline) }) rest) (sym e)
+  again_same at ls S e (Done (Err f) rest) = ap (λ k. input_action said x prompt k (record S { shown = S.shown ++ (word_of f.kind ++ newline) }) rest) (sym e)
   again_same at ls S e (Asks n w) = refl
   again_same at ls S e (Out n w) = refl
 
   given_same : (at : Target) (l : List ℕ) (ls : List (List ℕ)) (S : State) → answer_by at (l ∷ ls) S ≡ line_next at l (record S { lines = ls })
   unfolding answer_by line_next worth
   given_same at l ls S =
-      ap (λ (s : List ℕ). and_then (line_value l) (store_or_again at (input_course said x prompt ls)) (record S { lines = ls; shown = s })) (append_assoc S.shown l newline)
+      ap (λ (s : List ℕ). and_then (line_value l) (store_or_again at (input_action said x prompt ls)) (record S { lines = ls; shown = s })) (append_assoc S.shown l newline)
       ∙ fun_ext (λ a. again_same at ls (record S { lines = ls; shown = S.shown ++ (l ++ newline) }) refl (value S.cells (item_of (expression l 0)) a))
 
   -- the lines given are then k
-  line_given : (m : Trace) (at : Target) (l : List ℕ) (k : List (List ℕ)) → k ≡ m.devices.given ++ l ∷ [] → Moves m (record m { devices = record m.devices { given = k } }) (wants at) (line_next at l)
+  line_given : (m : Trace) (at : Target) (l : List ℕ) (k : List (List ℕ)) → k ≡ m.devices.given ++ l ∷ [] → RefinesPart m (record m { devices = record m.devices { given = k } }) (wants at) (line_next at l)
   unfolding wants
   line_given m at l k e = record {
     exchange = record { answers = []; bounds = []; bytes = []; given = l ∷ [] };
@@ -298,59 +304,67 @@ module _ (said : List ℕ) (x : Tree) (prompt : List ℕ) where
         (leaves_itself (wants at S));
   }
 
-  pub take_given : {o m : Trace} (at : Target) (l : List ℕ) (k : List (List ℕ)) → k ≡ m.devices.given ++ l ∷ [] → Moves o m (ask_for said x prompt) (goes_on at) → Moves o (record m { devices = record m.devices { given = k } }) (item_course said x prompt) (line_next at l)
-  take_given {m = m} at l k e a = moves_then (wanted at a) (line_given m at l k e)
+  pub take_given : {o m : Trace} (at : Target) (l : List ℕ) (k : List (List ℕ)) → k ≡ m.devices.given ++ l ∷ [] → RefinesPart o m (ask_for said x prompt) (goes_on at) → RefinesPart o (record m { devices = record m.devices { given = k } }) (item_action said x prompt) (line_next at l)
+  take_given {m = m} at l k e a = refines_part_then (wanted at a) (line_given m at l k e)
 
   -- ---- once a line is given
 
-  pub line_moves : {o m n : Trace} (at : Target) (l : List ℕ) → Moves o m (show l) (goes_on tt) → Moves m n (show newline) (goes_on tt) → Moves o n (line_next at l) (worth at l)
+  pub line_refines_part : {o m n : Trace} (at : Target) (l : List ℕ) → RefinesPart o m (show l) (goes_on tt) → RefinesPart m n (show newline) (goes_on tt) → RefinesPart o n (line_next at l) (worth at l)
   unfolding line_next
-  line_moves at l a b = moves_on (λ u. worth at l) (both_move l newline a b)
+  line_refines_part at l a b = refines_part_on (λ u. worth at l) (both_move l newline a b)
 
-  pub line_stops : (refused : Refusal → Type 0) (o n : Trace) (at : Target) (l : List ℕ) (e : Stop) → Stops refused (MovesTo o n (show l)) n.devices e → Stops refused (MovesTo o n (line_next at l)) n.devices e
+  pub line_stops : (refused : Refusal → Type 0) (o n : Trace) (at : Target) (l : List ℕ) (e : Stop) → Stops refused (RefinesPartTo o n (show l)) n.devices e → Stops refused (RefinesPartTo o n (line_next at l)) n.devices e
   unfolding line_next
   line_stops refused o n at l e h = stops_first refused o n (show (l ++ newline)) (λ u. worth at l) (λ u. worth_adds at l) e (first_stops l newline refused o n e h)
 
-  pub newline_stops : (refused : Refusal → Type 0) {o m : Trace} (n : Trace) (at : Target) (l : List ℕ) (e : Stop) → Moves o m (show l) (goes_on tt) → Stops refused (MovesTo m n (show newline)) n.devices e → Stops refused (MovesTo o n (line_next at l)) n.devices e
+  pub newline_stops : (refused : Refusal → Type 0) {o m : Trace} (n : Trace) (at : Target) (l : List ℕ) (e : Stop) → RefinesPart o m (show l) (goes_on tt) → Stops refused (RefinesPartTo m n (show newline)) n.devices e → Stops refused (RefinesPartTo o n (line_next at l)) n.devices e
   unfolding line_next
   newline_stops refused {o = o} n at l e a h = stops_first refused o n (show (l ++ newline)) (λ u. worth at l) (λ u. worth_adds at l) e (second_stops l newline refused n e a h)
 
-  pub worth_stops : (refused : Refusal → Type 0) (o n : Trace) (at : Target) (l : List ℕ) (e : Stop) → Stops refused (MovesTo o n (line_value l)) n.devices e → Stops refused (MovesTo o n (worth at l)) n.devices e
+  pub worth_stops : (refused : Refusal → Type 0) (o n : Trace) (at : Target) (l : List ℕ) (e : Stop) → Stops refused (RefinesPartTo o n (line_value l)) n.devices e → Stops refused (RefinesPartTo o n (worth at l)) n.devices e
   unfolding worth
   worth_stops refused o n at l e h = stops_first refused o n (line_value l) (answered at) (answered_adds at) e h
 
   -- the code has the value v as u
-  pub stored_moves : {o m n : Trace} (at : Target) (l : List ℕ) (v u : ℤ) → u ≡ v → Moves o m (line_value l) (goes_on (Ok v)) → Moves m n (store at u) (goes_on tt) → Moves o n (worth at l) (goes_on tt)
+  pub stored_refines_part : {o m n : Trace} (at : Target) (l : List ℕ) (v u : ℤ) → u ≡ v → RefinesPart o m (line_value l) (goes_on (Ok v)) → RefinesPart m n (store at u) (goes_on tt) → RefinesPart o n (worth at l) (goes_on tt)
   unfolding worth answered
-  stored_moves {m = m} {n = n} at l v u k a b = moves_then (moves_on (answered at) a) (subst (λ (z : ℤ). Moves m n (store at z) (goes_on tt)) k b)
+  stored_refines_part {m = m} {n = n} at l v u k a b = refines_part_then (refines_part_on (answered at) a) (subst (λ (z : ℤ). RefinesPart m n (store at z) (goes_on tt)) k b)
 
-  pub again_moves : {o m n : Trace} (at : Target) (l : List ℕ) (f : Fault) (bytes : List ℕ) → bytes ≡ word_of f.kind ++ newline → Moves o m (line_value l) (goes_on (Err f)) → Moves m n (show bytes) (goes_on tt) → Moves o n (worth at l) (item_course said x prompt)
+  pub again_refines_part : {o m n : Trace} (at : Target) (l : List ℕ) (f : Fault) (bytes : List ℕ) → bytes ≡ word_of f.kind ++ newline → RefinesPart o m (line_value l) (goes_on (Err f)) → RefinesPart m n (show bytes) (goes_on tt) → RefinesPart o n (worth at l) (item_action said x prompt)
   unfolding worth answered
-  again_moves {m = m} {n = n} at l f bytes k a b =
-      moves_then (moves_on (answered at) a) (moves_on (λ u. item_course said x prompt) (subst (λ (s : List ℕ). Moves m n (show s) (goes_on tt)) k b))
+  again_refines_part {m = m} {n = n} at l f bytes k a b =
+      refines_part_then (refines_part_on (answered at) a) (refines_part_on (λ u. item_action said x prompt) (subst (λ (s : List ℕ). RefinesPart m n (show s) (goes_on tt)) k b))
 
-  pub again_stops : (refused : Refusal → Type 0) {o m : Trace} (n : Trace) (at : Target) (l : List ℕ) (f : Fault) (bytes : List ℕ) → bytes ≡ word_of f.kind ++ newline → (e : Stop) → Moves o m (line_value l) (goes_on (Err f)) → Stops refused (MovesTo m n (show bytes)) n.devices e → Stops refused (MovesTo o n (worth at l)) n.devices e
+  pub again_stops : (refused : Refusal → Type 0) {o m : Trace} (n : Trace) (at : Target) (l : List ℕ) (f : Fault) (bytes : List ℕ) → bytes ≡ word_of f.kind ++ newline → (e : Stop) → RefinesPart o m (line_value l) (goes_on (Err f)) → Stops refused (RefinesPartTo m n (show bytes)) n.devices e → Stops refused (RefinesPartTo o n (worth at l)) n.devices e
   unfolding worth answered
   again_stops refused {m = m} n at l f bytes k e a h =
-      stops_after refused n (moves_on (answered at) a) e
-      (stops_first refused m n (show (word_of f.kind ++ newline)) (λ u. item_course said x prompt) (λ u. item_course_adds) e
-      (subst (λ (s : List ℕ). Stops refused (MovesTo m n (show s)) n.devices e) k h))
+      stops_after refused n (refines_part_on (answered at) a) e
+      (stops_first refused m n (show (word_of f.kind ++ newline)) (λ u. item_action said x prompt) (λ u. item_action_adds) e
+      (subst (λ (s : List ℕ). Stops refused (RefinesPartTo m n (show s)) n.devices e) k h))
 
 -- ---- the part
 
 module _ (rest : List Part) (w : ℕ) (operands : List ℤ) where
-  pub take_moves : {o n : Trace} (said : List ℕ) (x : Tree) (prompt : List ℕ) → Moves o n (item_course said x prompt) (goes_on tt) → Moves o n (parts_course (Take said x prompt ∷ rest) w operands) (parts_course rest w operands)
-  unfolding parts_course
-  take_moves said x prompt a = moves_on (λ u. parts_course rest w operands) a
+  pub take_refines_part : {o n : Trace} (said : List ℕ) (x : Tree) (prompt : List ℕ) → RefinesPart o n (item_action said x prompt) (goes_on tt) → RefinesPart o n (parts_action (Take said x prompt ∷ rest) w operands) (parts_action rest w operands)
+  unfolding parts_action
+  take_refines_part said x prompt a = refines_part_on (λ u. parts_action rest w operands) a
 
-  pub take_stops : (refused : Refusal → Type 0) (o n : Trace) (said : List ℕ) (x : Tree) (prompt : List ℕ) (e : Stop) → Stops refused (MovesTo o n (item_course said x prompt)) n.devices e → Stops refused (MovesTo o n (parts_course (Take said x prompt ∷ rest) w operands)) n.devices e
-  unfolding parts_course
-  take_stops refused o n said x prompt e h = stops_first refused o n (item_course said x prompt) (λ u. parts_course rest w operands) (λ u. parts_add rest w operands) e h
+  pub take_stops : (refused : Refusal → Type 0) (o n : Trace) (said : List ℕ) (x : Tree) (prompt : List ℕ) (e : Stop) → Stops refused (RefinesPartTo o n (item_action said x prompt)) n.devices e → Stops refused (RefinesPartTo o n (parts_action (Take said x prompt ∷ rest) w operands)) n.devices e
+  unfolding parts_action
+  take_stops refused o n said x prompt e h = stops_first refused o n (item_action said x prompt) (λ u. parts_action rest w operands) (λ u. parts_add rest w operands) e h
 
   -- all that it comes to
-  pub take_comes : {X : Type 0} (refused : Refusal → Type 0) (o n : Trace) (said : List ℕ) (x : Tree) (prompt : List ℕ) (p : Part) → p ≡ Take said x prompt → (r : Result X Stop) → Comes refused o n (item_course said x prompt) (λ u. goes_on tt) r → Comes refused o n (parts_course (p ∷ rest) w operands) (λ u. parts_course rest w operands) r
-  take_comes refused o n said x prompt p k (Ok y) h = moves_part rest w operands p (Take said x prompt) k (take_moves said x prompt h)
+  pub take_comes : {X : Type 0} (refused : Refusal → Type 0) (o n : Trace) (said : List ℕ) (x : Tree) (prompt : List ℕ) (p : Part) → p ≡ Take said x prompt → (r : Result X Stop) → Comes refused o n (item_action said x prompt) (λ u. goes_on tt) r → Comes refused o n (parts_action (p ∷ rest) w operands) (λ u. parts_action rest w operands) r
+  take_comes refused o n said x prompt p k (Ok y) h = refines_part_part rest w operands p (Take said x prompt) k (take_refines_part said x prompt h)
   take_comes refused o n said x prompt p k (Err e) h = stops_part rest w operands refused o n p (Take said x prompt) k e (take_stops refused o n said x prompt e h)
+
+-- what was read of an item that asks, is its variable at the end
+pub take_read : {X E : Type 0} (t : List ℕ) (i : ℕ) (a : Asking) (k j : ℕ) (r : Result X E) → IsAsked t i a k → IfOk r (λ x. IsRead t k (variable_tree t k) j) → IfOk r (λ x. IsRead t i (input_item t i) j)
+take_read t i a k j (Ok x) asked read = record {
+  whole = asked.whole j read.whole;
+  ahead = record { after = omega (arith, asked.from, read.ahead.after); within = read.ahead.within; settled = read.ahead.settled };
+}
+take_read t i a k j (Err e) asked read = tt
 
 -- ---- the lines that a source gives
 
@@ -364,22 +378,22 @@ module _ {L : Type 0} (gives : L → List (List ℕ) → L → Type 0) (more : (
   gives_one_more s t u xs l r e a b = more s t u xs (l ∷ []) a (subst (λ (ys : List (List ℕ)). gives t ys u) e b)
 
 -- where no line is given
-pub none_given : {A : Type 0} (o : Trace) (f : Course A) → Moves o (record o { devices = record o.devices { given = o.devices.given ++ [] } }) f f
+pub none_given : {A : Type 0} (o : Trace) (f : Action A) → RefinesPart o (record o { devices = record o.devices { given = o.devices.given ++ [] } }) f f
 none_given o f =
-    subst (λ (ks : List (List ℕ)). Moves o (record o { devices = record o.devices { given = ks } }) f f) (sym (append-nil o.devices.given)) (moves_refl o f)
+    subst (λ (ks : List (List ℕ)). RefinesPart o (record o { devices = record o.devices { given = ks } }) f f) (sym (append-nil o.devices.given)) (refines_part_refl o f)
 
 -- lines that are given after others
-module _ (choices : Choices) (screen : ScreenState) (fresh : Bool) (cells : Cells) (before xs ys : List (List ℕ)) where
-  pub moves_joined : {A : Type 0} {m : Trace} {f g : Course A} → Moves m (trace (devices choices screen ((before ++ xs) ++ ys)) fresh cells) f g → Moves m (trace (devices choices screen (before ++ (xs ++ ys))) fresh cells) f g
-  moves_joined {m = m} {f = f} {g = g} h = subst (λ (ks : List (List ℕ)). Moves m (trace (devices choices screen ks) fresh cells) f g) (append_assoc before xs ys) h
+module _ {C S L : Type 0} (choices : C → Choices) (screen : Ghosts S) (io : Io C S L) (cells : Cells) (before xs ys : List (List ℕ)) where
+  pub refines_part_joined : {A : Type 0} {m : Trace} {f g : Action A} → RefinesPart m (io_trace choices screen io ((before ++ xs) ++ ys) cells) f g → RefinesPart m (io_trace choices screen io (before ++ (xs ++ ys)) cells) f g
+  refines_part_joined {m = m} {f = f} {g = g} h = subst (λ (ks : List (List ℕ)). RefinesPart m (io_trace choices screen io ks cells) f g) (append_assoc before xs ys) h
 
-  pub stops_joined : {A : Type 0} (refused : Refusal → Type 0) (m : Trace) (f : Course A) (e : Stop) → Stops refused (MovesTo m (trace (devices choices screen ((before ++ xs) ++ ys)) fresh cells) f) (devices choices screen ((before ++ xs) ++ ys)) e → Stops refused (MovesTo m (trace (devices choices screen (before ++ (xs ++ ys))) fresh cells) f) (devices choices screen (before ++ (xs ++ ys))) e
+  pub stops_joined : {A : Type 0} (refused : Refusal → Type 0) (m : Trace) (f : Action A) (e : Stop) → Stops refused (RefinesPartTo m (io_trace choices screen io ((before ++ xs) ++ ys) cells) f) (io_devices choices screen io ((before ++ xs) ++ ys)) e → Stops refused (RefinesPartTo m (io_trace choices screen io (before ++ (xs ++ ys)) cells) f) (io_devices choices screen io (before ++ (xs ++ ys))) e
   stops_joined refused m f e h =
-      subst (λ (ks : List (List ℕ)). Stops refused (MovesTo m (trace (devices choices screen ks) fresh cells) f) (devices choices screen ks) e) (append_assoc before xs ys) h
+      subst (λ (ks : List (List ℕ)). Stops refused (RefinesPartTo m (io_trace choices screen io ks cells) f) (io_devices choices screen io ks) e) (append_assoc before xs ys) h
 
 -- what a line is worth
-pub line_known : {o n : Trace} (l : List ℕ) (r s : Result ℤ Fault) → r ≡ s → Moves o n (line_value l) (goes_on r) → Moves o n (line_value l) (goes_on s)
-line_known {o = o} {n = n} l r s e m = subst (λ (x : Result ℤ Fault). Moves o n (line_value l) (goes_on x)) e m
+pub line_known : {o n : Trace} (l : List ℕ) (r s : Result ℤ Fault) → r ≡ s → RefinesPart o n (line_value l) (goes_on r) → RefinesPart o n (line_value l) (goes_on s)
+line_known {o = o} {n = n} l r s e m = subst (λ (x : Result ℤ Fault). RefinesPart o n (line_value l) (goes_on x)) e m
 
 -- whoever may refuse a line too refuses answers
 pub answers_too : (refused : Pause → ℤ → Type 0) (unread : ReadFault → Type 0) (lines : Option (List (List ℕ))) (r : Refusal) → refused_answers refused r → refused_by refused unread lines r

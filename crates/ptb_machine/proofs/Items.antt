@@ -3,7 +3,7 @@ use Rattle.std.proofs.Common.{◌≡◌, ℕ, Bool, true, false, List, [], ◌�
 use Rattle.ptb_text.specs.Words.{token_at, NoQuote, OpenQuote, QuotedText}
 use Rattle.ptb_expr.specs.declared.fault.FaultKind.TheVariants.{What}
 use Rattle.ptb_expr.specs.Tree.{Tree}
-use Rattle.ptb_expr.specs.Reading.{Reading, Whole, Spoilt, item_of, after, map_reading, expression}
+use Rattle.ptb_expr.specs.Reading.{Reading, Whole, Malformed, item_of, after, map_reading, expression}
 use Rattle.ptb_expr.specs.Evaluate.{IsWhole}
 use Rattle.ptb_machine.specs.Items.{Last, Onward, in_front, with_others, items}
 use Rattle.ptb_machine.specs.Commands.{Part, Say, Width, Show, NewLine, Defect, at_end, end_check, string_at, string_or_value, width_or, print_item, next_item, after_item, item_round, print_parts_if, print_parts}
@@ -13,7 +13,7 @@ use Rattle.ptb_machine.proofs.Going.{item_in_front}
 
 pub item_mapped : {A B : Type 0} (f : A → B) (r : Reading A) → item_of (map_reading f r) ≡ f (item_of r)
 item_mapped f (Whole x j) = refl
-item_mapped f (Spoilt x) = refl
+item_mapped f (Malformed x) = refl
 
 width_after : ℕ → Reading Tree → Reading Part
 width_after j r = after r (λ x. Width x j) (λ x k. Whole (Width x k) k)
@@ -21,7 +21,7 @@ width_after j r = after r (λ x. Width x j) (λ x k. Whole (Width x k) k)
 width_tree : (j : ℕ) (r : Reading Tree) → (m : ℕ) × (item_of (width_after j r) ≡ Width (item_of r) m)
 unfolding width_after
 width_tree j (Whole x k) = (k, refl)
-width_tree j (Spoilt x) = (j, refl)
+width_tree j (Malformed x) = (j, refl)
 
 module _ (t : List ℕ) (i : ℕ) where
   item_hash : (j : ℕ) → token_at 35 t i ≡ Some j → print_item t i ≡ width_after j (expression t j)
@@ -94,7 +94,7 @@ after_first t others p j None = (_, item_in_front p (in_front NewLine (end_check
 
 item_first : (t : List ℕ) (others : ℕ → Reading (List Part)) (r : Reading Part) → BeginsWith (item_of r) (with_others others (item_round t r))
 item_first t others (Whole p j) = after_first t others p j (token_at 44 t j)
-item_first t others (Spoilt p) = ([], refl)
+item_first t others (Malformed p) = ([], refl)
 
 pub round_first : (t : List ℕ) (i : ℕ) (others : ℕ → Reading (List Part)) → (rest : List Part) × (item_of (with_others others (item_round t (print_item t i))) ≡ item_of (print_item t i) ∷ rest)
 round_first t i others = item_first t others (print_item t i)

@@ -3,8 +3,9 @@ pub mod Advancing
 pub mod Ahead
 pub mod Budgets
 pub mod Assigning
+pub mod Comings
 pub mod Commas
-pub mod Courses
+pub mod Actions
 pub mod Cutting
 pub mod Dispatch
 pub mod Doing
@@ -20,7 +21,7 @@ pub mod Inputting
 pub mod Items
 pub mod Jumping
 pub mod Lawful
-pub mod Moves
+pub mod PartRefinement
 pub mod Nexts
 pub mod Parts
 pub mod PartsSpend
@@ -31,6 +32,7 @@ pub mod PlayReads
 pub mod ProgramQuestions
 pub mod Reading
 pub mod Reporting
+pub mod Results
 pub mod Runs
 pub mod Sequences
 pub mod Shown

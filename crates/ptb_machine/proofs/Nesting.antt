@@ -1,30 +1,22 @@
 -- This file proves how the loops and calls of a state lie beside what is open in a machine.
-use Rattle.std.proofs.Common.{◌≡◌, ℕ, ◌+◌, ◌-◌, Bool, true, false, cond, List, [], ◌∷◌, ◌++◌, length, take, reverse, refl, sym, ap, subst, ◌∙◌, Option, Some, None, arith, length-append}
+use Rattle.std.proofs.Common.{◌≡◌, ℕ, ◌+◌, Bool, true, false, cond, List, [], ◌∷◌, ◌++◌, length, reverse, refl, sym, ap, subst, ◌∙◌, Option, Some, None, arith}
 use Rattle.std.specs.Prelude.{◌==◌, not, filter, nat_le, sum_by}
-use Rattle.std.proofs.lemmas.List.{reverse-append, reverse-reverse, length-reverse, take_at}
+use Rattle.std.proofs.lemmas.List.{reverse-append}
 use Rattle.std.proofs.lemmas.List.Sums.{sum_by-cons}
 use Rattle.std.proofs.lemmas.Bool.{eqb-true}
 use Rattle.ptb_text.specs.Statements.{Statements}
 use Rattle.ptb_machine.specs.State.{State, Loop, Call, nesting_limit}
 use Rattle.ptb_machine.specs.Act.{is_full, loops_from}
-use Rattle.ptb_machine.specs.declared.spot.Spot.{Spot}
-use Rattle.ptb_machine.specs.declared.open.OpenLoop.{OpenLoop}
-use Rattle.ptb_machine.specs.declared.open.Open.{Open}
-use Rattle.ptb_machine.specs.declared.open.Open.TheVariants as opens
-use Rattle.ptb_machine.specs.Levels.{call_of, loop_of, without}
+use Rattle.ptb_machine.specs.declared.location.Location.{Location}
+use Rattle.ptb_machine.specs.declared.stack.OpenLoop.{OpenLoop}
+use Rattle.ptb_machine.specs.declared.stack.Open.{Open}
+use Rattle.ptb_machine.specs.declared.stack.Open.TheVariants as opens
+use Rattle.ptb_machine.specs.Stacks.{call_of, loop_of, without}
 use Rattle.ptb_machine.specs.Configuration.{Configuration}
-use Rattle.ptb_machine.specs.Standing.{PlaceIs, LoopIs, Nested, Stands}
+use Rattle.ptb_machine.specs.Representation.{PlaceIs, LoopIs, Nested, Represents}
 
 pub reverse_push : (xs : List Open) (x : Open) → reverse (xs ++ x ∷ []) ≡ x ∷ reverse xs
 reverse_push xs x = reverse-append xs (x ∷ [])
-
--- without the newest
-pub reverse_pop : (xs : List Open) (x : Open) (ys : List Open) → reverse xs ≡ x ∷ ys → reverse (take (length xs - 1) xs) ≡ ys
-reverse_pop xs x ys e =
-    let h : xs ≡ reverse ys ++ x ∷ [] = sym (reverse-reverse xs) ∙ ap (λ (zs : List Open). reverse zs) e ∙ reverse-append (x ∷ []) ys in
-    let l : length xs - 1 ≡ length (reverse ys) = omega (arith, ap (λ (zs : List Open). length zs) h ∙ length-append (reverse ys) (x ∷ [])) in
-    ap (λ (zs : List Open). reverse zs) (ap (take (length xs - 1)) h ∙ take_at (reverse ys) (x ∷ []) (length xs - 1) (sym l))
-    ∙ reverse-reverse ys
 
 -- ---- calls
 
@@ -37,21 +29,21 @@ no_calls p (opens.Loop m ∷ os) (l ∷ loops) calls n e = no_calls p os loops c
 no_calls p (opens.Call back ∷ os) loops calls n e = absurd (cc)
 
 -- the newest call, and what is open below it
-pub record Newest (p : Statements) (back : Spot) (below : List Open) (calls : List Call) : Type 0 where
+pub record Newest (p : Statements) (back : Location) (below : List Open) (calls : List Call) : Type 0 where
   pub call : Call
   pub others : List Call
   pub are : calls ≡ call ∷ others
   pub place : PlaceIs p call.back back
   pub nested : Nested p below call.loops others
 
-pub newest_call : (p : Statements) (os : List Open) (loops : List Loop) (calls : List Call) (back : Spot) (below : List Open) → Nested p os loops calls → call_of os ≡ Some (back, below) → Newest p back below calls
+pub newest_call : (p : Statements) (os : List Open) (loops : List Loop) (calls : List Call) (back : Location) (below : List Open) → Nested p os loops calls → call_of os ≡ Some (back, below) → Newest p back below calls
 newest_call p [] loops calls back below n e = absurd (cc)
 newest_call p (opens.Loop m ∷ os) [] calls back below n e = absurd n
 newest_call p (opens.Loop m ∷ os) (l ∷ loops) calls back below n e = newest_call p os loops calls back below n.1 e
 newest_call p (opens.Call b ∷ os) [] [] back below n e = absurd n
 newest_call p (opens.Call b ∷ os) [] (c ∷ calls) back below n e =
-    let x : b ≡ back = ap (λ (o : Option (Spot × List Open)). elim o [ Some x ↦ x.0 | None ↦ b ]) e in
-    let y : os ≡ below = ap (λ (o : Option (Spot × List Open)). elim o [ Some x ↦ x.1 | None ↦ os ]) e in
+    let x : b ≡ back = ap (λ (o : Option (Location × List Open)). elim o [ Some x ↦ x.0 | None ↦ b ]) e in
+    let y : os ≡ below = ap (λ (o : Option (Location × List Open)). elim o [ Some x ↦ x.1 | None ↦ os ]) e in
     record { call = c; others = calls; are = refl; place = subst (PlaceIs p c.back) x n.0; nested = subst (λ (z : List Open). Nested p z c.loops calls) y n.1 }
 newest_call p (opens.Call b ∷ os) (l ∷ loops) calls back below n e = absurd n
 
@@ -67,8 +59,8 @@ nested_len p (opens.Call b ∷ os) [] (c ∷ calls) n = omega (arith, nested_len
 nested_len p (opens.Call b ∷ os) (l ∷ loops) calls n = absurd n
 
 -- where all that may be open is open, nothing more may be
-pub fullness : (p : Statements) (m : Configuration) (S : State) (b : Bool) → Stands p m S → nat_le nesting_limit (length m.stack) ≡ b → is_full S ≡ b
-fullness p m S b s k = ap (nat_le nesting_limit) (nested_len p (reverse m.stack) S.loops S.calls s.levels ∙ length-reverse m.stack) ∙ k
+pub fullness : (p : Statements) (m : Configuration) (S : State) (b : Bool) → Represents p m S → nat_le nesting_limit (length m.stack) ≡ b → is_full S ≡ b
+fullness p m S b s k = ap (nat_le nesting_limit) (nested_len p m.stack S.loops S.calls s.levels) ∙ k
 
 -- ---- loops
 

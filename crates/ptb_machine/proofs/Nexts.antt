@@ -3,13 +3,13 @@ use Rattle.std.proofs.Common.{◌≡◌, ℕ, zero, suc, ◌<◌, true, false, L
 use Rattle.std.specs.Prelude.{slice_get}
 use Rattle.ptb_text.specs.Statements.{Statements}
 use Rattle.ptb_text.specs.Words.{is_over}
-use Rattle.ptb_machine.specs.declared.spot.Spot.{Spot}
+use Rattle.ptb_machine.specs.declared.location.Location.{Location}
 use Rattle.ptb_machine.specs.Commands.{Command, commands}
 use Rattle.ptb_machine.specs.State.{Place, place_after, text_of, command_there, placed_at, first_command, command_or_next, next_command}
 use Rattle.ptb_machine.specs.Places.{At}
 use Rattle.ptb_machine.specs.Laws.{CommandLaws}
-use Rattle.ptb_machine.specs.Standing.{PlaceIs, IsLineAt, PlacesAre}
-use Rattle.ptb_machine.specs.Standing.{NextIs}
+use Rattle.ptb_machine.specs.Representation.{PlaceIs, IsLineAt, PlacesAre}
+use Rattle.ptb_machine.specs.Representation.{NextIs}
 use Rattle.ptb_machine.proofs.Placed.{is_placed}
 
 pub next_nowhere : (p : Statements) (q : Option Place) → PlacesAre p q None → next_command p q ≡ None
@@ -22,15 +22,15 @@ unfolding next_command
 next_by p q = refl
 
 -- the text of the statement at a place that a machine has
-pub text_there : (p : Statements) (q : Place) (s : Spot) (z : ℤ) (t : List ℕ) → PlaceIs p q s → IsLineAt p s.statement z t → t ≡ text_of p q.number
+pub text_there : (p : Statements) (q : Place) (s : Location) (z : ℤ) (t : List ℕ) → PlaceIs p q s → IsLineAt p s.statement z t → t ≡ text_of p q.number
 text_there p q s z t a e = (e q.number (text_of p q.number) a.statement).1
 
 -- each place that a machine has
-pub placed : (p : Statements) (s : Spot) (P : Option Place → Type 0) → ((q : Place) → PlaceIs p q s → P (Some q)) → (q : Option Place) → PlacesAre p q (Some s) → P q
+pub placed : (p : Statements) (s : Location) (P : Option Place → Type 0) → ((q : Place) → PlaceIs p q s → P (Some q)) → (q : Option Place) → PlacesAre p q (Some s) → P q
 placed p s P f None a = absurd a
 placed p s P f (Some q) a = f q a
 
-module _ (laws : CommandLaws) (p : Statements) (q : Place) (s : Spot) (a : PlaceIs p q s) (t : List ℕ) (tn : t ≡ text_of p q.number) where
+module _ (laws : CommandLaws) (p : Statements) (q : Place) (s : Location) (a : PlaceIs p q s) (t : List ℕ) (tn : t ≡ text_of p q.number) where
   pub next_here : is_over t s.at ≡ false → NextIs p (Some q) s t
   next_here e = record {
     place = q;
@@ -50,7 +50,7 @@ module _ (laws : CommandLaws) (p : Statements) (q : Place) (s : Spot) (a : Place
   next_last e k = behind e ∙ ap (first_command p) k
 
   -- nothing stands in the statement behind it
-  pub next_empty : (b : Spot) (z : ℤ) (u : List ℕ) → is_over t s.at ≡ true → PlacesAre p (place_after p q.number) (Some b) → IsLineAt p b.statement z u → is_over u b.at ≡ true → next_command p (Some q) ≡ None
+  pub next_empty : (b : Location) (z : ℤ) (u : List ℕ) → is_over t s.at ≡ true → PlacesAre p (place_after p q.number) (Some b) → IsLineAt p b.statement z u → is_over u b.at ≡ true → next_command p (Some q) ≡ None
   next_empty b z u e a x o =
       let r = is_placed p (place_after p q.number) b a in
       let text = text_there p r.place b z u r.is x in
@@ -58,7 +58,7 @@ module _ (laws : CommandLaws) (p : Statements) (q : Place) (s : Spot) (a : Place
       (ap (λ (y : List ℕ). slice_get (commands y) r.place.index) (sym text) ∙ laws.at_none u r.place.index b.at (subst (λ (y : List ℕ). At y r.place.index b.at) (sym text) r.is.at) o)
 
   -- its first command is next
-  pub next_behind : (b : Spot) (z : ℤ) (u : List ℕ) → is_over t s.at ≡ true → PlacesAre p (place_after p q.number) (Some b) → IsLineAt p b.statement z u → is_over u b.at ≡ false → NextIs p (Some q) b u
+  pub next_behind : (b : Location) (z : ℤ) (u : List ℕ) → is_over t s.at ≡ true → PlacesAre p (place_after p q.number) (Some b) → IsLineAt p b.statement z u → is_over u b.at ≡ false → NextIs p (Some q) b u
   next_behind b z u e a x o =
       let r = is_placed p (place_after p q.number) b a in
       let text = text_there p r.place b z u r.is x in
@@ -93,7 +93,7 @@ same_number : (p : Statements) (i m n : ℕ) (t u : List ℕ) → slice_get p i 
 same_number p i m n t u e k = ap (λ (o : Option (ℕ × List ℕ)). elim o [ Some x ↦ x.0 | None ↦ m ]) (sym e ∙ k)
 
 -- in all states for which a machine stands the same command is next
-pub next_same : CommandLaws → (p : Statements) (q r : Option Place) (here : Spot) (t : List ℕ) (a : NextIs p q here t) (b : NextIs p r here t) → b.place ≡ a.place
+pub next_same : CommandLaws → (p : Statements) (q r : Option Place) (here : Location) (t : List ℕ) (a : NextIs p q here t) (b : NextIs p r here t) → b.place ≡ a.place
 next_same laws p q r here t a b =
     let number = same_number p here.statement b.place.number a.place.number _ _ b.is.statement a.is.statement in
     same_place b.place a.place number

@@ -14,11 +14,11 @@ use Rattle.ptb_expr.proofs.Readers.{success_reader, failure_reader}
 use Rattle.ptb_expr.specs.Laws.{ValueLaws}
 use Rattle.ptb_machine.specs.Commands.{Part, Assign, Say, Width, Show, NewLine, Take, Letter, Operand, Defect}
 use Rattle.ptb_machine.specs.State.{State}
-use Rattle.ptb_machine.specs.Courses.{Progress, Goes, Halts, Course, on_progress, and_then, goes_on, halt, show, work_course}
-use Rattle.ptb_machine.specs.Act.{newline, width_of, value_course, target_course, store, ask_for, store_or_again, input_course, parts_course}
+use Rattle.ptb_machine.specs.Actions.{Progress, Goes, Halts, Action, on_progress, and_then, goes_on, halt, show, work_action}
+use Rattle.ptb_machine.specs.Act.{newline, width_of, value_action, target_action, store, ask_for, store_or_again, input_action, parts_action}
 use Rattle.ptb_machine.specs.Questions.{part_questions, line_questions}
 use Rattle.ptb_machine.proofs.Budgets.{Budget, wider_budget, with_more, done_budget, then_budget}
-use Rattle.ptb_machine.proofs.Spending.{left_for, Spends, wider_spends, change_spends, goes_spends, halt_spends, then_spends, after_spends, work_course_spends, attempt_then, lines_cost, lines_cost-cons, later}
+use Rattle.ptb_machine.proofs.Spending.{left_for, Spends, wider_spends, change_spends, goes_spends, halt_spends, then_spends, after_spends, work_action_spends, attempt_then, lines_cost, lines_cost-cons, later}
 
 or_fault_reader : {A : Type 0} (r : Result A FaultKind) (m : ℕ) → IsReader (or_fault r m) 0
 or_fault_reader (Ok v) m = success_reader v 0
@@ -44,28 +44,28 @@ unfolding parts_questions
 parts_questions-cons part parts = sum_by-cons part_questions part parts
 
 module _ (values : ValueLaws) where
-  value_spends : (cost : State → ℕ) (x : Tree) → Spends cost (value_course x) (questions x)
-  value_spends cost x = work_course_spends cost (questions x) (λ c. value c x) (λ c. values.value_reads c x)
+  value_spends : (cost : State → ℕ) (x : Tree) → Spends cost (value_action x) (questions x)
+  value_spends cost x = work_action_spends cost (questions x) (λ c. value c x) (λ c. values.value_reads c x)
 
-  target_spends : (cost : State → ℕ) (x : Tree) → Spends cost (target_course x) (questions x)
-  target_spends cost x = work_course_spends cost (questions x) (λ c. target_of c x) (λ c. values.target_reads c x)
+  target_spends : (cost : State → ℕ) (x : Tree) → Spends cost (target_action x) (questions x)
+  target_spends cost x = work_action_spends cost (questions x) (λ c. target_of c x) (λ c. values.target_reads c x)
 
   ask_spends : (said : List ℕ) (x : Tree) (prompt : List ℕ) → Spends nothing (ask_for said x prompt) (questions x)
   unfolding nothing
   ask_spends said x prompt =
       after_spends nothing (show said) _ (questions x) (change_spends nothing 0 tt _ (λ S. omega arith)) (λ _.
       wider_spends nothing _ (questions x + 0) (questions x) (omega arith)
-      (then_spends nothing (target_course x) (λ at. and_then (show prompt) (λ _. goes_on at)) (questions x) 0 (target_spends nothing x) (λ at.
+      (then_spends nothing (target_action x) (λ at. and_then (show prompt) (λ _. goes_on at)) (questions x) 0 (target_spends nothing x) (λ at.
       after_spends nothing (show prompt) (λ _. goes_on at) 0 (change_spends nothing 0 tt _ (λ S. omega arith)) (λ _. goes_spends nothing 0 at))))
 
   module _ (again : ℕ) (said : List ℕ) (x : Tree) (prompt : List ℕ) (few : questions x ≤ again) where
-    stored_or_again : (ls : List (List ℕ)) (at : Target) (r : Result ℤ Fault) (S : State) → S.lines ≡ ls → ((T : State) → Budget (input_course said x prompt ls T) (questions x + lines_cost again ls) (left_for (later again))) → Budget (store_or_again at (input_course said x prompt ls) r S) (again + lines_cost again ls) (left_for (later again))
+    stored_or_again : (ls : List (List ℕ)) (at : Target) (r : Result ℤ Fault) (S : State) → S.lines ≡ ls → ((T : State) → Budget (input_action said x prompt ls T) (questions x + lines_cost again ls) (left_for (later again))) → Budget (store_or_again at (input_action said x prompt ls) r S) (again + lines_cost again ls) (left_for (later again))
     unfolding left_for later
     stored_or_again ls at (Ok v) S same others = done_budget _ _ _ (omega (arith, ap (lines_cost again) same))
     stored_or_again ls at (Err f) S same others = wider_budget _ _ _ _ _ (omega arith) (λ y. omega arith) (others _)
 
     -- the target is found, and what comes next may ask k questions more
-    after_ask : {B : Type 0} (next : Target → Course B) (k : ℕ) (S : State) → ((at : Target) (T : State) → Budget (next at T) k (left_for (later again))) → Budget (and_then (ask_for said x prompt) next S) (questions x + k) (left_for (later again))
+    after_ask : {B : Type 0} (next : Target → Action B) (k : ℕ) (S : State) → ((at : Target) (T : State) → Budget (next at T) k (left_for (later again))) → Budget (and_then (ask_for said x prompt) next S) (questions x + k) (left_for (later again))
     unfolding left_for nothing
     after_ask next k S each =
         then_budget (ask_for said x prompt S) (on_progress next) (questions x + k) (λ r. left_for nothing r + k) (left_for (later again))
@@ -76,14 +76,14 @@ module _ (values : ValueLaws) where
         on_each (Goes at T) = wider_budget _ _ _ _ _ (omega arith) (λ y. omega arith) (each at T)
         on_each (Halts h T) = done_budget _ _ _ (omega arith)
 
-    input_budget : (lines : List (List ℕ)) (S : State) → Budget (input_course said x prompt lines S) (questions x + lines_cost again lines) (left_for (later again))
-    unfolding input_course left_for line_value
+    input_budget : (lines : List (List ℕ)) (S : State) → Budget (input_action said x prompt lines S) (questions x + lines_cost again lines) (left_for (later again))
+    unfolding input_action left_for line_value
     input_budget [] S = after_ask (λ _. halt _) _ S (λ at T. done_budget _ _ _ (omega arith))
     input_budget (l ∷ ls) S =
         let others = input_budget ls in
         wider_budget _ (questions x + (line_questions l + (again + lines_cost again ls))) _ _ _ (omega (arith, lines_cost-cons again l ls)) (λ y. omega arith)
         (after_ask _ _ S (λ at T.
-        attempt_then (line_value l) (store_or_again at (input_course said x prompt ls)) _ (line_questions l) _ (left_for (later again)) (values.value_reads T.cells (item_of (expression l 0)))
+        attempt_then (line_value l) (store_or_again at (input_action said x prompt ls)) _ (line_questions l) _ (left_for (later again)) (values.value_reads T.cells (item_of (expression l 0)))
         (λ r. stored_or_again ls at r _ refl others)))
 
   module _ (again : ℕ) where
@@ -95,42 +95,42 @@ module _ (values : ValueLaws) where
     unfolding later
     store_spends at v = change_spends _ 0 tt _ (λ S. omega arith)
 
-    take_spends : (said : List ℕ) (x : Tree) (prompt : List ℕ) → questions x ≤ again → Spends (later again) (λ S. input_course said x prompt S.lines S) (questions x)
+    take_spends : (said : List ℕ) (x : Tree) (prompt : List ℕ) → questions x ≤ again → Spends (later again) (λ S. input_action said x prompt S.lines S) (questions x)
     unfolding later
     take_spends said x prompt few = record { at = λ S. input_budget again said x prompt few S.lines S }
 
-    width_spends : (v : ℤ) (m : ℕ) → Spends (later again) (work_course (λ _. or_fault (width_of v) m)) 0
-    width_spends v m = work_course_spends (later again) 0 (λ _. or_fault (width_of v) m) (λ _. or_fault_reader (width_of v) m)
+    width_spends : (v : ℤ) (m : ℕ) → Spends (later again) (work_action (λ _. or_fault (width_of v) m)) 0
+    width_spends v m = work_action_spends (later again) 0 (λ _. or_fault (width_of v) m) (λ _. or_fault_reader (width_of v) m)
 
     -- a part, and those behind it
-    part_and : {A : Type 0} (part : Part) (parts : List Part) (m : Course A) (next : A → Course (List ℤ)) → Spends (later again) m (part_questions part) → ((x : A) → Spends (later again) (next x) (parts_questions parts)) → Spends (later again) (and_then m next) (parts_questions (part ∷ parts))
+    part_and : {A : Type 0} (part : Part) (parts : List Part) (m : Action A) (next : A → Action (List ℤ)) → Spends (later again) m (part_questions part) → ((x : A) → Spends (later again) (next x) (parts_questions parts)) → Spends (later again) (and_then m next) (parts_questions (part ∷ parts))
     part_and part parts m next first others =
         wider_spends _ (and_then m next) (part_questions part + parts_questions parts) _ (omega (arith, parts_questions-cons part parts)) (then_spends _ m next _ _ first others)
 
     fewer : (part : Part) (parts : List Part) → parts_questions (part ∷ parts) ≤ again → (part_questions part ≤ again) × (parts_questions parts ≤ again)
     fewer part parts h = let e = parts_questions-cons part parts in (omega arith, omega arith)
 
-    pub parts_spends : (parts : List Part) (w : ℕ) (operands : List ℤ) → parts_questions parts ≤ again → Spends (later again) (parts_course parts w operands) (parts_questions parts)
-    unfolding parts_course
+    pub parts_spends : (parts : List Part) (w : ℕ) (operands : List ℤ) → parts_questions parts ≤ again → Spends (later again) (parts_action parts w operands) (parts_questions parts)
+    unfolding parts_action
     parts_spends [] w operands h = goes_spends _ _ operands
     parts_spends (Assign x y ∷ parts) w operands h =
         wider_spends _ _ (questions x + (questions y + parts_questions parts)) _ (omega (arith, parts_questions-cons (Assign x y) parts))
-        (then_spends _ (target_course x) _ _ _ (target_spends _ x) (λ at.
-        then_spends _ (value_course y) _ _ _ (value_spends _ y) (λ v.
+        (then_spends _ (target_action x) _ _ _ (target_spends _ x) (λ at.
+        then_spends _ (value_action y) _ _ _ (value_spends _ y) (λ v.
         after_spends _ (store at v) _ _ (store_spends at v) (λ _. parts_spends parts w operands (fewer (Assign x y) parts h).1))))
     parts_spends (Say s ∷ parts) w operands h = part_and (Say s) parts (show s) _ (show_spends s) (λ _. parts_spends parts w operands (fewer (Say s) parts h).1)
     parts_spends (Width x m ∷ parts) w operands h =
-        part_and (Width x m) parts (value_course x) _ (value_spends _ x) (λ v.
-        after_spends _ (work_course (λ _. or_fault (width_of v) m)) _ _ (width_spends v m) (λ u. parts_spends parts u operands (fewer (Width x m) parts h).1))
+        part_and (Width x m) parts (value_action x) _ (value_spends _ x) (λ v.
+        after_spends _ (work_action (λ _. or_fault (width_of v) m)) _ _ (width_spends v m) (λ u. parts_spends parts u operands (fewer (Width x m) parts h).1))
     parts_spends (Show x ∷ parts) w operands h =
-        part_and (Show x) parts (value_course x) _ (value_spends _ x) (λ v.
+        part_and (Show x) parts (value_action x) _ (value_spends _ x) (λ v.
         after_spends _ (show _) _ _ (show_spends _) (λ _. parts_spends parts w operands (fewer (Show x) parts h).1))
     parts_spends (NewLine ∷ parts) w operands h = part_and NewLine parts (show newline) _ (show_spends newline) (λ _. parts_spends parts w operands (fewer NewLine parts h).1)
     parts_spends (Take said x prompt ∷ parts) w operands h =
-        part_and (Take said x prompt) parts (λ S. input_course said x prompt S.lines S) _ (take_spends said x prompt (fewer (Take said x prompt) parts h).0)
+        part_and (Take said x prompt) parts (λ S. input_action said x prompt S.lines S) _ (take_spends said x prompt (fewer (Take said x prompt) parts h).0)
         (λ _. parts_spends parts w operands (fewer (Take said x prompt) parts h).1)
     parts_spends (Letter x ∷ parts) w operands h =
-        wider_spends _ (parts_course parts w operands) _ _ (omega (arith, parts_questions-cons (Letter x) parts)) (parts_spends parts w operands (fewer (Letter x) parts h).1)
+        wider_spends _ (parts_action parts w operands) _ _ (omega (arith, parts_questions-cons (Letter x) parts)) (parts_spends parts w operands (fewer (Letter x) parts h).1)
     parts_spends (Operand x ∷ parts) w operands h =
-        part_and (Operand x) parts (value_course x) _ (value_spends _ x) (λ v. parts_spends parts w (operands ++ v ∷ []) (fewer (Operand x) parts h).1)
+        part_and (Operand x) parts (value_action x) _ (value_spends _ x) (λ v. parts_spends parts w (operands ++ v ∷ []) (fewer (Operand x) parts h).1)
     parts_spends (Defect kind m ∷ parts) w operands h = halt_spends _ _ _

@@ -1,17 +1,17 @@
 -- This file proves for which places a machine's place stands.
 use Rattle.std.proofs.Common.{◌≡◌, Option, Some, None, refl}
 use Rattle.ptb_text.specs.Statements.{Statements}
-use Rattle.ptb_machine.specs.declared.spot.Spot.{Spot}
+use Rattle.ptb_machine.specs.declared.location.Location.{Location}
 use Rattle.ptb_machine.specs.State.{Place}
-use Rattle.ptb_machine.specs.Standing.{PlaceIs, PlacesAre}
+use Rattle.ptb_machine.specs.Representation.{PlaceIs, PlacesAre}
 
 -- the place for which a spot stands
-pub record IsPlaced (p : Statements) (o : Option Place) (s : Spot) : Type 0 where
+pub record IsPlaced (p : Statements) (o : Option Place) (s : Location) : Type 0 where
   pub place : Place
   pub there : o ≡ Some place
   pub is : PlaceIs p place s
 
-pub is_placed : (p : Statements) (o : Option Place) (s : Spot) → PlacesAre p o (Some s) → IsPlaced p o s
+pub is_placed : (p : Statements) (o : Option Place) (s : Location) → PlacesAre p o (Some s) → IsPlaced p o s
 is_placed p None s a = absurd a
 is_placed p (Some q) s a = record { place = q; there = refl; is = a }
 

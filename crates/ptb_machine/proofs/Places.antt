@@ -3,7 +3,7 @@ use Rattle.std.proofs.Common.{◌≡◌, ℕ, zero, suc, ◌+◌, Bool, true, fa
 use Rattle.std.specs.Option.{option_and_then}
 use Rattle.ptb_text.specs.Words.{is_over}
 use Rattle.ptb_text.specs.Finding.{FindingLaws}
-use Rattle.ptb_expr.specs.Reading.{Reading, Whole, Spoilt, item_of}
+use Rattle.ptb_expr.specs.Reading.{Reading, Whole, Malformed, item_of}
 use Rattle.ptb_expr.specs.Spells.{SpellingLaws}
 use Rattle.ptb_machine.specs.Items.{Round, Last, Onward, in_front, with_others, items}
 use Rattle.ptb_machine.specs.Commands.{Part, Command, command_at, next_begin, command_and, after_command, command_unless, command_round, commands_from, commands}
@@ -40,7 +40,7 @@ one_before (y ∷ xs) (suc k) x e = one_before xs k x e
 
 item_in_front : {X : Type 0} (x : X) (r : Reading (List X)) → item_of (in_front x r) ≡ x ∷ item_of r
 item_in_front x (Whole xs j) = refl
-item_in_front x (Spoilt xs) = refl
+item_in_front x (Malformed xs) = refl
 
 module _ (t : List ℕ) where
   -- a round that isn't over reads one command, and goes on or is the last
@@ -54,7 +54,7 @@ module _ (t : List ℕ) where
 
   command_reads : (c : Command) (r : Reading (List Part)) → Reads c (after_command t c r)
   command_reads c (Whole parts e) = begin_reads c e (next_begin c.kind t e)
-  command_reads c (Spoilt parts) = Ends refl
+  command_reads c (Malformed parts) = Ends refl
 
   round_over : (b : ℕ) → is_over t b ≡ true → command_round t b ≡ Last (Whole [] b)
   unfolding command_round

@@ -10,10 +10,10 @@ use Rattle.ptb_expr.proofs.Readers.{done_reader, then_reader_by, map_reader, wid
 use Rattle.ptb_expr.specs.Laws.{ValueLaws}
 use Rattle.ptb_machine.specs.Commands.{Command}
 use Rattle.ptb_machine.specs.State.{Place, State, first_state, text_of, next_command}
-use Rattle.ptb_machine.specs.Courses.{Faults, Ends, Progress, Goes, Halts}
-use Rattle.ptb_machine.specs.Act.{finish, end_of, letter_of, first_width, command_course, Deed, Next, Over, deed_of, with_step, act, parts_course}
+use Rattle.ptb_machine.specs.Actions.{Faults, Ends, Progress, Goes, Halts}
+use Rattle.ptb_machine.specs.Act.{finish, end_of, letter_of, first_width, command_action, StepResult, Next, Over, step_result_of, with_step, act, parts_action}
 use Rattle.ptb_machine.specs.Questions.{command_questions, line_questions, most_answers, answers_left}
-use Rattle.ptb_machine.specs.Play.{Finish, act_unless, turn_by, turn, after_deed, turns_within, turns, play}
+use Rattle.ptb_machine.specs.Play.{Finish, act_unless, turn_by, turn, after_step_result, turns_within, turns, play}
 use Rattle.ptb_machine.specs.Effects.{act_state, CommandChange}
 use Rattle.ptb_machine.proofs.Effects.{act_keeps}
 use Rattle.ptb_machine.proofs.Budgets.{Budget, wider_budget, done_budget, map_budget}
@@ -25,30 +25,30 @@ use Rattle.ptb_machine.proofs.ProgramQuestions.{program_rnds, next_questions}
 -- ---- turns
 
 -- after the last turn nothing is asked
-left_after : (State → ℕ) → Deed → ℕ
+left_after : (State → ℕ) → StepResult → ℕ
 left_after cost (Next S) = cost S
 left_after cost (Over ending S) = 0
 
 module _ (values : ValueLaws) where
   module _ (again : ℕ) where
-    command_spends : (p : Statements) (q : Place) (c : Command) → command_questions c ≤ again → Spends (later again) (command_course p q c) (command_questions c)
-    unfolding command_course parts_questions
+    command_spends : (p : Statements) (q : Place) (c : Command) → command_questions c ≤ again → Spends (later again) (command_action p q c) (command_questions c)
+    unfolding command_action parts_questions
     command_spends p q c h =
         wider_spends _ _ (command_questions c + 0) _ (omega arith)
-        (then_spends _ (parts_course (item_of c.parts) first_width []) (finish c.kind p q (end_of c.parts) (letter_of (item_of c.parts))) (command_questions c) 0
+        (then_spends _ (parts_action (item_of c.parts) first_width []) (finish c.kind p q (end_of c.parts) (letter_of (item_of c.parts))) (command_questions c) 0
         (parts_spends values again (item_of c.parts) first_width [] h) (finish_spends again c.kind p q (end_of c.parts) (letter_of (item_of c.parts))))
 
-    deed_left : (n : ℕ) (text : List ℕ) (r : Progress (Unit {0})) → left_after (later again) (deed_of n text r) ≤ left_for (later again) r
+    step_result_left : (n : ℕ) (text : List ℕ) (r : Progress (Unit {0})) → left_after (later again) (step_result_of n text r) ≤ left_for (later again) r
     unfolding left_after left_for
-    deed_left n text (Goes x S) = omega arith
-    deed_left n text (Halts (Faults f) S) = omega arith
-    deed_left n text (Halts (Ends ending) S) = omega arith
+    step_result_left n text (Goes x S) = omega arith
+    step_result_left n text (Halts (Faults f) S) = omega arith
+    step_result_left n text (Halts (Ends ending) S) = omega arith
 
     act_budget : (p : Statements) (q : Place) (c : Command) (S : State) → command_questions c ≤ again → Budget (act p q c S) (command_questions c + later again S) (left_after (later again))
     unfolding act later
     act_budget p q c S h =
-        map_budget (deed_of q.number (text_of p q.number)) (λ T. T) (command_course p q c (with_step S)) _ (left_after (later again))
-        (wider_budget _ _ _ (left_for (later again)) _ (omega arith) (deed_left q.number (text_of p q.number)) ((command_spends p q c h).at (with_step S)))
+        map_budget (step_result_of q.number (text_of p q.number)) (λ T. T) (command_action p q c (with_step S)) _ (left_after (later again))
+        (wider_budget _ _ _ (left_for (later again)) _ (omega arith) (step_result_left q.number (text_of p q.number)) ((command_spends p q c h).at (with_step S)))
 
     -- what the turns from a state on can cost
     turns_cost : ℕ → State → ℕ
@@ -74,14 +74,14 @@ module _ (values : ValueLaws) where
         let e = step_paid limit S l in
         record {
           reads = wider_reader (act p r.0 r.1 S) _ _ (omega arith) b.reads;
-          pays = λ q rest d e. by_deed q rest d e (b.pays q rest d e);
+          pays = λ q rest d e. by_step_result q rest d e (b.pays q rest d e);
         }
       where
-        by_deed : (q rest : Answers) (d : Deed) → act p r.0 r.1 S q ≡ Done d rest → length q + left_after (later again) d ≤ command_questions r.1 + later again S + length rest → length q + left_after (turns_cost limit) d ≤ turns_cost limit S + length rest
-        by_deed q rest (Next T) e u =
-            let c = subst (λ (o : Outcome Deed State). CommandChange (with_step S) (act_state o)) e (act_keeps p r.0 r.1 S q) in
+        by_step_result : (q rest : Answers) (d : StepResult) → act p r.0 r.1 S q ≡ Done d rest → length q + left_after (later again) d ≤ command_questions r.1 + later again S + length rest → length q + left_after (turns_cost limit) d ≤ turns_cost limit S + length rest
+        by_step_result q rest (Next T) e u =
+            let c = subst (λ (o : Outcome StepResult State). CommandChange (with_step S) (act_state o)) e (act_keeps p r.0 r.1 S q) in
             omega (arith, below_limit limit S T l c.steps)
-        by_deed q rest (Over ending T) e u = omega (arith, step_paid limit S l)
+        by_step_result q rest (Over ending T) e u = omega (arith, step_paid limit S l)
 
     unless_budget : (p : StoredProgram) (limit : ℕ) (r : Place × Command) (S : State) (b : Bool) → leb limit S.steps ≡ b → command_questions r.1 ≤ again → Budget (act_unless p r b S) (turns_cost limit S) (left_after (turns_cost limit))
     unfolding left_after
@@ -104,18 +104,18 @@ module _ (values : ValueLaws) where
 
     -- ---- runs
 
-    deed_reader : (others : State → Answers → Outcome Finish State) → ((T : State) → IsReader (others T) (cost_of T)) → (d : Deed) → IsReader (after_deed others d) (left_after cost_of d)
+    step_result_reader : (others : State → Answers → Outcome Finish State) → ((T : State) → IsReader (others T) (cost_of T)) → (d : StepResult) → IsReader (after_step_result others d) (left_after cost_of d)
     unfolding left_after
-    deed_reader others each (Next T) = each T
-    deed_reader others each (Over ending T) = done_reader _ _
+    step_result_reader others each (Next T) = each T
+    step_result_reader others each (Over ending T) = done_reader _ _
 
     within_reader : (n : ℕ) (S : State) → IsReader (turns_within n p limit S) (cost_of S)
     unfolding turns_within
     within_reader zero S = done_reader _ _
     within_reader (suc n) S =
         let b = turn_budget S in
-        then_reader_by (turn p limit S) (after_deed (turns_within n p limit)) (cost_of S) (cost_of S) (left_after cost_of) b.reads (omega arith) b.pays
-        (deed_reader (turns_within n p limit) (λ T. within_reader n T))
+        then_reader_by (turn p limit S) (after_step_result (turns_within n p limit)) (cost_of S) (cost_of S) (left_after cost_of) b.reads (omega arith) b.pays
+        (step_result_reader (turns_within n p limit) (λ T. within_reader n T))
 
     turns_reader : (S : State) → IsReader (turns p limit S) (cost_of S)
     unfolding turns

@@ -16,32 +16,32 @@ use Rattle.ptb_machine.specs.declared.fault.RunFault.TheVariants as faults
 use Rattle.ptb_machine.specs.declared.stop.DeviceError.{DeviceError}
 use Rattle.ptb_machine.specs.declared.stop.DeviceError.TheVariants as errors
 use Rattle.ptb_machine.specs.State.{State, first_state}
-use Rattle.ptb_machine.specs.Act.{Deed, Next, Over}
-use Rattle.ptb_machine.specs.Play.{Finish, finish_in, after_deed, turn, turns, play}
+use Rattle.ptb_machine.specs.Act.{StepResult, Next, Over}
+use Rattle.ptb_machine.specs.Play.{Finish, finish_in, after_step_result, turn, turns, play}
 use Rattle.ptb_machine.specs.Effects.{act_state, run_shown, run_steps, Begins}
 use Rattle.ptb_machine.specs.Devices.{Devices, Exchange, no_exchange, bytes_alone, both_exchanges, Exchanges, Refusal}
-use Rattle.ptb_machine.specs.Moves.{Leaves}
+use Rattle.ptb_machine.specs.Traces.{Leaves}
 use Rattle.ptb_machine.specs.Stops.{Waits, IsDry, Breaks}
 use Rattle.ptb_machine.specs.Configuration.{Configuration}
-use Rattle.ptb_machine.specs.Standing.{Stands}
+use Rattle.ptb_machine.specs.Representation.{Represents}
 use Rattle.ptb_machine.specs.Steps.{StepsTo, goes, ends, StepComes, Steps}
 use Rattle.ptb_machine.specs.Runs.{played_bytes, Plays, IsFinished, IsUnanswered, IsUnfinished, RunComes, Runs}
 use Rattle.ptb_machine.proofs.Effects.{begins_joined}
 use Rattle.ptb_machine.proofs.Exchanges.{exchanges_none, exchanges_then, has_broken_from}
-use Rattle.ptb_machine.proofs.Moves.{leaves_itself, leaves_then, leaves_to, leaves_under, leaves_at}
+use Rattle.ptb_machine.proofs.PartRefinement.{leaves_itself, leaves_then, leaves_to, leaves_under, leaves_at}
 use Rattle.ptb_machine.proofs.Stops.{out_before}
 use Rattle.ptb_machine.proofs.Turns.{turns_by_turn, turn_goes, turns_shown, turns_steps}
 
 -- ---- a turn, and the turns after it
 
 -- what is left of a turn, and then of the run
-abbrev pub then_turns : StoredProgram → ℕ → (State → Answers → Outcome Deed State) → State → Answers → Outcome Finish State
-then_turns p limit g S a = go_on (g S a) (after_deed (turns p limit))
+abbrev pub then_turns : StoredProgram → ℕ → (State → Answers → Outcome StepResult State) → State → Answers → Outcome Finish State
+then_turns p limit g S a = go_on (g S a) (after_step_result (turns p limit))
 
-turns_leave : (p : StoredProgram) (limit : ℕ) (S T : State) (g : State → Answers → Outcome Deed State) {ts : Answers} {bs : List ℤ} → Leaves (turn p limit S) ts bs (g T) → Leaves (turns p limit S) ts bs (then_turns p limit g T)
+turns_leave : (p : StoredProgram) (limit : ℕ) (S T : State) (g : State → Answers → Outcome StepResult State) {ts : Answers} {bs : List ℤ} → Leaves (turn p limit S) ts bs (g T) → Leaves (turns p limit S) ts bs (then_turns p limit g T)
 turns_leave p limit S T g {ts = ts} {bs = bs} l =
     subst (λ f. Leaves f ts bs (then_turns p limit g T)) (sym (fun_ext (turns_by_turn p limit S)))
-    (leaves_under (λ u. go_on u (after_deed (turns p limit))) (λ (U : State). U) (λ k U. refl) l)
+    (leaves_under (λ u. go_on u (after_step_result (turns p limit))) (λ (U : State). U) (λ k U. refl) l)
 
 -- devices after those of a step, which began with no lines given
 abbrev pub onto : Devices → Devices → Devices
@@ -59,28 +59,28 @@ RunsTo p limit m o input rest d g =
 abbrev pub HasRun : StoredProgram → ℕ → Configuration → Devices → Devices → Type 0
 HasRun p limit m o d = (input rest : List (List ℕ)) → input ≡ d.given ++ rest → RunsTo p limit m o input rest d (turns p limit)
 
-pub run_begins : (p : StoredProgram) (limit : ℕ) (m : Configuration) (o : Devices) → o.given ≡ [] → ((input : List (List ℕ)) → Stands p.lines m (first_state p input)) → HasRun p limit m o o
+pub run_begins : (p : StoredProgram) (limit : ℕ) (m : Configuration) (o : Devices) → o.given ≡ [] → ((input : List (List ℕ)) → Represents p.lines m (first_state p input)) → HasRun p limit m o o
 run_begins p limit m o none first input rest e = record {
   exchange = no_exchange;
   exchanges = exchanges_none o;
   leads = record {
     state = first_state p input;
     leaves = leaves_itself (turns p limit (first_state p input));
-    stands = first input;
+    represents = first input;
     shown = refl;
     lines = e ∙ ap (λ l. l ++ rest) none;
   };
 }
 
 -- where the run has come to a machine, its next turn leads it on
-run_then : (p : StoredProgram) (limit : ℕ) (m n : Configuration) (o d e : Devices) (input left rest : List (List ℕ)) (g : State → Answers → Outcome Deed State) (h : RunsTo p limit m o input left d (turns p limit)) → StepsTo p.lines n (record d { given = [] }) h.leads.state rest (turn p limit h.leads.state) e g → RunsTo p limit n o input rest (onto d e) (then_turns p limit g)
+run_then : (p : StoredProgram) (limit : ℕ) (m n : Configuration) (o d e : Devices) (input left rest : List (List ℕ)) (g : State → Answers → Outcome StepResult State) (h : RunsTo p limit m o input left d (turns p limit)) → StepsTo p.lines n (record d { given = [] }) h.leads.state rest (turn p limit h.leads.state) e g → RunsTo p limit n o input rest (onto d e) (then_turns p limit g)
 run_then p limit m n o d e input left rest g h s = record {
   exchange = both_exchanges h.exchange s.exchange;
   exchanges = exchanges_then h.exchanges (exchanges_onto d e s.exchange s.exchanges);
   leads = record {
     state = s.leads.state;
     leaves = leaves_then h.leads.leaves (turns_leave p limit h.leads.state s.leads.state g s.leads.leaves);
-    stands = s.leads.stands;
+    represents = s.leads.represents;
     shown = s.leads.shown ∙ ap (λ l. l ++ s.exchange.bytes) h.leads.shown;
     lines = s.leads.lines;
   };
@@ -131,7 +131,7 @@ played_shown (Asks k S) = refl
 played_shown (Out k S) = refl
 
 -- the turns after a turn show more
-more_shown : (p : StoredProgram) (limit : ℕ) (shown : List ℕ) (u : Outcome Deed State) → Begins shown (act_state u).shown → Begins shown (run_shown (go_on u (after_deed (turns p limit))))
+more_shown : (p : StoredProgram) (limit : ℕ) (shown : List ℕ) (u : Outcome StepResult State) → Begins shown (act_state u).shown → Begins shown (run_shown (go_on u (after_step_result (turns p limit))))
 more_shown p limit shown (Done (Next S) rest) b = begins_joined shown S.shown _ b (turns_shown p limit S rest)
 more_shown p limit shown (Done (Over e S) rest) b = b
 more_shown p limit shown (Asks k S) b = b
@@ -151,14 +151,14 @@ module _ (refused : Refusal → Type 0) (p : StoredProgram) (limit : ℕ) (m n :
   pub run_on : Steps refused p limit m n (record d { given = [] }) e (Ok None) → HasRun p limit n o (onto d e)
   run_on s input rest k =
       let b = before input rest k in
-      run_then p limit m n o d e input (e.given ++ rest) rest goes b (s b.leads.state rest b.leads.stands b.leads.lines)
+      run_then p limit m n o d e input (e.given ++ rest) rest goes b (s b.leads.state rest b.leads.represents b.leads.lines)
 
   pub run_falls : Steps refused p limit m n (record d { given = [] }) e (Ok None) → limit - n.steps < limit - m.steps
   run_falls s =
       let b = before ((d.given ++ e.given) ++ []) [] refl in
-      let x = s b.leads.state [] b.leads.stands b.leads.lines in
+      let x = s b.leads.state [] b.leads.represents b.leads.lines in
       let goes_on = turn_goes p limit b.leads.state x.leads.state (x.exchange.answers ++ []) [] (leaves_at x.leads.leaves []) in
-      omega (arith, goes_on.0, goes_on.1, b.leads.stands.steps, x.leads.stands.steps)
+      omega (arith, goes_on.0, goes_on.1, b.leads.represents.steps, x.leads.represents.steps)
 
   module _ (rest : List (List ℕ)) where
     abbrev whole : List (List ℕ)
@@ -168,10 +168,10 @@ module _ (refused : Refusal → Type 0) (p : StoredProgram) (limit : ℕ) (m n :
     b = before whole rest refl
 
     -- the last step has come to g, with devices that hold f
-    abbrev LastStep : Devices → (State → Answers → Outcome Deed State) → Type 0
+    abbrev LastStep : Devices → (State → Answers → Outcome StepResult State) → Type 0
     LastStep f g = StepsTo p.lines n (record d { given = [] }) b.leads.state rest (turn p limit b.leads.state) f g
 
-    last : (f : Devices) (g : State → Answers → Outcome Deed State) → LastStep f g → RunsTo p limit n o whole rest (onto d f) (then_turns p limit g)
+    last : (f : Devices) (g : State → Answers → Outcome StepResult State) → LastStep f g → RunsTo p limit n o whole rest (onto d f) (then_turns p limit g)
     last f g s = run_then p limit m n o d f whole (e.given ++ rest) rest g b s
 
     ended : (ending : Ending) → LastStep e (ends ending) → IsFinished refused p limit whole o (onto d e) ending
@@ -182,8 +182,8 @@ module _ (refused : Refusal → Type 0) (p : StoredProgram) (limit : ℕ) (m n :
       left = then_turns p limit w.left;
       bound = w.bound;
       comes = last e w.left w.comes;
-      asks = λ S. ap (λ u. go_on u (after_deed (turns p limit))) (w.asks S);
-      outside = λ S. out_before (λ u. go_on u (after_deed (turns p limit))) (λ (T : State). T) (λ k T. refl) (w.left S) w.bound S z (w.outside S);
+      asks = λ S. ap (λ u. go_on u (after_step_result (turns p limit))) (w.asks S);
+      outside = λ S. out_before (λ u. go_on u (after_step_result (turns p limit))) (λ (T : State). T) (λ k T. refl) (w.left S) w.bound S z (w.outside S);
       refusal = w.refusal;
       refuses = w.refuses;
     })
@@ -194,7 +194,7 @@ module _ (refused : Refusal → Type 0) (p : StoredProgram) (limit : ℕ) (m n :
         subst (λ (input : List (List ℕ)). IsFinished refused p limit input o (onto d e) endings.NoInput)
         (ap (λ l. (d.given ++ e.given) ++ l) none ∙ append-nil (d.given ++ e.given))
         (run_ends refused p limit n o (onto d e) whole rest endings.NoInput (then_turns p limit w.left) x
-        (λ a. ap (λ u. go_on u (after_deed (turns p limit))) (w.dry x.leads.state a (x.leads.lines ∙ none))))
+        (λ a. ap (λ u. go_on u (after_step_result (turns p limit))) (w.dry x.leads.state a (x.leads.lines ∙ none))))
 
     broken : (error : DeviceError) → Breaks refused LastStep e act_state error → IsUnfinished refused p limit whole o (onto d e) error
     broken error w =
@@ -237,10 +237,10 @@ module _ (refused : Refusal → Type 0) (p : StoredProgram) (limit : ℕ) (m n :
 
   -- it is over
   pub run_over : (ending : Ending) → Steps refused p limit m n (record d { given = [] }) e (Ok (Some ending)) → Runs refused p limit o (onto d e) (Ok ending)
-  run_over ending s rest = comes_ended rest ending (s (b rest).leads.state rest (b rest).leads.stands (b rest).leads.lines)
+  run_over ending s rest = comes_ended rest ending (s (b rest).leads.state rest (b rest).leads.represents (b rest).leads.lines)
 
   pub run_breaks : (fault : RunFault) → (fault ≡ faults.Spent → ⊥) → Steps refused p limit m n (record d { given = [] }) e (Err fault) → Runs refused p limit o (onto d e) (Err fault)
-  run_breaks fault fresh s rest = comes_broken rest fault fresh (s (b rest).leads.state rest (b rest).leads.stands (b rest).leads.lines)
+  run_breaks fault fresh s rest = comes_broken rest fault fresh (s (b rest).leads.state rest (b rest).leads.represents (b rest).leads.lines)
 
 -- ---- at the exits of the loop
 
@@ -256,6 +256,10 @@ runs_err refused p limit o n r e k h =
 
 pub steps_at : (refused : Refusal → Type 0) (p : StoredProgram) (limit : ℕ) (m n : Configuration) (o d : Devices) (x y : Option Ending) → x ≡ y → Steps refused p limit m n o d (Ok x) → Steps refused p limit m n o d (Ok y)
 steps_at refused p limit m n o d x y e s = subst (λ (z : Option Ending). Steps refused p limit m n o d (Ok z)) e s
+
+-- what a player of a program runs
+pub runs_of : (refused : Refusal → Type 0) (p q : StoredProgram) (limit : ℕ) (o n : Devices) (r : Result Ending RunFault) → q ≡ p → Runs refused q limit o n r → Runs refused p limit o n r
+runs_of refused p q limit o n r e x = subst (λ (z : StoredProgram). Runs refused z limit o n r) e x
 
 pub not_spent : (b : Bool) (fault : RunFault) → b ≡ false → (fault ≡ faults.Spent → b ≡ true) → fault ≡ faults.Spent → ⊥
 not_spent b fault e h k = false≢true (sym e ∙ h k)

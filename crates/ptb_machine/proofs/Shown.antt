@@ -11,18 +11,18 @@ use Rattle.ptb_machine.specs.declared.fault.ScreenFault.{ScreenFault}
 use Rattle.ptb_machine.specs.declared.fault.ScreenFault.TheVariants as screens
 use Rattle.ptb_machine.specs.declared.stop.DeviceError.{DeviceError}
 use Rattle.ptb_machine.specs.declared.stop.DeviceError.TheVariants as errors
-use Rattle.ptb_machine.specs.Courses.{goes_on, show}
+use Rattle.ptb_machine.specs.Actions.{goes_on, show}
 use Rattle.std.specs.Fmt.{signed_decimal}
 use Rattle.ptb_machine.specs.Act.{is_fresh, width_of, width_limit, padded_decimal}
 use Rattle.std.specs.Int.{FitsUnsignedBits}
 use Rattle.ptb_expr.specs.declared.fault.FaultKind.TheVariants.{How}
-use Rattle.ptb_machine.specs.Effects.{course_state}
+use Rattle.ptb_machine.specs.Effects.{action_state}
 use Rattle.ptb_machine.specs.Devices.{ScreenState, Devices, with_screen, bytes_alone, Shows, nothing_refused, HasBroken}
 use Rattle.ptb_machine.specs.declared.stop.Stop.{Stop}
-use Rattle.ptb_machine.specs.Moves.{Trace, trace, fresh_after, Moves}
-use Rattle.ptb_machine.specs.Stops.{stop_of_screen, Breaks, Stops, MovesTo, Comes}
+use Rattle.ptb_machine.specs.Traces.{Trace, trace, fresh_after, RefinesPart}
+use Rattle.ptb_machine.specs.Stops.{stop_of_screen, Breaks, Stops, RefinesPartTo, Comes}
 use Rattle.ptb_machine.proofs.Exchanges.{with_answers_nil}
-use Rattle.ptb_machine.proofs.Moves.{leaves_itself, leaves_to, moves_refl}
+use Rattle.ptb_machine.proofs.PartRefinement.{leaves_itself, leaves_to, refines_part_refl}
 
 -- ---- fresh transcripts
 
@@ -50,7 +50,7 @@ is_fresh-append shown (b ∷ bytes) =
 -- ---- showing
 
 module _ (old new : ScreenState) (d : Devices) (fresh : Bool) (cells : Cells) (bytes : List ℕ) where
-  pub shown : Shows old new bytes → (after : Bool) → after ≡ fresh_after fresh bytes → Moves (trace (with_screen old d) fresh cells) (trace (with_screen new d) after cells) (show bytes) (goes_on tt)
+  pub shown : Shows old new bytes → (after : Bool) → after ≡ fresh_after fresh bytes → RefinesPart (trace (with_screen old d) fresh cells) (trace (with_screen new d) after cells) (show bytes) (goes_on tt)
   shown s after e = record {
     exchange = bytes_alone bytes;
     exchanges = record { grown = sym (with_answers_nil d.choices); shows = s; given = sym (append-nil d.given) };
@@ -62,18 +62,18 @@ module _ (old new : ScreenState) (d : Devices) (fresh : Bool) (cells : Cells) (b
   }
 
   -- only a part was shown
-  part_shown : (n : ℕ) → Shows old new (take n bytes) → (e : DeviceError) → HasBroken nothing_refused old new e → Breaks nothing_refused (MovesTo (trace (with_screen old d) fresh cells) (trace (with_screen new d) fresh cells) (show bytes)) (with_screen new d) course_state e
+  part_shown : (n : ℕ) → Shows old new (take n bytes) → (e : DeviceError) → HasBroken nothing_refused old new e → Breaks nothing_refused (RefinesPartTo (trace (with_screen old d) fresh cells) (trace (with_screen new d) fresh cells) (show bytes)) (with_screen new d) action_state e
   part_shown n s e broken = record {
     left = show bytes;
     middle = with_screen old d;
     part = take n bytes;
-    comes = moves_refl (trace (with_screen old d) fresh cells) (show bytes);
+    comes = refines_part_refl (trace (with_screen old d) fresh cells) (show bytes);
     shows = record { grown = sym (with_answers_nil d.choices); shows = s; given = sym (append-nil d.given) };
     begins = λ S a. (drop n bytes, ap (λ l. S.shown ++ l) (sym (take-append-drop n bytes)) ∙ sym (append_assoc S.shown (take n bytes) (drop n bytes)));
     broken = broken;
   }
 
-  pub not_shown : TakesSome old.shown new.shown bytes → old.failures ≤ new.failures → new.borrow ≡ old.borrow → new.takes_memory ≡ old.takes_memory → (fault : ScreenFault) → (IsErrOf {T = Unit {0}} (Err fault) screens.Write → HasFailed old.failures new.failures) → (IsErrOf {T = Unit {0}} (Err fault) screens.Memory → IsTrue old.takes_memory) → Stops nothing_refused (MovesTo (trace (with_screen old d) fresh cells) (trace (with_screen new d) fresh cells) (show bytes)) (with_screen new d) (stop_of_screen fault)
+  pub not_shown : TakesSome old.shown new.shown bytes → old.failures ≤ new.failures → new.borrow ≡ old.borrow → new.takes_memory ≡ old.takes_memory → (fault : ScreenFault) → (IsErrOf {T = Unit {0}} (Err fault) screens.Write → HasFailed old.failures new.failures) → (IsErrOf {T = Unit {0}} (Err fault) screens.Memory → IsTrue old.takes_memory) → Stops nothing_refused (RefinesPartTo (trace (with_screen old d) fresh cells) (trace (with_screen new d) fresh cells) (show bytes)) (with_screen new d) (stop_of_screen fault)
   not_shown t later borrow memory screens.Write failed refused =
       part_shown t.0 (record { shown = t.2; later = later; same_borrow = borrow; same_memory = memory }) errors.Write (failed refl)
   not_shown t later borrow memory screens.Memory failed refused =

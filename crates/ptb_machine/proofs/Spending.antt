@@ -1,4 +1,4 @@
--- This file proves how courses that follow one another spend answers.
+-- This file proves how actions that follow one another spend answers.
 --     Spends cost m k      m asks k questions at most, beside what the states in which it begins and ends cost
 --     later again S        what the lines that a state has left can cost
 use Rattle.std.proofs.Common.{◌≡◌, ℕ, ◌+◌, ◌≤◌, List, ◌∷◌, Result, Ok, Err, refl, ap, arith}
@@ -9,21 +9,21 @@ use Rattle.ptb_expr.specs.Outcome.{Outcome, Done, Asks, Out, go_on, map_outcome,
 use Rattle.ptb_expr.specs.Store.{Cells}
 use Rattle.ptb_expr.specs.Value.{Work}
 use Rattle.ptb_machine.specs.State.{State}
-use Rattle.ptb_machine.specs.Courses.{Halt, Progress, Goes, Halts, Course, on_progress, and_then, goes_on, halt, change, attempt, or_halt, work_course}
+use Rattle.ptb_machine.specs.Actions.{Halt, Progress, Goes, Halts, Action, on_progress, and_then, goes_on, halt, change, attempt, or_halt, work_action}
 use Rattle.ptb_machine.specs.Questions.{line_questions}
 use Rattle.ptb_machine.proofs.Budgets.{Budget, same_budget, wider_budget, with_more, reader_budget, done_budget, then_budget, map_budget}
 
--- ---- courses that ask k questions at most, beside what the state in which they begin costs
+-- ---- actions that ask k questions at most, beside what the state in which they begin costs
 
 -- after a halt nothing is asked
 unfoldable pub left_for : {A : Type 0} → (State → ℕ) → Progress A → ℕ
 left_for cost (Goes x S) = cost S
 left_for cost (Halts halt S) = 0
 
-pub record Spends {A : Type 0} (cost : State → ℕ) (m : Course A) (k : ℕ) : Type 0 where
+pub record Spends {A : Type 0} (cost : State → ℕ) (m : Action A) (k : ℕ) : Type 0 where
   pub at : (S : State) → Budget (m S) (k + cost S) (left_for cost)
 
-pub wider_spends : {A : Type 0} (cost : State → ℕ) (m : Course A) (k j : ℕ) → k ≤ j → Spends cost m k → Spends cost m j
+pub wider_spends : {A : Type 0} (cost : State → ℕ) (m : Action A) (k j : ℕ) → k ≤ j → Spends cost m k → Spends cost m j
 wider_spends cost m k j h s = record { at = λ S. wider_budget (m S) _ _ _ _ (omega arith) (λ x. omega arith) (s.at S) }
 
 -- a state that costs no more is reached at once
@@ -38,7 +38,7 @@ pub halt_spends : {A : Type 0} (cost : State → ℕ) (k : ℕ) (h : Halt) → S
 unfolding left_for
 halt_spends cost k h = record { at = λ S. done_budget _ _ _ (omega arith) }
 
-pub then_spends : {A B : Type 0} (cost : State → ℕ) (m : Course A) (next : A → Course B) (k j : ℕ) → Spends cost m k → ((x : A) → Spends cost (next x) j) → Spends cost (and_then m next) (k + j)
+pub then_spends : {A B : Type 0} (cost : State → ℕ) (m : Action A) (next : A → Action B) (k j : ℕ) → Spends cost m k → ((x : A) → Spends cost (next x) j) → Spends cost (and_then m next) (k + j)
 unfolding left_for
 then_spends cost m next k j first each = record {
   at = λ S.
@@ -51,8 +51,8 @@ then_spends cost m next k j first each = record {
     on_each (Goes x T) = wider_budget (next x T) _ _ _ _ (omega arith) (λ y. omega arith) ((each x).at T)
     on_each (Halts h T) = done_budget _ _ _ (omega arith)
 
--- the same where the first course asks nothing
-pub after_spends : {A B : Type 0} (cost : State → ℕ) (m : Course A) (next : A → Course B) (k : ℕ) → Spends cost m 0 → ((x : A) → Spends cost (next x) k) → Spends cost (and_then m next) k
+-- the same where the first action asks nothing
+pub after_spends : {A B : Type 0} (cost : State → ℕ) (m : Action A) (next : A → Action B) (k : ℕ) → Spends cost m 0 → ((x : A) → Spends cost (next x) k) → Spends cost (and_then m next) k
 after_spends cost m next k first each = wider_spends cost (and_then m next) (0 + k) k (omega arith) (then_spends cost m next 0 k first each)
 
 pub attempt_spends : {A : Type 0} (cost : State → ℕ) (k : ℕ) (m : Cells → Work A) → ((c : Cells) → IsReader (m c) k) → Spends cost (attempt m) k
@@ -63,11 +63,11 @@ pub or_halt_spends : {A : Type 0} (cost : State → ℕ) (r : Result A Fault) �
 or_halt_spends cost (Ok v) = goes_spends cost 0 v
 or_halt_spends cost (Err f) = halt_spends cost 0 _
 
-pub work_course_spends : {A : Type 0} (cost : State → ℕ) (k : ℕ) (m : Cells → Work A) → ((c : Cells) → IsReader (m c) k) → Spends cost (work_course m) k
-work_course_spends cost k m reads = wider_spends cost (work_course m) (k + 0) k (omega arith) (then_spends cost (attempt m) or_halt k 0 (attempt_spends cost k m reads) (or_halt_spends cost))
+pub work_action_spends : {A : Type 0} (cost : State → ℕ) (k : ℕ) (m : Cells → Work A) → ((c : Cells) → IsReader (m c) k) → Spends cost (work_action m) k
+work_action_spends cost k m reads = wider_spends cost (work_action m) (k + 0) k (omega arith) (then_spends cost (attempt m) or_halt k 0 (attempt_spends cost k m reads) (or_halt_spends cost))
 
 -- what is worked out changes nothing, so what comes next begins in the same state
-pub attempt_then : {A B : Type 0} (m : Cells → Work A) (next : Result A Fault → Course B) (S : State) (k j : ℕ) (left : Progress B → ℕ) → IsReader (m S.cells) k → ((r : Result A Fault) → Budget (next r S) j left) → Budget (and_then (attempt m) next S) (k + j) left
+pub attempt_then : {A B : Type 0} (m : Cells → Work A) (next : Result A Fault → Action B) (S : State) (k j : ℕ) (left : Progress B → ℕ) → IsReader (m S.cells) k → ((r : Result A Fault) → Budget (next r S) j left) → Budget (and_then (attempt m) next S) (k + j) left
 attempt_then m next S k j left reads each =
     same_budget (and_then (attempt m) next S) (λ a. go_on (map_outcome (λ r. r) (λ _. S) (m S.cells a)) (λ r. next r S)) (k + j) left (λ a. same (m S.cells a))
     (then_budget _ (λ r. next r S) (k + j) (λ _. j) left (map_budget (λ r. r) (λ _. S) (m S.cells) (k + j) (λ _. j) (reader_budget (m S.cells) k j reads)) each)

@@ -5,8 +5,8 @@ use Rattle.ptb_text.specs.Statements.{StoredProgram}
 use Rattle.ptb_expr.specs.Outcome.{Answers, Outcome, Done, Asks, Out, go_on}
 use Rattle.ptb_machine.specs.Commands.{Command}
 use Rattle.ptb_machine.specs.State.{Place, State, next_command}
-use Rattle.ptb_machine.specs.Act.{Deed, Next, Over, with_step}
-use Rattle.ptb_machine.specs.Play.{Finish, act_unless, turn_by, turn, after_deed, turns_within, turns}
+use Rattle.ptb_machine.specs.Act.{StepResult, Next, Over, with_step}
+use Rattle.ptb_machine.specs.Play.{Finish, act_unless, turn_by, turn, after_step_result, turns_within, turns}
 use Rattle.ptb_machine.specs.Effects.{act_state, run_shown, run_steps, Begins, CommandChange, TurnChange}
 use Rattle.ptb_machine.proofs.Effects.{begins_itself, begins_joined, act_keeps}
 
@@ -34,7 +34,7 @@ turn_change p limit S a = by_change p limit (next_command p.lines S.place) S a
 unless_goes : (p : StoredProgram) (limit : ℕ) (r : Place × Command) (S T : State) (a rest : Answers) (b : Bool) → leb limit S.steps ≡ b → act_unless p r b S a ≡ Done (Next T) rest → (S.steps < limit) × (T.steps ≡ S.steps + 1)
 unless_goes p limit r S T a rest true h e = absurd cc
 unless_goes p limit r S T a rest false h e =
-    (leb-false limit S.steps h, (subst (λ (o : Outcome Deed State). CommandChange (with_step S) (act_state o)) e (act_keeps p.lines r.0 r.1 S a)).steps)
+    (leb-false limit S.steps h, (subst (λ (o : Outcome StepResult State). CommandChange (with_step S) (act_state o)) e (act_keeps p.lines r.0 r.1 S a)).steps)
 
 by_goes : (p : StoredProgram) (limit : ℕ) (o : Option (Place × Command)) (S T : State) (a rest : Answers) → turn_by p limit o S a ≡ Done (Next T) rest → (S.steps < limit) × (T.steps ≡ S.steps + 1)
 by_goes p limit None S T a rest e = absurd cc
@@ -47,7 +47,7 @@ turn_goes p limit S T a rest e = by_goes p limit (next_command p.lines S.place) 
 -- ---- runs
 
 -- two ways to go on agree after a turn if they agree where it goes on
-go_on_same : (f g : State → Answers → Outcome Finish State) (o : Outcome Deed State) → ((T : State) (rest : Answers) → o ≡ Done (Next T) rest → f T rest ≡ g T rest) → go_on o (after_deed f) ≡ go_on o (after_deed g)
+go_on_same : (f g : State → Answers → Outcome Finish State) (o : Outcome StepResult State) → ((T : State) (rest : Answers) → o ≡ Done (Next T) rest → f T rest ≡ g T rest) → go_on o (after_step_result f) ≡ go_on o (after_step_result g)
 go_on_same f g (Done (Next T) rest) same = same T rest refl
 go_on_same f g (Done (Over ending T) rest) same = refl
 go_on_same f g (Asks n T) same = refl
@@ -67,14 +67,14 @@ unfolding turns
 enough_turns n p limit S a h = turns_within_same n (suc (limit - S.steps)) p limit S a h (omega arith)
 
 -- a run is one turn, and then the turns after it
-pub turns_by_turn : (p : StoredProgram) (limit : ℕ) (S : State) (a : Answers) → turns p limit S a ≡ go_on (turn p limit S a) (after_deed (turns p limit))
+pub turns_by_turn : (p : StoredProgram) (limit : ℕ) (S : State) (a : Answers) → turns p limit S a ≡ go_on (turn p limit S a) (after_step_result (turns p limit))
 unfolding turns turns_within
 turns_by_turn p limit S a =
     go_on_same (turns_within (limit - S.steps) p limit) (turns p limit) (turn p limit S a)
     (λ T rest e. let g = turn_goes p limit S T a rest e in turns_within_same (limit - S.steps) (suc (limit - T.steps)) p limit T rest (omega (arith, g.0, g.1)) (omega arith))
 
 -- what is shown only grows
-after_shown : (f : State → Answers → Outcome Finish State) (limit : ℕ) (S : State) (o : Outcome Deed State) → TurnChange limit S (act_state o) → ((T : State) (rest : Answers) → Begins T.shown (run_shown (f T rest))) → Begins S.shown (run_shown (go_on o (after_deed f)))
+after_shown : (f : State → Answers → Outcome Finish State) (limit : ℕ) (S : State) (o : Outcome StepResult State) → TurnChange limit S (act_state o) → ((T : State) (rest : Answers) → Begins T.shown (run_shown (f T rest))) → Begins S.shown (run_shown (go_on o (after_step_result f)))
 after_shown f limit S (Done (Next T) rest) c others = begins_joined S.shown T.shown _ c.shown (others T rest)
 after_shown f limit S (Done (Over ending T) rest) c others = c.shown
 after_shown f limit S (Asks n T) c others = c.shown
@@ -90,7 +90,7 @@ unfolding turns
 turns_shown p limit S a = within_shown (suc (limit - S.steps)) p limit S a
 
 -- no more commands are begun than the limit says
-after_steps : (f : State → Answers → Outcome Finish State) (limit : ℕ) (S : State) (o : Outcome Deed State) → S.steps ≤ limit → TurnChange limit S (act_state o) → ((T : State) (rest : Answers) → T.steps ≤ limit → run_steps (f T rest) ≤ limit) → run_steps (go_on o (after_deed f)) ≤ limit
+after_steps : (f : State → Answers → Outcome Finish State) (limit : ℕ) (S : State) (o : Outcome StepResult State) → S.steps ≤ limit → TurnChange limit S (act_state o) → ((T : State) (rest : Answers) → T.steps ≤ limit → run_steps (f T rest) ≤ limit) → run_steps (go_on o (after_step_result f)) ≤ limit
 after_steps f limit S (Done (Next T) rest) h c others = others T rest (c.steps h)
 after_steps f limit S (Done (Over ending T) rest) h c others = c.steps h
 after_steps f limit S (Asks n T) h c others = c.steps h

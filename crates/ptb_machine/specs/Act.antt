@@ -1,5 +1,5 @@
 -- This file defines what a command does.
---     parts_course parts w operands    the parts of a command, one after the other
+--     parts_action parts w operands    the parts of a command, one after the other
 --     finish kind p q ..               what a command does once its parts are done
 --     act p q c                        a whole command, whose fault is reported
 use Rattle.std.specs.Prelude.{ℕ, ◌+◌, ◌-◌, Bool, true, false, not, ◌||◌, ◌==◌, nat_le, if◌then◌else◌, List, [], ◌∷◌, ◌++◌, length, take, drop, filter, replicate, slice_index, Option, Some, None, is_some, Result, Ok, Err, ℤ, pos, negsuc, neg_ℤ, ◌+ℤ◌, int_lt, codes, decimal}
@@ -16,23 +16,23 @@ use Rattle.ptb_expr.specs.declared.store.Target.{Target}
 use Rattle.ptb_expr.specs.Outcome.{Answers, Outcome, map_outcome}
 use Rattle.ptb_expr.specs.Store.{value_at, with_value}
 use Rattle.ptb_expr.specs.Tree.{Tree}
-use Rattle.ptb_expr.specs.Reading.{Reading, Whole, Spoilt, item_of, expression}
+use Rattle.ptb_expr.specs.Reading.{Reading, Whole, Malformed, item_of, expression}
 use Rattle.ptb_expr.specs.Value.{fault, or_fault, in_range, value, target_of, with_target}
 use Rattle.ptb_machine.specs.declared.ending.Ending.{Ending}
 use Rattle.ptb_machine.specs.declared.ending.Ending.TheVariants as endings
 use Rattle.ptb_machine.specs.Commands.{Part, Assign, Say, Width, Show, NewLine, Take, Letter, Operand, Defect, Command}
 use Rattle.ptb_machine.specs.State.{Place, Loop, Call, State, nesting, nesting_limit, beginning_of, place_after, next_index, text_of}
-use Rattle.ptb_machine.specs.Courses.{Faults, Ends, Progress, Goes, Halts, Course, and_then, goes_on, halt, change, show, attempt, work_course}
+use Rattle.ptb_machine.specs.Actions.{Faults, Ends, Progress, Goes, Halts, Action, and_then, goes_on, halt, change, show, attempt, work_action}
 
 -- ---- values
 
-abbrev pub value_course : Tree → Course ℤ
-value_course x = work_course (λ c. value c x)
+abbrev pub value_action : Tree → Action ℤ
+value_action x = work_action (λ c. value c x)
 
-abbrev pub target_course : Tree → Course Target
-target_course x = work_course (λ c. target_of c x)
+abbrev pub target_action : Tree → Action Target
+target_action x = work_action (λ c. target_of c x)
 
-abbrev pub store : Target → ℤ → Course (Unit {0})
+abbrev pub store : Target → ℤ → Action (Unit {0})
 store at v = change (λ S. record S { cells = with_target S.cells at v })
 
 -- ---- PRINT
@@ -65,45 +65,49 @@ word_of kinds.How = codes "HOW?"
 word_of kinds.Sorry = codes "SORRY"
 
 -- a line is taken and shown
-abbrev pub take_line : List ℕ → List (List ℕ) → Course (Unit {0})
+abbrev pub take_line : List ℕ → List (List ℕ) → Action (Unit {0})
 take_line l ls = change (λ S. record S { lines = ls; shown = S.shown ++ l ++ newline })
 
 -- the string is shown, the target is found, and the prompt is shown
-abbrev pub ask_for : List ℕ → Tree → List ℕ → Course Target
+abbrev pub ask_for : List ℕ → Tree → List ℕ → Action Target
 ask_for said x prompt =
-    and_then (show said) (λ _. and_then (target_course x) (λ at. and_then (show prompt) (λ _. goes_on at)))
+    and_then (show said) (λ _. and_then (target_action x) (λ at. and_then (show prompt) (λ _. goes_on at)))
 
 -- a value goes into the variable; for a fault its word is shown, and the item starts over
-abbrev pub store_or_again : Target → Course (Unit {0}) → Result ℤ Fault → Course (Unit {0})
+abbrev pub store_or_again : Target → Action (Unit {0}) → Result ℤ Fault → Action (Unit {0})
 store_or_again at again (Ok v) = store at v
 store_or_again at again (Err f) = and_then (show (word_of f.kind ++ newline)) (λ _. again)
 
 -- an item of INPUT, over the lines that are left: a line's beginning is read as an expression
-unfoldable pub input_course : List ℕ → Tree → List ℕ → List (List ℕ) → Course (Unit {0})
-input_course said x prompt [] = and_then (ask_for said x prompt) (λ _. halt (Ends endings.NoInput))
-input_course said x prompt (l ∷ ls) =
+unfoldable pub input_action : List ℕ → Tree → List ℕ → List (List ℕ) → Action (Unit {0})
+input_action said x prompt [] = and_then (ask_for said x prompt) (λ _. halt (Ends endings.NoInput))
+input_action said x prompt (l ∷ ls) =
     and_then (ask_for said x prompt) (λ at.
     and_then (take_line l ls) (λ _.
-    and_then (attempt (λ c. value c (item_of (expression l 0)))) (store_or_again at (input_course said x prompt ls))))
+    and_then (attempt (λ c. value c (item_of (expression l 0)))) (store_or_again at (input_action said x prompt ls))))
 
 -- ---- parts
 
 -- the parts in order, from a width on and with the values of the operands so far; all these values
-unfoldable pub parts_course : List Part → ℕ → List ℤ → Course (List ℤ)
-parts_course [] w operands = goes_on operands
-parts_course (Assign x y ∷ parts) w operands =
-    and_then (target_course x) (λ at. and_then (value_course y) (λ v. and_then (store at v) (λ _. parts_course parts w operands)))
-parts_course (Say s ∷ parts) w operands = and_then (show s) (λ _. parts_course parts w operands)
-parts_course (Width x m ∷ parts) w operands =
-    and_then (value_course x) (λ v. and_then (work_course (λ _. or_fault (width_of v) m)) (λ u. parts_course parts u operands))
-parts_course (Show x ∷ parts) w operands =
-    and_then (value_course x) (λ v. and_then (show (padded_decimal w v)) (λ _. parts_course parts w operands))
-parts_course (NewLine ∷ parts) w operands = and_then (show newline) (λ _. parts_course parts w operands)
-parts_course (Take said x prompt ∷ parts) w operands =
-    and_then (λ S. input_course said x prompt S.lines S) (λ _. parts_course parts w operands)
-parts_course (Letter x ∷ parts) w operands = parts_course parts w operands
-parts_course (Operand x ∷ parts) w operands = and_then (value_course x) (λ v. parts_course parts w (operands ++ v ∷ []))
-parts_course (Defect kind m ∷ parts) w operands = halt (Faults (fault kind m))
+unfoldable pub parts_action : List Part → ℕ → List ℤ → Action (List ℤ)
+parts_action [] w operands = goes_on operands
+parts_action (Assign x y ∷ parts) w operands =
+    and_then (target_action x) (λ at. and_then (value_action y) (λ v. and_then (store at v) (λ _. parts_action parts w operands)))
+parts_action (Say s ∷ parts) w operands = and_then (show s) (λ _. parts_action parts w operands)
+parts_action (Width x m ∷ parts) w operands =
+    and_then (value_action x) (λ v. and_then (work_action (λ _. or_fault (width_of v) m)) (λ u. parts_action parts u operands))
+parts_action (Show x ∷ parts) w operands =
+    and_then (value_action x) (λ v. and_then (show (padded_decimal w v)) (λ _. parts_action parts w operands))
+parts_action (NewLine ∷ parts) w operands = and_then (show newline) (λ _. parts_action parts w operands)
+parts_action (Take said x prompt ∷ parts) w operands =
+    and_then (λ S. input_action said x prompt S.lines S) (λ _. parts_action parts w operands)
+parts_action (Letter x ∷ parts) w operands = parts_action parts w operands
+parts_action (Operand x ∷ parts) w operands = and_then (value_action x) (λ v. parts_action parts w (operands ++ v ∷ []))
+parts_action (Defect kind m ∷ parts) w operands = halt (Faults (fault kind m))
+
+-- all parts of a command, with the width at the start and no operands yet
+abbrev pub action_of : List Part → Action (List ℤ)
+action_of parts = parts_action parts first_width []
 
 -- ---- what a command does with its operands
 
@@ -114,16 +118,16 @@ abbrev pub letter_of : List Part → ℕ
 letter_of (Letter x ∷ parts) = x
 letter_of _ = 0
 
--- the place after a command's parts; it is not looked at where these are spoilt
+-- the place after a command's parts; it is not looked at where these are malformed
 abbrev pub end_of : Reading (List Part) → ℕ
 end_of (Whole parts e) = e
-end_of (Spoilt parts) = 0
+end_of (Malformed parts) = 0
 
-abbrev pub fails : FaultKind → ℕ → Course (Unit {0})
+abbrev pub fails : FaultKind → ℕ → Action (Unit {0})
 fails kind m = halt (Faults (fault kind m))
 
 -- the run goes on at a place
-abbrev pub go_to : Option Place → Course (Unit {0})
+abbrev pub go_to : Option Place → Action (Unit {0})
 go_to q = change (λ S. record S { place = q })
 
 -- the beginning of the statement of a number, if there is one
@@ -135,7 +139,7 @@ abbrev pub is_full : State → Bool
 is_full S = nat_le nesting_limit (nesting S)
 
 -- where there is no room for one more loop or call, SORRY
-abbrev pub if_room : ℕ → (State → State) → Course (Unit {0})
+abbrev pub if_room : ℕ → (State → State) → Action (Unit {0})
 if_room e f S a = if is_full S then fails kinds.Sorry e S a else change f S a
 
 -- ---- IF, GOTO, GOSUB and RETURN
@@ -145,22 +149,22 @@ abbrev pub if_place : Statements → Place → Bool → Option Place
 if_place p q true = place_after p q.number
 if_place p q false = Some (next_index q)
 
-abbrev pub goto_course : ℕ → Option Place → Course (Unit {0})
-goto_course e (Some r) = go_to (Some r)
-goto_course e None = fails kinds.How e
+abbrev pub goto_action : ℕ → Option Place → Action (Unit {0})
+goto_action e (Some r) = go_to (Some r)
+goto_action e None = fails kinds.How e
 
 -- a new level, without loops
 abbrev pub with_call : Place → Place → State → State
 with_call back r S = record S { place = Some r; loops = []; calls = record { back = back; loops = S.loops } ∷ S.calls }
 
-abbrev pub gosub_course : ℕ → Place → Option Place → Course (Unit {0})
-gosub_course e back (Some r) = if_room e (with_call back r)
-gosub_course e back None = fails kinds.How e
+abbrev pub gosub_action : ℕ → Place → Option Place → Action (Unit {0})
+gosub_action e back (Some r) = if_room e (with_call back r)
+gosub_action e back None = fails kinds.How e
 
 -- the newest level ends, its loops with it
-abbrev pub return_course : ℕ → List Call → Course (Unit {0})
-return_course e [] = fails kinds.What e
-return_course e (c ∷ calls) = change (λ S. record S { place = Some c.back; loops = c.loops; calls = calls })
+abbrev pub return_action : ℕ → List Call → Action (Unit {0})
+return_action e [] = fails kinds.What e
+return_action e (c ∷ calls) = change (λ S. record S { place = Some c.back; loops = c.loops; calls = calls })
 
 -- ---- FOR and NEXT
 
@@ -172,8 +176,8 @@ abbrev pub with_loop : Loop → State → State
 with_loop loop S = record S { place = Some loop.back; loops = loop ∷ S.loops }
 
 -- an open loop of the same variable is removed first
-abbrev pub for_course : ℕ → Loop → Course (Unit {0})
-for_course e loop = and_then (change (without_loop loop.letter)) (λ _. if_room e (with_loop loop))
+abbrev pub for_action : ℕ → Loop → Action (Unit {0})
+for_action e loop = and_then (change (without_loop loop.letter)) (λ _. if_room e (with_loop loop))
 
 -- the loops from that of the variable on
 abbrev pub loops_from : ℕ → List Loop → List Loop
@@ -200,30 +204,30 @@ after_sum next l ls (Ok v) S =
     if is_past l v then loop_end next ls T else loop_turn l ls T
 
 -- newer loops than that of the variable end
-abbrev pub next_course : ℕ → Place → List Loop → Course (Unit {0})
-next_course e next [] = fails kinds.What e
-next_course e next (l ∷ ls) =
+abbrev pub next_action : ℕ → Place → List Loop → Action (Unit {0})
+next_action e next [] = fails kinds.What e
+next_action e next (l ∷ ls) =
     change (λ S. after_sum next l ls (in_range (neg_ℤ (pos 32768)) (value_at S.cells l.letter +ℤ l.step)) S)
 
 -- ---- all commands
 
 -- p is the program, q the command's place, and e the place after its parts
-unfoldable pub finish : Word → Statements → Place → ℕ → ℕ → List ℤ → Course (Unit {0})
+unfoldable pub finish : Word → Statements → Place → ℕ → ℕ → List ℤ → Action (Unit {0})
 finish RemKw p q e x operands = go_to (place_after p q.number)
 finish StopKw p q e x operands = halt (Ends endings.Stop)
-finish ReturnKw p q e x operands = λ S. return_course e S.calls S
+finish ReturnKw p q e x operands = λ S. return_action e S.calls S
 finish IfKw p q e x operands = go_to (if_place p q (int_eq (operand operands 0) (pos 0)))
-finish GotoKw p q e x operands = goto_course e (statement p (operand operands 0))
-finish GosubKw p q e x operands = gosub_course e (next_index q) (statement p (operand operands 0))
+finish GotoKw p q e x operands = goto_action e (statement p (operand operands 0))
+finish GosubKw p q e x operands = gosub_action e (next_index q) (statement p (operand operands 0))
 finish ForKw p q e x operands =
-    for_course e (record { letter = x; limit = operand operands 0; step = operand operands 1; back = next_index q })
-finish NextKw p q e x operands = λ S. next_course e (next_index q) (loops_from x S.loops) S
+    for_action e (record { letter = x; limit = operand operands 0; step = operand operands 1; back = next_index q })
+finish NextKw p q e x operands = λ S. next_action e (next_index q) (loops_from x S.loops) S
 finish _ p q e x operands = go_to (Some (next_index q))
 
 -- the parts, and then the command
-unfoldable pub command_course : Statements → Place → Command → Course (Unit {0})
-command_course p q c =
-    and_then (parts_course (item_of c.parts) first_width []) (finish c.kind p q (end_of c.parts) (letter_of (item_of c.parts)))
+unfoldable pub command_action : Statements → Place → Command → Action (Unit {0})
+command_action p q c =
+    and_then (action_of (item_of c.parts)) (finish c.kind p q (end_of c.parts) (letter_of (item_of c.parts)))
 
 -- ---- faults
 
@@ -244,22 +248,22 @@ ending_of kinds.Sorry = endings.Sorry
 
 -- ---- a step of a run
 
-pub data Deed : Type 0 where
+pub data StepResult : Type 0 where
   -- the run goes on
-  Next : (S : State) → Deed
+  Next : (S : State) → StepResult
   -- the run is over
-  Over : (ending : Ending) (S : State) → Deed
+  Over : (ending : Ending) (S : State) → StepResult
 
 -- a fault is reported with its statement
-abbrev pub deed_of : ℕ → List ℕ → Progress (Unit {0}) → Deed
-deed_of n text (Goes x S) = Next S
-deed_of n text (Halts (Faults f) S) = Over (ending_of f.kind) (record S { shown = S.shown ++ report_bytes (is_fresh S.shown) n text f })
-deed_of n text (Halts (Ends ending) S) = Over ending S
+abbrev pub step_result_of : ℕ → List ℕ → Progress (Unit {0}) → StepResult
+step_result_of n text (Goes x S) = Next S
+step_result_of n text (Halts (Faults f) S) = Over (ending_of f.kind) (record S { shown = S.shown ++ report_bytes (is_fresh S.shown) n text f })
+step_result_of n text (Halts (Ends ending) S) = Over ending S
 
 -- a command that begins is a step
 abbrev pub with_step : State → State
 with_step S = record S { steps = S.steps + 1 }
 
 -- the command c, whose place is q
-unfoldable pub act : Statements → Place → Command → State → Answers → Outcome Deed State
-act p q c S a = map_outcome (deed_of q.number (text_of p q.number)) (λ T. T) (command_course p q c (with_step S) a)
+unfoldable pub act : Statements → Place → Command → State → Answers → Outcome StepResult State
+act p q c S a = map_outcome (step_result_of q.number (text_of p q.number)) (λ T. T) (command_action p q c (with_step S) a)

@@ -12,7 +12,7 @@ use Rattle.ptb_text.specs.Words.{past_blanks, is_over, word_at, token_at, letter
 use Rattle.ptb_expr.specs.declared.fault.FaultKind.{FaultKind}
 use Rattle.ptb_expr.specs.declared.fault.FaultKind.TheVariants.{What}
 use Rattle.ptb_expr.specs.Tree.{Tree, Num, Var, Bad}
-use Rattle.ptb_expr.specs.Reading.{Reading, Whole, Spoilt, item_of, after, map_reading, expression, variable_tree}
+use Rattle.ptb_expr.specs.Reading.{Reading, Whole, Malformed, item_of, after, map_reading, expression, variable_tree}
 use Rattle.ptb_machine.specs.Items.{Round, Last, Onward, in_front, items}
 
 pub data Part : Type 0 where
@@ -33,7 +33,7 @@ pub data Part : Type 0 where
   -- a part that must stand there and doesn't, or something that mustn't
   Defect : (kind : FaultKind) (mark : ℕ) → Part
 
--- the parts are spoilt where one of them is, and nothing is read after it; else the place after them is known
+-- the parts are malformed where one of them is, and nothing is read after it; else the place after them is known
 pub record Command : Type 0 where
   pub kind : Word
   pub parts : Reading (List Part)
@@ -46,7 +46,7 @@ at_end t i = is_over t i || is_some (token_at 59 t i)
 
 -- something else than what must stand at i
 abbrev pub defect : ℕ → Reading (List Part)
-defect i = Spoilt (Defect What i ∷ [])
+defect i = Malformed (Defect What i ∷ [])
 
 -- a command ends at i
 abbrev pub end_check : List ℕ → ℕ → Reading (List Part)
@@ -68,16 +68,16 @@ after_part t part i None = Last (in_front part (end_check t i))
 -- parts with commas between them
 abbrev pub comma_round : List ℕ → Reading Part → Round Part
 comma_round t (Whole part i) = after_part t part i (token_at 44 t i)
-comma_round t (Spoilt part) = Last (Spoilt (part ∷ []))
+comma_round t (Malformed part) = Last (Malformed (part ∷ []))
 
 -- ---- LET
 
 -- after the variable, which ends at i: `=` and the value
 abbrev pub value_part : List ℕ → Tree → ℕ → Option ℕ → Reading Part
 value_part t x i (Some j) = map_reading (Assign x) (expression t j)
-value_part t x i None = Spoilt (Assign x (Bad What i))
+value_part t x i None = Malformed (Assign x (Bad What i))
 
--- V=E; where the variable is spoilt no value is looked at
+-- V=E; where the variable is malformed no value is looked at
 unfoldable pub assignment : List ℕ → ℕ → Reading Part
 assignment t i = after (variable_tree t i) (λ x. Assign x (Bad What i)) (λ x j. value_part t x j (token_at 61 t j))
 
@@ -94,7 +94,7 @@ string_at t i = or_quotation (token_at 95 t i) (quotation_at t i)
 
 abbrev pub string_or_value : List ℕ → ℕ → Quotation → Reading Part
 string_or_value t i (QuotedText s j) = Whole (Say s) j
-string_or_value t i OpenQuote = Spoilt (Defect What i)
+string_or_value t i OpenQuote = Malformed (Defect What i)
 string_or_value t i NoQuote = map_reading Show (expression t i)
 
 abbrev pub width_or : List ℕ → ℕ → Option ℕ → Reading Part
@@ -116,7 +116,7 @@ after_item t part i None = Last (in_front part (in_front NewLine (end_check t i)
 
 abbrev pub item_round : List ℕ → Reading Part → Round Part
 item_round t (Whole part i) = after_item t part i (token_at 44 t i)
-item_round t (Spoilt part) = Last (Spoilt (part ∷ []))
+item_round t (Malformed part) = Last (Malformed (part ∷ []))
 
 abbrev pub print_parts_if : List ℕ → ℕ → Bool → Reading (List Part)
 print_parts_if t i true = Whole (NewLine ∷ []) i
@@ -139,7 +139,7 @@ source t i j = reverse (trim_start (reverse (slice_range t (past_blanks t i) j))
 -- a variable, whose source is its prompt
 abbrev pub variable_item : List ℕ → ℕ → Bool → Reading Part
 variable_item t i true = after (variable_tree t i) (λ x. Take [] x []) (λ x j. Whole (Take [] x (source t i j ++ 58 ∷ [])) j)
-variable_item t i false = Spoilt (Defect What i)
+variable_item t i false = Malformed (Defect What i)
 
 -- a string, and a variable where one stands behind it
 abbrev pub string_item : List ℕ → List ℕ → ℕ → Bool → Reading Part
@@ -148,7 +148,7 @@ string_item t s j false = Whole (Say s) j
 
 abbrev pub input_item_by : List ℕ → ℕ → Quotation → Reading Part
 input_item_by t i (QuotedText s j) = string_item t s j (variable_begins t j)
-input_item_by t i OpenQuote = Spoilt (Defect What i)
+input_item_by t i OpenQuote = Malformed (Defect What i)
 input_item_by t i NoQuote = variable_item t i (variable_begins t i)
 
 unfoldable pub input_item : List ℕ → ℕ → Reading Part
@@ -166,7 +166,7 @@ step_parts t i = step_by t i (word_at Step t i)
 
 abbrev pub limit_by : List ℕ → ℕ → Option (Word × ℕ) → Reading (List Part)
 limit_by t i (Some w) = part_and Operand (expression t w.1) (step_parts t)
-limit_by t i None = Spoilt (Operand (Bad What i) ∷ [])
+limit_by t i None = Malformed (Operand (Bad What i) ∷ [])
 
 -- after the first value: TO and the limit
 unfoldable pub limit_parts : List ℕ → ℕ → Reading (List Part)
@@ -175,7 +175,7 @@ limit_parts t i = limit_by t i (word_at To t i)
 -- after the variable, which ends at i: `=` and the first value
 abbrev pub first_parts : List ℕ → ℕ → ℕ → Option ℕ → Reading (List Part)
 first_parts t x i (Some j) = part_and (Assign (Var x)) (expression t j) (limit_parts t)
-first_parts t x i None = Spoilt (Assign (Var x) (Bad What i) ∷ [])
+first_parts t x i None = Malformed (Assign (Var x) (Bad What i) ∷ [])
 
 abbrev pub for_by : List ℕ → ℕ → Option (ℕ × ℕ) → Reading (List Part)
 for_by t i (Some x) = in_front (Letter x.0) (first_parts t x.0 x.1 (token_at 61 t x.1))
@@ -231,13 +231,13 @@ command_and c e None = Last (Whole (c ∷ []) e)
 
 abbrev pub after_command : List ℕ → Command → Reading (List Part) → Round Command
 after_command t c (Whole parts e) = command_and c e (next_begin c.kind t e)
-after_command t c (Spoilt parts) = Last (Spoilt (c ∷ []))
+after_command t c (Malformed parts) = Last (Malformed (c ∷ []))
 
 abbrev pub command_unless : List ℕ → ℕ → Bool → Round Command
 command_unless t i true = Last (Whole [] i)
 command_unless t i false = after_command t (command_at t i) (command_at t i).parts
 
--- behind the last command, or a spoilt one, nothing more is read
+-- behind the last command, or a malformed one, nothing more is read
 unfoldable pub command_round : List ℕ → ℕ → Round Command
 command_round t i = command_unless t i (is_over t i)
 

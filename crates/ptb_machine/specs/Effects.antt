@@ -1,5 +1,5 @@
 -- This file defines what a command may change of the state in which it begins.
---     course_state o, act_state o      the state in which a course, or a whole command, goes on, halts or asks
+--     action_state o, act_state o      the state in which an action, or a whole command, goes on, halts or asks
 --     run_shown o, run_steps o         what a run has shown, and how many commands it has begun, where it is over or asks
 --     Begins shown all                 all of it begins with what is shown
 --     PartChange S T                   what the parts of a command may change
@@ -9,8 +9,8 @@
 use Rattle.std.specs.Prelude.{◌≡◌, ℕ, ◌≤◌, List, ◌++◌}
 use Rattle.ptb_expr.specs.Outcome.{Outcome, Done, Asks, Out}
 use Rattle.ptb_machine.specs.State.{State, nesting, nesting_limit}
-use Rattle.ptb_machine.specs.Courses.{Progress, Goes, Halts}
-use Rattle.ptb_machine.specs.Act.{Deed, Next, Over}
+use Rattle.ptb_machine.specs.Actions.{Progress, Goes, Halts}
+use Rattle.ptb_machine.specs.Act.{StepResult, Next, Over}
 use Rattle.ptb_machine.specs.Play.{Finish}
 
 -- ---- where an outcome stands
@@ -19,17 +19,17 @@ abbrev pub progress_state : {A : Type 0} → Progress A → State
 progress_state (Goes x S) = S
 progress_state (Halts halt S) = S
 
-abbrev pub course_state : {A : Type 0} → Outcome (Progress A) State → State
-course_state (Done r rest) = progress_state r
-course_state (Asks n S) = S
-course_state (Out n S) = S
+abbrev pub action_state : {A : Type 0} → Outcome (Progress A) State → State
+action_state (Done r rest) = progress_state r
+action_state (Asks n S) = S
+action_state (Out n S) = S
 
-abbrev pub deed_state : Deed → State
-deed_state (Next S) = S
-deed_state (Over ending S) = S
+abbrev pub step_result_state : StepResult → State
+step_result_state (Next S) = S
+step_result_state (Over ending S) = S
 
-abbrev pub act_state : Outcome Deed State → State
-act_state (Done d rest) = deed_state d
+abbrev pub act_state : Outcome StepResult State → State
+act_state (Done d rest) = step_result_state d
 act_state (Asks n S) = S
 act_state (Out n S) = S
 

@@ -5,7 +5,7 @@
 use Rattle.std.specs.Prelude.{◌≡◌, ℕ, zero, suc, ◌≤◌, List, [], ◌∷◌, length}
 use Rattle.ptb_text.specs.Words.{past_blanks}
 use Rattle.ptb_text.specs.Finding.{LiesAhead}
-use Rattle.ptb_expr.specs.Reading.{Reading, Whole, Spoilt}
+use Rattle.ptb_expr.specs.Reading.{Reading, Whole, Malformed}
 
 -- what is read at a place: the last items, or one item and the place at which the next is read
 pub data Round (X : Type 0) : Type 0 where
@@ -15,7 +15,7 @@ pub data Round (X : Type 0) : Type 0 where
 -- an item, and those after it
 abbrev pub in_front : {X : Type 0} → X → Reading (List X) → Reading (List X)
 in_front x (Whole xs j) = Whole (x ∷ xs) j
-in_front x (Spoilt xs) = Spoilt (x ∷ xs)
+in_front x (Malformed xs) = Malformed (x ∷ xs)
 
 -- what a round reads, with what is read after it
 abbrev pub with_others : {X : Type 0} → (ℕ → Reading (List X)) → Round X → Reading (List X)
@@ -24,7 +24,7 @@ with_others others (Onward x j) = in_front x (others j)
 
 -- at most n rounds
 unfoldable pub items_within : {X : Type 0} → ℕ → (ℕ → Round X) → ℕ → Reading (List X)
-items_within zero round i = Spoilt []
+items_within zero round i = Malformed []
 items_within (suc n) round i = with_others (items_within n round) (round i)
 
 -- a round that goes on takes a byte, so a text has no more rounds than bytes, and one

@@ -1,6 +1,6 @@
 -- This file states the laws of commands and runs.
 --     CommandLaws      how the parts of a command and the commands of a statement follow one another
---     EffectLaws       what courses, commands, turns and runs may change
+--     EffectLaws       what actions, commands, turns and runs may change
 --     RunLaws          how a run goes on
 use Rattle.std.specs.Prelude.{◌≡◌, ℕ, ◌+◌, ◌-◌, ◌<◌, ◌≤◌, true, false, List, [], ◌∷◌, length, Some, None, slice_get, ℤ}
 use Rattle.ptb_text.specs.declared.word.Word.{Word}
@@ -13,10 +13,10 @@ use Rattle.ptb_machine.specs.Items.{Round, Last, Onward, with_others, items_with
 use Rattle.ptb_machine.specs.Commands.{Part, Command, comma_round, assignment, print_item, item_round, input_item, parts_of, command_at, command_round, commands_from, commands}
 use Rattle.ptb_machine.specs.Places.{At, begin_of, commands_after}
 use Rattle.ptb_machine.specs.State.{State, Place, first_state, nesting, nesting_limit}
-use Rattle.ptb_machine.specs.Act.{Next, input_course, parts_course, finish, command_course, with_step, act}
-use Rattle.ptb_machine.specs.Play.{turn, after_deed, turns_within, turns, play}
+use Rattle.ptb_machine.specs.Act.{Next, input_action, parts_action, finish, command_action, with_step, act}
+use Rattle.ptb_machine.specs.Play.{turn, after_step_result, turns_within, turns, play}
 use Rattle.ptb_machine.specs.Questions.{most_answers, answers_left}
-use Rattle.ptb_machine.specs.Effects.{course_state, act_state, run_shown, run_steps, Begins, PartChange, EndChange, CommandChange, TurnChange}
+use Rattle.ptb_machine.specs.Effects.{action_state, act_state, run_shown, run_steps, Begins, PartChange, EndChange, CommandChange, TurnChange}
 
 -- ---- parts and commands
 
@@ -75,16 +75,16 @@ pub record CommandLaws : Type 0 where
 pub record EffectLaws : Type 0 where
   pub input :
       (said : List ℕ) (x : Tree) (prompt : List ℕ) (lines : List (List ℕ)) (S : State) (a : Answers)
-      → PartChange S (course_state (input_course said x prompt lines S a))
+      → PartChange S (action_state (input_action said x prompt lines S a))
   pub parts :
       (parts : List Part) (w : ℕ) (operands : List ℤ) (S : State) (a : Answers)
-      → PartChange S (course_state (parts_course parts w operands S a))
+      → PartChange S (action_state (parts_action parts w operands S a))
   pub end :
       (kind : Word) (p : Statements) (q : Place) (e x : ℕ) (operands : List ℤ) (S : State) (a : Answers)
-      → EndChange S (course_state (finish kind p q e x operands S a))
+      → EndChange S (action_state (finish kind p q e x operands S a))
   pub command :
       (p : Statements) (q : Place) (c : Command) (S : State) (a : Answers)
-      → CommandChange S (course_state (command_course p q c S a))
+      → CommandChange S (action_state (command_action p q c S a))
   pub step :
       (p : Statements) (q : Place) (c : Command) (S : State) (a : Answers)
       → CommandChange (with_step S) (act_state (act p q c S a))
@@ -106,7 +106,7 @@ pub record RunLaws : Type 0 where
   -- a run is one turn, and then the turns after it
   pub by_turn :
       (p : StoredProgram) (limit : ℕ) (S : State) (a : Answers)
-      → turns p limit S a ≡ go_on (turn p limit S a) (after_deed (turns p limit))
+      → turns p limit S a ≡ go_on (turn p limit S a) (after_step_result (turns p limit))
   pub enough_turns :
       (n : ℕ) (p : StoredProgram) (limit : ℕ) (S : State) (a : Answers) → limit - S.steps < n
       → turns_within n p limit S a ≡ turns p limit S a

@@ -9,20 +9,20 @@ use Rattle.ptb_machine.specs.declared.ending.Ending.{Ending}
 use Rattle.ptb_machine.specs.declared.ending.Ending.TheVariants as endings
 use Rattle.ptb_machine.specs.Commands.{Command}
 use Rattle.ptb_machine.specs.State.{State, Place, first_state, next_command}
-use Rattle.ptb_machine.specs.Act.{Deed, Next, Over, act}
+use Rattle.ptb_machine.specs.Act.{StepResult, Next, Over, act}
 
 -- ---- turns
 
-abbrev pub act_unless : StoredProgram → Place × Command → Bool → State → Answers → Outcome Deed State
+abbrev pub act_unless : StoredProgram → Place × Command → Bool → State → Answers → Outcome StepResult State
 act_unless p r true S a = Done (Over endings.Limit S) a
 act_unless p r false S a = act p.lines r.0 r.1 S a
 
-abbrev pub turn_by : StoredProgram → ℕ → Option (Place × Command) → State → Answers → Outcome Deed State
+abbrev pub turn_by : StoredProgram → ℕ → Option (Place × Command) → State → Answers → Outcome StepResult State
 turn_by p limit None S a = Done (Over endings.End S) a
 turn_by p limit (Some r) S a = act_unless p r (nat_le limit S.steps) S a
 
 -- a run ends where no command is next, or where the steps are the limit or more; else a command is done
-unfoldable pub turn : StoredProgram → ℕ → State → Answers → Outcome Deed State
+unfoldable pub turn : StoredProgram → ℕ → State → Answers → Outcome StepResult State
 turn p limit S a = turn_by p limit (next_command p.lines S.place) S a
 
 -- ---- runs
@@ -37,14 +37,14 @@ abbrev pub finish_in : Ending → State → Finish
 finish_in ending S = record { ending = ending; steps = S.steps; shown = S.shown }
 
 -- the run goes on, or is over
-abbrev pub after_deed : (State → Answers → Outcome Finish State) → Deed → Answers → Outcome Finish State
-after_deed others (Next S) rest = others S rest
-after_deed others (Over ending S) rest = Done (finish_in ending S) rest
+abbrev pub after_step_result : (State → Answers → Outcome Finish State) → StepResult → Answers → Outcome Finish State
+after_step_result others (Next S) rest = others S rest
+after_step_result others (Over ending S) rest = Done (finish_in ending S) rest
 
 -- at most n turns
 unfoldable pub turns_within : ℕ → StoredProgram → ℕ → State → Answers → Outcome Finish State
 turns_within zero p limit S a = Done (finish_in endings.Limit S) a
-turns_within (suc n) p limit S a = go_on (turn p limit S a) (after_deed (turns_within n p limit))
+turns_within (suc n) p limit S a = go_on (turn p limit S a) (after_step_result (turns_within n p limit))
 
 -- each turn after which a run goes on is a step below the limit, so there are no more turns than these
 unfoldable pub turns : StoredProgram → ℕ → State → Answers → Outcome Finish State

@@ -1,18 +1,15 @@
 -- This file defines what the readers of a statement give.
 --     IsRead t i r j       what was read at place i is whole, and j, which lies ahead, is the place after it
 --     IsClosed t i r j     the same of the parts of a command that ends at j
---     IsLiteral t i l      the string, or the `_`, that stands at i
 --     Follows t i j        behind a command that ends at i the next one begins at j
 --     IsFirstWord t i word j     the word with which a command begins, and the place after it
 use Rattle.std.specs.Prelude.{◌≡◌, ◌≤◌, ◌⊎◌, ℕ, true, List, length, Some, None}
 use Rattle.ptb_text.specs.declared.word.Word.{Word}
-use Rattle.ptb_text.specs.Words.{token_at, NoQuote, OpenQuote, QuotedText}
+use Rattle.ptb_text.specs.Words.{token_at}
 use Rattle.ptb_text.specs.Finding.{LiesAhead}
 use Rattle.ptb_expr.specs.Reading.{Reading}
 use Rattle.ptb_expr.specs.Evaluate.{IsWhole}
-use Rattle.ptb_machine.specs.declared.tokens.Literal.{Literal}
-use Rattle.ptb_machine.specs.declared.tokens.Literal.TheVariants as literals
-use Rattle.ptb_machine.specs.Commands.{Part, at_end, string_at, parts_of, command_of, command_at}
+use Rattle.ptb_machine.specs.Commands.{Part, at_end, parts_of, command_of, command_at}
 
 pub record IsRead {A : Type 0} (t : List ℕ) (i : ℕ) (r : Reading A) (j : ℕ) : Type 0 where
   pub whole : IsWhole r j
@@ -23,11 +20,6 @@ pub record IsClosed (t : List ℕ) (i : ℕ) (r : Reading (List Part)) (j : ℕ)
   pub from : i ≤ j
   pub within : j ≤ length t
   pub ends : at_end t j ≡ true
-
-abbrev pub IsLiteral : List ℕ → ℕ → Literal → Type 0
-IsLiteral t i literals.Absent = string_at t i ≡ NoQuote
-IsLiteral t i literals.Unclosed = string_at t i ≡ OpenQuote
-IsLiteral t i (literals.Text s j) = (string_at t i ≡ QuotedText s.now j) × LiesAhead t i j
 
 -- j is the place of the command behind one that ends at i: after `;`, or there
 abbrev pub Follows : List ℕ → ℕ → ℕ → Type 0

@@ -17,7 +17,7 @@ use Rattle.ptb_machine.specs.declared.stop.DeviceError.TheVariants as errors
 use Rattle.ptb_machine.specs.Play.{Finish, play}
 use Rattle.ptb_machine.specs.Effects.{Begins}
 use Rattle.ptb_machine.specs.Devices.{Devices, Exchange, Exchanges, Refusal, Unanswered, NoLine, HasBroken}
-use Rattle.ptb_machine.specs.Moves.{Leaves}
+use Rattle.ptb_machine.specs.Traces.{Leaves}
 
 abbrev pub played_bytes : Outcome Finish (List ℕ) → List ℕ
 played_bytes (Done f rest) = f.shown

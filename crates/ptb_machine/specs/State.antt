@@ -4,6 +4,7 @@
 use Rattle.std.specs.Prelude.{ℕ, ◌+◌, List, [], length, Option, Some, None, unwrap_or, ℤ, pos, sum_by, slice_get, option_map}
 use Rattle.ptb_text.specs.Statements.{Statements, StoredProgram, text_at, first_number, number_after, size_of}
 use Rattle.ptb_expr.specs.Store.{Cells, empty_cells}
+use Rattle.ptb_machine.specs.declared.stack.TheConstants.{NESTING_LIMIT}
 use Rattle.ptb_machine.specs.Commands.{Command, commands}
 
 -- a statement's number, and the index of one of its commands; at the count of its commands the next statement is meant
@@ -40,7 +41,7 @@ nesting S = length S.loops + sum_by (λ c. length c.loops + 1) S.calls
 
 -- how many may be open together
 abbrev pub nesting_limit : ℕ
-nesting_limit = 64
+nesting_limit = NESTING_LIMIT
 
 -- ---- places
 

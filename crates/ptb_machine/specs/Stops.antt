@@ -20,10 +20,10 @@ use Rattle.ptb_machine.specs.declared.stop.DeviceError.TheVariants as errors
 use Rattle.ptb_machine.specs.declared.stop.Stop.{Stop}
 use Rattle.ptb_machine.specs.declared.stop.Stop.TheVariants as stops
 use Rattle.ptb_machine.specs.State.{State}
-use Rattle.ptb_machine.specs.Courses.{Faults, Ends, Halts, Course, halt}
-use Rattle.ptb_machine.specs.Effects.{course_state, Begins}
+use Rattle.ptb_machine.specs.Actions.{Faults, Ends, Halts, Action, halt}
+use Rattle.ptb_machine.specs.Effects.{action_state, Begins}
 use Rattle.ptb_machine.specs.Devices.{Devices, bytes_alone, Exchanges, Refusal, Unanswered, NoLine, HasBroken}
-use Rattle.ptb_machine.specs.Moves.{Trace, trace, Moves}
+use Rattle.ptb_machine.specs.Traces.{Trace, trace, RefinesPart}
 
 abbrev pub stop_of_screen : ScreenFault → Stop
 stop_of_screen screens.Write = stops.Broke errors.Write
@@ -82,20 +82,20 @@ module _ {A : Type 0} (refused : Refusal → Type 0) (R : Devices → (State →
     pub begins : (S : State) (a : Answers) → Begins (S.shown ++ part) (state (left S a)).shown
     pub broken : HasBroken refused middle.screen n.screen e
 
-abbrev pub Stops : {A : Type 0} → (Refusal → Type 0) → (Devices → Course A → Type 0) → Devices → Stop → Type 0
+abbrev pub Stops : {A : Type 0} → (Refusal → Type 0) → (Devices → Action A → Type 0) → Devices → Stop → Type 0
 Stops refused R n (stops.Fault f) = R n (halt (Faults f))
 Stops refused R n stops.Ended = R n (halt (Ends endings.Stop))
 Stops refused R n stops.NoInput = IsDry refused R n (Halts (Ends endings.NoInput))
 Stops refused R n (stops.Pause z) = Waits refused R n z
-Stops refused R n (stops.Broke e) = Breaks refused R n course_state e
+Stops refused R n (stops.Broke e) = Breaks refused R n action_state e
 
 -- ---- where it comes to
 
--- from trace o, f has come to a course; the trace is then n, with these devices
-abbrev pub MovesTo : {A : Type 0} → Trace → Trace → Course A → Devices → Course A → Type 0
-MovesTo o n f d g = Moves o (trace d n.fresh n.cells) f g
+-- from trace o, f has come to an action; the trace is then n, with these devices
+abbrev pub RefinesPartTo : {A : Type 0} → Trace → Trace → Action A → Devices → Action A → Type 0
+RefinesPartTo o n f d g = RefinesPart o (trace d n.fresh n.cells) f g
 
 -- at Ok, to what is left to do with its value
-abbrev pub Comes : {A X : Type 0} → (Refusal → Type 0) → Trace → Trace → Course A → (X → Course A) → Result X Stop → Type 0
-Comes refused o n f ok (Ok x) = Moves o n f (ok x)
-Comes refused o n f ok (Err e) = Stops refused (MovesTo o n f) n.devices e
+abbrev pub Comes : {A X : Type 0} → (Refusal → Type 0) → Trace → Trace → Action A → (X → Action A) → Result X Stop → Type 0
+Comes refused o n f ok (Ok x) = RefinesPart o n f (ok x)
+Comes refused o n f ok (Err e) = Stops refused (RefinesPartTo o n f) n.devices e

@@ -2,46 +2,38 @@
 //!
 //! It stands on `ptb_expr`, `ptb_text`, `arrayvec`, `itoa` and `thiserror`. The crate above may
 //! rely on `Machine::step` (one turn of `specs/Play`: the state after it, what it shows, the lines
-//! and answers it takes), on `run` (all turns), on `run_laws` (answers are taken one by one, a
-//! limited number of them), and on `read_lines`.
+//! and answers it takes), on `Player::step` (the same, sooner where a command was done before), on
+//! `run` (all turns), on `run_laws` (answers are taken one by one, a limited number of them), and
+//! on `read_lines`.
 #![tactic(auto)]
 
-mod acting;
-mod assign;
-mod cache;
-mod calls;
+mod commands;
 mod cutter;
-mod decoding;
 mod ending;
-mod executing;
 mod fault;
-mod input;
-mod instruction;
-mod jumps;
+mod io;
+mod kept;
 mod laws;
-mod levels;
 mod lines;
-mod loops;
+mod location;
 mod machine;
 mod next;
-mod open;
-mod print;
+mod reads;
 mod registers;
 mod report;
 mod rows;
 mod running;
 mod screen;
 mod showing;
-mod spot;
+mod stack;
 mod statements;
-mod stepping;
 mod stop;
-mod tokens;
-mod values;
+mod stop_result;
 mod whole_input;
 
 pub use ending::Ending;
 pub use fault::{ReadFault, RunFault, ScreenFault};
+pub use kept::Player;
 pub use laws::{command_laws, effect_laws, ending_laws, run_laws};
 pub use lines::{Line, LineSource, Lines};
 pub use machine::Machine;

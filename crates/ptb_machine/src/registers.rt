@@ -1,30 +1,38 @@
-// This file says what a machine holds.
+// This file has the registers, which are what commands change: where the run stands, what is stored,
+// and what is open.
 
-use crate::cache::Cache;
-use crate::open::Open;
-use crate::spot::Spot;
-use arrayvec::ArrayVec;
+ghost use Rattle.std.specs.Prelude.{◌≡◌, Some};
+ghost use Rattle.ptb_machine.specs.Reads.{Follows};
+
+use crate::location::Location;
+use crate::reads::pass_separator;
+use crate::stack::Stack;
 use ptb_expr::Store;
+use ptb_text::Cursor;
 
-/// How many loops and calls may be open together.
-pub(crate) const NESTING_LIMIT: usize = 64;
-
-/// What a machine holds.
+/// What commands change.
 #[derive(Drop)]
 pub(crate) struct Registers {
     /// The next command, if one is left. Where the text is over at its place, the next statement is
     /// meant.
-    pub(crate) place: Option<Spot>,
+    pub(crate) place: Option<Location>,
     /// The values of the variables and of the array.
     pub(crate) store: Store,
-    /// The instructions of commands that were done before.
-    pub(crate) cache: Cache,
-    /// The open loops and calls, newest last.
-    pub(crate) stack: ArrayVec<Open, NESTING_LIMIT>,
-    /// How many commands were begun.
-    pub(crate) steps: u32,
-    /// Whether nothing was shown, or a newline last.
-    pub(crate) fresh: bool,
-    /// Whether the run is over.
-    pub(crate) spent: bool,
+    /// The open loops and calls.
+    pub(crate) stack: Stack,
+}
+
+impl Registers {
+    /// Goes on behind a command of this statement, which ends at the cursor.
+    pub(crate) fn go_behind(&mut self, statement: usize, cursor: &mut Cursor)
+        ensures place { self.new
+            ≡ record self.old { place = Some (record { statement = statement; at = cursor.new.place }) } }
+        ensures follows { Follows cursor.old.text cursor.old.place cursor.new.place }
+    {
+        pass_separator(cursor);
+        self.place = Some(Location {
+            statement,
+            at: cursor.place(),
+        });
+    }
 }

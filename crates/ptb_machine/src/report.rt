@@ -1,29 +1,23 @@
 // This file reports a fault.
 
-ghost use Rattle.std.specs.Prelude.{◌≡◌, ◌≤◌, ℕ, [], pos, if◌then◌else◌, take, drop};
+ghost use Rattle.std.specs.Prelude.{◌≡◌, ℕ, [], ◌++◌, pos, if◌then◌else◌, take, drop, IfOk};
 ghost use Rattle.ptb_expr.specs.Store.{Cells};
 ghost use Rattle.ptb_machine.specs.Act.{newline, word_of, ending_of, report_bytes};
 ghost use Rattle.ptb_machine.specs.Devices.{Devices, screen_state, with_screen};
-ghost use Rattle.ptb_machine.specs.Moves.{trace};
+ghost use Rattle.ptb_machine.specs.Traces.{trace};
 ghost use Rattle.ptb_machine.specs.Reports.{IsShown};
 
 use crate::ending::Ending;
 use crate::fault::ScreenFault;
 use crate::screen::Screen;
 use crate::showing::put;
+use arrayvec::{ArrayVec, CapacityError};
 use itoa::Buffer;
 use ptb_expr::{Fault, FaultKind};
 
-// The word of a fault.
-fn word_of(kind: FaultKind) -> &'static [u8]
-    ensures { result.now ≡ word_of kind }
-{
-    match kind {
-        FaultKind::What => b"WHAT?",
-        FaultKind::How => b"HOW?",
-        FaultKind::Sorry => b"SORRY",
-    }
-}
+/// How many bytes are put together, so that they are shown at once: a statement's text has at most
+/// 255.
+const JOIN_LIMIT: usize = 320;
 
 /// How a run ends that a fault ends.
 pub(crate) fn ending_of(kind: FaultKind) -> Ending
@@ -36,11 +30,18 @@ pub(crate) fn ending_of(kind: FaultKind) -> Ending
     }
 }
 
-// What makes a transcript fresh.
-fn line_end(fresh: bool) -> &'static [u8]
-    ensures { result.now ≡ if fresh then [] else newline }
+// The line that says what is wrong, behind a newline where the transcript isn't fresh.
+fn first_line(fresh: bool, kind: FaultKind) -> &'static [u8]
+    ensures { result.now ≡ (if fresh then [] else newline) ++ word_of kind ++ newline }
 {
-    if fresh { b"" } else { b"\n" }
+    match (fresh, kind) {
+        (true, FaultKind::What) => b"WHAT?\n",
+        (true, FaultKind::How) => b"HOW?\n",
+        (true, FaultKind::Sorry) => b"SORRY\n",
+        (false, FaultKind::What) => b"\nWHAT?\n",
+        (false, FaultKind::How) => b"\nHOW?\n",
+        (false, FaultKind::Sorry) => b"\nSORRY\n",
+    }
 }
 
 // The text before a mark, all of it where the mark is past its end.
@@ -55,6 +56,42 @@ fn text_behind(text: &[u8], mark: usize) -> &[u8]
     ensures { result.now ≡ drop mark text.now }
 {
     &text[mark.min(text.len())..]
+}
+
+// Three pieces, one after the other, where there is room for them.
+fn joined(
+    first: &[u8],
+    second: &[u8],
+    third: &[u8],
+) -> Result<ArrayVec<u8, JOIN_LIMIT>, CapacityError>
+    ensures { IfOk result (λ v. v.items ≡ first.now ++ second.now ++ third.now) }
+{
+    let mut bytes = ArrayVec::new();
+    bytes.try_extend_from_slice(first)?;
+    bytes.try_extend_from_slice(second)?;
+    bytes.try_extend_from_slice(third)?;
+    Ok(bytes)
+}
+
+// Shows three pieces: at once, where there is room for them.
+fn put_joined<S: Screen>(
+    screen: &mut S,
+    fresh: &mut bool,
+    first: &[u8],
+    second: &[u8],
+    third: &[u8],
+) -> Result<(), ScreenFault>
+    ensures { (d : Devices) (cells : Cells) → IsShown
+        (trace (with_screen (screen_state S.Screen screen.old) d) fresh.old cells)
+        (trace (with_screen (screen_state S.Screen screen.new) d) fresh.new cells)
+        (first.now ++ second.now ++ third.now) result }
+{
+    if let Ok(bytes) = joined(first, second, third) {
+        return put(screen, fresh, bytes.as_slice());
+    }
+    put(screen, fresh, first)?;
+    put(screen, fresh, second)?;
+    put(screen, fresh, third)
 }
 
 /// Reports a fault of the statement of this number and text.
@@ -72,13 +109,9 @@ pub(crate) fn report<S: Screen>(
 {
     let mut buffer = Buffer::new();
     let digits = buffer.format(number).as_bytes();
-    put(screen, fresh, line_end(*fresh))?;
-    put(screen, fresh, word_of(fault.kind))?;
-    put(screen, fresh, b"\n")?;
-    put(screen, fresh, digits)?;
-    put(screen, fresh, b" ")?;
-    put(screen, fresh, text_before(text, fault.mark))?;
-    put(screen, fresh, b"?")?;
-    put(screen, fresh, text_behind(text, fault.mark))?;
+    let before = text_before(text, fault.mark);
+    let behind = text_behind(text, fault.mark);
+    put_joined(screen, fresh, first_line(*fresh, fault.kind), digits, b" ")?;
+    put_joined(screen, fresh, before, b"?", behind)?;
     put(screen, fresh, b"\n")
 }

@@ -6,8 +6,8 @@ ghost use Rattle.ptb_machine.specs.Runs.{Runs};
 
 use crate::ending::Ending;
 use crate::fault::RunFault;
+use crate::kept::Player;
 use crate::lines::LineSource;
-use crate::machine::Machine;
 use crate::screen::Screen;
 use ptb_expr::Chooser;
 use ptb_text::Program;
@@ -34,9 +34,10 @@ pub fn run<C: Chooser, S: Screen, L: LineSource>(
         (devices (C.choices chooser.old) (screen_state S.Screen screen.old) [])
         (devices (C.choices chooser.new) (screen_state S.Screen screen.new) given) result) }
 {
-    let mut machine = Machine::new(alloc, program)?;
+    let mut player = Player::new(alloc, program)?;
+    let mut machine = player.machine(alloc)?;
     'steps: loop {
-        if let Some(ending) = machine.step(program, limit, chooser, screen, source)? {
+        if let Some(ending) = player.step(&mut machine, limit, chooser, screen, source)? {
             return Ok(ending);
         }
     }

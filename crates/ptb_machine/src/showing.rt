@@ -2,9 +2,9 @@
 
 ghost use Rattle.std.specs.Prelude.{◌≡◌};
 ghost use Rattle.ptb_expr.specs.Store.{Cells};
-ghost use Rattle.ptb_machine.specs.Courses.{goes_on, show as show_course};
+ghost use Rattle.ptb_machine.specs.Actions.{goes_on, show as show_action};
 ghost use Rattle.ptb_machine.specs.Devices.{Devices, screen_state, with_screen, nothing_refused};
-ghost use Rattle.ptb_machine.specs.Moves.{trace, fresh_after};
+ghost use Rattle.ptb_machine.specs.Traces.{trace, fresh_after};
 ghost use Rattle.ptb_machine.specs.Reports.{IsShown};
 ghost use Rattle.ptb_machine.specs.Stops.{Comes};
 
@@ -44,7 +44,7 @@ pub(crate) fn show<S: Screen>(screen: &mut S, fresh: &mut bool, bytes: &[u8]) ->
     ensures { (d : Devices) (cells : Cells) → Comes nothing_refused
         (trace (with_screen (screen_state S.Screen screen.old) d) fresh.old cells)
         (trace (with_screen (screen_state S.Screen screen.new) d) fresh.new cells)
-        (show_course bytes.now) goes_on result }
+        (show_action bytes.now) goes_on result }
 {
     put(screen, fresh, bytes)?;
     Ok(())

@@ -4,10 +4,10 @@ ghost use Rattle.std.specs.Prelude.{◌≡◌, Some, pos, slice_get};
 ghost use Rattle.std.specs.Ordering.{int_eq};
 ghost use Rattle.ptb_machine.specs.State.{Place, first_place, place_after, text_of};
 ghost use Rattle.ptb_machine.specs.Act.{statement};
-ghost use Rattle.ptb_machine.specs.Standing.{IsLineAt, PlacesAre};
+ghost use Rattle.ptb_machine.specs.Representation.{IsLineAt, PlacesAre};
 
 use crate::laws::command_laws;
-use crate::spot::Spot;
+use crate::location::Location;
 use ptb_text::{Program, statement_laws};
 
 /// The number and the text of this statement; 0 and nothing where there is none.
@@ -21,7 +21,7 @@ pub(crate) fn line_at(program: &Program, statement: usize) -> (i16, &[u8])
 }
 
 /// The beginning of the first statement, if there is one.
-pub(crate) fn first_place(program: &Program) -> Option<Spot>
+pub(crate) fn first_place(program: &Program) -> Option<Location>
     ensures { PlacesAre program.now.lines (first_place program.now.lines) result }
 {
     command_laws();
@@ -29,7 +29,7 @@ pub(crate) fn first_place(program: &Program) -> Option<Spot>
     if program.is_empty() {
         None
     } else {
-        Some(Spot {
+        Some(Location {
             statement: 0,
             at: 0,
         })
@@ -37,7 +37,7 @@ pub(crate) fn first_place(program: &Program) -> Option<Spot>
 }
 
 /// The beginning of the statement behind this one, if there is one.
-pub(crate) fn place_after(program: &Program, statement: usize) -> Option<Spot>
+pub(crate) fn place_after(program: &Program, statement: usize) -> Option<Location>
     ensures { (q : Place) →
         slice_get program.now.lines statement
         ≡ Some (q.number, text_of program.now.lines q.number) →
@@ -49,20 +49,20 @@ pub(crate) fn place_after(program: &Program, statement: usize) -> Option<Spot>
     if statement >= count || statement + 1 == count {
         return None;
     }
-    Some(Spot {
+    Some(Location {
         statement: statement + 1,
         at: 0,
     })
 }
 
 /// The beginning of the statement of this number, if there is one.
-pub(crate) fn beginning_of(program: &Program, number: i16) -> Option<Spot>
+pub(crate) fn beginning_of(program: &Program, number: i16) -> Option<Location>
     ensures { PlacesAre program.now.lines (statement program.now.lines number) result }
 {
     command_laws();
     statement_laws();
     match program.index_of(number) {
-        Some(statement) => Some(Spot { statement, at: 0 }),
+        Some(statement) => Some(Location { statement, at: 0 }),
         None => None,
     }
 }

@@ -1,13 +1,27 @@
 // This file tests runs and steps: worked rows, and what a run shows of faults.
 
+ghost use Rattle.std.specs.Prelude.{◌≡◌, IsTrue};
+ghost use Rattle.ptb_text.specs.Words.{is_letter};
+ghost use Rattle.ptb_machine.specs.Steps.{FitsProgram};
+
 use super::*;
-use ptb_expr::Listed;
-use ptb_text::{Device, Program, load};
+use crate::report::report;
+use crate::statements::first_place;
+use ptb_expr::{Fault, FaultKind, Listed};
+use ptb_text::{Device, Letter, Program, load};
 use std::alloc::Global;
 use std::test::Fail;
 
 /// The memory of the programs.
 const MEMORY: u16 = 4096;
+
+/// The letter of a byte that is one.
+pub(crate) fn letter(byte: u8) -> Letter
+    requires { IsTrue (is_letter byte) }
+    ensures { result ≡ byte }
+{
+    Letter::new(byte).unwrap()
+}
 
 // The program of two lines, of which the second may be empty.
 fn program(alloc: Global, first: &[u8], second: &[u8]) -> Result<Program, Fail> {
@@ -181,6 +195,98 @@ fn steps(rt: HostRuntime) -> Result<(), Fail> {
     assert!(rt; spent == Err(RunFault::Spent));
     assert_eq!(rt; machine.steps(), 2);
     assert_eq!(rt; screen.bytes(), &b"     1     2\n"[..]);
+    Ok(())
+}
+
+// A report is whole, and has its mark, also where the text is longer than that of a statement.
+#[test]
+fn reports(rt: HostRuntime) -> Result<(), Fail> {
+    let kind = FaultKind::How;
+    let text = [b'A'; 400];
+    for (fresh, length, mark, from) in [
+        (true, 0, 0, 8),
+        (false, 0, 0, 9),
+        (true, 255, 0, 8),
+        (false, 255, 255, 9),
+        (true, 400, 0, 8),
+        (true, 400, 200, 8),
+        (false, 400, 400, 9),
+    ] {
+        let mut screen = TextScreen::new(rt.alloc());
+        let mut fresh = fresh;
+        let shown = report(
+            &mut screen,
+            &mut fresh,
+            10,
+            &text[..length],
+            Fault { kind, mark },
+        );
+        assert!(rt; shown == Ok(()) && fresh, "{length} {mark}");
+        let bytes = screen.bytes();
+        assert_eq!(rt; bytes.len(), from + length + 2, "{length} {mark}");
+        assert_eq!(rt;
+            &bytes[from - 8..from],
+            &b"HOW?\n10 "[..],
+            "{length} {mark}"
+        );
+        assert_eq!(rt; bytes[from + mark], b'?', "{length} {mark}");
+        assert_eq!(rt; bytes[from + length + 1], b'\n', "{length} {mark}");
+    }
+    Ok(())
+}
+
+// Whether a machine stands where a run of the program begins, with nothing open and a fresh line:
+// such a machine fits the program, whichever one it was made for.
+fn stands_at_beginning(machine: &Machine, program: &Program) -> bool
+    ensures { IsTrue result → FitsProgram program.now machine.now }
+{
+    let Some(first) = first_place(program) else {
+        return false;
+    };
+    let Some(here) = machine.registers.place else {
+        return false;
+    };
+    if here.statement != first.statement || here.at != first.at {
+        return false;
+    }
+    if !machine.registers.stack.is_empty() {
+        return false;
+    }
+    machine.fresh
+}
+
+// Does a command that shows nothing; whether the run goes on.
+fn goes_on(machine: &mut Machine, program: &Program, screen: &mut TextScreen) -> bool
+    requires { FitsProgram program.now machine.old }
+    ensures { FitsProgram program.now machine.new }
+{
+    let mut list = Listed::new(&[]);
+    let mut input = Lines::new(&[]);
+    machine.step(program, 100, &mut list, screen, &mut input) == Ok(None)
+}
+
+// A machine has nothing of the program whose commands it did: after four turns of a sum and a jump
+// it fits a program that prints there, and prints.
+#[test]
+fn programs_with_the_same_places(rt: HostRuntime) -> Result<(), Fail> {
+    let alloc = rt.alloc();
+    let counts = program(alloc, b"10 A=A+1", b"20 GOTO 10")?;
+    let prints = program(alloc, b"10 PRINT", b"20 GOTO 10")?;
+    let mut screen = TextScreen::new(alloc);
+    let mut machine = Machine::new(alloc, &counts)?;
+    assert!(rt; goes_on(&mut machine, &counts, &mut screen));
+    assert!(rt; goes_on(&mut machine, &counts, &mut screen));
+    assert!(rt; goes_on(&mut machine, &counts, &mut screen));
+    assert!(rt; goes_on(&mut machine, &counts, &mut screen));
+    assert!(rt; goes_on(&mut machine, &counts, &mut screen));
+    assert!(rt; goes_on(&mut machine, &counts, &mut screen));
+    assert!(rt; goes_on(&mut machine, &counts, &mut screen));
+    assert!(rt; goes_on(&mut machine, &counts, &mut screen));
+    assert_eq!(rt; screen.bytes(), &b""[..]);
+    assert!(rt; stands_at_beginning(&machine, &prints));
+    assert!(rt; goes_on(&mut machine, &prints, &mut screen));
+    assert_eq!(rt; screen.bytes(), &b"\n"[..]);
+    assert_eq!(rt; machine.steps(), 9);
     Ok(())
 }
 
@@ -487,28 +593,6 @@ fn limits_on_commands_done_often(rt: HostRuntime) -> Result<(), Fail> {
         assert!(rt; result == Ok(Ending::Limit), "{limit}");
         assert_eq!(rt; screen.bytes(), shown, "{limit}");
     }
-    Ok(())
-}
-
-// The limit falls on a command that was done twice before, and the run is over then.
-#[test]
-fn steps_of_commands_done_often(rt: HostRuntime) -> Result<(), Fail> {
-    let program = program(rt.alloc(), b"10 GOTO 10", b"")?;
-    let mut list = Listed::new(&[]);
-    let mut screen = TextScreen::new(rt.alloc());
-    let mut input = Lines::new(&[]);
-    let mut machine = Machine::new(rt.alloc(), &program)?;
-    assert!(rt; machine.step(&program, 4, &mut list, &mut screen, &mut input) == Ok(None));
-    assert!(rt; machine.step(&program, 4, &mut list, &mut screen, &mut input) == Ok(None));
-    assert!(rt; machine.step(&program, 4, &mut list, &mut screen, &mut input) == Ok(None));
-    assert_eq!(rt; machine.steps(), 3);
-    assert!(rt; machine.step(&program, 4, &mut list, &mut screen, &mut input) == Ok(None));
-    assert_eq!(rt; machine.steps(), 4);
-    let last = machine.step(&program, 4, &mut list, &mut screen, &mut input);
-    assert!(rt; last == Ok(Some(Ending::Limit)));
-    let spent = machine.step(&program, 5, &mut list, &mut screen, &mut input);
-    assert!(rt; spent == Err(RunFault::Spent));
-    assert_eq!(rt; machine.steps(), 4);
     Ok(())
 }
 

@@ -1,5 +1,5 @@
 -- This file proves what a test of bytes says of the bytes in front of a text, behind them, and of all.
-use Rattle.std.proofs.Common.{◌≡◌, ℕ, zero, suc, ◌+◌, Bool, true, false, not, cond, ◌&&◌, ltb, List, [], ◌∷◌, ◌++◌, length, take, drop, Some, None, refl, sym, ap, ◌∙◌, arith, one-add}
+use Rattle.std.proofs.Common.{◌≡◌, ℕ, zero, suc, ◌+◌, Bool, true, false, not, cond, ◌&&◌, ltb, List, [], ◌∷◌, ◌++◌, length, drop, Some, None, refl, sym, ap, ◌∙◌, arith, one-add}
 use Rattle.std.specs.Prelude.{position}
 use Rattle.std.specs.List.{list_all, prefix_len}
 use Rattle.std.proofs.lemmas.Bool.Decides.{nat_tests}
@@ -50,16 +50,7 @@ list_all-drop p zero xs all = all
 list_all-drop p (suc n) [] all = all
 list_all-drop p (suc n) (x ∷ xs) all = list_all-drop p n xs (both_true _ _ all).1
 
--- the bytes in front that pass
-pub list_all-prefix : (p : Test) (xs : List ℕ) → list_all p (take (prefix_len p xs) xs) ≡ true
-list_all-prefix p [] = refl
-list_all-prefix p (x ∷ xs) =
-    elim (p x) as (λ b. p x ≡ b → list_all p (take (cond b (1 + prefix_len p xs) 0) (x ∷ xs)) ≡ true) [
-      | true ↦ λ e. rw one-add (ap (λ b. b && list_all p (take (prefix_len p xs) xs)) e ∙ list_all-prefix p xs)
-      | false ↦ λ e. refl
-    ] refl
-
--- the byte behind them doesn't pass
+-- the byte behind the bytes in front that pass doesn't pass
 pub prefix_len-behind : (p : Test) (xs : List ℕ) → prefix_len p (drop (prefix_len p xs) xs) ≡ 0
 prefix_len-behind p [] = refl
 prefix_len-behind p (x ∷ xs) =

@@ -69,10 +69,10 @@ letter_range t i c j e =
 
 -- ---- a number
 
-small_number_is : (n : ℕ) → is_number (small_number n) ≡ true
+pub small_number_is : (n : ℕ) → is_number (small_number n) ≡ true
 small_number_is n = elim (leb n 32767) as (λ v. is_number (cond v (Value (pos n)) TooBig) ≡ true) [ true ↦ refl | false ↦ refl ]
 
-small_number_value : (n : ℕ) (v : ℤ) → small_number n ≡ Value v → (n ≤ 32767) × (pos n ≡ v)
+pub small_number_value : (n : ℕ) (v : ℤ) → small_number n ≡ Value v → (n ≤ 32767) × (pos n ≡ v)
 small_number_value n v e = go (leb n 32767) refl e
   where
     go : (b : Bool) → leb n 32767 ≡ b → cond b (Value (pos n)) TooBig ≡ Value v → (n ≤ 32767) × (pos n ≡ v)
@@ -80,7 +80,7 @@ small_number_value n v e = go (leb n 32767) refl e
     go false h e = absurd cc
 
 -- what a number at i is: none, or the digits there
-number_cases : (t : List ℕ) (i : ℕ) (n : Number) (j : ℕ) → number_at t i ≡ (n, j)
+pub number_cases : (t : List ℕ) (i : ℕ) (n : Number) (j : ℕ) → number_at t i ≡ (n, j)
     → ((prefix_len is_digit (drop (past_blanks t i) t) ≡ 0) × (n ≡ Absent) × (j ≡ i))
     ⊎ ((0 < prefix_len is_digit (drop (past_blanks t i) t)) × (small_number (digits_value (take (prefix_len is_digit (drop (past_blanks t i) t)) (drop (past_blanks t i) t))) ≡ n) × (past_blanks t (past_blanks t i + prefix_len is_digit (drop (past_blanks t i) t)) ≡ j))
 unfolding number_at
@@ -264,9 +264,9 @@ stands_byte t i b e = let there = byte_there t i b e in record {
   quotation = ap (λ o. is_quotation (quotation_there t (past_blanks t i) o)) e ∙ quotation_by t (past_blanks t i) b;
 }
 
-stands_end : (t : List ℕ) (i : ℕ) → next_byte_at t i ≡ None → StandsNext t i None
+represents_end : (t : List ℕ) (i : ℕ) → next_byte_at t i ≡ None → StandsNext t i None
 unfolding bytes_at letter_at word_at number_at quotation_at
-stands_end t i e = let end = drop_all (past_blanks t i) t (past_end t i e) in record {
+represents_end t i e = let end = drop_all (past_blanks t i) t (past_end t i e) in record {
   byte = e;
   over = le-leb (length t) (past_blanks t i) (past_end t i e);
   token = λ c. rw end refl;
@@ -280,7 +280,7 @@ stands_end t i e = let end = drop_all (past_blanks t i) t (past_end t i e) in re
 }
 
 pub stands_next : (t : List ℕ) (i : ℕ) (next : Option ℕ) → next_byte_at t i ≡ next → StandsNext t i next
-stands_next t i None e = stands_end t i e
+stands_next t i None e = represents_end t i e
 stands_next t i (Some b) e = stands_byte t i b e
 
 -- ---- the laws

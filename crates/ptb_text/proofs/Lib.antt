@@ -18,4 +18,4 @@ pub mod Sound
 pub mod Stored
 pub mod Taking
 pub mod Worked
-pub mod Standing
+pub mod NextByte

@@ -1,13 +1,19 @@
 -- This file proves what entering a line does by the parts that the line was taken apart into.
-use Rattle.std.proofs.Common.{◌≡◌, ℕ, ◌+◌, ◌<◌, ◌≤◌, Bool, true, false, not, ◌==◌, List, [], ◌∷◌, length, take, drop, Some, None, Err, refl, sym, ap, ◌∙◌, arith}
-use Rattle.std.specs.Prelude.{position}
+use Rattle.std.proofs.Common.{◌≡◌, ℕ, ◌+◌, ◌<◌, ◌≤◌, Bool, true, false, not, ◌==◌, List, [], ◌∷◌, length, take, drop, Some, None, Err, refl, sym, ap, subst, ◌∙◌, arith, length-drop, ℤ, pos, inl, inr}
+use Rattle.std.specs.Prelude.{position, nat_le, if◌then◌else◌}
 use Rattle.std.specs.List.{prefix_len}
-use Rattle.std.proofs.lemmas.Bool.{eqb-true}
+use Rattle.std.proofs.lemmas.Bool.{eqb-true, false≢true, leb-true, leb-false}
+use Rattle.std.proofs.lemmas.List.{drop-drop, drop_all}
 use Rattle.std.proofs.lemmas.Bool.Decides.{nat_tests}
 use Rattle.ptb_text.specs.declared.fault.LoadFault.TheVariants.{NoNumber, NumberTooBig, BadByte}
 use Rattle.ptb_text.specs.Lines.{is_printable}
 use Rattle.ptb_text.specs.Statements.{Statements, after_line, after_trimmed, after_statement, unless_bad_byte, number_limit, digits_value, is_digit, is_blank, trim_start}
 use Rattle.ptb_text.specs.Entry.{EntersNothing, IsRefused, IsNumbered}
+use Rattle.ptb_text.specs.CursorState.{CursorState}
+use Rattle.ptb_text.specs.declared.word.Number.{Number}
+use Rattle.ptb_text.specs.declared.word.Number.TheVariants.{Absent, Value, TooBig}
+use Rattle.ptb_text.specs.Words.{past_blanks, is_over, number_at, is_number, small_number}
+use Rattle.ptb_text.proofs.Finding.{number_ahead, number_cases, small_number_is, small_number_value}
 use Rattle.ptb_text.proofs.ByteTests.{list_all-from_none, list_all-drop, prefix_len-behind}
 
 -- a text without the blanks in front has none in front
@@ -66,3 +72,79 @@ module _ (line t : List ℕ) (clean : position (λ b. not (is_printable b)) line
     no_blank_in_front = ap length (trim_start-trimmed (behind_digits t));
     enters = λ p memory. by_trimmed p memory ∙ numbered t p memory n some is low high;
   }
+
+-- ---- the number that stands in front
+
+-- the line without the blanks in front of it
+abbrev pub in_front : List ℕ → List ℕ
+in_front line = drop (past_blanks line 0) line
+
+pub in_front-trim_start : (line : List ℕ) → in_front line ≡ trim_start line
+unfolding past_blanks
+in_front-trim_start line =
+    let e : 0 + prefix_len is_blank line ≡ prefix_len is_blank line = omega arith in
+    ap (λ n. drop n line) e
+
+pub some_in_front : (line : List ℕ) → nat_le (length line) (past_blanks line 0) ≡ false → 0 < length (in_front line)
+some_in_front line e = omega (arith, leb-false _ _ e, length-drop (past_blanks line 0) line)
+
+pub none_in_front : (line : List ℕ) → nat_le (length line) (past_blanks line 0) ≡ true → in_front line ≡ []
+none_in_front line e = drop_all (past_blanks line 0) line (leb-true _ _ e)
+
+too_big_is : (v : ℕ) → small_number v ≡ TooBig → number_limit < v
+too_big_is v e = go (nat_le v number_limit) refl e
+  where
+    go : (b : Bool) → nat_le v number_limit ≡ b → (if b then Value (pos v) else TooBig) ≡ TooBig → number_limit < v
+    go true h e = absurd (cc e)
+    go false h e = omega (arith, leb-false _ _ h)
+
+-- the digits in front have no value where there are none
+no_digits : (t : List ℕ) → prefix_len is_digit t ≡ 0 → digits_value (digits_of t) ≡ 0
+no_digits t e = ap (λ k. digits_value (take k t)) e
+
+pub number_too_big : (line : List ℕ) (j : ℕ) → number_at line 0 ≡ (TooBig, j) → number_limit < digits_value (digits_of (in_front line))
+number_too_big line j e = elim (number_cases line 0 TooBig j e) [
+  | inl h ↦ absurd (cc h.1)
+  | inr h ↦ too_big_is _ h.1
+]
+
+pub number_absent : (line : List ℕ) (j : ℕ) → number_at line 0 ≡ (Absent, j) → digits_value (digits_of (in_front line)) ≡ 0
+number_absent line j e = elim (number_cases line 0 Absent j e) [
+  | inl h ↦ no_digits (in_front line) h.0
+  | inr h ↦ absurd (false≢true (sym (ap is_number h.1) ∙ small_number_is _))
+]
+
+-- what a number that isn't too big says of the line
+pub record HasNumber (line : List ℕ) (v : ℤ) (j : ℕ) : Type 0 where
+  pub value : pos (digits_value (digits_of (in_front line))) ≡ v
+  pub high : digits_value (digits_of (in_front line)) ≤ number_limit
+  pub within : j ≤ length line
+  pub text : drop j line ≡ trim_start (behind_digits (in_front line))
+
+behind : (line : List ℕ) → drop (past_blanks line (past_blanks line 0 + prefix_len is_digit (in_front line))) line ≡ trim_start (behind_digits (in_front line))
+unfolding past_blanks
+behind line =
+    let k = prefix_len is_digit (in_front line) in
+    let b = past_blanks line 0 in
+    sym (drop-drop (prefix_len is_blank (drop (b + k) line)) (b + k) line)
+    ∙ ap (λ u. drop (prefix_len is_blank u) u) (sym (drop-drop k b line))
+
+pub number_value : (line : List ℕ) (v : ℤ) (j : ℕ) → number_at line 0 ≡ (Value v, j) → HasNumber line v j
+number_value line v j e = elim (number_cases line 0 (Value v) j e) [
+  | inl h ↦ absurd (cc h.1)
+  | inr h ↦
+      let n = small_number_value _ v h.1 in
+      record {
+        value = n.1;
+        high = n.0;
+        within = (number_ahead line 0 (Value v) j e refl).within;
+        text = ap (λ m. drop m line) (sym h.2) ∙ behind line;
+      }
+]
+
+-- what a cursor at the front of the line finds
+pub over_in_front : (s : CursorState) (line : List ℕ) (b : Bool) → s ≡ record { text = line; place = 0 } → is_over s.text s.place ≡ b → is_over line 0 ≡ b
+over_in_front s line b e over = subst (λ (u : CursorState). is_over u.text u.place ≡ b) e over
+
+pub number_in_front : (s : CursorState) (line : List ℕ) (n : Number) (j : ℕ) → s ≡ record { text = line; place = 0 } → number_at s.text s.place ≡ (n, j) → number_at line 0 ≡ (n, j)
+number_in_front s line n j e found = subst (λ (u : CursorState). number_at u.text u.place ≡ (n, j)) e found

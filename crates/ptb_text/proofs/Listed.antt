@@ -15,7 +15,7 @@ use Rattle.std.proofs.lemmas.List.Sums.{fold-append, sum_by-append, sum_by-cons,
 use Rattle.ptb_text.specs.declared.fault.LoadFault.{LoadFault}
 use Rattle.ptb_text.specs.Lines.{pieces, onto_first, program_lines, is_printable, tab_as_space}
 use Rattle.ptb_text.specs.Loading.{GivesProgram}
-use Rattle.ptb_text.specs.Places.{IsGapFor, number_at}
+use Rattle.ptb_text.specs.Places.{IsGapFor, statement_number}
 use Rattle.ptb_text.specs.Statements.{Statements, after_line, after_lines, after_statement, cost, digits_value, is_blank, is_digit, is_program, is_statement, line_of, listing, text_limit, trim_start, with_text, IsText}
 use Rattle.ptb_text.proofs.ByteTests.{none_from_list_all, prefix_len-whole}
 use Rattle.ptb_text.proofs.Edits.{both, one_cost}
@@ -155,11 +155,11 @@ with_text-behind : (p : Statements) (s : ℕ × List ℕ) (rest : Statements) �
 with_text-behind p s rest sorted =
     let all = p ++ s ∷ rest in
     let size = length-append p (s ∷ rest) in
-    let here : number_at all (length p) ≡ s.0 = ap (λ t. t.0) (get_or-append_seam p s rest (0, [])) in
+    let here : statement_number all (length p) ≡ s.0 = ap (λ t. t.0) (get_or-append_seam p s rest (0, [])) in
     let gap : IsGapFor p s.0 (length p) = record {
       in_range = omega arith;
       smaller_before = λ j before.
-          let there : number_at all j ≡ number_at p j = ap (λ t. t.0) (get_or_append_left p (s ∷ rest) (0, []) j before) in
+          let there : statement_number all j ≡ statement_number p j = ap (λ t. t.0) (get_or_append_left p (s ∷ rest) (0, []) j before) in
           omega (arith, rising all sorted j (length p) before (omega arith));
       greater_after = λ j after within. absurd (omega arith);
     } in

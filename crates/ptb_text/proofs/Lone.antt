@@ -1,5 +1,5 @@
 -- This file proves that no word begins with a letter that neither a letter nor a period follows.
-use Rattle.std.proofs.Common.{◌≡◌, ℕ, zero, suc, ◌+◌, ◌∙◌, Bool, true, false, eqb, List, [], ◌∷◌, length, drop, slice_get, Option, Some, None, refl, sym, ap, subst, inl, inr, arith}
+use Rattle.std.proofs.Common.{◌≡◌, ℕ, zero, suc, ◌+◌, ◌∙◌, Bool, true, false, eqb, List, [], ◌∷◌, drop, slice_get, Option, Some, None, refl, sym, ap, subst, inl, inr, arith}
 use Rattle.std.specs.Prelude.{◌&&◌, nat_eq, find, cond}
 use Rattle.std.specs.List.{starts_with, list_all}
 use Rattle.std.proofs.lemmas.Bool.{and_parts, cases_eq, ne_eqb, false≢true}
@@ -15,15 +15,15 @@ continues (c ∷ []) = false
 continues (c ∷ d ∷ s) = continues_word d
 
 -- the second byte of a text, if there is one, is another
-abbrev Stops : List ℕ → Type 0
-Stops rest = is_next continues_word (slice_get rest 1) ≡ false
+abbrev EndsWord : List ℕ → Type 0
+EndsWord rest = is_next continues_word (slice_get rest 1) ≡ false
 
 and_false : (b : Bool) → (b && false) ≡ false
 and_false true = refl
 and_false false = refl
 
 -- so no such spelling stands in front of it
-starts_no : (s rest : List ℕ) → continues s ≡ true → Stops rest → starts_with nat_eq rest s ≡ false
+starts_no : (s rest : List ℕ) → continues s ≡ true → EndsWord rest → starts_with nat_eq rest s ≡ false
 starts_no [] rest h n = absurd (false≢true h)
 starts_no (c ∷ []) rest h n = absurd (false≢true h)
 starts_no (c ∷ d ∷ s) [] h n = refl
@@ -34,20 +34,20 @@ starts_no (c ∷ d ∷ s) (b ∷ q ∷ rest) h n =
       | inr m ↦ ap (λ (x : Bool). eqb c b && (x && starts_with nat_eq rest s)) (ne_eqb d q m) ∙ and_false (eqb c b)
     ]
 
-none_in_front : (ss : List (List ℕ)) (rest : List ℕ) → list_all continues ss ≡ true → Stops rest → find (λ s. starts_with nat_eq rest s) ss ≡ None
+none_in_front : (ss : List (List ℕ)) (rest : List ℕ) → list_all continues ss ≡ true → EndsWord rest → find (λ s. starts_with nat_eq rest s) ss ≡ None
 none_in_front [] rest h n = refl
 none_in_front (s ∷ ss) rest h n =
     let parts = and_parts (continues s) (list_all continues ss) h in
     rw (starts_no s rest parts.0 n) (none_in_front ss rest parts.1 n)
 
-no_spelling : (letters rest : List ℕ) → list_all continues (spellings letters) ≡ true → Stops rest → spelling_in_front letters rest ≡ None
+no_spelling : (letters rest : List ℕ) → list_all continues (spellings letters) ≡ true → EndsWord rest → spelling_in_front letters rest ≡ None
 unfolding spelling_in_front
 no_spelling letters rest h n = none_in_front (spellings letters) rest h n
 
 abbrev all_continue : List Entry → Bool
 all_continue ws = list_all (λ w. list_all continues (spellings w.1)) ws
 
-no_first_word : (ws : List Entry) (t : List ℕ) (b : ℕ) → all_continue ws ≡ true → Stops (drop b t) → first_word ws t b ≡ None
+no_first_word : (ws : List Entry) (t : List ℕ) (b : ℕ) → all_continue ws ≡ true → EndsWord (drop b t) → first_word ws t b ≡ None
 no_first_word [] t b h n = refl
 no_first_word (w ∷ ws) t b h n =
     let parts = and_parts (list_all continues (spellings w.1)) (all_continue ws) h in

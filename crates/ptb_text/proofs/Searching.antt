@@ -9,7 +9,7 @@ use Rattle.std.proofs.lemmas.List.{get_or-map, length-map}
 use Rattle.std.proofs.lemmas.Option.{slice_get-get_or, get_or_from_slice_get}
 use Rattle.ptb_text.specs.declared.program.Statement.{Statement}
 use Rattle.ptb_text.specs.Statements.{Statements}
-use Rattle.ptb_text.specs.Places.{number_at, IsAt, IsGapFor}
+use Rattle.ptb_text.specs.Places.{statement_number, IsAt, IsGapFor}
 use Rattle.ptb_text.proofs.Sound.{rising}
 use Rattle.ptb_text.proofs.Stored.{shown}
 
@@ -26,7 +26,7 @@ less_from_greater a b e = grind (arith, nat_tests)
 index_rises : (a b n : ℕ) → a ≤ b → ordering_index (nat_cmp a n) ≤ ordering_index (nat_cmp b n)
 index_rises a b n le = grind (arith, nat_tests)
 
-number_shown : (ss : List Statement) (i : ℕ) (d : Statement) → i < length ss → number_at (map shown ss) i ≡ (get_or ss i d).number
+number_shown : (ss : List Statement) (i : ℕ) (d : Statement) → i < length ss → statement_number (map shown ss) i ≡ (get_or ss i d).number
 number_shown ss i d in_range = ap (λ s. s.0) (get_or-map shown ss i d (0, []) in_range)
 
 module _ (ss : List Statement) (sorted : is_sorted nat_cmp (map shown ss) ≡ true) where
@@ -44,7 +44,7 @@ module _ (ss : List Statement) (sorted : is_sorted nat_cmp (map shown ss) ≡ tr
   IsAt-place : (i n : ℕ) (d : Statement) → i < length ss → (get_or ss i d).number ≡ n → IsAt (map shown ss) n i
   IsAt-place i n d in_range same =
       let size : length (map shown ss) ≡ length ss = length-map ss shown in
-      let here : number_at (map shown ss) i ≡ n = number_shown ss i d in_range ∙ same in
+      let here : statement_number (map shown ss) i ≡ n = number_shown ss i d in_range ∙ same in
       record {
         in_range = omega arith;
         has_number = here;

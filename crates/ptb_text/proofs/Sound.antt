@@ -7,7 +7,7 @@ use Rattle.std.specs.FinMap.Entries.{below_all}
 use Rattle.std.proofs.lemmas.Bool.{ltb-true, leb-true, eqb-true}
 use Rattle.std.proofs.lemmas.Bool.Decides.{nat_tests}
 use Rattle.ptb_text.specs.Statements.{Statements, text_at, is_statement, is_program, IsText}
-use Rattle.ptb_text.specs.Places.{number_at, IsAt}
+use Rattle.ptb_text.specs.Places.{statement_number, IsAt}
 use Rattle.ptb_text.proofs.Entries.{text_at-place}
 
 pub both_true : (a b : Bool) → (a && b) ≡ true → (a ≡ true) × (b ≡ true)
@@ -53,19 +53,19 @@ StatementFacts_at p is i n t in_range same = StatementFacts-from_test n t (rw sa
 less_from_test : (a b : ℕ) → is_lt (nat_cmp a b) ≡ true → a < b
 less_from_test a b e = grind (arith, nat_tests)
 
-below_each : (n : ℕ) (p : Statements) → below_all nat_cmp n p ≡ true → (j : ℕ) → j < length p → n < number_at p j
+below_each : (n : ℕ) (p : Statements) → below_all nat_cmp n p ≡ true → (j : ℕ) → j < length p → n < statement_number p j
 below_each n [] below j in_range = absurd (omega arith)
 below_each n (s ∷ p) below zero in_range = less_from_test n s.0 (both_true _ _ below).0
 below_each n (s ∷ p) below (suc j) in_range = below_each n p (both_true _ _ below).1 j (omega arith)
 
-pub rising : (p : Statements) → is_sorted nat_cmp p ≡ true → (i j : ℕ) → i < j → j < length p → number_at p i < number_at p j
+pub rising : (p : Statements) → is_sorted nat_cmp p ≡ true → (i j : ℕ) → i < j → j < length p → statement_number p i < statement_number p j
 rising [] sorted i j lt in_range = absurd (omega arith)
 rising (s ∷ p) sorted i zero lt in_range = absurd (omega arith)
 rising (s ∷ p) sorted zero (suc j) lt in_range = below_each s.0 p (both_true _ _ sorted).0 j (omega arith)
 rising (s ∷ p) sorted (suc i) (suc j) lt in_range = rising p (both_true _ _ sorted).1 i j (omega arith) (omega arith)
 
 -- so each statement stands at the place of its number
-pub IsAt-from_rising : (p : Statements) → is_sorted nat_cmp p ≡ true → (i : ℕ) → i < length p → IsAt p (number_at p i) i
+pub IsAt-from_rising : (p : Statements) → is_sorted nat_cmp p ≡ true → (i : ℕ) → i < length p → IsAt p (statement_number p i) i
 IsAt-from_rising p sorted i in_range = record {
   in_range = in_range;
   has_number = refl;
@@ -74,5 +74,5 @@ IsAt-from_rising p sorted i in_range = record {
 }
 
 -- and its number has a text
-pub text_at-number : (p : Statements) → is_program p ≡ true → (i : ℕ) → i < length p → text_at p (number_at p i) ≡ Some (get_or p i (0, [])).1
-text_at-number p is i in_range = text_at-place p (number_at p i) i (IsAt-from_rising p (both_true _ _ is).0 i in_range)
+pub text_at-number : (p : Statements) → is_program p ≡ true → (i : ℕ) → i < length p → text_at p (statement_number p i) ≡ Some (get_or p i (0, [])).1
+text_at-number p is i in_range = text_at-place p (statement_number p i) i (IsAt-from_rising p (both_true _ _ is).0 i in_range)

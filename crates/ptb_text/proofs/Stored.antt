@@ -5,7 +5,7 @@ use Rattle.ptb_text.specs.declared.program.Statement.{Statement}
 use Rattle.ptb_text.specs.declared.program.Program.TheInside.{Inside}
 use Rattle.ptb_text.specs.Statements.{StoredProgram, cost, is_program}
 use Rattle.ptb_text.specs.Program.{stored_program, IsKept}
-use Rattle.ptb_text.specs.Places.{number_at}
+use Rattle.ptb_text.specs.Places.{statement_number}
 use Rattle.ptb_text.proofs.Sound.{StatementFacts_at}
 
 -- a statement as a line shows it
@@ -24,7 +24,7 @@ line_read f p shows i s in_range read =
 -- the same of a statement that is looked up
 pub record IsShownAt (p : StoredProgram) (i n : ℕ) : Type 0 where
   pub in_range : i < length p.lines
-  pub has_number : number_at p.lines i ≡ n
+  pub has_number : statement_number p.lines i ≡ n
   pub low : 0 < n
   pub high : n ≤ 32767
 

@@ -6,7 +6,7 @@ pub mod Loading
 pub mod Places
 pub mod Program
 pub mod Statements
-pub mod Spot
+pub mod CursorState
 pub mod Words
 pub mod WordSearch
 pub mod Finding

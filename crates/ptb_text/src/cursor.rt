@@ -4,13 +4,14 @@ ghost use Rattle.std.specs.Prelude.{◌≡◌, ℕ, ◌+◌, ◌<◌, ◌≤◌,
 ghost use Rattle.std.specs.Prelude.{IsTrue, IsFalse, IsSome, IsNone, IfSome, option_map, take, min};
 ghost use Rattle.std.specs.Prelude.{position, ◌==◌};
 ghost use Rattle.std.specs.List.{prefix_len};
-ghost use Rattle.ptb_text.specs.Spot.{Spot, bytes_left};
+ghost use Rattle.ptb_text.specs.CursorState.{CursorState, bytes_left};
 ghost use Rattle.ptb_text.specs.Statements.{is_digit, digits_value};
 ghost use Rattle.ptb_text.specs.Finding.{past_byte, StandsNext, lone_letter_at};
 ghost use Rattle.ptb_text.specs.Words.{past_blanks, next_byte_at, is_over, token_at, pair_at};
 ghost use Rattle.ptb_text.specs.Words.{letter_at, number_at, is_number, quotation_at, quotation_of};
 ghost use Rattle.ptb_text.specs.Words.{is_text, IsPieceFrom, word_at, IsWordOf};
 
+use crate::letter::Letter;
 use crate::spelling::table_word_at;
 use crate::word::{Number, Quoted, Table, Word};
 use std::marker::Model;
@@ -32,7 +33,7 @@ pub struct Cursor<'a> {
 }
 
 impl<'a> Model for Cursor<'a> {
-    ghost Value = { Spot };
+    ghost Value = { CursorState };
 
     ghost view = { λ c. record { text = c.text.now; place = c.place } };
 
@@ -94,6 +95,21 @@ impl<'a> Cursor<'a> {
         ensures { result ≡ self.now.place }
     {
         self.place
+    }
+
+    /// The whole text.
+    pub fn text(&self) -> &'a [u8]
+        ensures { result.now ≡ self.now.text }
+    {
+        self.text
+    }
+
+    /// Goes to a place of the text: at most its length. What was taken behind it can be taken again.
+    pub fn go_to(&mut self, place: usize)
+        requires { place ≤ length self.old.text }
+        ensures { self.new ≡ record { text = self.old.text; place = place } }
+    {
+        *self = Cursor::new(self.text, place);
     }
 
     /// Whether nothing but blanks stands from the place on.
@@ -174,22 +190,18 @@ impl<'a> Cursor<'a> {
     }
 
     /// Takes a letter A to Z, if one stands next.
-    pub fn letter(&mut self) -> Option<u8>
+    pub fn letter(&mut self) -> Option<Letter>
         ensures value { letter_at self.old.text self.old.place
             ≡ option_map (λ b. (b, self.new.place)) result }
-        ensures range { IfSome result (λ b. (65 ≤ b) × (b ≤ 90)) }
         ensures text { self.new.text ≡ self.old.text }
         ensures taken { IsSome result → bytes_left self.new < bytes_left self.old }
         ensures left { bytes_left self.new ≤ bytes_left self.old }
         ensures absent { IsNone result → self.new.place ≡ self.old.place }
     {
-        match self.next_byte() {
-            Some(byte) if byte.is_ascii_uppercase() => {
-                self.take_byte();
-                Some(byte)
-            }
-            _ => None,
-        }
+        let byte = self.next_byte()?;
+        let letter = Letter::new(byte)?;
+        self.take_byte();
+        Some(letter)
     }
 
     /// Takes a letter A to Z that neither a letter nor a period follows at once. So no word begins
@@ -197,21 +209,17 @@ impl<'a> Cursor<'a> {
     ///
     /// Most letters in expressions are such, and it pays to look for one before any word.
     #[inline(always)]
-    pub fn lone_letter(&mut self) -> Option<u8>
+    pub fn lone_letter(&mut self) -> Option<Letter>
         ensures value { lone_letter_at self.old.text self.old.place
             ≡ option_map (λ b. (b, self.new.place)) result }
         ensures letter { IfSome result (λ b.
             letter_at self.old.text self.old.place ≡ Some (b, self.new.place)) }
-        ensures range { IfSome result (λ b. (65 ≤ b) × (b ≤ 90)) }
         ensures text { self.new.text ≡ self.old.text }
         ensures taken { IsSome result → bytes_left self.new < bytes_left self.old }
         ensures left { bytes_left self.new ≤ bytes_left self.old }
         ensures absent { IsNone result → self.new.place ≡ self.old.place }
     {
-        let letter = self.next_byte()?;
-        if !letter.is_ascii_uppercase() {
-            return None;
-        }
+        let letter = Letter::new(self.next_byte()?)?;
         match self.text.get(self.next + 1) {
             Some(byte) if byte.is_ascii_uppercase() || *byte == b'.' => None,
             _ => {

@@ -12,7 +12,7 @@ pub fn finding_laws()
 
 /// A statement has its text under its number, and the next number is that of the statement behind
 /// it.
-#[tactic(auto, using(crate::proofs::Standing::statement_laws))]
+#[tactic(auto, using(crate::proofs::NextByte::statement_laws))]
 pub fn statement_laws()
     ensures { StatementLaws }
 {}

@@ -4,6 +4,7 @@ ghost use Rattle.std.specs.Prelude.{IfOk};
 ghost use Rattle.ptb_text.specs.Statements.{IsMemorySize};
 
 use super::*;
+use crate::request::{DEFAULT_MEMORY, DEFAULT_STEPS};
 use ptb_text::Device;
 use std::alloc::AllocError;
 use std::io;
@@ -55,12 +56,12 @@ struct Asked<'a> {
     first: Option<u64>,
 }
 
-// All runs of a program without input, of 10000 steps at most.
+// All runs of a program without input, by a request that gives no steps.
 fn all_of(program: &[u8]) -> Asked<'_> {
     Asked {
         program,
         input: b"",
-        steps: 10_000,
+        steps: DEFAULT_STEPS,
         after: None,
         first: None,
     }
@@ -75,7 +76,7 @@ fn request_of(alloc: Global, asked: &Asked<'_>) -> Result<Request, AllocError>
     };
     Ok(Request {
         steps: asked.steps,
-        memory: 4096,
+        memory: DEFAULT_MEMORY,
         mode: Mode::All {
             after,
             first: asked.first,

@@ -4,6 +4,7 @@ ghost use Rattle.std.specs.Prelude.{IfOk};
 ghost use Rattle.ptb_text.specs.Statements.{IsMemorySize};
 
 use super::*;
+use crate::request::{DEFAULT_MEMORY, DEFAULT_STEPS};
 use ptb_text::{Device, LoadFault};
 use std::alloc::AllocError;
 use std::io;
@@ -110,12 +111,12 @@ struct Row<'a> {
     note: Option<Note>,
 }
 
-// A run with 10000 steps, a memory of 4096, and no answers and input lines.
+// A run of a request that gives neither steps nor memory, without answers and input lines.
 fn run_row<'a>(program: &'a [u8], bytes: &'a [u8], status: u8) -> Row<'a> {
     Row {
         asked: Asked::Run(&[]),
-        steps: 10_000,
-        memory: 4096,
+        steps: DEFAULT_STEPS,
+        memory: DEFAULT_MEMORY,
         program,
         input: b"",
         bytes,

@@ -1,6 +1,6 @@
 // This file tries the cursor at texts whose words, tokens, numbers and strings are known.
 
-use crate::{Cursor, Number, Quoted, Table, Word};
+use crate::{Cursor, Letter, Number, Quoted, Table, Word};
 
 #[test]
 fn finds_words(rt: HostRuntime) {
@@ -94,7 +94,7 @@ fn finds_letters(rt: HostRuntime) {
     ];
     for (text, letter, after) in rows {
         let mut cur = Cursor::new(text, 0);
-        assert_eq!(rt; cur.letter(), letter, "in {text:?}");
+        assert_eq!(rt; cur.letter(), letter.and_then(Letter::new), "in {text:?}");
         assert_eq!(rt; cur.place(), after, "after {text:?}");
     }
     let rows: [(&[u8], Option<u8>, usize); 6] = [
@@ -107,7 +107,11 @@ fn finds_letters(rt: HostRuntime) {
     ];
     for (text, letter, after) in rows {
         let mut cur = Cursor::new(text, 0);
-        assert_eq!(rt; cur.lone_letter(), letter, "in {text:?}");
+        assert_eq!(rt;
+            cur.lone_letter(),
+            letter.and_then(Letter::new),
+            "in {text:?}"
+        );
         assert_eq!(rt; cur.place(), after, "after {text:?}");
     }
 }
@@ -157,6 +161,44 @@ fn finds_strings(rt: HostRuntime) {
         let mut cur = Cursor::new(text, 0);
         assert_eq!(rt; cur.quoted(), quoted, "in {text:?}");
         assert_eq!(rt; cur.place(), after, "after {text:?}");
+    }
+}
+
+#[test]
+fn makes_letters(rt: HostRuntime) {
+    let rows: [(u8, Option<usize>); 7] = [
+        (b'A', Some(0)),
+        (b'I', Some(8)),
+        (b'Z', Some(25)),
+        (b'@', None),
+        (b'[', None),
+        (b'a', None),
+        (b'0', None),
+    ];
+    for (byte, index) in rows {
+        assert_eq!(rt; Letter::new(byte).map(Letter::index), index, "{byte}");
+    }
+    assert!(rt; Letter::new(b'A') != Letter::new(b'B'));
+}
+
+#[test]
+fn goes_to_places(rt: HostRuntime) {
+    let text: &[u8] = b"A  B";
+    let rows: [(usize, bool, Option<u8>); 5] = [
+        (3, false, Some(b'B')),
+        (4, true, None),
+        (0, false, Some(b'A')),
+        (2, false, Some(b'B')),
+        (1, false, Some(b'B')),
+    ];
+    let mut cur = Cursor::new(text, 0);
+    for (place, at_end, next) in rows {
+        assert!(rt; place <= cur.text().len());
+        cur.go_to(place);
+        assert_eq!(rt; cur.place(), place);
+        assert_eq!(rt; cur.at_end(), at_end, "at {place}");
+        assert_eq!(rt; cur.next_byte(), next, "at {place}");
+        assert!(rt; cur.text() == text);
     }
 }
 

@@ -8,7 +8,7 @@ use Rattle.ptb_explore.proofs.explorer.check_run.Goals.{else-len-planned-via-the
 
 pub returns-then-len-planned-2 : goal.returns-then-len-planned-2
 returns-then-len-planned-2 c =
-    let p = c.args.program.now in
+    let p = c.args.player.now in
     let input = c.args.lines.now in
     let limit = c.args.limit in
     let plan = c.args.trial.now.answers in
@@ -17,11 +17,11 @@ returns-then-len-planned-2 c =
     let taken : length new.bounds.items ≡ length plan.items = omega (arith, c.if-len-planned.true, new.bounds.ok.0, plan.ok.0) in
     let alone : length new.answers.items ≡ length plan.items = omega (arith, c.if-len-planned-2.true, new.answers.ok.0, plan.ok.0) in
     let whole = whole_plan (play p input limit) new c.in_ok-play_plan.field-0.steps c.play_plan.new.screen (most_answers p input limit) (c.run_laws.ensures.reads p input limit) plan.items planned taken alone c.in_ok-play_plan.field-0.ending c.in_ok-play_plan.ensures.ends in
-    record { run = whole.0; answers = whole.1; bounds = whole.2; not_a_run = search rules }
+    record { program = c.in_ok-play_plan.ensures.program; run = whole.0; answers = whole.1; bounds = whole.2; not_a_run = search rules }
 
 pub returns-clause-not_a_run : goal.returns-clause-not_a_run
 returns-clause-not_a_run c = λ _ run.
-    let p = c.args.program.now in
+    let p = c.args.player.now in
     let input = c.args.lines.now in
     let limit = c.args.limit in
     let plan = c.args.trial.now.answers in

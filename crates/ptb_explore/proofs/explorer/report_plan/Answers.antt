@@ -7,7 +7,7 @@ use Rattle.ptb_explore.proofs.explorer.report_plan.Goals as goal
 
 pub returns-clause-ends : goal.returns-clause-ends
 returns-clause-ends c =
-    let p = c.args.program.now in
+    let p = c.args.player.now in
     let input = c.args.lines.now in
     let limit = c.args.limit in
     let planned = c.in_ok-played.ensures.plan ∙ fresh_plan c.args.trial.now c.requires.fresh in

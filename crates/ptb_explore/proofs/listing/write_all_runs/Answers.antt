@@ -3,7 +3,7 @@ use Rattle.std.proofs.Common.{◌≡◌, ℕ, List, Bool, Option, Some, Result, 
 use Rattle.std.specs.Option.{option_eq}
 use Rattle.ptb_explore.specs.declared.fault.NextFault.{NextFault}
 use Rattle.ptb_explore.specs.declared.fault.NextFault.TheVariants as next
-use Rattle.ptb_explore.specs.Runs.{Front, runs_left}
+use Rattle.ptb_explore.specs.RunTree.{Front, runs_left}
 use Rattle.ptb_explore.specs.Report.{report}
 use Rattle.ptb_explore.specs.Listing.{NextWrites}
 use Rattle.ptb_explore.specs.Exploring.{Exploration, play_of, most_of}

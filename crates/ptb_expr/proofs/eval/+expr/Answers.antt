@@ -9,7 +9,7 @@ use Rattle.ptb_text.specs.Words.{token_at, word_at, number_at, is_number, letter
 use Rattle.ptb_text.specs.Finding.{lone_letter_at}
 use Rattle.ptb_expr.specs.Operators.{product_operator, sum_operator, comparison}
 use Rattle.ptb_expr.proofs.Reaching.{reaches_same, runs_then}
-use Rattle.ptb_expr.proofs.Parts.{part_ok, part_err, operate_last, part_ends, part_is, more_ok, more_err, more_how, more_ends, at_text, product_is, sum_is, first_product_minus, first_product_plain, expr_is, compared_goes, compared_ends, at_spot, part_faults, within_runs, paren_opens, paren_missing, close_closes, close_missing, factor_rnd, factor_abs, factor_size, factor_plain, factor_letter, factor_number, factor_too_big, plain_letter, plain_element, plain_paren}
+use Rattle.ptb_expr.proofs.Parts.{part_ok, part_err, operate_last, part_ends, part_is, more_ok, more_err, more_how, more_ends, at_text, product_is, sum_is, first_product_minus, first_product_plain, expr_is, compared_goes, compared_ends, at_place, part_faults, within_runs, paren_opens, paren_missing, close_closes, close_missing, factor_rnd, factor_abs, factor_size, factor_plain, factor_letter, factor_number, factor_too_big, plain_letter, plain_element, plain_paren}
 use Rattle.ptb_expr.proofs.Taking.{number_alone}
 use Rattle.ptb_expr.proofs.eval.+expr.Goals as goal
 
@@ -183,7 +183,7 @@ first_product-returns-clause-value g m c = λ t n same enough.
     let left' = c.if-token.ensures.left in
     let text' = c.if-token.ensures.text ∙ same in
     let place' = c.if-token.ensures.absent refl in
-    let plus = at_spot (λ u i. token_at 43 u i) text' place' c.token-2.ensures.value in
+    let plus = at_place (λ u i. token_at 43 u i) text' place' c.token-2.ensures.value in
     part_is _ _ _ _ _ _ _ (first_product_plain _ _ _ _ _ c.token-2.result none plus (λ no. c.token-2.ensures.absent no ∙ place')) (c.product-2.ensures.value t n (c.token-2.ensures.text ∙ text') (omega (arith, c.token-2.ensures.left)))
 
 pub paren-returns-then-not-token-clause-value : goal.paren-returns-then-not-token-clause-value
@@ -228,7 +228,7 @@ pub factor-returns-in-Value-clause-value : goal.factor-returns-in-Value-clause-v
 factor-returns-in-Value-clause-value g m c = λ t n same enough.
     let text1 = c.in_default.ensures.text ∙ same in
     let place1 = c.in_default.ensures.absent refl in
-    let here = at_spot number_at text1 place1 c.in-Value.ensures.value in
+    let here = at_place number_at text1 place1 c.in-Value.ensures.value in
     let ev = to_z-of_z w16 c.in-Value.value (search rules) in
     rw ev (part_ends _ _ _ _ _ _ _ _ (reaches_same _ _) (factor_number _ _ _ _ _ _ (number_alone c.finding_laws.ensures t _ (ap (λ r. is_number r.0) here)) here) refl)
 
@@ -236,7 +236,7 @@ pub factor-returns-in-TooBig-clause-value : goal.factor-returns-in-TooBig-clause
 factor-returns-in-TooBig-clause-value g m c = λ t n same enough.
     let text1 = c.in_default.ensures.text ∙ same in
     let place1 = c.in_default.ensures.absent refl in
-    let here = at_spot number_at text1 place1 c.in-TooBig.ensures.value in
+    let here = at_place number_at text1 place1 c.in-TooBig.ensures.value in
     part_faults _ _ _ _ _ _ _ _ _ _ (reaches_same _ _) (factor_too_big _ _ _ _ _ (number_alone c.finding_laws.ensures t _ (ap (λ r. is_number r.0) here)) here) c.fault_at.ensures c.place.ensures
 
 pub factor-returns-in-Absent-clause-value : goal.factor-returns-in-Absent-clause-value
@@ -302,7 +302,7 @@ plain-returns-in_err-i-clause-value g m c = λ t n same enough.
     let left1 = c.in_default.ensures.left in
     let text1 = c.in_default.ensures.text ∙ same in
     let place1 = c.in_default.ensures.absent refl in
-    let here = at_spot (λ u i. token_at 64 u i) text1 place1 c.if-token.ensures.value in
+    let here = at_place (λ u i. token_at 64 u i) text1 place1 c.if-token.ensures.value in
     let left2 = c.if-token.ensures.left in
     let text2 = c.if-token.ensures.text ∙ text1 in
     let p = err_from_is_err_and c.from_residual.result c.from_residual.ensures.1 in
@@ -314,7 +314,7 @@ plain-returns-then-token-clause-value g m c = λ t n same enough.
     let left1 = c.in_default.ensures.left in
     let text1 = c.in_default.ensures.text ∙ same in
     let place1 = c.in_default.ensures.absent refl in
-    let here = at_spot (λ u i. token_at 64 u i) text1 place1 c.if-token.ensures.value in
+    let here = at_place (λ u i. token_at 64 u i) text1 place1 c.if-token.ensures.value in
     let left2 = c.if-token.ensures.left in
     let text2 = c.if-token.ensures.text ∙ text1 in
     let ei = to_z-of_z w16 c.in_ok-i.i (search rules) in
@@ -326,7 +326,7 @@ plain-returns-clause-value g m c = λ t n same enough.
     let left1 = c.in_default.ensures.left in
     let text1 = c.in_default.ensures.text ∙ same in
     let place1 = c.in_default.ensures.absent refl in
-    let none = at_spot (λ u i. token_at 64 u i) text1 place1 c.if-token.ensures.value in
+    let none = at_place (λ u i. token_at 64 u i) text1 place1 c.if-token.ensures.value in
     let left2 = c.if-token.ensures.left in
     let text2 = c.if-token.ensures.text ∙ text1 in
     let place2 = c.if-token.ensures.absent refl ∙ place1 in

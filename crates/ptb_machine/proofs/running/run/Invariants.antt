@@ -7,9 +7,9 @@ use Rattle.ptb_machine.proofs.running.run.Given as goal
 
 abbrev pub invariant-steps : goal.invariant-steps
 invariant-steps g l =
-    FitsProgram l.program l.machine × (l.machine.spent ≡ false)
+    (l.player ≡ l.program) × FitsProgram l.player l.machine × (l.machine.spent ≡ false)
     × ((given : List (List ℕ)) × (g.L.LineSource.gives l.fn.source given l.source
-    × HasRun l.program l.limit l.machine
+    × HasRun l.player l.limit l.machine
     (devices (g.C.Chooser.choices l.fn.chooser) (screen_state g.S.Screen l.fn.screen) [])
     (devices (g.C.Chooser.choices l.chooser) (screen_state g.S.Screen l.screen) given)))
 

@@ -1,44 +1,60 @@
 -- This file answers what is left to prove of `numbered_line`.
-use Rattle.std.proofs.Common.{◌≡◌, ◌<◌, length, drop, min, sym, ap, ◌∙◌, arith}
-use Rattle.ptb_text.specs.Statements.{digits_value, is_digit, trim_start}
-use Rattle.ptb_text.proofs.ByteTests.{list_all-prefix}
-use Rattle.ptb_text.proofs.LineParts.{digits_of, no_bytes, some_bytes, after_bad_byte, after_blanks, after_no_number, after_too_big, after_number}
+use Rattle.std.proofs.Common.{rules, arith, ◌≤◌, ◌∙◌, sym, ap, length, drop, ◌-◌}
+use Rattle.std.specs.Prelude.{unsigned_abs}
+use Rattle.std.proofs.lemmas.List.{take_all, length-drop}
+use Rattle.std.proofs.lemmas.Int.{to_z-of_z}
+use mir.Syntax.{w16}
+use Rattle.ptb_text.proofs.LineParts.{over_in_front, number_in_front, in_front, in_front-trim_start, some_in_front, none_in_front, number_too_big, number_absent, number_value, after_blanks, after_no_number, after_too_big, after_number}
 use Rattle.ptb_text.proofs.line.numbered_line.Goals as goal
-use Rattle.ptb_text.proofs.line.numbered_line.Goals.{After-capped_value-number}
 
-pub returns-in-Some : goal.returns-in-Some
-returns-in-Some c = after_bad_byte c.args.line.now c.in-Some.place (sym c.in-Some.ensures.value)
+pub returns-then-at_end : goal.returns-then-at_end
+returns-then-at_end c =
+    let line = c.args.line.now in
+    let over = over_in_front _ line _ c.new-cursor.ensures (sym c.at_end.ensures ∙ c.if-at_end.true) in
+    after_blanks line (in_front line) (sym c.in_default.ensures.value) (in_front-trim_start line) (none_in_front line over)
 
-pub returns-then-is_empty : goal.returns-then-is_empty
-returns-then-is_empty c =
-    let t = c.trim_start-line.result.now in
-    after_blanks c.args.line.now t (sym c.in_default.ensures.value) c.trim_start-line.ensures (no_bytes t _ c.is_empty.ensures c.if-is_empty.true)
+pub returns-in-TooBig : goal.returns-in-TooBig
+returns-in-TooBig c =
+    let line = c.args.line.now in
+    let over = over_in_front _ line _ c.new-cursor.ensures (sym c.at_end.ensures ∙ c.if-at_end.false) in
+    let here = number_in_front _ line _ _ c.new-cursor.ensures c.in-TooBig.ensures.value in
+    after_too_big line (in_front line) (sym c.in_default.ensures.value) (in_front-trim_start line) (some_in_front line over) (number_too_big line _ here)
 
--- the digits are those in front
-pub capped_value-number-requires : goal.capped_value-number-requires
-capped_value-number-requires c = rw (c.split_at.ensures.front, c.digits_in_front.ensures.value) (list_all-prefix is_digit c.trim_start-line.result.now)
-
-value_is : (c : After-capped_value-number) → c.capped_value-number.result ≡ min (digits_value (digits_of c.trim_start-line.result.now)) 32768
-value_is c = rw (← c.digits_in_front.ensures.value, ← c.split_at.ensures.front) c.capped_value-number.ensures
-
-some : (c : After-capped_value-number) → 0 < length c.trim_start-line.result.now
-some c = some_bytes c.trim_start-line.result.now _ c.is_empty.ensures c.if-is_empty.false
+pub returns-in-Absent : goal.returns-in-Absent
+returns-in-Absent c =
+    let line = c.args.line.now in
+    let over = over_in_front _ line _ c.new-cursor.ensures (sym c.at_end.ensures ∙ c.if-at_end.false) in
+    let here = number_in_front _ line _ _ c.new-cursor.ensures c.in-Absent.ensures.value in
+    after_no_number line (in_front line) (sym c.in_default.ensures.value) (in_front-trim_start line) (some_in_front line over) (number_absent line _ here)
 
 pub returns-then-number-eq0 : goal.returns-then-number-eq0
 returns-then-number-eq0 c =
-    let a = (goal.at.returns-then-number-eq0 c).After-capped_value-number in
-    let value = value_is a in
-    after_no_number c.args.line.now c.trim_start-line.result.now (sym c.in_default.ensures.value) c.trim_start-line.ensures (some a) (omega arith)
+    let line = c.args.line.now in
+    let over = over_in_front _ line _ c.new-cursor.ensures (sym c.at_end.ensures ∙ c.if-at_end.false) in
+    let here = number_in_front _ line _ _ c.new-cursor.ensures c.in-Value.ensures.value in
+    let parts = number_value line _ _ here in
+    let ev = to_z-of_z w16 c.in-Value.number (search rules) in
+    let is = c.unsigned_abs-number.ensures.value ∙ ap unsigned_abs (ev ∙ sym parts.value) in
+    after_no_number line (in_front line) (sym c.in_default.ensures.value) (in_front-trim_start line) (some_in_front line over) (sym is ∙ c.if-number-eq0.true)
 
-pub returns-then-number-gt-NUMBER_LIMIT : goal.returns-then-number-gt-NUMBER_LIMIT
-returns-then-number-gt-NUMBER_LIMIT c =
-    let a = (goal.at.returns-then-number-gt-NUMBER_LIMIT c).After-capped_value-number in
-    let value = value_is a in
-    after_too_big c.args.line.now c.trim_start-line.result.now (sym c.in_default.ensures.value) c.trim_start-line.ensures (some a) (omega arith)
+pub slice_bounds-result-count : goal.slice_bounds-result-count
+slice_bounds-result-count c =
+    let here = number_in_front _ c.args.line.now _ _ c.new-cursor.ensures c.in-Value.ensures.value in
+    omega (arith, c.place.ensures, (number_value c.args.line.now _ _ here).within)
+
+pub slice_bounds-result-start : goal.slice_bounds-result-start
+slice_bounds-result-start c =
+    let here = number_in_front _ c.args.line.now _ _ c.new-cursor.ensures c.in-Value.ensures.value in
+    let within : c.place.result ≤ length c.args.line.now = omega (arith, c.place.ensures, (number_value c.args.line.now _ _ here).within) in
+    search rules
 
 pub returns : goal.returns
 returns c =
-    let a = (goal.at.returns c).After-capped_value-number in
-    let value = value_is a in
-    let text = c.trim_start.ensures ∙ ap trim_start (c.split_at.ensures.back ∙ ap (λ k. drop k c.trim_start-line.result.now) c.digits_in_front.ensures.value) in
-    rw text (after_number c.args.line.now c.trim_start-line.result.now (sym c.in_default.ensures.value) c.trim_start-line.ensures _ (some a) (omega arith) (omega arith) (omega arith))
+    let line = c.args.line.now in
+    let over = over_in_front _ line _ c.new-cursor.ensures (sym c.at_end.ensures ∙ c.if-at_end.false) in
+    let here = number_in_front _ line _ _ c.new-cursor.ensures c.in-Value.ensures.value in
+    let parts = number_value line _ _ here in
+    let ev = to_z-of_z w16 c.in-Value.number (search rules) in
+    let is = c.unsigned_abs-number.ensures.value ∙ ap unsigned_abs (ev ∙ sym parts.value) in
+    let text = take_all (length line - c.place.result) (drop c.place.result line) (omega (arith, length-drop c.place.result line)) ∙ ap (λ j. drop j line) c.place.ensures ∙ parts.text in
+    rw text (after_number line (in_front line) (sym c.in_default.ensures.value) (in_front-trim_start line) _ (some_in_front line over) (sym is) (omega arith) (omega (arith, is, parts.high)))

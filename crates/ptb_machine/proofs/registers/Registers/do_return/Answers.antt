@@ -1,18 +1,24 @@
 -- This file answers the goals of RETURN.
-use Rattle.std.proofs.Common.{refl, sym, ◌∙◌}
+use Rattle.std.proofs.Common.{ℕ, ap, refl, sym, ◌∙◌}
+use Rattle.ptb_expr.specs.declared.fault.FaultKind.TheVariants.{What}
+use Rattle.ptb_expr.specs.Value.{fault}
+use Rattle.ptb_machine.specs.declared.stop.Stop.TheVariants as stops
 use Rattle.ptb_machine.specs.Configuration.{configuration}
 use Rattle.ptb_machine.proofs.Calling.{return_wrong, return_nowhere, return_done}
 use Rattle.ptb_machine.proofs.registers.Registers.do_return.Goals as goal
 
-pub returns-then-not-is_over-clause-acts : goal.returns-then-not-is_over-clause-acts
-returns-then-not-is_over-clause-acts c p q d = return_wrong p (configuration c.args.self.now) d q _ _ _ c.fault.ensures (sym c.is_over.ensures ∙ c.if-not-is_over.true)
+pub returns-then-not-at_end : goal.returns-then-not-at_end
+returns-then-not-at_end c p q d steps fresh spent =
+    return_wrong p (configuration c.args.self.now steps fresh spent) d q c.args.cursor.now.text c.args.cursor.now.place
+    _ (c.fault.ensures ∙ ap (λ (j : ℕ). stops.Fault (fault What j)) c.place.ensures) (sym c.at_end.ensures ∙ c.if-not-at_end.true)
 
-pub returns-in_default-clause-acts : goal.returns-in_default-clause-acts
-returns-in_default-clause-acts c p q d =
-    return_nowhere p (configuration c.args.self.now) d q _ _ c.close_call.new.opens.items _ c.fault-in_default.ensures
-    (sym c.is_over.ensures ∙ c.if-not-is_over.false) c.in_default.ensures.0 c.in_default.ensures.1
+pub returns-in_default : goal.returns-in_default
+returns-in_default c p q d steps fresh spent =
+    return_nowhere p (configuration c.args.self.now steps fresh spent) d q c.args.cursor.now.text c.args.cursor.now.place
+    c.close_call.new.self _ (c.fault-in_default.ensures ∙ ap (λ (j : ℕ). stops.Fault (fault What j)) c.place-in_default.ensures)
+    (sym c.at_end.ensures ∙ c.if-not-at_end.false) c.in_default.ensures.0 c.in_default.ensures.1
 
-pub returns-clause-acts : goal.returns-clause-acts
-returns-clause-acts c p q d =
-    return_done p (configuration c.args.self.now) d q _ _ _ c.in-Some.back c.close_call.new.opens.items
-    (sym c.is_over.ensures ∙ c.if-not-is_over.false) c.in-Some.ensures refl
+pub returns : goal.returns
+returns c p q d steps fresh spent =
+    return_done p (configuration c.args.self.now steps fresh spent) d q _ _ _ c.in-Some.back c.close_call.new.self
+    (sym c.at_end.ensures ∙ c.if-not-at_end.false) c.in-Some.ensures refl

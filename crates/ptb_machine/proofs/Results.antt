@@ -1,0 +1,97 @@
+-- This file proves which results a step can have.
+use Rattle.std.proofs.Common.{◌≡◌, ◌↔◌, ◌∙◌, ℕ, Bool, true, false, List, Option, Some, None, Result, Ok, Err, is_err, refl, sym, ap, subst}
+use Rattle.ptb_expr.specs.declared.fault.Fault.{Fault}
+use Rattle.ptb_expr.specs.declared.fault.FaultKind.{FaultKind}
+use Rattle.ptb_expr.specs.declared.pause.Pause.TheVariants as pauses
+use Rattle.ptb_machine.specs.declared.ending.Ending.{Ending}
+use Rattle.ptb_machine.specs.declared.fault.RunFault.{RunFault}
+use Rattle.ptb_machine.specs.declared.fault.RunFault.TheVariants as faults
+use Rattle.ptb_machine.specs.declared.fault.ScreenFault.{ScreenFault}
+use Rattle.ptb_machine.specs.declared.fault.ScreenFault.TheVariants as screens
+use Rattle.ptb_machine.specs.declared.stop.DeviceError.{DeviceError}
+use Rattle.ptb_machine.specs.declared.stop.DeviceError.TheVariants as errors
+use Rattle.ptb_machine.specs.declared.stop.Stop.{Stop}
+use Rattle.ptb_machine.specs.declared.stop.Stop.TheVariants as stops
+use Rattle.ptb_machine.specs.Act.{report_bytes}
+use Rattle.ptb_machine.specs.Traces.{Trace}
+use Rattle.ptb_machine.specs.Reports.{IsShown}
+use Rattle.ptb_machine.specs.Steps.{fault_of, reported, IsResultOf}
+
+-- a fault that was reported, or not
+pub result_reported : (o n : Trace) (number : ℕ) (text : List ℕ) (f : Fault) (done : Result (Unit {0}) Stop) (r : Result (Option Ending) RunFault) (shown : Result (Unit {0}) ScreenFault) → done ≡ Err (stops.Fault f) → r ≡ reported f.kind shown → IsShown o n (report_bytes o.fresh number text f) shown → IsResultOf o n number text done r
+result_reported o n number text f done r shown e is shows =
+    subst (λ (x : Result (Unit {0}) Stop). IsResultOf o n number text x r) (sym e) (record { shown = shown; is = is; shows = shows })
+
+-- ---- whether the run is over
+
+abbrev is_over : Result (Option Ending) RunFault → Bool
+is_over (Ok None) = false
+is_over (Ok (Some ending)) = true
+is_over (Err e) = true
+
+not_over : (r : Result (Option Ending) RunFault) → is_over r ≡ false → r ≡ Ok None
+not_over (Ok None) e = refl
+not_over (Ok (Some ending)) e = absurd cc
+not_over (Err x) e = absurd cc
+
+reported_over : (kind : FaultKind) (shown : Result (Unit {0}) ScreenFault) → is_over (reported kind shown) ≡ true
+reported_over kind (Ok x) = refl
+reported_over kind (Err x) = refl
+
+result_over : (o n : Trace) (number : ℕ) (text : List ℕ) (done : Result (Unit {0}) Stop) (r : Result (Option Ending) RunFault) → IsResultOf o n number text done r → is_over r ≡ is_err done
+result_over o n number text (Ok x) r is = ap is_over is.is
+result_over o n number text (Err (stops.Fault f)) r is = ap is_over is.is ∙ reported_over f.kind is.shown
+result_over o n number text (Err stops.Ended) r is = ap is_over is.is
+result_over o n number text (Err stops.NoInput) r is = ap is_over is.is
+result_over o n number text (Err (stops.Pause pauses.Ended)) r is = ap is_over is.is
+result_over o n number text (Err (stops.Pause (pauses.OutOfRange k))) r is = ap is_over is.is
+result_over o n number text (Err (stops.Pause pauses.Memory)) r is = ap is_over is.is
+result_over o n number text (Err (stops.Broke x)) r is = ap is_over is.is
+
+-- it goes on where the command was done
+pub result_goes : (o n : Trace) (number : ℕ) (text : List ℕ) (done : Result (Unit {0}) Stop) (r : Result (Option Ending) RunFault) → IsResultOf o n number text done r → (r ≡ Ok None ↔ is_err done ≡ false)
+result_goes o n number text done r is =
+    let same = result_over o n number text done r is in
+    (λ e. sym same ∙ ap is_over e, λ e. not_over r (same ∙ e))
+
+-- ---- whether the run was over before
+
+abbrev is_spent : Result (Option Ending) RunFault → Bool
+is_spent (Ok x) = false
+is_spent (Err faults.Memory) = false
+is_spent (Err faults.Read) = false
+is_spent (Err faults.Write) = false
+is_spent (Err faults.Spent) = true
+
+error_unspent : (e : DeviceError) → is_spent (Err (fault_of e)) ≡ false
+error_unspent errors.Memory = refl
+error_unspent errors.Read = refl
+error_unspent errors.Write = refl
+
+reported_unspent : (kind : FaultKind) (shown : Result (Unit {0}) ScreenFault) → is_spent (reported kind shown) ≡ false
+reported_unspent kind (Ok x) = refl
+reported_unspent kind (Err screens.Memory) = refl
+reported_unspent kind (Err screens.Write) = refl
+
+not_spent : (o n : Trace) (number : ℕ) (text : List ℕ) (done : Result (Unit {0}) Stop) (r : Result (Option Ending) RunFault) → IsResultOf o n number text done r → is_spent r ≡ false
+not_spent o n number text (Ok x) r is = ap is_spent is.is
+not_spent o n number text (Err (stops.Fault f)) r is = ap is_spent is.is ∙ reported_unspent f.kind is.shown
+not_spent o n number text (Err stops.Ended) r is = ap is_spent is.is
+not_spent o n number text (Err stops.NoInput) r is = ap is_spent is.is
+not_spent o n number text (Err (stops.Pause pauses.Ended)) r is = ap is_spent is.is
+not_spent o n number text (Err (stops.Pause (pauses.OutOfRange k))) r is = ap is_spent is.is
+not_spent o n number text (Err (stops.Pause pauses.Memory)) r is = ap is_spent is.is
+not_spent o n number text (Err (stops.Broke x)) r is = ap is_spent is.is ∙ error_unspent x
+
+-- it was not, where a command was done or stopped
+pub result_unspent : (o n : Trace) (number : ℕ) (text : List ℕ) (done : Result (Unit {0}) Stop) (r : Result (Option Ending) RunFault) → IsResultOf o n number text done r → r ≡ Err faults.Spent → ⊥
+result_unspent o n number text done r is e =
+    let k : true ≡ false = sym (ap is_spent e) ∙ not_spent o n number text done r is in
+    absurd cc
+
+-- ---- devices
+
+-- what holds of devices that are the same
+pub at_devices : {C S L : Type 0} (P : C → S → L → Type 0) {x : C} {y : S} {z : L} (c : C) (s : S) (l : L) → x ≡ c → y ≡ s → z ≡ l → P c s l → P x y z
+at_devices P {x = x} {y = y} {z = z} c s l e k h p =
+    subst (λ a. P a y z) (sym e) (subst (λ a. P c a z) (sym k) (subst (λ a. P c s a) (sym h) p))

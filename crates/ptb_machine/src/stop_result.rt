@@ -1,0 +1,58 @@
+// This file says what a step comes to, by what its command comes to.
+
+ghost use Rattle.std.specs.Prelude.{◌≡◌, ℕ, List, Some, slice_get};
+ghost use Rattle.ptb_expr.specs.Store.{Cells};
+ghost use Rattle.ptb_machine.specs.Io.{io_trace, SameDevices};
+ghost use Rattle.ptb_machine.specs.Steps.{fault_of, IsResultOf};
+
+use crate::ending::Ending;
+use crate::fault::RunFault;
+use crate::io::Io;
+use crate::lines::LineSource;
+use crate::report::{ending_of, report};
+use crate::screen::Screen;
+use crate::statements::line_at;
+use crate::stop::{DeviceError, Stop};
+use ptb_expr::{Chooser, Pause};
+use ptb_text::Program;
+
+// A device's error as a fault of a step.
+fn fault_of(error: DeviceError) -> RunFault
+    ensures { result ≡ fault_of error }
+{
+    match error {
+        DeviceError::Memory => RunFault::Memory,
+        DeviceError::Read => RunFault::Read,
+        DeviceError::Write => RunFault::Write,
+    }
+}
+
+/// What a step comes to whose command, one of this statement, comes to `done`. A fault is reported.
+pub(crate) fn result_of<C: Chooser, S: Screen, L: LineSource>(
+    done: Result<(), Stop>,
+    program: &Program,
+    statement: usize,
+    io: &mut Io<'_, C, S, L>,
+) -> Result<Option<Ending>, RunFault>
+    ensures comes { (given : List (List ℕ)) (cells : Cells) (n : ℕ) (text : List ℕ) →
+        slice_get program.now.lines statement ≡ Some (n, text) → IsResultOf
+        (io_trace C.choices S.Screen io.old given cells)
+        (io_trace C.choices S.Screen io.new given cells) n text done result }
+    ensures chooser { io.new.chooser ≡ io.old.chooser }
+    ensures same { SameDevices io.old io.new }
+{
+    match done {
+        Ok(()) => Ok(None),
+        Err(Stop::Fault(fault)) => {
+            let (number, text) = line_at(program, statement);
+            report(io.screen, &mut io.fresh, number, text, fault)?;
+            Ok(Some(ending_of(fault.kind)))
+        }
+        Err(Stop::Ended) => Ok(Some(Ending::Stop)),
+        Err(Stop::NoInput) => Ok(Some(Ending::NoInput)),
+        Err(Stop::Pause(Pause::Ended)) => Ok(Some(Ending::NoAnswer)),
+        Err(Stop::Pause(Pause::OutOfRange(_))) => Ok(Some(Ending::BadAnswer)),
+        Err(Stop::Pause(Pause::Memory)) => Err(RunFault::Memory),
+        Err(Stop::Broke(error)) => Err(fault_of(error)),
+    }
+}

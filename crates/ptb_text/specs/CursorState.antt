@@ -1,0 +1,10 @@
+-- This file defines what a cursor shows: a text and a place in it. A place counts the bytes before it.
+use Rattle.std.specs.Prelude.{ℕ, ◌-◌, List, length}
+
+pub record CursorState : Type 0 where
+  pub text : List ℕ
+  pub place : ℕ
+
+-- how many bytes stand behind the place
+abbrev pub bytes_left : CursorState → ℕ
+bytes_left s = length s.text - s.place
