@@ -221,26 +221,30 @@ started() {
     fi
 }
 
-mkdir -p "$folder/bin" "$folder/copy/crates/ptb/src" "$folder/copy/crates/ptb/specs" "$folder/copy/crates/ptb/proofs"
+mkdir -p "$folder/bin"
+for crate in $(sed -n 's/^\([a-z_]*\):.*/\1/p' "$root/crates.txt"); do mkdir -p "$folder/copy/crates/$crate/src"; done
 cp "$root/ptb" "$root/crates.txt" "$folder/copy/"
+crates=$(sed '/^ptb:/q' "$root/crates.txt" | grep -c '^[a-z]')
 printf '#!/bin/sh\necho "so far: 3 of 9 functions checked"\nsleep 2\nexit 1\n' >"$folder/bin/rt"
 chmod +x "$folder/bin/rt"
 started 'help is no reason to build' 70 '' '^ptb: not built yet: ' --help
-started 'a build tells its crate' 70 '' '^ptb: crate 1 of 5 (ptb_text)$' --all
+started 'a build tells its crate' 70 '' "^ptb: crate 1 of $crates (ptb_text)\$" --all
 started 'a build that fails names its log' 70 '' '^ptb: not built; what was said of it: /' --all
 log=$(sed -n 's/^ptb: not built; what was said of it: //p' "$folder/errors")
 if grep -q '^so far: 3 of 9 functions checked$' "$log"; then count 'the log is there' yes; else count 'the log is there' no; fi
 rm -f "$log"
 cat >"$folder/bin/rt" <<'END'
 #!/bin/sh
-mkdir -p out
-printf '#!/bin/sh\necho "said $*"\n' >out/ptb
-chmod +x out/ptb
-echo 'crate ptb_explore: modules loaded=1 checked=1'
+if [ "$1" = run ]; then
+    mkdir -p out
+    printf '#!/bin/sh\necho "said $*"\n' >out/ptb
+    chmod +x out/ptb
+    echo 'crate ptb_serve: modules loaded=1 checked=1'
+    sleep 2
+fi
 echo 'logic=proved functions=1'
-sleep 2
 END
-started 'a program that is built is run' 0 'said --all a' '^ptb: crate 5 of 5 (ptb)$' --all a
+started 'a program that is built is run' 0 'said --all a' "^ptb: crate $crates of $crates (ptb)\$" --all a
 started 'and is not built again' 0 'said --help' '' --help
 
 echo "$passed passed, $failed failed"

@@ -1,32 +1,42 @@
 // This file has the writer of standard output, which flushes after each write.
 
+ghost use Rattle.std.specs.Prelude.{◌≡◌};
+ghost use Rattle.ptb_text.specs.Device.{device_inner, failure_count};
+ghost use Rattle.ptb.specs.Flushed.{flushed_device};
+
+use ptb_text::{Device, DeviceFault, Write};
 use std::io;
 
 /// Flushes what it writes to at once, so that what a run shows is seen before it waits for input.
 ///
-/// A write whose flush fails has failed, though its bytes may have been taken. So nothing is said
-/// of the bytes that it holds.
+/// A write whose flush fails has failed, though its bytes may have been taken. That it flushes at
+/// all is tested: no contract on bytes can tell it.
 #[derive(Drop)]
 pub struct Flushing<W> {
-    inner: W,
+    device: Device<W>,
 }
 
 impl<W> Flushing<W> {
     /// A writer that flushes `inner` after each write.
-    pub fn new(inner: W) -> Self {
-        Flushing { inner }
+    pub fn new(inner: W) -> Self
+        ensures inner { device_inner (flushed_device result) ≡ inner }
+        ensures unfailed { failure_count (flushed_device result) ≡ 0 }
+    {
+        Flushing {
+            device: Device::new(inner),
+        }
     }
 }
 
-impl<W: io::Write> io::Write for Flushing<W> {
-    fn write(&mut self, buf: &[u8]) -> io::Result<usize> {
-        let taken = self.inner.write(buf)?;
-        self.inner.flush()?;
-        Ok(taken)
-    }
+impl<W: io::Write> Write for Flushing<W> {
+    ghost contents = { λ f. W.contents (device_inner (flushed_device f)) };
 
-    fn flush(&mut self) -> io::Result<()> {
-        self.inner.flush()
+    ghost failures = { λ f. failure_count (flushed_device f) };
+
+    fn write(&mut self, bytes: &[u8]) -> Result<usize, DeviceFault> {
+        let taken = self.device.write(bytes)?;
+        self.device.flush()?;
+        Ok(taken)
     }
 }
 

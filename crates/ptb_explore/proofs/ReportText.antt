@@ -1,7 +1,8 @@
 -- This file proves that a report is its pieces, one after the other.
 use Rattle.std.proofs.Common.{◌≡◌, List, ℕ, [], ◌++◌, codes, append_assoc, append-nil, decimal, length}
 use Rattle.ptb_expr.specs.Outcome.{Answers}
-use Rattle.ptb_explore.specs.Report.{spelling, report_text}
+use Rattle.ptb_expr.specs.AnswerText.{spelling}
+use Rattle.ptb_explore.specs.Report.{report_text}
 
 -- what stands behind the answers, in the order in which it is written
 abbrev pub behind_answers : (word steps size shown : List ℕ) → List ℕ

@@ -5,18 +5,18 @@ use Rattle.ptb_text.specs.Statements.{StoredProgram}
 use Rattle.ptb_expr.specs.declared.pause.Pause.TheVariants as pauses
 use Rattle.ptb_expr.specs.Outcome.{Answers, Outcome, Done, Asks, Out, go_on, map_outcome}
 use Rattle.ptb_expr.specs.Choices.{Choices, Asked, Reaches}
-use Rattle.ptb_machine.specs.declared.ending.Ending.{Ending}
-use Rattle.ptb_machine.specs.declared.ending.Ending.TheVariants as endings
+use Rattle.ptb_command.specs.declared.ending.Ending.{Ending}
+use Rattle.ptb_command.specs.declared.ending.Ending.TheVariants as endings
 use Rattle.ptb_machine.specs.declared.fault.RunFault.{RunFault}
 use Rattle.ptb_machine.specs.declared.fault.RunFault.TheVariants as faults
-use Rattle.ptb_machine.specs.State.{State, first_state}
-use Rattle.ptb_machine.specs.Act.{StepResult, Next, Over}
+use Rattle.ptb_command.specs.State.{State, first_state}
+use Rattle.ptb_command.specs.Act.{StepResult, Next, Over}
 use Rattle.ptb_machine.specs.Play.{Finish, turn, after_step_result, turns, play}
 use Rattle.ptb_machine.specs.Laws.{RunLaws}
-use Rattle.ptb_machine.specs.Devices.{ScreenState, devices, Refusal, refused_by}
-use Rattle.ptb_machine.specs.Configuration.{Configuration}
-use Rattle.ptb_machine.specs.Representation.{Represents}
-use Rattle.ptb_machine.specs.Stops.{Waits, IsDry}
+use Rattle.ptb_command.specs.Devices.{ScreenState, devices, Refusal, refused_by}
+use Rattle.ptb_command.specs.Configuration.{Configuration}
+use Rattle.ptb_command.specs.Representation.{Represents}
+use Rattle.ptb_command.specs.Stops.{Waits, IsDry}
 use Rattle.ptb_machine.specs.Steps.{StepsTo, goes, ends, StepComes, Steps}
 use Rattle.ptb_machine.specs.Questions.{most_answers}
 use Rattle.ptb_explore.specs.Laws.{TreeLaws}

@@ -5,8 +5,8 @@
 use Rattle.std.specs.Prelude.{◌≡◌, ℕ, List, ◌∷◌, ◌++◌, Some, ℤ}
 use Rattle.ptb_expr.specs.Outcome.{Answers, Outcome, Done, Out, bounds}
 use Rattle.ptb_expr.specs.Choices.{Choices}
-use Rattle.ptb_machine.specs.declared.ending.Ending.{Ending}
-use Rattle.ptb_machine.specs.declared.ending.Ending.TheVariants as endings
+use Rattle.ptb_command.specs.declared.ending.Ending.{Ending}
+use Rattle.ptb_command.specs.declared.ending.Ending.TheVariants as endings
 use Rattle.ptb_machine.specs.Play.{Finish}
 
 module _ {A W : Type 0} (play : Answers → Outcome A W) where

@@ -1,28 +1,18 @@
 -- This file defines the text of reports, each of one run.
---     spelling answers                        numbers joined by commas, or `none`
 --     header answers word steps size          the first line: RUN, the answers, how the run ended, its steps, how many bytes it showed
 --     report_text answers word steps shown    the header, what the run showed, and a newline
 --     word_of ending                          the word of an ending
 --     report play answers                     the report of the run of these answers
 --     Gathers old new bytes pending           a beginning of the bytes was taken, and the others are pending
-use Rattle.std.specs.Prelude.{◌≡◌, ℕ, List, [], ◌∷◌, ◌++◌, length, codes, decimal, Option}
-use Rattle.std.specs.Fmt.{signed_decimal}
+use Rattle.std.specs.Prelude.{◌≡◌, ℕ, List, [], ◌++◌, length, codes, decimal, Option}
 use Rattle.std.specs.Io.KnownBytes.{Appends}
-use Rattle.std.specs.List.{flat_map}
 use Rattle.ptb_expr.specs.Outcome.{Answers, Outcome, Done, Asks, Out}
-use Rattle.ptb_machine.specs.declared.ending.Ending.{Ending}
-use Rattle.ptb_machine.specs.declared.ending.Ending.TheVariants as endings
+use Rattle.ptb_expr.specs.AnswerText.{spelling}
+use Rattle.ptb_command.specs.declared.ending.Ending.{Ending}
+use Rattle.ptb_command.specs.declared.ending.Ending.TheVariants as endings
 use Rattle.ptb_machine.specs.Play.{Finish}
 
 -- ---- text
-
--- numbers behind the first, each with a comma in front
-abbrev pub more_spelling : Answers → List ℕ
-more_spelling ks = flat_map (λ k. codes "," ++ signed_decimal k) ks
-
-abbrev pub spelling : Answers → List ℕ
-spelling [] = codes "none"
-spelling (k ∷ ks) = signed_decimal k ++ more_spelling ks
 
 -- one space stands in front of each field
 abbrev pub field : List ℕ → List ℕ

@@ -1,9 +1,9 @@
 //! All runs of a Tiny BASIC program, in the order of their answers, and their reports.
 //!
-//! It stands on `ptb_machine`, `ptb_expr`, `ptb_text`, `arrayvec`, `itoa` and `thiserror`. The
-//! crate above may rely on `Explorer::start` and `after` (where a listing begins, or that the
-//! answers are no run), on `write_all_runs` (the reports of the runs that are left), and
-//! on `tree_laws`.
+//! It stands on `ptb_machine`, on definitions of the two crates below that, on `ptb_expr`,
+//! `ptb_text`, `arrayvec`, `itoa` and `thiserror`. The crate above may rely on `Explorer::start`
+//! and `after` (where a listing begins, or that the answers are no run), on `write_all_runs` (the
+//! reports of the runs that are left), and on `tree_laws`.
 #![tactic(auto)]
 
 mod explorer;

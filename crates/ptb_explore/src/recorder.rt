@@ -1,6 +1,6 @@
 // This file has the chooser that plays a plan, and keeps what it answered.
 
-ghost use Rattle.std.specs.Prelude.{◌≡◌, ◌+◌, ◌-◌, ◌<◌, ◌≤◌, pos, OnOk};
+ghost use Rattle.std.specs.Prelude.{◌≡◌, ◌+◌, ◌-◌, ◌<◌, ◌≤◌, pos, OnOk, OnErr};
 ghost use Rattle.std.specs.Prelude.{[], ◌∷◌, ◌++◌, length, take, replicate, vec_len};
 
 use ptb_expr::{Chooser, Pause};
@@ -67,6 +67,7 @@ impl Recorder {
         ensures answers { OnOk result (self.new.answers.items ≡ answers.now) }
         ensures planned { OnOk result (self.new.planned ≡ vec_len self.new.answers) }
         ensures bounds { OnOk result (self.new.bounds.items ≡ []) }
+        ensures empty { OnErr result (self.new.answers.items ≡ []) }
     {
         self.clear();
         self.answers.extend_from_slice(answers)?;
@@ -78,6 +79,9 @@ impl Recorder {
     pub(crate) fn hand_over(&mut self, answers: &mut Vec<i16>, bounds: &mut Vec<i16>)
         ensures answers { answers.new.items ≡ self.old.answers.items }
         ensures bounds { bounds.new.items ≡ self.old.bounds.items }
+        ensures no_answers { self.new.answers.items ≡ [] }
+        ensures no_bounds { self.new.bounds.items ≡ [] }
+        ensures no_plan { self.new.planned ≡ 0 }
     {
         mem::swap(&mut self.answers, answers);
         mem::swap(&mut self.bounds, bounds);

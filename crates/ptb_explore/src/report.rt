@@ -4,7 +4,8 @@ ghost use Rattle.std.specs.Prelude.{◌≡◌, [], ◌++◌, OnOk, OnErr};
 ghost use Rattle.std.specs.Io.KnownBytes.{Appends};
 ghost use Rattle.std.specs.List.{flat_map};
 ghost use Rattle.ptb_text.specs.Device.{TakesSome, HasFailed};
-ghost use Rattle.ptb_explore.specs.Report.{spelling, report_text, word_of, Gathers};
+ghost use Rattle.ptb_expr.specs.AnswerText.{spelling};
+ghost use Rattle.ptb_explore.specs.Report.{report_text, word_of, Gathers};
 
 use arrayvec::ArrayVec;
 use itoa::Buffer;

@@ -61,11 +61,35 @@ pub operate_last : {V : Type 0} (refused : Pause → ℤ → Type 0) (P f : Work
 operate_last refused P f part op c d e w l p q r =
     last_step refused P c e l (op w) (part_ok refused P f part (λ p. result_at (op p.0) p.1 >>= success) c d e w l p q r)
 
+-- what an operator gave, as a function returns it
+marked_as : {V : Type 0} (op : ℤ → Result V FaultKind) {w : ℤ} {v : Result V FaultKind} {r : Result V Stop} {m l : ℕ} → r ≡ result_at_mark v m → v ≡ op w → m ≡ l → result_at_mark (op w) l ≡ r
+marked_as op {w = w} {m = m} h a b = ap (result_at_mark (op w)) (sym b) ∙ ap (λ u. result_at_mark u m) (sym a) ∙ sym h
+
+-- an operator on equal operands
+pub applied : (o : Operator) {a b x y : ℤ} {v : Result ℤ FaultKind} → v ≡ operation o a b → a ≡ x → b ≡ y → v ≡ operation o x y
+applied o {b = b} {x = x} h e d = h ∙ ap (λ k. operation o k b) e ∙ ap (operation o x) d
+
+-- its result, which is known to be s
+pub marked : (o : Operator) (x y : ℤ) {v : Result ℤ FaultKind} {r s : Result ℤ Stop} {m l : ℕ} → v ≡ operation o x y → m ≡ l → r ≡ result_at_mark v m → r ≡ s → result_at_mark (operation o x y) l ≡ s
+marked o x y a b h k = marked_as (operation o x) h a b ∙ k
+
+-- the same, where the result is written as a function returns it
+pub operated : {V : Type 0} (refused : Pause → ℤ → Type 0) (P f : Work (V × ℕ)) (part : Work Placed) (op : ℤ → Result V FaultKind) (c d e : Choices) (w : ℤ) (v : Result V FaultKind) (r : Result V Stop) (m l : ℕ) → Reaches P c d f → f ≡ after_operation part op success → WorkComesAt refused part d e (Ok w) l → v ≡ op w → m ≡ l → r ≡ result_at_mark v m → WorkComesAt refused P c e r l
+operated refused P f part op c d e w v r m l p q y a b h =
+    subst (λ s. WorkComesAt refused P c e s l) (marked_as op h a b) (operate_last refused P f part op c d e w l p q y)
+
 -- ---- ends
 
 -- the last step
 pub part_ends : {V : Type 0} (refused : Pause → ℤ → Type 0) (P f : Work (V × ℕ)) (c d : Choices) (v : V) (k l : ℕ) → Reaches P c d f → f ≡ success (v, l) → k ≡ l → WorkComesAt refused P c d (Ok v) k
 part_ends refused P f c d v k l p q h = record { by = subst (Reaches P c d) (q ∙ ap (λ j. success (v, j)) (sym h)) p }
+
+-- the value, or the fault or pause, under another name
+pub valued : {V : Type 0} {refused : Pause → ℤ → Type 0} {P : Work (V × ℕ)} {c d : Choices} {u v : V} {k : ℕ} → u ≡ v → WorkComesAt refused P c d (Ok v) k → WorkComesAt refused P c d (Ok u) k
+valued {refused = refused} {P = P} {c = c} {d = d} {k = k} e h = subst (λ u. WorkComesAt refused P c d (Ok u) k) (sym e) h
+
+pub stopped : {V : Type 0} {refused : Pause → ℤ → Type 0} {P : Work (V × ℕ)} {c d : Choices} {r : Result V Stop} {y s : Stop} {k : ℕ} → r ≡ Err y → y ≡ s → WorkComesAt refused P c d (Err s) k → WorkComesAt refused P c d r k
+stopped {refused = refused} {P = P} {c = c} {d = d} {k = k} e q h = subst (λ r. WorkComesAt refused P c d r k) (sym (e ∙ ap Err q)) h
 
 -- P is the part itself
 pub part_is : {V : Type 0} (refused : Pause → ℤ → Type 0) (P f : Work (V × ℕ)) (c d : Choices) (r : Result V Stop) (j : ℕ) → P ≡ f → WorkComesAt refused f c d r j → WorkComesAt refused P c d r j

@@ -1,5 +1,6 @@
 -- This file names the files of definitions.
 pub mod Outcome
+pub mod AnswerText
 pub mod Choices
 pub mod Store
 pub mod Tree

@@ -177,27 +177,32 @@ fn long_texts(rt: HostRuntime) -> Result<(), Fail> {
     Ok(())
 }
 
+// What a variable names, and the place where the cursor is left.
+type Named = (Result<Target, Stop>, usize);
+
+// A fault in its place, where the cursor is left at the mark.
+fn unnamed(kind: FaultKind, mark: usize) -> Named {
+    (Err(Stop::Fault(Fault { kind, mark })), mark)
+}
+
+fn named(store: &Store, text: &[u8]) -> Named {
+    let mut cursor = Cursor::new(text, 0);
+    let result = target(&mut cursor, store, &mut Listed::new(&[]));
+    (result, cursor.place())
+}
+
 #[test]
 fn targets(rt: HostRuntime) -> Result<(), Fail> {
     let store = Store::new(rt.alloc(), 4)?;
-    for (text, want, place) in [
-        ("B=1", Ok(Target::Var(letter(b'B'))), 1),
-        (" @ (1+1) =", Ok(Target::Element(2)), 9),
-        ("1", Err((FaultKind::What, 0)), 0),
-        (" @ ", Err((FaultKind::What, 3)), 3),
-        ("@(-1)", Err((FaultKind::How, 5)), 5),
-        ("@(3)", Err((FaultKind::Sorry, 4)), 4),
+    for (text, want) in [
+        ("B=1", (Ok(Target::Var(letter(b'B'))), 1)),
+        (" @ (1+1) =", (Ok(Target::Element(2)), 9)),
+        ("1", unnamed(FaultKind::What, 0)),
+        (" @ ", unnamed(FaultKind::What, 3)),
+        ("@(-1)", unnamed(FaultKind::How, 5)),
+        ("@(3)", unnamed(FaultKind::Sorry, 4)),
     ] {
-        let mut cursor = Cursor::new(text.as_bytes(), 0);
-        let want = match want {
-            Ok(target) => Ok(target),
-            Err((kind, mark)) => Err(Stop::Fault(Fault { kind, mark })),
-        };
-        assert!(rt;
-            target(&mut cursor, &store, &mut Listed::new(&[])) == want,
-            "{text}"
-        );
-        assert_eq!(rt; cursor.place(), place, "{text}");
+        assert!(rt; named(&store, text.as_bytes()) == want, "{text}");
     }
     Ok(())
 }

@@ -13,10 +13,10 @@ use Rattle.ptb_expr.specs.Outcome.{Answers, Outcome, Done, Asks, Out, go_on, map
 use Rattle.ptb_expr.specs.Store.{Cells}
 use Rattle.ptb_expr.specs.Reading.{item_of, expression}
 use Rattle.ptb_expr.specs.Value.{Work, value}
-use Rattle.ptb_machine.specs.Commands.{Part, Assign, Say, Width, Show, NewLine, Take, Letter, Operand, Defect, Command}
-use Rattle.ptb_machine.specs.State.{State, Place, Loop, Call, first_state, text_of, next_command}
-use Rattle.ptb_machine.specs.Actions.{Halt, Faults, Ends, Progress, Goes, Halts, Action, on_progress, and_then, goes_on, halt, change, show, attempt, or_halt, work_action}
-use Rattle.ptb_machine.specs.Act.{newline, fails, is_full, if_room, goto_action, gosub_action, return_action, without_loop, with_loop, with_call, for_action, loops_from, next_action, finish, end_of, letter_of, first_width, command_action, StepResult, Next, Over, step_result_of, ending_of, with_step, act, value_action, target_action, store, take_line, ask_for, store_or_again, input_action, parts_action}
+use Rattle.ptb_command.specs.Commands.{Part, Assign, Say, Width, Show, NewLine, Take, Letter, Operand, Defect, Command}
+use Rattle.ptb_command.specs.State.{State, Place, Loop, Call, first_state, text_of, next_command}
+use Rattle.ptb_command.specs.Actions.{Halt, Faults, Ends, Progress, Goes, Halts, Action, on_progress, and_then, goes_on, halt, change, show, attempt, or_halt, work_action}
+use Rattle.ptb_command.specs.Act.{newline, fails, is_full, if_room, goto_action, gosub_action, return_action, without_loop, with_loop, with_call, for_action, loops_from, next_action, finish, end_of, letter_of, first_width, command_action, StepResult, Next, Over, step_result_of, ending_of, with_step, act, value_action, target_action, store, take_line, ask_for, store_or_again, input_action, parts_action}
 use Rattle.ptb_machine.specs.Play.{act_unless, turn_by, turn, Finish, after_step_result, turns_within, turns, play}
 use Rattle.ptb_machine.specs.EndingLaws.{IsRunEnding, EndingLaws}
 

@@ -12,10 +12,10 @@ use Rattle.ptb_expr.specs.Reading.{item_of, expression}
 use Rattle.ptb_expr.specs.Value.{Work, fault, value, target_of, or_fault}
 use Rattle.ptb_expr.proofs.Readers.{success_reader, failure_reader}
 use Rattle.ptb_expr.specs.Laws.{ValueLaws}
-use Rattle.ptb_machine.specs.Commands.{Part, Assign, Say, Width, Show, NewLine, Take, Letter, Operand, Defect}
-use Rattle.ptb_machine.specs.State.{State}
-use Rattle.ptb_machine.specs.Actions.{Progress, Goes, Halts, Action, on_progress, and_then, goes_on, halt, show, work_action}
-use Rattle.ptb_machine.specs.Act.{newline, width_of, value_action, target_action, store, ask_for, store_or_again, input_action, parts_action}
+use Rattle.ptb_command.specs.Commands.{Part, Assign, Say, Width, Show, NewLine, Take, Letter, Operand, Defect}
+use Rattle.ptb_command.specs.State.{State}
+use Rattle.ptb_command.specs.Actions.{Progress, Goes, Halts, Action, on_progress, and_then, goes_on, halt, show, work_action}
+use Rattle.ptb_command.specs.Act.{newline, width_of, value_action, target_action, store, ask_for, store_or_again, input_action, parts_action}
 use Rattle.ptb_machine.specs.Questions.{part_questions, line_questions}
 use Rattle.ptb_machine.proofs.Budgets.{Budget, wider_budget, with_more, done_budget, then_budget}
 use Rattle.ptb_machine.proofs.Spending.{left_for, Spends, wider_spends, change_spends, goes_spends, halt_spends, then_spends, after_spends, work_action_spends, attempt_then, lines_cost, lines_cost-cons, later}

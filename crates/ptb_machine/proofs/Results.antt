@@ -3,18 +3,18 @@ use Rattle.std.proofs.Common.{◌≡◌, ◌↔◌, ◌∙◌, ℕ, Bool, true, 
 use Rattle.ptb_expr.specs.declared.fault.Fault.{Fault}
 use Rattle.ptb_expr.specs.declared.fault.FaultKind.{FaultKind}
 use Rattle.ptb_expr.specs.declared.pause.Pause.TheVariants as pauses
-use Rattle.ptb_machine.specs.declared.ending.Ending.{Ending}
+use Rattle.ptb_command.specs.declared.ending.Ending.{Ending}
 use Rattle.ptb_machine.specs.declared.fault.RunFault.{RunFault}
 use Rattle.ptb_machine.specs.declared.fault.RunFault.TheVariants as faults
-use Rattle.ptb_machine.specs.declared.fault.ScreenFault.{ScreenFault}
-use Rattle.ptb_machine.specs.declared.fault.ScreenFault.TheVariants as screens
-use Rattle.ptb_machine.specs.declared.stop.DeviceError.{DeviceError}
-use Rattle.ptb_machine.specs.declared.stop.DeviceError.TheVariants as errors
-use Rattle.ptb_machine.specs.declared.stop.Stop.{Stop}
-use Rattle.ptb_machine.specs.declared.stop.Stop.TheVariants as stops
-use Rattle.ptb_machine.specs.Act.{report_bytes}
-use Rattle.ptb_machine.specs.Traces.{Trace}
-use Rattle.ptb_machine.specs.Reports.{IsShown}
+use Rattle.ptb_devices.specs.declared.fault.ScreenFault.{ScreenFault}
+use Rattle.ptb_devices.specs.declared.fault.ScreenFault.TheVariants as screens
+use Rattle.ptb_command.specs.declared.stop.DeviceError.{DeviceError}
+use Rattle.ptb_command.specs.declared.stop.DeviceError.TheVariants as errors
+use Rattle.ptb_command.specs.declared.stop.Stop.{Stop}
+use Rattle.ptb_command.specs.declared.stop.Stop.TheVariants as stops
+use Rattle.ptb_command.specs.Act.{report_bytes}
+use Rattle.ptb_command.specs.Traces.{Trace}
+use Rattle.ptb_command.specs.Reports.{IsShown}
 use Rattle.ptb_machine.specs.Steps.{fault_of, reported, IsResultOf}
 
 -- a fault that was reported, or not

@@ -9,27 +9,28 @@ use Rattle.ptb_expr.specs.declared.pause.Pause.{Pause}
 use Rattle.ptb_expr.specs.declared.pause.Pause.TheVariants as pauses
 use Rattle.ptb_expr.specs.Outcome.{Answers, Outcome, Done, Asks, Out, go_on, map_outcome}
 use Rattle.ptb_expr.specs.Choices.{SaysOut}
-use Rattle.ptb_machine.specs.declared.ending.Ending.{Ending}
-use Rattle.ptb_machine.specs.declared.ending.Ending.TheVariants as endings
+use Rattle.ptb_command.specs.declared.ending.Ending.{Ending}
+use Rattle.ptb_command.specs.declared.ending.Ending.TheVariants as endings
 use Rattle.ptb_machine.specs.declared.fault.RunFault.{RunFault}
 use Rattle.ptb_machine.specs.declared.fault.RunFault.TheVariants as faults
-use Rattle.ptb_machine.specs.declared.stop.DeviceError.{DeviceError}
-use Rattle.ptb_machine.specs.declared.stop.DeviceError.TheVariants as errors
-use Rattle.ptb_machine.specs.State.{State, first_state}
-use Rattle.ptb_machine.specs.Act.{StepResult, Next, Over}
+use Rattle.ptb_command.specs.declared.stop.DeviceError.{DeviceError}
+use Rattle.ptb_command.specs.declared.stop.DeviceError.TheVariants as errors
+use Rattle.ptb_command.specs.State.{State, first_state}
+use Rattle.ptb_command.specs.Act.{StepResult, Next, Over}
 use Rattle.ptb_machine.specs.Play.{Finish, finish_in, after_step_result, turn, turns, play}
-use Rattle.ptb_machine.specs.Effects.{act_state, run_shown, run_steps, Begins}
-use Rattle.ptb_machine.specs.Devices.{Devices, Exchange, no_exchange, bytes_alone, both_exchanges, Exchanges, Refusal}
-use Rattle.ptb_machine.specs.Traces.{Leaves}
-use Rattle.ptb_machine.specs.Stops.{Waits, IsDry, Breaks}
-use Rattle.ptb_machine.specs.Configuration.{Configuration}
-use Rattle.ptb_machine.specs.Representation.{Represents}
+use Rattle.ptb_command.specs.Effects.{act_state, Begins}
+use Rattle.ptb_machine.specs.RunEffects.{run_shown, run_steps}
+use Rattle.ptb_command.specs.Devices.{Devices, Exchange, no_exchange, bytes_alone, both_exchanges, Exchanges, Refusal}
+use Rattle.ptb_command.specs.Traces.{Leaves}
+use Rattle.ptb_command.specs.Stops.{Waits, IsDry, Breaks}
+use Rattle.ptb_command.specs.Configuration.{Configuration}
+use Rattle.ptb_command.specs.Representation.{Represents}
 use Rattle.ptb_machine.specs.Steps.{StepsTo, goes, ends, StepComes, Steps}
 use Rattle.ptb_machine.specs.Runs.{played_bytes, Plays, IsFinished, IsUnanswered, IsUnfinished, RunComes, Runs}
-use Rattle.ptb_machine.proofs.Effects.{begins_joined}
-use Rattle.ptb_machine.proofs.Exchanges.{exchanges_none, exchanges_then, has_broken_from}
-use Rattle.ptb_machine.proofs.PartRefinement.{leaves_itself, leaves_then, leaves_to, leaves_under, leaves_at}
-use Rattle.ptb_machine.proofs.Stops.{out_before}
+use Rattle.ptb_command.proofs.Effects.{begins_joined}
+use Rattle.ptb_command.proofs.Exchanges.{exchanges_none, exchanges_then, has_broken_from}
+use Rattle.ptb_command.proofs.PartRefinement.{leaves_itself, leaves_then, leaves_to, leaves_under, leaves_at}
+use Rattle.ptb_command.proofs.Stops.{out_before}
 use Rattle.ptb_machine.proofs.Turns.{turns_by_turn, turn_goes, turns_shown, turns_steps}
 
 -- ---- a turn, and the turns after it

@@ -3,12 +3,13 @@ use Rattle.std.proofs.Common.{◌≡◌, ℕ, zero, suc, ◌+◌, ◌-◌, ◌<�
 use Rattle.std.proofs.lemmas.Bool.{leb-false}
 use Rattle.ptb_text.specs.Statements.{StoredProgram}
 use Rattle.ptb_expr.specs.Outcome.{Answers, Outcome, Done, Asks, Out, go_on}
-use Rattle.ptb_machine.specs.Commands.{Command}
-use Rattle.ptb_machine.specs.State.{Place, State, next_command}
-use Rattle.ptb_machine.specs.Act.{StepResult, Next, Over, with_step}
+use Rattle.ptb_command.specs.Commands.{Command}
+use Rattle.ptb_command.specs.State.{Place, State, next_command}
+use Rattle.ptb_command.specs.Act.{StepResult, Next, Over, with_step}
 use Rattle.ptb_machine.specs.Play.{Finish, act_unless, turn_by, turn, after_step_result, turns_within, turns}
-use Rattle.ptb_machine.specs.Effects.{act_state, run_shown, run_steps, Begins, CommandChange, TurnChange}
-use Rattle.ptb_machine.proofs.Effects.{begins_itself, begins_joined, act_keeps}
+use Rattle.ptb_command.specs.Effects.{act_state, Begins, CommandChange}
+use Rattle.ptb_machine.specs.RunEffects.{run_shown, run_steps, TurnChange}
+use Rattle.ptb_command.proofs.Effects.{begins_itself, begins_joined, act_keeps}
 
 -- ---- one turn
 

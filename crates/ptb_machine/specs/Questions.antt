@@ -5,8 +5,8 @@ use Rattle.std.specs.Prelude.{ℕ, ◌+◌, ◌-◌, ◌*◌, List, length, sum_
 use Rattle.ptb_text.specs.Statements.{Statements, StoredProgram}
 use Rattle.ptb_expr.specs.Tree.{questions}
 use Rattle.ptb_expr.specs.Reading.{item_of, expression}
-use Rattle.ptb_machine.specs.Commands.{Part, Assign, Say, Width, Show, NewLine, Take, Letter, Operand, Defect, Command, commands}
-use Rattle.ptb_machine.specs.State.{State}
+use Rattle.ptb_command.specs.Commands.{Part, Assign, Say, Width, Show, NewLine, Take, Letter, Operand, Defect, Command, commands}
+use Rattle.ptb_command.specs.State.{State}
 
 -- how many RNDs a part has
 abbrev pub part_questions : Part → ℕ

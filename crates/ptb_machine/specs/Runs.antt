@@ -8,16 +8,16 @@ use Rattle.ptb_expr.specs.declared.pause.Pause.{Pause}
 use Rattle.ptb_expr.specs.declared.pause.Pause.TheVariants as pauses
 use Rattle.ptb_expr.specs.Outcome.{Answers, Outcome, Done, Asks, Out}
 use Rattle.ptb_expr.specs.Choices.{SaysOut}
-use Rattle.ptb_machine.specs.declared.ending.Ending.{Ending}
-use Rattle.ptb_machine.specs.declared.ending.Ending.TheVariants as endings
+use Rattle.ptb_command.specs.declared.ending.Ending.{Ending}
+use Rattle.ptb_command.specs.declared.ending.Ending.TheVariants as endings
 use Rattle.ptb_machine.specs.declared.fault.RunFault.{RunFault}
 use Rattle.ptb_machine.specs.declared.fault.RunFault.TheVariants as faults
-use Rattle.ptb_machine.specs.declared.stop.DeviceError.{DeviceError}
-use Rattle.ptb_machine.specs.declared.stop.DeviceError.TheVariants as errors
+use Rattle.ptb_command.specs.declared.stop.DeviceError.{DeviceError}
+use Rattle.ptb_command.specs.declared.stop.DeviceError.TheVariants as errors
 use Rattle.ptb_machine.specs.Play.{Finish, play}
-use Rattle.ptb_machine.specs.Effects.{Begins}
-use Rattle.ptb_machine.specs.Devices.{Devices, Exchange, Exchanges, Refusal, Unanswered, NoLine, HasBroken}
-use Rattle.ptb_machine.specs.Traces.{Leaves}
+use Rattle.ptb_command.specs.Effects.{Begins}
+use Rattle.ptb_command.specs.Devices.{Devices, Exchange, Exchanges, Refusal, Unanswered, NoLine, HasBroken}
+use Rattle.ptb_command.specs.Traces.{Leaves}
 
 abbrev pub played_bytes : Outcome Finish (List ℕ) → List ℕ
 played_bytes (Done f rest) = f.shown

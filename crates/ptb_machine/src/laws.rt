@@ -1,20 +1,9 @@
-// This file states the laws of commands and runs.
+// This file states the laws of actions and runs.
 
 ghost use Rattle.ptb_machine.specs.EndingLaws.{EndingLaws};
-ghost use Rattle.ptb_machine.specs.Laws.{CommandLaws, EffectLaws, RunLaws};
+ghost use Rattle.ptb_machine.specs.Laws.{EffectLaws, RunLaws};
 
-use ptb_expr::{spelling_laws, value_laws};
-use ptb_text::finding_laws;
-
-/// The parts of a command and the commands of a statement are read one after the other, and each
-/// command has a byte place.
-#[tactic(auto, using(crate::proofs::Lawful::command_laws))]
-pub fn command_laws()
-    ensures { CommandLaws }
-{
-    finding_laws();
-    spelling_laws();
-}
+use ptb_expr::value_laws;
 
 /// What was shown stays shown, a command is one step, and no loop or call opens past the limit.
 #[tactic(auto, using(crate::proofs::Lawful::effect_laws))]

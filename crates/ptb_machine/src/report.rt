@@ -2,17 +2,15 @@
 
 ghost use Rattle.std.specs.Prelude.{◌≡◌, ℕ, [], ◌++◌, pos, if◌then◌else◌, take, drop, IfOk};
 ghost use Rattle.ptb_expr.specs.Store.{Cells};
-ghost use Rattle.ptb_machine.specs.Act.{newline, word_of, ending_of, report_bytes};
-ghost use Rattle.ptb_machine.specs.Devices.{Devices, screen_state, with_screen};
-ghost use Rattle.ptb_machine.specs.Traces.{trace};
-ghost use Rattle.ptb_machine.specs.Reports.{IsShown};
+ghost use Rattle.ptb_command.specs.Act.{newline, word_of, ending_of, report_bytes};
+ghost use Rattle.ptb_command.specs.Devices.{Devices, screen_state, with_screen};
+ghost use Rattle.ptb_command.specs.Traces.{trace};
+ghost use Rattle.ptb_command.specs.Reports.{IsShown};
 
-use crate::ending::Ending;
-use crate::fault::ScreenFault;
-use crate::screen::Screen;
-use crate::showing::put;
 use arrayvec::{ArrayVec, CapacityError};
 use itoa::Buffer;
+use ptb_command::{Ending, put};
+use ptb_devices::{Screen, ScreenFault};
 use ptb_expr::{Fault, FaultKind};
 
 /// How many bytes are put together, so that they are shown at once: a statement's text has at most

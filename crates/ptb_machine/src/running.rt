@@ -1,14 +1,13 @@
 // This file does whole runs.
 
 ghost use Rattle.std.specs.Prelude.{◌≡◌, ℕ, List, []};
-ghost use Rattle.ptb_machine.specs.Devices.{devices, screen_state, refused_by};
+ghost use Rattle.ptb_command.specs.Devices.{devices, screen_state, refused_by};
 ghost use Rattle.ptb_machine.specs.Runs.{Runs};
 
-use crate::ending::Ending;
 use crate::fault::RunFault;
 use crate::kept::Player;
-use crate::lines::LineSource;
-use crate::screen::Screen;
+use ptb_command::Ending;
+use ptb_devices::{LineSource, Screen};
 use ptb_expr::Chooser;
 use ptb_text::Program;
 use std::alloc::Global;

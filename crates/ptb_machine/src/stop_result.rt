@@ -2,17 +2,13 @@
 
 ghost use Rattle.std.specs.Prelude.{◌≡◌, ℕ, List, Some, slice_get};
 ghost use Rattle.ptb_expr.specs.Store.{Cells};
-ghost use Rattle.ptb_machine.specs.Io.{io_trace, SameDevices};
+ghost use Rattle.ptb_command.specs.Io.{io_trace, SameDevices};
 ghost use Rattle.ptb_machine.specs.Steps.{fault_of, IsResultOf};
 
-use crate::ending::Ending;
 use crate::fault::RunFault;
-use crate::io::Io;
-use crate::lines::LineSource;
 use crate::report::{ending_of, report};
-use crate::screen::Screen;
-use crate::statements::line_at;
-use crate::stop::{DeviceError, Stop};
+use ptb_command::{DeviceError, Ending, Io, Stop, line_at};
+use ptb_devices::{LineSource, Screen};
 use ptb_expr::{Chooser, Pause};
 use ptb_text::Program;
 

@@ -1,27 +1,18 @@
 // This file tests runs and steps: worked rows, and what a run shows of faults.
 
-ghost use Rattle.std.specs.Prelude.{◌≡◌, IsTrue};
-ghost use Rattle.ptb_text.specs.Words.{is_letter};
+ghost use Rattle.std.specs.Prelude.{IsTrue};
 ghost use Rattle.ptb_machine.specs.Steps.{FitsProgram};
 
 use super::*;
 use crate::report::report;
-use crate::statements::first_place;
+use ptb_command::first_place;
 use ptb_expr::{Fault, FaultKind, Listed};
-use ptb_text::{Device, Letter, Program, load};
+use ptb_text::{Device, Program, load};
 use std::alloc::Global;
 use std::test::Fail;
 
 /// The memory of the programs.
 const MEMORY: u16 = 4096;
-
-/// The letter of a byte that is one.
-pub(crate) fn letter(byte: u8) -> Letter
-    requires { IsTrue (is_letter byte) }
-    ensures { result ≡ byte }
-{
-    Letter::new(byte).unwrap()
-}
 
 // The program of two lines, of which the second may be empty.
 fn program(alloc: Global, first: &[u8], second: &[u8]) -> Result<Program, Fail> {

@@ -103,6 +103,28 @@ impl<T> Device<T> {
     }
 }
 
+impl<T: io::Write> Device<T> {
+    /// Has the writer pass on what it holds back. It takes no byte.
+    ///
+    /// # Errors
+    ///
+    /// [`DeviceFault`] where the writer failed.
+    pub fn flush(&mut self) -> Result<(), DeviceFault>
+        ensures bytes { Keeps (T.contents (device_inner self.old))
+            (T.contents (device_inner self.new)) }
+        ensures count { CountsFaults (failure_count self.old) (failure_count self.new) result }
+    {
+        if self.failures == u64::MAX {
+            return Err(DeviceFault);
+        }
+        if self.inner.flush().is_err() {
+            self.failures += 1;
+            return Err(DeviceFault);
+        }
+        Ok(())
+    }
+}
+
 impl<T: io::Read> Read for Device<T> {
     ghost remaining = { λ d. T.remaining (device_inner d) };
 

@@ -60,19 +60,27 @@ struct Sink {
     fails_at: usize,
 }
 
-impl io::Write for &mut Sink {
-    fn write(&mut self, buf: &[u8]) -> io::Result<usize> {
+impl Sink {
+    // Counts a call, and fails at one of them.
+    fn call(&mut self) -> io::Result<()> {
         self.calls = self.calls.saturating_add(1);
         if self.calls == self.fails_at {
             return Err(io::Error::from(io::ErrorKind::Interrupted));
         }
+        Ok(())
+    }
+}
+
+impl io::Write for &mut Sink {
+    fn write(&mut self, buf: &[u8]) -> io::Result<usize> {
+        self.call()?;
         let taken = self.piece.min(buf.len());
         self.taken.extend_from_slice(&buf[..taken])?;
         Ok(taken)
     }
 
     fn flush(&mut self) -> io::Result<()> {
-        Ok(())
+        self.call()
     }
 }
 
@@ -343,6 +351,13 @@ fn devices_move_bytes(rt: HostRuntime) -> Result<(), Fail> {
     assert_eq!(rt; writer.write_all(b"DEFGH"), Err(DeviceFault));
     assert_eq!(rt; writer.write_all(b"G"), Ok(()));
     assert_eq!(rt; sink.taken.as_slice(), b"ABCDEFG".as_slice());
+
+    let mut sink = make_sink(rt.alloc(), 3, 2);
+    let mut writer = Device::new(&mut sink);
+    assert_eq!(rt; writer.write(b"ABC"), Ok(3));
+    assert_eq!(rt; writer.flush(), Err(DeviceFault));
+    assert_eq!(rt; writer.flush(), Ok(()));
+    assert_eq!(rt; sink.taken.as_slice(), b"ABC".as_slice());
 
     let mut reader = Device::new(&b"HI"[..]);
     let mut buf = [0; 4];

@@ -1,7 +1,6 @@
 // This file tests the writer that flushes, over one whose flush fails at a call.
 
 use super::*;
-use ptb_text::{Device, DeviceFault, Write};
 use std::io::ErrorKind;
 use std::test::Fail;
 
@@ -33,7 +32,7 @@ fn each_write_is_flushed(rt: HostRuntime) -> Result<(), Fail> {
         taken: Vec::new(rt.alloc()),
         flushes_left: 2,
     };
-    let mut out = Device::new(Flushing::new(&mut tank));
+    let mut out = Flushing::new(&mut tank);
     assert_eq!(rt; out.write_all(b"one"), Ok(()));
     assert_eq!(rt; out.write_all(b"two"), Ok(()));
     assert_eq!(rt; out.write_all(b"three"), Err(DeviceFault));

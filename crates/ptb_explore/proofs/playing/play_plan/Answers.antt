@@ -1,6 +1,6 @@
 -- This file answers that a run is played step by step, and how it ends.
 use Rattle.std.proofs.Common.{◌≡◌, ℕ, List, [], take, drop, length, refl, sym, ap, ◌∙◌, subst, arith, true, false, Ok, Err, Some, None, ℤ}
-use Rattle.ptb_machine.specs.Sources.{LineList}
+use Rattle.ptb_devices.specs.Sources.{LineList}
 use Rattle.ptb_explore.specs.Recording.{choices_of}
 use Rattle.ptb_explore.proofs.RunPrefix.{IsRunPrefix, run_prefix_at_first, step_goes, step_ends, never_unread, never_unwritten}
 use Rattle.ptb_explore.proofs.playing.play_plan.Goals as goal

@@ -4,7 +4,7 @@ use Rattle.std.specs.Fmt.{signed_decimal}
 use Rattle.std.proofs.lemmas.Result.{err_from_is_err_and}
 use Rattle.std.proofs.lemmas.List.{take_all}
 use Rattle.ptb_text.specs.Device.{TakesSome}
-use Rattle.ptb_explore.specs.Report.{spelling, more_spelling}
+use Rattle.ptb_expr.specs.AnswerText.{spelling, more_spelling}
 use Rattle.ptb_explore.proofs.Gathering.{gathers_same, gathers_more, some_more, some_after, gathers_piece, some_piece}
 use Rattle.ptb_explore.proofs.report.put_answers.Goals as goal
 

@@ -1,6 +1,7 @@
 -- This file says what is gathered after some of the answers behind the first.
 use Rattle.std.proofs.Common.{◌≡◌, ◌++◌, take}
-use Rattle.ptb_explore.specs.Report.{Gathers, more_spelling}
+use Rattle.ptb_expr.specs.AnswerText.{more_spelling}
+use Rattle.ptb_explore.specs.Report.{Gathers}
 use Rattle.ptb_explore.proofs.report.put_answers.Given as goal
 
 abbrev pub invariant-loop-answer : goal.invariant-loop-answer

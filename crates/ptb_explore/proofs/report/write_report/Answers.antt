@@ -2,7 +2,8 @@
 use Rattle.std.proofs.Common.{◌≡◌, ◌++◌, ◌∙◌, subst, codes, decimal, length}
 use Rattle.std.proofs.lemmas.Result.{err_from_is_err_and, on_ok_weaker, on_err_weaker}
 use Rattle.ptb_text.specs.Device.{TakesSome}
-use Rattle.ptb_explore.specs.Report.{spelling, Gathers}
+use Rattle.ptb_expr.specs.AnswerText.{spelling}
+use Rattle.ptb_explore.specs.Report.{Gathers}
 use Rattle.ptb_explore.proofs.Gathering.{gathers_same, gathers_more, some_more, some_after, all_after, some_rest}
 use Rattle.ptb_explore.proofs.ReportText.{behind_answers, report_in_pieces}
 use Rattle.ptb_explore.proofs.report.write_report.Goals as goal

@@ -1,8 +1,8 @@
 -- This file answers what is left to prove of `report`: each piece is shown, or the report ends there.
 use Rattle.std.proofs.Common.{◌≡◌, ◌∙◌, refl, ap, rules, to_z, of_z, w16}
 use Rattle.std.specs.Fmt.{signed_decimal}
-use Rattle.ptb_machine.specs.Act.{newline}
-use Rattle.ptb_machine.proofs.Reporting.{shown_then, unshown_first, statement_line, report_shown, three_same}
+use Rattle.ptb_command.specs.Act.{newline}
+use Rattle.ptb_command.proofs.Reporting.{shown_then, unshown_first, statement_line, report_shown, three_same}
 use Rattle.ptb_machine.proofs.report.report.Goals as goal
 
 pub returns-in_err-put_joined : goal.returns-in_err-put_joined

@@ -1,6 +1,6 @@
 -- This file answers what is left to prove of `run`.
 use Rattle.std.proofs.Common.{[], ◌++◌, refl, ap, ◌∙◌, Ok, Err}
-use Rattle.ptb_machine.specs.Devices.{devices, screen_state, refused_by, nothing_refused}
+use Rattle.ptb_command.specs.Devices.{devices, screen_state, refused_by, nothing_refused}
 use Rattle.ptb_machine.proofs.Runs.{run_begins, run_on, run_falls, run_over, run_breaks, runs_nothing, runs_err, steps_at, runs_of, not_spent}
 use Rattle.ptb_machine.proofs.running.run.Goals as goal
 

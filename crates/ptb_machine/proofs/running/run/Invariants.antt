@@ -1,6 +1,6 @@
 -- This file says what a run has come to before each step.
 use Rattle.std.proofs.Common.{◌≡◌, ℕ, ◌-◌, false, List, []}
-use Rattle.ptb_machine.specs.Devices.{devices, screen_state}
+use Rattle.ptb_command.specs.Devices.{devices, screen_state}
 use Rattle.ptb_machine.specs.Steps.{FitsProgram}
 use Rattle.ptb_machine.proofs.Runs.{HasRun}
 use Rattle.ptb_machine.proofs.running.run.Given as goal

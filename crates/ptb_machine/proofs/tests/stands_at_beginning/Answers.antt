@@ -1,11 +1,11 @@
 -- This file answers what is left to prove of `stands_at_beginning`.
 use Rattle.std.proofs.Common.{◌≡◌, ◌∙◌, ℕ, true, List, [], Some, refl, sym, ap, subst}
 use Rattle.ptb_text.specs.Statements.{StoredProgram}
-use Rattle.ptb_machine.specs.declared.location.Location.{Location}
-use Rattle.ptb_machine.specs.declared.stack.Open.{Open}
-use Rattle.ptb_machine.specs.Configuration.{Configuration, configuration}
-use Rattle.ptb_machine.specs.Representation.{PlacesAre, Nested}
-use Rattle.ptb_machine.specs.State.{first_place}
+use Rattle.ptb_command.specs.declared.location.Location.{Location}
+use Rattle.ptb_command.specs.declared.stack.Open.{Open}
+use Rattle.ptb_command.specs.Configuration.{Configuration, configuration}
+use Rattle.ptb_command.specs.Representation.{PlacesAre, Nested}
+use Rattle.ptb_command.specs.State.{first_place}
 use Rattle.ptb_machine.specs.Steps.{FitsProgram}
 use Rattle.ptb_machine.proofs.tests.stands_at_beginning.Goals as goal
 
@@ -35,4 +35,4 @@ returns c = λ fresh.
     subst (λ (a : Configuration). FitsProgram p a) c.machine.view_is
     (fits_at_first p (configuration m.registers m.steps m.fresh m.spent)
     (subst (PlacesAre p.lines (first_place p.lines)) (ap Some (sym (same_location here first c.if-here-first.false c.if-here-first-2.false)) ∙ sym c.in-Some-place.is) c.in-Some.ensures)
-    (c.is_empty.ensures c.if-not-is_empty.false) fresh)
+    (c.is_empty.ensures.0 c.if-not-is_empty.false) fresh)

@@ -1,6 +1,0 @@
--- This file answers what is left to prove of `long_run_rows`.
-use Rattle.ptb.proofs.Worked.{long_run_rows}
-use Rattle.ptb.proofs.rows.long_run_rows.Goals as goal
-
-pub returns : goal.returns
-returns c = long_run_rows

@@ -1,0 +1,89 @@
+-- This file proves what a command comes to by its word.
+use Rattle.std.proofs.Common.{◌≡◌, ◌≢◌, ℕ, List, [], ◌++◌, Option, Result, Ok, Err, ℤ, refl, sym, subst, append-nil}
+use Rattle.ptb_text.specs.declared.word.Word.{Word}
+use Rattle.ptb_text.specs.declared.word.Word.TheVariants as words
+use Rattle.ptb_text.specs.Statements.{Statements}
+use Rattle.ptb_text.specs.Words.{IsCommand}
+use Rattle.ptb_expr.specs.declared.pause.Pause.{Pause}
+use Rattle.ptb_expr.specs.Choices.{Choices}
+use Rattle.ptb_devices.specs.declared.fault.ReadFault.{ReadFault}
+use Rattle.ptb_command.specs.declared.location.Location.{Location}
+use Rattle.ptb_command.specs.declared.stop.Stop.{Stop}
+use Rattle.ptb_command.specs.Commands.{command_of, parts_of}
+use Rattle.ptb_command.specs.State.{Place}
+use Rattle.ptb_command.specs.Actions.{Action}
+use Rattle.ptb_command.specs.Act.{command_action}
+use Rattle.ptb_command.specs.Places.{At}
+use Rattle.ptb_command.specs.Reads.{IsFirstWord}
+use Rattle.ptb_command.specs.Devices.{ScreenState, Devices, devices, Refusal, Unanswered, Unread, NoLine, refused_answers, refused_by}
+use Rattle.ptb_command.specs.Configuration.{Configuration}
+use Rattle.ptb_command.specs.Representation.{Begun}
+use Rattle.ptb_command.specs.Acts.{RefinesTo, Acts}
+use Rattle.ptb_command.specs.Representation.{NextIs}
+use Rattle.ptb_command.proofs.Stops.{stops_along}
+
+-- ---- words
+
+-- every other word that begins a command has its own case
+pub let_word : (word : Word) → word ≢ words.RemKw → word ≢ words.StopKw → word ≢ words.GotoKw → word ≢ words.IfKw → word ≢ words.GosubKw → word ≢ words.ReturnKw → word ≢ words.ForKw → word ≢ words.NextKw → word ≢ words.PrintKw → word ≢ words.InputKw → IsCommand word → word ≡ words.LetKw
+let_word words.RemKw a b c d e f h i j k is = absurd (a refl)
+let_word words.StopKw a b c d e f h i j k is = absurd (b refl)
+let_word words.GotoKw a b c d e f h i j k is = absurd (c refl)
+let_word words.IfKw a b c d e f h i j k is = absurd (d refl)
+let_word words.GosubKw a b c d e f h i j k is = absurd (e refl)
+let_word words.ReturnKw a b c d e f h i j k is = absurd (f refl)
+let_word words.ForKw a b c d e f h i j k is = absurd (h refl)
+let_word words.NextKw a b c d e f h i j k is = absurd (i refl)
+let_word words.PrintKw a b c d e f h i j k is = absurd (j refl)
+let_word words.InputKw a b c d e f h i j k is = absurd (k refl)
+let_word words.LetKw a b c d e f h i j k is = refl
+let_word words.RndKw a b c d e f h i j k is = absurd is
+let_word words.AbsKw a b c d e f h i j k is = absurd is
+let_word words.SizeKw a b c d e f h i j k is = absurd is
+let_word words.ToKw a b c d e f h i j k is = absurd is
+let_word words.StepKw a b c d e f h i j k is = absurd is
+
+-- the word is known
+pub begun_with : (p : Statements) (q : Place) (n : ℕ) (t : List ℕ) (word v : Word) (i : ℕ) → word ≡ v → Begun p q n t word i → Begun p q n t v i
+begun_with p q n t word v i k b = subst (λ (x : Word). Begun p q n t x i) k b
+
+-- ---- refusals
+
+pub none_refused : (refused : Refusal → Type 0) (r : Refusal) → ⊥ → refused r
+none_refused refused r h = absurd h
+
+-- of the chooser alone
+pub answers_refused : (refused : Pause → ℤ → Type 0) (unread : ReadFault → Type 0) (lines : Option (List (List ℕ))) (r : Refusal) → refused_answers refused r → refused_by refused unread lines r
+answers_refused refused unread lines (Unanswered z n) h = h
+answers_refused refused unread lines (Unread f) h = absurd h
+answers_refused refused unread lines NoLine h = absurd h
+
+-- ---- commands
+
+acts_more : {X : Type 0} (refused others : Refusal → Type 0) → ((r : Refusal) → refused r → others r) → (p : Statements) (m n : Configuration) (o d : Devices) (f : Action (Unit {0})) (r : Result X Stop) → Acts refused p m n o d f r → Acts others p m n o d f r
+acts_more refused others more p m n o d f (Ok x) a = a
+acts_more refused others more p m n o d f (Err e) a = stops_along refused others more (RefinesTo p m n o f) (RefinesTo p m n o f) (λ k g b. b) d e a
+
+pub acts_word : {X : Type 0} (refused : Refusal → Type 0) (p : Statements) (m n : Configuration) (o d : Devices) (q : Place) (t : List ℕ) (i : ℕ) (word v : Word) (r : Result X Stop) → word ≡ v → Acts refused p m n o d (command_action p q (command_of v (parts_of v t i))) r → Acts refused p m n o d (command_action p q (command_of word (parts_of word t i))) r
+acts_word refused p m n o d q t i word v r e a = subst (λ (x : Word). Acts refused p m n o d (command_action p q (command_of x (parts_of x t i))) r) (sym e) a
+
+-- a command that takes no line
+pub acts_alone : {X : Type 0} (refused others : Refusal → Type 0) → ((r : Refusal) → refused r → others r) → (p : Statements) (m n : Configuration) (o : Devices) (choices : Choices) (screen : ScreenState) (before : List (List ℕ)) (q : Place) (t : List ℕ) (i : ℕ) (word v : Word) (r : Result X Stop) → word ≡ v → Acts refused p m n o (devices choices screen before) (command_action p q (command_of v (parts_of v t i))) r → Acts others p m n o (devices choices screen (before ++ [])) (command_action p q (command_of word (parts_of word t i))) r
+acts_alone refused others more p m n o choices screen before q t i word v r e a =
+    subst (λ (x : List (List ℕ)). Acts others p m n o (devices choices screen x) (command_action p q (command_of word (parts_of word t i))) r) (sym (append-nil before))
+    (acts_more refused others more p m n o (devices choices screen before) _ r
+    (acts_word refused p m n o (devices choices screen before) q t i word v r e a))
+
+-- ---- the next command
+
+pub begun_next : (p : Statements) (o : Option Place) (here : Location) (t : List ℕ) (word : Word) (i : ℕ) (n : NextIs p o here t) → IsFirstWord t here.at word i → Begun p n.place here.statement t word i
+begun_next p o here t word i n f = record {
+  statement = n.is.statement;
+  text = n.text;
+  begin = here.at;
+  at = subst (λ (x : List ℕ). At x n.place.index here.at) n.text n.is.at;
+  more = n.more;
+  command = f.command;
+  from = f.from;
+  within = f.within;
+}

@@ -1,0 +1,402 @@
+-- This file proves what an item of INPUT comes to, step by step.
+use Rattle.std.proofs.Common.{◌≡◌, ℕ, Bool, List, [], ◌∷◌, ◌++◌, Option, Result, Ok, Err, ℤ, refl, sym, ap, subst, ◌∙◌, append_assoc, append-nil, arith, inl, inr, Bor}
+use Rattle.std.specs.Prelude.{IfOk}
+use Rattle.std.proofs.Math.Path.{fun_ext}
+use Rattle.ptb_expr.specs.declared.fault.Fault.{Fault}
+use Rattle.ptb_expr.specs.declared.fault.Stop.{Stop as NoValue}
+use Rattle.ptb_expr.specs.declared.fault.Stop.TheVariants as values
+use Rattle.ptb_expr.specs.declared.pause.Pause.{Pause}
+use Rattle.ptb_expr.specs.declared.store.Target.{Target}
+use Rattle.ptb_expr.specs.Choices.{Choices}
+use Rattle.ptb_expr.specs.Evaluate.{WorkComes}
+use Rattle.ptb_expr.specs.Outcome.{Answers, Outcome, Done, Asks, Out, go_on, map_outcome}
+use Rattle.ptb_expr.specs.Reading.{item_of, expression, variable_tree}
+use Rattle.ptb_expr.specs.Store.{Cells}
+use Rattle.ptb_expr.specs.Tree.{Tree}
+use Rattle.ptb_expr.specs.Value.{value, target_of}
+use Rattle.ptb_command.specs.declared.commands.input.Asking.{Asking}
+use Rattle.ptb_command.specs.declared.ending.Ending.TheVariants as endings
+use Rattle.ptb_devices.specs.declared.fault.ReadFault.{ReadFault}
+use Rattle.ptb_devices.specs.declared.fault.ReadFault.TheVariants as reads
+use Rattle.ptb_command.specs.declared.io.Io.{Io}
+use Rattle.ptb_devices.specs.declared.screen.Screen.{Ghosts}
+use Rattle.ptb_command.specs.declared.stop.DeviceError.{DeviceError}
+use Rattle.ptb_command.specs.declared.stop.DeviceError.TheVariants as errors
+use Rattle.ptb_command.specs.declared.stop.Stop.{Stop}
+use Rattle.ptb_command.specs.declared.stop.Stop.TheVariants as stops
+use Rattle.ptb_command.specs.Commands.{Part, Take, input_item}
+use Rattle.ptb_command.specs.State.{State}
+use Rattle.ptb_command.specs.Actions.{Ends, Progress, Goes, Halts, Action, on_progress, and_then, goes_on, halt, show, attempt, or_halt}
+use Rattle.ptb_command.specs.Act.{newline, word_of, target_action, store, take_line, ask_for, store_or_again, input_action, parts_action}
+use Rattle.ptb_command.specs.Asking.{item_action, IsAsked}
+use Rattle.ptb_command.specs.Reads.{IsRead}
+use Rattle.ptb_command.specs.Effects.{action_state}
+use Rattle.ptb_devices.specs.Sources.{given_lines}
+use Rattle.ptb_command.specs.Devices.{Devices, with_choices, Refusal, Unanswered, Unread, NoLine, refused_answers, refused_by, HasBroken}
+use Rattle.ptb_command.specs.Io.{io_devices, io_trace}
+use Rattle.ptb_command.specs.Traces.{Trace, trace, after, RefinesPart}
+use Rattle.ptb_command.specs.Stops.{stop_of, stop_of_read, Stops, RefinesPartTo, Comes}
+use Rattle.ptb_command.proofs.Effects.{Preserves, then_keeps, attempt_state, input_part}
+use Rattle.ptb_command.proofs.Exchanges.{shows_nothing, exchanges_none, with_answers_nil}
+use Rattle.ptb_command.proofs.PartRefinement.{leaves_to, leaves_itself, after_nothing, freshens_nothing, refines_part_refl, refines_part_then}
+use Rattle.ptb_command.proofs.Stops.{Adds, parts_add, stops_after}
+use Rattle.ptb_command.proofs.Actions.{goes_adds, halt_adds, show_adds, then_adds, work_action_adds, refines_part_on, stops_first}
+use Rattle.ptb_command.proofs.Letting.{store_adds}
+use Rattle.ptb_command.proofs.Parts.{refines_part_part, stops_part}
+use Rattle.ptb_command.proofs.Working.{has_result, has_paused}
+
+-- ---- bytes in two pieces
+
+shown_twice : (xs ys : List ℕ) → show (xs ++ ys) ≡ and_then (show xs) (λ u. show ys)
+shown_twice xs ys = fun_ext (λ S. ap (λ (s : List ℕ). goes_on tt (record S { shown = s })) (sym (append_assoc S.shown xs ys)))
+
+module _ (xs ys : List ℕ) where
+  pub both_move : {o m n : Trace} → RefinesPart o m (show xs) (goes_on tt) → RefinesPart m n (show ys) (goes_on tt) → RefinesPart o n (show (xs ++ ys)) (goes_on tt)
+  both_move {o = o} {n = n} a b = subst (λ (f : Action (Unit {0})). RefinesPart o n f (goes_on tt)) (sym (shown_twice xs ys)) (refines_part_then (refines_part_on (λ u. show ys) a) b)
+
+  pub first_stops : (refused : Refusal → Type 0) (o n : Trace) (e : Stop) → Stops refused (RefinesPartTo o n (show xs)) n.devices e → Stops refused (RefinesPartTo o n (show (xs ++ ys))) n.devices e
+  first_stops refused o n e h =
+      subst (λ (f : Action (Unit {0})). Stops refused (RefinesPartTo o n f) n.devices e) (sym (shown_twice xs ys)) (stops_first refused o n (show xs) (λ u. show ys) (λ u. show_adds ys) e h)
+
+  pub second_stops : (refused : Refusal → Type 0) {o m : Trace} (n : Trace) (e : Stop) → RefinesPart o m (show xs) (goes_on tt) → Stops refused (RefinesPartTo m n (show ys)) n.devices e → Stops refused (RefinesPartTo o n (show (xs ++ ys))) n.devices e
+  second_stops refused {o = o} n e a h =
+      subst (λ (f : Action (Unit {0})). Stops refused (RefinesPartTo o n f) n.devices e) (sym (shown_twice xs ys)) (stops_after refused n (refines_part_on (λ u. show ys) a) e h)
+
+-- ---- a line is worth a value, or has a fault
+
+abbrev pub line_value : List ℕ → Action (Result ℤ Fault)
+line_value l = attempt (λ c. value c (item_of (expression l 0)))
+
+module _ (refused : Pause → ℤ → Type 0) (l : List ℕ) (c e : Choices) (d : Devices) (fresh : Bool) (cells : Cells) where
+  pub line_values : (v u : ℤ) → u ≡ v → WorkComes refused (value cells (item_of (expression l 0))) c e (Ok v) → RefinesPart (trace (with_choices c d) fresh cells) (trace (with_choices e d) fresh cells) (line_value l) (goes_on (Ok u))
+  line_values v u k h =
+      subst (λ (z : ℤ). RefinesPart (trace (with_choices c d) fresh cells) (trace (with_choices e d) fresh cells) (line_value l) (goes_on (Ok z))) (sym k)
+      (has_result (λ c. value c (item_of (expression l 0))) c e d fresh cells (Ok v) h)
+
+  pub line_faults : (s : NoValue) (f : Fault) → s ≡ values.Fault f → WorkComes refused (value cells (item_of (expression l 0))) c e (Err s) → RefinesPart (trace (with_choices c d) fresh cells) (trace (with_choices e d) fresh cells) (line_value l) (goes_on (Err f))
+  line_faults s f k h =
+      has_result (λ c. value c (item_of (expression l 0))) c e d fresh cells (Err f)
+      (subst (λ (x : NoValue). WorkComes refused (value cells (item_of (expression l 0))) c e (Err x)) k h)
+
+  pub line_pauses : (s : NoValue) (z : Pause) → s ≡ values.Pause z → WorkComes refused (value cells (item_of (expression l 0))) c e (Err s) → (k : Stop) → k ≡ stop_of (values.Pause z) → Stops (refused_answers refused) (RefinesPartTo (trace (with_choices c d) fresh cells) (trace (with_choices e d) fresh cells) (line_value l)) (with_choices e d) k
+  line_pauses s z p h k q =
+      subst (λ (x : Stop). Stops (refused_answers refused) (RefinesPartTo (trace (with_choices c d) fresh cells) (trace (with_choices e d) fresh cells) (line_value l)) (with_choices e d) x) (sym q)
+      (has_paused (λ c. value c (item_of (expression l 0))) c e d fresh cells refused z
+      (subst (λ (x : NoValue). WorkComes refused (value cells (item_of (expression l 0))) c e (Err x)) p h))
+
+line_adds : (l : List ℕ) → Adds (line_value l)
+line_adds l = record { at = λ S a. ([], ap (λ (T : State). T.shown) (attempt_state (λ c. value c (item_of (expression l 0))) S a) ∙ sym (append-nil S.shown)) }
+
+-- ---- lines are left as they are
+
+abbrev pub SameLines : State → State → Type 0
+SameLines S T = T.lines ≡ S.lines
+
+abbrev pub LeavesLines : {A : Type 0} → Action A → Type 0
+LeavesLines m = Preserves SameLines m
+
+lines_then : {A B : Type 0} (f : Action A) (next : A → Action B) → LeavesLines f → ((x : A) → LeavesLines (next x)) → LeavesLines (and_then f next)
+lines_then f next a b = then_keeps SameLines (λ S T U p q. q ∙ p) f next a b
+
+-- what comes next is looked at in states with these lines alone
+next_same : {A B : Type 0} (F G : A → Action B) (ls : List (List ℕ)) → ((x : A) (T : State) → T.lines ≡ ls → F x T ≡ G x T) → (o : Outcome (Progress A) State) → (action_state o).lines ≡ ls → go_on o (on_progress F) ≡ go_on o (on_progress G)
+next_same F G ls same (Done (Goes x T) rest) e = ap (λ h. h rest) (same x T e)
+next_same F G ls same (Done (Halts h T) rest) e = refl
+next_same F G ls same (Asks n T) e = refl
+next_same F G ls same (Out n T) e = refl
+
+or_halt_lines : {A : Type 0} (r : Result A Fault) → LeavesLines (or_halt r)
+or_halt_lines (Ok v) = record { at = λ S a. refl }
+or_halt_lines (Err e) = record { at = λ S a. refl }
+
+-- ---- before a line is taken
+
+-- an item that asks: what it says, its variable, and its prompt
+module _ (said : List ℕ) (x : Tree) (prompt : List ℕ) where
+  prompt_next : Target → Action Target
+  prompt_next at = and_then (show prompt) (λ u. goes_on at)
+
+  target_next : Action Target
+  target_next = and_then (target_action x) prompt_next
+
+  prompt_next_adds : (at : Target) → Adds (prompt_next at)
+  unfolding prompt_next
+  prompt_next_adds at = then_adds (show prompt) (λ u. goes_on at) (show_adds prompt) (λ u. goes_adds at)
+
+  target_next_adds : Adds target_next
+  unfolding target_next
+  target_next_adds = then_adds (target_action x) prompt_next (work_action_adds _) prompt_next_adds
+
+  pub ask_adds : Adds (ask_for said x prompt)
+  unfolding target_next prompt_next
+  ask_adds = then_adds (show said) (λ u. target_next) (show_adds said) (λ u. target_next_adds)
+
+  ask_lines : LeavesLines (ask_for said x prompt)
+  ask_lines =
+      lines_then (show said) _ (record { at = λ S a. refl }) (λ u.
+      lines_then (target_action x) _ (lines_then (attempt _) _ (record { at = λ S a. ap (λ (T : State). T.lines) (attempt_state (λ c. target_of c x) S a) }) or_halt_lines) (λ at.
+      lines_then (show prompt) (λ u. goes_on at) (record { at = λ S a. refl }) (λ u. record { at = λ S a. refl })))
+
+  said_first : {o m : Trace} → RefinesPart o m (show said) (goes_on tt) → RefinesPart o m (ask_for said x prompt) target_next
+  unfolding target_next prompt_next
+  said_first a = refines_part_on (λ u. target_next) a
+
+  target_then : {o m n : Trace} (at : Target) → RefinesPart o m (show said) (goes_on tt) → RefinesPart m n (target_action x) (goes_on at) → RefinesPart o n (ask_for said x prompt) (prompt_next at)
+  unfolding target_next
+  target_then at a b = refines_part_then (said_first a) (refines_part_on prompt_next b)
+
+  pub ask_refines_part : {o m k n : Trace} (at : Target) → RefinesPart o m (show said) (goes_on tt) → RefinesPart m k (target_action x) (goes_on at) → RefinesPart k n (show prompt) (goes_on tt) → RefinesPart o n (ask_for said x prompt) (goes_on at)
+  unfolding prompt_next
+  ask_refines_part at a b c = refines_part_then (target_then at a b) (refines_part_on (λ u. goes_on at) c)
+
+  pub ask_said_stops : (refused : Refusal → Type 0) (o n : Trace) (e : Stop) → Stops refused (RefinesPartTo o n (show said)) n.devices e → Stops refused (RefinesPartTo o n (ask_for said x prompt)) n.devices e
+  unfolding target_next prompt_next
+  ask_said_stops refused o n e h = stops_first refused o n (show said) (λ u. target_next) (λ u. target_next_adds) e h
+
+  pub ask_target_stops : (refused : Refusal → Type 0) {o m : Trace} (n : Trace) (e : Stop) → RefinesPart o m (show said) (goes_on tt) → Stops refused (RefinesPartTo m n (target_action x)) n.devices e → Stops refused (RefinesPartTo o n (ask_for said x prompt)) n.devices e
+  unfolding target_next
+  ask_target_stops refused {m = m} n e a h = stops_after refused n (said_first a) e (stops_first refused m n (target_action x) prompt_next prompt_next_adds e h)
+
+  pub ask_prompt_stops : (refused : Refusal → Type 0) {o m k : Trace} (n : Trace) (at : Target) (e : Stop) → RefinesPart o m (show said) (goes_on tt) → RefinesPart m k (target_action x) (goes_on at) → Stops refused (RefinesPartTo k n (show prompt)) n.devices e → Stops refused (RefinesPartTo o n (ask_for said x prompt)) n.devices e
+  unfolding prompt_next
+  ask_prompt_stops refused {k = k} n at e a b h =
+      stops_after refused n (target_then at a b) e (stops_first refused k n (show prompt) (λ u. goes_on at) (λ u. goes_adds at) e h)
+
+  -- a prompt in two pieces
+  module _ (name : List ℕ) (is : prompt ≡ name ++ 58 ∷ []) where
+    pub ask_name_stops : (refused : Refusal → Type 0) {o m k : Trace} (n : Trace) (at : Target) (e : Stop) → RefinesPart o m (show said) (goes_on tt) → RefinesPart m k (target_action x) (goes_on at) → Stops refused (RefinesPartTo k n (show name)) n.devices e → Stops refused (RefinesPartTo o n (ask_for said x prompt)) n.devices e
+    ask_name_stops refused {k = k} n at e a b h =
+        ask_prompt_stops refused n at e a b
+        (subst (λ (s : List ℕ). Stops refused (RefinesPartTo k n (show s)) n.devices e) (sym is) (first_stops name (58 ∷ []) refused k n e h))
+
+    pub ask_colon_stops : (refused : Refusal → Type 0) {o m k l : Trace} (n : Trace) (at : Target) (e : Stop) → RefinesPart o m (show said) (goes_on tt) → RefinesPart m k (target_action x) (goes_on at) → RefinesPart k l (show name) (goes_on tt) → Stops refused (RefinesPartTo l n (show (58 ∷ []))) n.devices e → Stops refused (RefinesPartTo o n (ask_for said x prompt)) n.devices e
+    ask_colon_stops refused {k = k} n at e a b c h =
+        ask_prompt_stops refused n at e a b
+        (subst (λ (s : List ℕ). Stops refused (RefinesPartTo k n (show s)) n.devices e) (sym is) (second_stops name (58 ∷ []) refused n e c h))
+
+    pub ask_all_refines_part : {o m k l n : Trace} (at : Target) → RefinesPart o m (show said) (goes_on tt) → RefinesPart m k (target_action x) (goes_on at) → RefinesPart k l (show name) (goes_on tt) → RefinesPart l n (show (58 ∷ [])) (goes_on tt) → RefinesPart o n (ask_for said x prompt) (goes_on at)
+    ask_all_refines_part {k = k} {n = n} at a b c d =
+        ask_refines_part at a b (subst (λ (s : List ℕ). RefinesPart k n (show s) (goes_on tt)) (sym is) (both_move name (58 ∷ []) c d))
+
+  -- ---- a line is taken
+
+  pub item_action_adds : Adds (item_action said x prompt)
+  item_action_adds = record { at = λ S a. ((input_part said x prompt S.lines).at S a).shown }
+
+  -- once a line's value is known, or its fault
+  pub answered : Target → Result ℤ Fault → Action (Unit {0})
+  answered at = store_or_again at (item_action said x prompt)
+
+  answered_adds : (at : Target) (r : Result ℤ Fault) → Adds (answered at r)
+  unfolding answered
+  answered_adds at (Ok v) = store_adds at v
+  answered_adds at (Err f) = then_adds (show (word_of f.kind ++ newline)) (λ u. item_action said x prompt) (show_adds _) (λ u. item_action_adds)
+
+  -- once a line is shown
+  pub worth : Target → List ℕ → Action (Unit {0})
+  worth at l = and_then (line_value l) (answered at)
+
+  worth_adds : (at : Target) (l : List ℕ) → Adds (worth at l)
+  unfolding worth
+  worth_adds at l = then_adds (line_value l) (answered at) (line_adds l) (answered_adds at)
+
+  -- once a line is given
+  pub line_next : Target → List ℕ → Action (Unit {0})
+  line_next at l = and_then (show (l ++ newline)) (λ u. worth at l)
+
+  again_adds : (at : Target) (ls : List (List ℕ)) (r : Result ℤ Fault) → Adds (store_or_again at (input_action said x prompt ls) r)
+  again_adds at ls (Ok v) = store_adds at v
+  again_adds at ls (Err f) =
+      then_adds (show (word_of f.kind ++ newline)) (λ u. input_action said x prompt ls) (show_adds _) (λ u. record { at = λ S a. ((input_part said x prompt ls).at S a).shown })
+
+  -- by the lines that are left
+  answer_by : Target → List (List ℕ) → Action (Unit {0})
+  answer_by at [] = halt (Ends endings.NoInput)
+  answer_by at (l ∷ ls) = and_then (take_line l ls) (λ u. and_then (line_value l) (store_or_again at (input_action said x prompt ls)))
+
+  answer_adds : (at : Target) (ls : List (List ℕ)) → Adds (answer_by at ls)
+  unfolding answer_by
+  answer_adds at [] = halt_adds (Ends endings.NoInput)
+  answer_adds at (l ∷ ls) =
+      then_adds (take_line l ls) _ (record { at = λ S a. (l ++ newline, append_assoc S.shown l newline) }) (λ u.
+      then_adds (line_value l) (store_or_again at (input_action said x prompt ls)) (line_adds l) (again_adds at ls))
+
+  -- a line is wanted
+  pub wants : Target → Action (Unit {0})
+  wants at S = answer_by at S.lines S
+
+  by_lines : (ls : List (List ℕ)) (S : State) (a : Answers) → S.lines ≡ ls → input_action said x prompt ls S a ≡ and_then (ask_for said x prompt) wants S a
+  unfolding input_action wants answer_by
+  by_lines [] S a e =
+      next_same (λ at. answer_by at []) wants [] (λ at T k. ap (λ ls. answer_by at ls T) (sym k)) (ask_for said x prompt S a) (ask_lines.at S a ∙ e)
+  by_lines (l ∷ ls) S a e =
+      next_same (λ at. answer_by at (l ∷ ls)) wants (l ∷ ls) (λ at T k. ap (λ ls. answer_by at ls T) (sym k)) (ask_for said x prompt S a) (ask_lines.at S a ∙ e)
+
+  item_action_asks : item_action said x prompt ≡ and_then (ask_for said x prompt) wants
+  item_action_asks = fun_ext (λ S. fun_ext (λ a. by_lines S.lines S a refl))
+
+  wants_adds : (at : Target) → Adds (wants at)
+  unfolding wants answer_by
+  wants_adds at = record { at = λ S a. (answer_adds at S.lines).at S a }
+
+  -- what asks has come to a target, and wants a line
+  wanted : {o n : Trace} (at : Target) → RefinesPart o n (ask_for said x prompt) (goes_on at) → RefinesPart o n (item_action said x prompt) (wants at)
+  wanted {o = o} {n = n} at a = subst (λ (f : Action (Unit {0})). RefinesPart o n f (wants at)) (sym item_action_asks) (refines_part_on wants a)
+
+  -- it stops before
+  pub take_ask_stops : (refused : Refusal → Type 0) (o n : Trace) (e : Stop) → Stops refused (RefinesPartTo o n (ask_for said x prompt)) n.devices e → Stops refused (RefinesPartTo o n (item_action said x prompt)) n.devices e
+  take_ask_stops refused o n e h =
+      subst (λ (f : Action (Unit {0})). Stops refused (RefinesPartTo o n f) n.devices e) (sym item_action_asks) (stops_first refused o n (ask_for said x prompt) wants wants_adds e h)
+
+  -- no line is left
+  pub take_dry : (refused : Refusal → Type 0) {o n : Trace} (at : Target) → RefinesPart o n (ask_for said x prompt) (goes_on at) → refused NoLine → Stops refused (RefinesPartTo o n (item_action said x prompt)) n.devices stops.NoInput
+  unfolding wants answer_by
+  take_dry refused at a h = record {
+    left = wants at;
+    comes = wanted at a;
+    dry = λ S b e. ap (λ ls. answer_by at ls S b) e;
+    refuses = h;
+  }
+
+  -- the lines can't be read
+  unread : (refused : Refusal → Type 0) {o n : Trace} (at : Target) (e : DeviceError) → RefinesPart o n (ask_for said x prompt) (goes_on at) → HasBroken refused n.devices.screen n.devices.screen e → Stops refused (RefinesPartTo o n (item_action said x prompt)) n.devices (stops.Broke e)
+  unread refused {n = n} at e a h = record {
+    left = wants at;
+    middle = n.devices;
+    part = [];
+    comes = wanted at a;
+    shows = exchanges_none n.devices;
+    begins = λ S b. let more = (wants_adds at).at S b in (more.0, more.1 ∙ ap (λ s. s ++ more.0) (sym (append-nil S.shown)));
+    broken = h;
+  }
+
+  pub take_unread : (refused : Refusal → Type 0) {o n : Trace} (at : Target) (f : ReadFault) → RefinesPart o n (ask_for said x prompt) (goes_on at) → refused (Unread f) → Stops refused (RefinesPartTo o n (item_action said x prompt)) n.devices (stop_of_read f)
+  take_unread refused at reads.Read a h = unread refused at errors.Read a (record { by = inl h })
+  take_unread refused at reads.TooLong a h = unread refused at errors.Read a (record { by = inr h })
+  take_unread refused at reads.Memory a h = unread refused at errors.Memory a (record { by = inr (inr h) })
+
+  -- a line is given
+  again_same : (at : Target) (ls : List (List ℕ)) (S : State) → S.lines ≡ ls → (o : Outcome (Result ℤ Fault) (Unit {0})) → go_on (map_outcome (λ r. Goes r S) (λ u. S) o) (on_progress (store_or_again at (input_action said x prompt ls))) ≡ go_on (map_outcome (λ r. Goes r S) (λ u. S) o) (on_progress (answered at))
+  unfolding answered
+  again_same at ls S e (Done (Ok v) rest) = refl
+  again_same at ls S e (Done (Err f) rest) = ap (λ k. input_action said x prompt k (record S { shown = S.shown ++ (word_of f.kind ++ newline) }) rest) (sym e)
+  again_same at ls S e (Asks n w) = refl
+  again_same at ls S e (Out n w) = refl
+
+  given_same : (at : Target) (l : List ℕ) (ls : List (List ℕ)) (S : State) → answer_by at (l ∷ ls) S ≡ line_next at l (record S { lines = ls })
+  unfolding answer_by line_next worth
+  given_same at l ls S =
+      ap (λ (s : List ℕ). and_then (line_value l) (store_or_again at (input_action said x prompt ls)) (record S { lines = ls; shown = s })) (append_assoc S.shown l newline)
+      ∙ fun_ext (λ a. again_same at ls (record S { lines = ls; shown = S.shown ++ (l ++ newline) }) refl (value S.cells (item_of (expression l 0)) a))
+
+  -- the lines given are then k
+  line_given : (m : Trace) (at : Target) (l : List ℕ) (k : List (List ℕ)) → k ≡ m.devices.given ++ l ∷ [] → RefinesPart m (record m { devices = record m.devices { given = k } }) (wants at) (line_next at l)
+  unfolding wants
+  line_given m at l k e = record {
+    exchange = record { answers = []; bounds = []; bytes = []; given = l ∷ [] };
+    exchanges = record { grown = sym (with_answers_nil m.devices.choices); shows = shows_nothing m.devices.screen; given = e };
+    fresh = freshens_nothing m.fresh;
+    leaves = λ S rest w.
+        let taken : record S { lines = rest } ≡ after m [] rest S =
+        after_nothing m rest (record S { lines = rest }) (record { fresh = w.fresh; cells = w.cells; lines = refl }) in
+        leaves_to (line_next at l (after m [] rest S))
+        (ap (λ ls. answer_by at ls S) w.lines ∙ given_same at l rest S ∙ ap (line_next at l) taken)
+        (leaves_itself (wants at S));
+  }
+
+  pub take_given : {o m : Trace} (at : Target) (l : List ℕ) (k : List (List ℕ)) → k ≡ m.devices.given ++ l ∷ [] → RefinesPart o m (ask_for said x prompt) (goes_on at) → RefinesPart o (record m { devices = record m.devices { given = k } }) (item_action said x prompt) (line_next at l)
+  take_given {m = m} at l k e a = refines_part_then (wanted at a) (line_given m at l k e)
+
+  -- ---- once a line is given
+
+  pub line_refines_part : {o m n : Trace} (at : Target) (l : List ℕ) → RefinesPart o m (show l) (goes_on tt) → RefinesPart m n (show newline) (goes_on tt) → RefinesPart o n (line_next at l) (worth at l)
+  unfolding line_next
+  line_refines_part at l a b = refines_part_on (λ u. worth at l) (both_move l newline a b)
+
+  pub line_stops : (refused : Refusal → Type 0) (o n : Trace) (at : Target) (l : List ℕ) (e : Stop) → Stops refused (RefinesPartTo o n (show l)) n.devices e → Stops refused (RefinesPartTo o n (line_next at l)) n.devices e
+  unfolding line_next
+  line_stops refused o n at l e h = stops_first refused o n (show (l ++ newline)) (λ u. worth at l) (λ u. worth_adds at l) e (first_stops l newline refused o n e h)
+
+  pub newline_stops : (refused : Refusal → Type 0) {o m : Trace} (n : Trace) (at : Target) (l : List ℕ) (e : Stop) → RefinesPart o m (show l) (goes_on tt) → Stops refused (RefinesPartTo m n (show newline)) n.devices e → Stops refused (RefinesPartTo o n (line_next at l)) n.devices e
+  unfolding line_next
+  newline_stops refused {o = o} n at l e a h = stops_first refused o n (show (l ++ newline)) (λ u. worth at l) (λ u. worth_adds at l) e (second_stops l newline refused n e a h)
+
+  pub worth_stops : (refused : Refusal → Type 0) (o n : Trace) (at : Target) (l : List ℕ) (e : Stop) → Stops refused (RefinesPartTo o n (line_value l)) n.devices e → Stops refused (RefinesPartTo o n (worth at l)) n.devices e
+  unfolding worth
+  worth_stops refused o n at l e h = stops_first refused o n (line_value l) (answered at) (answered_adds at) e h
+
+  -- the code has the value v as u
+  pub stored_refines_part : {o m n : Trace} (at : Target) (l : List ℕ) (v u : ℤ) → u ≡ v → RefinesPart o m (line_value l) (goes_on (Ok v)) → RefinesPart m n (store at u) (goes_on tt) → RefinesPart o n (worth at l) (goes_on tt)
+  unfolding worth answered
+  stored_refines_part {m = m} {n = n} at l v u k a b = refines_part_then (refines_part_on (answered at) a) (subst (λ (z : ℤ). RefinesPart m n (store at z) (goes_on tt)) k b)
+
+  pub again_refines_part : {o m n : Trace} (at : Target) (l : List ℕ) (f : Fault) (bytes : List ℕ) → bytes ≡ word_of f.kind ++ newline → RefinesPart o m (line_value l) (goes_on (Err f)) → RefinesPart m n (show bytes) (goes_on tt) → RefinesPart o n (worth at l) (item_action said x prompt)
+  unfolding worth answered
+  again_refines_part {m = m} {n = n} at l f bytes k a b =
+      refines_part_then (refines_part_on (answered at) a) (refines_part_on (λ u. item_action said x prompt) (subst (λ (s : List ℕ). RefinesPart m n (show s) (goes_on tt)) k b))
+
+  pub again_stops : (refused : Refusal → Type 0) {o m : Trace} (n : Trace) (at : Target) (l : List ℕ) (f : Fault) (bytes : List ℕ) → bytes ≡ word_of f.kind ++ newline → (e : Stop) → RefinesPart o m (line_value l) (goes_on (Err f)) → Stops refused (RefinesPartTo m n (show bytes)) n.devices e → Stops refused (RefinesPartTo o n (worth at l)) n.devices e
+  unfolding worth answered
+  again_stops refused {m = m} n at l f bytes k e a h =
+      stops_after refused n (refines_part_on (answered at) a) e
+      (stops_first refused m n (show (word_of f.kind ++ newline)) (λ u. item_action said x prompt) (λ u. item_action_adds) e
+      (subst (λ (s : List ℕ). Stops refused (RefinesPartTo m n (show s)) n.devices e) k h))
+
+-- ---- the part
+
+module _ (rest : List Part) (w : ℕ) (operands : List ℤ) where
+  pub take_refines_part : {o n : Trace} (said : List ℕ) (x : Tree) (prompt : List ℕ) → RefinesPart o n (item_action said x prompt) (goes_on tt) → RefinesPart o n (parts_action (Take said x prompt ∷ rest) w operands) (parts_action rest w operands)
+  unfolding parts_action
+  take_refines_part said x prompt a = refines_part_on (λ u. parts_action rest w operands) a
+
+  pub take_stops : (refused : Refusal → Type 0) (o n : Trace) (said : List ℕ) (x : Tree) (prompt : List ℕ) (e : Stop) → Stops refused (RefinesPartTo o n (item_action said x prompt)) n.devices e → Stops refused (RefinesPartTo o n (parts_action (Take said x prompt ∷ rest) w operands)) n.devices e
+  unfolding parts_action
+  take_stops refused o n said x prompt e h = stops_first refused o n (item_action said x prompt) (λ u. parts_action rest w operands) (λ u. parts_add rest w operands) e h
+
+  -- all that it comes to
+  pub take_comes : {X : Type 0} (refused : Refusal → Type 0) (o n : Trace) (said : List ℕ) (x : Tree) (prompt : List ℕ) (p : Part) → p ≡ Take said x prompt → (r : Result X Stop) → Comes refused o n (item_action said x prompt) (λ u. goes_on tt) r → Comes refused o n (parts_action (p ∷ rest) w operands) (λ u. parts_action rest w operands) r
+  take_comes refused o n said x prompt p k (Ok y) h = refines_part_part rest w operands p (Take said x prompt) k (take_refines_part said x prompt h)
+  take_comes refused o n said x prompt p k (Err e) h = stops_part rest w operands refused o n p (Take said x prompt) k e (take_stops refused o n said x prompt e h)
+
+-- what was read of an item that asks, is its variable at the end
+pub take_read : {X E : Type 0} (t : List ℕ) (i : ℕ) (a : Asking) (k j : ℕ) (r : Result X E) → IsAsked t i a k → IfOk r (λ x. IsRead t k (variable_tree t k) j) → IfOk r (λ x. IsRead t i (input_item t i) j)
+take_read t i a k j (Ok x) asked read = record {
+  whole = asked.whole j read.whole;
+  ahead = record { after = omega (arith, asked.from, read.ahead.after); within = read.ahead.within; settled = read.ahead.settled };
+}
+take_read t i a k j (Err e) asked read = tt
+
+-- ---- the lines that a source gives
+
+module _ {L : Type 0} (gives : L → List (List ℕ) → L → Type 0) (more : (s t u : L) (xs ys : List (List ℕ)) → gives s xs t → gives t ys u → gives s (xs ++ ys) u) where
+  -- a call that gave none
+  pub gives_no_more : (s t u : L) (xs : List (List ℕ)) (r : Result (Option (Bor (List ℕ))) ReadFault) → given_lines r ≡ [] → gives s xs t → gives t (given_lines r) u → gives s xs u
+  gives_no_more s t u xs r e a b = subst (λ (ys : List (List ℕ)). gives s ys u) (append-nil xs) (more s t u xs [] a (subst (λ (ys : List (List ℕ)). gives t ys u) e b))
+
+  -- a call that gave one
+  pub gives_one_more : (s t u : L) (xs : List (List ℕ)) (l : List ℕ) (r : Result (Option (Bor (List ℕ))) ReadFault) → given_lines r ≡ l ∷ [] → gives s xs t → gives t (given_lines r) u → gives s (xs ++ l ∷ []) u
+  gives_one_more s t u xs l r e a b = more s t u xs (l ∷ []) a (subst (λ (ys : List (List ℕ)). gives t ys u) e b)
+
+-- where no line is given
+pub none_given : {A : Type 0} (o : Trace) (f : Action A) → RefinesPart o (record o { devices = record o.devices { given = o.devices.given ++ [] } }) f f
+none_given o f =
+    subst (λ (ks : List (List ℕ)). RefinesPart o (record o { devices = record o.devices { given = ks } }) f f) (sym (append-nil o.devices.given)) (refines_part_refl o f)
+
+-- lines that are given after others
+module _ {C S L : Type 0} (choices : C → Choices) (screen : Ghosts S) (io : Io C S L) (cells : Cells) (before xs ys : List (List ℕ)) where
+  pub refines_part_joined : {A : Type 0} {m : Trace} {f g : Action A} → RefinesPart m (io_trace choices screen io ((before ++ xs) ++ ys) cells) f g → RefinesPart m (io_trace choices screen io (before ++ (xs ++ ys)) cells) f g
+  refines_part_joined {m = m} {f = f} {g = g} h = subst (λ (ks : List (List ℕ)). RefinesPart m (io_trace choices screen io ks cells) f g) (append_assoc before xs ys) h
+
+  pub stops_joined : {A : Type 0} (refused : Refusal → Type 0) (m : Trace) (f : Action A) (e : Stop) → Stops refused (RefinesPartTo m (io_trace choices screen io ((before ++ xs) ++ ys) cells) f) (io_devices choices screen io ((before ++ xs) ++ ys)) e → Stops refused (RefinesPartTo m (io_trace choices screen io (before ++ (xs ++ ys)) cells) f) (io_devices choices screen io (before ++ (xs ++ ys))) e
+  stops_joined refused m f e h =
+      subst (λ (ks : List (List ℕ)). Stops refused (RefinesPartTo m (io_trace choices screen io ks cells) f) (io_devices choices screen io ks) e) (append_assoc before xs ys) h
+
+-- what a line is worth
+pub line_known : {o n : Trace} (l : List ℕ) (r s : Result ℤ Fault) → r ≡ s → RefinesPart o n (line_value l) (goes_on r) → RefinesPart o n (line_value l) (goes_on s)
+line_known {o = o} {n = n} l r s e m = subst (λ (x : Result ℤ Fault). RefinesPart o n (line_value l) (goes_on x)) e m
+
+-- whoever may refuse a line too refuses answers
+pub answers_too : (refused : Pause → ℤ → Type 0) (unread : ReadFault → Type 0) (lines : Option (List (List ℕ))) (r : Refusal) → refused_answers refused r → refused_by refused unread lines r
+answers_too refused unread lines (Unanswered pause bound) h = h
+answers_too refused unread lines (Unread fault) h = absurd h
+answers_too refused unread lines NoLine h = absurd h

@@ -1,0 +1,102 @@
+-- This file proves which command is next.
+use Rattle.std.proofs.Common.{◌≡◌, ℕ, zero, suc, ◌<◌, true, false, List, [], ◌∷◌, length, length-drop, Option, Some, None, ℤ, refl, sym, ap, subst, ◌∙◌, arith}
+use Rattle.std.specs.Prelude.{slice_get}
+use Rattle.ptb_text.specs.Statements.{Statements}
+use Rattle.ptb_text.specs.Words.{is_over}
+use Rattle.ptb_command.specs.declared.location.Location.{Location}
+use Rattle.ptb_command.specs.Commands.{Command, commands}
+use Rattle.ptb_command.specs.State.{Place, place_after, text_of, command_there, placed_at, first_command, command_or_next, next_command}
+use Rattle.ptb_command.specs.Places.{At}
+use Rattle.ptb_command.specs.Laws.{CommandLaws}
+use Rattle.ptb_command.specs.Representation.{PlaceIs, IsLineAt, PlacesAre}
+use Rattle.ptb_command.specs.Representation.{NextIs}
+use Rattle.ptb_command.proofs.Placed.{is_placed}
+
+pub next_nowhere : (p : Statements) (q : Option Place) → PlacesAre p q None → next_command p q ≡ None
+unfolding next_command
+next_nowhere p None a = refl
+next_nowhere p (Some q) a = absurd a
+
+next_by : (p : Statements) (q : Place) → next_command p (Some q) ≡ command_or_next p q (command_there p q)
+unfolding next_command
+next_by p q = refl
+
+-- the text of the statement at a place that a machine has
+pub text_there : (p : Statements) (q : Place) (s : Location) (z : ℤ) (t : List ℕ) → PlaceIs p q s → IsLineAt p s.statement z t → t ≡ text_of p q.number
+text_there p q s z t a e = (e q.number (text_of p q.number) a.statement).1
+
+-- each place that a machine has
+pub placed : (p : Statements) (s : Location) (P : Option Place → Type 0) → ((q : Place) → PlaceIs p q s → P (Some q)) → (q : Option Place) → PlacesAre p q (Some s) → P q
+placed p s P f None a = absurd a
+placed p s P f (Some q) a = f q a
+
+module _ (laws : CommandLaws) (p : Statements) (q : Place) (s : Location) (a : PlaceIs p q s) (t : List ℕ) (tn : t ≡ text_of p q.number) where
+  pub next_here : is_over t s.at ≡ false → NextIs p (Some q) s t
+  next_here e = record {
+    place = q;
+    next = next_by p q ∙ ap (command_or_next p q)
+        (ap (λ (x : List ℕ). slice_get (commands x) q.index) (sym tn) ∙ laws.at_there t q.index s.at (subst (λ (x : List ℕ). At x q.index s.at) (sym tn) a.at) e);
+    is = a;
+    text = sym tn;
+    more = e;
+  }
+
+  -- nothing is left of its statement
+  behind : is_over t s.at ≡ true → next_command p (Some q) ≡ first_command p (place_after p q.number)
+  behind e = next_by p q ∙ ap (command_or_next p q)
+      (ap (λ (x : List ℕ). slice_get (commands x) q.index) (sym tn) ∙ laws.at_none t q.index s.at (subst (λ (x : List ℕ). At x q.index s.at) (sym tn) a.at) e)
+
+  pub next_last : is_over t s.at ≡ true → place_after p q.number ≡ None → next_command p (Some q) ≡ None
+  next_last e k = behind e ∙ ap (first_command p) k
+
+  -- nothing stands in the statement behind it
+  pub next_empty : (b : Location) (z : ℤ) (u : List ℕ) → is_over t s.at ≡ true → PlacesAre p (place_after p q.number) (Some b) → IsLineAt p b.statement z u → is_over u b.at ≡ true → next_command p (Some q) ≡ None
+  next_empty b z u e a x o =
+      let r = is_placed p (place_after p q.number) b a in
+      let text = text_there p r.place b z u r.is x in
+      behind e ∙ ap (first_command p) r.there ∙ ap (placed_at r.place)
+      (ap (λ (y : List ℕ). slice_get (commands y) r.place.index) (sym text) ∙ laws.at_none u r.place.index b.at (subst (λ (y : List ℕ). At y r.place.index b.at) (sym text) r.is.at) o)
+
+  -- its first command is next
+  pub next_behind : (b : Location) (z : ℤ) (u : List ℕ) → is_over t s.at ≡ true → PlacesAre p (place_after p q.number) (Some b) → IsLineAt p b.statement z u → is_over u b.at ≡ false → NextIs p (Some q) b u
+  next_behind b z u e a x o =
+      let r = is_placed p (place_after p q.number) b a in
+      let text = text_there p r.place b z u r.is x in
+      record {
+        place = r.place;
+        next = behind e ∙ ap (first_command p) r.there ∙ ap (placed_at r.place)
+            (ap (λ (y : List ℕ). slice_get (commands y) r.place.index) (sym text) ∙ laws.at_there u r.place.index b.at (subst (λ (y : List ℕ). At y r.place.index b.at) (sym text) r.is.at) o);
+        is = r.is;
+        text = sym text;
+        more = o;
+      }
+
+-- ---- one next command
+
+there_below : {X : Type 0} (xs : List X) (k : ℕ) (x : X) → slice_get xs k ≡ Some x → k < length xs
+there_below [] k x e = absurd cc
+there_below (y ∷ xs) zero x e = omega arith
+there_below (y ∷ xs) (suc k) x e = omega (arith, there_below xs k x e)
+
+-- where a command stands, its byte place has one index
+at_same : CommandLaws → (t : List ℕ) (j k b : ℕ) → At t j b → At t k b → is_over t b ≡ false → j ≡ k
+at_same laws t j k b f g e =
+    let low = there_below (commands t) j _ (laws.at_there t j b f e) in
+    let high = there_below (commands t) k _ (laws.at_there t k b g e) in
+    let same = ap (λ (xs : List Command). length xs) (f.left ∙ sym g.left) in
+    omega (arith, low, high, same, length-drop j (commands t), length-drop k (commands t))
+
+same_place : (q r : Place) → q.number ≡ r.number → q.index ≡ r.index → q ≡ r
+same_place q r e k = ap (λ (n : ℕ). record q { number = n }) e ∙ ap (λ (n : ℕ). record r { index = n }) k
+
+same_number : (p : Statements) (i m n : ℕ) (t u : List ℕ) → slice_get p i ≡ Some (m, t) → slice_get p i ≡ Some (n, u) → m ≡ n
+same_number p i m n t u e k = ap (λ (o : Option (ℕ × List ℕ)). elim o [ Some x ↦ x.0 | None ↦ m ]) (sym e ∙ k)
+
+-- in all states for which a machine stands the same command is next
+pub next_same : CommandLaws → (p : Statements) (q r : Option Place) (here : Location) (t : List ℕ) (a : NextIs p q here t) (b : NextIs p r here t) → b.place ≡ a.place
+next_same laws p q r here t a b =
+    let number = same_number p here.statement b.place.number a.place.number _ _ b.is.statement a.is.statement in
+    same_place b.place a.place number
+    (at_same laws t b.place.index a.place.index here.at
+    (subst (λ (x : List ℕ). At x b.place.index here.at) b.text b.is.at)
+    (subst (λ (x : List ℕ). At x a.place.index here.at) a.text a.is.at) a.more)

@@ -1,0 +1,129 @@
+-- This file proves how stops are put together: what stops a part of a command stops the command.
+use Rattle.std.proofs.Common.{◌≡◌, ℕ, List, [], ◌++◌, Result, Ok, Err, ℤ, refl, sym, ap, subst, ◌∙◌, append-nil}
+use Rattle.std.specs.Result.{IsErrAnd}
+use Rattle.std.proofs.lemmas.Result.{err_from_is_err_and}
+use Rattle.ptb_expr.specs.declared.fault.Fault.{Fault}
+use Rattle.ptb_expr.specs.declared.pause.Pause.{Pause}
+use Rattle.ptb_expr.specs.declared.pause.Pause.TheVariants as pauses
+use Rattle.ptb_expr.specs.Outcome.{Answers, Outcome, Done, Asks, Out, go_on}
+use Rattle.ptb_expr.specs.Choices.{SaysOut}
+use Rattle.ptb_command.specs.declared.stop.Stop.{Stop}
+use Rattle.ptb_command.specs.declared.stop.Stop.TheVariants as stops
+use Rattle.ptb_command.specs.State.{State}
+use Rattle.ptb_command.specs.Commands.{Part}
+use Rattle.ptb_command.specs.Actions.{Progress, Goes, Halts, Action, on_progress, and_then, or_halt}
+use Rattle.ptb_command.specs.Act.{parts_action}
+use Rattle.ptb_command.specs.Effects.{action_state, Begins}
+use Rattle.ptb_command.specs.Devices.{Devices, Refusal, Unanswered, NoLine}
+use Rattle.ptb_command.specs.Traces.{Trace, RefinesPart}
+use Rattle.ptb_command.specs.Stops.{Stops, RefinesPartTo, Comes}
+use Rattle.ptb_command.proofs.Effects.{Preserves, begins_joined, parts_part}
+use Rattle.ptb_command.proofs.Exchanges.{shows_nothing, has_broken_from}
+use Rattle.ptb_command.proofs.PartRefinement.{refines_part_then, refines_part_under}
+
+-- ---- actions take back nothing that was shown
+
+abbrev pub ShowsMore : State → State → Type 0
+ShowsMore S T = Begins S.shown T.shown
+
+abbrev pub Adds : {A : Type 0} → Action A → Type 0
+Adds m = Preserves ShowsMore m
+
+pub parts_add : (parts : List Part) (w : ℕ) (operands : List ℤ) → Adds (parts_action parts w operands)
+parts_add parts w operands = record { at = λ S a. ((parts_part parts w operands).at S a).shown }
+
+-- a fault halts, and shows nothing
+pub or_halt_adds : {A : Type 0} (r : Result A Fault) → Adds (or_halt r)
+or_halt_adds (Ok v) = record { at = λ S a. ([], sym (append-nil S.shown)) }
+or_halt_adds (Err e) = record { at = λ S a. ([], sym (append-nil S.shown)) }
+
+begins_before : {A B : Type 0} (next : A → Action B) → ((x : A) → Adds (next x)) → (shown : List ℕ) (o : Outcome (Progress A) State) → Begins shown (action_state o).shown → Begins shown (action_state (go_on o (on_progress next))).shown
+begins_before next adds shown (Done (Goes x S) rest) b = begins_joined shown S.shown _ b ((adds x).at S rest)
+begins_before next adds shown (Done (Halts h S) rest) b = b
+begins_before next adds shown (Asks n S) b = b
+begins_before next adds shown (Out n S) b = b
+
+-- ---- before what comes next
+
+pub out_before : {A B V W : Type 0} (into : Outcome A V → Outcome B W) (beside : V → W) → ((n : ℤ) (v : V) → into (Out n v) ≡ Out n (beside v)) → (f : Answers → Outcome A V) (n : ℤ) (v : V) (z : Pause) → SaysOut f n v z → SaysOut (λ a. into (f a)) n (beside v) z
+out_before into beside outs f n v pauses.Ended h = tt
+out_before into beside outs f n v (pauses.OutOfRange k) h = λ later. ap into (h later) ∙ outs n v
+out_before into beside outs f n v pauses.Memory h = tt
+
+-- what stops an action stops it before what comes next
+module _ {A B : Type 0} (refused : Refusal → Type 0) (R : Devices → Action A → Type 0) (Q : Devices → Action B → Type 0) (next : A → Action B) (adds : (x : A) → Adds (next x)) (under : (d : Devices) (g : Action A) → R d g → Q d (and_then g next)) (n : Devices) where
+  pub stops_before : (e : Stop) → Stops refused R n e → Stops refused Q n e
+  stops_before (stops.Fault f) h = under n _ h
+  stops_before stops.Ended h = under n _ h
+  stops_before stops.NoInput h = record {
+    left = and_then h.left next;
+    comes = under n h.left h.comes;
+    dry = λ S a e. ap (λ o. go_on o (on_progress next)) (h.dry S a e);
+    refuses = h.refuses;
+  }
+  stops_before (stops.Pause z) h = record {
+    left = and_then h.left next;
+    bound = h.bound;
+    comes = under n h.left h.comes;
+    asks = λ S. ap (λ o. go_on o (on_progress next)) (h.asks S);
+    outside = λ S. out_before (λ o. go_on o (on_progress next)) (λ T. T) (λ k T. refl) (h.left S) h.bound S z (h.outside S);
+    refusal = h.refusal;
+    refuses = h.refuses;
+  }
+  stops_before (stops.Broke e) h = record {
+    left = and_then h.left next;
+    middle = h.middle;
+    part = h.part;
+    comes = under h.middle h.left h.comes;
+    shows = h.shows;
+    begins = λ S a. begins_before next adds (S.shown ++ h.part) (h.left S a) (h.begins S a);
+    broken = h.broken;
+  }
+
+-- what has come from one action has come from another that leads to it, also where more may be refused
+module _ {A : Type 0} (refused others : Refusal → Type 0) (more : (r : Refusal) → refused r → others r) (R Q : Devices → Action A → Type 0) (along : (d : Devices) (g : Action A) → R d g → Q d g) (n : Devices) where
+  pub stops_along : (e : Stop) → Stops refused R n e → Stops others Q n e
+  stops_along (stops.Fault f) h = along n _ h
+  stops_along stops.Ended h = along n _ h
+  stops_along stops.NoInput h = record { left = h.left; comes = along n h.left h.comes; dry = h.dry; refuses = more NoLine h.refuses }
+  stops_along (stops.Pause z) h = record {
+    left = h.left;
+    bound = h.bound;
+    comes = along n h.left h.comes;
+    asks = h.asks;
+    outside = h.outside;
+    refusal = h.refusal;
+    refuses = more (Unanswered z h.bound) h.refuses;
+  }
+  stops_along (stops.Broke e) h = record {
+    left = h.left;
+    middle = h.middle;
+    part = h.part;
+    comes = along h.middle h.left h.comes;
+    shows = h.shows;
+    begins = h.begins;
+    broken = has_broken_from refused others more h.middle.screen h.middle.screen n.screen [] h.part (shows_nothing h.middle.screen) h.shows.shows e h.broken;
+  }
+
+-- ---- from trace to trace
+
+pub stops_under : {A B : Type 0} (refused : Refusal → Type 0) (o n : Trace) (f : Action A) (next : A → Action B) → ((x : A) → Adds (next x)) → (e : Stop) → Stops refused (RefinesPartTo o n f) n.devices e → Stops refused (RefinesPartTo o n (and_then f next)) n.devices e
+stops_under refused o n f next adds e h =
+    stops_before refused (RefinesPartTo o n f) (RefinesPartTo o n (and_then f next)) next adds (λ d g m. refines_part_under next m) n.devices e h
+
+pub stops_after : {A : Type 0} (refused : Refusal → Type 0) {o m : Trace} (n : Trace) {f g : Action A} → RefinesPart o m f g → (e : Stop) → Stops refused (RefinesPartTo m n g) n.devices e → Stops refused (RefinesPartTo o n f) n.devices e
+stops_after refused {o = o} {m = m} n {f = f} {g = g} a e h =
+    stops_along refused refused (λ r x. x) (RefinesPartTo m n g) (RefinesPartTo o n f) (λ d k b. refines_part_then a b) n.devices e h
+
+pub stops_more : {A : Type 0} (refused others : Refusal → Type 0) → ((r : Refusal) → refused r → others r) → (o n : Trace) (f : Action A) (e : Stop) → Stops refused (RefinesPartTo o n f) n.devices e → Stops others (RefinesPartTo o n f) n.devices e
+stops_more refused others more o n f e h = stops_along refused others more (RefinesPartTo o n f) (RefinesPartTo o n f) (λ d k b. b) n.devices e h
+
+pub comes_after : {A X : Type 0} (refused : Refusal → Type 0) {o m : Trace} (n : Trace) {f g : Action A} (ok : X → Action A) → RefinesPart o m f g → (r : Result X Stop) → Comes refused m n g ok r → Comes refused o n f ok r
+comes_after refused n ok a (Ok x) h = refines_part_then a h
+comes_after refused n ok a (Err e) h = stops_after refused n a e h
+
+-- at the exit of a `?`
+pub comes_err : {A X : Type 0} (refused : Refusal → Type 0) (o n : Trace) (f : Action A) (ok : X → Action A) (r : Result X Stop) (e : Stop) → IsErrAnd r (λ y. y ≡ e) → Stops refused (RefinesPartTo o n f) n.devices e → Comes refused o n f ok r
+comes_err {A = A} {X = X} refused o n f ok r e k s =
+    let p = err_from_is_err_and r k in
+    subst (λ (x : Result X Stop). Comes refused o n f ok x) (sym (p.1 ∙ ap Err p.2)) s

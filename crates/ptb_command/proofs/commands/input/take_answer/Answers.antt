@@ -1,0 +1,198 @@
+-- This file answers what is left to prove of `take_answer`.
+use Rattle.std.proofs.Common.{◌≡◌, ◌∙◌, ◌++◌, [], ◌∷◌, Ok, None, IfErr, IfOk, IfNone, ap, append_assoc, refl, rules, subst, sym, to_z, of_z, w16}
+use Rattle.ptb_text.specs.CursorState.{CursorState}
+use Rattle.ptb_command.specs.declared.stop.Stop.TheVariants as stops
+use Rattle.ptb_command.specs.Devices.{screen_state, with_screen, refused_answers}
+use Rattle.ptb_command.specs.Io.{io_devices}
+use Rattle.ptb_devices.specs.Sources.{given_lines, NoneLeft}
+use Rattle.ptb_command.proofs.Letting.{store_refines_part}
+use Rattle.ptb_command.proofs.Actions.{stops_unrefused}
+use Rattle.ptb_command.proofs.Inputting.{take_ask_stops, take_unread, take_dry, take_given, line_refines_part, line_stops, newline_stops, worth_stops, stored_refines_part, again_refines_part, again_stops, gives_no_more, gives_one_more, none_given, line_known, answers_too}
+use Rattle.ptb_command.proofs.PartRefinement.{refines_part_then}
+use Rattle.ptb_command.proofs.Stops.{comes_err, stops_after, stops_more}
+use Rattle.ptb_command.proofs.commands.input.take_answer.Goals as goal
+
+pub answers-init : goal.answers-init
+answers-init g c = record {
+  text = refl;
+  place = refl;
+  same = record { chooser = refl; screen = refl; source = refl };
+  given = [];
+  gives = g.met.L.LineSource.gives_none _;
+  refines = λ before. none_given _ _;
+}
+
+-- ---- no line is given
+
+pub returns-in_err-target-clause-comes : goal.returns-in_err-target-clause-comes
+returns-in_err-target-clause-comes g c =
+    let was = c.answers.invariant in (
+      was.given,
+      (
+        rw c.ask.ensures.same.source was.gives,
+        λ before. comes_err _ _ _ _ _ _ _ c.from_residual.ensures.1
+            (stops_after _ _ (was.refines before) _
+            (take_ask_stops _ _ _ _ _ _ _
+            (stops_more (refused_answers _) _ (answers_too _ _ _) _ _ _ _
+            (rw was.place at (rw was.text at (c.in_err-target.ensures.comes (before ++ was.given))))))),
+      ),
+    )
+
+pub returns-in_err-line-clause-comes : goal.returns-in_err-line-clause-comes
+returns-in_err-line-clause-comes g c =
+    let was = c.answers.invariant in
+    let gives : g.L.LineSource.gives c.args.io.now.source.now was.given c.ask.new.io.source.now = rw c.ask.ensures.same.source was.gives in (
+      was.given,
+      (
+        gives_no_more g.L.LineSource.gives g.met.L.LineSource.gives_more _ _ _ _ c.next.result (ap given_lines c.in_err-line.was) gives c.next.follows.holds-at-none.0,
+        λ before. comes_err _ _ _ _ _ _ _ c.from_residual-in_err-line.ensures.1
+            (stops_after _ _ (was.refines before) _
+            (take_unread _ _ _ _ c.in_ok-target.target c.in_err-line.field-0.0
+            (rw was.place at (rw was.text at (c.in_ok-target.ensures.comes (before ++ was.given))))
+            (subst (λ r. IfErr r (g.L.LineSource.refused c.next.follows.lender-at-none)) c.in_err-line.was c.next.follows.holds-at-none.1))),
+      ),
+    )
+
+pub returns-in_default-clause-comes : goal.returns-in_default-clause-comes
+returns-in_default-clause-comes g c =
+    let was = c.answers.invariant in
+    let gives : g.L.LineSource.gives c.args.io.now.source.now was.given c.ask.new.io.source.now = rw c.ask.ensures.same.source was.gives in
+    let none : c.next.result ≡ Ok None = c.in_ok-line.was ∙ ap Ok c.in_default.is in (
+      was.given,
+      (
+        gives_no_more g.L.LineSource.gives g.met.L.LineSource.gives_more _ _ _ _ c.next.result (ap given_lines none) gives c.next.follows.holds-at-none.0,
+        λ before. stops_after _ _ (was.refines before) stops.NoInput
+            (take_dry _ _ _ _ c.in_ok-target.target
+            (rw was.place at (rw was.text at (c.in_ok-target.ensures.comes (before ++ was.given))))
+            (subst (λ r. IfOk r (λ line. IfNone line (NoneLeft (g.L.LineSource.lines c.next.follows.lender-at-none)))) none c.next.follows.holds-at-none.2)),
+      ),
+    )
+
+-- ---- a line is given
+
+pub returns-in_err-show-clause-comes : goal.returns-in_err-show-clause-comes
+returns-in_err-show-clause-comes g c =
+    let was = c.answers.invariant in
+    let lines = was.given ++ c.in-Some.line.now ∷ [] in
+    let gives : g.L.LineSource.gives c.args.io.now.source.now was.given c.ask.new.io.source.now = rw c.ask.ensures.same.source was.gives in (
+      lines,
+      (
+        gives_one_more g.L.LineSource.gives g.met.L.LineSource.gives_more _ _ _ _ c.in-Some.line.now c.next.result (ap given_lines (c.in_ok-line.was ∙ ap Ok c.in-Some.is)) gives c.next.follows.holds-at-none.0,
+        λ before.
+            let d = io_devices g.C.Chooser.choices g.S.Screen c.ask.new.io (before ++ lines) in
+            let asked = rw was.place at (rw was.text at (c.in_ok-target.ensures.comes (before ++ was.given))) in
+            let given = take_given _ _ _ c.in_ok-target.target c.in-Some.line.now (before ++ lines) (sym (append_assoc before was.given (c.in-Some.line.now ∷ []))) asked in
+            comes_err _ _ _ _ _ _ _ c.from_residual-in_err-show.ensures.1
+            (stops_after _ _ (refines_part_then (was.refines before) given) _
+            (line_stops _ _ _ _ _ _ _ _ _ (stops_unrefused _ _ _ _ _ (c.in_err-show.ensures d c.answers.store)))),
+      ),
+    )
+
+pub returns-in_err-show-2-clause-comes : goal.returns-in_err-show-2-clause-comes
+returns-in_err-show-2-clause-comes g c =
+    let was = c.answers.invariant in
+    let lines = was.given ++ c.in-Some.line.now ∷ [] in
+    let gives : g.L.LineSource.gives c.args.io.now.source.now was.given c.ask.new.io.source.now = rw c.ask.ensures.same.source was.gives in (
+      lines,
+      (
+        gives_one_more g.L.LineSource.gives g.met.L.LineSource.gives_more _ _ _ _ c.in-Some.line.now c.next.result (ap given_lines (c.in_ok-line.was ∙ ap Ok c.in-Some.is)) gives c.next.follows.holds-at-none.0,
+        λ before.
+            let d = io_devices g.C.Chooser.choices g.S.Screen c.ask.new.io (before ++ lines) in
+            let asked = rw was.place at (rw was.text at (c.in_ok-target.ensures.comes (before ++ was.given))) in
+            let given = take_given _ _ _ c.in_ok-target.target c.in-Some.line.now (before ++ lines) (sym (append_assoc before was.given (c.in-Some.line.now ∷ []))) asked in
+            comes_err _ _ _ _ _ _ _ c.from_residual-in_err-show-2.ensures.1
+            (stops_after _ _ (refines_part_then (was.refines before) given) _
+            (newline_stops _ _ _ _ _ _ _ _ (c.in_ok-show.ensures d c.answers.store)
+            (stops_unrefused _ _ _ _ _ (c.in_err-show-2.ensures d c.answers.store)))),
+      ),
+    )
+
+pub returns-in_err-value-clause-comes : goal.returns-in_err-value-clause-comes
+returns-in_err-value-clause-comes g c =
+    let was = c.answers.invariant in
+    let lines = was.given ++ c.in-Some.line.now ∷ [] in
+    let gives : g.L.LineSource.gives c.args.io.now.source.now was.given c.ask.new.io.source.now = rw c.ask.ensures.same.source was.gives in (
+      lines,
+      (
+        gives_one_more g.L.LineSource.gives g.met.L.LineSource.gives_more _ _ _ _ c.in-Some.line.now c.next.result (ap given_lines (c.in_ok-line.was ∙ ap Ok c.in-Some.is)) gives c.next.follows.holds-at-none.0,
+        λ before.
+            let d = io_devices g.C.Chooser.choices g.S.Screen c.ask.new.io (before ++ lines) in
+            let asked = rw was.place at (rw was.text at (c.in_ok-target.ensures.comes (before ++ was.given))) in
+            let given = take_given _ _ _ c.in_ok-target.target c.in-Some.line.now (before ++ lines) (sym (append_assoc before was.given (c.in-Some.line.now ∷ []))) asked in
+            let shown = line_refines_part _ _ _ c.in_ok-target.target c.in-Some.line.now (c.in_ok-show.ensures d c.answers.store) (c.in_ok-show-2.ensures d c.answers.store) in
+            comes_err _ _ _ _ _ _ _ c.from_residual-in_err-value.ensures.1
+            (stops_after _ _ (refines_part_then (was.refines before) (refines_part_then given shown)) _
+            (worth_stops _ _ _ _ _ _ _ _ _
+            (stops_more (refused_answers _) _ (answers_too _ _ _) _ _ _ _
+            (c.in_err-value.ensures (with_screen (screen_state g.S.Screen c.show-in-answers.new.screen) d) c.show-in-answers.new.fresh)))),
+      ),
+    )
+
+pub returns-in-Ok-clause-comes : goal.returns-in-Ok-clause-comes
+returns-in-Ok-clause-comes g c =
+    let was = c.answers.invariant in
+    let same : to_z w16 (of_z w16 c.in-Ok.value) ≡ c.in-Ok.value = search rules in
+    let lines = was.given ++ c.in-Some.line.now ∷ [] in
+    let gives : g.L.LineSource.gives c.args.io.now.source.now was.given c.ask.new.io.source.now = rw c.ask.ensures.same.source was.gives in (
+      lines,
+      (
+        gives_one_more g.L.LineSource.gives g.met.L.LineSource.gives_more _ _ _ _ c.in-Some.line.now c.next.result (ap given_lines (c.in_ok-line.was ∙ ap Ok c.in-Some.is)) gives c.next.follows.holds-at-none.0,
+        λ before.
+            let d = io_devices g.C.Chooser.choices g.S.Screen c.ask.new.io (before ++ lines) in
+            let asked = rw was.place at (rw was.text at (c.in_ok-target.ensures.comes (before ++ was.given))) in
+            let given = take_given _ _ _ c.in_ok-target.target c.in-Some.line.now (before ++ lines) (sym (append_assoc before was.given (c.in-Some.line.now ∷ []))) asked in
+            let shown = line_refines_part _ _ _ c.in_ok-target.target c.in-Some.line.now (c.in_ok-show.ensures d c.answers.store) (c.in_ok-show-2.ensures d c.answers.store) in
+            refines_part_then (was.refines before) (refines_part_then given (refines_part_then shown
+            (stored_refines_part _ _ _ c.in_ok-target.target c.in-Some.line.now _ _ same
+            (line_known _ _ _ c.in-Ok.is (c.in_ok-value.ensures (with_screen (screen_state g.S.Screen c.show-in-answers.new.screen) d) c.show-in-answers.new.fresh))
+            (store_refines_part _ _ _ _ _ _ c.store_value.ensures)))),
+      ),
+    )
+
+pub answers-preserved : goal.answers-preserved
+answers-preserved g c =
+    let was = c.answers.invariant in
+    let lines = was.given ++ c.in-Some.line.now ∷ [] in
+    let gives : g.L.LineSource.gives c.args.io.now.source.now was.given c.ask.new.io.source.now = rw c.ask.ensures.same.source was.gives in
+    let borrows = c.in_ok-show-in-Err.ensures.same in
+    record {
+      text = ap (λ (x : CursorState). x.text) c.go_to.ensures ∙ c.in_ok-target.ensures.text ∙ was.text;
+      place = ap (λ (x : CursorState). x.place) c.go_to.ensures ∙ c.place-from.ensures;
+      same = record {
+        chooser = borrows.chooser ∙ c.ask.ensures.same.chooser ∙ was.same.chooser;
+        screen = borrows.screen ∙ c.ask.ensures.same.screen ∙ was.same.screen;
+        source = rw borrows.source (rw c.ask.ensures.same.source was.same.source);
+      };
+      given = lines;
+      gives = rw borrows.source (gives_one_more g.L.LineSource.gives g.met.L.LineSource.gives_more _ _ _ _ c.in-Some.line.now c.next.result (ap given_lines (c.in_ok-line.was ∙ ap Ok c.in-Some.is)) gives c.next.follows.holds-at-none.0);
+      refines = λ before.
+          let d = io_devices g.C.Chooser.choices g.S.Screen c.ask.new.io (before ++ lines) in
+          let asked = rw was.place at (rw was.text at (c.in_ok-target.ensures.comes (before ++ was.given))) in
+          let given = take_given _ _ _ c.in_ok-target.target c.in-Some.line.now (before ++ lines) (sym (append_assoc before was.given (c.in-Some.line.now ∷ []))) asked in
+          let shown = line_refines_part _ _ _ c.in_ok-target.target c.in-Some.line.now (c.in_ok-show.ensures d c.answers.store) (c.in_ok-show-2.ensures d c.answers.store) in
+          refines_part_then (was.refines before) (refines_part_then given (refines_part_then shown
+          (again_refines_part _ _ _ c.in_ok-target.target c.in-Some.line.now c.in-Err.fault _ c.fault_line.ensures
+          (line_known _ _ _ c.in-Err.is (c.in_ok-value.ensures (with_screen (screen_state g.S.Screen c.show-in-answers.new.screen) d) c.show-in-answers.new.fresh))
+          (c.in_ok-show-in-Err.ensures.comes (before ++ lines) c.answers.store))));
+    }
+
+pub returns-in_err-show-in-Err-clause-comes : goal.returns-in_err-show-in-Err-clause-comes
+returns-in_err-show-in-Err-clause-comes g c =
+    let was = c.answers.invariant in
+    let lines = was.given ++ c.in-Some.line.now ∷ [] in
+    let gives : g.L.LineSource.gives c.args.io.now.source.now was.given c.ask.new.io.source.now = rw c.ask.ensures.same.source was.gives in (
+      lines,
+      (
+        rw c.in_err-show-in-Err.ensures.same.source (gives_one_more g.L.LineSource.gives g.met.L.LineSource.gives_more _ _ _ _ c.in-Some.line.now c.next.result (ap given_lines (c.in_ok-line.was ∙ ap Ok c.in-Some.is)) gives c.next.follows.holds-at-none.0),
+        λ before.
+            let d = io_devices g.C.Chooser.choices g.S.Screen c.ask.new.io (before ++ lines) in
+            let asked = rw was.place at (rw was.text at (c.in_ok-target.ensures.comes (before ++ was.given))) in
+            let given = take_given _ _ _ c.in_ok-target.target c.in-Some.line.now (before ++ lines) (sym (append_assoc before was.given (c.in-Some.line.now ∷ []))) asked in
+            let shown = line_refines_part _ _ _ c.in_ok-target.target c.in-Some.line.now (c.in_ok-show.ensures d c.answers.store) (c.in_ok-show-2.ensures d c.answers.store) in
+            comes_err _ _ _ _ _ _ _ c.from_residual-in_err-show-in-Err.ensures.1
+            (stops_after _ _ (refines_part_then (was.refines before) (refines_part_then given shown)) _
+            (again_stops _ _ _ _ _ c.in_ok-target.target c.in-Some.line.now c.in-Err.fault _ c.fault_line.ensures _
+            (line_known _ _ _ c.in-Err.is (c.in_ok-value.ensures (with_screen (screen_state g.S.Screen c.show-in-answers.new.screen) d) c.show-in-answers.new.fresh))
+            (stops_unrefused _ _ _ _ _ (c.in_err-show-in-Err.ensures.comes (before ++ lines) c.answers.store)))),
+      ),
+    )

@@ -1,0 +1,27 @@
+-- This file says what the loops of `let_parts` keep.
+use Rattle.std.proofs.Common.{◌≡◌, ◌-◌, Bool, length, []}
+use Rattle.ptb_text.specs.declared.word.Word.TheVariants.{LetKw}
+use Rattle.ptb_expr.specs.Reading.{item_of}
+use Rattle.ptb_command.specs.Act.{action_of, first_width}
+use Rattle.ptb_command.specs.Commands.{assignment, comma_round, parts_of}
+use Rattle.ptb_command.specs.Devices.{Devices, with_choices}
+use Rattle.ptb_command.specs.Traces.{trace, RefinesPart}
+use Rattle.ptb_command.proofs.Going.{Going}
+use Rattle.ptb_command.proofs.commands.let_command.let_parts.Given as goal
+
+-- the assignments from the place on are left
+abbrev pub invariant-items : goal.invariant-items
+invariant-items g l =
+    let t = l.fn.cursor.text in
+    let i = l.fn.cursor.place in
+    record {
+      text : l.cursor.text ≡ t;
+      going : Going t (λ j. comma_round t (assignment t j)) (parts_of LetKw t i) i l.cursor.place first_width []
+          (λ k. (d : Devices) (fresh : Bool) → RefinesPart
+          (trace (with_choices (g.C.Chooser.choices l.fn.chooser) d) fresh l.fn.store)
+          (trace (with_choices (g.C.Chooser.choices l.chooser) d) fresh l.store)
+          (action_of (item_of (parts_of LetKw t i))) k);
+    }
+
+abbrev pub decreases-items : goal.decreases-items
+decreases-items g l = length l.cursor.text - l.cursor.place

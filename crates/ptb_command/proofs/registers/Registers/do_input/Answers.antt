@@ -1,0 +1,27 @@
+-- This file answers what is left to prove of `Registers::do_input`.
+use Rattle.std.proofs.Common.{[], ap, refl}
+use Rattle.ptb_text.specs.declared.word.Word.TheVariants.{InputKw}
+use Rattle.ptb_command.specs.Configuration.{configuration}
+use Rattle.ptb_command.proofs.Doing.{parts_stopped, plain_done, input_plain}
+use Rattle.ptb_command.proofs.registers.Registers.do_input.Goals as goal
+
+pub returns-in_err-input-clause-acts : goal.returns-in_err-input-clause-acts
+returns-in_err-input-clause-acts g c =
+    let done = c.in_err-input.ensures.comes in (
+      done.0,
+      (
+        done.1.0,
+        λ p q before steps spent begun. parts_stopped _ p _ _ _ _ q InputKw _ _ _ _ c.from_residual.ensures.1 (record { place = refl; stack = refl; steps = refl }) (done.1.1 before),
+      ),
+    )
+
+pub returns-clause-acts : goal.returns-clause-acts
+returns-clause-acts g c =
+    let done = c.in_ok-input.ensures.comes in (
+      done.0,
+      (
+        done.1.0,
+        λ p q before steps spent begun. plain_done c.command_laws.ensures p _ (record (configuration c.args.self.now steps c.input.new.io.fresh spent) { cells = c.input.new.store }) _ _ _ q _ _ _ c.input.new.cursor.place _ InputKw input_plain
+            (record { place = refl; stack = refl; steps = refl }) (ap (λ r. configuration r steps c.input.new.io.fresh spent) c.go_behind.ensures.place) begun c.in_ok-input.ensures.closed (rw c.input.ensures.text at c.go_behind.ensures.follows) [] (done.1.1 before),
+      ),
+    )

@@ -1,0 +1,21 @@
+-- This file names the files of definitions.
+pub mod Items
+pub mod Commands
+pub mod State
+pub mod Actions
+pub mod Act
+pub mod Effects
+pub mod Places
+pub mod Laws
+pub mod Devices
+pub mod Traces
+pub mod Stops
+pub mod Reads
+pub mod Configuration
+pub mod Representation
+pub mod Acts
+pub mod Asking
+pub mod Reports
+pub mod Io
+pub mod Stacks
+pub mod Loops

@@ -1,0 +1,39 @@
+-- This file defines what is found, closed and removed in a list of open loops and calls, newest first.
+--     call_of os               the place to which the newest call returns, and what is open below it
+--     loop_of x os             the newest level's loop of the variable x, and what is open below it
+--     without x os             all of it but the newest level's loops of x
+--     ClosesCall old new result                              the newest call is closed, if there is one
+--     ClosesNewer x old new result                           the loop of the variable x, if there is one, becomes the newest
+--     ClosesNewest old new                                   the newest loop or call is closed, if one is open
+use Rattle.std.specs.Prelude.{◌≡◌, ℕ, ◌==◌, if◌then◌else◌, List, [], ◌∷◌, Option, Some, None}
+use Rattle.ptb_command.specs.declared.location.Location.{Location}
+use Rattle.ptb_command.specs.declared.stack.OpenLoop.{OpenLoop}
+use Rattle.ptb_command.specs.declared.stack.Open.{Open}
+use Rattle.ptb_command.specs.declared.stack.Open.TheVariants as opens
+
+abbrev pub call_of : List Open → Option (Location × List Open)
+call_of [] = None
+call_of (opens.Loop m ∷ os) = call_of os
+call_of (opens.Call back ∷ os) = Some (back, os)
+
+abbrev pub loop_of : ℕ → List Open → Option (OpenLoop × List Open)
+loop_of x [] = None
+loop_of x (opens.Loop m ∷ os) = if m.letter == x then Some (m, os) else loop_of x os
+loop_of x (opens.Call back ∷ os) = None
+
+abbrev pub without : ℕ → List Open → List Open
+without x [] = []
+without x (opens.Loop m ∷ os) = if m.letter == x then without x os else opens.Loop m ∷ without x os
+without x (opens.Call back ∷ os) = opens.Call back ∷ os
+
+abbrev pub ClosesCall : List Open → List Open → Option Location → Type 0
+ClosesCall old new None = (call_of old ≡ None) × (new ≡ old)
+ClosesCall old new (Some back) = call_of old ≡ Some (back, new)
+
+abbrev pub ClosesNewer : ℕ → List Open → List Open → Option OpenLoop → Type 0
+ClosesNewer x old new None = (loop_of x old ≡ None) × (new ≡ old)
+ClosesNewer x old new (Some m) = (below : List Open) × (loop_of x old ≡ Some (m, below)) × (new ≡ opens.Loop m ∷ below)
+
+abbrev pub ClosesNewest : List Open → List Open → Type 0
+ClosesNewest [] new = new ≡ []
+ClosesNewest (o ∷ os) new = new ≡ os

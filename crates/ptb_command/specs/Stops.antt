@@ -1,0 +1,101 @@
+-- This file defines what a part of a command comes to, where it stops and where it goes on.
+--     stop_of_screen, stop_of_read, stop_of    why a command stops where a device fails, and where an expression has no value
+--     Waits, IsDry, Breaks                 it stops at a question, at an input line, at a device
+--     Stops refused R n e                  it stops for the reason e
+--     Comes refused o n f ok result        from trace o to trace n, f comes to the result
+use Rattle.std.specs.Prelude.{◌≡◌, ℕ, List, [], ◌++◌, Result, Ok, Err, ℤ}
+use Rattle.ptb_expr.specs.declared.fault.Stop.{Stop as NoValue}
+use Rattle.ptb_expr.specs.declared.fault.Stop.TheVariants as values
+use Rattle.ptb_expr.specs.declared.pause.Pause.{Pause}
+use Rattle.ptb_expr.specs.declared.pause.Pause.TheVariants as pauses
+use Rattle.ptb_expr.specs.Outcome.{Answers, Outcome, Done, Asks}
+use Rattle.ptb_expr.specs.Choices.{SaysOut}
+use Rattle.ptb_command.specs.declared.ending.Ending.TheVariants as endings
+use Rattle.ptb_devices.specs.declared.fault.ReadFault.{ReadFault}
+use Rattle.ptb_devices.specs.declared.fault.ReadFault.TheVariants as reads
+use Rattle.ptb_devices.specs.declared.fault.ScreenFault.{ScreenFault}
+use Rattle.ptb_devices.specs.declared.fault.ScreenFault.TheVariants as screens
+use Rattle.ptb_command.specs.declared.stop.DeviceError.{DeviceError}
+use Rattle.ptb_command.specs.declared.stop.DeviceError.TheVariants as errors
+use Rattle.ptb_command.specs.declared.stop.Stop.{Stop}
+use Rattle.ptb_command.specs.declared.stop.Stop.TheVariants as stops
+use Rattle.ptb_command.specs.State.{State}
+use Rattle.ptb_command.specs.Actions.{Faults, Ends, Halts, Action, halt}
+use Rattle.ptb_command.specs.Effects.{action_state, Begins}
+use Rattle.ptb_command.specs.Devices.{Devices, bytes_alone, Exchanges, Refusal, Unanswered, NoLine, HasBroken}
+use Rattle.ptb_command.specs.Traces.{Trace, trace, RefinesPart}
+
+abbrev pub stop_of_screen : ScreenFault → Stop
+stop_of_screen screens.Write = stops.Broke errors.Write
+stop_of_screen screens.Memory = stops.Broke errors.Memory
+
+abbrev pub stop_of_read : ReadFault → Stop
+stop_of_read reads.Read = stops.Broke errors.Read
+stop_of_read reads.TooLong = stops.Broke errors.Read
+stop_of_read reads.Memory = stops.Broke errors.Memory
+
+-- a chooser that has no memory left is a device that breaks
+abbrev pub stop_of_pause : Pause → Stop
+stop_of_pause pauses.Ended = stops.Pause pauses.Ended
+stop_of_pause (pauses.OutOfRange k) = stops.Pause (pauses.OutOfRange k)
+stop_of_pause pauses.Memory = stops.Broke errors.Memory
+
+abbrev pub stop_of : NoValue → Stop
+stop_of (values.Fault f) = stops.Fault f
+stop_of (values.Pause z) = stop_of_pause z
+
+-- ---- where it stops
+
+-- want of memory is told as a device's error, and never as a pause
+abbrev pub IsRefusal : Pause → Type 0
+IsRefusal pauses.Ended = Unit {0}
+IsRefusal (pauses.OutOfRange k) = Unit {0}
+IsRefusal pauses.Memory = ⊥
+
+-- R d g says that it has come to g, with devices that hold d; `refused` is what stands after a refusal
+module _ {A : Type 0} (refused : Refusal → Type 0) (R : Devices → (State → Answers → Outcome A State) → Type 0) (n : Devices) where
+  -- what is left asks, and the chooser has refused the question
+  pub record Waits (z : Pause) : Type 0 where
+    pub left : State → Answers → Outcome A State
+    pub bound : ℤ
+    pub comes : R n left
+    pub asks : (S : State) → left S [] ≡ Asks bound S
+    pub outside : (S : State) → SaysOut (left S) bound S z
+    pub refusal : IsRefusal z
+    pub refuses : refused (Unanswered z bound)
+
+  -- what is left wants a line, and the source has none; it ends so without one
+  pub record IsDry (ends : State → A) : Type 0 where
+    pub left : State → Answers → Outcome A State
+    pub comes : R n left
+    pub dry : (S : State) (a : Answers) → S.lines ≡ [] → left S a ≡ Done (ends S) a
+    pub refuses : refused NoLine
+
+  -- a device has failed, or was refused memory, once it had come to what is left;
+  -- what was shown of that is a beginning of what it shows
+  pub record Breaks (state : Outcome A State → State) (e : DeviceError) : Type 0 where
+    pub left : State → Answers → Outcome A State
+    pub middle : Devices
+    pub part : List ℕ
+    pub comes : R middle left
+    pub shows : Exchanges middle n (bytes_alone part)
+    pub begins : (S : State) (a : Answers) → Begins (S.shown ++ part) (state (left S a)).shown
+    pub broken : HasBroken refused middle.screen n.screen e
+
+abbrev pub Stops : {A : Type 0} → (Refusal → Type 0) → (Devices → Action A → Type 0) → Devices → Stop → Type 0
+Stops refused R n (stops.Fault f) = R n (halt (Faults f))
+Stops refused R n stops.Ended = R n (halt (Ends endings.Stop))
+Stops refused R n stops.NoInput = IsDry refused R n (Halts (Ends endings.NoInput))
+Stops refused R n (stops.Pause z) = Waits refused R n z
+Stops refused R n (stops.Broke e) = Breaks refused R n action_state e
+
+-- ---- where it comes to
+
+-- from trace o, f has come to an action; the trace is then n, with these devices
+abbrev pub RefinesPartTo : {A : Type 0} → Trace → Trace → Action A → Devices → Action A → Type 0
+RefinesPartTo o n f d g = RefinesPart o (trace d n.fresh n.cells) f g
+
+-- at Ok, to what is left to do with its value
+abbrev pub Comes : {A X : Type 0} → (Refusal → Type 0) → Trace → Trace → Action A → (X → Action A) → Result X Stop → Type 0
+Comes refused o n f ok (Ok x) = RefinesPart o n f (ok x)
+Comes refused o n f ok (Err e) = Stops refused (RefinesPartTo o n f) n.devices e

@@ -1,0 +1,55 @@
+-- This file defines how far something has come that is done while it is read.
+--     Trace                    the devices, and what of a state the parts of a command change
+--     Fits o left S            a state that is as the trace says, with these lines left
+--     after n bytes left S     such a state later
+--     RefinesPart o n f g            from trace o to trace n, what f does is what is left to do for g
+use Rattle.std.specs.Prelude.{◌≡◌, ◌==◌, ◌-◌, ℕ, Bool, if◌then◌else◌, List, ◌++◌, length, slice_index, ℤ}
+use Rattle.ptb_expr.specs.Outcome.{Answers, Outcome}
+use Rattle.ptb_expr.specs.Choices.{Asked}
+use Rattle.ptb_expr.specs.Store.{Cells}
+use Rattle.ptb_command.specs.State.{State}
+use Rattle.ptb_command.specs.Act.{is_fresh}
+use Rattle.ptb_command.specs.Devices.{Devices, Exchange, Exchanges}
+
+-- whether the transcript is fresh is known, and nothing else of it
+pub record Trace : Type 0 where
+  pub devices : Devices
+  pub fresh : Bool
+  pub cells : Cells
+
+abbrev pub trace : Devices → Bool → Cells → Trace
+trace devices fresh cells = record { devices = devices; fresh = fresh; cells = cells }
+
+-- whatever was shown before, these bytes make a transcript that was fresh or not into one that is or not
+abbrev pub Freshens : Bool → List ℕ → Bool → Type 0
+Freshens old bytes new = (shown : List ℕ) → is_fresh shown ≡ old → is_fresh (shown ++ bytes) ≡ new
+
+-- whether a transcript is fresh once these bytes were shown
+abbrev pub fresh_after : Bool → List ℕ → Bool
+fresh_after fresh bytes = if length bytes == 0 then fresh else slice_index bytes (length bytes - 1) == 10
+
+-- ---- states
+
+pub record Fits (o : Trace) (left : List (List ℕ)) (S : State) : Type 0 where
+  pub fresh : is_fresh S.shown ≡ o.fresh
+  pub cells : S.cells ≡ o.cells
+  pub lines : S.lines ≡ left
+
+-- once the trace is n, these bytes were shown, and these lines are left
+abbrev pub after : Trace → List ℕ → List (List ℕ) → State → State
+after n bytes left S = record S { cells = n.cells; lines = left; shown = S.shown ++ bytes }
+
+-- ---- moves
+
+-- f takes these answers, each to a question with its bound, and what is left of it is g
+pub record Leaves {A W : Type 0} (f : Answers → Outcome A W) (answers : Answers) (bounds : List ℤ) (g : Answers → Outcome A W) : Type 0 where
+  pub asked : Asked f answers bounds
+  pub rest : (λ later. f (answers ++ later)) ≡ g
+
+-- in every state that fits and whose lines begin with those that are taken
+pub record RefinesPart {A : Type 0} (o n : Trace) (f g : State → Answers → Outcome A State) : Type 0 where
+  pub exchange : Exchange
+  pub exchanges : Exchanges o.devices n.devices exchange
+  pub fresh : Freshens o.fresh exchange.bytes n.fresh
+  pub leaves : (S : State) (rest : List (List ℕ)) → Fits o (exchange.given ++ rest) S
+      → Leaves (f S) exchange.answers exchange.bounds (g (after n exchange.bytes rest S))

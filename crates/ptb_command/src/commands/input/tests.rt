@@ -1,0 +1,71 @@
+// This file tests what INPUT shows and stores, and where it stops.
+
+use super::*;
+use crate::tests::letter;
+use ptb_devices::{Line, Lines, TextScreen};
+use ptb_expr::Listed;
+use std::test::Fail;
+
+#[test]
+fn items(rt: HostRuntime) -> Result<(), Fail> {
+    for (text, input, want, shown, a) in [
+        (
+            &b"A"[..],
+            &[&b")"[..], b"5"][..],
+            Ok(1),
+            &b"A:)\nWHAT?\nA:5\n"[..],
+            5,
+        ),
+        (b"A", &[b")"], Err(Stop::NoInput), b"A:)\nWHAT?\nA:", 0),
+        (
+            b"A",
+            &[b"", b"1/0", b"@(28)", b"9"],
+            Ok(1),
+            b"A:\nWHAT?\nA:1/0\nHOW?\nA:@(28)\nSORRY\nA:9\n",
+            9,
+        ),
+        (b"\"N\"A,'!'", &[b"2+3 X"], Ok(8), b"N:2+3 X\n!", 5),
+        (
+            b"@(RND(2)) ,A",
+            &[b")", b"5", b"@(2)"],
+            Ok(12),
+            b"@(RND(2)):)\nWHAT?\n@(RND(2)):5\nA:@(2)\n",
+            5,
+        ),
+        (b" @ ( 1 ) ,_", &[b"7"], Ok(11), b"@ ( 1 ):7\n\r", 0),
+        (
+            b"\"N\"@(0-1)",
+            &[b"7"],
+            Err(fault(FaultKind::How, 9)),
+            b"N",
+            0,
+        ),
+        (
+            b"A,\"N",
+            &[b"7"],
+            Err(fault(FaultKind::What, 2)),
+            b"A:7\n",
+            7,
+        ),
+        (b"A B", &[b"7"], Err(fault(FaultKind::What, 2)), b"A:7\n", 7),
+        (b"A,", &[b"7"], Err(fault(FaultKind::What, 2)), b"A:7\n", 7),
+    ] {
+        let mut lines = Vec::new(rt.alloc());
+        for line in input {
+            lines.push(Line::clean(rt.alloc(), line)?)?;
+        }
+        let mut source = Lines::new(&lines);
+        let mut store = Store::new(rt.alloc(), 54)?;
+        let mut chooser = Listed::new(&[1, 2]);
+        let mut screen = TextScreen::new(rt.alloc());
+        let mut cursor = Cursor::new(text, 0);
+        let mut io = Io::new(&mut chooser, &mut screen, &mut source, true);
+        let result = super::input(&mut cursor, &mut store, &mut io).map(|()| cursor.place());
+        let fresh = io.fresh;
+        assert_eq!(rt; result, want);
+        assert_eq!(rt; screen.bytes(), shown);
+        assert_eq!(rt; store.get(letter(b'A')), a);
+        assert_eq!(rt; fresh, shown.last() == Some(&b'\n'));
+    }
+    Ok(())
+}

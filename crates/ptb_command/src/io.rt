@@ -1,0 +1,78 @@
+// This file has the devices of a command, taken together.
+
+ghost use Rattle.std.specs.Prelude.{◌≡◌, ◌≤◌, List, ℕ, length, IfOk};
+ghost use Rattle.ptb_expr.specs.Reading.{item_of, expression};
+ghost use Rattle.ptb_expr.specs.Store.{Cells};
+ghost use Rattle.ptb_command.specs.Act.{value_action};
+ghost use Rattle.ptb_command.specs.Actions.{goes_on, show as show_action};
+ghost use Rattle.ptb_command.specs.Devices.{nothing_refused, refused_answers};
+ghost use Rattle.ptb_command.specs.Reads.{IsRead};
+ghost use Rattle.ptb_command.specs.Stops.{Comes};
+
+use crate::reads::value;
+use crate::showing::show;
+use crate::stop::Stop;
+use ptb_devices::{LineSource, Screen};
+use ptb_expr::{Chooser, Store};
+use ptb_text::Cursor;
+
+/// What a command asks, shows and reads.
+#[derive(Drop)]
+pub struct Io<'a, C, S, L> {
+    /// Answers the questions of RND.
+    pub chooser: &'a mut C,
+    /// Where bytes are shown.
+    pub screen: &'a mut S,
+    /// Where input lines come from.
+    pub source: &'a mut L,
+    /// Whether nothing was shown, or a newline last.
+    pub fresh: bool,
+}
+
+impl<'a, C: Chooser, S: Screen, L: LineSource> Io<'a, C, S, L> {
+    ghost use Rattle.ptb_command.specs.Io.{io_trace, SameDevices};
+
+    /// These devices, taken together.
+    pub fn new(chooser: &'a mut C, screen: &'a mut S, source: &'a mut L, fresh: bool) -> Self
+        ensures chooser { result.chooser.ghost_name ≡ chooser.entry.ghost_name }
+        ensures screen { result.screen.ghost_name ≡ screen.entry.ghost_name }
+        ensures source { result.source.ghost_name ≡ source.entry.ghost_name }
+        ensures fresh { result.fresh ≡ fresh }
+        ensures chooser_now { result.chooser.now ≡ chooser.old }
+        ensures screen_now { result.screen.now ≡ screen.old }
+        ensures source_now { result.source.now ≡ source.old }
+    {
+        Io {
+            chooser,
+            screen,
+            source,
+            fresh,
+        }
+    }
+
+    /// Shows bytes as a part of a command.
+    pub(crate) fn show(&mut self, bytes: &[u8]) -> Result<(), Stop>
+        ensures comes { (given : List (List ℕ)) (cells : Cells) → Comes nothing_refused
+            (io_trace C.choices S.Screen self.old given cells)
+            (io_trace C.choices S.Screen self.new given cells)
+            (show_action bytes.now) goes_on result }
+        ensures same { SameDevices self.old self.new }
+    {
+        show(self.screen, &mut self.fresh, bytes)
+    }
+
+    /// The value of the expression at the cursor.
+    pub(crate) fn value(&mut self, cursor: &mut Cursor, store: &Store) -> Result<i16, Stop>
+        ensures text { cursor.new.text ≡ cursor.old.text }
+        ensures comes { (given : List (List ℕ)) → Comes
+            (refused_answers (C.refused self.new.chooser.now))
+            (io_trace C.choices S.Screen self.old given store.now)
+            (io_trace C.choices S.Screen self.new given store.now)
+            (value_action (item_of (expression cursor.old.text cursor.old.place))) goes_on result }
+        ensures read { IfOk result (λ _. IsRead cursor.old.text cursor.old.place
+            (expression cursor.old.text cursor.old.place) cursor.new.place) }
+        ensures same { SameDevices self.old self.new }
+    {
+        value(cursor, store, self.chooser)
+    }
+}

@@ -1,0 +1,63 @@
+// This file has the registers, which are what commands change: where the run stands, what is stored,
+// and what is open.
+
+ghost use Rattle.std.specs.Prelude.{◌≡◌, ℕ, List, true, false, Some, IfOk};
+ghost use Rattle.ptb_command.specs.Configuration.{configuration};
+ghost use Rattle.ptb_command.specs.Reads.{Follows};
+ghost use Rattle.ptb_command.specs.Representation.{Represents};
+ghost use Rattle.ptb_command.specs.State.{first_state};
+
+use crate::laws::command_laws;
+use crate::location::Location;
+use crate::reads::pass_separator;
+use crate::stack::Stack;
+use crate::statements::first_place;
+use ptb_expr::Store;
+use ptb_text::{Cursor, Program};
+use std::alloc::{AllocError, Global};
+
+/// What commands change.
+#[derive(Drop)]
+pub struct Registers {
+    /// The next command, if one is left. Where the text is over at its place, the next statement is
+    /// meant.
+    pub place: Option<Location>,
+    /// The values of the variables and of the array.
+    pub store: Store,
+    /// The open loops and calls.
+    pub stack: Stack,
+}
+
+impl Registers {
+    /// The registers at the beginning of a run of a program: its first command is next, the variables
+    /// and the array hold 0, and nothing is open.
+    ///
+    /// # Errors
+    ///
+    /// [`AllocError`] where there is no memory for the array.
+    pub fn new(alloc: Global, program: &Program) -> Result<Registers, AllocError>
+        ensures { IfOk result (λ r. (input : List (List ℕ)) →
+            Represents program.now.lines (configuration r 0 true false)
+            (first_state program.now input)) }
+    {
+        command_laws();
+        Ok(Registers {
+            place: first_place(program),
+            store: Store::new(alloc, program.size())?,
+            stack: Stack::new(),
+        })
+    }
+
+    /// Goes on behind a command of this statement, which ends at the cursor.
+    pub(crate) fn go_behind(&mut self, statement: usize, cursor: &mut Cursor)
+        ensures place { self.new
+            ≡ record self.old { place = Some (record { statement = statement; at = cursor.new.place }) } }
+        ensures follows { Follows cursor.old.text cursor.old.place cursor.new.place }
+    {
+        pass_separator(cursor);
+        self.place = Some(Location {
+            statement,
+            at: cursor.place(),
+        });
+    }
+}

@@ -1,0 +1,203 @@
+// This file has the control stack: the loops and calls that are open.
+
+ghost use Rattle.std.specs.Prelude.{◌≡◌, ◌+◌, ◌<◌, ◌≤◌, ◌↔◌, [], ◌∷◌, ◌++◌, length, reverse, take};
+ghost use Rattle.std.specs.Prelude.{IfSome, IsTrue, MatchBool, option_map};
+ghost use Rattle.ptb_command.specs.Stacks.{call_of, loop_of, without};
+ghost use Rattle.ptb_command.specs.Stacks.{ClosesCall, ClosesNewer, ClosesNewest};
+ghost use Rattle.ptb_command.specs.State.{nesting_limit};
+
+use crate::location::Location;
+use arrayvec::ArrayVec;
+use ptb_text::Letter;
+use std::marker::Model;
+
+/// How many loops and calls may be open together.
+pub const NESTING_LIMIT: usize = 64;
+
+/// An open FOR.
+// The place is first: behind the smaller parts it is copied together with the gap before it and read
+// back late, and NEXT took 17 ns so, in place of 11.
+#[derive(Clone, Copy)]
+pub struct OpenLoop {
+    /// The command behind the FOR, where each turn begins.
+    pub back: Location,
+    /// Its variable.
+    pub letter: Letter,
+    /// The loop ends when its variable goes past this.
+    pub limit: i16,
+    /// What NEXT adds to its variable.
+    pub step: i16,
+}
+
+/// An open FOR or GOSUB.
+#[derive(Clone, Copy)]
+pub enum Open {
+    /// An open FOR.
+    Loop(OpenLoop),
+    /// An open GOSUB, and the command behind it, to which RETURN goes back.
+    Call(Location),
+}
+
+// a place of the control stack that is not in use
+impl Default for Open {
+    fn default() -> Self {
+        Open::Call(Location {
+            statement: 0,
+            at: 0,
+        })
+    }
+}
+
+/// The loops and calls that are open, at most [`NESTING_LIMIT`] together.
+///
+/// Contracts see them as a list, newest first.
+#[derive(Drop)]
+pub struct Stack {
+    // newest last
+    opens: ArrayVec<Open, NESTING_LIMIT>,
+}
+
+impl Model for Stack {
+    ghost use Rattle.std.specs.Prelude.{List, reverse};
+    ghost use Rattle.ptb_command.specs.declared.stack.Open.{Open};
+
+    ghost Value = { List Open };
+
+    ghost view = { λ s. reverse s.opens.items };
+}
+
+impl Stack {
+    /// Nothing is open.
+    pub fn new() -> Stack
+        ensures { result ≡ [] }
+    {
+        Stack {
+            opens: ArrayVec::new(),
+        }
+    }
+
+    /// Whether nothing is open.
+    pub fn is_empty(&self) -> bool
+        ensures { IsTrue result ↔ (self.now ≡ []) }
+    {
+        self.opens.is_empty()
+    }
+
+    /// Opens a call, where there is room for one more; whether there is. Without room nothing is
+    /// changed.
+    pub fn open_call(&mut self, back: Location) -> bool
+        ensures { MatchBool result
+            ((self.new ≡ Open.Call back ∷ self.old) × (length self.old < nesting_limit))
+            ((self.new ≡ self.old) × (nesting_limit ≤ length self.old)) }
+    {
+        self.add(Open::Call(back))
+    }
+
+    /// Opens a loop, where there is room for one more; whether there is. The loop of its variable in
+    /// the newest level is removed first, also where there is no room then.
+    pub fn open_loop(&mut self, item: OpenLoop) -> bool
+        ensures { MatchBool result
+            ((self.new ≡ Open.Loop item ∷ without item.letter self.old)
+            × (length (without item.letter self.old) < nesting_limit))
+            ((self.new ≡ without item.letter self.old)
+            × (nesting_limit ≤ length (without item.letter self.old))) }
+    {
+        self.remove_loops(item.letter);
+        self.add(Open::Loop(item))
+    }
+
+    /// Closes the newest call with the loops above it, and gives the place to which it returns.
+    /// Where no call is open, nothing is closed.
+    pub fn close_call(&mut self) -> Option<Location>
+        ensures { ClosesCall self.old self.new result }
+    {
+        let (below, back) = newest_call(self.opens.as_slice())?;
+        self.opens.truncate(below);
+        Some(back)
+    }
+
+    /// Closes the loops that are newer than the newest level's loop of a variable, and gives that
+    /// loop, which stays open. Where there is none, nothing is closed.
+    pub fn close_newer(&mut self, letter: Letter) -> Option<OpenLoop>
+        ensures { ClosesNewer letter self.old self.new result }
+    {
+        let (below, item) = newest_loop(self.opens.as_slice(), letter)?;
+        self.opens.truncate(below + 1);
+        Some(item)
+    }
+
+    /// Closes the newest loop or call, if one is open.
+    pub fn close_newest(&mut self)
+        ensures { ClosesNewest self.old self.new }
+    {
+        self.opens.pop();
+    }
+
+    // Adds a loop or a call, where there is room for one more; whether there is.
+    fn add(&mut self, item: Open) -> bool
+        ensures { MatchBool result
+            ((self.new ≡ item ∷ self.old) × (length self.old < nesting_limit))
+            ((self.new ≡ self.old) × (nesting_limit ≤ length self.old)) }
+    {
+        if self.opens.is_full() {
+            return false;
+        }
+        self.opens.push(item);
+        true
+    }
+
+    // Removes the loops of a variable in the newest level.
+    fn remove_loops(&mut self, letter: Letter)
+        ensures { self.new ≡ without letter self.old }
+    {
+        let mut k = self.opens.len();
+        'levels: while k > 0 {
+            k -= 1;
+            let Open::Loop(open) = self.opens[k] else {
+                return;
+            };
+            if open.letter == letter {
+                self.opens.remove(k);
+            }
+        }
+    }
+}
+
+// How many are open below the newest call, and the place to which it returns.
+fn newest_call(opens: &[Open]) -> Option<(usize, Location)>
+    ensures found { call_of (reverse opens.now)
+        ≡ option_map (λ x. (x.1, reverse (take x.0 opens.now))) result }
+    ensures within { IfSome result (λ x. x.0 < length opens.now) }
+{
+    let mut k = opens.len();
+    'levels: while k > 0 {
+        k -= 1;
+        if let Open::Call(back) = opens[k] {
+            return Some((k, back));
+        }
+    }
+    None
+}
+
+// How many are open below the newest level's loop of a variable, and that loop.
+fn newest_loop(opens: &[Open], letter: Letter) -> Option<(usize, OpenLoop)>
+    ensures found { loop_of letter (reverse opens.now)
+        ≡ option_map (λ x. (x.1, reverse (take x.0 opens.now))) result }
+    ensures there { IfSome result
+        (λ x. take (x.0 + 1) opens.now ≡ take x.0 opens.now ++ Open.Loop x.1 ∷ []) }
+{
+    let mut k = opens.len();
+    'levels: while k > 0 {
+        k -= 1;
+        let Open::Loop(open) = opens[k] else {
+            return None;
+        };
+        if open.letter == letter {
+            return Some((k, open));
+        }
+    }
+    None
+}
+
+#[cfg(test)]
+mod tests;

@@ -1,0 +1,80 @@
+// This file says why a command isn't done.
+
+ghost use Rattle.std.specs.Prelude.{◌≡◌};
+ghost use Rattle.ptb_expr.specs.Value.{fault};
+
+use ptb_devices::{ReadFault, ScreenFault};
+use ptb_expr::{Fault, FaultKind, Pause};
+
+/// Why a device doesn't do what it is asked for.
+#[derive(Clone, Copy, Debug, PartialEq, Eq)]
+pub enum DeviceError {
+    /// A growth was refused memory.
+    Memory,
+    /// The input could not be read, or is too long.
+    Read,
+    /// The screen could not be written.
+    Write,
+}
+
+/// Why a command isn't done.
+#[derive(Clone, Copy, Debug, PartialEq, Eq)]
+pub enum Stop {
+    /// It has a fault, which is not reported yet.
+    Fault(Fault),
+    /// It ends the run, as STOP does.
+    Ended,
+    /// No input line is left for it.
+    NoInput,
+    /// A question of it has no answer, though there is memory for one.
+    Pause(Pause),
+    /// A device failed, or was refused memory.
+    Broke(DeviceError),
+}
+
+/// A fault that is marked at a place.
+pub(crate) fn fault(kind: FaultKind, mark: usize) -> Stop
+    ensures { result ≡ Stop.Fault (fault kind mark) }
+{
+    Stop::Fault(Fault { kind, mark })
+}
+
+impl From<ScreenFault> for Stop {
+    ghost use Rattle.ptb_command.specs.Stops.{stop_of_screen};
+
+    ghost from_gives = { λ fault r. r ≡ stop_of_screen fault };
+
+    fn from(fault: ScreenFault) -> Stop {
+        match fault {
+            ScreenFault::Write => Stop::Broke(DeviceError::Write),
+            ScreenFault::Memory => Stop::Broke(DeviceError::Memory),
+        }
+    }
+}
+
+impl From<ReadFault> for Stop {
+    ghost use Rattle.ptb_command.specs.Stops.{stop_of_read};
+
+    ghost from_gives = { λ fault r. r ≡ stop_of_read fault };
+
+    fn from(fault: ReadFault) -> Stop {
+        match fault {
+            ReadFault::Read | ReadFault::TooLong => Stop::Broke(DeviceError::Read),
+            ReadFault::Memory => Stop::Broke(DeviceError::Memory),
+        }
+    }
+}
+
+impl From<ptb_expr::Stop> for Stop {
+    ghost use Rattle.ptb_command.specs.Stops.{stop_of};
+
+    ghost from_gives = { λ stop r. r ≡ stop_of stop };
+
+    fn from(stop: ptb_expr::Stop) -> Stop {
+        match stop {
+            ptb_expr::Stop::Fault(fault) => Stop::Fault(fault),
+            ptb_expr::Stop::Pause(Pause::Memory) => Stop::Broke(DeviceError::Memory),
+            ptb_expr::Stop::Pause(pause) => Stop::Pause(pause),
+        }
+    }
+}

@@ -1,0 +1,35 @@
+-- This file answers what is left to prove of `read_lines`.
+use Rattle.std.proofs.Common.{◌≡◌, List, ℕ, subst, arith, rules, length, take, ◌≤◌, drop}
+use Rattle.std.proofs.lemmas.List.{take-append-le, length-take-le}
+use Rattle.std.specs.Io.KnownBytes.{IsAtEnd}
+use Rattle.ptb_devices.specs.Cutting.{AddsLines}
+use Rattle.ptb_devices.proofs.Reading.{IsReadUpTo_more, IsReadUpTo_bounded, IsReadUpTo_end}
+use Rattle.ptb_devices.proofs.whole_input.read_lines.Goals as goal
+
+pub returns-then-count-eq0-clause-lines : goal.returns-then-count-eq0-clause-lines
+returns-then-count-eq0-clause-lines g c =
+    let end : IsAtEnd (g.R.Read.remaining c.read.new.self) = search rules in
+    let inside : c.in_ok-count.count ≤ length c.read.new.buf = search rules in
+    let size : length (take c.in_ok-count.count c.read.new.buf) ≡ 0 = omega (arith, length-take-le c.in_ok-count.count c.read.new.buf inside) in
+    IsReadUpTo_end _ _ _ _ _ _ _ _ _ size c.loop-left.invariant.read c.in_ok-count.ensures.bytes.0 end c.in_ok-push_last.ensures
+
+pub returns-in_err-push_whole-clause-bounded : goal.returns-in_err-push_whole-clause-bounded
+returns-in_err-push_whole-clause-bounded g c =
+    let inside : c.in_ok-count.count ≤ length c.read.new.buf = search rules in
+    let fits : c.in_ok-count.count ≤ c.loop-left.left = search rules in
+    let size : length (take c.in_ok-count.count c.read.new.buf) ≤ c.loop-left.left = omega (arith, length-take-le c.in_ok-count.count c.read.new.buf inside) in
+    IsReadUpTo_bounded _ _ _ _ _ _ _ _ size c.loop-left.invariant.read c.in_ok-count.ensures.bytes.0
+
+pub loop-left-preserved : goal.loop-left-preserved
+loop-left-preserved g c =
+    let inside : c.in_ok-count.count ≤ length c.read.new.buf = search rules in
+    let size : length (take c.in_ok-count.count c.read.new.buf) ≡ c.in_ok-count.count = length-take-le c.in_ok-count.count c.read.new.buf inside in
+    let fits : c.in_ok-count.count ≤ c.loop-left.left = search rules in
+    let fits_here : length (take c.in_ok-count.count c.read.new.buf) ≤ c.loop-left.left = omega (arith, size) in
+    let adds : AddsLines c.loop-left.cutter (take c.in_ok-count.count c.read.new.buf) c.loop-left.lines.items c.push_whole.new.lines.items c.push_whole.new.cutter =
+    subst (λ (bs : List ℕ). AddsLines c.loop-left.cutter bs c.loop-left.lines.items c.push_whole.new.lines.items c.push_whole.new.cutter)
+    (take-append-le c.in_ok-count.count c.read.new.buf (drop c.min-room.result c.loop-left.buffer) inside) c.in_ok-push_whole.ensures in
+    record {
+      unfailed = search rules;
+      read = rw (← size) (IsReadUpTo_more _ _ _ _ _ _ _ _ _ _ fits_here c.loop-left.invariant.read c.in_ok-count.ensures.bytes.0 adds);
+    }

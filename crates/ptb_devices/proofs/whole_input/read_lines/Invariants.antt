@@ -1,0 +1,14 @@
+-- This file says what the loops of `read_lines` keep.
+use Rattle.std.proofs.Common.{◌≡◌}
+use Rattle.ptb_devices.proofs.Reading.{IsReadUpTo}
+use Rattle.ptb_devices.proofs.whole_input.read_lines.Given as goal
+
+-- no read failed, and the lines are those of the bytes that were taken
+abbrev pub invariant-loop-left : goal.invariant-loop-left
+invariant-loop-left g l = record {
+  unfailed : g.R.Read.failures l.reader ≡ g.R.Read.failures l.initial.reader;
+  read : IsReadUpTo (g.R.Read.remaining l.initial.reader) (g.R.Read.remaining l.reader) l.lines.items l.cutter 16777217 l.left;
+}
+
+abbrev pub decreases-loop-left : goal.decreases-loop-left
+decreases-loop-left g l = l.left

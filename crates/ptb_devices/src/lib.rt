@@ -1,0 +1,18 @@
+//! What a run shows its bytes on, and where its input lines come from.
+//!
+//! It stands on `ptb_text`, `arrayvec` and `thiserror`. The crate above may rely on the contracts
+//! of `Screen` (bytes are shown in order, all of them or a fault) and `LineSource` (lines are given
+//! in order, each once), which the screens and `Lines` here keep, and on `read_lines` (the lines of
+//! an input, cleaned and cut).
+#![tactic(auto)]
+
+mod cutter;
+mod fault;
+mod lines;
+mod screen;
+mod whole_input;
+
+pub use fault::{ReadFault, ScreenFault};
+pub use lines::{Line, LineSource, Lines};
+pub use screen::{Screen, TextScreen, WriterScreen};
+pub use whole_input::{INPUT_LIMIT, read_lines};

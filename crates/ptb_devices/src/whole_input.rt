@@ -1,0 +1,93 @@
+// This file reads all the input lines of a run at once.
+
+ghost use Rattle.std.specs.Prelude.{◌≡◌, ◌+◌, ◌<◌, ◌≤◌, ℕ, List, ◌++◌, length, Option, Some, OnOk};
+ghost use Rattle.std.specs.Prelude.{IfOk, IfSome, IsErrOf};
+ghost use Rattle.std.specs.Io.KnownBytes.{IsAtEnd};
+ghost use Rattle.ptb_text.specs.Device.{HasFailed};
+ghost use Rattle.ptb_text.specs.Lines.{input_lines};
+ghost use Rattle.ptb_devices.specs.Cutting.{last_line, Cuts, AddsLines};
+ghost use Rattle.ptb_devices.specs.Sources.{ConsumesAtMost};
+
+use crate::cutter::LineCutter;
+use crate::fault::ReadFault;
+use crate::lines::Line;
+use ptb_text::Read;
+use std::alloc::{AllocError, Global};
+
+/// How many bytes an input may have.
+pub const INPUT_LIMIT: usize = 16_777_216;
+
+const BUFFER_SIZE: usize = 4096;
+
+/// Reads the whole input, and cuts it into its cleaned lines.
+///
+/// It takes at most one byte more than an input may have, also from a reader that never ends.
+///
+/// # Errors
+///
+/// [`ReadFault::Read`] where the reader failed, [`ReadFault::TooLong`] where the input has more
+/// than [`INPUT_LIMIT`] bytes, [`ReadFault::Memory`] where a growth was refused memory.
+pub fn read_lines<R: Read>(alloc: Global, reader: &mut R) -> Result<Vec<Line>, ReadFault>
+    ensures lines { IfOk result
+        (λ ls. IfSome (R.remaining reader.old) (λ b. ls.items ≡ input_lines b)) }
+    ensures within { OnOk result (IfSome (R.remaining reader.old) (λ b. length b ≤ INPUT_LIMIT)) }
+    ensures end { OnOk result (IsAtEnd (R.remaining reader.new)) }
+
+    ensures too_long { IsErrOf result ReadFault.TooLong
+        → IfSome (R.remaining reader.old) (λ b. INPUT_LIMIT < length b) }
+    ensures read { IsErrOf result ReadFault.Read
+        → HasFailed (R.failures reader.old) (R.failures reader.new) }
+    ensures unfailed { ¬ IsErrOf result ReadFault.Read
+        → R.failures reader.new ≡ R.failures reader.old }
+    ensures later { R.failures reader.old ≤ R.failures reader.new }
+    ensures bounded { ConsumesAtMost (R.remaining reader.old) (R.remaining reader.new)
+        (INPUT_LIMIT + 1) }
+{
+    let mut buffer = [0; BUFFER_SIZE];
+    let mut cutter = LineCutter::new();
+    let mut lines = Vec::new(alloc);
+    let mut left = INPUT_LIMIT + 1;
+    while left > 0 {
+        let room = left.min(BUFFER_SIZE);
+        let count = reader.read(&mut buffer[..room])?;
+        if count == 0 {
+            push_last(alloc, &mut lines, &cutter)?;
+            return Ok(lines);
+        }
+        push_whole(alloc, &mut lines, &mut cutter, &buffer[..count])?;
+        left -= count;
+    }
+    Err(ReadFault::TooLong)
+}
+
+/// Adds the lines that these bytes end.
+fn push_whole(
+    alloc: Global,
+    lines: &mut Vec<Line>,
+    cutter: &mut LineCutter,
+    bytes: &[u8],
+) -> Result<(), AllocError>
+    ensures { OnOk result
+        (AddsLines cutter.old bytes.now lines.old.items lines.new.items cutter.new) }
+{
+    let mut rest = bytes;
+    while let Some(count) = cutter.take_line(rest) {
+        lines.push(Line::from_kept(alloc, cutter.kept())?)?;
+        cutter.clear();
+        rest = &rest[count..];
+    }
+    Ok(())
+}
+
+/// Adds the last line, if a piece has begun.
+fn push_last(alloc: Global, lines: &mut Vec<Line>, cutter: &LineCutter) -> Result<(), AllocError>
+    ensures { OnOk result (lines.new.items ≡ lines.old.items ++ last_line cutter.now) }
+{
+    if cutter.has_begun() {
+        lines.push(Line::from_kept(alloc, cutter.kept())?)?;
+    }
+    Ok(())
+}
+
+#[cfg(test)]
+mod tests;

@@ -1,5 +1,0 @@
--- This file says why `rest` ends.
-use Rattle.ptb_machine.proofs.lines.tests.rest.Given as goal
-
-abbrev pub decreases-loop-lines : goal.decreases-loop-lines
-decreases-loop-lines g l = g.L.LineSource.most l.source

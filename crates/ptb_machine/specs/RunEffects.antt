@@ -1,0 +1,24 @@
+-- This file defines what a turn of a run and a whole run may change of the state in which it begins.
+--     run_shown o, run_steps o         what a run has shown, and how many commands it has begun, where it is over or asks
+--     TurnChange limit S T             what a turn of a run may change
+use Rattle.std.specs.Prelude.{ℕ, ◌≤◌, List}
+use Rattle.ptb_expr.specs.Outcome.{Outcome, Done, Asks, Out}
+use Rattle.ptb_command.specs.State.{State, nesting, nesting_limit}
+use Rattle.ptb_command.specs.Effects.{Begins}
+use Rattle.ptb_machine.specs.Play.{Finish}
+
+abbrev pub run_shown : Outcome Finish State → List ℕ
+run_shown (Done f rest) = f.shown
+run_shown (Asks n S) = S.shown
+run_shown (Out n S) = S.shown
+
+abbrev pub run_steps : Outcome Finish State → ℕ
+run_steps (Done f rest) = f.steps
+run_steps (Asks n S) = S.steps
+run_steps (Out n S) = S.steps
+
+-- where a turn begins within the limits it ends within them
+pub record TurnChange (limit : ℕ) (S T : State) : Type 0 where
+  pub shown : Begins S.shown T.shown
+  pub nested : nesting S ≤ nesting_limit → nesting T ≤ nesting_limit
+  pub steps : S.steps ≤ limit → T.steps ≤ limit

@@ -1,0 +1,41 @@
+-- This file answers what is left to prove of `command`.
+use Rattle.std.proofs.Common.{◌≡◌, ◌∙◌, ap, ap₂, false, ℤ, Some, subst}
+use Rattle.std.specs.Prelude.{codes, pos}
+use Rattle.std.proofs.lemmas.Result.{IfOk-weaker}
+use Rattle.clap.specs.Words.{AddsArg, App, NarrowsTo, Rule, app_of, new_app, rule_of, with_rule}
+use Rattle.clap.specs.Simple.{app_of_fields}
+use Rattle.clap.specs.declared.builder.Arg.{Arg}
+use Rattle.clap.specs.declared.builder.Command.{Command}
+use Rattle.clap.specs.declared.builder.ValueParser.{ValueParser}
+use Rattle.clap.specs.declared.builder.ValueParser.TheVariants.{Signed, Unsigned}
+use Rattle.ptb_options.specs.CommandLine.{number_option}
+use Rattle.ptb_options.proofs.command_line.command.Goals as goal
+
+with_arg : (old new : Command) (a : Arg) (app : App) (rule : Rule) → AddsArg old a new → a.global ≡ false
+    → app_of old ≡ app → rule_of a ≡ rule → app_of new ≡ with_rule app rule
+with_arg old new a app rule added local is_app is_rule = added.shape local ∙ ap₂ with_rule is_app is_rule
+
+-- a range that is known narrows a parser that is known
+narrows : (r : ValueParser) {p q : ValueParser} {s e low high : ℤ} → p ≡ q → s ≡ low → e ≡ high → NarrowsTo p (Some s) (Some e) r → NarrowsTo q (Some low) (Some high) r
+narrows r {p} {q} {s} {e} {low} {high} is_q is_low is_high h =
+    subst (λ (x : ValueParser). NarrowsTo x (Some low) (Some high) r) is_q
+    (subst (λ (x : ℤ). NarrowsTo p (Some x) (Some high) r) is_low (subst (λ (x : ℤ). NarrowsTo p (Some s) (Some x) r) is_high h))
+
+pub returns : goal.returns
+returns c =
+    let start : app_of c.after_help.result ≡ new_app (codes "ptb") =
+    ap app_of_fields c.after_help.ensures ∙ (ap app_of_fields c.about.ensures ∙ c.new-4.ensures.app) in
+    let steps : c.range-steps.result ≡ Signed (pos 1) (pos 1000000000) =
+    narrows c.range-steps.result c.value_parser.ensures c.new.ensures.start c.new.ensures.end c.range-steps.ensures in
+    let memory : c.range-memory.result ≡ Signed (pos 64) (pos 32767) =
+    narrows c.range-memory.result c.value_parser-2.ensures c.new-2.ensures.start c.new-2.ensures.end c.range-memory.ensures in
+    let first : c.range-first.result ≡ Unsigned 1 1000000000 =
+    narrows c.range-first.result c.value_parser-3.ensures c.new-3.ensures.start c.new-3.ensures.end c.range-first.ensures in
+    let one = with_arg _ c.in_ok-arg.field-0 _ _ _ c.in_ok-arg.ensures c.number_option.ensures.local start (c.number_option.ensures.rule ∙ ap (number_option (codes "steps")) steps) in
+    let two = with_arg _ c.in_ok-arg-2.field-0 _ _ _ c.in_ok-arg-2.ensures c.number_option-2.ensures.local one (c.number_option-2.ensures.rule ∙ ap (number_option (codes "memory")) memory) in
+    let three = with_arg _ c.in_ok-arg-3.field-0 _ _ _ c.in_ok-arg-3.ensures c.text_option.ensures.local two c.text_option.ensures.rule in
+    let four = with_arg _ c.in_ok-arg-4.field-0 _ _ _ c.in_ok-arg-4.ensures c.flag.ensures.local three c.flag.ensures.rule in
+    let five = with_arg _ c.in_ok-arg-5.field-0 _ _ _ c.in_ok-arg-5.ensures c.text_option-2.ensures.local four c.text_option-2.ensures.rule in
+    let six = with_arg _ c.in_ok-arg-6.field-0 _ _ _ c.in_ok-arg-6.ensures c.number_option-3.ensures.local five (c.number_option-3.ensures.rule ∙ ap (number_option (codes "first")) first) in
+    let seven = with_arg _ c.in_ok-arg-7.field-0 _ _ _ c.in_ok-arg-7.ensures c.flag-2.ensures.local six c.flag-2.ensures.rule in
+    IfOk-weaker c.arg-8.result _ _ (λ whole added. with_arg _ whole _ _ _ added c.operand.ensures.local seven c.operand.ensures.rule) c.arg-8.ensures

@@ -1,0 +1,5 @@
+-- This file names the files of definitions.
+pub mod AnswerLists
+pub mod CommandLine
+pub mod Options
+pub mod Statuses

@@ -1,0 +1,137 @@
+-- This file defines what the words of the command line ask for.
+--     entries_of m               what clap found, as its entries
+--     Options, options_of e      what the options say by these entries
+--     HasMemorySize o            --memory gives a size that a program can have
+--     clash o                    the fault of options that don't go together
+--     default_steps, default_memory     the numbers of a request that gives none
+--     Asks o r                   the options ask for the request r
+--     Refuses o fault            why they ask for none
+use Rattle.std.specs.Prelude.{◌≡◌, ℕ, ◌^◌, nat_lt, Bool, true, false, not, ◌&&◌, ◌||◌, if◌then◌else◌, List, length, Option, Some, None, is_some, IsSome, unwrap_or, option_and_then, find, IsSomeAnd, ℤ, codes}
+use Rattle.std.specs.Option.{ForSome, option_or}
+use Rattle.std.specs.Str.{all_ascii_digits, bytes_eq}
+use Rattle.std.specs.Str.Parse.{digits_value, without_leading_plus}
+use Rattle.clap.specs.Words.{Row, first_of, found_of, one_of, rows_of}
+use Rattle.clap.specs.declared.parser.ArgMatches.{ArgMatches}
+use Rattle.clap.specs.declared.parser.ValueSource.{ValueSource}
+use Rattle.clap.specs.declared.parser.ValueSource.TheVariants.{CommandLine}
+use Rattle.ptb_text.specs.Statements.{IsMemorySize}
+use Rattle.ptb_options.specs.AnswerLists.{SpellsList, IsMisspelled}
+use Rattle.ptb_options.specs.declared.answers.ListFault.{ListFault}
+use Rattle.ptb_options.specs.declared.answers.ListFault.TheVariants as lists
+use Rattle.ptb_options.specs.declared.request.Mode.{Mode}
+use Rattle.ptb_options.specs.declared.request.Mode.TheVariants as modes
+use Rattle.ptb_options.specs.declared.request.Request.{Request}
+use Rattle.ptb_options.specs.declared.usage.UsageFault.{UsageFault}
+use Rattle.ptb_options.specs.declared.usage.UsageFault.TheVariants.{ListWithOther, AfterWithoutAll, FirstWithoutAll, AnswersWithAll, BadList, Memory}
+
+-- ---- the options
+
+-- each option as it stands on the command line, and None or false where it doesn't; lists are texts
+pub record Options : Type 0 where
+  pub steps : Option ℕ
+  pub memory : Option ℕ
+  pub answers : Option (List ℕ)
+  pub all : Bool
+  pub after : Option (List ℕ)
+  pub first : Option ℕ
+  pub list : Bool
+
+-- an empty command line
+abbrev pub no_options : Options
+no_options = record { steps = None; memory = None; answers = None; all = false; after = None; first = None; list = false }
+
+-- what clap found for each option
+abbrev pub entries_of : ArgMatches → List Row
+entries_of m = rows_of (found_of m)
+
+abbrev pub is_command_line : Option ValueSource → Bool
+is_command_line (Some CommandLine) = true
+is_command_line _ = false
+
+-- whether an option stands on the command line
+abbrev pub is_given : List ℕ → List Row → Bool
+is_given id entries = is_command_line (option_and_then (λ e. e.source) (find (λ e. bytes_eq e.id id) entries))
+
+-- the number below 2 ^ bits that a text writes in digits, behind a plus or not
+abbrev pub number_in : ℕ → List ℕ → Option ℕ
+number_in bits text =
+    let digits = without_leading_plus text in
+    if nat_lt 0 (length digits) && all_ascii_digits digits && nat_lt (digits_value 10 digits) (2 ^ bits)
+    then Some (digits_value 10 digits) else None
+
+-- the number that an option has, as a type of so many bits reads it
+abbrev pub number_of : ℕ → List ℕ → List Row → Option ℕ
+number_of bits id entries = option_and_then (number_in bits) (one_of id entries)
+
+abbrev pub options_of : List Row → Options
+options_of entries = record {
+  steps = number_of 32 (codes "steps") entries;
+  memory = number_of 16 (codes "memory") entries;
+  answers = first_of (codes "answers") entries;
+  all = is_given (codes "all") entries;
+  after = first_of (codes "after") entries;
+  first = number_of 64 (codes "first") entries;
+  list = is_given (codes "list") entries;
+}
+
+-- the size that --memory gives, if it stands there, is one
+abbrev pub HasMemorySize : Options → Type 0
+HasMemorySize o = ForSome o.memory IsMemorySize
+
+-- ---- what they ask for
+
+-- the rules are looked at in this order
+abbrev pub clash : Options → Option UsageFault
+clash o =
+    if o.list && (o.all || is_some o.answers || is_some o.after || is_some o.first) then Some ListWithOther
+    else (if is_some o.after && not o.all then Some AfterWithoutAll
+    else (if is_some o.first && not o.all then Some FirstWithoutAll
+    else (if is_some o.answers && o.all then Some AnswersWithAll
+    else None)))
+
+-- a list that may be left out
+abbrev pub SpellsIfGiven : Option (List ℕ) → Option (List ℤ) → Type 0
+SpellsIfGiven None None = Unit {0}
+SpellsIfGiven None (Some a) = ⊥
+SpellsIfGiven (Some s) None = ⊥
+SpellsIfGiven (Some s) (Some a) = SpellsList s a
+
+-- with neither --list nor --all there is one run
+abbrev pub AsksMode : Options → Mode → Type 0
+AsksMode o modes.List = o.list ≡ true
+AsksMode o (modes.All after first) = (o.list ≡ false) × (o.all ≡ true) × SpellsIfGiven o.after after × (first ≡ o.first)
+AsksMode o (modes.Plain a) = (o.list ≡ false) × (o.all ≡ false) × SpellsList (unwrap_or o.answers (codes "none")) a
+
+-- without --steps a run begins at most so many commands
+abbrev pub default_steps : ℕ
+default_steps = 10000
+
+-- without --memory a program has so many bytes
+abbrev pub default_memory : ℕ
+default_memory = 4096
+
+pub record Asks (o : Options) (r : Request) : Type 0 where
+  pub clash : clash o ≡ None
+  pub steps : r.steps ≡ unwrap_or o.steps default_steps
+  pub memory : r.memory ≡ unwrap_or o.memory default_memory
+  pub mode : AsksMode o r.mode
+
+-- the list among options that don't clash, if there is one
+abbrev pub list_of : Options → Option (List ℕ)
+list_of o = option_or o.after o.answers
+
+-- why a list gives no answers; memory is wanted for a list alone
+abbrev pub RefusesList : Option (List ℕ) → ListFault → Type 0
+RefusesList text lists.Bad = IsSomeAnd text IsMisspelled
+RefusesList text lists.Memory = IsSome text
+
+-- lists are looked at where nothing else is wrong
+abbrev pub Refuses : Options → UsageFault → Type 0
+Refuses o BadList = (clash o ≡ None) × RefusesList (list_of o) lists.Bad
+Refuses o Memory = (clash o ≡ None) × RefusesList (list_of o) lists.Memory
+Refuses o fault = clash o ≡ Some fault
+
+-- a list's fault as one of the words
+abbrev pub usage_fault : ListFault → UsageFault
+usage_fault lists.Bad = BadList
+usage_fault lists.Memory = Memory

@@ -1,0 +1,22 @@
+//! What the words of the command line ask for.
+//!
+//! It stands on `ptb_expr` and `ptb_text`, of which it takes definitions alone, and on `clap` and
+//! `thiserror`. The crates above may rely on `parse` (what clap finds in the words, or its error)
+//! and on `decide` (the request that the options make, or the first fault of them).
+#![tactic(auto)]
+
+mod answers;
+mod command_line;
+mod deciding;
+mod help;
+mod request;
+mod usage;
+
+pub use answers::{Answers, ListFault, parse_answers};
+pub use command_line::{command, parse, refusal_status};
+pub use deciding::decide;
+pub use request::{DEFAULT_MEMORY, DEFAULT_STEPS, Mode, Request};
+pub use usage::UsageFault;
+
+#[cfg(test)]
+mod tests;

@@ -1,0 +1,21 @@
+-- This file proves the worked rows of listings that begin behind a run, or end early, by computation.
+use Rattle.std.specs.Prelude.{refl}
+use Rattle.ptb_rows.specs.Rows.{AfterRows}
+use Rattle.ptb_rows.proofs.OnPrograms.{on_programs}
+
+pub after_rows : AfterRows
+unfolding on_programs
+after_rows = record {
+  first_two = refl;
+  two_behind = refl;
+  behind_second = refl;
+  behind_last = refl;
+  beginning_of_run = refl;
+  outside = refl;
+  too_long = refl;
+  behind_shorter = refl;
+  greatest = refl;
+  behind_only = refl;
+  empty_list = refl;
+  fewer_left = refl;
+}

@@ -1,0 +1,48 @@
+-- This file proves the worked rows of the command line by computation.
+use Rattle.std.specs.Prelude.{refl}
+use Rattle.clap.proofs.OnLiterals.{clap_on_literals}
+use Rattle.ptb_rows.specs.Rows.{ClashRows, OptionRows, FaultRows}
+
+pub clash_rows : ClashRows
+unfolding clap_on_literals
+clash_rows = record {
+  after_listing = refl;
+  all_listing = refl;
+  answers_listing = refl;
+  first_listing = refl;
+  after_alone = refl;
+  after_and_first = refl;
+  first_alone = refl;
+  answers_and_all = refl;
+  steps_listing = refl;
+}
+
+pub option_rows : OptionRows
+unfolding clap_on_literals
+option_rows = record {
+  none = refl;
+  operand = refl;
+  numbers = refl;
+  lists = refl;
+  switches = refl;
+}
+
+pub fault_rows : FaultRows
+unfolding clap_on_literals
+fault_rows = record {
+  no_steps = refl;
+  most_steps = refl;
+  many_steps = refl;
+  little_memory = refl;
+  least_memory = refl;
+  most_memory = refl;
+  much_memory = refl;
+  no_first = refl;
+  most_first = refl;
+  many_first = refl;
+  no_number = refl;
+  unknown = refl;
+  second_operand = refl;
+  twice = refl;
+  help = refl;
+}

@@ -1,0 +1,11 @@
+-- This file names the files of lemmas.
+pub mod OnPrograms
+pub mod RunRows
+pub mod ProgramRows
+pub mod ExampleRows
+pub mod LongRunRows
+pub mod AllRows
+pub mod AfterRows
+pub mod TextRows
+pub mod CommandLineRows
+pub mod ListRows

@@ -1,0 +1,2 @@
+-- This file names the file of definitions.
+pub mod Rows

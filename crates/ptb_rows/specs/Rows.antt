@@ -1,0 +1,226 @@
+-- This file has worked rows of the whole tool and of its command line.
+use Rattle.std.specs.Prelude.{◌≡◌, ℕ, List, [], ◌∷◌, ◌++◌, Bool, true, Option, Some, None, Ok, Err, ℤ, pos, codes, flat_map, replicate}
+use Rattle.ptb_text.specs.declared.fault.LoadFault.TheVariants.{NoNumber, NumberTooBig, TextTooLong, Full, BadByte}
+use Rattle.clap.specs.Words.{fault_of, matches_of}
+use Rattle.clap.specs.declared.error.ErrorKind.{ErrorKind}
+use Rattle.clap.specs.declared.error.ErrorKind.TheVariants.{ArgumentConflict, DisplayHelp, UnknownArgument, ValueValidation}
+use Rattle.ptb_options.specs.declared.usage.UsageFault.TheVariants.{ListWithOther, AfterWithoutAll, FirstWithoutAll, AnswersWithAll}
+use Rattle.ptb_options.specs.AnswerLists.{SpellsList, IsMisspelled}
+use Rattle.ptb_options.specs.CommandLine.{tool}
+use Rattle.ptb_options.specs.Options.{default_memory, default_steps, Options, no_options, options_of, clash}
+use Rattle.ptb_serve.specs.declared.note.Note.TheVariants as notes
+use Rattle.ptb_options.specs.declared.request.Mode.TheVariants as modes
+use Rattle.ptb_options.specs.declared.request.Request.{Request}
+use Rattle.ptb_serve.specs.Replies.{Reply, refusal, success, reply_to}
+use Rattle.ptb_text.specs.Statements.{program}
+use Rattle.ptb_expr.specs.Outcome.{is_whole}
+use Rattle.ptb_machine.specs.Play.{play}
+use Rattle.ptb_explore.specs.Report.{report}
+
+-- a text of these lines
+abbrev pub text : List (List ℕ) → List ℕ
+text lines = flat_map (λ l. l ++ 10 ∷ []) lines
+
+abbrev pub one_line : List ℕ → List ℕ
+one_line l = text (l ∷ [])
+
+-- requests with the steps and the memory of one that gives none
+abbrev pub run : List ℤ → Request
+run answers = record { steps = default_steps; memory = default_memory; mode = modes.Plain answers }
+
+-- all runs, or the first n of those behind a run
+abbrev pub all : Request
+all = record { steps = default_steps; memory = default_memory; mode = modes.All None None }
+
+abbrev pub all_from : Option (List ℤ) → Option ℕ → Request
+all_from after first = record { steps = default_steps; memory = default_memory; mode = modes.All after first }
+
+abbrev pub behind : List ℤ → Request
+behind a = all_from (Some a) None
+
+abbrev pub list : Request
+list = record { steps = default_steps; memory = default_memory; mode = modes.List }
+
+-- the report of a run whose answers are 69 times 1 and then these
+abbrev pub long_report : List ℕ → List ℕ
+long_report answers = codes "RUN " ++ flat_map (λ (k : ℕ). codes "1,") (replicate 69 0) ++ answers ++ codes " END 140 0\n\n"
+
+-- a run that ends with this status
+abbrev pub run_end : List ℕ → ℕ → Reply
+run_end bytes status = record { bytes = bytes; status = status; note = None }
+
+pub record RunRows : Type 0 where
+  pub greeting : reply_to (run []) (codes "10 PRINT \"HI\"") [] ≡ success (one_line (codes "HI"))
+  pub one_answer : reply_to (run (pos 2 ∷ [])) (codes "10 P.RND(2)") [] ≡ run_end (one_line (codes "     2")) 0
+  pub answers_left : reply_to (run (pos 1 ∷ pos 9 ∷ [])) (codes "10 P.RND(2)") [] ≡ run_end (one_line (codes "     1")) 0
+  pub no_answer : reply_to (run []) (codes "10 P.RND(2)") [] ≡ run_end [] 6
+  pub bad_answer : reply_to (run (pos 3 ∷ [])) (codes "10 P.RND(2)") [] ≡ run_end [] 7
+  pub limit : reply_to (record (run []) { steps = 5 }) (codes "10 GOTO 10") [] ≡ run_end [] 4
+  pub fault : reply_to (run []) (codes "10 PRINT -(-32767-1)") [] ≡ run_end (text (codes "HOW?" ∷ codes "10 PRINT -(-32767-1)?" ∷ [])) 2
+  pub input : reply_to (run []) (codes "10 INPUT A") (text (codes ")" ∷ codes "5" ∷ [])) ≡ run_end (text (codes "A:)" ∷ codes "WHAT?" ∷ codes "A:5" ∷ [])) 0
+  pub no_input : reply_to (run []) (codes "10 INPUT A") (one_line (codes ")")) ≡ run_end (text (codes "A:)" ∷ codes "WHAT?" ∷ []) ++ codes "A:") 5
+  pub small_memory : reply_to (record (run []) { memory = 64 }) (codes "10 @(28)=1") [] ≡ run_end (text (codes "SORRY" ∷ codes "10 @(28)?=1" ∷ [])) 3
+
+-- programs that run once
+pub record ProgramRows : Type 0 where
+  pub lines_in_order : reply_to (run []) (codes "20 P.\"B\"\n10 P.'A',;P.\n") [] ≡ run_end (codes "A\nB\n") 0
+  pub least_number : reply_to (run []) (codes "10 PRINT -32767-1") [] ≡ run_end (codes "-32768\n") 0
+  pub rolled_input : reply_to (run (pos 1 ∷ [])) (codes "10 INPUT A;PRINT A") (codes "RND(2)\n") ≡ run_end (codes "A:RND(2)\n     1\n") 0
+  pub loop : reply_to (run []) (codes "10 F.I=1TO3S.2;P.I,;N.I") [] ≡ run_end (codes "     1     3") 0
+  pub strings : reply_to (run []) (codes "10 PRINT 'ABC',_,\"X\",#3,7") [] ≡ run_end (codes "ABC" ++ 13 ∷ codes "X  7\n") 0
+  pub endless_calls : reply_to (run []) (codes "10 GOSUB 10") [] ≡ run_end (codes "SORRY\n10 GOSUB 10?\n") 3
+  pub product_too_great : reply_to (run []) (codes "300 B=200,C=200\n310 LET A=B*C+2\n") [] ≡ run_end (codes "HOW?\n310 LET A=B*C?+2\n") 2
+  pub index_asked_again : reply_to (run (pos 1 ∷ pos 1 ∷ [])) (codes "10 INPUT @(RND(2))") (codes ")\n5\n") ≡ run_end (codes "@(RND(2)):)\nWHAT?\n@(RND(2)):5\n") 0
+  pub last_element : reply_to (record (run []) { memory = 64 }) (codes "10 @(27)=1") [] ≡ run_end [] 0
+  pub size : reply_to (run []) (codes "10 PRINT SIZE") [] ≡ run_end (codes "  4083\n") 0
+  pub loop_of_subroutine : reply_to (run []) (codes "10 GOS.30;N.J\n30 F.J=1TO9;R.\n") [] ≡ run_end (codes "WHAT?\n10 GOS.30;N.J?\n") 1
+  pub stop : reply_to (run []) (codes "10 GOSUB 40;P.1\n20 STOP\n40 P.2;RETURN\n") [] ≡ run_end (codes "     2\n     1\n") 0
+  pub end_at_limit : reply_to (record (run []) { steps = 1 }) (codes "10 P.1") [] ≡ run_end (codes "     1\n") 0
+  pub missing_line : reply_to (run []) (codes "10 INPUT A,B") (codes "5\n") ≡ run_end (codes "A:5\nB:") 5
+
+-- the examples of docs/LANGUAGE.md
+pub record ExampleRows : Type 0 where
+  pub two_dice : reply_to (run (pos 4 ∷ pos 4 ∷ pos 1 ∷ pos 6 ∷ [])) (text (
+      codes "10 REM TWO DICE" ∷ codes "20 A=RND(6),B=RND(6);PRINT \"YOU ROLL\",#3,A,B;IF A=B GOTO 20" ∷ codes "30 PRINT \"SUM\",A+B" ∷ [])) []
+      ≡ run_end (codes "YOU ROLL  4  4\nYOU ROLL  1  6\nSUM     7\n") 0
+  pub many : reply_to (run []) (codes "10 INPUT \"HOW MANY\"N;PRINT N*N") (codes "MANY\n") ≡ run_end (codes "HOW MANY:MANY\n     0\n") 0
+  pub twelve : reply_to (run []) (codes "10 INPUT \"HOW MANY\"N;PRINT N*N") (codes "(\n12\n") ≡ run_end (codes "HOW MANY:(\nWHAT?\nHOW MANY:12\n   144\n") 0
+  pub open_paren : reply_to (run []) (codes "10 PRINT (1+2") [] ≡ run_end (codes "WHAT?\n10 PRINT (1+2?\n") 1
+  pub blank_before_mark : reply_to (run []) (codes "10 A=1/0 ;PRINT A") [] ≡ run_end (codes "HOW?\n10 A=1/0 ?;PRINT A\n") 2
+  pub no_blanks : reply_to (run []) (codes "10 FORI=1TO3;PRINTI,;NEXTI") [] ≡ run_end (codes "     1     2     3") 0
+  pub blank_in_word : reply_to (run []) (codes "10 G O T O 10") [] ≡ run_end (codes "WHAT?\n10 G ?O T O 10\n") 1
+
+-- whether a list of answers is a run of a program without input, and its report
+abbrev pub run_of : List ℕ → ℕ → List ℤ → Option (Bool × List ℕ)
+run_of b limit a =
+    elim (program default_memory b) [
+      | Ok p ↦ (let game = play (record { lines = p; memory = default_memory }) [] limit in Some (is_whole (game a), report game a))
+      | Err fault ↦ None
+    ]
+
+-- programs whose runs are many steps long, or have many answers
+pub record LongRunRows : Type 0 where
+  pub long_loop : reply_to all (codes "10 F.I=1TO200;A=I;N.I\n20 A=RND(3)\n") [] ≡ success (codes "RUN 1 END 402 0\n\nRUN 2 END 402 0\n\nRUN 3 END 402 0\n\n")
+  pub many_answers : reply_to all (codes "10 F.I=1TO69;A=RND(1);N.I\n20 A=RND(2),B=RND(2)\n") [] ≡ success (
+      long_report (codes "1,1") ++ long_report (codes "1,2") ++ long_report (codes "2,1") ++ long_report (codes "2,2"))
+  -- one of 10001 steps
+  pub most_answers : run_of (codes "10 F.I=1TO5000;A=RND(1);N.I") 20000 (replicate 5000 (pos 1))
+      ≡ Some (true, codes "RUN 1" ++ flat_map (λ (k : ℕ). codes ",1") (replicate 4999 0) ++ codes " END 10001 0\n\n")
+
+-- all runs of programs
+pub record AllRows : Type 0 where
+  pub no_program : reply_to all [] [] ≡ success (codes "RUN none END 0 0\n\n")
+  pub one_roll : reply_to all (codes "10 P.RND(2)") [] ≡ success (codes "RUN 1 END 1 7\n     1\n\nRUN 2 END 1 7\n     2\n\n")
+  pub two_rolls : reply_to all (codes "10 PRINT RND(2)*RND(2)") [] ≡ success (codes "RUN 1,1 END 1 7\n     1\n\nRUN 1,2 END 1 7\n     2\n\nRUN 2,1 END 1 7\n     2\n\nRUN 2,2 END 1 7\n     4\n\n")
+  pub roll_behind_if : reply_to all (codes "10 A=RND(2);IF A=2 B=RND(3);PRINT B") [] ≡ success (codes "RUN 1 END 2 0\n\nRUN 2,1 END 4 7\n     1\n\nRUN 2,2 END 4 7\n     2\n\nRUN 2,3 END 4 7\n     3\n\n")
+  pub faulty_run : reply_to all (codes "10 A=RND(2)-1;B=RND(A)") [] ≡ success (codes "RUN 1 HOW 2 29\nHOW?\n10 A=RND(2)-1;B=RND(A)?\n\nRUN 2,1 END 2 0\n\n")
+  pub limit : reply_to (record all { steps = 5 }) (codes "10 GOTO 10") [] ≡ success (codes "RUN none LIMIT 5 0\n\n")
+  pub limit_between : reply_to (record all { steps = 1 }) (codes "10 A=RND(2);B=RND(2)") [] ≡ success (codes "RUN 1 LIMIT 1 0\n\nRUN 2 LIMIT 1 0\n\n")
+  pub rolled_input : reply_to all (codes "10 INPUT A;PRINT A") (one_line (codes "RND(2)")) ≡ success (codes "RUN 1 END 2 16\nA:RND(2)\n     1\n\nRUN 2 END 2 16\nA:RND(2)\n     2\n\n")
+  pub no_input : reply_to all (codes "10 INPUT A") [] ≡ success (codes "RUN none NOINPUT 1 2\nA:\n")
+  pub index_asked_again : reply_to all (codes "10 INPUT @(RND(2))") (text (codes ")" ∷ codes "5" ∷ [])) ≡ success (
+      codes "RUN 1,1 END 1 30\n@(RND(2)):)\nWHAT?\n@(RND(2)):5\n\n" ++ codes "RUN 1,2 END 1 30\n@(RND(2)):)\nWHAT?\n@(RND(2)):5\n\n"
+      ++ codes "RUN 2,1 END 1 30\n@(RND(2)):)\nWHAT?\n@(RND(2)):5\n\n" ++ codes "RUN 2,2 END 1 30\n@(RND(2)):)\nWHAT?\n@(RND(2)):5\n\n")
+  pub endless_calls : reply_to all (codes "10 GOSUB 10") [] ≡ success (codes "RUN none SORRY 65 19\nSORRY\n10 GOSUB 10?\n\n")
+  pub only_answer : reply_to all (codes "10 A=RND(1)") [] ≡ success (codes "RUN 1 END 1 0\n\n")
+  pub end_at_limit : reply_to (record all { steps = 1 }) (codes "10 P.1") [] ≡ success (codes "RUN none END 1 7\n     1\n\n")
+  pub calls_in_loops : reply_to all (codes "10 F.I=1TO1;GOS.10") [] ≡ success (codes "RUN none SORRY 65 26\nSORRY\n10 F.I=1TO1?;GOS.10\n\n")
+
+-- the runs behind one of them, and the first of them
+pub record AfterRows : Type 0 where
+  pub first_two : reply_to (all_from None (Some 2)) (codes "10 PRINT RND(2)*RND(2)") [] ≡ success (codes "RUN 1,1 END 1 7\n     1\n\nRUN 1,2 END 1 7\n     2\n\n")
+  pub two_behind : reply_to (all_from (Some (pos 1 ∷ pos 1 ∷ [])) (Some 2)) (codes "10 PRINT RND(2)*RND(2)") [] ≡ success (codes "RUN 1,2 END 1 7\n     2\n\nRUN 2,1 END 1 7\n     2\n\n")
+  pub behind_second : reply_to (behind (pos 2 ∷ pos 1 ∷ [])) (codes "10 A=RND(2);IF A=2 B=RND(3);PRINT B") [] ≡ success (codes "RUN 2,2 END 4 7\n     2\n\nRUN 2,3 END 4 7\n     3\n\n")
+  pub behind_last : reply_to (behind (pos 2 ∷ pos 3 ∷ [])) (codes "10 A=RND(2);IF A=2 B=RND(3);PRINT B") [] ≡ success []
+  pub beginning_of_run : reply_to (behind (pos 2 ∷ [])) (codes "10 A=RND(2);IF A=2 B=RND(3);PRINT B") [] ≡ refusal notes.NoRun
+  pub outside : reply_to (behind (pos 2 ∷ pos 4 ∷ [])) (codes "10 A=RND(2);IF A=2 B=RND(3);PRINT B") [] ≡ refusal notes.NoRun
+  pub too_long : reply_to (behind (pos 2 ∷ pos 1 ∷ pos 1 ∷ [])) (codes "10 A=RND(2);IF A=2 B=RND(3);PRINT B") [] ≡ refusal notes.NoRun
+  pub behind_shorter : reply_to (behind (pos 1 ∷ [])) (codes "10 A=RND(2);IF A=2 B=RND(3);PRINT B") [] ≡ success (codes "RUN 2,1 END 4 7\n     1\n\nRUN 2,2 END 4 7\n     2\n\nRUN 2,3 END 4 7\n     3\n\n")
+  pub greatest : reply_to (behind (pos 32767 ∷ [])) (codes "10 P.RND(2)") [] ≡ refusal notes.NoRun
+  pub behind_only : reply_to (behind []) [] [] ≡ success []
+  pub empty_list : reply_to (behind []) (codes "10 P.RND(2)") [] ≡ refusal notes.NoRun
+  pub fewer_left : reply_to (all_from (Some (pos 1 ∷ [])) (Some 5)) (codes "10 P.RND(2)") [] ≡ success (codes "RUN 2 END 1 7\n     2\n\n")
+
+pub record RefusalRows : Type 0 where
+  pub number : reply_to (run []) (codes "32768 P.1") [] ≡ refusal (notes.Load 1 NumberTooBig)
+  pub no_number : reply_to (run []) (codes "0 P.") [] ≡ refusal (notes.Load 1 NoNumber)
+  pub byte : reply_to (run []) (codes "10 P." ++ 127 ∷ []) [] ≡ refusal (notes.Load 1 (BadByte 6))
+  pub full : reply_to (record (run []) { memory = 64 }) (text (
+      codes "1 P.1" ∷ codes "2 P.1" ∷ codes "3 P.1" ∷ codes "4 P.1" ∷ codes "5 P.1" ∷ codes "6 P.1" ∷ codes "7 P.1"
+      ∷ codes "8 P.1" ∷ codes "9 P.1" ∷ codes "10 P.1" ∷ codes "11 P.1" ∷ [])) [] ≡ refusal (notes.Load 11 Full)
+  pub long_text : reply_to (run []) (codes "10 A=" ++ replicate 254 57) [] ≡ refusal (notes.Load 1 TextTooLong)
+  pub long_number : reply_to (run []) (replicate 200 57 ++ codes " P.") [] ≡ refusal (notes.Load 1 NumberTooBig)
+  -- a refusal comes before the list to begin behind is looked at
+  pub all_runs : reply_to (behind (pos 9 ∷ [])) (codes "0 P.") [] ≡ refusal (notes.Load 1 NoNumber)
+  pub second_line : reply_to list (text (codes "10 P.1" ∷ codes "P.2" ∷ [])) [] ≡ refusal (notes.Load 2 NoNumber)
+
+pub record ListingRows : Type 0 where
+  pub listing : reply_to list (text (codes "10 P.1" ∷ codes "20 P.2" ∷ (codes "010" ++ 9 ∷ codes "P.3" ++ 13 ∷ []) ∷ codes "20" ∷ [])) [] ≡ success (one_line (codes "10 P.3"))
+  pub empty : reply_to list [] [] ≡ success []
+  pub line_order : reply_to list (text (codes "20 P.2" ∷ codes "5 P.1" ∷ [])) [] ≡ success (text (codes "5 P.1" ∷ codes "20 P.2" ∷ []))
+
+-- ---- the command line
+
+-- the words behind the program's name
+abbrev pub line : List (List ℕ) → List (List ℕ)
+line words = codes "ptb" ∷ words
+
+-- what clap finds in them
+abbrev pub options : List (List ℕ) → Options
+options words = options_of (matches_of tool (line words))
+
+-- why it finds nothing
+abbrev pub faults : List (List ℕ) → List ErrorKind
+faults words = fault_of tool (line words)
+
+-- options that don't go together
+pub record ClashRows : Type 0 where
+  pub after_listing : clash (options (codes "--list" ∷ codes "--after" ∷ codes "1" ∷ [])) ≡ Some ListWithOther
+  pub all_listing : clash (options (codes "--all" ∷ codes "--list" ∷ [])) ≡ Some ListWithOther
+  pub answers_listing : clash (options (codes "--list" ∷ codes "--answers" ∷ codes "none" ∷ [])) ≡ Some ListWithOther
+  pub first_listing : clash (options (codes "--list" ∷ codes "--first" ∷ codes "3" ∷ [])) ≡ Some ListWithOther
+  pub after_alone : clash (options (codes "--after" ∷ codes "0" ∷ [])) ≡ Some AfterWithoutAll
+  pub after_and_first : clash (options (codes "--first" ∷ codes "3" ∷ codes "--after" ∷ codes "0" ∷ [])) ≡ Some AfterWithoutAll
+  pub first_alone : clash (options (codes "--first=3" ∷ [])) ≡ Some FirstWithoutAll
+  pub answers_and_all : clash (options (codes "--all" ∷ codes "--answers" ∷ codes "none" ∷ [])) ≡ Some AnswersWithAll
+  pub steps_listing : clash (options (codes "--list" ∷ codes "--steps" ∷ codes "5" ∷ [])) ≡ None
+
+-- texts that write a list of answers, and texts that write none
+pub record ListRows : Type 0 where
+  pub empty_list : SpellsList (codes "none") []
+  pub greatest : SpellsList (codes "32767") (pos 32767 ∷ [])
+  pub three : SpellsList (codes "2,1,30000") (pos 2 ∷ pos 1 ∷ pos 30000 ∷ [])
+  pub nothing : IsMisspelled []
+  pub zero_in_front : IsMisspelled (codes "01")
+  pub no_answer_between : IsMisspelled (codes "1,,2")
+  pub zero : IsMisspelled (codes "0")
+  pub too_great : IsMisspelled (codes "32768")
+  pub blank : IsMisspelled (codes "1, 2")
+  pub large_letter : IsMisspelled (codes "None")
+
+-- what the options say
+pub record OptionRows : Type 0 where
+  pub none : options [] ≡ no_options
+  pub operand : options (codes "game.bas" ∷ []) ≡ no_options
+  pub numbers : options (codes "--steps" ∷ codes "5" ∷ codes "--memory=64" ∷ codes "--first" ∷ codes "1000000000" ∷ [])
+      ≡ record no_options { steps = Some 5; memory = Some 64; first = Some 1000000000 }
+  pub lists : options (codes "--after" ∷ codes "2,1" ∷ codes "--answers" ∷ [] ∷ []) ≡ record no_options { after = Some (codes "2,1"); answers = Some [] }
+  pub switches : options (codes "--all" ∷ codes "--list" ∷ []) ≡ record no_options { all = true; list = true }
+
+-- words that clap refuses
+pub record FaultRows : Type 0 where
+  pub no_steps : faults (codes "--steps" ∷ codes "0" ∷ []) ≡ ValueValidation ∷ []
+  pub most_steps : faults (codes "--steps" ∷ codes "1000000000" ∷ []) ≡ []
+  pub many_steps : faults (codes "--steps" ∷ codes "1000000001" ∷ []) ≡ ValueValidation ∷ []
+  pub little_memory : faults (codes "--memory" ∷ codes "63" ∷ []) ≡ ValueValidation ∷ []
+  pub least_memory : faults (codes "--memory" ∷ codes "64" ∷ []) ≡ []
+  pub most_memory : faults (codes "--memory" ∷ codes "32767" ∷ []) ≡ []
+  pub much_memory : faults (codes "--memory" ∷ codes "32768" ∷ []) ≡ ValueValidation ∷ []
+  pub no_first : faults (codes "--first" ∷ codes "0" ∷ []) ≡ ValueValidation ∷ []
+  pub most_first : faults (codes "--first" ∷ codes "1000000000" ∷ []) ≡ []
+  pub many_first : faults (codes "--first" ∷ codes "1000000001" ∷ []) ≡ ValueValidation ∷ []
+  pub no_number : faults (codes "--steps" ∷ codes "many" ∷ []) ≡ ValueValidation ∷ []
+  pub unknown : faults (codes "--stops" ∷ []) ≡ UnknownArgument ∷ []
+  pub second_operand : faults (codes "a" ∷ codes "b" ∷ []) ≡ UnknownArgument ∷ []
+  pub twice : faults (codes "--all" ∷ codes "--all" ∷ []) ≡ ArgumentConflict ∷ []
+  pub help : faults (codes "--help" ∷ []) ≡ DisplayHelp ∷ []

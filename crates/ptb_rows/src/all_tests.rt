@@ -1,0 +1,364 @@
+// This file tests the listing of all runs through `serve`.
+
+ghost use Rattle.std.specs.Prelude.{IfOk};
+ghost use Rattle.ptb_text.specs.Statements.{IsMemorySize};
+
+use ptb_options::{DEFAULT_MEMORY, DEFAULT_STEPS, Mode, Request};
+use ptb_serve::{Note, Outcome, serve};
+use ptb_text::Device;
+use std::alloc::{AllocError, Global};
+use std::io;
+use std::io::ErrorKind;
+use std::test::Fail;
+
+// Takes some bytes a call, until it fails at a call.
+#[derive(Drop)]
+struct Sink {
+    taken: Vec<u8>,
+    piece: usize,
+    calls_left: usize,
+}
+
+impl io::Write for &mut Sink {
+    fn write(&mut self, buf: &[u8]) -> io::Result<usize> {
+        if self.calls_left == 0 {
+            return Err(io::Error::from(ErrorKind::BrokenPipe));
+        }
+        self.calls_left -= 1;
+        let count = self.piece.min(buf.len());
+        self.taken.extend_from_slice(&buf[..count])?;
+        Ok(count)
+    }
+
+    fn flush(&mut self) -> io::Result<()> {
+        Ok(())
+    }
+}
+
+// Fails at once.
+#[derive(Drop)]
+struct Broken;
+
+impl io::Read for Broken {
+    fn read(&mut self, _buf: &mut [u8]) -> io::Result<usize> {
+        Err(io::Error::from(ErrorKind::Other))
+    }
+}
+
+// A program with its input and the most commands of a run, the run behind which its listing begins,
+// and how many reports it has at most.
+#[derive(Clone, Copy, Debug)]
+struct Asked<'a> {
+    program: &'a [u8],
+    input: &'a [u8],
+    steps: u32,
+    after: Option<&'a [i16]>,
+    first: Option<u64>,
+}
+
+// All runs of a program without input, by a request that gives no steps.
+fn all_of(program: &[u8]) -> Asked<'_> {
+    Asked {
+        program,
+        input: b"",
+        steps: DEFAULT_STEPS,
+        after: None,
+        first: None,
+    }
+}
+
+fn request_of(alloc: Global, asked: &Asked<'_>) -> Result<Request, AllocError>
+    ensures { IfOk result (λ r. IsMemorySize r.memory) }
+{
+    let after = match asked.after {
+        Some(answers) => Some(Vec::from_slice(alloc, answers)?.into()),
+        None => None,
+    };
+    Ok(Request {
+        steps: asked.steps,
+        memory: DEFAULT_MEMORY,
+        mode: Mode::All {
+            after,
+            first: asked.first,
+        },
+    })
+}
+
+// What a listing comes to with a writer that takes some bytes a call, and fails behind some calls.
+fn served(
+    alloc: Global,
+    asked: &Asked<'_>,
+    piece: usize,
+    calls: usize,
+) -> Result<(Outcome, Vec<u8>), AllocError> {
+    let request = request_of(alloc, asked)?;
+    let mut program = Device::new(asked.program);
+    let mut input = Device::new(asked.input);
+    let mut sink = Sink {
+        taken: Vec::new(alloc),
+        piece,
+        calls_left: calls,
+    };
+    let mut out = Device::new(&mut sink);
+    let outcome = serve(alloc, &request, &mut program, &mut input, &mut out);
+    Ok((outcome, sink.taken))
+}
+
+const ONE_ROLL: &[u8] = b"10 P.RND(2)";
+
+const ONE_ROLL_TEXT: &[u8] = b"RUN 1 END 1 7\n     1\n\nRUN 2 END 1 7\n     2\n\n";
+
+const TWO_ROLLS: &[u8] = b"10 PRINT RND(2)*RND(2)";
+
+const TWO_ROLLS_TEXT: &[u8] = b"RUN 1,1 END 1 7\n     1\n\nRUN 1,2 END 1 7\n     2\n\n\
+RUN 2,1 END 1 7\n     2\n\nRUN 2,2 END 1 7\n     4\n\n";
+
+const ROLL_BEHIND_IF: &[u8] = b"10 A=RND(2);IF A=2 B=RND(3);PRINT B";
+
+const ROLL_BEHIND_IF_TEXT: &[u8] = b"RUN 1 END 2 0\n\nRUN 2,1 END 4 7\n     1\n\n\
+RUN 2,2 END 4 7\n     2\n\nRUN 2,3 END 4 7\n     3\n\n";
+
+const FAULTY: &[u8] = b"10 A=RND(2)-1;B=RND(A)";
+
+const FAULTY_TEXT: &[u8] = b"RUN 1 HOW 2 29\nHOW?\n10 A=RND(2)-1;B=RND(A)?\n\nRUN 2,1 END 2 0\n\n";
+
+const ROLLED_INDEX: &[u8] = b"10 INPUT @(RND(2))";
+
+const ROLLED_INDEX_TEXT: &[u8] = b"RUN 1,1 END 1 30\n@(RND(2)):)\nWHAT?\n@(RND(2)):5\n\n\
+RUN 1,2 END 1 30\n@(RND(2)):)\nWHAT?\n@(RND(2)):5\n\n\
+RUN 2,1 END 1 30\n@(RND(2)):)\nWHAT?\n@(RND(2)):5\n\n\
+RUN 2,2 END 1 30\n@(RND(2)):)\nWHAT?\n@(RND(2)):5\n\n";
+
+const LIMITED: &[u8] = b"10 A=RND(2);B=RND(2)";
+
+const LIMITED_TEXT: &[u8] = b"RUN 1 LIMIT 1 0\n\nRUN 2 LIMIT 1 0\n\n";
+
+// Programs with what their listing of all runs is.
+#[test]
+fn all_runs(rt: HostRuntime) -> Result<(), Fail> {
+    let rolled_input = b"RUN 1 END 2 16\nA:RND(2)\n     1\n\nRUN 2 END 2 16\nA:RND(2)\n     2\n\n";
+    let table = [
+        (all_of(b""), &b"RUN none END 0 0\n\n"[..]),
+        (all_of(ONE_ROLL), ONE_ROLL_TEXT),
+        (all_of(TWO_ROLLS), TWO_ROLLS_TEXT),
+        (all_of(ROLL_BEHIND_IF), ROLL_BEHIND_IF_TEXT),
+        (all_of(FAULTY), FAULTY_TEXT),
+        (
+            Asked {
+                steps: 5,
+                ..all_of(b"10 GOTO 10")
+            },
+            b"RUN none LIMIT 5 0\n\n",
+        ),
+        (
+            Asked {
+                input: b"RND(2)\n",
+                ..all_of(b"10 INPUT A;PRINT A")
+            },
+            rolled_input,
+        ),
+        (all_of(b"10 INPUT A"), b"RUN none NOINPUT 1 2\nA:\n"),
+        (
+            all_of(b"10 GOSUB 10"),
+            b"RUN none SORRY 65 19\nSORRY\n10 GOSUB 10?\n\n",
+        ),
+        (
+            Asked {
+                input: b")\n5\n",
+                ..all_of(ROLLED_INDEX)
+            },
+            ROLLED_INDEX_TEXT,
+        ),
+        (
+            Asked {
+                steps: 1,
+                ..all_of(LIMITED)
+            },
+            LIMITED_TEXT,
+        ),
+    ];
+    for (asked, text) in table {
+        for piece in [1, 5, 100_000] {
+            let (outcome, bytes) = served(rt.alloc(), &asked, piece, usize::MAX)?;
+            assert_eq!(rt; (outcome.status, outcome.note), (0, None), "{asked:?}");
+            assert_eq!(rt; bytes.as_slice(), text, "{asked:?}");
+        }
+    }
+    Ok(())
+}
+
+// A run with many answers, each of which is 1.
+#[test]
+fn most_answers(rt: HostRuntime) -> Result<(), Fail> {
+    let asked = Asked {
+        steps: 20_000,
+        ..all_of(b"10 F.I=1TO5000;A=RND(1);N.I")
+    };
+    let mut text = Vec::from_slice(rt.alloc(), b"RUN 1")?;
+    for _ in 1..5000 {
+        text.extend_from_slice(b",1")?;
+    }
+    text.extend_from_slice(b" END 10001 0\n\n")?;
+    let (outcome, bytes) = served(rt.alloc(), &asked, 100_000, usize::MAX)?;
+    assert_eq!(rt; (outcome.status, outcome.note), (0, None));
+    assert_eq!(rt; bytes.as_slice(), text.as_slice());
+    Ok(())
+}
+
+// Listings behind a run, or of the first runs: what is written, with status 0.
+#[test]
+fn runs_behind_a_run(rt: HostRuntime) -> Result<(), Fail> {
+    let table = [
+        (
+            TWO_ROLLS,
+            Some(&[1, 1][..]),
+            Some(2),
+            &b"RUN 1,2 END 1 7\n     2\n\nRUN 2,1 END 1 7\n     2\n\n"[..],
+        ),
+        (
+            TWO_ROLLS,
+            None,
+            Some(2),
+            b"RUN 1,1 END 1 7\n     1\n\nRUN 1,2 END 1 7\n     2\n\n",
+        ),
+        (TWO_ROLLS, None, Some(4), TWO_ROLLS_TEXT),
+        (TWO_ROLLS, None, Some(1_000_000_000), TWO_ROLLS_TEXT),
+        (
+            ROLL_BEHIND_IF,
+            Some(&[2, 1]),
+            None,
+            b"RUN 2,2 END 4 7\n     2\n\nRUN 2,3 END 4 7\n     3\n\n",
+        ),
+        (ROLL_BEHIND_IF, Some(&[2, 3]), None, b""),
+        (b"", Some(&[]), None, b""),
+        (ONE_ROLL, Some(&[1]), Some(5), b"RUN 2 END 1 7\n     2\n\n"),
+    ];
+    for (program, after, first, text) in table {
+        let asked = Asked {
+            after,
+            first,
+            ..all_of(program)
+        };
+        let (outcome, bytes) = served(rt.alloc(), &asked, 100, usize::MAX)?;
+        assert_eq!(rt; (outcome.status, outcome.note), (0, None), "{asked:?}");
+        assert_eq!(rt; bytes.as_slice(), text, "{asked:?}");
+    }
+    Ok(())
+}
+
+// Answers that are no run are refused, and nothing is written.
+#[test]
+fn runs_behind_no_run(rt: HostRuntime) -> Result<(), Fail> {
+    let table = [
+        (ROLL_BEHIND_IF, &[2][..]),
+        (ROLL_BEHIND_IF, &[2, 4]),
+        (ROLL_BEHIND_IF, &[2, 1, 1]),
+        (ONE_ROLL, &[]),
+        (ONE_ROLL, &[32767]),
+    ];
+    for (program, answers) in table {
+        let asked = Asked {
+            after: Some(answers),
+            ..all_of(program)
+        };
+        let (outcome, bytes) = served(rt.alloc(), &asked, 100, usize::MAX)?;
+        assert_eq!(rt;
+            (outcome.status, outcome.note),
+            (67, Some(Note::NoRun)),
+            "{asked:?}"
+        );
+        assert!(rt; bytes.is_empty());
+    }
+    Ok(())
+}
+
+// What is listed up to a run, and what is listed behind it, is the whole listing.
+#[test]
+fn listings_in_two_parts(rt: HostRuntime) -> Result<(), Fail> {
+    let table = [
+        (all_of(ONE_ROLL), ONE_ROLL_TEXT, &[&[1][..], &[2]][..]),
+        (
+            all_of(ROLL_BEHIND_IF),
+            ROLL_BEHIND_IF_TEXT,
+            &[&[1], &[2, 1], &[2, 2], &[2, 3]],
+        ),
+        (all_of(FAULTY), FAULTY_TEXT, &[&[1], &[2, 1]]),
+        (
+            Asked {
+                input: b")\n5\n",
+                ..all_of(ROLLED_INDEX)
+            },
+            ROLLED_INDEX_TEXT,
+            &[&[1, 1], &[1, 2], &[2, 1], &[2, 2]],
+        ),
+        (
+            Asked {
+                steps: 1,
+                ..all_of(LIMITED)
+            },
+            LIMITED_TEXT,
+            &[&[1], &[2]],
+        ),
+    ];
+    for (asked, text, runs) in table {
+        let mut first: u64 = 0;
+        for answers in runs {
+            first = first.saturating_add(1);
+            let front = Asked {
+                first: Some(first),
+                ..asked
+            };
+            let back = Asked {
+                after: Some(*answers),
+                ..asked
+            };
+            let (_, mut bytes) = served(rt.alloc(), &front, 100, usize::MAX)?;
+            let (_, rest) = served(rt.alloc(), &back, 100, usize::MAX)?;
+            bytes.extend_from_slice(&rest)?;
+            assert_eq!(rt; bytes.as_slice(), text, "{back:?}");
+        }
+    }
+    Ok(())
+}
+
+// What was written of a listing is its beginning, whichever call fails.
+#[test]
+fn listings_that_break_off(rt: HostRuntime) -> Result<(), Fail> {
+    for calls in 0..30 {
+        let (outcome, bytes) = served(rt.alloc(), &all_of(TWO_ROLLS), 5, calls)?;
+        if outcome.note.is_some() {
+            assert_eq!(rt;
+                (outcome.status, outcome.note),
+                (74, Some(Note::Unwritten)),
+                "{calls}"
+            );
+        } else {
+            assert_eq!(rt; bytes.len(), TWO_ROLLS_TEXT.len());
+        }
+        assert!(rt; bytes.len() <= 5 * calls);
+        assert!(rt; TWO_ROLLS_TEXT.starts_with(&bytes), "{calls}");
+    }
+    let (outcome, bytes) = served(rt.alloc(), &all_of(TWO_ROLLS), 5, 2)?;
+    assert_eq!(rt; (outcome.status, outcome.note), (74, Some(Note::Unwritten)));
+    assert!(rt; bytes.len() <= 10);
+    Ok(())
+}
+
+// The input is read before anything is written, whether or not the program asks for it.
+#[test]
+fn unread_inputs(rt: HostRuntime) -> Result<(), Fail> {
+    for program in [ONE_ROLL, b"10 INPUT A"] {
+        let request = request_of(rt.alloc(), &all_of(program))?;
+        let mut text = Device::new(program);
+        let mut input = Device::new(Broken);
+        let mut bytes = Vec::new(rt.alloc());
+        let mut out = Device::new(&mut bytes);
+        let outcome = serve(rt.alloc(), &request, &mut text, &mut input, &mut out);
+        assert_eq!(rt;
+            (outcome.status, outcome.note),
+            (66, Some(Note::InputUnread))
+        );
+        assert!(rt; bytes.is_empty());
+    }
+    Ok(())
+}

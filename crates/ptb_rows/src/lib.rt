@@ -1,0 +1,18 @@
+//! Worked rows of the whole tool: what requests and command lines come to, by the definitions.
+//!
+//! It stands on `ptb_serve`, `ptb_options`, the crates below them and `clap`. No crate stands on
+//! it. Its rows hold of the definitions; its tests run `serve` on them, over readers and writers
+//! that move few bytes, fail, or never end.
+#![tactic(auto)]
+
+mod rows;
+
+pub use rows::{
+    after_rows, all_rows, clash_rows, example_rows, fault_rows, list_rows, listing_rows,
+    long_run_rows, option_rows, program_rows, refusal_rows, run_rows,
+};
+
+#[cfg(test)]
+mod all_tests;
+#[cfg(test)]
+mod tests;

@@ -1,0 +1,77 @@
+// This file states that the worked rows hold of the definitions.
+
+ghost use Rattle.ptb_rows.specs.Rows.{AfterRows, AllRows, ClashRows, ExampleRows, FaultRows};
+ghost use Rattle.ptb_rows.specs.Rows.{ListRows, ListingRows, LongRunRows, OptionRows, ProgramRows};
+ghost use Rattle.ptb_rows.specs.Rows.{RefusalRows, RunRows};
+
+/// Worked rows of plain runs.
+#[tactic(auto, using(crate::proofs::RunRows::run_rows))]
+pub fn run_rows()
+    ensures { RunRows }
+{}
+
+/// Worked rows of programs that run once.
+#[tactic(auto, using(crate::proofs::ProgramRows::program_rows))]
+pub fn program_rows()
+    ensures { ProgramRows }
+{}
+
+/// The examples of the document on the language.
+#[tactic(auto, using(crate::proofs::ExampleRows::example_rows))]
+pub fn example_rows()
+    ensures { ExampleRows }
+{}
+
+/// Worked rows of programs whose runs are long.
+#[tactic(auto, using(crate::proofs::LongRunRows::long_run_rows))]
+pub fn long_run_rows()
+    ensures { LongRunRows }
+{}
+
+/// Worked rows of listings of all runs.
+#[tactic(auto, using(crate::proofs::AllRows::all_rows))]
+pub fn all_rows()
+    ensures { AllRows }
+{}
+
+/// Worked rows of listings that begin behind a run, or end early.
+#[tactic(auto, using(crate::proofs::AfterRows::after_rows))]
+pub fn after_rows()
+    ensures { AfterRows }
+{}
+
+/// Worked rows of programs that are refused.
+#[tactic(auto, using(crate::proofs::TextRows::refusal_rows))]
+pub fn refusal_rows()
+    ensures { RefusalRows }
+{}
+
+/// Worked rows of listings.
+#[tactic(auto, using(crate::proofs::TextRows::listing_rows))]
+pub fn listing_rows()
+    ensures { ListingRows }
+{}
+
+/// Worked rows of options that don't go together.
+#[tactic(auto, using(crate::proofs::CommandLineRows::clash_rows))]
+pub fn clash_rows()
+    ensures { ClashRows }
+{}
+
+/// Worked rows of lists of answers.
+#[tactic(auto, using(crate::proofs::ListRows::list_rows))]
+pub fn list_rows()
+    ensures { ListRows }
+{}
+
+/// Worked rows of what clap finds on the command line.
+#[tactic(auto, using(crate::proofs::CommandLineRows::option_rows))]
+pub fn option_rows()
+    ensures { OptionRows }
+{}
+
+/// Worked rows of words that clap refuses.
+#[tactic(auto, using(crate::proofs::CommandLineRows::fault_rows))]
+pub fn fault_rows()
+    ensures { FaultRows }
+{}

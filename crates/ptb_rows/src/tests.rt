@@ -1,0 +1,632 @@
+// This file tests serving, over readers and writers that move few bytes, fail, or never end.
+
+ghost use Rattle.std.specs.Prelude.{IfOk};
+ghost use Rattle.ptb_text.specs.Statements.{IsMemorySize};
+
+use ptb_options::{DEFAULT_MEMORY, DEFAULT_STEPS, Mode, Request};
+use ptb_serve::{Note, Outcome, serve};
+use ptb_text::{Device, LoadFault};
+use std::alloc::{AllocError, Global};
+use std::io;
+use std::io::ErrorKind;
+use std::test::Fail;
+
+// Gives some bytes a call, and then its end or a fault.
+#[derive(Drop)]
+struct Script<'a> {
+    bytes: &'a [u8],
+    piece: usize,
+    fails: bool,
+}
+
+impl io::Read for Script<'_> {
+    fn read(&mut self, buf: &mut [u8]) -> io::Result<usize> {
+        if self.fails && self.bytes.is_empty() {
+            return Err(io::Error::from(ErrorKind::Other));
+        }
+        let room = self.piece.min(buf.len());
+        self.bytes.read(&mut buf[..room])
+    }
+}
+
+// Gives the byte 65 without end, and counts how often.
+#[derive(Drop)]
+struct Endless {
+    given: usize,
+}
+
+impl io::Read for &mut Endless {
+    fn read(&mut self, buf: &mut [u8]) -> io::Result<usize> {
+        for byte in buf.iter_mut() {
+            *byte = b'A';
+        }
+        self.given = self.given.saturating_add(buf.len());
+        Ok(buf.len())
+    }
+}
+
+// How a writer fails: by an error, by one that says that it was interrupted, or by taking nothing.
+#[derive(Clone, Copy, Debug)]
+enum Failing {
+    Breaks,
+    IsInterrupted,
+    TakesNothing,
+}
+
+// Takes some bytes a call, until it fails at a call.
+#[derive(Drop)]
+struct Sink {
+    taken: Vec<u8>,
+    piece: usize,
+    calls_left: usize,
+    failing: Failing,
+}
+
+impl io::Write for &mut Sink {
+    fn write(&mut self, buf: &[u8]) -> io::Result<usize> {
+        if self.calls_left == 0 {
+            return match self.failing {
+                Failing::Breaks => Err(io::Error::from(ErrorKind::BrokenPipe)),
+                Failing::IsInterrupted => Err(io::Error::from(ErrorKind::Interrupted)),
+                Failing::TakesNothing => Ok(0),
+            };
+        }
+        self.calls_left -= 1;
+        let count = self.piece.min(buf.len());
+        self.taken.extend_from_slice(&buf[..count])?;
+        Ok(count)
+    }
+
+    fn flush(&mut self) -> io::Result<()> {
+        Ok(())
+    }
+}
+
+fn make_sink(alloc: Global, piece: usize, calls_left: usize, failing: Failing) -> Sink {
+    Sink {
+        taken: Vec::new(alloc),
+        piece,
+        calls_left,
+        failing,
+    }
+}
+
+// What a row asks for.
+#[derive(Clone, Copy, Debug)]
+enum Asked<'a> {
+    Run(&'a [i16]),
+    List,
+}
+
+// A request with its program and input, and what is due: the bytes, the status and the note.
+#[derive(Clone, Copy, Debug)]
+struct Row<'a> {
+    asked: Asked<'a>,
+    steps: u32,
+    memory: u16,
+    program: &'a [u8],
+    input: &'a [u8],
+    bytes: &'a [u8],
+    status: u8,
+    note: Option<Note>,
+}
+
+// A run of a request that gives neither steps nor memory, without answers and input lines.
+fn run_row<'a>(program: &'a [u8], bytes: &'a [u8], status: u8) -> Row<'a> {
+    Row {
+        asked: Asked::Run(&[]),
+        steps: DEFAULT_STEPS,
+        memory: DEFAULT_MEMORY,
+        program,
+        input: b"",
+        bytes,
+        status,
+        note: None,
+    }
+}
+
+fn list_row<'a>(program: &'a [u8], bytes: &'a [u8]) -> Row<'a> {
+    Row {
+        asked: Asked::List,
+        ..run_row(program, bytes, 0)
+    }
+}
+
+fn refused_row(program: &[u8], status: u8, note: Note) -> Row<'_> {
+    Row {
+        note: Some(note),
+        ..run_row(program, b"", status)
+    }
+}
+
+fn request_of(alloc: Global, row: &Row<'_>) -> Result<Request, AllocError>
+    ensures { IfOk result (λ r. IsMemorySize r.memory) }
+{
+    let mode = match row.asked {
+        Asked::Run(answers) => Mode::Plain(Vec::from_slice(alloc, answers)?.into()),
+        Asked::List => Mode::List,
+    };
+    Ok(Request {
+        steps: row.steps,
+        memory: row.memory.clamp(64, 32767),
+        mode,
+    })
+}
+
+// Serves a row whose readers give some bytes a call, and whose writer takes as many.
+fn served(alloc: Global, row: &Row<'_>, piece: usize) -> Result<(Outcome, Vec<u8>), AllocError> {
+    let request = request_of(alloc, row)?;
+    let mut program = Device::new(Script {
+        bytes: row.program,
+        piece,
+        fails: false,
+    });
+    let mut input = Device::new(Script {
+        bytes: row.input,
+        piece,
+        fails: false,
+    });
+    let mut sink = make_sink(alloc, piece, usize::MAX, Failing::Breaks);
+    let mut out = Device::new(&mut sink);
+    let outcome = serve(alloc, &request, &mut program, &mut input, &mut out);
+    Ok((outcome, sink.taken))
+}
+
+// Each row is served as it is due, however the bytes are cut; or memory was refused.
+fn mistake<'a>(alloc: Global, rows: &[Row<'a>]) -> Result<Option<Row<'a>>, AllocError> {
+    for row in rows {
+        for piece in [1, 5, 100_000] {
+            let (outcome, bytes) = served(alloc, row, piece)?;
+            if outcome.note == Some(Note::OutOfMemory) {
+                return Err(AllocError);
+            }
+            let due = Outcome {
+                status: row.status,
+                note: row.note,
+            };
+            if outcome != due || bytes.as_slice() != row.bytes {
+                return Ok(Some(*row));
+            }
+        }
+    }
+    Ok(None)
+}
+
+#[test]
+fn listings(rt: HostRuntime) -> Result<(), Fail> {
+    let four = b"10 P.1\n20 P.2\n010\tP.3\r\n20";
+    let rows = [
+        list_row(four, b"10 P.3\n"),
+        list_row(b"", b""),
+        list_row(b"20 P.2\n5 P.1\n", b"5 P.1\n20 P.2\n"),
+        list_row(b"20 P.2\n5 P.1", b"5 P.1\n20 P.2\n"),
+        list_row(b"10P.\t1 \r\n\r\n   ", b"10 P. 1 \n"),
+        list_row(b"32767 NONSENSE", b"32767 NONSENSE\n"),
+        Row {
+            steps: 1,
+            memory: 64,
+            ..list_row(
+                b"1 GOTO 1\n2 GOTO 1\n3 GOTO 1\n4 GOTO 1\n",
+                b"1 GOTO 1\n2 GOTO 1\n3 GOTO 1\n4 GOTO 1\n",
+            )
+        },
+        Row {
+            input: b"5\n7\n",
+            ..list_row(b"10 INPUT A", b"10 INPUT A\n")
+        },
+    ];
+    assert!(rt; mistake(rt.alloc(), &rows)?.is_none());
+    Ok(())
+}
+
+#[test]
+fn refused_programs(rt: HostRuntime) -> Result<(), Fail> {
+    let eleven = b"1 P.1\n2 P.1\n3 P.1\n4 P.1\n5 P.1\n6 P.1\n7 P.1\n8 P.1\n9 P.1\n10 P.1\n11 P.1\n";
+    let big = Note::Load(1, LoadFault::NumberTooBig);
+    let rows = [
+        refused_row(b"32768 P.1", 65, big),
+        refused_row(b"0 P.", 65, Note::Load(1, LoadFault::NoNumber)),
+        refused_row(b"P.1", 65, Note::Load(1, LoadFault::NoNumber)),
+        refused_row(b"10 P.\x7f", 65, Note::Load(1, LoadFault::BadByte(6))),
+        refused_row(
+            b"10 P.1\n\n\nP.2\n0",
+            65,
+            Note::Load(4, LoadFault::NoNumber),
+        ),
+        Row {
+            memory: 64,
+            ..refused_row(eleven, 65, Note::Load(11, LoadFault::Full))
+        },
+    ];
+    for row in rows {
+        for asked in [Asked::Run(&[]), Asked::List] {
+            let row = Row { asked, ..row };
+            assert!(rt; mistake(rt.alloc(), &[row])?.is_none(), "{row:?}");
+        }
+    }
+    Ok(())
+}
+
+#[test]
+fn refused_long_programs(rt: HostRuntime) -> Result<(), Fail> {
+    let rows = [
+        (
+            &b""[..],
+            b'9',
+            200,
+            &b" P."[..],
+            Note::Load(1, LoadFault::NumberTooBig),
+        ),
+        (
+            b"10 A=",
+            b'9',
+            254,
+            b"",
+            Note::Load(1, LoadFault::TextTooLong),
+        ),
+        (
+            b"",
+            b'\n',
+            1_048_577,
+            b"",
+            Note::Load(0, LoadFault::TooLong),
+        ),
+    ];
+    for (before, byte, count, behind, note) in rows {
+        let mut text = Vec::from_slice(rt.alloc(), before)?;
+        for _ in 0..count {
+            text.push(byte)?;
+        }
+        text.extend_from_slice(behind)?;
+        for asked in [Asked::Run(&[]), Asked::List] {
+            let row = Row {
+                asked,
+                ..refused_row(&text, 65, note)
+            };
+            let (outcome, bytes) = served(rt.alloc(), &row, 4000)?;
+            assert_eq!(rt; (outcome.status, outcome.note), (65, Some(note)));
+            assert!(rt; bytes.is_empty());
+        }
+    }
+    Ok(())
+}
+
+// A reader of the program that fails, at once or behind its first bytes.
+#[test]
+fn unread_programs(rt: HostRuntime) -> Result<(), Fail> {
+    for asked in [Asked::Run(&[]), Asked::List] {
+        for bytes in [&b""[..], b"10 P.", b"10 P.1\n"] {
+            let row = Row {
+                asked,
+                ..run_row(bytes, b"", 66)
+            };
+            let request = request_of(rt.alloc(), &row)?;
+            let mut program = Device::new(Script {
+                bytes,
+                piece: 1,
+                fails: true,
+            });
+            let mut input = Device::new(&b""[..]);
+            let mut sink = make_sink(rt.alloc(), 1, usize::MAX, Failing::Breaks);
+            let mut out = Device::new(&mut sink);
+            let outcome = serve(rt.alloc(), &request, &mut program, &mut input, &mut out);
+            let note = Some(Note::ProgramUnread);
+            assert_eq!(rt; (outcome.status, outcome.note), (66, note));
+            assert!(rt; sink.taken.is_empty());
+        }
+    }
+    Ok(())
+}
+
+#[test]
+fn endless_programs(rt: HostRuntime) -> Result<(), Fail> {
+    for asked in [Asked::Run(&[]), Asked::List] {
+        let row = Row {
+            asked,
+            ..run_row(b"", b"", 65)
+        };
+        let request = request_of(rt.alloc(), &row)?;
+        let mut endless = Endless { given: 0 };
+        let mut program = Device::new(&mut endless);
+        let mut input = Device::new(&b""[..]);
+        let mut sink = make_sink(rt.alloc(), 1, usize::MAX, Failing::Breaks);
+        let mut out = Device::new(&mut sink);
+        let outcome = serve(rt.alloc(), &request, &mut program, &mut input, &mut out);
+        let note = Some(Note::Load(0, LoadFault::TooLong));
+        assert_eq!(rt; (outcome.status, outcome.note), (65, note));
+        assert!(rt; endless.given <= 1_048_577);
+        assert!(rt; sink.taken.is_empty());
+    }
+    Ok(())
+}
+
+// A listing leaves its input alone.
+#[test]
+fn inputs_left_alone(rt: HostRuntime) -> Result<(), Fail> {
+    let row = list_row(b"10 INPUT A\n", b"10 INPUT A\n");
+    let request = request_of(rt.alloc(), &row)?;
+    let mut program = Device::new(row.program);
+    let mut endless = Endless { given: 0 };
+    let mut input = Device::new(&mut endless);
+    let mut sink = make_sink(rt.alloc(), 3, usize::MAX, Failing::Breaks);
+    let mut out = Device::new(&mut sink);
+    let outcome = serve(rt.alloc(), &request, &mut program, &mut input, &mut out);
+    assert_eq!(rt; (outcome.status, outcome.note), (0, None));
+    assert_eq!(rt; endless.given, 0);
+    assert_eq!(rt; sink.taken.as_slice(), row.bytes);
+    Ok(())
+}
+
+// What was written of a listing of 16 bytes is its beginning, whichever call fails.
+#[test]
+fn listings_that_cannot_be_written(rt: HostRuntime) -> Result<(), Fail> {
+    let listing = b"10 P.12\n20 P.34\n";
+    let row = list_row(b"20 P.34\n10 P.12\n", listing);
+    for failing in [
+        Failing::Breaks,
+        Failing::IsInterrupted,
+        Failing::TakesNothing,
+    ] {
+        for calls in 0..=8 {
+            let request = request_of(rt.alloc(), &row)?;
+            let mut program = Device::new(row.program);
+            let mut input = Device::new(row.input);
+            let mut sink = make_sink(rt.alloc(), 2, calls, failing);
+            let mut out = Device::new(&mut sink);
+            let outcome = serve(rt.alloc(), &request, &mut program, &mut input, &mut out);
+            let note = if calls == 8 {
+                None
+            } else {
+                Some(Note::Unwritten)
+            };
+            let status = if calls == 8 { 0 } else { 74 };
+            assert_eq!(rt;
+                (outcome.status, outcome.note),
+                (status, note),
+                "{failing:?} {calls}"
+            );
+            assert_eq!(rt;
+                sink.taken.as_slice(),
+                &listing[..2 * calls],
+                "{failing:?} {calls}"
+            );
+        }
+    }
+    Ok(())
+}
+
+fn answered_row<'a>(answers: &'a [i16], program: &'a [u8], bytes: &'a [u8], status: u8) -> Row<'a> {
+    Row {
+        asked: Asked::Run(answers),
+        ..run_row(program, bytes, status)
+    }
+}
+
+fn input_row<'a>(program: &'a [u8], input: &'a [u8], bytes: &'a [u8], status: u8) -> Row<'a> {
+    Row {
+        input,
+        ..run_row(program, bytes, status)
+    }
+}
+
+fn limited_row<'a>(steps: u32, program: &'a [u8], bytes: &'a [u8], status: u8) -> Row<'a> {
+    Row {
+        steps,
+        ..run_row(program, bytes, status)
+    }
+}
+
+fn memory_row<'a>(memory: u16, program: &'a [u8], bytes: &'a [u8], status: u8) -> Row<'a> {
+    Row {
+        memory,
+        ..run_row(program, bytes, status)
+    }
+}
+
+#[test]
+fn runs_without_input(rt: HostRuntime) -> Result<(), Fail> {
+    let rows = [
+        run_row(b"", b"", 0),
+        run_row(b"10 PRINT \"HI\"\n", b"HI\n", 0),
+        run_row(b"20 P.\"B\"\n10 P.'A',;P.\n", b"A\nB\n", 0),
+        run_row(b"10 P.\"A\";P.1", b"A\n     1\n", 0),
+        answered_row(&[2], b"10 P.RND(2)", b"     2\n", 0),
+        answered_row(&[1, 9], b"10 P.RND(2)", b"     1\n", 0),
+        answered_row(&[], b"10 P.RND(2)", b"", 6),
+        answered_row(&[3], b"10 P.RND(2)", b"", 7),
+        limited_row(5, b"10 GOTO 10", b"", 4),
+        run_row(b"10 PRINT -32767-1", b"-32768\n", 0),
+        run_row(b"10 PRINT -(-32767-1)", b"HOW?\n10 PRINT -(-32767-1)?\n", 2),
+        limited_row(5, b"10 F.I=1TO3S.2;P.I,;N.I", b"     1     3", 0),
+        limited_row(4, b"10 F.I=1TO3S.2;P.I,;N.I", b"     1     3", 4),
+        run_row(b"10 PRINT 'ABC',_,\"X\",#3,7", b"ABC\rX  7\n", 0),
+        limited_row(65, b"10 GOSUB 10", b"SORRY\n10 GOSUB 10?\n", 3),
+        limited_row(64, b"10 GOSUB 10", b"", 4),
+        run_row(
+            b"300 B=200,C=200\n310 LET A=B*C+2",
+            b"HOW?\n310 LET A=B*C?+2\n",
+            2,
+        ),
+        memory_row(64, b"10 @(27)=1", b"", 0),
+        memory_row(64, b"10 @(28)=1", b"SORRY\n10 @(28)?=1\n", 3),
+        run_row(b"10 PRINT SIZE", b"  4083\n", 0),
+        run_row(
+            b"10 GOS.30;N.J\n30 F.J=1TO9;R.",
+            b"WHAT?\n10 GOS.30;N.J?\n",
+            1,
+        ),
+        run_row(b"10 A=3,@(A)=A+1;P.@(3)", b"     4\n", 0),
+        run_row(b"10 F.I=1TO1;GOS.10", b"SORRY\n10 F.I=1TO1?;GOS.10\n", 3),
+    ];
+    let found = mistake(rt.alloc(), &rows)?;
+    assert!(rt; found.is_none(), "{found:?}");
+    Ok(())
+}
+
+#[test]
+fn runs_of_each_command(rt: HostRuntime) -> Result<(), Fail> {
+    let rows = [
+        run_row(b"210 PTINT \"THIS\"", b"WHAT?\n210 P?TINT \"THIS\"\n", 1),
+        run_row(
+            b"260 LET A=B+3, C=(3+4, X=4",
+            b"WHAT?\n260 LET A=B+3, C=(3+4?, X=4\n",
+            1,
+        ),
+        run_row(b"380 GOTO 412", b"HOW?\n380 GOTO 412?\n", 2),
+        run_row(b"10 PRINT 2*-3", b"WHAT?\n10 PRINT 2*?-3\n", 1),
+        run_row(b"10 PRINT 1<2<3", b"     1\nWHAT?\n10 PRINT 1<2?<3\n", 1),
+        run_row(b"10 P.32768", b"HOW?\n10 P.32768?\n", 2),
+        run_row(b"10 P.\"A\",'B", b"A\nWHAT?\n10 P.\"A\",?'B\n", 1),
+        run_row(
+            b"10 P.#2,-123,#256,1",
+            b"-123\nHOW?\n10 P.#2,-123,#256?,1\n",
+            2,
+        ),
+        limited_row(3, b"10 F.I=5TO1;P.I;N.I", b"     5\n", 0),
+        limited_row(4, b"10 F.I=32766TO32767;N.I;P.I", b" 32767\n", 0),
+        run_row(b"10 RETURN", b"WHAT?\n10 RETURN?\n", 1),
+        run_row(b"10 GOTO 10;P.1", b"WHAT?\n10 GOTO 10?;P.1\n", 1),
+        limited_row(
+            5,
+            b"10 GOSUB 40;P.1\n20 STOP\n40 P.2;RETURN",
+            b"     2\n     1\n",
+            0,
+        ),
+        limited_row(2, b"10 IF 0 NONSENSE\n20 P.2/3;", b"     0\n", 0),
+        run_row(b"10 A=1/0", b"HOW?\n10 A=1/0?\n", 2),
+        run_row(b"10 A=B=0;P.A", b"     1\n", 0),
+        limited_row(2, b"10 REM;P.1\n20 PRINT", b"\n", 0),
+        run_row(b"10 .1", b"WHAT?\n10 ?.1\n", 1),
+        run_row(b"10 P", b"WHAT?\n10 P?\n", 1),
+        run_row(b"10 PRINT.", b"WHAT?\n10 PRINT?.\n", 1),
+        run_row(b"10 I.1P.2", b"     2\n", 0),
+        run_row(b"10 P.S.", b"  4089\n", 0),
+        run_row(b"10 INPUT \"N", b"WHAT?\n10 INPUT ?\"N\n", 1),
+        run_row(b"10 P.1;;P.2", b"     1\nWHAT?\n10 P.1;?;P.2\n", 1),
+        memory_row(32767, b"10 @(16371)=1;P.@(16371)", b"     1\n", 0),
+        memory_row(
+            32767,
+            b"10 @(16372)=1;P.@(16372)",
+            b"SORRY\n10 @(16372)?=1;P.@(16372)\n",
+            3,
+        ),
+        run_row(b"10 @(32767)=1", b"SORRY\n10 @(32767)?=1\n", 3),
+    ];
+    let found = mistake(rt.alloc(), &rows)?;
+    assert!(rt; found.is_none(), "{found:?}");
+    Ok(())
+}
+
+#[test]
+fn runs_with_input(rt: HostRuntime) -> Result<(), Fail> {
+    let rows = [
+        Row {
+            asked: Asked::Run(&[1]),
+            ..input_row(b"10 INPUT A;PRINT A", b"RND(2)\n", b"A:RND(2)\n     1\n", 0)
+        },
+        input_row(b"10 INPUT A", b")\n5\n", b"A:)\nWHAT?\nA:5\n", 0),
+        input_row(b"10 INPUT A", b")\n5", b"A:)\nWHAT?\nA:5\n", 0),
+        input_row(b"10 INPUT A", b")\n", b"A:)\nWHAT?\nA:", 5),
+        input_row(b"10 INPUT A", b"", b"A:", 5),
+        Row {
+            asked: Asked::Run(&[1, 1]),
+            ..input_row(
+                b"10 INPUT @(RND(2))",
+                b")\n5\n",
+                b"@(RND(2)):)\nWHAT?\n@(RND(2)):5\n",
+                0,
+            )
+        },
+        input_row(b"10 INPUT \"N\"A,'!'", b"2+3 X\n", b"N:2+3 X\n!", 0),
+        input_row(
+            b"10 INPUT A;P.A",
+            b"\t7\x01\x7f1\r\n",
+            b"A: 71\n    71\n",
+            0,
+        ),
+    ];
+    let found = mistake(rt.alloc(), &rows)?;
+    assert!(rt; found.is_none(), "{found:?}");
+    Ok(())
+}
+
+// The whole input is read before anything is shown.
+#[test]
+fn unread_inputs(rt: HostRuntime) -> Result<(), Fail> {
+    for bytes in [&b""[..], b"5", b"5\n"] {
+        let row = run_row(b"10 PRINT \"HI\"\n", b"", 66);
+        let request = request_of(rt.alloc(), &row)?;
+        let mut program = Device::new(row.program);
+        let mut input = Device::new(Script {
+            bytes,
+            piece: 1,
+            fails: true,
+        });
+        let mut sink = make_sink(rt.alloc(), 1, usize::MAX, Failing::Breaks);
+        let mut out = Device::new(&mut sink);
+        let outcome = serve(rt.alloc(), &request, &mut program, &mut input, &mut out);
+        assert_eq!(rt;
+            (outcome.status, outcome.note),
+            (66, Some(Note::InputUnread))
+        );
+        assert!(rt; sink.taken.is_empty());
+    }
+    Ok(())
+}
+
+#[test]
+fn endless_inputs(rt: HostRuntime) -> Result<(), Fail> {
+    let row = run_row(b"10 INPUT A\n", b"", 66);
+    let request = request_of(rt.alloc(), &row)?;
+    let mut program = Device::new(row.program);
+    let mut endless = Endless { given: 0 };
+    let mut input = Device::new(&mut endless);
+    let mut sink = make_sink(rt.alloc(), 1, usize::MAX, Failing::Breaks);
+    let mut out = Device::new(&mut sink);
+    let outcome = serve(rt.alloc(), &request, &mut program, &mut input, &mut out);
+    assert_eq!(rt;
+        (outcome.status, outcome.note),
+        (66, Some(Note::InputUnread))
+    );
+    assert!(rt; endless.given <= 16_777_217);
+    assert!(rt; sink.taken.is_empty());
+    Ok(())
+}
+
+// What was written of a transcript is its beginning, whichever call fails.
+#[test]
+fn runs_that_cannot_be_written(rt: HostRuntime) -> Result<(), Fail> {
+    let transcript = b"A:)\nWHAT?\nA:5\n";
+    let row = input_row(b"10 INPUT A", b")\n5\n", transcript, 0);
+    for failing in [
+        Failing::Breaks,
+        Failing::IsInterrupted,
+        Failing::TakesNothing,
+    ] {
+        for calls in 0..=14 {
+            let request = request_of(rt.alloc(), &row)?;
+            let mut program = Device::new(row.program);
+            let mut input = Device::new(row.input);
+            let mut sink = make_sink(rt.alloc(), 1, calls, failing);
+            let mut out = Device::new(&mut sink);
+            let outcome = serve(rt.alloc(), &request, &mut program, &mut input, &mut out);
+            let note = if calls == 14 {
+                None
+            } else {
+                Some(Note::Unwritten)
+            };
+            let status = if calls == 14 { 0 } else { 74 };
+            assert_eq!(rt;
+                (outcome.status, outcome.note),
+                (status, note),
+                "{failing:?} {calls}"
+            );
+            assert_eq!(rt;
+                sink.taken.as_slice(),
+                &transcript[..calls],
+                "{failing:?} {calls}"
+            );
+        }
+    }
+    Ok(())
+}

@@ -1,0 +1,5 @@
+-- This file names the files of lemmas.
+pub mod Replying
+pub mod Served
+pub mod Playing
+pub mod Listed

@@ -1,0 +1,150 @@
+-- This file proves how a listing of all runs is served, from where it began and what was written.
+use Rattle.std.proofs.Common.{◌≡◌, ℕ, ◌⊎◌, inl, inr, Bool, true, false, List, ◌∷◌, ◌++◌, Option, Result, Ok, Err, refl, ap, sym, ◌∙◌, subst, append_assoc, IsErrOf}
+use Rattle.std.specs.Io.KnownBytes.{Appends}
+use Rattle.std.proofs.lemmas.List.Concat.{flat_map-append}
+use Rattle.ptb_text.specs.Device.{TakesSome}
+use Rattle.ptb_text.specs.Lines.{input_lines}
+use Rattle.ptb_text.specs.Statements.{StoredProgram}
+use Rattle.ptb_expr.specs.Outcome.{Answers, Outcome}
+use Rattle.ptb_devices.specs.declared.fault.ReadFault.{ReadFault}
+use Rattle.ptb_devices.specs.declared.fault.ReadFault.TheVariants as reads
+use Rattle.ptb_command.specs.Effects.{Begins}
+use Rattle.ptb_machine.specs.Play.{Finish, play}
+use Rattle.ptb_machine.specs.Questions.{most_answers}
+use Rattle.ptb_explore.specs.declared.fault.ExploreFault.{ExploreFault}
+use Rattle.ptb_explore.specs.declared.fault.ExploreFault.TheVariants as explores
+use Rattle.ptb_explore.specs.Exploring.{Exploration, play_of, most_of}
+use Rattle.ptb_explore.specs.Listing.{text, WritesRuns}
+use Rattle.ptb_explore.specs.Report.{report}
+use Rattle.ptb_explore.specs.RunTree.{Front, runs_left}
+use Rattle.ptb_serve.specs.declared.note.Note.{Note}
+use Rattle.ptb_serve.specs.declared.note.Note.TheVariants as notes
+use Rattle.ptb_serve.specs.Replies.{Reply, refusal, success, first_front, is_front, listed_runs, runs_reply, all_reply}
+use Rattle.ptb_serve.specs.Serving.{outcome_of, input_note, reports_note, Serves}
+use Rattle.ptb_serve.proofs.Playing.{takes_beginning}
+use Rattle.ptb_serve.proofs.Served.{takes_nothing, replies_refusal}
+
+-- ---- nothing was written but the front of what is due
+
+module _ (report : Answers → List ℕ) where
+  text-beginning : (list done rest : List Answers) → list ≡ done ++ rest → Begins (text report done) (text report list)
+  text-beginning list done rest e = (text report rest, ap (text report) e ∙ flat_map-append report done rest)
+
+  text-into : (list done : List Answers) (at : Answers) (rest : List Answers) (part unwritten : List ℕ)
+      → list ≡ done ++ at ∷ rest → report at ≡ part ++ unwritten → Begins (text report done ++ part) (text report list)
+  text-into list done at rest part unwritten e cut =
+      let next : text report (at ∷ rest) ≡ part ++ (unwritten ++ text report rest) =
+      ap (λ r. r ++ text report rest) cut ∙ append_assoc part unwritten (text report rest) in (
+        unwritten ++ text report rest,
+        ap (text report) e ∙ flat_map-append report done (at ∷ rest) ∙ ap (λ x. text report done ++ x) next
+            ∙ sym (append_assoc (text report done) part (unwritten ++ text report rest)),
+      )
+
+-- ---- the notes
+
+-- of an input that isn't read, where a listing was to begin isn't told
+pub input_note-start : (fault : ReadFault) → IsErrOf {T = ℕ} (Err (input_note fault)) notes.NoRun → ⊥
+input_note-start reads.Read h = absurd cc
+input_note-start reads.TooLong h = absurd cc
+input_note-start reads.Memory h = absurd cc
+
+-- the note tells the fault that came
+pub input_note-read : {T : Type 0} (fault : ReadFault) → (IsErrOf {T = ℕ} (Err (input_note fault)) notes.InputUnread → ⊥)
+    → IsErrOf {T = T} (Err fault) reads.Read → ⊥
+input_note-read reads.Read h e = h refl
+input_note-read reads.TooLong h e = absurd cc
+input_note-read reads.Memory h e = absurd cc
+
+pub reports_note-write : {T : Type 0} (fault : ExploreFault) → (IsErrOf {T = ℕ} (Err (reports_note fault)) notes.Unwritten → ⊥)
+    → (n : ℕ) → IsErrOf {T = T} (Err fault) (explores.Write n) → ⊥
+reports_note-write (explores.Memory m) h n e = absurd cc
+reports_note-write (explores.Write m) h n e = h refl
+
+-- ---- the replies
+
+-- the reply of a program, by the bytes of its input
+abbrev pub runs_due : ℕ → Option Answers → Option ℕ → List ℕ → StoredProgram → Reply
+runs_due limit after first c p = all_reply p (input_lines c) limit after first
+
+module _ (p : StoredProgram) (limit : ℕ) (after : Option Answers) (first : Option ℕ) where
+  abbrev game : List (List ℕ) → Answers → Outcome Finish (List ℕ)
+  game input = play p input limit
+
+  abbrev reply : List (List ℕ) → Reply
+  reply input = all_reply p input limit after first
+
+  abbrev due : List (List ℕ) → List ℕ
+  due input = listed_runs (game input) (most_answers p input limit) after first
+
+  reply-listed : (input : List (List ℕ)) → is_front (game input) after ≡ true → reply input ≡ success (due input)
+  unfolding runs_reply
+  reply-listed input h = ap (λ (t : Bool). elim t [ true ↦ success (due input) | false ↦ refusal notes.NoRun ]) h
+
+  reply-refused : (input : List (List ℕ)) → is_front (game input) after ≡ false → reply input ≡ refusal notes.NoRun
+  unfolding runs_reply
+  reply-refused input h = ap (λ (t : Bool). elim t [ true ↦ success (due input) | false ↦ refusal notes.NoRun ]) h
+
+  -- ---- how it is served, where nothing was written
+
+  module _ (held : Option (List ℕ)) where
+    serves_unread : (input : List (List ℕ)) (fault : ReadFault) → Serves (reply input) held held (outcome_of (Err (input_note fault)))
+    serves_unread input reads.Read = takes_nothing held _
+    serves_unread input reads.TooLong = takes_nothing held _
+    serves_unread input reads.Memory = takes_nothing held _
+
+    serves_unbegun : (input : List (List ℕ)) (note : Note) → (note ≡ notes.NoRun) ⊎ (note ≡ notes.OutOfMemory)
+        → (note ≡ notes.NoRun → is_front (game input) after ≡ false) → Serves (reply input) held held (outcome_of (Err note))
+    serves_unbegun input note (inl e) h =
+        subst (λ m. Serves (reply input) held held (outcome_of (Err m))) (sym e)
+        (subst (λ r. Serves r held held (outcome_of (Err notes.NoRun))) (sym (reply-refused input (h e))) (replies_refusal held notes.NoRun))
+    serves_unbegun input note (inr e) h =
+        subst (λ m. Serves (reply input) held held (outcome_of (Err m))) (sym e) (takes_nothing held _)
+
+    -- by the bytes of the input, of which the lines are those that were read
+    module _ (c : List ℕ) where
+      pub serves_input : (fault : ReadFault) → Serves (runs_due limit after first c p) held held (outcome_of (Err (input_note fault)))
+      serves_input fault = serves_unread (input_lines c) fault
+
+      pub serves_front : (input : List (List ℕ)) → input ≡ input_lines c → (note : Note) → (note ≡ notes.NoRun) ⊎ (note ≡ notes.OutOfMemory)
+          → (note ≡ notes.NoRun → is_front (game input) after ≡ false) → Serves (runs_due limit after first c p) held held (outcome_of (Err note))
+      serves_front input is note one h = subst (λ i. Serves (reply i) held held (outcome_of (Err note))) is (serves_unbegun input note one h)
+
+  -- ---- how it is served, where reports were written
+
+  module _ (old new : Option (List ℕ)) where
+    takes_due : (input : List (List ℕ)) (written : List ℕ) → is_front (game input) after ≡ true → Appends old new written → Begins written (due input)
+        → TakesSome old new (reply input).bytes
+    takes_due input written h w begins =
+        subst (λ r. TakesSome old new r.bytes) (sym (reply-listed input h)) (takes_beginning old new written (due input) w begins)
+
+    abbrev Writes : List (List ℕ) → Front → Result ℕ ExploreFault → Type 0
+    Writes input f result =
+        WritesRuns (game input) (report (game input)) (runs_left (game input) (most_answers p input limit) (first_front after) first) (first_front after) f old new result
+
+    serves_written : (input : List (List ℕ)) (f : Front) (n : ℕ) → is_front (game input) after ≡ true → Writes input f (Ok n)
+        → Serves (reply input) old new (outcome_of (Ok 0))
+    serves_written input f n h w =
+        subst (λ r. Serves r old new (outcome_of (Ok 0))) (sym (reply-listed input h)) (record { bytes = w.bytes; status = refl; note = refl })
+
+    serves_cut : (input : List (List ℕ)) (f : Front) (fault : ExploreFault) → is_front (game input) after ≡ true → Writes input f (Err fault)
+        → Serves (reply input) old new (outcome_of (Err (reports_note fault)))
+    serves_cut input f (explores.Memory n) h w =
+        takes_due input _ h w.bytes (text-beginning (report (game input)) _ w.beginning w.rest w.split)
+    serves_cut input f (explores.Write n) h w =
+        takes_due input _ h w.bytes (text-into (report (game input)) _ w.beginning w.at w.rest w.part w.remainder w.split w.cut)
+
+    -- by the bytes of the input, of which the lines are those that were read, and an explorer that went on from its front
+    module _ (c : List ℕ) (input : List (List ℕ)) (is : input ≡ input_lines c) (e : Exploration) (f : Front)
+        (same : e ≡ record { program = p; input = input; limit = limit; front = first_front after }) (h : is_front (game input) after ≡ true) where
+      abbrev WritesFrom : Exploration → Result ℕ ExploreFault → Type 0
+      WritesFrom e result = WritesRuns (play_of e) (report (play_of e)) (runs_left (play_of e) (most_of e) e.front first) e.front f old new result
+
+      written_from : (result : Result ℕ ExploreFault) → WritesFrom e result → Writes input f result
+      written_from result w = subst (λ x. WritesFrom x result) same w
+
+      pub serves_reports : (n : ℕ) → WritesFrom e (Ok n) → Serves (runs_due limit after first c p) old new (outcome_of (Ok 0))
+      serves_reports n w = subst (λ i. Serves (reply i) old new (outcome_of (Ok 0))) is (serves_written input f n h (written_from (Ok n) w))
+
+      pub serves_some : (fault : ExploreFault) → WritesFrom e (Err fault) → Serves (runs_due limit after first c p) old new (outcome_of (Err (reports_note fault)))
+      serves_some fault w =
+          subst (λ i. Serves (reply i) old new (outcome_of (Err (reports_note fault)))) is (serves_cut input f fault h (written_from (Err fault) w))

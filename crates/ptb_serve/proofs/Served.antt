@@ -1,0 +1,246 @@
+-- This file proves how a request is served, from how its program was loaded and what was written.
+use Rattle.std.proofs.Common.{◌≡◌, ℕ, ◌<◌, ◌≤◌, true, false, nat_lt, List, [], length, Option, Some, None, Result, Ok, Err, IfSome, IfErr, OnOk, refl, ap, ◌∙◌, sym, arith, IsErrOf, ℤ, subst}
+use Rattle.std.specs.Io.KnownBytes.{Appends, Consumes}
+use Rattle.std.proofs.KnownBytes.{Appends-nil, Consumes-nil}
+use Rattle.ptb_text.specs.declared.fault.LoadFault.{LoadFault}
+use Rattle.ptb_text.specs.declared.fault.LoadFault.TheVariants as loads
+use Rattle.ptb_text.specs.Device.{TakesSome}
+use Rattle.ptb_text.specs.Entry.{IsLineFault}
+use Rattle.ptb_text.specs.Loading.{IsLoaded, IsRefusedAt}
+use Rattle.ptb_text.specs.Statements.{Statements, StoredProgram, program_limit}
+use Rattle.ptb_text.specs.Lines.{input_lines}
+use Rattle.ptb_command.specs.declared.ending.Ending.{Ending}
+use Rattle.ptb_command.specs.declared.ending.Ending.TheVariants as endings
+use Rattle.ptb_machine.specs.declared.fault.RunFault.{RunFault}
+use Rattle.ptb_machine.specs.declared.fault.RunFault.TheVariants as faults
+use Rattle.ptb_machine.specs.Play.{plain, status}
+use Rattle.ptb_devices.specs.Sources.{ConsumesAtMost}
+use Rattle.ptb_serve.specs.declared.note.Note.{Note}
+use Rattle.ptb_serve.specs.declared.note.Note.TheVariants as notes
+use Rattle.ptb_serve.specs.PlainRuns.{ShowsRun}
+use Rattle.ptb_serve.specs.Replies.{Reply, refusal, plain_reply, program_of_text, reply_or_refusal, program_reply}
+use Rattle.ptb_serve.specs.Serving.{outcome_of, load_note, IsRunNote, Replies, Serves}
+
+-- ---- the program of a text
+
+pub program_of_text-ok : (memory : ℕ) (b : List ℕ) (p : Statements) → IsLoaded memory b p → program_of_text memory b ≡ Ok p
+unfolding program_of_text
+program_of_text-ok memory b p h =
+    let short : nat_lt program_limit (length b) ≡ false = grind arith in
+    rw (short, program_of_text) h.1
+
+pub program_of_text-refused : (memory : ℕ) (b : List ℕ) (e : ℕ × LoadFault) → IsRefusedAt memory b e → program_of_text memory b ≡ Err e
+unfolding program_of_text
+program_of_text-refused memory b e h =
+    let short : nat_lt program_limit (length b) ≡ false = grind arith in
+    rw (short, program_of_text) h.1
+
+pub program_of_text-too_long : (memory : ℕ) (b : List ℕ) → program_limit < length b → program_of_text memory b ≡ Err (0, loads.TooLong)
+unfolding program_of_text
+program_of_text-too_long memory b h =
+    let long : nat_lt program_limit (length b) ≡ true = grind arith in
+    rw (long, program_of_text) refl
+
+-- ---- what a device gave
+
+-- nothing is taken from a device that isn't read
+pub consumes_nothing : (held : Option (List ℕ)) (n : ℕ) → ConsumesAtMost held held n
+consumes_nothing held n = ([], omega arith, Consumes-nil held)
+
+pub consumes_some : (old new : Option (List ℕ)) (n : ℕ) → (bytes : List ℕ) × Consumes old new bytes × (length bytes ≤ n) → ConsumesAtMost old new n
+consumes_some old new n h = (h.0, h.2, h.1)
+
+-- ---- a program that is refused
+
+pub takes_nothing : (held : Option (List ℕ)) (bytes : List ℕ) → TakesSome held held bytes
+takes_nothing held bytes = (0, omega arith, Appends-nil held)
+
+pub replies_refusal : (held : Option (List ℕ)) (note : Note) → Replies (refusal note) held held (outcome_of (Err note))
+replies_refusal held note = record { bytes = Appends-nil held; status = refl; note = refl }
+
+-- what a fault of a line says of known bytes, and what a text that is too long does
+module _ (memory : ℕ) (next : StoredProgram → Reply) (held : Option (List ℕ)) (line : ℕ) where
+  refused_line : (b : List ℕ) (fault : LoadFault) → IsRefusedAt memory b (line, fault)
+      → Replies (program_reply memory b next) held held (outcome_of (Err (notes.Load line fault)))
+  refused_line b fault h = rw (program_of_text-refused memory b (line, fault) h) (replies_refusal held (notes.Load line fault))
+
+  refused_text : (b : List ℕ) → line ≡ 0 → program_limit < length b
+      → Replies (program_reply memory b next) held held (outcome_of (Err (notes.Load line loads.TooLong)))
+  refused_text b e h = rw (program_of_text-too_long memory b h, e) (replies_refusal held (notes.Load 0 loads.TooLong))
+
+  unloaded_fault : (b : List ℕ) (fault : LoadFault) → (IsLineFault fault → IsRefusedAt memory b (line, fault))
+      → (fault ≡ loads.TooLong → (line ≡ 0) × (program_limit < length b))
+      → Serves (program_reply memory b next) held held (outcome_of (Err (load_note (line, fault))))
+  unloaded_fault b loads.NoNumber h l = refused_line b _ (h tt)
+  unloaded_fault b loads.NumberTooBig h l = refused_line b _ (h tt)
+  unloaded_fault b loads.TextTooLong h l = refused_line b _ (h tt)
+  unloaded_fault b (loads.BadByte place) h l = refused_line b _ (h tt)
+  unloaded_fault b loads.Full h l = refused_line b _ (h tt)
+  unloaded_fault b loads.Memory h l = takes_nothing held _
+  unloaded_fault b loads.Read h l = takes_nothing held _
+  unloaded_fault b loads.TooLong h l = refused_text b (l refl).0 (l refl).1
+
+-- the program isn't loaded, and nothing is written
+pub serves_unloaded : (memory : ℕ) (known : Option (List ℕ)) (next : StoredProgram → Reply) (held : Option (List ℕ)) (e : ℕ × LoadFault)
+    → (IsLineFault e.1 → IfSome known (λ b. IsRefusedAt memory b e))
+    → (e.1 ≡ loads.TooLong → (e.0 ≡ 0) × IfSome known (λ b. program_limit < length b))
+    → IfSome known (λ b. Serves (program_reply memory b next) held held (outcome_of (Err (load_note e))))
+serves_unloaded memory None next held e h l = tt
+serves_unloaded memory (Some b) next held e h l = unloaded_fault memory next held e.0 b e.1 h l
+
+-- a text that is refused is refused so, whatever would be done with its program
+pub serves_refusal : (memory : ℕ) (known : Option (List ℕ)) (next : StoredProgram → Reply) (old new : Option (List ℕ)) (result : Result ℕ Note)
+    → IfSome known (λ b. Serves (program_reply memory b next) old new (outcome_of result))
+    → IfSome known (λ b. IfErr (program_of_text memory b) (λ e. Serves (refusal (notes.Load e.0 e.1)) old new (outcome_of result)))
+serves_refusal memory None next old new result h = tt
+serves_refusal memory (Some b) next old new result h = by_text (program_of_text memory b) h where
+  by_text : (r : Result Statements (ℕ × LoadFault)) → Serves (reply_or_refusal next memory r) old new (outcome_of result)
+      → IfErr r (λ e. Serves (refusal (notes.Load e.0 e.1)) old new (outcome_of result))
+  by_text (Ok p) h = tt
+  by_text (Err e) h = h
+
+-- what holds anyway holds where a text is refused
+pub when_refused : (memory : ℕ) (known : Option (List ℕ)) (Q : Type 0) → Q → IfSome known (λ b. IfErr (program_of_text memory b) (λ _. Q))
+when_refused memory None Q q = tt
+when_refused memory (Some b) Q q = by_text (program_of_text memory b) where
+  by_text : (r : Result Statements (ℕ × LoadFault)) → IfErr r (λ _. Q)
+  by_text (Ok p) = tt
+  by_text (Err e) = q
+
+-- of a program that isn't loaded, neither the input is told nor where a listing was to begin
+pub load_note-input : (e : ℕ × LoadFault) → IsErrOf {T = ℕ} (Err (load_note e)) notes.InputUnread → ⊥
+load_note-input e h = by_fault e.1 h where
+  by_fault : (fault : LoadFault) → IsErrOf {T = ℕ} (Err (load_note (e.0, fault))) notes.InputUnread → ⊥
+  by_fault loads.NoNumber h = absurd cc
+  by_fault loads.NumberTooBig h = absurd cc
+  by_fault loads.TextTooLong h = absurd cc
+  by_fault (loads.BadByte place) h = absurd cc
+  by_fault loads.Full h = absurd cc
+  by_fault loads.Memory h = absurd cc
+  by_fault loads.Read h = absurd cc
+  by_fault loads.TooLong h = absurd cc
+
+pub load_note-start : (e : ℕ × LoadFault) → IsErrOf {T = ℕ} (Err (load_note e)) notes.NoRun → ⊥
+load_note-start e h = by_fault e.1 h where
+  by_fault : (fault : LoadFault) → IsErrOf {T = ℕ} (Err (load_note (e.0, fault))) notes.NoRun → ⊥
+  by_fault loads.NoNumber h = absurd cc
+  by_fault loads.NumberTooBig h = absurd cc
+  by_fault loads.TextTooLong h = absurd cc
+  by_fault (loads.BadByte place) h = absurd cc
+  by_fault loads.Full h = absurd cc
+  by_fault loads.Memory h = absurd cc
+  by_fault loads.Read h = absurd cc
+  by_fault loads.TooLong h = absurd cc
+
+-- ---- a program that is loaded
+
+-- a text that was loaded isn't refused
+pub loaded_unrefused : (memory : ℕ) (known : Option (List ℕ)) (p : Statements) (Q : ℕ × LoadFault → Type 0) → IfSome known (λ b. IsLoaded memory b p)
+    → IfSome known (λ b. IfErr (program_of_text memory b) Q)
+loaded_unrefused memory None p Q h = tt
+loaded_unrefused memory (Some b) p Q h = rw (program_of_text-ok memory b p h) tt
+
+-- the reply is that of the loaded program
+pub program_reply-loaded : (memory : ℕ) (b : List ℕ) (next : StoredProgram → Reply) (p : Statements) → IsLoaded memory b p
+    → program_reply memory b next ≡ next (record { lines = p; memory = memory })
+program_reply-loaded memory b next p h = rw (program_of_text-ok memory b p h) refl
+
+pub serves_loaded : (memory : ℕ) (known : Option (List ℕ)) (next : StoredProgram → Reply) (p : StoredProgram) (old new : Option (List ℕ)) (result : Result ℕ Note)
+    → IfSome known (λ b. IsLoaded memory b p.lines) → p.memory ≡ memory
+    → Serves (next p) old new (outcome_of result)
+    → IfSome known (λ b. Serves (program_reply memory b next) old new (outcome_of result))
+serves_loaded memory None next p old new result h e s = tt
+serves_loaded memory (Some b) next p old new result h e s =
+    let is : program_reply memory b next ≡ next p =
+    program_reply-loaded memory b next p.lines h ∙ ap (λ m. next (record { lines = p.lines; memory = m })) (sym e) in
+    subst (λ r. Serves r old new (outcome_of result)) (sym is) s
+
+-- ---- a run
+
+-- what is said where the input is known, of this input
+pub at_known : {known : Option (List ℕ)} (P : List ℕ → Type 0) (c : List ℕ) → known ≡ Some c → IfSome known P → P c
+at_known P c e h = subst (λ k. IfSome k P) e h
+
+pub status_within : (e : Ending) → status e ≤ 7
+status_within endings.End = omega arith
+status_within endings.Stop = omega arith
+status_within endings.What = omega arith
+status_within endings.How = omega arith
+status_within endings.Sorry = omega arith
+status_within endings.Limit = omega arith
+status_within endings.NoInput = omega arith
+status_within endings.NoAnswer = omega arith
+status_within endings.BadAnswer = omega arith
+
+module _ (p : StoredProgram) (steps : ℕ) (a : List ℤ) (known : Option (List ℕ)) (c : List ℕ) (old new : Option (List ℕ)) where
+  pub serves_ended : (e : Ending) (n : ℕ) → n ≡ status e → known ≡ Some c → IfSome known (λ b. ShowsRun (plain p (input_lines b) steps a) old new e)
+      → Serves (plain_reply steps a c p) old new (outcome_of (Ok n))
+  serves_ended e n number is h =
+      let run = at_known (λ b. ShowsRun (plain p (input_lines b) steps a) old new e) c is h in
+      record { bytes = run.bytes; status = number ∙ ap status run.ending; note = refl }
+
+  pub serves_stopped : (f : RunFault) (note : Note) → known ≡ Some c → IsRunNote f note
+      → (IsErrOf {T = Ending} (Err f) faults.Write → IfSome known (λ b. TakesSome old new (plain p (input_lines b) steps a).0))
+      → (IsErrOf {T = Ending} (Err f) faults.Memory → Appends old new [])
+      → (IsErrOf {T = Ending} (Err f) faults.Read → Appends old new [])
+      → Serves (plain_reply steps a c p) old new (outcome_of (Err note))
+  serves_stopped faults.Memory note is n write memory read =
+      subst (λ m. Serves (plain_reply steps a c p) old new (outcome_of (Err m))) (sym n) (0, omega arith, memory refl)
+  serves_stopped faults.Read note is n write memory read =
+      subst (λ m. Serves (plain_reply steps a c p) old new (outcome_of (Err m))) (sym n) (0, omega arith, read refl)
+  serves_stopped faults.Write note is n write memory read =
+      subst (λ m. Serves (plain_reply steps a c p) old new (outcome_of (Err m))) (sym n)
+      (at_known (λ b. TakesSome old new (plain p (input_lines b) steps a).0) c is (write refl))
+  serves_stopped faults.Spent note is n write memory read = absurd n
+
+-- a run that is begun was told where to begin
+pub IsRunNote-start : (f : RunFault) (note : Note) → IsRunNote f note → IsErrOf {T = ℕ} (Err note) notes.NoRun → ⊥
+IsRunNote-start faults.Memory note n h = absurd cc
+IsRunNote-start faults.Read note n h = absurd cc
+IsRunNote-start faults.Write note n h = absurd cc
+IsRunNote-start faults.Spent note n h = absurd n
+
+-- the note tells the fault that came
+pub IsRunNote-read : (f : RunFault) (note : Note) → IsRunNote f note → (IsErrOf {T = ℕ} (Err note) notes.InputUnread → ⊥)
+    → IsErrOf {T = Ending} (Err f) faults.Read → ⊥
+IsRunNote-read faults.Memory note n h e = absurd cc
+IsRunNote-read faults.Read note n h e = h (ap Err n)
+IsRunNote-read faults.Write note n h e = absurd cc
+IsRunNote-read faults.Spent note n h e = absurd n
+
+pub IsRunNote-memory : (f : RunFault) (note : Note) → IsRunNote f note → IsErrOf {T = ℕ} (Err note) notes.OutOfMemory
+    → IsErrOf {T = Ending} (Err f) faults.Memory
+IsRunNote-memory faults.Memory note n h = refl
+IsRunNote-memory faults.Read note n h = absurd cc
+IsRunNote-memory faults.Write note n h = absurd cc
+IsRunNote-memory faults.Spent note n h = absurd n
+
+-- ---- an outcome
+
+pub outcome_of-note : (r : Result ℕ Note) (note : Note) → (outcome_of r).note ≡ Some note → IsErrOf r note
+outcome_of-note (Ok status) note h = absurd cc
+outcome_of-note (Err n) note h = cc
+
+-- one note isn't another
+pub outcome_of-other : (r : Result ℕ Note) → (outcome_of r).note ≡ Some notes.OutOfMemory → IsErrOf r notes.Unwritten → ⊥
+outcome_of-other (Ok status) h e = absurd cc
+outcome_of-other (Err n) h e = absurd cc
+
+pub outcome_of-none : (r : Result ℕ Note) (Q : Type 0) → OnOk r Q → (outcome_of r).note ≡ None → Q
+outcome_of-none (Ok status) Q q h = q
+outcome_of-none (Err n) Q q h = absurd cc
+
+pub outcome_of-success : (r : Result ℕ Note) → OnOk r (r ≡ Ok 0) → (outcome_of r).note ≡ None → (outcome_of r).status ≡ 0
+outcome_of-success (Ok status) q h = cc
+outcome_of-success (Err n) q h = absurd cc
+
+-- that a fault isn't told, where a text is refused
+pub outcome_of-unread : (memory : ℕ) (known : Option (List ℕ)) (Q : Type 0) (r : Result ℕ Note) (note : Note)
+    → IfSome known (λ b. IfErr (program_of_text memory b) (λ _. Q × (IsErrOf r note → ⊥)))
+    → IfSome known (λ b. IfErr (program_of_text memory b) (λ _. Q × ((outcome_of r).note ≡ Some note → ⊥)))
+outcome_of-unread memory None Q r note h = tt
+outcome_of-unread memory (Some b) Q r note h = by_text (program_of_text memory b) h where
+  by_text : (t : Result Statements (ℕ × LoadFault)) → IfErr t (λ _. Q × (IsErrOf r note → ⊥))
+      → IfErr t (λ _. Q × ((outcome_of r).note ≡ Some note → ⊥))
+  by_text (Ok p) h = tt
+  by_text (Err e) h = (h.0, λ is. h.1 (outcome_of-note r note is))

@@ -1,0 +1,6 @@
+-- This file names the files of definitions.
+pub mod Statuses
+pub mod Replies
+pub mod ReplyLaws
+pub mod PlainRuns
+pub mod Serving

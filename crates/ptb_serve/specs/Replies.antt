@@ -1,0 +1,94 @@
+-- This file defines what the tool answers to a request.
+--     Reply                    what is written, the status, and what goes to standard error
+--     reply_to request b c     the reply for the program text b and the input c
+use Rattle.std.specs.Prelude.{ℕ, nat_lt, Bool, true, false, List, [], length, Option, Some, None, Result, Ok, Err}
+use Rattle.ptb_text.specs.declared.fault.LoadFault.{LoadFault}
+use Rattle.ptb_text.specs.declared.fault.LoadFault.TheVariants.{TooLong}
+use Rattle.ptb_text.specs.Lines.{input_lines}
+use Rattle.ptb_text.specs.Statements.{Statements, StoredProgram, program, program_limit, listing}
+use Rattle.ptb_expr.specs.Outcome.{Answers, Outcome, is_whole}
+use Rattle.ptb_command.specs.declared.ending.Ending.{Ending}
+use Rattle.ptb_machine.specs.Play.{Finish, play, plain, status}
+use Rattle.ptb_machine.specs.Questions.{most_answers}
+use Rattle.ptb_explore.specs.RunTree.{Front, Start, At, runs_left}
+use Rattle.ptb_explore.specs.Listing.{text}
+use Rattle.ptb_explore.specs.Report.{report}
+use Rattle.ptb_serve.specs.declared.note.Note.{Note}
+use Rattle.ptb_serve.specs.declared.note.Note.TheVariants as notes
+use Rattle.ptb_options.specs.declared.request.Mode.{Mode}
+use Rattle.ptb_options.specs.declared.request.Mode.TheVariants as modes
+use Rattle.ptb_options.specs.declared.request.Request.{Request}
+use Rattle.ptb_serve.specs.Statuses.{note_status}
+
+-- ---- replies
+
+pub record Reply : Type 0 where
+  pub bytes : List ℕ
+  pub status : ℕ
+  pub note : Option Note
+
+-- nothing is written, and a note says why
+abbrev pub refusal : Note → Reply
+refusal note = record { bytes = []; status = note_status note; note = Some note }
+
+abbrev pub success : List ℕ → Reply
+success bytes = record { bytes = bytes; status = 0; note = None }
+
+-- the bytes and the ending of a run
+abbrev pub run_reply : List ℕ × Ending → Reply
+run_reply r = record { bytes = r.0; status = status r.1; note = None }
+
+-- a run of a program on an input
+abbrev pub plain_reply : ℕ → Answers → List ℕ → StoredProgram → Reply
+plain_reply steps a c p = run_reply (plain p (input_lines c) steps a)
+
+abbrev pub listing_reply : StoredProgram → Reply
+listing_reply p = success (listing p.lines)
+
+-- ---- the program
+
+-- a text that is too long is refused as a whole, at line 0
+unfoldable pub program_of_text : ℕ → List ℕ → Result Statements (ℕ × LoadFault)
+program_of_text memory b = elim (nat_lt program_limit (length b)) [ true ↦ Err (0, TooLong) | false ↦ program memory b ]
+
+-- the first refusal of a text is noted with its source line
+abbrev pub reply_or_refusal : (StoredProgram → Reply) → ℕ → Result Statements (ℕ × LoadFault) → Reply
+reply_or_refusal next memory (Ok p) = next (record { lines = p; memory = memory })
+reply_or_refusal next memory (Err fault) = refusal (notes.Load fault.0 fault.1)
+
+abbrev pub program_reply : ℕ → List ℕ → (StoredProgram → Reply) → Reply
+program_reply memory b next = reply_or_refusal next memory (program_of_text memory b)
+
+-- ---- all runs
+
+-- a listing begins with the first run, or behind a run that is named
+abbrev pub first_front : Option Answers → Front
+first_front None = Start
+first_front (Some a) = At a
+
+abbrev pub is_front : (Answers → Outcome Finish (List ℕ)) → Option Answers → Bool
+is_front game None = true
+is_front game (Some a) = is_whole (game a)
+
+-- the reports of the runs that are left, where none has more answers than `most`
+abbrev pub listed_runs : (Answers → Outcome Finish (List ℕ)) → ℕ → Option Answers → Option ℕ → List ℕ
+listed_runs game most after first = text (report game) (runs_left game most (first_front after) first)
+
+-- answers to list behind that are no run are refused, before anything is written
+unfoldable pub runs_reply : (Answers → Outcome Finish (List ℕ)) → ℕ → Option Answers → Option ℕ → Reply
+runs_reply game most after first =
+    elim (is_front game after) [ true ↦ success (listed_runs game most after first) | false ↦ refusal notes.NoRun ]
+
+-- the runs of a program on these input lines
+abbrev pub all_reply : StoredProgram → List (List ℕ) → ℕ → Option Answers → Option ℕ → Reply
+all_reply p input limit after first = runs_reply (play p input limit) (most_answers p input limit) after first
+
+-- ---- the whole tool
+
+abbrev pub reply_in_mode : Mode → Request → List ℕ → List ℕ → Reply
+reply_in_mode (modes.Plain a) request b c = program_reply request.memory b (plain_reply request.steps a c)
+reply_in_mode (modes.All after first) request b c = program_reply request.memory b (λ p. all_reply p (input_lines c) request.steps after first)
+reply_in_mode modes.List request b c = program_reply request.memory b listing_reply
+
+abbrev pub reply_to : Request → List ℕ → List ℕ → Reply
+reply_to request b c = reply_in_mode request.mode request b c

@@ -1,0 +1,121 @@
+-- This file defines how a request is served: its reply is given, or it is broken off and the outcome notes why.
+--     outcome_of result                 what serving comes to, from a status or a note
+--     load_note e                       the note of a program that is not loaded
+--     IsRunNote fault note              the note of a run that didn't come to its ending
+--     input_note e                      the note of an input that is not read
+--     after_note e                      the note of a listing that isn't begun behind a run
+--     reports_note e                    the note of reports that are not all written
+--     Serves reply old new outcome      the reply is given, or it is broken off
+--     SilentBy mode note old new        nothing was written, unless what was due was broken off
+--     IsPlainRun mode                   the program is run once
+--     NeedsInput mode                   the input is read
+--     IsInput mode known c              c is the input, where the mode needs it
+use Rattle.std.specs.Prelude.{◌≡◌, ℕ, List, [], Option, Some, None, Result, Ok, Err}
+use Rattle.std.specs.Io.KnownBytes.{Appends}
+use Rattle.ptb_text.specs.declared.fault.LoadFault.{LoadFault}
+use Rattle.ptb_text.specs.declared.fault.LoadFault.TheVariants as loads
+use Rattle.ptb_text.specs.Device.{TakesSome}
+use Rattle.ptb_devices.specs.declared.fault.ReadFault.{ReadFault}
+use Rattle.ptb_devices.specs.declared.fault.ReadFault.TheVariants as reads
+use Rattle.ptb_machine.specs.declared.fault.RunFault.{RunFault}
+use Rattle.ptb_machine.specs.declared.fault.RunFault.TheVariants as faults
+use Rattle.ptb_explore.specs.declared.fault.AfterFault.{AfterFault}
+use Rattle.ptb_explore.specs.declared.fault.AfterFault.TheVariants as afters
+use Rattle.ptb_explore.specs.declared.fault.ExploreFault.{ExploreFault}
+use Rattle.ptb_explore.specs.declared.fault.ExploreFault.TheVariants as explores
+use Rattle.ptb_serve.specs.declared.note.Note.{Note}
+use Rattle.ptb_serve.specs.declared.note.Note.TheVariants as notes
+use Rattle.ptb_options.specs.declared.request.Mode.{Mode}
+use Rattle.ptb_options.specs.declared.request.Mode.TheVariants as modes
+use Rattle.ptb_serve.specs.declared.service.Outcome.{Outcome}
+use Rattle.ptb_serve.specs.Statuses.{note_status}
+use Rattle.ptb_serve.specs.Replies.{Reply}
+
+-- ---- outcomes
+
+-- a note has its own status
+abbrev pub outcome_of : Result ℕ Note → Outcome
+outcome_of (Ok status) = record { status = status; note = None }
+outcome_of (Err note) = record { status = note_status note; note = Some note }
+
+-- a line that is refused is no want of memory, and no fault of the reader
+abbrev pub load_fault_note : ℕ → LoadFault → Note
+load_fault_note line loads.Memory = notes.OutOfMemory
+load_fault_note line loads.Read = notes.ProgramUnread
+load_fault_note line fault = notes.Load line fault
+
+abbrev pub load_note : ℕ × LoadFault → Note
+load_note e = load_fault_note e.0 e.1
+
+-- a run that didn't come to its ending; one that is begun isn't spent
+abbrev pub IsRunNote : RunFault → Note → Type 0
+IsRunNote faults.Memory note = note ≡ notes.OutOfMemory
+IsRunNote faults.Read note = note ≡ notes.InputUnread
+IsRunNote faults.Write note = note ≡ notes.Unwritten
+IsRunNote faults.Spent note = ⊥
+
+abbrev pub input_note : ReadFault → Note
+input_note reads.Read = notes.InputUnread
+input_note reads.TooLong = notes.InputUnread
+input_note reads.Memory = notes.OutOfMemory
+
+abbrev pub after_note : AfterFault → Note
+after_note afters.NotARun = notes.NoRun
+after_note afters.Memory = notes.OutOfMemory
+
+abbrev pub reports_note : ExploreFault → Note
+reports_note (explores.Memory n) = notes.OutOfMemory
+reports_note (explores.Write n) = notes.Unwritten
+
+-- ---- how a request is served
+
+-- a writer got all bytes of the reply, where it tells them, and the outcome is the reply's
+pub record Replies (reply : Reply) (old new : Option (List ℕ)) (outcome : Outcome) : Type 0 where
+  pub bytes : Appends old new reply.bytes
+  pub status : outcome.status ≡ reply.status
+  pub note : outcome.note ≡ reply.note
+
+-- where a device failed or memory was refused, a beginning of the bytes
+abbrev pub ServesBy : Option Note → Reply → Option (List ℕ) → Option (List ℕ) → Outcome → Type 0
+ServesBy (Some notes.ProgramUnread) reply old new outcome = TakesSome old new reply.bytes
+ServesBy (Some notes.InputUnread) reply old new outcome = TakesSome old new reply.bytes
+ServesBy (Some notes.OutOfMemory) reply old new outcome = TakesSome old new reply.bytes
+ServesBy (Some notes.Unwritten) reply old new outcome = TakesSome old new reply.bytes
+ServesBy None reply old new outcome = Replies reply old new outcome
+ServesBy (Some note) reply old new outcome = Replies reply old new outcome
+
+abbrev pub Serves : Reply → Option (List ℕ) → Option (List ℕ) → Outcome → Type 0
+Serves reply old new outcome = ServesBy outcome.note reply old new outcome
+
+-- memory is asked for before anything is written, and only where runs are listed between their reports, too
+abbrev pub SilentWithoutMemory : Mode → Option (List ℕ) → Option (List ℕ) → Type 0
+SilentWithoutMemory (modes.Plain a) old new = Appends old new []
+SilentWithoutMemory (modes.All after first) old new = Unit {0}
+SilentWithoutMemory modes.List old new = Appends old new []
+
+-- nothing was written, unless a note says that a write failed, or that no memory was left for the next report
+abbrev pub SilentBy : Mode → Option Note → Option (List ℕ) → Option (List ℕ) → Type 0
+SilentBy mode None old new = Unit {0}
+SilentBy mode (Some notes.Unwritten) old new = Unit {0}
+SilentBy mode (Some notes.OutOfMemory) old new = SilentWithoutMemory mode old new
+SilentBy mode (Some note) old new = Appends old new []
+
+-- the status of such a request alone is that of an ending
+abbrev pub IsPlainRun : Mode → Type 0
+IsPlainRun (modes.Plain a) = Unit {0}
+IsPlainRun (modes.All after first) = ⊥
+IsPlainRun modes.List = ⊥
+
+-- ---- the input
+
+-- a listing of the program's lines alone doesn't read it
+abbrev pub NeedsInput : Mode → Type 0
+NeedsInput (modes.Plain a) = Unit {0}
+NeedsInput (modes.All after first) = Unit {0}
+NeedsInput modes.List = ⊥
+
+-- the input, where it is needed and known; any bytes where it isn't looked at
+abbrev pub IsInput : Mode → Option (List ℕ) → List ℕ → Type 0
+IsInput (modes.Plain a) known c = known ≡ Some c
+IsInput (modes.All after first) known c = known ≡ Some c
+IsInput modes.List known c = Unit {0}

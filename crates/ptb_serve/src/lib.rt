@@ -1,0 +1,20 @@
+//! How a request is served: a run of a program, a listing of its runs, or one of its text.
+//!
+//! It stands on `ptb_options`, `ptb_explore`, `ptb_machine`, on definitions of the two crates below
+//! that, on `ptb_expr` and `ptb_text`. The crate above may rely on `serve` (bytes, status and note
+//! are those of `specs/Replies`, or the note says what failed) and on `reply_laws`.
+#![tactic(auto)]
+
+mod all_runs;
+mod laws;
+mod note;
+mod plain;
+mod service;
+
+pub use laws::reply_laws;
+pub use note::Note;
+pub use plain::run_plain;
+pub use service::{Outcome, serve};
+
+#[cfg(test)]
+mod tests;

@@ -1,0 +1,119 @@
+// This file has the lines that go to standard error, and the status that each goes with.
+
+ghost use Rattle.std.specs.Prelude.{◌≡◌};
+ghost use Rattle.ptb_serve.specs.declared.note.Note.TheVariants.{OutOfMemory, Unwritten};
+ghost use Rattle.ptb_serve.specs.Serving.{after_note, input_note, load_note, reports_note};
+ghost use Rattle.ptb_serve.specs.Statuses.{note_status};
+
+use ptb_explore::{AfterFault, ExploreFault};
+use ptb_machine::ReadFault;
+use ptb_text::{LoadFault, WriteFault};
+use std::alloc::AllocError;
+use std::fmt;
+
+/// Why a request was not served, or not to its end.
+#[derive(Clone, Copy, Debug, PartialEq, Eq)]
+pub enum Note {
+    /// The program text was refused, at this source line; at line 0 as a whole.
+    Load(u32, LoadFault),
+    /// The program's file could not be opened, or reading it failed.
+    ProgramUnread,
+    /// Reading the input failed, or it has too many bytes.
+    InputUnread,
+    /// The run after which a listing was to begin is none.
+    NoRun,
+    /// A growth was refused memory.
+    OutOfMemory,
+    /// A write failed.
+    Unwritten,
+}
+
+impl Note {
+    /// The status that the program exits with.
+    pub fn status(&self) -> u8
+        ensures { result ≡ note_status self.now }
+    {
+        match self {
+            Note::Load(..) => 65,
+            Note::ProgramUnread | Note::InputUnread => 66,
+            Note::NoRun => 67,
+            Note::OutOfMemory => 71,
+            Note::Unwritten => 74,
+        }
+    }
+}
+
+impl From<(u32, LoadFault)> for Note {
+    ghost from_gives = { λ refusal note. note ≡ load_note refusal };
+
+    fn from(refusal: (u32, LoadFault)) -> Note {
+        match refusal {
+            (_, LoadFault::Memory) => Note::OutOfMemory,
+            (_, LoadFault::Read) => Note::ProgramUnread,
+            (line, fault) => Note::Load(line, fault),
+        }
+    }
+}
+
+impl From<WriteFault> for Note {
+    ghost from_gives = { λ _ note. note ≡ Unwritten };
+
+    fn from(_fault: WriteFault) -> Note {
+        Note::Unwritten
+    }
+}
+
+impl From<ReadFault> for Note {
+    ghost from_gives = { λ fault note. note ≡ input_note fault };
+
+    fn from(fault: ReadFault) -> Note {
+        match fault {
+            ReadFault::Read | ReadFault::TooLong => Note::InputUnread,
+            ReadFault::Memory => Note::OutOfMemory,
+        }
+    }
+}
+
+impl From<AllocError> for Note {
+    ghost from_gives = { λ _ note. note ≡ OutOfMemory };
+
+    fn from(_refusal: AllocError) -> Note {
+        Note::OutOfMemory
+    }
+}
+
+impl From<AfterFault> for Note {
+    ghost from_gives = { λ fault note. note ≡ after_note fault };
+
+    fn from(fault: AfterFault) -> Note {
+        match fault {
+            AfterFault::NotARun => Note::NoRun,
+            AfterFault::Memory => Note::OutOfMemory,
+        }
+    }
+}
+
+impl From<ExploreFault> for Note {
+    ghost from_gives = { λ fault note. note ≡ reports_note fault };
+
+    fn from(fault: ExploreFault) -> Note {
+        match fault {
+            ExploreFault::Memory(_) => Note::OutOfMemory,
+            ExploreFault::Write(_) => Note::Unwritten,
+        }
+    }
+}
+
+impl fmt::Display for Note {
+    fn fmt<W: fmt::Write>(&self, f: &mut fmt::Formatter<W>) -> fmt::Result {
+        match self {
+            Note::Load(0, fault) => write!(f, "ptb: {fault}"),
+            Note::Load(line, fault) => write!(f, "ptb: line {line}: {fault}"),
+            Note::ProgramUnread => f.write_str("ptb: cannot read the program"),
+            Note::InputUnread => f.write_str("ptb: cannot read the input"),
+            Note::NoRun => f.write_str("ptb: not a run"),
+            Note::OutOfMemory => f.write_str("ptb: out of memory"),
+            Note::Unwritten => f.write_str("ptb: cannot write"),
+        }
+    }
+}

@@ -1,0 +1,228 @@
+// This file serves a request: it loads the program, and runs it, reports all its runs, or lists it.
+
+ghost use Rattle.std.specs.Prelude.{◌≡◌, ◌≢◌, ◌+◌, ◌≤◌, ℕ, List, [], length};
+ghost use Rattle.std.specs.Prelude.{IfErr, IfOk, IfSome, IsErrOf, MatchOption, OnOk};
+ghost use Rattle.ptb_text.specs.Device.{HasFailed};
+ghost use Rattle.ptb_text.specs.Statements.{IsMemorySize, program_limit};
+ghost use Rattle.ptb_machine.specs.Play.{status};
+ghost use Rattle.ptb_devices.specs.Sources.{ConsumesAtMost};
+ghost use Rattle.ptb_options.specs.declared.request.Mode.TheVariants.{List as Listing, Plain};
+ghost use Rattle.ptb_serve.specs.declared.note.Note.TheVariants.{Load};
+ghost use Rattle.ptb_serve.specs.PlainRuns.{IsUnreadable, input_limit};
+ghost use Rattle.ptb_serve.specs.Replies.{program_of_text, refusal, reply_in_mode, reply_to};
+ghost use Rattle.ptb_serve.specs.Serving.{IsInput, IsPlainRun, IsRunNote, NeedsInput, Serves};
+ghost use Rattle.ptb_serve.specs.Serving.{SilentBy, outcome_of};
+ghost use Rattle.ptb_serve.specs.Statuses.{note_status};
+
+use crate::all_runs::list_runs;
+use crate::note::Note;
+use crate::plain::run_plain;
+use ptb_machine::{Ending, RunFault};
+use ptb_options::{Answers, Mode, Request};
+use ptb_text::{Read, Write, list, load};
+use std::alloc::Global;
+
+/// What serving a request came to.
+#[derive(Clone, Copy, Debug, PartialEq, Eq)]
+pub struct Outcome {
+    /// The status that the program exits with.
+    pub status: u8,
+    /// The line that goes to standard error, if there is one.
+    pub note: Option<Note>,
+}
+
+impl Outcome {
+    // The status of a request that was served, or the note of one that wasn't.
+    fn of(served: Result<u8, Note>) -> Outcome
+        ensures { result ≡ outcome_of served }
+    {
+        match served {
+            Ok(status) => Outcome { status, note: None },
+            Err(note) => Outcome {
+                status: note.status(),
+                note: Some(note),
+            },
+        }
+    }
+}
+
+/// Serves a request: the program is loaded from one reader, and is run on the lines of another, or
+/// all its runs are reported, or it is listed. What it shows, the reports or the listing go to the
+/// writer.
+///
+/// The memory that is asked for is 64 to 32767. The program is loaded before the input is read: a
+/// text that is refused leaves the input alone. So does a listing of a program's text.
+///
+/// A note says why a request isn't served, or not to its end. With [`Note::Unwritten`] a beginning
+/// of what was due was written, and with [`Note::OutOfMemory`], too, where all runs are reported.
+/// With every other note nothing was written.
+pub fn serve<P: Read, R: Read, W: Write>(
+    alloc: Global,
+    request: &Request,
+    program: &mut P,
+    input: &mut R,
+    out: &mut W,
+) -> Outcome
+    requires { IsMemorySize request.now.memory }
+    ensures served { (c : List ℕ) → IsInput request.now.mode (R.remaining input.old) c
+        → IfSome (P.remaining program.old) (λ b.
+        Serves (reply_to request.now b c) (W.contents out.old) (W.contents out.new) result) }
+    ensures refused { IfSome (P.remaining program.old) (λ b.
+        IfErr (program_of_text request.now.memory b) (λ e.
+        Serves (refusal (Load e.0 e.1)) (W.contents out.old) (W.contents out.new) result)) }
+    ensures load_first { IfSome (P.remaining program.old) (λ b.
+        IfErr (program_of_text request.now.memory b)
+        (λ _. (input.new ≡ input.old) × (result.note ≢ Some Note.InputUnread))) }
+    ensures status { MatchOption result.note
+        (result.status ≤ 7) (λ note. result.status ≡ note_status note) }
+    ensures success { ¬ IsPlainRun request.now.mode → result.note ≡ None → result.status ≡ 0 }
+    ensures within { NeedsInput request.now.mode → result.note ≡ None
+        → IfSome (R.remaining input.old) (λ c. length c ≤ input_limit) }
+    ensures no_run_within { result.note ≡ Some Note.NoRun
+        → IfSome (R.remaining input.old) (λ c. length c ≤ input_limit) }
+    ensures program_bounded { ConsumesAtMost
+        (P.remaining program.old) (P.remaining program.new) (program_limit + 1) }
+    ensures input_bounded { ConsumesAtMost
+        (R.remaining input.old) (R.remaining input.new) (input_limit + 1) }
+    ensures silent { SilentBy request.now.mode result.note
+        (W.contents out.old) (W.contents out.new) }
+    ensures program_unread { result.note ≡ Some Note.ProgramUnread
+        → HasFailed (P.failures program.old) (P.failures program.new) }
+    ensures program_read { result.note ≢ Some Note.ProgramUnread
+        → P.failures program.new ≡ P.failures program.old }
+    ensures input_unread { result.note ≡ Some Note.InputUnread
+        → IsUnreadable (R.remaining input.old) (R.failures input.old) (R.failures input.new) }
+    ensures input_kept { ¬ NeedsInput request.now.mode
+        → (input.new ≡ input.old) × (result.note ≢ Some Note.InputUnread) }
+    ensures input_read { result.note ≢ Some Note.InputUnread
+        → R.failures input.new ≡ R.failures input.old }
+    ensures unwritten { result.note ≡ Some Note.Unwritten
+        → HasFailed (W.failures out.old) (W.failures out.new) }
+    ensures written { result.note ≡ Some Note.OutOfMemory
+        → W.failures out.new ≡ W.failures out.old }
+{
+    match &request.mode {
+        Mode::Plain(answers) => {
+            Outcome::of(run_program(alloc, request, answers, program, input, out))
+        }
+        Mode::All { after, first } => {
+            Outcome::of(list_runs(alloc, request, after, *first, program, input, out))
+        }
+        Mode::List => Outcome::of(list_program(alloc, request, program, out)),
+    }
+}
+
+// Loads the program, and runs it with these answers. The status is that of its ending.
+fn run_program<P: Read, R: Read, W: Write>(
+    alloc: Global,
+    request: &Request,
+    answers: &Answers,
+    program: &mut P,
+    input: &mut R,
+    out: &mut W,
+) -> Result<u8, Note>
+    requires { IsMemorySize request.now.memory }
+    ensures served { (c : List ℕ) → R.remaining input.old ≡ Some c
+        → IfSome (P.remaining program.old) (λ b.
+        Serves (reply_in_mode (Plain answers.now) request.now b c)
+        (W.contents out.old) (W.contents out.new) (outcome_of result)) }
+    ensures refused { IfSome (P.remaining program.old) (λ b.
+        IfErr (program_of_text request.now.memory b) (λ e. Serves (refusal (Load e.0 e.1))
+        (W.contents out.old) (W.contents out.new) (outcome_of result))) }
+    ensures load_first { IfSome (P.remaining program.old) (λ b.
+        IfErr (program_of_text request.now.memory b)
+        (λ _. (input.new ≡ input.old) × ¬ IsErrOf result Note.InputUnread)) }
+    ensures done { IfOk result (λ status. status ≤ 7) }
+    ensures within { OnOk result
+        (IfSome (R.remaining input.old) (λ c. length c ≤ input_limit)) }
+    ensures no_start { ¬ IsErrOf result Note.NoRun }
+    ensures program_bounded { ConsumesAtMost
+        (P.remaining program.old) (P.remaining program.new) (program_limit + 1) }
+    ensures input_bounded { ConsumesAtMost
+        (R.remaining input.old) (R.remaining input.new) (input_limit + 1) }
+    ensures silent { SilentBy (Plain answers.now) (outcome_of result).note
+        (W.contents out.old) (W.contents out.new) }
+    ensures program_unread { IsErrOf result Note.ProgramUnread
+        → HasFailed (P.failures program.old) (P.failures program.new) }
+    ensures program_read { ¬ IsErrOf result Note.ProgramUnread
+        → P.failures program.new ≡ P.failures program.old }
+    ensures input_unread { IsErrOf result Note.InputUnread
+        → IsUnreadable (R.remaining input.old) (R.failures input.old) (R.failures input.new) }
+    ensures input_read { ¬ IsErrOf result Note.InputUnread
+        → R.failures input.new ≡ R.failures input.old }
+    ensures unwritten { IsErrOf result Note.Unwritten
+        → HasFailed (W.failures out.old) (W.failures out.new) }
+    ensures written { IsErrOf result Note.OutOfMemory
+        → W.failures out.new ≡ W.failures out.old }
+{
+    let program = load(alloc, request.memory, program)?;
+    let answers = answers.as_slice();
+    match run_plain(alloc, &program, answers, request.steps, input, out) {
+        Ok(ending) => Ok(ending_status(ending)),
+        Err(fault) => Err(run_note(fault)),
+    }
+}
+
+// Loads the program, and writes its listing. The status is 0.
+fn list_program<P: Read, W: Write>(
+    alloc: Global,
+    request: &Request,
+    program: &mut P,
+    out: &mut W,
+) -> Result<u8, Note>
+    requires { IsMemorySize request.now.memory }
+    ensures served { IfSome (P.remaining program.old) (λ b.
+        Serves (reply_in_mode Listing request.now b [])
+        (W.contents out.old) (W.contents out.new) (outcome_of result)) }
+    ensures refused { IfSome (P.remaining program.old) (λ b.
+        IfErr (program_of_text request.now.memory b) (λ e. Serves (refusal (Load e.0 e.1))
+        (W.contents out.old) (W.contents out.new) (outcome_of result))) }
+    ensures done { OnOk result (result ≡ Ok 0) }
+    ensures program_bounded { ConsumesAtMost
+        (P.remaining program.old) (P.remaining program.new) (program_limit + 1) }
+    ensures silent { SilentBy Listing (outcome_of result).note
+        (W.contents out.old) (W.contents out.new) }
+    ensures program_unread { IsErrOf result Note.ProgramUnread
+        → HasFailed (P.failures program.old) (P.failures program.new) }
+    ensures program_read { ¬ IsErrOf result Note.ProgramUnread
+        → P.failures program.new ≡ P.failures program.old }
+    ensures no_input { ¬ IsErrOf result Note.InputUnread }
+    ensures no_start { ¬ IsErrOf result Note.NoRun }
+    ensures unwritten { IsErrOf result Note.Unwritten
+        → HasFailed (W.failures out.old) (W.failures out.new) }
+    ensures written { ¬ IsErrOf result Note.Unwritten
+        → W.failures out.new ≡ W.failures out.old }
+{
+    let program = load(alloc, request.memory, program)?;
+    list(&program, out)?;
+    Ok(0)
+}
+
+// The status of a run that ended.
+fn ending_status(ending: Ending) -> u8
+    ensures { result ≡ status ending }
+{
+    match ending {
+        Ending::End | Ending::Stop => 0,
+        Ending::What => 1,
+        Ending::How => 2,
+        Ending::Sorry => 3,
+        Ending::Limit => 4,
+        Ending::NoInput => 5,
+        Ending::NoAnswer => 6,
+        Ending::BadAnswer => 7,
+    }
+}
+
+// The note of a run that didn't come to its ending.
+fn run_note(fault: RunFault) -> Note
+    requires { fault ≢ RunFault.Spent }
+    ensures { IsRunNote fault result }
+{
+    match fault {
+        RunFault::Memory => Note::OutOfMemory,
+        RunFault::Read => Note::InputUnread,
+        RunFault::Write => Note::Unwritten,
+        RunFault::Spent => unreachable!(),
+    }
+}
