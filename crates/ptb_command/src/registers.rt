@@ -35,6 +35,8 @@ impl Registers {
     /// # Errors
     ///
     /// [`AllocError`] where there is no memory for the array.
+    // Inlined, so that the registers of each run are written once and not copied.
+    #[inline(always)]
     pub fn new(alloc: Global, program: &Program) -> Result<Registers, AllocError>
         ensures { IfOk result (λ r. (input : List (List ℕ)) →
             Represents program.now.lines (configuration r 0 true false)
