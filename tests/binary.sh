@@ -175,6 +175,19 @@ for words in '' --list; do
     count "a pipe whose reader has gone $words" "$(is_as_due 74 '' 'ptb: cannot write\n')"
 done
 
+# a listing into a file at its size limit: a beginning is there, and that the rest is missing is told
+run --all "$root/examples/throw.bas" </dev/null
+head -c 1024 "$folder/output" >"$folder/beginning"
+(
+    trap '' XFSZ
+    ulimit -f 1
+    exec "$ptb" --all "$root/examples/throw.bas" </dev/null >"$folder/limited" 2>"$folder/errors"
+)
+status=$?
+: >"$folder/output"
+count 'a file at its size limit' "$(is_as_due 74 '' 'ptb: cannot write\n')"
+if cmp -s "$folder/beginning" "$folder/limited"; then count 'and what it holds' yes; else count 'and what it holds' no; fi
+
 # ---- the examples, each with its input and its answers
 
 for transcript in "$root"/examples/*.transcript; do
