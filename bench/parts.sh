@@ -1,5 +1,5 @@
 #!/bin/sh
-# Times the lower crates through their public calls: expressions worked out, and a text of 1 MiB loaded.
+# Times the lower crates through their public calls: expressions worked out, and texts of 1 MiB loaded.
 # It builds a small program over copies of the crates, in a folder of its own, and shows the best of five runs.
 set -eu
 root=$(dirname "$(readlink -f "$0")")/..
@@ -28,6 +28,10 @@ const TURNS: u32 = 10_000_000;
 
 const LINES: u32 = 16_384;
 
+const MIXED_LINES: u32 = 37_000;
+
+const DOTS: &str = "................................................";
+
 // The values of an expression, added up over all turns.
 fn sum(text: &[u8], store: &Store) -> Result<i64, Stop> {
     let mut sum: i64 = 0;
@@ -37,6 +41,17 @@ fn sum(text: &[u8], store: &Store) -> Result<i64, Stop> {
         sum = sum.wrapping_add(i64::from(value));
     }
     Ok(sum)
+}
+
+// Loads a text, and tells what that takes.
+fn time_loading(rt: &HostRuntime, name: &str, text: &[u8]) -> io::Result<()> {
+    let start = Instant::now(rt)?;
+    let mut reader = Device::new(text);
+    let program = load(rt.alloc(), 32_767, &mut reader);
+    let spent = start.elapsed(rt)?.as_millis();
+    let count = program.as_ref().map(|p| p.len()).unwrap_or(0);
+    let bytes = text.len();
+    println!(rt; "{bytes} bytes of {name}: loaded in {spent} ms, {count} statements are left")
 }
 
 fn main(rt: HostRuntime) -> io::Result<()> {
@@ -57,13 +72,22 @@ fn main(rt: HostRuntime) -> io::Result<()> {
         let line = format!(in rt.alloc(); "{number} REM {:053}\n", at)?;
         text.extend_from_slice(line.as_bytes())?;
     }
-    let start = Instant::now(&rt)?;
-    let mut reader = Device::new(text.as_slice());
-    let program = load(rt.alloc(), 32_767, &mut reader);
-    let spent = start.elapsed(&rt)?.as_millis();
-    let count = program.as_ref().map(|p| p.len()).unwrap_or(0);
-    let bytes = text.len();
-    println!(rt; "{bytes} bytes of comments: loaded in {spent} ms, {count} statements are left")
+    time_loading(&rt, "comments", &text)?;
+
+    // lines of 6 to 59 bytes in no order, each of another length than the last of its number, and
+    // each fourth deletes
+    let mut text = Vec::new(rt.alloc());
+    for at in 0..MIXED_LINES {
+        let number = 10_000 + at.wrapping_mul(77) % 397;
+        let line = if at % 4 == 3 {
+            format!(in rt.alloc(); "{number}\n")?
+        } else {
+            let dots = &DOTS[..(at % 48) as usize];
+            format!(in rt.alloc(); "{number} REM {dots}\n")?
+        };
+        text.extend_from_slice(line.as_bytes())?;
+    }
+    time_loading(&rt, "lines replaced and deleted", &text)
 }
 END
 cd "$room/crates/parts"

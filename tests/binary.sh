@@ -202,6 +202,28 @@ for transcript in "$root"/examples/*.transcript; do
     fi
 done
 
+# the examples with few questions, each with all its runs
+for runs in "$root"/examples/*.runs; do
+    example=${runs%.runs}
+    run --all "$example.bas" <"$example.input"
+    if [ "$status" = 0 ] && cmp -s "$folder/output" "$runs" && [ ! -s "$folder/errors" ]; then
+        count "all runs of the example $(basename "$example")" yes
+    else
+        count "all runs of the example $(basename "$example")" no
+    fi
+done
+
+# each example has an input and a transcript, and a row in the list of examples
+for program in "$root"/examples/*.bas; do
+    example=${program%.bas}
+    if [ -f "$example.input" ] && [ -s "$example.transcript" ] &&
+        grep -q "^| \`$(basename "$example")\` |" "$root/examples/README.md"; then
+        count "the files of the example $(basename "$example")" yes
+    else
+        count "the files of the example $(basename "$example")" no
+    fi
+done
+
 # six shares of a tree are, one after the other, the whole
 run --all "$root/examples/throw.bas" </dev/null
 mv "$folder/output" "$folder/whole"
@@ -252,7 +274,6 @@ if [ "$1" = run ]; then
     mkdir -p out
     printf '#!/bin/sh\necho "said $*"\n' >out/ptb
     chmod +x out/ptb
-    echo 'crate ptb_serve: modules loaded=1 checked=1'
     sleep 2
 fi
 echo 'logic=proved functions=1'

@@ -6,7 +6,7 @@
 //! `main` opens the right files and streams is tested, not proved.
 #![tactic(auto)]
 
-ghost use Rattle.std.specs.Prelude.{◌≡◌, [], IfSome, codes, option_copied};
+ghost use Rattle.std.specs.Prelude.{◌≡◌, ◌≢◌, [], IfSome, codes, option_copied};
 ghost use Rattle.std.specs.IoError.{error_kind};
 ghost use Rattle.clap.specs.Words.{first_of, kind_of};
 ghost use Rattle.ptb_text.specs.Statements.{IsMemorySize};
@@ -155,6 +155,8 @@ fn serve_without_input<P: Read, W: Write>(
     requires { IsMemorySize request.now.memory }
     ensures served { IfSome (P.remaining program.old) (λ b.
         Serves (reply_to request.now b []) (W.contents out.old) (W.contents out.new) result) }
+    ensures written { result.note ≢ Some Note.Unwritten
+        → W.failures out.new ≡ W.failures out.old }
     ensures status { IsServedStatus request.now.mode result.status }
 {
     let mut empty: &[u8] = &[];

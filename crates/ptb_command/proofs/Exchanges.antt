@@ -1,6 +1,5 @@
 -- This file proves how exchanges with the devices are put together.
-use native.Mathlib.Decide.{dec_lt}
-use Rattle.std.proofs.Common.{◌≡◌, ℕ, ◌≤◌, List, [], ◌++◌, Option, Some, None, ℤ, refl, sym, ap, subst, ◌∙◌, arith, append_assoc, append-nil, inl, inr, Bool}
+use Rattle.std.proofs.Common.{◌≡◌, ℕ, List, [], ◌++◌, Option, Some, None, ℤ, refl, sym, ap, subst, ◌∙◌, arith, append_assoc, append-nil, inl, inr, Bool}
 use Rattle.std.specs.Prelude.{IsTrue}
 use Rattle.std.specs.Io.KnownBytes.{Appends}
 use Rattle.ptb_text.specs.Device.{HasFailed}
@@ -43,31 +42,27 @@ appends_then (Some x) (Some y) (Some z) xs ys p q = q ∙ ap (λ l. l ++ ys) p �
 -- ---- exchanges
 
 pub shows_nothing : (a : ScreenState) → Shows a a []
-shows_nothing a = record { shown = appends_nil a.shown; later = omega arith; same_borrow = refl; same_memory = refl }
+shows_nothing a = record { shown = appends_nil a.shown; same_borrow = refl; same_memory = refl }
 
-shows_then : (a b c : ScreenState) (xs ys : List ℕ) → Shows a b xs → Shows b c ys → Shows a c (xs ++ ys)
+pub shows_then : (a b c : ScreenState) (xs ys : List ℕ) → Shows a b xs → Shows b c ys → Shows a c (xs ++ ys)
 shows_then a b c xs ys p q = record {
   shown = appends_then a.shown b.shown c.shown xs ys p.shown q.shown;
-  later = omega (arith, p.later, q.later);
   same_borrow = q.same_borrow ∙ p.same_borrow;
   same_memory = q.same_memory ∙ p.same_memory;
 }
 
 pub exchanges_none : (d : Devices) → Exchanges d d no_exchange
-exchanges_none d = record { grown = sym (with_answers_nil d.choices); shows = shows_nothing d.screen; given = sym (append-nil d.given) }
+exchanges_none d = record { grown = sym (with_answers_nil d.choices); shows = shows_nothing d.screen; unfailed = refl; given = sym (append-nil d.given) }
 
 pub exchanges_then : {c d e : Devices} {x y : Exchange} → Exchanges c d x → Exchanges d e y → Exchanges c e (both_exchanges x y)
 exchanges_then {c = c} {d = d} {e = e} {x = x} {y = y} p q = record {
   grown = q.grown ∙ ap (with_answers y.answers y.bounds) p.grown ∙ with_answers_twice x.answers y.answers x.bounds y.bounds c.choices;
   shows = shows_then c.screen d.screen e.screen x.bytes y.bytes p.shows q.shows;
+  unfailed = q.unfailed ∙ p.unfailed;
   given = q.given ∙ ap (λ l. l ++ y.given) p.given ∙ append_assoc c.given x.given y.given;
 }
 
 -- ---- failures
-
-has_failed_since : (a b c : ℕ) → a ≤ b → b ≤ c → HasFailed b c → HasFailed a c
-has_failed_since a b c h k (inl l) = inl (omega arith)
-has_failed_since a b c h k (inr l) = elim (dec_lt a c) [ yes more ↦ inl more | no same ↦ inr (omega arith) ]
 
 no_memory_from : (refused others : Refusal → Type 0) (a b : Bool) → a ≡ b → ((r : Refusal) → refused r → others r) → HasNoMemory refused b → HasNoMemory others a
 no_memory_from refused others a b e more h = record {
@@ -80,8 +75,8 @@ no_memory_from refused others a b e more h = record {
 unread_from : (refused others : Refusal → Type 0) → ((r : Refusal) → refused r → others r) → IsUnread refused → IsUnread others
 unread_from refused others more h = record { by = elim h.by [ inl x ↦ inl (more (Unread faults.Read) x) | inr x ↦ inr (more (Unread faults.TooLong) x) ] }
 
--- what has broken since then has broken since before, and for whoever sees more refusals
-pub has_broken_from : (refused others : Refusal → Type 0) → ((r : Refusal) → refused r → others r) → (a b c : ScreenState) (xs ys : List ℕ) → Shows a b xs → Shows b c ys → (e : DeviceError) → HasBroken refused b c e → HasBroken others a c e
-has_broken_from refused others more a b c xs ys p q errors.Memory h = no_memory_from refused others a.takes_memory b.takes_memory (sym p.same_memory) more h
-has_broken_from refused others more a b c xs ys p q errors.Read h = unread_from refused others more h
-has_broken_from refused others more a b c xs ys p q errors.Write h = has_failed_since a.failures b.failures c.failures p.later q.later h
+-- what has broken since then has broken since before, where no write has failed between, and for whoever sees more refusals
+pub has_broken_from : (refused others : Refusal → Type 0) → ((r : Refusal) → refused r → others r) → (a b c : ScreenState) → b.failures ≡ a.failures → b.takes_memory ≡ a.takes_memory → (e : DeviceError) → HasBroken refused b c e → HasBroken others a c e
+has_broken_from refused others more a b c same memory errors.Memory h = (no_memory_from refused others a.takes_memory b.takes_memory (sym memory) more h.0, h.1 ∙ same)
+has_broken_from refused others more a b c same memory errors.Read h = (unread_from refused others more h.0, h.1 ∙ same)
+has_broken_from refused others more a b c same memory errors.Write h = (subst (λ (x : ℕ). HasFailed x c.failures) same h.0, omega (arith, same, h.1))

@@ -37,7 +37,7 @@ use Rattle.ptb_command.specs.Io.{io_devices, io_trace}
 use Rattle.ptb_command.specs.Traces.{Trace, trace, after, RefinesPart}
 use Rattle.ptb_command.specs.Stops.{stop_of, stop_of_read, Stops, RefinesPartTo, Comes}
 use Rattle.ptb_command.proofs.Effects.{Preserves, then_keeps, attempt_state, input_part}
-use Rattle.ptb_command.proofs.Exchanges.{shows_nothing, exchanges_none, with_answers_nil}
+use Rattle.ptb_command.proofs.Exchanges.{shows_nothing, with_answers_nil}
 use Rattle.ptb_command.proofs.PartRefinement.{leaves_to, leaves_itself, after_nothing, freshens_nothing, refines_part_refl, refines_part_then}
 use Rattle.ptb_command.proofs.Stops.{Adds, parts_add, stops_after}
 use Rattle.ptb_command.proofs.Actions.{goes_adds, halt_adds, show_adds, then_adds, work_action_adds, refines_part_on, stops_first}
@@ -262,18 +262,18 @@ module _ (said : List ℕ) (x : Tree) (prompt : List ℕ) where
   unread : (refused : Refusal → Type 0) {o n : Trace} (at : Target) (e : DeviceError) → RefinesPart o n (ask_for said x prompt) (goes_on at) → HasBroken refused n.devices.screen n.devices.screen e → Stops refused (RefinesPartTo o n (item_action said x prompt)) n.devices (stops.Broke e)
   unread refused {n = n} at e a h = record {
     left = wants at;
-    middle = n.devices;
+    middle = n.devices.screen;
     part = [];
     comes = wanted at a;
-    shows = exchanges_none n.devices;
+    shows = shows_nothing n.devices.screen;
     begins = λ S b. let more = (wants_adds at).at S b in (more.0, more.1 ∙ ap (λ s. s ++ more.0) (sym (append-nil S.shown)));
     broken = h;
   }
 
   pub take_unread : (refused : Refusal → Type 0) {o n : Trace} (at : Target) (f : ReadFault) → RefinesPart o n (ask_for said x prompt) (goes_on at) → refused (Unread f) → Stops refused (RefinesPartTo o n (item_action said x prompt)) n.devices (stop_of_read f)
-  take_unread refused at reads.Read a h = unread refused at errors.Read a (record { by = inl h })
-  take_unread refused at reads.TooLong a h = unread refused at errors.Read a (record { by = inr h })
-  take_unread refused at reads.Memory a h = unread refused at errors.Memory a (record { by = inr (inr h) })
+  take_unread refused at reads.Read a h = unread refused at errors.Read a (record { by = inl h }, refl)
+  take_unread refused at reads.TooLong a h = unread refused at errors.Read a (record { by = inr h }, refl)
+  take_unread refused at reads.Memory a h = unread refused at errors.Memory a (record { by = inr (inr h) }, refl)
 
   -- a line is given
   again_same : (at : Target) (ls : List (List ℕ)) (S : State) → S.lines ≡ ls → (o : Outcome (Result ℤ Fault) (Unit {0})) → go_on (map_outcome (λ r. Goes r S) (λ u. S) o) (on_progress (store_or_again at (input_action said x prompt ls))) ≡ go_on (map_outcome (λ r. Goes r S) (λ u. S) o) (on_progress (answered at))
@@ -294,7 +294,7 @@ module _ (said : List ℕ) (x : Tree) (prompt : List ℕ) where
   unfolding wants
   line_given m at l k e = record {
     exchange = record { answers = []; bounds = []; bytes = []; given = l ∷ [] };
-    exchanges = record { grown = sym (with_answers_nil m.devices.choices); shows = shows_nothing m.devices.screen; given = e };
+    exchanges = record { grown = sym (with_answers_nil m.devices.choices); shows = shows_nothing m.devices.screen; unfailed = refl; given = e };
     fresh = freshens_nothing m.fresh;
     leaves = λ S rest w.
         let taken : record S { lines = rest } ≡ after m [] rest S =

@@ -50,10 +50,10 @@ is_fresh-append shown (b ∷ bytes) =
 -- ---- showing
 
 module _ (old new : ScreenState) (d : Devices) (fresh : Bool) (cells : Cells) (bytes : List ℕ) where
-  pub shown : Shows old new bytes → (after : Bool) → after ≡ fresh_after fresh bytes → RefinesPart (trace (with_screen old d) fresh cells) (trace (with_screen new d) after cells) (show bytes) (goes_on tt)
-  shown s after e = record {
+  pub shown : Shows old new bytes → new.failures ≡ old.failures → (after : Bool) → after ≡ fresh_after fresh bytes → RefinesPart (trace (with_screen old d) fresh cells) (trace (with_screen new d) after cells) (show bytes) (goes_on tt)
+  shown s unfailed after e = record {
     exchange = bytes_alone bytes;
-    exchanges = record { grown = sym (with_answers_nil d.choices); shows = s; given = sym (append-nil d.given) };
+    exchanges = record { grown = sym (with_answers_nil d.choices); shows = s; unfailed = unfailed; given = sym (append-nil d.given) };
     fresh = λ h k. is_fresh-append h bytes ∙ ap (λ x. fresh_after x bytes) k ∙ sym e;
     leaves = λ S rest w. leaves_to _
         (ap (λ (c : Cells). goes_on tt (record S { cells = c; shown = S.shown ++ bytes })) w.cells
@@ -65,19 +65,20 @@ module _ (old new : ScreenState) (d : Devices) (fresh : Bool) (cells : Cells) (b
   part_shown : (n : ℕ) → Shows old new (take n bytes) → (e : DeviceError) → HasBroken nothing_refused old new e → Breaks nothing_refused (RefinesPartTo (trace (with_screen old d) fresh cells) (trace (with_screen new d) fresh cells) (show bytes)) (with_screen new d) action_state e
   part_shown n s e broken = record {
     left = show bytes;
-    middle = with_screen old d;
+    middle = old;
     part = take n bytes;
     comes = refines_part_refl (trace (with_screen old d) fresh cells) (show bytes);
-    shows = record { grown = sym (with_answers_nil d.choices); shows = s; given = sym (append-nil d.given) };
+    shows = s;
     begins = λ S a. (drop n bytes, ap (λ l. S.shown ++ l) (sym (take-append-drop n bytes)) ∙ sym (append_assoc S.shown (take n bytes) (drop n bytes)));
     broken = broken;
   }
 
-  pub not_shown : TakesSome old.shown new.shown bytes → old.failures ≤ new.failures → new.borrow ≡ old.borrow → new.takes_memory ≡ old.takes_memory → (fault : ScreenFault) → (IsErrOf {T = Unit {0}} (Err fault) screens.Write → HasFailed old.failures new.failures) → (IsErrOf {T = Unit {0}} (Err fault) screens.Memory → IsTrue old.takes_memory) → Stops nothing_refused (RefinesPartTo (trace (with_screen old d) fresh cells) (trace (with_screen new d) fresh cells) (show bytes)) (with_screen new d) (stop_of_screen fault)
-  not_shown t later borrow memory screens.Write failed refused =
-      part_shown t.0 (record { shown = t.2; later = later; same_borrow = borrow; same_memory = memory }) errors.Write (failed refl)
-  not_shown t later borrow memory screens.Memory failed refused =
-      part_shown t.0 (record { shown = t.2; later = later; same_borrow = borrow; same_memory = memory }) errors.Memory (record { by = inl (refused refl) })
+  -- by the contract of a screen
+  pub not_shown : TakesSome old.shown new.shown bytes → old.failures ≤ new.failures → new.borrow ≡ old.borrow → new.takes_memory ≡ old.takes_memory → (fault : ScreenFault) → (IsErrOf {T = Unit {0}} (Err fault) screens.Write → HasFailed old.failures new.failures) → ((IsErrOf {T = Unit {0}} (Err fault) screens.Write → ⊥) → new.failures ≡ old.failures) → (IsErrOf {T = Unit {0}} (Err fault) screens.Memory → IsTrue old.takes_memory) → Stops nothing_refused (RefinesPartTo (trace (with_screen old d) fresh cells) (trace (with_screen new d) fresh cells) (show bytes)) (with_screen new d) (stop_of_screen fault)
+  not_shown t later borrow memory screens.Write failed unfailed refused =
+      part_shown t.0 (record { shown = t.2; same_borrow = borrow; same_memory = memory }) errors.Write (failed refl, later)
+  not_shown t later borrow memory screens.Memory failed unfailed refused =
+      part_shown t.0 (record { shown = t.2; same_borrow = borrow; same_memory = memory }) errors.Memory (record { by = inl (refused refl) }, unfailed (λ e. cc))
 
 pub shown_as : (o n : Trace) (s bytes : List ℕ) (r : Result (Unit {0}) Stop) → s ≡ bytes → Comes nothing_refused o n (show s) goes_on r → Comes nothing_refused o n (show bytes) goes_on r
 shown_as o n s bytes r e h = subst (λ (x : List ℕ). Comes nothing_refused o n (show x) goes_on r) e h

@@ -14,11 +14,11 @@ use Rattle.ptb_command.specs.Commands.{Part}
 use Rattle.ptb_command.specs.Actions.{Progress, Goes, Halts, Action, on_progress, and_then, or_halt}
 use Rattle.ptb_command.specs.Act.{parts_action}
 use Rattle.ptb_command.specs.Effects.{action_state, Begins}
-use Rattle.ptb_command.specs.Devices.{Devices, Refusal, Unanswered, NoLine}
+use Rattle.ptb_command.specs.Devices.{Devices, with_screen, Refusal, Unanswered, NoLine}
 use Rattle.ptb_command.specs.Traces.{Trace, RefinesPart}
 use Rattle.ptb_command.specs.Stops.{Stops, RefinesPartTo, Comes}
 use Rattle.ptb_command.proofs.Effects.{Preserves, begins_joined, parts_part}
-use Rattle.ptb_command.proofs.Exchanges.{shows_nothing, has_broken_from}
+use Rattle.ptb_command.proofs.Exchanges.{has_broken_from}
 use Rattle.ptb_command.proofs.PartRefinement.{refines_part_then, refines_part_under}
 
 -- ---- actions take back nothing that was shown
@@ -74,7 +74,7 @@ module _ {A B : Type 0} (refused : Refusal → Type 0) (R : Devices → Action A
     left = and_then h.left next;
     middle = h.middle;
     part = h.part;
-    comes = under h.middle h.left h.comes;
+    comes = under (with_screen h.middle n) h.left h.comes;
     shows = h.shows;
     begins = λ S a. begins_before next adds (S.shown ++ h.part) (h.left S a) (h.begins S a);
     broken = h.broken;
@@ -99,10 +99,10 @@ module _ {A : Type 0} (refused others : Refusal → Type 0) (more : (r : Refusal
     left = h.left;
     middle = h.middle;
     part = h.part;
-    comes = along h.middle h.left h.comes;
+    comes = along (with_screen h.middle n) h.left h.comes;
     shows = h.shows;
     begins = h.begins;
-    broken = has_broken_from refused others more h.middle.screen h.middle.screen n.screen [] h.part (shows_nothing h.middle.screen) h.shows.shows e h.broken;
+    broken = has_broken_from refused others more h.middle h.middle n.screen refl refl e h.broken;
   }
 
 -- ---- from trace to trace

@@ -19,7 +19,7 @@ use Rattle.ptb_command.specs.Devices.{Devices, answers_alone, refused_answers, w
 use Rattle.ptb_command.specs.Traces.{trace, after, Leaves, RefinesPart}
 use Rattle.ptb_command.specs.Stops.{stop_of, stop_of_pause, IsRefusal, Waits, Breaks, Stops, RefinesPartTo}
 use Rattle.ptb_command.proofs.Effects.{attempt_state}
-use Rattle.ptb_command.proofs.Exchanges.{shows_nothing, exchanges_none}
+use Rattle.ptb_command.proofs.Exchanges.{shows_nothing}
 use Rattle.ptb_command.proofs.PartRefinement.{leaves_under, leaves_to, after_nothing, freshens_nothing, refines_part_under}
 use Rattle.ptb_command.proofs.Stops.{out_before, or_halt_adds, stops_under}
 
@@ -29,7 +29,7 @@ module _ {A : Type 0} (f : Cells → Work A) (c e : Choices) (d : Devices) (fres
   attempted : (g : Work A) → Reaches (f cells) c e g → RefinesPart (trace (with_choices c d) fresh cells) (trace (with_choices e d) fresh cells) (attempt f) (attempt (λ k. g))
   attempted g p = record {
     exchange = answers_alone p.answers p.bounds;
-    exchanges = record { grown = p.grown; shows = shows_nothing d.screen; given = sym (append-nil d.given) };
+    exchanges = record { grown = p.grown; shows = shows_nothing d.screen; unfailed = refl; given = sym (append-nil d.given) };
     fresh = freshens_nothing fresh;
     leaves = λ S rest w.
         let n = trace (with_choices e d) fresh cells in
@@ -54,12 +54,12 @@ module _ {A : Type 0} (f : Cells → Work A) (c e : Choices) (d : Devices) (fres
   breaks : (refused : Pause → ℤ → Type 0) → Pauses refused (f cells) c e pauses.Memory → Breaks (refused_answers refused) (RefinesPartTo (trace (with_choices c d) fresh cells) (trace (with_choices e d) fresh cells) (attempt f)) (with_choices e d) action_state errors.Memory
   breaks refused p = record {
     left = attempt (λ k. p.left);
-    middle = with_choices e d;
+    middle = d.screen;
     part = [];
     comes = attempted p.left p.reaches;
-    shows = exchanges_none (with_choices e d);
+    shows = shows_nothing d.screen;
     begins = λ S a. ([], ap (λ (T : State). T.shown) (attempt_state (λ k. p.left) S a) ∙ sym (append-nil S.shown) ∙ sym (append-nil (S.shown ++ [])));
-    broken = record { by = inr (inl (p.bound, p.refuses)) };
+    broken = (record { by = inr (inl (p.bound, p.refuses)) }, refl);
   }
 
   -- a result, which may be a fault

@@ -2,7 +2,7 @@
 --     Devices                  the chooser's answers, the screen, and the lines that the source gave
 --     Exchange                 answers with their bounds, bytes that are shown, and lines that are given
 --     both_exchanges x y       one exchange after another
---     Exchanges o n x          from o to n the devices exchange x
+--     Exchanges o n x          from o to n the devices exchange x, and no write fails
 --     Refusal                  what the chooser or the line source refuses
 --     HasBroken refused o n e  between o and n the device that the error e names has failed
 use Rattle.std.specs.Prelude.{◌≡◌, ◌≤◌, ◌⊎◌, ℕ, Bool, List, [], ◌++◌, Option, ℤ, IsTrue}
@@ -43,12 +43,15 @@ pub record Devices : Type 0 where
 abbrev pub devices : Choices → ScreenState → List (List ℕ) → Devices
 devices choices screen given = record { choices = choices; screen = screen; given = given }
 
--- the same with another chooser, and with another screen
+-- the same with another chooser, with another screen, and with a writer that has failed so often
 abbrev pub with_choices : Choices → Devices → Devices
 with_choices choices d = record d { choices = choices }
 
 abbrev pub with_screen : ScreenState → Devices → Devices
 with_screen screen d = record d { screen = screen }
+
+abbrev pub with_failures : ℕ → Devices → Devices
+with_failures failures d = with_screen (record d.screen { failures = failures }) d
 
 -- ---- exchanges
 
@@ -79,13 +82,13 @@ both_exchanges x y = record {
 -- a screen shows these bytes
 pub record Shows (old new : ScreenState) (bytes : List ℕ) : Type 0 where
   pub shown : Appends old.shown new.shown bytes
-  pub later : old.failures ≤ new.failures
   pub same_borrow : new.borrow ≡ old.borrow
   pub same_memory : new.takes_memory ≡ old.takes_memory
 
 pub record Exchanges (o n : Devices) (x : Exchange) : Type 0 where
   pub grown : n.choices ≡ with_answers x.answers x.bounds o.choices
   pub shows : Shows o.screen n.screen x.bytes
+  pub unfailed : n.screen.failures ≡ o.screen.failures
   pub given : n.given ≡ o.given ++ x.given
 
 -- ---- refusals
@@ -122,7 +125,8 @@ pub record HasNoMemory (refused : Refusal → Type 0) (takes_memory : Bool) : Ty
 pub record IsUnread (refused : Refusal → Type 0) : Type 0 where
   pub by : refused (Unread faults.Read) ⊎ refused (Unread faults.TooLong)
 
+-- a write fails only where the writer is named
 abbrev pub HasBroken : (Refusal → Type 0) → ScreenState → ScreenState → DeviceError → Type 0
-HasBroken refused old new errors.Memory = HasNoMemory refused old.takes_memory
-HasBroken refused old new errors.Read = IsUnread refused
-HasBroken refused old new errors.Write = HasFailed old.failures new.failures
+HasBroken refused old new errors.Memory = HasNoMemory refused old.takes_memory × (new.failures ≡ old.failures)
+HasBroken refused old new errors.Read = IsUnread refused × (new.failures ≡ old.failures)
+HasBroken refused old new errors.Write = HasFailed old.failures new.failures × (old.failures ≤ new.failures)

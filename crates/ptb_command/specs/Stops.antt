@@ -22,7 +22,7 @@ use Rattle.ptb_command.specs.declared.stop.Stop.TheVariants as stops
 use Rattle.ptb_command.specs.State.{State}
 use Rattle.ptb_command.specs.Actions.{Faults, Ends, Halts, Action, halt}
 use Rattle.ptb_command.specs.Effects.{action_state, Begins}
-use Rattle.ptb_command.specs.Devices.{Devices, bytes_alone, Exchanges, Refusal, Unanswered, NoLine, HasBroken}
+use Rattle.ptb_command.specs.Devices.{ScreenState, Devices, with_screen, Shows, Refusal, Unanswered, NoLine, HasBroken}
 use Rattle.ptb_command.specs.Traces.{Trace, trace, RefinesPart}
 
 abbrev pub stop_of_screen : ScreenFault → Stop
@@ -75,12 +75,12 @@ module _ {A : Type 0} (refused : Refusal → Type 0) (R : Devices → (State →
   -- what was shown of that is a beginning of what it shows
   pub record Breaks (state : Outcome A State → State) (e : DeviceError) : Type 0 where
     pub left : State → Answers → Outcome A State
-    pub middle : Devices
+    pub middle : ScreenState
     pub part : List ℕ
-    pub comes : R middle left
-    pub shows : Exchanges middle n (bytes_alone part)
+    pub comes : R (with_screen middle n) left
+    pub shows : Shows middle n.screen part
     pub begins : (S : State) (a : Answers) → Begins (S.shown ++ part) (state (left S a)).shown
-    pub broken : HasBroken refused middle.screen n.screen e
+    pub broken : HasBroken refused middle n.screen e
 
 abbrev pub Stops : {A : Type 0} → (Refusal → Type 0) → (Devices → Action A → Type 0) → Devices → Stop → Type 0
 Stops refused R n (stops.Fault f) = R n (halt (Faults f))

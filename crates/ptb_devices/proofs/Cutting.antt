@@ -1,13 +1,17 @@
 -- This file proves that the lines that are cut from bytes one after the other are the input lines.
-use Rattle.std.proofs.Common.{◌≡◌, ℕ, suc, zero, ◌+◌, ◌-◌, ◌≤◌, ◌<◌, Bool, true, false, List, [], ◌∷◌, ◌++◌, length, map, filter, take, drop, get_or, Option, Some, None, refl, sym, ap, subst, ◌∙◌, append_assoc, append-nil, arith, length-append, length-drop, slice_index, add-one}
+use Rattle.std.proofs.Common.{◌≡◌, ℕ, suc, zero, ◌+◌, ◌-◌, ◌≤◌, ◌<◌, Bool, true, false, List, [], ◌∷◌, ◌++◌, length, map, filter, take, drop, get_or, Option, Some, None, refl, sym, ap, subst, ◌∙◌, append_assoc, append-nil, arith, length-append, length-drop, length-take, slice_index, add-one}
 use Rattle.std.specs.Prelude.{◌==◌, if◌then◌else◌}
 use Rattle.std.proofs.Math.Seq.{take-append_seam, take-length, take-suc}
 use Rattle.std.proofs.lemmas.Bool.{eqb-true, ne_eqb, eq-eqb}
 use Rattle.std.proofs.lemmas.List.{map-append, take_all, take-append-drop}
 use Rattle.std.proofs.lemmas.List.Elements.{filter-append}
+use Rattle.std.proofs.lemmas.List.Folds.{list_all-append}
+use Rattle.std.specs.List.{list_all}
 use Rattle.std.specs.Str.Lines.{strip_carriage_return}
 use Rattle.ptb_text.specs.Lines.{onto_first, pieces, tab_as_space, is_printable, line_limit, clean_line, input_lines}
-use Rattle.ptb_devices.specs.Cutting.{begun_piece, cleaned_byte, with_byte, kept_bytes, whole_lines, last_piece, last_line, Cuts, AddsLines}
+use Rattle.ptb_text.proofs.Edits.{both}
+use Rattle.ptb_text.proofs.Sound.{both_true}
+use Rattle.ptb_devices.specs.Cutting.{IsClean, begun_piece, cleaned_byte, with_byte, kept_bytes, whole_lines, last_piece, last_line, Cuts, AddsLines}
 
 -- ---- one byte more
 
@@ -37,6 +41,26 @@ pub with_byte-kept : (kept : List ℕ) (b c : ℕ) → length kept < line_limit 
 with_byte-kept kept b c room e =
     let fits : length (kept ++ c ∷ []) ≤ line_limit = omega (arith, length-append kept (c ∷ [])) in
     ap (λ l. take line_limit (kept ++ l)) e ∙ take_all line_limit (kept ++ c ∷ []) fits
+
+-- ---- what is kept is clean
+
+list_all-take : (p : ℕ → Bool) (n : ℕ) (xs : List ℕ) → list_all p xs ≡ true → list_all p (take n xs) ≡ true
+list_all-take p zero xs all = refl
+list_all-take p (suc n) [] all = refl
+list_all-take p (suc n) (x ∷ xs) all = both _ _ (both_true _ _ all).0 (list_all-take p n xs (both_true _ _ all).1)
+
+cleaned_byte-printable : (b : ℕ) → list_all is_printable (cleaned_byte b) ≡ true
+cleaned_byte-printable b = by_test (is_printable (tab_as_space b)) refl where
+  by_test : (t : Bool) → is_printable (tab_as_space b) ≡ t → list_all is_printable (if t then tab_as_space b ∷ [] else []) ≡ true
+  by_test true e = both _ _ e refl
+  by_test false e = refl
+
+pub IsClean-with_byte : (kept : List ℕ) (b : ℕ) → IsClean kept → IsClean (with_byte kept b)
+IsClean-with_byte kept b clean =
+    let all = kept ++ cleaned_byte b in (
+      omega (arith, length-take line_limit all),
+      list_all-take is_printable line_limit all (list_all-append is_printable kept (cleaned_byte b) ∙ both _ _ clean.1 (cleaned_byte-printable b)),
+    )
 
 -- a piece that has not begun keeps nothing
 pub kept_bytes-begun : (begun : Bool) (kept : List ℕ) → (begun ≡ false → kept ≡ []) → kept_bytes (begun_piece begun kept) ≡ kept

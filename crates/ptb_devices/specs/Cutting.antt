@@ -3,13 +3,15 @@
 --     begun_piece begun kept       a piece, by whether it has begun
 --     cleaned_byte b               what the cleaning makes of one byte: that byte, another or nothing
 --     with_byte kept b             what is kept after one more byte of a line
+--     IsClean kept                 at most 255 bytes, each from space to tilde
 --     kept_bytes p                 what is kept of the piece p
 --     whole_lines p bytes          the lines that these bytes end, where the piece p has begun before them
 --     last_piece p bytes           the piece that has begun after these bytes
 --     last_line p                  the line that p is at the end of the bytes, if it is one
 --     Cuts p bytes given q         these bytes end the lines given, and then q has begun
 --     AddsLines p bytes old new q  the lines that these bytes end come after the old ones
-use Rattle.std.specs.Prelude.{◌≡◌, ℕ, ◌==◌, Bool, true, false, if◌then◌else◌, List, [], ◌∷◌, ◌++◌, filter, take, Option, Some, None}
+use Rattle.std.specs.Prelude.{◌≡◌, ℕ, ◌==◌, ◌≤◌, Bool, true, false, IsTrue, if◌then◌else◌, List, [], ◌∷◌, ◌++◌, length, filter, take, Option, Some, None}
+use Rattle.std.specs.List.{list_all}
 use Rattle.ptb_text.specs.Lines.{tab_as_space, is_printable, line_limit}
 
 abbrev pub begun_piece : Bool → List ℕ → Option (List ℕ)
@@ -22,6 +24,9 @@ cleaned_byte b = filter is_printable (tab_as_space b ∷ [])
 -- a byte for which there is no room adds nothing
 abbrev pub with_byte : List ℕ → ℕ → List ℕ
 with_byte kept b = take line_limit (kept ++ cleaned_byte b)
+
+abbrev pub IsClean : List ℕ → Type 0
+IsClean kept = (length kept ≤ line_limit) × IsTrue (list_all is_printable kept)
 
 abbrev pub kept_bytes : Option (List ℕ) → List ℕ
 kept_bytes None = []

@@ -1,5 +1,4 @@
 -- This file names the files of definitions.
 pub mod Screens
 pub mod Sources
-pub mod LineLists
 pub mod Cutting

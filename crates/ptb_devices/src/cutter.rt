@@ -3,7 +3,7 @@
 ghost use Rattle.std.specs.Prelude.{◌≡◌, ◌↔◌, ℕ, ◌<◌, ◌≤◌, List, [], ◌∷◌, ◌++◌, length, take};
 ghost use Rattle.std.specs.Prelude.{Option, Some, None, IfSome, IfNone, IsSome, IsTrue};
 ghost use Rattle.std.specs.Prelude.{MatchOption};
-ghost use Rattle.ptb_devices.specs.Cutting.{cleaned_byte, with_byte, kept_bytes, Cuts};
+ghost use Rattle.ptb_devices.specs.Cutting.{IsClean, cleaned_byte, with_byte, kept_bytes, Cuts};
 
 use arrayvec::ArrayVec;
 use std::marker::Model;
@@ -21,13 +21,13 @@ pub(crate) struct LineCutter {
 
 impl Model for LineCutter {
     ghost use Rattle.std.specs.Prelude.{◌≡◌, false, List, ℕ, [], Option};
-    ghost use Rattle.ptb_devices.specs.Cutting.{begun_piece};
+    ghost use Rattle.ptb_devices.specs.Cutting.{IsClean, begun_piece};
 
     ghost Value = { Option (List ℕ) };
 
     ghost view = { λ c. begun_piece c.has_begun c.kept.items };
 
-    ghost invariant = { λ c. c.has_begun ≡ false → c.kept.items ≡ [] };
+    ghost invariant = { λ c. (c.has_begun ≡ false → c.kept.items ≡ []) × IsClean c.kept.items };
 }
 
 impl LineCutter {
@@ -50,7 +50,8 @@ impl LineCutter {
 
     /// What is kept of the piece.
     pub(crate) fn kept(&self) -> &[u8]
-        ensures { result.now ≡ kept_bytes self.now }
+        ensures value { result.now ≡ kept_bytes self.now }
+        ensures clean { IsClean result.now }
     {
         self.kept.as_slice()
     }

@@ -2,12 +2,14 @@
 
 ghost use Rattle.std.specs.Prelude.{◌≡◌, ℕ, ◌+◌, ◌-◌, ◌<◌, ◌≤◌, List, [], ◌∷◌, ◌++◌, length, drop};
 ghost use Rattle.std.specs.Prelude.{take, Option, Some, IfOk, IfErr, IfNone};
+ghost use Rattle.std.proofs.Common.{rules};
+ghost use Rattle.std.proofs.lemmas.Grind.{common_steps};
 ghost use Rattle.std.specs.Borrow.{sem};
 ghost use Rattle.std.specs.Io.BufRead.{Rests};
 ghost use Rattle.ptb_text.specs.Lines.{clean_line};
+ghost use Rattle.ptb_devices.specs.Cutting.{IsClean};
 ghost use Rattle.ptb_devices.specs.declared.fault.ReadFault.{ReadFault};
 ghost use Rattle.ptb_devices.specs.Sources.{Loses, NoneLeft, given_lines, LineList, Gives};
-ghost use Rattle.ptb_devices.specs.LineLists.{Gives_none, Gives_more, Gives-loses, Gives-falls};
 
 use crate::cutter::LineCutter;
 use crate::fault::ReadFault;
@@ -66,6 +68,8 @@ impl Model for Line {
     ghost Value = { List ℕ };
 
     ghost view = { λ l. l.bytes.items };
+
+    ghost invariant = { λ l. IsClean l.bytes.items };
 }
 
 impl Line {
@@ -87,6 +91,7 @@ impl Line {
 
     /// The line of bytes that are clean.
     pub(crate) fn from_kept(alloc: Global, kept: &[u8]) -> Result<Line, AllocError>
+        requires { IsClean kept.now }
         ensures { IfOk result (λ l. l ≡ kept.now) }
     {
         let mut bytes = Vec::with_capacity(alloc, kept.len())?;
@@ -94,9 +99,10 @@ impl Line {
         Ok(Line { bytes })
     }
 
-    /// Its bytes.
+    /// Its bytes: at most 255, each from 32 to 126.
     pub fn bytes(&self) -> &[u8]
-        ensures { result.now ≡ self.now }
+        ensures value { result.now ≡ self.now }
+        ensures clean { IsClean self.now }
     {
         &self.bytes
     }
@@ -153,13 +159,14 @@ impl<'a> LineSource for Lines<'a> {
 
     ghost refused = { λ _ _. ⊥ };
 
-    ghost gives_none = { Gives_none };
+    // Its laws are found from std's lemmas on lists.
+    ghost gives_none = { Prim.search (rules, common_steps) };
 
-    ghost gives_more = { Gives_more };
+    ghost gives_more = { Prim.search (rules, common_steps) };
 
-    ghost loses = { Gives-loses };
+    ghost loses = { Prim.search (rules, common_steps) };
 
-    ghost falls = { Gives-falls };
+    ghost falls = { Prim.search (rules, common_steps) };
 
     fn next(&mut self) -> Result<Option<&[u8]>, ReadFault> {
         if self.taken == self.lines.len() {

@@ -17,7 +17,7 @@ pub trait Screen {
     /// The bytes shown so far, where they are known.
     ghost shown: { Self → Option (List ℕ) };
 
-    /// How often its writer has failed.
+    /// How often its writer has failed. Only a call that answers [`ScreenFault::Write`] changes it.
     ghost failures: { Self → ℕ };
 
     /// The name of the borrow of its writer, if it has one. No call changes it.
@@ -37,6 +37,8 @@ pub trait Screen {
         ensures fault { OnErr result (TakesSome (shown self.old) (shown self.new) bytes.now) }
         ensures write { IsErrOf result ScreenFault.Write
             → HasFailed (failures self.old) (failures self.new) }
+        ensures unfailed { ¬ IsErrOf result ScreenFault.Write
+            → failures self.new ≡ failures self.old }
         ensures memory { IsErrOf result ScreenFault.Memory → IsTrue takes_memory }
         ensures later { failures self.old ≤ failures self.new }
         ensures same_borrow { borrow self.new ≡ borrow self.old };

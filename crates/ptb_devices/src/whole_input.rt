@@ -3,7 +3,7 @@
 ghost use Rattle.std.specs.Prelude.{◌≡◌, ◌+◌, ◌<◌, ◌≤◌, ℕ, List, ◌++◌, length, Option, Some, OnOk};
 ghost use Rattle.std.specs.Prelude.{IfOk, IfSome, IsErrOf};
 ghost use Rattle.std.specs.Io.KnownBytes.{IsAtEnd};
-ghost use Rattle.ptb_text.specs.Device.{HasFailed};
+ghost use Rattle.ptb_text.specs.Device.{GivesAtMost, GivesExactly, HasFailed};
 ghost use Rattle.ptb_text.specs.Lines.{input_lines};
 ghost use Rattle.ptb_devices.specs.Cutting.{last_line, Cuts, AddsLines};
 ghost use Rattle.ptb_devices.specs.Sources.{ConsumesAtMost};
@@ -42,6 +42,13 @@ pub fn read_lines<R: Read>(alloc: Global, reader: &mut R) -> Result<Vec<Line>, R
     ensures later { R.failures reader.old ≤ R.failures reader.new }
     ensures bounded { ConsumesAtMost (R.remaining reader.old) (R.remaining reader.new)
         (INPUT_LIMIT + 1) }
+
+    // How many bytes were given, also where nobody knows which.
+    ensures given { GivesAtMost (R.given reader.old) (R.given reader.new) (INPUT_LIMIT + 1) }
+    ensures given_ok { OnOk result
+        (GivesAtMost (R.given reader.old) (R.given reader.new) INPUT_LIMIT) }
+    ensures given_too_long { IsErrOf result ReadFault.TooLong
+        → GivesExactly (R.given reader.old) (R.given reader.new) (INPUT_LIMIT + 1) }
 {
     let mut buffer = [0; BUFFER_SIZE];
     let mut cutter = LineCutter::new();

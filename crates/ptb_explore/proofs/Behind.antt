@@ -1,14 +1,15 @@
--- This file proves that a listing that begins behind a run goes on where one that ended with it stopped.
-use Rattle.std.proofs.Common.{◌≡◌, ℕ, List, [], ◌∷◌, ◌++◌, Bool, true, false, inl, refl, sym, ap, ◌∙◌, append_assoc}
+-- This file proves what a listing has left, and that one that begins behind a run goes on where one that ended with it stopped.
+use Rattle.std.proofs.Common.{◌≡◌, ℕ, List, [], ◌∷◌, ◌++◌, Bool, true, false, ◌↔◌, inl, refl, sym, ap, ◌∙◌, append_assoc}
+use Rattle.std.specs.Prelude.{Contains}
 use Rattle.std.specs.List.{filter, AllByRecursion}
 use Rattle.std.proofs.lemmas.Bool.{false_from_ne_true}
 use Rattle.ptb_expr.specs.Outcome.{Answers, Outcome, IsReader}
 use Rattle.ptb_explore.specs.Laws.{ListingLaws}
 use Rattle.ptb_explore.specs.Listing.{text}
-use Rattle.ptb_explore.specs.RunTree.{At, IsRising, tree, is_before, Before, runs_after}
-use Rattle.ptb_explore.proofs.Lists.{all_at, in_right}
+use Rattle.ptb_explore.specs.RunTree.{Front, At, IsRun, IsRising, tree, is_after, is_before, Before, runs_after}
+use Rattle.ptb_explore.proofs.Lists.{all_at, contained_in, filter_in, in_contained, in_filter, in_right, rising_filter}
 use Rattle.ptb_explore.proofs.Order.{before_self, before_not_back}
-use Rattle.ptb_explore.proofs.Tree.{tree_rises}
+use Rattle.ptb_explore.proofs.Tree.{tree_rises, tree_runs}
 
 filter-all : (p : Answers → Bool) (xs : List Answers) → AllByRecursion (λ b. p b ≡ true) xs → filter p xs ≡ xs
 filter-all p [] h = refl
@@ -32,6 +33,17 @@ module _ {A W : Type 0} (play : Answers → Outcome A W) (most : ℕ) (reads : I
   behind : (front back : List Answers) (r : Answers) → tree play most ≡ front ++ r ∷ back → runs_after play most (At r) ≡ back
   behind front back r e = ap (filter (is_before r)) e ∙ filter-behind front back r (rw e at (tree_rises play most reads))
 
+  left : (f : Front) (a : Answers) → Contains (runs_after play most f) a ↔ (IsRun play a × (is_after f a ≡ true))
+  left f a =
+      let all = tree play most in
+      let listed = runs_after play most f in (
+        λ c. let i = filter_in (is_after f) a all (contained_in a listed c) in ((tree_runs play most reads a).0 i.0, i.1),
+        λ h. in_contained a listed (in_filter (is_after f) a all ((tree_runs play most reads a).1 h.0) h.1),
+      )
+
+  left_rises : (f : Front) → IsRising (runs_after play most f)
+  left_rises f = rising_filter (is_after f) (tree play most) (tree_rises play most reads)
+
   pub listing_laws : ListingLaws play most
   listing_laws = record {
     behind = behind;
@@ -39,4 +51,6 @@ module _ {A W : Type 0} (play : Answers → Outcome A W) (most : ℕ) (reads : I
         ap (λ s. text report (front ++ r ∷ []) ++ text report s) (behind front back r e)
         ∙ sym (text-append report (front ++ r ∷ []) back)
         ∙ ap (text report) (append_assoc front (r ∷ []) back ∙ sym e);
+    runs = left;
+    order = left_rises;
   }

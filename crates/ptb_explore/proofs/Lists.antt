@@ -1,8 +1,8 @@
--- This file proves laws of lists of runs: their members, and that they rise where they are joined.
-use Rattle.std.proofs.Common.{◌≡◌, ℕ, zero, suc, ◌+◌, ◌<◌, ◌≤◌, List, [], ◌∷◌, ◌++◌, length, true, map, ◌⊎◌, inl, inr, refl, sym, arith, subst}
+-- This file proves laws of lists of runs: their members, and that they rise where they are joined or some are left out.
+use Rattle.std.proofs.Common.{◌≡◌, ℕ, zero, suc, ◌+◌, ◌<◌, ◌≤◌, List, [], ◌∷◌, ◌++◌, length, Bool, true, map, ◌⊎◌, inl, inr, refl, sym, arith, subst}
 use Rattle.std.specs.Prelude.{ℤ, pos, negsuc, ◌<ℤ◌, int_le, Contains, slice_index_or}
-use Rattle.std.specs.List.{flat_map, range_with_len, AllByRecursion}
-use Rattle.std.proofs.lemmas.Bool.{cases_lt, and_parts, and_from, leb-true, le-leb}
+use Rattle.std.specs.List.{filter, flat_map, range_with_len, AllByRecursion}
+use Rattle.std.proofs.lemmas.Bool.{cases_Bool, cases_lt, and_parts, and_from, leb-true, le-leb}
 use Rattle.std.proofs.lemmas.Int.{ints}
 use Rattle.ptb_expr.specs.Outcome.{Answers, is_answer}
 use Rattle.ptb_explore.specs.RunTree.{Before, IsRising, answers_to}
@@ -57,6 +57,42 @@ rising_append : (xs ys : List Answers) → IsRising xs → IsRising ys → ((a b
 rising_append [] ys h k apart = k
 rising_append (x ∷ xs) ys h k apart =
     (all_append (Before x) xs ys h.0 (all_in (Before x) ys (λ b i. apart x b (inl refl) i)), rising_append xs ys h.1 k (λ a b i j. apart a b (inr i) j))
+
+-- ---- the members that pass a test
+
+pub filter_in : (p : Answers → Bool) (a : Answers) (xs : List Answers) → IsIn a (filter p xs) → IsIn a xs × (p a ≡ true)
+filter_in p a [] h = absurd h
+filter_in p a (x ∷ xs) h = elim (cases_Bool (p x)) [
+  | inl t ↦ elim (kept t) [ inl e ↦ (inl e, rw e t) | inr i ↦ let r = filter_in p a xs i in (inr r.0, r.1) ]
+  | inr f ↦ let r = filter_in p a xs (rw f at h) in (inr r.0, r.1)
+]
+  where
+    kept : p x ≡ true → IsIn a (x ∷ filter p xs)
+    kept t = rw t at h
+
+pub in_filter : (p : Answers → Bool) (a : Answers) (xs : List Answers) → IsIn a xs → p a ≡ true → IsIn a (filter p xs)
+in_filter p a [] i t = absurd i
+in_filter p a (x ∷ xs) (inl e) t =
+    let here : p x ≡ true = rw e at t in
+    rw here (inl e)
+in_filter p a (x ∷ xs) (inr i) t = elim (cases_Bool (p x)) [
+  | inl k ↦ rw k (inr (in_filter p a xs i t))
+  | inr d ↦ rw d (in_filter p a xs i t)
+]
+
+all_filter : (P : Answers → Type 0) (p : Answers → Bool) (xs : List Answers) → AllByRecursion P xs → AllByRecursion P (filter p xs)
+all_filter P p [] h = tt
+all_filter P p (x ∷ xs) h = elim (cases_Bool (p x)) [
+  | inl k ↦ rw k (h.0, all_filter P p xs h.1)
+  | inr d ↦ rw d (all_filter P p xs h.1)
+]
+
+pub rising_filter : (p : Answers → Bool) (xs : List Answers) → IsRising xs → IsRising (filter p xs)
+rising_filter p [] h = tt
+rising_filter p (x ∷ xs) h = elim (cases_Bool (p x)) [
+  | inl k ↦ rw k (all_filter (Before x) p xs h.0, rising_filter p xs h.1)
+  | inr d ↦ rw d (rising_filter p xs h.1)
+]
 
 -- ---- a list for each number from m on
 

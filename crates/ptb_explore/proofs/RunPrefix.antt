@@ -1,5 +1,5 @@
 -- This file proves how a run goes on that is played step by step, and how it ends.
-use Rattle.std.proofs.Common.{◌≡◌, ℕ, ◌+◌, ◌<◌, ◌≤◌, List, [], ◌∷◌, ◌++◌, true, Option, Some, None, Result, Ok, Err, ℤ, inl, inr, refl, sym, ap, subst, ◌∙◌, arith, append_assoc, append-nil}
+use Rattle.std.proofs.Common.{◌≡◌, ℕ, ◌+◌, ◌<◌, List, [], ◌∷◌, ◌++◌, true, Option, Some, None, Result, Ok, Err, ℤ, inl, inr, refl, sym, ap, subst, ◌∙◌, arith, append_assoc, append-nil}
 use Rattle.std.proofs.Math.Path.{fun_ext}
 use Rattle.ptb_text.specs.Statements.{StoredProgram}
 use Rattle.ptb_expr.specs.declared.pause.Pause.TheVariants as pauses
@@ -184,13 +184,13 @@ module _ (laws : RunLaws) (p : StoredProgram) (input : List (List ℕ)) (limit :
     faulted f is = subst (λ r. StepComes (refused_by (RefusedByPlan d) (λ _. ⊥) (Some rest)) (StepsTo p.lines new (devices c (text_state s) []) u.state rest (turn p limit u.state)) (devices d (text_state t) given) r) is (steps u.state rest u.represents (u.left_is ∙ l))
 
     pub never_unread : r ≡ Err faults.Read → ⊥
-    never_unread is = let w : Fault faults.Read = faulted faults.Read is in elim w.broken.by [ inl x ↦ x | inr x ↦ x ]
+    never_unread is = let w : Fault faults.Read = faulted faults.Read is in elim w.broken.0.by [ inl x ↦ x | inr x ↦ x ]
 
     pub never_unwritten : r ≡ Err faults.Write → ⊥
     never_unwritten is =
         let w : Fault faults.Write = faulted faults.Write is in
-        let none : w.middle.screen.failures ≤ 0 = w.shows.shows.later in
-        elim w.broken [ inl x ↦ absurd (omega (arith, none, x)) | inr x ↦ absurd (omega (arith, none, x)) ]
+        let none : w.middle.failures ≡ 0 = w.comes.exchanges.unfailed in
+        elim w.broken.0 [ inl x ↦ absurd (omega (arith, none, x)) | inr x ↦ absurd (omega (arith, none, x)) ]
 
 -- the runs of a program have the laws of what takes answers one by one
 pub program_laws : (laws : RunLaws) (p : StoredProgram) (input : List (List ℕ)) (limit : ℕ) → TreeLaws (play p input limit) (most_answers p input limit)

@@ -1,8 +1,13 @@
 // This file states that the laws hold of the definitions.
 
-ghost use Rattle.std.specs.Prelude.{ℕ};
+ghost use Rattle.std.specs.Prelude.{ℕ, List};
+ghost use Rattle.ptb_text.specs.Statements.{StoredProgram};
 ghost use Rattle.ptb_expr.specs.Outcome.{Answers, Outcome, IsReader};
+ghost use Rattle.ptb_machine.specs.Play.{play};
+ghost use Rattle.ptb_machine.specs.Questions.{most_answers};
 ghost use Rattle.ptb_explore.specs.Laws.{ListingLaws, TreeLaws};
+
+use ptb_machine::run_laws;
 
 /// Whatever takes answers one by one, the tree has its runs and nothing else, in rising order.
 pub fn tree_laws<A, W>()
@@ -10,8 +15,19 @@ pub fn tree_laws<A, W>()
         → TreeLaws play most }
 {}
 
-/// A listing that begins behind a run goes on where one that ended with it stopped.
+/// What a listing has left are the runs after the place where it stands, in rising order, and one
+/// that begins behind a run goes on where one that ended with it stopped.
 pub fn listing_laws<A, W>()
     ensures { (play : Answers → Outcome A W) (most : ℕ) → IsReader play most
         → ListingLaws play most }
 {}
+
+/// The runs of each program on each input, with each limit, have these laws.
+pub fn program_laws()
+    ensures tree { (p : StoredProgram) (input : List (List ℕ)) (limit : ℕ)
+        → TreeLaws (play p input limit) (most_answers p input limit) }
+    ensures listing { (p : StoredProgram) (input : List (List ℕ)) (limit : ℕ)
+        → ListingLaws (play p input limit) (most_answers p input limit) }
+{
+    run_laws();
+}

@@ -20,7 +20,7 @@ use Rattle.ptb_command.specs.Act.{StepResult, Next, Over}
 use Rattle.ptb_machine.specs.Play.{Finish, finish_in, after_step_result, turn, turns, play}
 use Rattle.ptb_command.specs.Effects.{act_state, Begins}
 use Rattle.ptb_machine.specs.RunEffects.{run_shown, run_steps}
-use Rattle.ptb_command.specs.Devices.{Devices, Exchange, no_exchange, bytes_alone, both_exchanges, Exchanges, Refusal}
+use Rattle.ptb_command.specs.Devices.{Devices, with_screen, Exchange, no_exchange, both_exchanges, Exchanges, Refusal}
 use Rattle.ptb_command.specs.Traces.{Leaves}
 use Rattle.ptb_command.specs.Stops.{Waits, IsDry, Breaks}
 use Rattle.ptb_command.specs.Configuration.{Configuration}
@@ -28,7 +28,7 @@ use Rattle.ptb_command.specs.Representation.{Represents}
 use Rattle.ptb_machine.specs.Steps.{StepsTo, goes, ends, StepComes, Steps}
 use Rattle.ptb_machine.specs.Runs.{played_bytes, Plays, IsFinished, IsUnanswered, IsUnfinished, RunComes, Runs}
 use Rattle.ptb_command.proofs.Effects.{begins_joined}
-use Rattle.ptb_command.proofs.Exchanges.{exchanges_none, exchanges_then, has_broken_from}
+use Rattle.ptb_command.proofs.Exchanges.{shows_then, exchanges_none, exchanges_then, has_broken_from}
 use Rattle.ptb_command.proofs.PartRefinement.{leaves_itself, leaves_then, leaves_to, leaves_under, leaves_at}
 use Rattle.ptb_command.proofs.Stops.{out_before}
 use Rattle.ptb_machine.proofs.Turns.{turns_by_turn, turn_goes, turns_shown, turns_steps}
@@ -49,7 +49,7 @@ abbrev pub onto : Devices → Devices → Devices
 onto d e = record e { given = d.given ++ e.given }
 
 exchanges_onto : (d e : Devices) (x : Exchange) → Exchanges (record d { given = [] }) e x → Exchanges d (onto d e) x
-exchanges_onto d e x h = record { grown = h.grown; shows = h.shows; given = ap (λ l. d.given ++ l) h.given }
+exchanges_onto d e x h = record { grown = h.grown; shows = h.shows; unfailed = h.unfailed; given = ap (λ l. d.given ++ l) h.given }
 
 -- the run of p with this input has come to g
 abbrev pub RunsTo : StoredProgram → ℕ → Configuration → Devices → List (List ℕ) → List (List ℕ) → Devices → (State → Answers → Outcome Finish State) → Type 0
@@ -138,9 +138,6 @@ more_shown p limit shown (Done (Over e S) rest) b = b
 more_shown p limit shown (Asks k S) b = b
 more_shown p limit shown (Out k S) b = b
 
-exchange_more : (x : Exchange) (part : List ℕ) → both_exchanges x (bytes_alone part) ≡ record x { bytes = x.bytes ++ part }
-exchange_more x part = rw (append-nil x.answers, append-nil x.bounds, append-nil x.given) refl
-
 -- ---- steps, one after the other
 
 module _ (refused : Refusal → Type 0) (p : StoredProgram) (limit : ℕ) (m n : Configuration) (o d e : Devices) (h : HasRun p limit m o d) where
@@ -199,24 +196,25 @@ module _ (refused : Refusal → Type 0) (p : StoredProgram) (limit : ℕ) (m n :
 
     broken : (error : DeviceError) → Breaks refused LastStep e act_state error → IsUnfinished refused p limit whole o (onto d e) error
     broken error w =
-        let x = last w.middle w.left w.comes in
-        let shows : Exchanges (onto d w.middle) (onto d e) (bytes_alone w.part) = record {
-          grown = w.shows.grown;
-          shows = w.shows.shows;
-          given = ap (λ l. d.given ++ l) w.shows.given ∙ sym (append_assoc d.given w.middle.given []);
-        } in
+        let x = last (with_screen w.middle e) w.left w.comes in
+        let shows = shows_then o.screen w.middle e.screen x.exchange.bytes w.part x.exchanges.shows w.shows in
         record {
           exchange = record x.exchange { bytes = x.exchange.bytes ++ w.part };
           left = playing (then_turns p limit w.left) x.leads.state;
           plays = record {
-            exchanges = subst (Exchanges o (onto d e)) (exchange_more x.exchange w.part) (exchanges_then x.exchanges shows);
-            leaves = (plays_to p limit n o (onto d w.middle) whole rest (then_turns p limit w.left) x).leaves;
+            exchanges = record {
+              grown = x.exchanges.grown;
+              shows = record { shown = shows.shown; same_borrow = shows.same_borrow; same_memory = shows.same_memory };
+              unfailed = refl;
+              given = x.exchanges.given;
+            };
+            leaves = (plays_to p limit n o (onto d (with_screen w.middle e)) whole rest (then_turns p limit w.left) x).leaves;
           };
           begins = λ a.
               subst (Begins (x.exchange.bytes ++ w.part)) (sym (played_shown (then_turns p limit w.left x.leads.state a)))
               (more_shown p limit (x.exchange.bytes ++ w.part) (w.left x.leads.state a)
               (subst (λ (s : List ℕ). Begins (s ++ w.part) (act_state (w.left x.leads.state a)).shown) x.leads.shown (w.begins x.leads.state a)));
-          broken = has_broken_from refused refused (λ r y. y) o.screen w.middle.screen e.screen x.exchange.bytes w.part x.exchanges.shows w.shows.shows error w.broken;
+          broken = has_broken_from refused refused (λ r y. y) o.screen w.middle e.screen x.exchanges.unfailed x.exchanges.shows.same_memory error w.broken;
         }
 
     comes_ended : (ending : Ending) → StepComes refused LastStep e (Ok (Some ending)) → RunComes refused p limit rest o (onto d e) (Ok ending)

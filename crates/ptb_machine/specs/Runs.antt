@@ -16,7 +16,7 @@ use Rattle.ptb_command.specs.declared.stop.DeviceError.{DeviceError}
 use Rattle.ptb_command.specs.declared.stop.DeviceError.TheVariants as errors
 use Rattle.ptb_machine.specs.Play.{Finish, play}
 use Rattle.ptb_command.specs.Effects.{Begins}
-use Rattle.ptb_command.specs.Devices.{Devices, Exchange, Exchanges, Refusal, Unanswered, NoLine, HasBroken}
+use Rattle.ptb_command.specs.Devices.{Devices, with_failures, Exchange, Exchanges, Refusal, Unanswered, NoLine, HasBroken}
 use Rattle.ptb_command.specs.Traces.{Leaves}
 
 abbrev pub played_bytes : Outcome Finish (List ℕ) → List ℕ
@@ -48,11 +48,12 @@ module _ (refused : Refusal → Type 0) (p : StoredProgram) (limit : ℕ) (input
     pub outside : SaysOut left bound exchange.bytes z
     pub refuses : refused (Unanswered z bound)
 
-  -- a device has failed, or was refused memory; what was shown is a beginning of what the run shows, whatever answers follow
+  -- a device has failed, or was refused memory, and no write failed before;
+  -- what was shown is a beginning of what the run shows, whatever answers follow
   pub record IsUnfinished (e : DeviceError) : Type 0 where
     pub exchange : Exchange
     pub left : Answers → Outcome Finish (List ℕ)
-    pub plays : Plays p limit input o n exchange left
+    pub plays : Plays p limit input o (with_failures o.screen.failures n) exchange left
     pub begins : (a : Answers) → Begins exchange.bytes (played_bytes (left a))
     pub broken : HasBroken refused o.screen n.screen e
 

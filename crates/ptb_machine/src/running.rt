@@ -18,7 +18,8 @@ use std::alloc::Global;
 ///
 /// [`RunFault::Memory`], [`RunFault::Read`] and [`RunFault::Write`] where a growth was refused
 /// memory, the input could not be read or is too long, or the screen could not be written. A
-/// beginning of what the run shows may have been shown then. Never [`RunFault::Spent`].
+/// beginning of what the run shows may have been shown then. Never [`RunFault::Spent`]. A write
+/// that fails is answered in no other way.
 pub fn run<C: Chooser, S: Screen, L: LineSource>(
     alloc: Global,
     program: &Program,

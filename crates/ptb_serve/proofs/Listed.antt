@@ -1,5 +1,5 @@
 -- This file proves how a listing of all runs is served, from where it began and what was written.
-use Rattle.std.proofs.Common.{◌≡◌, ℕ, ◌⊎◌, inl, inr, Bool, true, false, List, ◌∷◌, ◌++◌, Option, Result, Ok, Err, refl, ap, sym, ◌∙◌, subst, append_assoc, IsErrOf}
+use Rattle.std.proofs.Common.{◌≡◌, ℕ, ◌⊎◌, inl, inr, Bool, true, false, List, ◌∷◌, ◌++◌, Option, Some, Result, Ok, Err, refl, ap, sym, ◌∙◌, subst, append_assoc, IsErrOf}
 use Rattle.std.specs.Io.KnownBytes.{Appends}
 use Rattle.std.proofs.lemmas.List.Concat.{flat_map-append}
 use Rattle.ptb_text.specs.Device.{TakesSome}
@@ -20,7 +20,7 @@ use Rattle.ptb_explore.specs.RunTree.{Front, runs_left}
 use Rattle.ptb_serve.specs.declared.note.Note.{Note}
 use Rattle.ptb_serve.specs.declared.note.Note.TheVariants as notes
 use Rattle.ptb_serve.specs.Replies.{Reply, refusal, success, first_front, is_front, listed_runs, runs_reply, all_reply}
-use Rattle.ptb_serve.specs.Serving.{outcome_of, input_note, reports_note, Serves}
+use Rattle.ptb_serve.specs.Serving.{outcome_of, input_note, reports_note, IsUnloaded, Serves}
 use Rattle.ptb_serve.proofs.Playing.{takes_beginning}
 use Rattle.ptb_serve.proofs.Served.{takes_nothing, replies_refusal}
 
@@ -55,6 +55,19 @@ input_note-read reads.Read h e = h refl
 input_note-read reads.TooLong h e = absurd cc
 input_note-read reads.Memory h e = absurd cc
 
+pub input_note-loaded : (fault : ReadFault) → IsUnloaded (Some (input_note fault)) → ⊥
+input_note-loaded reads.Read h = h
+input_note-loaded reads.TooLong h = h
+input_note-loaded reads.Memory h = h
+
+pub front_note-loaded : (note : Note) → (note ≡ notes.NoRun) ⊎ (note ≡ notes.OutOfMemory) → IsUnloaded (Some note) → ⊥
+front_note-loaded note (inl e) h = subst (λ m. IsUnloaded (Some m)) e h
+front_note-loaded note (inr e) h = subst (λ m. IsUnloaded (Some m)) e h
+
+pub reports_note-loaded : (fault : ExploreFault) → IsUnloaded (Some (reports_note fault)) → ⊥
+reports_note-loaded (explores.Memory n) h = h
+reports_note-loaded (explores.Write n) h = h
+
 pub reports_note-write : {T : Type 0} (fault : ExploreFault) → (IsErrOf {T = ℕ} (Err (reports_note fault)) notes.Unwritten → ⊥)
     → (n : ℕ) → IsErrOf {T = T} (Err fault) (explores.Write n) → ⊥
 reports_note-write (explores.Memory m) h n e = absurd cc
@@ -76,11 +89,11 @@ module _ (p : StoredProgram) (limit : ℕ) (after : Option Answers) (first : Opt
   abbrev due : List (List ℕ) → List ℕ
   due input = listed_runs (game input) (most_answers p input limit) after first
 
-  reply-listed : (input : List (List ℕ)) → is_front (game input) after ≡ true → reply input ≡ success (due input)
+  pub reply-listed : (input : List (List ℕ)) → is_front (game input) after ≡ true → reply input ≡ success (due input)
   unfolding runs_reply
   reply-listed input h = ap (λ (t : Bool). elim t [ true ↦ success (due input) | false ↦ refusal notes.NoRun ]) h
 
-  reply-refused : (input : List (List ℕ)) → is_front (game input) after ≡ false → reply input ≡ refusal notes.NoRun
+  pub reply-refused : (input : List (List ℕ)) → is_front (game input) after ≡ false → reply input ≡ refusal notes.NoRun
   unfolding runs_reply
   reply-refused input h = ap (λ (t : Bool). elim t [ true ↦ success (due input) | false ↦ refusal notes.NoRun ]) h
 

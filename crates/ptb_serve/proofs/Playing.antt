@@ -20,7 +20,7 @@ use Rattle.ptb_machine.specs.declared.fault.RunFault.TheVariants as runs
 use Rattle.ptb_machine.specs.Play.{Finish, play, plain, plain_of}
 use Rattle.ptb_command.specs.Effects.{Begins}
 use Rattle.ptb_devices.specs.Sources.{LineList, Gives}
-use Rattle.ptb_command.specs.Devices.{ScreenState, Devices, devices, Exchange, Refusal, refused_by}
+use Rattle.ptb_command.specs.Devices.{ScreenState, Devices, devices, with_failures, Exchange, Refusal, refused_by}
 use Rattle.ptb_machine.specs.Runs.{played_bytes, Plays, IsFinished, IsUnanswered, RunComes, Runs}
 use Rattle.ptb_serve.specs.PlainRuns.{ShowsRun}
 
@@ -64,7 +64,7 @@ pub record IsPlainRun (p : StoredProgram) (limit : ℕ) (lines : List (List ℕ)
   pub write : IsErrOf result runs.Write → TakesSome old.shown new.shown (plain p lines limit a).0
   pub failed : IsErrOf result runs.Write → HasFailed old.failures new.failures
   pub memory : IsErrOf result runs.Memory → Appends old.shown new.shown []
-  pub unfailed : IsErrOf result runs.Memory → new.failures ≡ old.failures
+  pub unfailed : (IsErrOf result runs.Write → ⊥) → new.failures ≡ old.failures
   pub unread : IsErrOf result runs.Read → ⊥
   pub unspent : IsErrOf result runs.Spent → ⊥
 
@@ -84,26 +84,35 @@ module _ (p : StoredProgram) (limit : ℕ) (a : List ℤ) (l : AnswerList) (old 
   abbrev rest : Answers
   rest = drop l.given l.answers
 
-  is_ok : (e : Ending) → new.borrow ≡ old.borrow → ShowsRun (plain p lines limit a) old.shown new.shown e → IsPlainRun p limit lines a old new (Ok e)
-  is_ok e same h = record { same_borrow = same; ok = h; write = λ f. cc; failed = λ f. cc; memory = λ f. cc; unfailed = λ f. cc; unread = λ f. cc; unspent = λ f. cc }
+  is_ok : {x : Exchange} {left : Answers → Outcome Finish (List ℕ)} (e : Ending) → Plays p limit lines before later x left → ShowsRun (plain p lines limit a) old.shown new.shown e → IsPlainRun p limit lines a old new (Ok e)
+  is_ok e plays h = record {
+    same_borrow = plays.exchanges.shows.same_borrow;
+    ok = h;
+    write = λ f. cc;
+    failed = λ f. cc;
+    memory = λ f. cc;
+    unfailed = λ f. plays.exchanges.unfailed;
+    unread = λ f. cc;
+    unspent = λ f. cc;
+  }
 
-  -- the play with all of the answers is what is left of it, with those that are left
-  play_is : (x : Exchange) (left : Answers → Outcome Finish (List ℕ)) → Plays p limit lines before later x left → play p lines limit a ≡ left rest
-  play_is x left h =
+  -- the play with all of the answers is what is left of it, with those that are left, however often the writer has failed
+  play_is : (failures : ℕ) (x : Exchange) (left : Answers → Outcome Finish (List ℕ)) → Plays p limit lines before (with_failures failures later) x left → play p lines limit a ≡ left rest
+  play_is failures x left h =
       ap (play p lines limit) (given_first a l x.answers x.bounds h.exchanges.grown)
       ∙ ap (λ (f : Answers → Outcome Finish (List ℕ)). f rest) h.leaves.rest
 
   shows_run : (x : Exchange) (left : Answers → Outcome Finish (List ℕ)) (e : Ending) (o : Outcome Finish (List ℕ)) → Plays p limit lines before later x left
       → left rest ≡ o → plain_of o ≡ (x.bytes, e) → ShowsRun (plain p lines limit a) old.shown new.shown e
   shows_run x left e o h is ends =
-      let all : plain p lines limit a ≡ (x.bytes, e) = ap plain_of (play_is x left h ∙ is) ∙ ends in
+      let all : plain p lines limit a ≡ (x.bytes, e) = ap plain_of (play_is new.failures x left h ∙ is) ∙ ends in
       record {
         ending = sym (ap (λ r. r.1) all);
         bytes = subst (Appends old.shown new.shown) (sym (ap (λ r. r.0) all)) h.exchanges.shows.shown;
       }
 
   finished : (e : Ending) → IsFinished refused p limit lines before later e → IsPlainRun p limit lines a old new (Ok e)
-  finished e h = is_ok e h.plays.exchanges.shows.same_borrow (shows_run h.exchange _ e _ h.plays refl refl)
+  finished e h = is_ok e h.plays (shows_run h.exchange _ e _ h.plays refl refl)
 
   -- INPUT found no line left, so all of them were given
   dry : RunComes refused p limit behind before later (Ok endings.NoInput) → IsPlainRun p limit lines a old new (Ok endings.NoInput)
@@ -114,24 +123,24 @@ module _ (p : StoredProgram) (limit : ℕ) (a : List ℤ) (l : AnswerList) (old 
   unanswered : IsUnanswered refused p limit lines before later pauses.Ended → IsPlainRun p limit lines a old new (Ok endings.NoAnswer)
   unanswered h =
       let none : rest ≡ [] = drop_all l.given l.answers (omega (arith, h.refuses)) in
-      is_ok endings.NoAnswer h.plays.exchanges.shows.same_borrow (shows_run h.exchange h.left endings.NoAnswer _ h.plays (ap h.left none ∙ h.asks) refl)
+      is_ok endings.NoAnswer h.plays (shows_run h.exchange h.left endings.NoAnswer _ h.plays (ap h.left none ∙ h.asks) refl)
 
   out_of_range : (k : ℤ) → IsUnanswered refused p limit lines before later (pauses.OutOfRange k) → IsPlainRun p limit lines a old new (Ok endings.BadAnswer)
   out_of_range k h =
-      is_ok endings.BadAnswer h.plays.exchanges.shows.same_borrow
+      is_ok endings.BadAnswer h.plays
       (shows_run h.exchange h.left endings.BadAnswer _ h.plays (ap h.left (front_at l.answers l.given k h.refuses.0) ∙ h.outside (drop (suc l.given) l.answers)) refl)
 
   unwritten : RunComes refused p limit behind before later (Err runs.Write) → IsPlainRun p limit lines a old new (Err runs.Write)
   unwritten h =
       let begins = h.begins rest in
-      let all : (plain p lines limit a).0 ≡ played_bytes (h.left rest) = plain_bytes (play p lines limit a) ∙ ap played_bytes (play_is h.exchange h.left h.plays) in
+      let all : (plain p lines limit a).0 ≡ played_bytes (h.left rest) = plain_bytes (play p lines limit a) ∙ ap played_bytes (play_is old.failures h.exchange h.left h.plays) in
       record {
         same_borrow = h.plays.exchanges.shows.same_borrow;
         ok = tt;
         write = λ _. takes_beginning old.shown new.shown h.exchange.bytes _ h.plays.exchanges.shows.shown (begins.0, all ∙ begins.1);
-        failed = λ _. h.broken;
+        failed = λ _. h.broken.0;
         memory = λ f. cc;
-        unfailed = λ f. cc;
+        unfailed = λ f. absurd (f refl);
         unread = λ f. cc;
         unspent = λ f. cc;
       }
@@ -141,7 +150,7 @@ module _ (p : StoredProgram) (limit : ℕ) (a : List ℤ) (l : AnswerList) (old 
   out_of_memory e h =
       elim h [
         | inl same ↦ same
-        | inr u ↦ elim (u.broken.by) [ inl t ↦ absurd (let both : true ≡ false = sym t ∙ e in cc) | inr r ↦ elim r [ inl q ↦ absurd q.1 | inr q ↦ absurd q ] ]
+        | inr u ↦ elim (u.broken.0.by) [ inl t ↦ absurd (let both : true ≡ false = sym t ∙ e in cc) | inr r ↦ elim r [ inl q ↦ absurd q.1 | inr q ↦ absurd q ] ]
       ]
 
   unbegun : later ≡ before → IsPlainRun p limit lines a old new (Err runs.Memory)
@@ -158,7 +167,7 @@ module _ (p : StoredProgram) (limit : ℕ) (a : List ℤ) (l : AnswerList) (old 
 
   -- a list of lines can always be read
   is_read : RunComes refused p limit behind before later (Err runs.Read) → ⊥
-  is_read h = elim (h.broken.by) [ inl q ↦ q | inr q ↦ q ]
+  is_read h = elim (h.broken.0.by) [ inl q ↦ q | inr q ↦ q ]
 
   run_comes : old.takes_memory ≡ false → (result : Result Ending RunFault) → RunComes refused p limit behind before later result
       → IsPlainRun p limit lines a old new result
@@ -205,7 +214,7 @@ pub record IsRunBetween {W : Type 0} (contents : W → Option (List ℕ)) (failu
   pub write : IsErrOf result runs.Write → TakesSome (contents w) (contents v) (plain p ls limit a).0
   pub failed : IsErrOf result runs.Write → HasFailed (failures w) (failures v)
   pub memory : IsErrOf result runs.Memory → Appends (contents w) (contents v) []
-  pub unfailed : IsErrOf result runs.Memory → failures v ≡ failures w
+  pub unfailed : (IsErrOf result runs.Write → ⊥) → failures v ≡ failures w
   pub unread : IsErrOf result runs.Read → ⊥
   pub unspent : IsErrOf result runs.Spent → ⊥
 

@@ -1,27 +1,87 @@
 -- This file proves the laws of replies.
-use Rattle.std.proofs.Common.{◌≡◌, ap, ℕ, ◌<◌, List, length, Bool, true, false, Err}
-use Rattle.std.proofs.lemmas.Bool.{lt-ltb}
+use Rattle.std.proofs.Common.{◌≡◌, refl, ap, ◌∙◌, ℕ, ◌<◌, List, length, Bool, true, false, Option, Some, None, Ok, Err, ◌↔◌}
+use Rattle.std.proofs.lemmas.Bool.{false_from_ne_true, lt-ltb}
+use Rattle.ptb_text.specs.declared.fault.LoadFault.{LoadFault}
 use Rattle.ptb_text.specs.declared.fault.LoadFault.TheVariants.{TooLong}
 use Rattle.ptb_text.specs.Lines.{input_lines}
-use Rattle.ptb_text.specs.Statements.{StoredProgram, program, program_limit}
+use Rattle.ptb_text.specs.Statements.{Statements, StoredProgram, program, program_limit}
+use Rattle.ptb_expr.specs.Outcome.{Answers, Outcome}
+use Rattle.ptb_machine.specs.Play.{Finish, play}
+use Rattle.ptb_machine.specs.Questions.{most_answers}
+use Rattle.ptb_explore.specs.Laws.{ListingLaws}
+use Rattle.ptb_explore.specs.Report.{report_of}
+use Rattle.ptb_explore.specs.RunTree.{IsRun, Before, is_after, runs_after}
 use Rattle.ptb_serve.specs.declared.note.Note.TheVariants as notes
 use Rattle.ptb_options.specs.declared.request.Mode.{Mode}
 use Rattle.ptb_options.specs.declared.request.Mode.TheVariants as modes
 use Rattle.ptb_options.specs.declared.request.Request.{Request}
-use Rattle.ptb_serve.specs.Replies.{Reply, refusal, plain_reply, all_reply, listing_reply, program_of_text, reply_or_refusal, program_reply, reply_in_mode}
-use Rattle.ptb_serve.specs.ReplyLaws.{ReplyLaws}
+use Rattle.ptb_serve.specs.Replies.{Reply, refusal, plain_reply, first_front, is_front, all_reply, listing_reply, program_of_text, reply_or_refusal, program_reply, reply_in_mode}
+use Rattle.ptb_serve.specs.ReplyLaws.{ListsRuns, RunReplies, ReplyLaws}
+use Rattle.ptb_serve.proofs.Listed.{reply-listed, reply-refused}
+
+-- ---- a text that is refused
 
 too_long_text : (memory : ℕ) (b : List ℕ) → program_limit < length b → program_of_text memory b ≡ Err (0, TooLong)
 unfolding program_of_text
 too_long_text memory b long = ap (λ (t : Bool). elim t [ true ↦ Err (0, TooLong) | false ↦ program memory b ]) (lt-ltb program_limit (length b) long)
 
-refused : (memory : ℕ) (b : List ℕ) (next : StoredProgram → Reply) → program_limit < length b → program_reply memory b next ≡ refusal (notes.Load 0 TooLong)
-refused memory b next long = ap (reply_or_refusal next memory) (too_long_text memory b long)
+refused : (memory : ℕ) (b : List ℕ) (next : StoredProgram → Reply) (e : ℕ × LoadFault) → program_of_text memory b ≡ Err e
+    → program_reply memory b next ≡ refusal (notes.Load e.0 e.1)
+refused memory b next e h = ap (reply_or_refusal next memory) h
 
-in_mode : (m : Mode) (r : Request) (b c : List ℕ) → program_limit < length b → reply_in_mode m r b c ≡ refusal (notes.Load 0 TooLong)
-in_mode (modes.Plain a) r b c long = refused r.memory b (plain_reply r.steps a c) long
-in_mode (modes.All after first) r b c long = refused r.memory b (λ p. all_reply p (input_lines c) r.steps after first) long
-in_mode modes.List r b c long = refused r.memory b listing_reply long
+refused_in_mode : (m : Mode) (r : Request) (b c : List ℕ) (e : ℕ × LoadFault) → program_of_text r.memory b ≡ Err e
+    → reply_in_mode m r b c ≡ refusal (notes.Load e.0 e.1)
+refused_in_mode (modes.Plain a) r b c e h = refused r.memory b (plain_reply r.steps a c) e h
+refused_in_mode (modes.All after first) r b c e h = refused r.memory b (λ p. all_reply p (input_lines c) r.steps after first) e h
+refused_in_mode modes.List r b c e h = refused r.memory b listing_reply e h
 
-pub reply_laws : ReplyLaws
-reply_laws = record { too_long = λ r b c long. in_mode r.mode r b c long }
+-- ---- a text that is accepted
+
+accepted : (memory : ℕ) (b : List ℕ) (next : StoredProgram → Reply) (p : Statements) → program_of_text memory b ≡ Ok p
+    → program_reply memory b next ≡ next (record { lines = p; memory = memory })
+accepted memory b next p h = ap (reply_or_refusal next memory) h
+
+module _ (p : StoredProgram) (c : List ℕ) (limit : ℕ) (laws : ListingLaws (play p (input_lines c) limit) (most_answers p (input_lines c) limit)) where
+  abbrev game : Answers → Outcome Finish (List ℕ)
+  game = play p (input_lines c) limit
+
+  -- a listing begins with the first run, or behind one that is named; these are the runs that are to be listed
+  lists_runs : (after : Option Answers) → is_front game after ≡ true → (IsListed : Answers → Type 0)
+      → ((a : Answers) → (IsRun game a × (is_after (first_front after) a ≡ true)) ↔ IsListed a)
+      → (reply : Option ℕ → Reply) → ((first : Option ℕ) → reply first ≡ all_reply p (input_lines c) limit after first)
+      → ListsRuns game IsListed reply
+  lists_runs after front IsListed same reply is = record {
+    runs = runs_after game (most_answers p (input_lines c) limit) (first_front after);
+    rising = laws.order (first_front after);
+    members = λ a.
+        let left = laws.runs (first_front after) a in
+        (λ h. (same a).0 (left.0 h), λ h. left.1 ((same a).1 h));
+    all = is None ∙ reply-listed p limit after None (input_lines c) front;
+    first = λ n. is (Some n) ∙ reply-listed p limit after (Some n) (input_lines c) front;
+  }
+
+  -- where replies to runs of it are those of the definition
+  run_replies : (reply : Mode → Reply) → ((a : Answers) → reply (modes.Plain a) ≡ plain_reply limit a c p)
+      → ((after : Option Answers) (first : Option ℕ) → reply (modes.All after first) ≡ all_reply p (input_lines c) limit after first)
+      → RunReplies game reply
+  run_replies reply plain all = record {
+    all_runs = lists_runs None refl (IsRun game) (λ a. (λ h. h.0, λ h. (h, refl))) (λ first. reply (modes.All None first)) (all None);
+    runs_after = λ r run.
+        lists_runs (Some r) run (λ a. IsRun game a × Before r a) (λ a. (λ h. h, λ h. h)) (λ first. reply (modes.All (Some r) first)) (all (Some r));
+    no_run = λ r first none. all (Some r) first ∙ reply-refused p limit (Some r) first (input_lines c) (false_from_ne_true _ none);
+    run_report = λ a f ends. ap (report_of a) ends;
+    plain_run = plain;
+  }
+
+-- ---- all of them
+
+pub reply_laws : ((p : StoredProgram) (input : List (List ℕ)) (limit : ℕ) → ListingLaws (play p input limit) (most_answers p input limit)) → ReplyLaws
+reply_laws laws = record {
+  too_long = λ r b c long. refused_in_mode r.mode r b c (0, TooLong) (too_long_text r.memory b long);
+  refused = λ r b c e h. refused_in_mode r.mode r b c e h;
+  accepted = λ memory steps b c p h.
+      run_replies (record { lines = p; memory = memory }) c steps (laws (record { lines = p; memory = memory }) (input_lines c) steps) _
+      (λ a. accepted memory b (plain_reply steps a c) p h)
+      (λ after first. accepted memory b (λ p. all_reply p (input_lines c) steps after first) p h);
+  listed = λ r b c p h mode. ap (λ m. reply_in_mode m r b c) mode ∙ accepted r.memory b listing_reply p h;
+}

@@ -1,10 +1,10 @@
 -- This file proves how a request is served, from how its program was loaded and what was written.
-use Rattle.std.proofs.Common.{◌≡◌, ℕ, ◌<◌, ◌≤◌, true, false, nat_lt, List, [], length, Option, Some, None, Result, Ok, Err, IfSome, IfErr, OnOk, refl, ap, ◌∙◌, sym, arith, IsErrOf, ℤ, subst}
+use Rattle.std.proofs.Common.{◌≡◌, ℕ, ◌+◌, ◌<◌, ◌≤◌, true, false, nat_lt, List, [], length, Option, Some, None, Result, Ok, Err, IfSome, IfErr, OnOk, refl, ap, ◌∙◌, sym, arith, IsErrOf, ℤ, subst}
 use Rattle.std.specs.Io.KnownBytes.{Appends, Consumes}
 use Rattle.std.proofs.KnownBytes.{Appends-nil, Consumes-nil}
 use Rattle.ptb_text.specs.declared.fault.LoadFault.{LoadFault}
 use Rattle.ptb_text.specs.declared.fault.LoadFault.TheVariants as loads
-use Rattle.ptb_text.specs.Device.{TakesSome}
+use Rattle.ptb_text.specs.Device.{GivesExactly, TakesSome}
 use Rattle.ptb_text.specs.Entry.{IsLineFault}
 use Rattle.ptb_text.specs.Loading.{IsLoaded, IsRefusedAt}
 use Rattle.ptb_text.specs.Statements.{Statements, StoredProgram, program_limit}
@@ -19,7 +19,7 @@ use Rattle.ptb_serve.specs.declared.note.Note.{Note}
 use Rattle.ptb_serve.specs.declared.note.Note.TheVariants as notes
 use Rattle.ptb_serve.specs.PlainRuns.{ShowsRun}
 use Rattle.ptb_serve.specs.Replies.{Reply, refusal, plain_reply, program_of_text, reply_or_refusal, program_reply}
-use Rattle.ptb_serve.specs.Serving.{outcome_of, load_note, IsRunNote, Replies, Serves}
+use Rattle.ptb_serve.specs.Serving.{outcome_of, load_note, IsRunNote, IsUnloaded, Replies, Serves, TellsLength, TellsRefusal}
 
 -- ---- the program of a text
 
@@ -132,6 +132,55 @@ load_note-start e h = by_fault e.1 h where
   by_fault loads.Read h = absurd cc
   by_fault loads.TooLong h = absurd cc
 
+-- ---- what a note tells of a program that isn't loaded
+
+pub load_note-refusal : (memory : ℕ) (known : Option (List ℕ)) (e : ℕ × LoadFault)
+    → (IsLineFault e.1 → IfSome known (λ b. IsRefusedAt memory b e))
+    → (e.1 ≡ loads.TooLong → (e.0 ≡ 0) × IfSome known (λ b. program_limit < length b))
+    → TellsRefusal memory known (Some (load_note e))
+load_note-refusal memory known e refused too_long = by_fault e.1 refused too_long where
+  of_line : (fault : LoadFault) (known : Option (List ℕ)) → IfSome known (λ b. IsRefusedAt memory b (e.0, fault))
+      → IfSome known (λ b. program_of_text memory b ≡ Err (e.0, fault))
+  of_line fault None h = tt
+  of_line fault (Some b) h = program_of_text-refused memory b (e.0, fault) h
+
+  of_text : (known : Option (List ℕ)) → e.0 ≡ 0 → IfSome known (λ b. program_limit < length b)
+      → IfSome known (λ b. program_of_text memory b ≡ Err (e.0, loads.TooLong))
+  of_text None first h = tt
+  of_text (Some b) first h = rw first (program_of_text-too_long memory b h)
+
+  by_fault : (fault : LoadFault) → (IsLineFault fault → IfSome known (λ b. IsRefusedAt memory b (e.0, fault)))
+      → (fault ≡ loads.TooLong → (e.0 ≡ 0) × IfSome known (λ b. program_limit < length b))
+      → TellsRefusal memory known (Some (load_note (e.0, fault)))
+  by_fault loads.NoNumber h l = of_line loads.NoNumber known (h tt)
+  by_fault loads.NumberTooBig h l = of_line loads.NumberTooBig known (h tt)
+  by_fault loads.TextTooLong h l = of_line loads.TextTooLong known (h tt)
+  by_fault (loads.BadByte place) h l = of_line (loads.BadByte place) known (h tt)
+  by_fault loads.Full h l = of_line loads.Full known (h tt)
+  by_fault loads.Memory h l = tt
+  by_fault loads.Read h l = tt
+  by_fault loads.TooLong h l = of_text known (l refl).0 (l refl).1
+
+pub load_note-length : (old new : ℕ) (e : ℕ × LoadFault) → (e.1 ≡ loads.TooLong → GivesExactly old new (program_limit + 1))
+    → TellsLength old new (Some (load_note e))
+load_note-length old new e exactly = by_fault e.1 exactly where
+  by_fault : (fault : LoadFault) → (fault ≡ loads.TooLong → GivesExactly old new (program_limit + 1)) → TellsLength old new (Some (load_note (e.0, fault)))
+  by_fault loads.NoNumber h = tt
+  by_fault loads.NumberTooBig h = tt
+  by_fault loads.TextTooLong h = tt
+  by_fault (loads.BadByte place) h = tt
+  by_fault loads.Full h = tt
+  by_fault loads.Memory h = tt
+  by_fault loads.Read h = tt
+  by_fault loads.TooLong h = h refl
+
+-- a run that is begun has a program
+pub IsRunNote-loaded : (f : RunFault) (note : Note) → IsRunNote f note → IsUnloaded (Some note) → ⊥
+IsRunNote-loaded faults.Memory note n h = subst (λ m. IsUnloaded (Some m)) n h
+IsRunNote-loaded faults.Read note n h = subst (λ m. IsUnloaded (Some m)) n h
+IsRunNote-loaded faults.Write note n h = subst (λ m. IsUnloaded (Some m)) n h
+IsRunNote-loaded faults.Spent note n h = absurd n
+
 -- ---- a program that is loaded
 
 -- a text that was loaded isn't refused
@@ -208,23 +257,18 @@ IsRunNote-read faults.Read note n h e = h (ap Err n)
 IsRunNote-read faults.Write note n h e = absurd cc
 IsRunNote-read faults.Spent note n h e = absurd n
 
-pub IsRunNote-memory : (f : RunFault) (note : Note) → IsRunNote f note → IsErrOf {T = ℕ} (Err note) notes.OutOfMemory
-    → IsErrOf {T = Ending} (Err f) faults.Memory
-IsRunNote-memory faults.Memory note n h = refl
-IsRunNote-memory faults.Read note n h = absurd cc
-IsRunNote-memory faults.Write note n h = absurd cc
-IsRunNote-memory faults.Spent note n h = absurd n
+pub IsRunNote-write : (f : RunFault) (note : Note) → IsRunNote f note → (IsErrOf {T = ℕ} (Err note) notes.Unwritten → ⊥)
+    → IsErrOf {T = Ending} (Err f) faults.Write → ⊥
+IsRunNote-write faults.Memory note n h e = absurd cc
+IsRunNote-write faults.Read note n h e = absurd cc
+IsRunNote-write faults.Write note n h e = h (ap Err n)
+IsRunNote-write faults.Spent note n h e = absurd n
 
 -- ---- an outcome
 
 pub outcome_of-note : (r : Result ℕ Note) (note : Note) → (outcome_of r).note ≡ Some note → IsErrOf r note
 outcome_of-note (Ok status) note h = absurd cc
 outcome_of-note (Err n) note h = cc
-
--- one note isn't another
-pub outcome_of-other : (r : Result ℕ Note) → (outcome_of r).note ≡ Some notes.OutOfMemory → IsErrOf r notes.Unwritten → ⊥
-outcome_of-other (Ok status) h e = absurd cc
-outcome_of-other (Err n) h e = absurd cc
 
 pub outcome_of-none : (r : Result ℕ Note) (Q : Type 0) → OnOk r Q → (outcome_of r).note ≡ None → Q
 outcome_of-none (Ok status) Q q h = q

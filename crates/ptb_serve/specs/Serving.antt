@@ -6,15 +6,19 @@
 --     after_note e                      the note of a listing that isn't begun behind a run
 --     reports_note e                    the note of reports that are not all written
 --     Serves reply old new outcome      the reply is given, or it is broken off
+--     IsUnloaded note                   the program was not read, or its text is refused
+--     TellsRefusal memory known note    a text is noted as refused as it is refused, where it is known
+--     TellsLength old new note          a text is noted as too long where one byte too many was given
 --     SilentBy mode note old new        nothing was written, unless what was due was broken off
 --     IsPlainRun mode                   the program is run once
 --     NeedsInput mode                   the input is read
 --     IsInput mode known c              c is the input, where the mode needs it
-use Rattle.std.specs.Prelude.{◌≡◌, ℕ, List, [], Option, Some, None, Result, Ok, Err}
+use Rattle.std.specs.Prelude.{◌≡◌, ℕ, ◌+◌, IfSome, List, [], Option, Some, None, Result, Ok, Err}
 use Rattle.std.specs.Io.KnownBytes.{Appends}
 use Rattle.ptb_text.specs.declared.fault.LoadFault.{LoadFault}
 use Rattle.ptb_text.specs.declared.fault.LoadFault.TheVariants as loads
-use Rattle.ptb_text.specs.Device.{TakesSome}
+use Rattle.ptb_text.specs.Device.{GivesExactly, TakesSome}
+use Rattle.ptb_text.specs.Statements.{program_limit}
 use Rattle.ptb_devices.specs.declared.fault.ReadFault.{ReadFault}
 use Rattle.ptb_devices.specs.declared.fault.ReadFault.TheVariants as reads
 use Rattle.ptb_machine.specs.declared.fault.RunFault.{RunFault}
@@ -29,7 +33,7 @@ use Rattle.ptb_options.specs.declared.request.Mode.{Mode}
 use Rattle.ptb_options.specs.declared.request.Mode.TheVariants as modes
 use Rattle.ptb_serve.specs.declared.service.Outcome.{Outcome}
 use Rattle.ptb_serve.specs.Statuses.{note_status}
-use Rattle.ptb_serve.specs.Replies.{Reply}
+use Rattle.ptb_serve.specs.Replies.{Reply, program_of_text}
 
 -- ---- outcomes
 
@@ -105,6 +109,29 @@ abbrev pub IsPlainRun : Mode → Type 0
 IsPlainRun (modes.Plain a) = Unit {0}
 IsPlainRun (modes.All after first) = ⊥
 IsPlainRun modes.List = ⊥
+
+-- ---- a program that isn't loaded
+
+abbrev pub IsUnloaded : Option Note → Type 0
+IsUnloaded (Some (notes.Load line fault)) = Unit {0}
+IsUnloaded (Some notes.ProgramUnread) = Unit {0}
+IsUnloaded (Some notes.InputUnread) = ⊥
+IsUnloaded (Some notes.NoRun) = ⊥
+IsUnloaded (Some notes.OutOfMemory) = ⊥
+IsUnloaded (Some notes.Unwritten) = ⊥
+IsUnloaded None = ⊥
+
+-- the line and the fault that are noted are those of the first refusal
+abbrev pub TellsRefusal : ℕ → Option (List ℕ) → Option Note → Type 0
+TellsRefusal memory known (Some (notes.Load line fault)) = IfSome known (λ b. program_of_text memory b ≡ Err (line, fault))
+TellsRefusal memory known (Some note) = Unit {0}
+TellsRefusal memory known None = Unit {0}
+
+-- by how many bytes the program's reader had given before and after
+abbrev pub TellsLength : ℕ → ℕ → Option Note → Type 0
+TellsLength old new (Some (notes.Load line loads.TooLong)) = GivesExactly old new (program_limit + 1)
+TellsLength old new (Some note) = Unit {0}
+TellsLength old new None = Unit {0}
 
 -- ---- the input
 

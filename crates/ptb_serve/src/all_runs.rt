@@ -2,7 +2,7 @@
 
 ghost use Rattle.std.specs.Prelude.{◌≡◌, ◌⊎◌, ◌+◌, ◌≤◌, ℕ, List, length, false, true};
 ghost use Rattle.std.specs.Prelude.{IfErr, IfOk, IfSome, IsErrOf, OnOk};
-ghost use Rattle.ptb_text.specs.Device.{HasFailed};
+ghost use Rattle.ptb_text.specs.Device.{GivesAtMost, GivesExactly, HasFailed};
 ghost use Rattle.ptb_text.specs.Statements.{IsMemorySize, program_limit};
 ghost use Rattle.ptb_machine.specs.Play.{play};
 ghost use Rattle.ptb_devices.specs.Sources.{ConsumesAtMost};
@@ -11,7 +11,8 @@ ghost use Rattle.ptb_serve.specs.declared.note.Note.TheVariants.{Load};
 ghost use Rattle.ptb_serve.specs.PlainRuns.{IsUnreadable, input_limit};
 ghost use Rattle.ptb_serve.specs.Replies.{first_front, is_front, program_of_text, refusal};
 ghost use Rattle.ptb_serve.specs.Replies.{reply_in_mode};
-ghost use Rattle.ptb_serve.specs.Serving.{Serves, SilentBy, outcome_of};
+ghost use Rattle.ptb_serve.specs.Serving.{IsUnloaded, Serves, SilentBy, TellsLength, TellsRefusal};
+ghost use Rattle.ptb_serve.specs.Serving.{outcome_of};
 
 use crate::note::Note;
 use ptb_explore::{Explorer, write_all_runs};
@@ -61,6 +62,15 @@ pub fn list_runs<P: Read, R: Read, W: Write>(
         (P.remaining program.old) (P.remaining program.new) (program_limit + 1) }
     ensures input_bounded { ConsumesAtMost
         (R.remaining input.old) (R.remaining input.new) (input_limit + 1) }
+    ensures tells_refusal { TellsRefusal request.now.memory (P.remaining program.old)
+        (outcome_of result).note }
+    ensures tells_length { TellsLength (P.given program.old) (P.given program.new)
+        (outcome_of result).note }
+    ensures unloaded { IsUnloaded (outcome_of result).note → input.new ≡ input.old }
+    ensures program_given { GivesAtMost
+        (P.given program.old) (P.given program.new) (program_limit + 1) }
+    ensures input_given { GivesAtMost
+        (R.given input.old) (R.given input.new) (input_limit + 1) }
     ensures silent { SilentBy (All after.now first) (outcome_of result).note
         (W.contents out.old) (W.contents out.new) }
     ensures program_unread { IsErrOf result Note.ProgramUnread
@@ -69,6 +79,9 @@ pub fn list_runs<P: Read, R: Read, W: Write>(
         → P.failures program.new ≡ P.failures program.old }
     ensures input_unread { IsErrOf result Note.InputUnread
         → IsUnreadable (R.remaining input.old) (R.failures input.old) (R.failures input.new) }
+    ensures input_failed_or_given { IsErrOf result Note.InputUnread
+        → HasFailed (R.failures input.old) (R.failures input.new)
+        ⊎ GivesExactly (R.given input.old) (R.given input.new) (input_limit + 1) }
     ensures input_read { ¬ IsErrOf result Note.InputUnread
         → R.failures input.new ≡ R.failures input.old }
     ensures unwritten { IsErrOf result Note.Unwritten

@@ -2,8 +2,15 @@
 
 ghost use Rattle.ptb_serve.specs.ReplyLaws.{ReplyLaws};
 
-/// A program text of more than 1,048,576 bytes is refused as a whole, whatever is asked for.
+use ptb_explore::program_laws;
+
+/// What the reply to each request is, for every program text and every input. A text that is
+/// refused, as each of more than 1,048,576 bytes is, has its refusal. Of one that is accepted, it is
+/// the reports of all its runs, each once, in the order of their answers, or those behind a run, or
+/// the first of them; what one run shows, with the status of its ending; or the program's lines.
 #[tactic(auto, using(crate::proofs::Replying::reply_laws))]
 pub fn reply_laws()
     ensures { ReplyLaws }
-{}
+{
+    program_laws();
+}

@@ -1,8 +1,8 @@
 // This file has the plain run, which plays a program once with a list of answers.
 
-ghost use Rattle.std.specs.Prelude.{◌≡◌, ◌+◌, ◌≤◌, [], length, IfOk, IfSome, IsErrOf, OnOk};
+ghost use Rattle.std.specs.Prelude.{◌≡◌, ◌⊎◌, ◌+◌, ◌≤◌, [], length, IfOk, IfSome, IsErrOf, OnOk};
 ghost use Rattle.std.specs.Io.KnownBytes.{Appends};
-ghost use Rattle.ptb_text.specs.Device.{HasFailed, TakesSome};
+ghost use Rattle.ptb_text.specs.Device.{GivesAtMost, GivesExactly, HasFailed, TakesSome};
 ghost use Rattle.ptb_text.specs.Lines.{input_lines};
 ghost use Rattle.ptb_machine.specs.Play.{plain};
 ghost use Rattle.ptb_devices.specs.Sources.{ConsumesAtMost};
@@ -51,11 +51,15 @@ pub fn run_plain<R: Read, W: Write>(
         → IsUnreadable (R.remaining input.old) (R.failures input.old) (R.failures input.new) }
     ensures input_read { ¬ IsErrOf result RunFault.Read
         → R.failures input.new ≡ R.failures input.old }
-    ensures unfailed { IsErrOf result RunFault.Memory
+    ensures unfailed { ¬ IsErrOf result RunFault.Write
         → W.failures out.new ≡ W.failures out.old }
     ensures unspent { ¬ IsErrOf result RunFault.Spent }
     ensures bounded { ConsumesAtMost (R.remaining input.old) (R.remaining input.new)
         (input_limit + 1) }
+    ensures given { GivesAtMost (R.given input.old) (R.given input.new) (input_limit + 1) }
+    ensures failed_or_given { IsErrOf result RunFault.Read
+        → HasFailed (R.failures input.old) (R.failures input.new)
+        ⊎ GivesExactly (R.given input.old) (R.given input.new) (input_limit + 1) }
 {
     let lines = match read_lines(alloc, input) {
         Ok(lines) => lines,

@@ -1,8 +1,8 @@
 // This file serves a request: it loads the program, and runs it, reports all its runs, or lists it.
 
-ghost use Rattle.std.specs.Prelude.{◌≡◌, ◌≢◌, ◌+◌, ◌≤◌, ℕ, List, [], length};
+ghost use Rattle.std.specs.Prelude.{◌≡◌, ◌≢◌, ◌⊎◌, ◌+◌, ◌≤◌, ℕ, List, [], length};
 ghost use Rattle.std.specs.Prelude.{IfErr, IfOk, IfSome, IsErrOf, MatchOption, OnOk};
-ghost use Rattle.ptb_text.specs.Device.{HasFailed};
+ghost use Rattle.ptb_text.specs.Device.{GivesAtMost, GivesExactly, HasFailed};
 ghost use Rattle.ptb_text.specs.Statements.{IsMemorySize, program_limit};
 ghost use Rattle.ptb_machine.specs.Play.{status};
 ghost use Rattle.ptb_devices.specs.Sources.{ConsumesAtMost};
@@ -11,7 +11,8 @@ ghost use Rattle.ptb_serve.specs.declared.note.Note.TheVariants.{Load};
 ghost use Rattle.ptb_serve.specs.PlainRuns.{IsUnreadable, input_limit};
 ghost use Rattle.ptb_serve.specs.Replies.{program_of_text, refusal, reply_in_mode, reply_to};
 ghost use Rattle.ptb_serve.specs.Serving.{IsInput, IsPlainRun, IsRunNote, NeedsInput, Serves};
-ghost use Rattle.ptb_serve.specs.Serving.{SilentBy, outcome_of};
+ghost use Rattle.ptb_serve.specs.Serving.{IsUnloaded, SilentBy, TellsLength, TellsRefusal};
+ghost use Rattle.ptb_serve.specs.Serving.{outcome_of};
 ghost use Rattle.ptb_serve.specs.Statuses.{note_status};
 
 use crate::all_runs::list_runs;
@@ -51,11 +52,14 @@ impl Outcome {
 /// writer.
 ///
 /// The memory that is asked for is 64 to 32767. The program is loaded before the input is read: a
-/// text that is refused leaves the input alone. So does a listing of a program's text.
+/// text that is refused or can't be read leaves the input alone. So does a listing of a program's
+/// text. A program's reader gives at most 1,048,577 bytes, and an input's at most 16,777,217, also
+/// one that never ends.
 ///
 /// A note says why a request isn't served, or not to its end. With [`Note::Unwritten`] a beginning
 /// of what was due was written, and with [`Note::OutOfMemory`], too, where all runs are reported.
-/// With every other note nothing was written.
+/// With every other note nothing was written. A write that fails always comes to
+/// [`Note::Unwritten`].
 pub fn serve<P: Read, R: Read, W: Write>(
     alloc: Global,
     request: &Request,
@@ -84,6 +88,14 @@ pub fn serve<P: Read, R: Read, W: Write>(
         (P.remaining program.old) (P.remaining program.new) (program_limit + 1) }
     ensures input_bounded { ConsumesAtMost
         (R.remaining input.old) (R.remaining input.new) (input_limit + 1) }
+    ensures tells_refusal { TellsRefusal request.now.memory (P.remaining program.old)
+        result.note }
+    ensures tells_length { TellsLength (P.given program.old) (P.given program.new) result.note }
+    ensures unloaded { IsUnloaded result.note → input.new ≡ input.old }
+    ensures program_given { GivesAtMost
+        (P.given program.old) (P.given program.new) (program_limit + 1) }
+    ensures input_given { GivesAtMost
+        (R.given input.old) (R.given input.new) (input_limit + 1) }
     ensures silent { SilentBy request.now.mode result.note
         (W.contents out.old) (W.contents out.new) }
     ensures program_unread { result.note ≡ Some Note.ProgramUnread
@@ -92,13 +104,16 @@ pub fn serve<P: Read, R: Read, W: Write>(
         → P.failures program.new ≡ P.failures program.old }
     ensures input_unread { result.note ≡ Some Note.InputUnread
         → IsUnreadable (R.remaining input.old) (R.failures input.old) (R.failures input.new) }
+    ensures input_failed_or_given { result.note ≡ Some Note.InputUnread
+        → HasFailed (R.failures input.old) (R.failures input.new)
+        ⊎ GivesExactly (R.given input.old) (R.given input.new) (input_limit + 1) }
     ensures input_kept { ¬ NeedsInput request.now.mode
         → (input.new ≡ input.old) × (result.note ≢ Some Note.InputUnread) }
     ensures input_read { result.note ≢ Some Note.InputUnread
         → R.failures input.new ≡ R.failures input.old }
     ensures unwritten { result.note ≡ Some Note.Unwritten
         → HasFailed (W.failures out.old) (W.failures out.new) }
-    ensures written { result.note ≡ Some Note.OutOfMemory
+    ensures written { result.note ≢ Some Note.Unwritten
         → W.failures out.new ≡ W.failures out.old }
 {
     match &request.mode {
@@ -140,6 +155,15 @@ fn run_program<P: Read, R: Read, W: Write>(
         (P.remaining program.old) (P.remaining program.new) (program_limit + 1) }
     ensures input_bounded { ConsumesAtMost
         (R.remaining input.old) (R.remaining input.new) (input_limit + 1) }
+    ensures tells_refusal { TellsRefusal request.now.memory (P.remaining program.old)
+        (outcome_of result).note }
+    ensures tells_length { TellsLength (P.given program.old) (P.given program.new)
+        (outcome_of result).note }
+    ensures unloaded { IsUnloaded (outcome_of result).note → input.new ≡ input.old }
+    ensures program_given { GivesAtMost
+        (P.given program.old) (P.given program.new) (program_limit + 1) }
+    ensures input_given { GivesAtMost
+        (R.given input.old) (R.given input.new) (input_limit + 1) }
     ensures silent { SilentBy (Plain answers.now) (outcome_of result).note
         (W.contents out.old) (W.contents out.new) }
     ensures program_unread { IsErrOf result Note.ProgramUnread
@@ -148,11 +172,14 @@ fn run_program<P: Read, R: Read, W: Write>(
         → P.failures program.new ≡ P.failures program.old }
     ensures input_unread { IsErrOf result Note.InputUnread
         → IsUnreadable (R.remaining input.old) (R.failures input.old) (R.failures input.new) }
+    ensures input_failed_or_given { IsErrOf result Note.InputUnread
+        → HasFailed (R.failures input.old) (R.failures input.new)
+        ⊎ GivesExactly (R.given input.old) (R.given input.new) (input_limit + 1) }
     ensures input_read { ¬ IsErrOf result Note.InputUnread
         → R.failures input.new ≡ R.failures input.old }
     ensures unwritten { IsErrOf result Note.Unwritten
         → HasFailed (W.failures out.old) (W.failures out.new) }
-    ensures written { IsErrOf result Note.OutOfMemory
+    ensures written { ¬ IsErrOf result Note.Unwritten
         → W.failures out.new ≡ W.failures out.old }
 {
     let program = load(alloc, request.memory, program)?;
@@ -180,6 +207,12 @@ fn list_program<P: Read, W: Write>(
     ensures done { OnOk result (result ≡ Ok 0) }
     ensures program_bounded { ConsumesAtMost
         (P.remaining program.old) (P.remaining program.new) (program_limit + 1) }
+    ensures tells_refusal { TellsRefusal request.now.memory (P.remaining program.old)
+        (outcome_of result).note }
+    ensures tells_length { TellsLength (P.given program.old) (P.given program.new)
+        (outcome_of result).note }
+    ensures program_given { GivesAtMost
+        (P.given program.old) (P.given program.new) (program_limit + 1) }
     ensures silent { SilentBy Listing (outcome_of result).note
         (W.contents out.old) (W.contents out.new) }
     ensures program_unread { IsErrOf result Note.ProgramUnread

@@ -22,7 +22,6 @@ use Rattle.ptb_text.specs.Program.{stored_program, IsKept}
 use Rattle.ptb_text.proofs.Entries.{with_text-place, with_text-gap, without_number-place}
 use Rattle.ptb_text.proofs.Sound.{both_true}
 use Rattle.ptb_text.proofs.Searching.{same_from_equal}
-use Rattle.ptb_text.proofs.Stored.{shown}
 
 -- ---- a program stays one
 
@@ -98,37 +97,3 @@ Enters-memory q old new f is same fits = record {
   err = same;
   memory = ap (λ p. p.memory) same;
 }
-
--- ---- the fields after an edit
-
-pub IsKept-after : (f : Inside) (q : Statements) → (stored_program f).lines ≡ q → is_program q ≡ true → f.cost ≡ cost q → f.cost ≤ f.memory → IsMemorySize f.memory → IsKept f
-IsKept-after f q lines is same fits size = record {
-  sound = record { is_map = rw lines is; fits = rw lines (omega (arith, same)); memory_size = size };
-  cost_is = rw lines same;
-}
-
--- the statement at a place is written over
-pub shown-set : (f : Inside) (p : StoredProgram) → stored_program f ≡ p → (i n : ℕ) (text : List ℕ) (s : Statement) → IsAt p.lines n i → s.number ≡ n → s.text.items ≡ text → map shown (set f.statements.items i s) ≡ with_text p.lines n text
-shown-set f p shows i n text s at number is =
-    map-set shown f.statements.items i s ∙ ap (λ q. set q.lines i (s.number, s.text.items)) shows ∙ ap (λ k. set p.lines i (k, s.text.items)) number ∙ ap (λ t. set p.lines i (n, t)) is ∙ sym (with_text-place p.lines n i text at)
-
--- a new one is put in front of the statement at a place
-pub shown-insert : (f : Inside) (p : StoredProgram) → stored_program f ≡ p → (i n : ℕ) (text : List ℕ) (s : Statement) → IsGapFor p.lines n i → s.number ≡ n → s.text.items ≡ text → map shown (insert f.statements.items i s) ≡ with_text p.lines n text
-shown-insert f p shows i n text s gap number is =
-    map-insert f.statements.items i s ∙ ap (λ q. insert q.lines i (s.number, s.text.items)) shows ∙ ap (λ k. insert p.lines i (k, s.text.items)) number ∙ ap (λ t. insert p.lines i (n, t)) is ∙ sym (with_text-gap p.lines n i text gap)
-  where
-    map-insert : (ss : List Statement) (i : ℕ) (s : Statement) → map shown (insert ss i s) ≡ insert (map shown ss) i (shown s)
-    map-insert ss zero s = refl
-    map-insert [] (suc i) s = refl
-    map-insert (t ∷ ss) (suc i) s = ap (λ rest. shown t ∷ rest) (map-insert ss i s)
-
--- the statement at a place is taken out
-pub shown-remove : (f : Inside) (p : StoredProgram) → stored_program f ≡ p → (i n : ℕ) → IsAt p.lines n i → map shown (remove f.statements.items i) ≡ without_number p.lines n
-shown-remove f p shows i n at =
-    map-remove f.statements.items i ∙ ap (λ q. remove q.lines i) shows ∙ sym (without_number-place p.lines n i at)
-  where
-    map-remove : (ss : List Statement) (i : ℕ) → map shown (remove ss i) ≡ remove (map shown ss) i
-    map-remove [] zero = refl
-    map-remove [] (suc i) = refl
-    map-remove (t ∷ ss) zero = refl
-    map-remove (t ∷ ss) (suc i) = ap (λ rest. shown t ∷ rest) (map-remove ss i)

@@ -13,9 +13,11 @@ pub mod Lone
 pub mod Loaded
 pub mod Numbers
 pub mod Pieces
+pub mod Pool
 pub mod Searching
 pub mod Sound
 pub mod Stored
 pub mod Taking
+pub mod Counting
 pub mod Worked
 pub mod NextByte

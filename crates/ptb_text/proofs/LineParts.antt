@@ -1,13 +1,14 @@
 -- This file proves what entering a line does by the parts that the line was taken apart into.
-use Rattle.std.proofs.Common.{◌≡◌, ℕ, ◌+◌, ◌<◌, ◌≤◌, Bool, true, false, not, ◌==◌, List, [], ◌∷◌, length, take, drop, Some, None, Err, refl, sym, ap, subst, ◌∙◌, arith, length-drop, ℤ, pos, inl, inr}
-use Rattle.std.specs.Prelude.{position, nat_le, if◌then◌else◌}
+use Rattle.std.proofs.Common.{◌≡◌, ℕ, ◌+◌, ◌<◌, ◌≤◌, Bool, true, false, not, ◌==◌, List, [], ◌∷◌, length, take, drop, Option, Some, None, Result, Ok, Err, refl, sym, ap, subst, ◌∙◌, arith, length-drop, ℤ, pos, inl, inr}
+use Rattle.std.specs.Prelude.{position, nat_le, nat_lt, if◌then◌else◌}
 use Rattle.std.specs.List.{prefix_len}
 use Rattle.std.proofs.lemmas.Bool.{eqb-true, false≢true, leb-true, leb-false}
 use Rattle.std.proofs.lemmas.List.{drop-drop, drop_all}
 use Rattle.std.proofs.lemmas.Bool.Decides.{nat_tests}
-use Rattle.ptb_text.specs.declared.fault.LoadFault.TheVariants.{NoNumber, NumberTooBig, BadByte}
+use Rattle.ptb_text.specs.declared.fault.LoadFault.{LoadFault}
+use Rattle.ptb_text.specs.declared.fault.LoadFault.TheVariants.{NoNumber, NumberTooBig, TextTooLong, BadByte, Full, Memory}
 use Rattle.ptb_text.specs.Lines.{is_printable}
-use Rattle.ptb_text.specs.Statements.{Statements, after_line, after_trimmed, after_statement, unless_bad_byte, number_limit, digits_value, is_digit, is_blank, trim_start}
+use Rattle.ptb_text.specs.Statements.{Statements, after_line, after_trimmed, after_statement, unless_bad_byte, number_limit, digits_value, is_digit, is_blank, trim_start, with_text}
 use Rattle.ptb_text.specs.Entry.{EntersNothing, IsRefused, IsNumbered}
 use Rattle.ptb_text.specs.CursorState.{CursorState}
 use Rattle.ptb_text.specs.declared.word.Number.{Number}
@@ -70,8 +71,37 @@ module _ (line t : List ℕ) (clean : position (λ b. not (is_printable b)) line
     high = high;
     printable = list_all-drop is_printable (prefix_len is_blank (behind_digits t)) (behind_digits t) (list_all-drop is_printable (prefix_len is_digit t) t (rw trimmed (list_all-drop is_printable (prefix_len is_blank line) line (list_all-from_none is_printable line clean))));
     no_blank_in_front = ap length (trim_start-trimmed (behind_digits t));
+    behind_number = ap (λ u. trim_start (behind_digits u)) trimmed;
     enters = λ p memory. by_trimmed p memory ∙ numbered t p memory n some is low high;
   }
+
+-- ---- a line is not refused for want of memory
+
+abbrev refusal : LoadFault → Result Statements LoadFault
+refusal fault = Err fault
+
+chosen : (t : Bool) (x y : Result Statements LoadFault) → (x ≡ Err Memory → ⊥) → (y ≡ Err Memory → ⊥) → (if t then x else y) ≡ Err Memory → ⊥
+chosen true x y no_x no_y = no_x
+chosen false x y no_x no_y = no_y
+
+after_statement-memory : (p : Statements) (memory n : ℕ) (t : List ℕ) → after_statement p memory n t ≡ Err Memory → ⊥
+after_statement-memory p memory n [] = λ e. absurd cc
+after_statement-memory p memory n (b ∷ bs) = chosen _ _ _ (λ (e : refusal TextTooLong ≡ refusal Memory). absurd cc) (chosen _ _ _ (λ (e : refusal Full ≡ refusal Memory). absurd cc) (λ (e : Ok (with_text p n (b ∷ bs)) ≡ refusal Memory). absurd cc))
+
+after_trimmed-memory : (p : Statements) (memory : ℕ) (t : List ℕ) → after_trimmed p memory t ≡ Err Memory → ⊥
+after_trimmed-memory p memory [] = λ e. absurd cc
+after_trimmed-memory p memory (b ∷ bs) =
+    let n = digits_value (digits_of (b ∷ bs)) in
+    chosen (n == 0) _ _ (λ (e : refusal NoNumber ≡ refusal Memory). absurd cc)
+    (chosen (nat_lt number_limit n) _ _ (λ (e : refusal NumberTooBig ≡ refusal Memory). absurd cc)
+    (after_statement-memory p memory n (trim_start (behind_digits (b ∷ bs)))))
+
+unless_bad_byte-memory : (o : Option ℕ) (p : Statements) (memory : ℕ) (line : List ℕ) → unless_bad_byte o p memory line ≡ Err Memory → ⊥
+unless_bad_byte-memory (Some k) p memory line = λ e. absurd cc
+unless_bad_byte-memory None p memory line = after_trimmed-memory p memory (trim_start line)
+
+pub IsRefused-memory : (line : List ℕ) → IsRefused line Memory → ⊥
+IsRefused-memory line h = unless_bad_byte-memory _ [] 0 line (h [] 0)
 
 -- ---- the number that stands in front
 

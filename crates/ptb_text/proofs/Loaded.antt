@@ -1,14 +1,15 @@
 -- This file proves what entering the lines of a text one after the other gives.
-use Rattle.std.proofs.Common.{◌≡◌, ℕ, suc, ◌+◌, ◌<◌, ◌≤◌, List, [], ◌∷◌, ◌++◌, length, map, take, drop, Option, Some, None, IfSome, Result, Ok, Err, IsOk, IfOk, IfErr, refl, sym, ap, ◌∙◌, arith, append-nil, length-take, length-drop}
-use Rattle.std.proofs.lemmas.List.{take-append-drop, drop-drop}
+use Rattle.std.specs.Prelude.{slice_index_or}
+use Rattle.std.proofs.Common.{◌≡◌, ℕ, suc, ◌+◌, ◌-◌, ◌<◌, ◌≤◌, List, [], ◌∷◌, ◌++◌, length, map, take, drop, Option, Some, None, IfSome, Result, Ok, Err, IsOk, IfOk, IfErr, refl, sym, ap, ◌∙◌, arith, append-nil, length-take, length-drop}
+use Rattle.std.proofs.lemmas.List.{take-append-drop, drop-drop, get_or-drop}
 use Rattle.std.proofs.Math.Seq.{take-add}
 use Rattle.std.specs.Result.{is_ok}
 use Rattle.ptb_text.specs.declared.fault.LoadFault.{LoadFault}
 use Rattle.ptb_text.specs.declared.fault.LoadFault.TheVariants.{Memory}
 use Rattle.ptb_text.specs.Entry.{IsLineFault}
 use Rattle.ptb_text.specs.Lines.{lines, program_lines, tab_as_space}
-use Rattle.ptb_text.specs.Loading.{AcceptsLines, IsLoaded, IsRefusedAt}
-use Rattle.ptb_text.specs.Statements.{Statements, StoredProgram, after_line, after_lines, program_limit}
+use Rattle.ptb_text.specs.Loading.{AcceptsLines, HasTextAt, IsLoaded, IsRefusedAt, StoresTextAt}
+use Rattle.ptb_text.specs.Statements.{HasText, Statements, StoredProgram, after_line, after_lines, program_limit}
 use Rattle.ptb_text.proofs.Pieces.{lines-spaces}
 
 abbrev Lines : Type 0
@@ -45,6 +46,14 @@ module _ (all : Lines) (n : ℕ) (line : List ℕ) (rest : Lines) (left : line �
 
   take_next : take (n + 1) all ≡ take n all ++ line ∷ []
   take_next = take-add n 1 all ∙ ap (λ r. take n all ++ take 1 r) (sym left)
+
+  pub line_there : slice_index_or all (n + 1 - 1) [] ≡ line
+  line_there =
+      let here : n + 1 - 1 ≡ n + 0 = omega arith in
+      ap (λ i. slice_index_or all i []) here ∙ sym (get_or-drop n all 0 []) ∙ ap (λ ls. slice_index_or ls 0 []) (sym left)
+
+  pub has_text : HasText line → HasTextAt all (n + 1)
+  has_text h = (omega (arith, in_range), rw line_there h)
 
   count : length (take n all) ≡ n
   count = length-take n all ∙ omega (arith, in_range)
@@ -112,6 +121,15 @@ module _ (known : Option (List ℕ)) (text spaced : List ℕ) (memory : ℕ) (is
       if_known : IsOk (after_lines (take e.0 (lines spaced)) 1 [] memory) → (o : Option (List ℕ)) → IfSome o (λ b. b ≡ text) → IfSome o (λ b. AcceptsLines memory b e.0)
       if_known ok None _ = tt
       if_known ok (Some b) same = rw same (rw same_lines at ok)
+
+  pub StoresTextAt-from_lines : (r : Result StoredProgram (ℕ × LoadFault)) → length text ≤ program_limit → IfErr r (λ e. e.1 ≡ Memory → HasTextAt (lines spaced) e.0)
+      → IfErr r (λ e. e.1 ≡ Memory → 0 < e.0 → IfSome known (λ b. StoresTextAt b e.0))
+  StoresTextAt-from_lines (Ok p) short stores = tt
+  StoresTextAt-from_lines (Err e) short stores = λ memory_fault. λ _. if_known (stores memory_fault) known is
+    where
+      if_known : HasTextAt (lines spaced) e.0 → (o : Option (List ℕ)) → IfSome o (λ b. b ≡ text) → IfSome o (λ b. StoresTextAt b e.0)
+      if_known there None _ = tt
+      if_known there (Some b) same = rw same (short, rw same_lines at there)
 
 -- no line is refused before the first
 pub AcceptsLines-none : (known : Option (List ℕ)) (memory : ℕ) → IfSome known (λ b. AcceptsLines memory b 0)

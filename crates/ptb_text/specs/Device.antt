@@ -1,9 +1,13 @@
--- This file defines what a reader gives and a writer takes, where their bytes are known, and how often they have failed.
+-- This file defines what a reader gives and a writer takes, where their bytes are known, how many a reader gives, and how often they have failed.
 -- std's words serve for the bytes: `Consumes`, `Appends`, `Keeps`, `IsAtEnd`.
 --     CountsFaults old new result        a call's fault is counted, and nothing else is
 --     HasFailed old new                  the device failed between the two counts, or has failed for good
 --     TakesSome old new bytes            a beginning of the bytes was taken
---     device_inner d, failure_count d    the device that is counted, and its count
+--     GivesExactly old new n             n bytes more were given
+--     GivesAtMost old new n              at most n bytes more were given
+--     CountsBytes old new result         the bytes of a read are counted, and a fault gives none
+--     device_inner d                     the device that is counted
+--     failure_count d, given_count d     how often it has failed, and how many bytes it has given
 use Rattle.std.specs.Prelude.{◌≡◌, ℕ, ◌+◌, ◌-◌, ◌^◌, ◌<◌, ◌≤◌, ◌⊎◌, min, List, length, take, Option, Result, MatchResult}
 use Rattle.std.specs.Io.KnownBytes.{Appends}
 use Rattle.ptb_text.specs.declared.device.Device.{Device}
@@ -25,10 +29,30 @@ HasFailed old new = (old < new) ⊎ (old ≡ failure_limit)
 abbrev pub TakesSome : Option (List ℕ) → Option (List ℕ) → List ℕ → Type 0
 TakesSome old new bytes = (n : ℕ) × (n ≤ length bytes) × Appends old new (take n bytes)
 
--- the reader or writer whose failures are counted
+-- the count of bytes stays at the greatest number of 64 bits
+abbrev pub given_limit : ℕ
+given_limit = 2 ^ 64 - 1
+
+-- so many bytes more were given, by a count that stays at its limit where it would pass it
+abbrev pub GivesExactly : ℕ → ℕ → ℕ → Type 0
+GivesExactly old new n = new ≡ min (old + n) given_limit
+
+-- the count didn't fall, and rose by at most so many
+abbrev pub GivesAtMost : ℕ → ℕ → ℕ → Type 0
+GivesAtMost old new n = (old ≤ new) × (new ≤ old + n)
+
+-- the bytes that a read answers are counted, and a fault gives none
+abbrev pub CountsBytes : {E : Type 0} → ℕ → ℕ → Result ℕ E → Type 0
+CountsBytes old new result = (old ≤ given_limit) × MatchResult result (GivesExactly old new) (λ _. new ≡ old)
+
+-- the reader or writer that is counted
 abbrev pub device_inner : {T : Type 0} → Device T → T
 device_inner d = d.inner
 
 -- how often it has failed
 abbrev pub failure_count : {T : Type 0} → Device T → ℕ
 failure_count d = d.failures
+
+-- how many bytes it has given
+abbrev pub given_count : {T : Type 0} → Device T → ℕ
+given_count d = d.given

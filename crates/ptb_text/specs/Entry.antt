@@ -9,7 +9,7 @@ use Rattle.std.specs.List.{list_all}
 use Rattle.ptb_text.specs.declared.fault.LoadFault.{LoadFault}
 use Rattle.ptb_text.specs.declared.fault.LoadFault.TheVariants.{NoNumber, NumberTooBig, TextTooLong, BadByte, Full, Memory, Read, TooLong}
 use Rattle.ptb_text.specs.Lines.{is_printable}
-use Rattle.ptb_text.specs.Statements.{Statements, StoredProgram, after_line, after_statement, number_limit, trim_start}
+use Rattle.ptb_text.specs.Statements.{Statements, StoredProgram, after_line, after_statement, number_limit, text_behind_number, trim_start}
 
 abbrev pub EntersNothing : List ℕ → Type 0
 EntersNothing line = (p : Statements) (memory : ℕ) → after_line p memory line ≡ Ok p
@@ -22,6 +22,7 @@ pub record IsNumbered (line : List ℕ) (n : ℕ) (text : List ℕ) : Type 0 whe
   pub high : n ≤ number_limit
   pub printable : IsTrue (list_all is_printable text)
   pub no_blank_in_front : length (trim_start text) ≡ length text
+  pub behind_number : text ≡ text_behind_number line
   pub enters : (p : Statements) (memory : ℕ) → after_line p memory line ≡ after_statement p memory n text
 
 abbrev pub IsLineFault : LoadFault → Type 0

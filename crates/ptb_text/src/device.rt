@@ -1,10 +1,11 @@
-// This file has readers and writers, which count how often they have failed.
+// This file has readers and writers, which count how often they have failed; readers count their
+// bytes, too.
 
 ghost use Rattle.std.specs.Prelude.{◌≡◌, ℕ, ◌<◌, ◌≤◌, List, length, take, Option, Some, IfOk, OnOk};
 ghost use Rattle.std.specs.Prelude.{OnErr};
 ghost use Rattle.std.specs.Io.KnownBytes.{Keeps, Appends, ReadConsumes};
 ghost use Rattle.ptb_text.specs.Device.{CountsFaults, HasFailed, TakesSome, device_inner};
-ghost use Rattle.ptb_text.specs.Device.{failure_count};
+ghost use Rattle.ptb_text.specs.Device.{CountsBytes, failure_count, given_count};
 
 use std::io;
 use thiserror::Error;
@@ -19,12 +20,18 @@ pub struct DeviceFault;
 /// Its failures are counted: a call that answers the fault adds one to the count, and no other call
 /// changes it. The count ends at `u64::MAX`; a reader that has come there answers the fault to each
 /// call.
+///
+/// Its bytes are counted, too, also where nobody knows which will come: a call that gives some adds
+/// how many, and no other call changes the count. It stays at `u64::MAX` where it would pass it.
 pub trait Read {
     /// The bytes that it will give from here on to its end, where they are known.
     ghost remaining: { Self → Option (List ℕ) };
 
     /// How often it has failed.
     ghost failures: { Self → ℕ };
+
+    /// How many bytes it has given.
+    ghost given: { Self → ℕ };
 
     /// Puts its next bytes at the front of `buf`, and answers how many. `Ok(0)` for a buffer that
     /// has room means the end.
@@ -35,6 +42,7 @@ pub trait Read {
     fn read(&mut self, buf: &mut [u8]) -> Result<usize, DeviceFault>
         ensures room { IfOk result (λ n. n ≤ length buf.old) }
         ensures bytes { ReadConsumes (remaining self.old) (remaining self.new) result buf.new }
+        ensures given { CountsBytes (given self.old) (given self.new) result }
         ensures count { CountsFaults (failures self.old) (failures self.new) result };
 }
 
@@ -83,7 +91,7 @@ pub trait Write {
     }
 }
 
-/// A reader or a writer of `std::io`, with its failures counted.
+/// A reader or a writer of `std::io`, with its failures counted, and the bytes that it gives.
 ///
 /// Whatever error the inner one answers is a fault, also that a call was interrupted, and so is a
 /// write that takes none of the bytes that it is given.
@@ -91,15 +99,21 @@ pub trait Write {
 pub struct Device<T> {
     inner: T,
     failures: u64,
+    given: u64,
 }
 
 impl<T> Device<T> {
-    /// A device that has not failed.
+    /// A device that has not failed, and has given nothing.
     pub fn new(inner: T) -> Self
         ensures inner { device_inner result ≡ inner }
         ensures unfailed { failure_count result ≡ 0 }
+        ensures unread { given_count result ≡ 0 }
     {
-        Device { inner, failures: 0 }
+        Device {
+            inner,
+            failures: 0,
+            given: 0,
+        }
     }
 }
 
@@ -130,12 +144,17 @@ impl<T: io::Read> Read for Device<T> {
 
     ghost failures = { failure_count };
 
+    ghost given = { given_count };
+
     fn read(&mut self, buf: &mut [u8]) -> Result<usize, DeviceFault> {
         if self.failures == u64::MAX {
             return Err(DeviceFault);
         }
         match self.inner.read(buf) {
-            Ok(n) => Ok(n),
+            Ok(n) => {
+                self.given = self.given.saturating_add(n as u64);
+                Ok(n)
+            }
             Err(_) => {
                 self.failures += 1;
                 Err(DeviceFault)

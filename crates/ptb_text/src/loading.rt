@@ -4,10 +4,11 @@ ghost use Rattle.std.specs.Prelude.{◌≡◌, ◌+◌, ◌<◌, ◌≤◌, ◌�
 ghost use Rattle.std.specs.Prelude.{IfErr, IfOk, IfSome, IsOk, OnOk, position, take, vec_len};
 ghost use Rattle.std.specs.Io.KnownBytes.{Consumes, IsAtEnd};
 ghost use Rattle.std.specs.Str.Lines.{strip_carriage_return};
-ghost use Rattle.ptb_text.specs.Device.{HasFailed};
+ghost use Rattle.ptb_text.specs.Device.{GivesAtMost, GivesExactly, HasFailed};
 ghost use Rattle.ptb_text.specs.Entry.{IsLineFault};
 ghost use Rattle.ptb_text.specs.Lines.{lines, tab_as_space};
-ghost use Rattle.ptb_text.specs.Loading.{AcceptsLines, IsLoaded, IsRefusedAt};
+ghost use Rattle.ptb_text.specs.Loading.{AcceptsLines, HasTextAt, IsLoaded, IsRefusedAt};
+ghost use Rattle.ptb_text.specs.Loading.{StoresTextAt};
 ghost use Rattle.ptb_text.specs.Statements.{IsMemorySize, after_lines, program_limit};
 
 use crate::{LoadFault, Program, Read};
@@ -21,14 +22,16 @@ const PIECE: usize = 4096;
 
 /// Loads a program text into a program that is given this memory, 64 to 32767.
 ///
-/// All bytes are read first, at most 1,048,577. Tabs are read as spaces, and a line loses one byte
-/// 13 at its end. Then the lines are entered one after the other, by [`Program::enter`].
+/// All bytes are read first, at most 1,048,577, also from a reader that never ends. Tabs are read
+/// as spaces, and a line loses one byte 13 at its end. Then the lines are entered one after the
+/// other, by [`Program::enter`].
 ///
 /// # Errors
 ///
 /// The first fault, with the source line that it came at, counted from 1. A fault of the text as a
 /// whole comes at line 0: `Read` where the reader failed, `TooLong` where it gave more than
-/// 1,048,576 bytes, `Memory` where a growth was refused while it was read.
+/// 1,048,576 bytes, `Memory` where a growth was refused while it was read. At any other line
+/// `Memory` means that there was none for the text that the line stores.
 pub fn load<R: Read>(
     alloc: Global,
     memory: u16,
@@ -46,6 +49,17 @@ pub fn load<R: Read>(
         → (e.0 ≡ 0) × HasFailed (R.failures reader.old) (R.failures reader.new)) }
     ensures memory_last { IfErr result (λ e. e.1 ≡ LoadFault.Memory
         → IfSome (R.remaining reader.old) (λ text. AcceptsLines memory text e.0)) }
+    ensures memory_line { IfErr result (λ e. e.1 ≡ LoadFault.Memory → 0 < e.0
+        → IfSome (R.remaining reader.old) (λ text. StoresTextAt text e.0)) }
+
+    // How many bytes were given, also where nobody knows which.
+    ensures given { GivesAtMost (R.given reader.old) (R.given reader.new) (program_limit + 1) }
+    ensures given_ok { OnOk result
+        (GivesAtMost (R.given reader.old) (R.given reader.new) program_limit) }
+    ensures given_line { IfErr result (λ e. 0 < e.0
+        → GivesAtMost (R.given reader.old) (R.given reader.new) program_limit) }
+    ensures given_too_long { IfErr result (λ e. e.1 ≡ LoadFault.TooLong
+        → GivesExactly (R.given reader.old) (R.given reader.new) (program_limit + 1)) }
 
     // What the reader gave, and that it did not fail where no other fault is answered.
     ensures bounded { (bs : List ℕ)
@@ -76,6 +90,11 @@ fn program_text<R: Read>(alloc: Global, reader: &mut R) -> Result<Vec<u8>, LoadF
         → R.failures reader.new ≡ R.failures reader.old) }
     ensures unfailed_ok { OnOk result (R.failures reader.new ≡ R.failures reader.old) }
     ensures line_fault { IfErr result (λ f. ¬ IsLineFault f) }
+    ensures given { GivesAtMost (R.given reader.old) (R.given reader.new) (program_limit + 1) }
+    ensures given_ok { OnOk result
+        (GivesAtMost (R.given reader.old) (R.given reader.new) program_limit) }
+    ensures given_too_long { IfErr result (λ f. f ≡ LoadFault.TooLong
+        → GivesExactly (R.given reader.old) (R.given reader.new) (program_limit + 1)) }
     ensures bounded { (bs : List ℕ)
         × Consumes (R.remaining reader.old) (R.remaining reader.new) bs
         × (length bs ≤ program_limit + 1) }
@@ -149,6 +168,9 @@ fn enter_lines(mut program: Program, text: &[u8]) -> Result<Program, (u32, LoadF
         → after_lines (lines text.now) 1 [] program.memory ≡ Err e) }
     ensures memory_last { IfErr result (λ e. ¬ IsLineFault e.1 → (e.1 ≡ LoadFault.Memory)
         × IsOk (after_lines (take e.0 (lines text.now)) 1 [] program.memory)) }
+    ensures memory_line { IfErr result (λ e. e.1 ≡ LoadFault.Memory
+        → HasTextAt (lines text.now) e.0) }
+    ensures line { IfErr result (λ e. 0 < e.0) }
 {
     let mut rest = text;
     let mut entered: u32 = 0;

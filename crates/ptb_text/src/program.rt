@@ -2,14 +2,18 @@
 
 ghost use Rattle.std.specs.Prelude.{◌≡◌, ℕ, ℤ, ◌+◌, ◌<◌, ◌≤◌, ◌^◌, List, [], Some, None, length};
 ghost use Rattle.std.specs.Prelude.{IsOk, IfOk, IfErr, OnOk, OnErr, IsSome, IsNone, IfSome, OnSome};
-ghost use Rattle.std.specs.Prelude.{option_map, pos, ◌<ℤ◌, IsTrue, ◌↔◌, slice_get};
+ghost use Rattle.std.specs.Prelude.{IsErrOf, vec_capacity, vec_len};
+ghost use Rattle.std.specs.Prelude.{option_map, pos, ◌<ℤ◌, ◌-◌, IsTrue, ◌↔◌, slice_get, take};
+ghost use Rattle.std.specs.List.{splice};
 ghost use Rattle.std.specs.Option.{option_copied};
 ghost use Rattle.ptb_text.specs.Entry.{Enters, IsLineFault};
-ghost use Rattle.ptb_text.specs.Statements.{IsMemorySize, IsSound, IsText, after_line};
+ghost use Rattle.ptb_text.specs.Statements.{HasText, IsMemorySize, IsSound, IsText, after_line};
+ghost use Rattle.ptb_text.specs.Statements.{cost};
 ghost use Rattle.ptb_text.specs.Statements.{first_number, if_room, is_statement, number_above};
 ghost use Rattle.ptb_text.specs.Statements.{number_limit, size_of, text_limit, text_under};
 ghost use Rattle.ptb_text.specs.Statements.{with_text, without_number};
 ghost use Rattle.ptb_text.specs.Places.{IsAt, IsGapFor, statement_at};
+ghost use Rattle.ptb_text.specs.Program.{laid_out, lengths, texts_length};
 
 use crate::LoadFault;
 use crate::line::numbered_line;
@@ -19,10 +23,24 @@ use std::marker::Model;
 /// The greatest length of a statement's text.
 const TEXT_LIMIT: usize = 255;
 
-#[derive(Debug, Drop)]
+/// What a statement takes of the memory beside its text: two for its number and one for its end.
+const STATEMENT_COST: usize = 3;
+
+// A statement's number, and where its text stands in the pool of all texts.
+#[derive(Clone, Copy, Debug)]
 struct Statement {
     number: u16,
-    text: Vec<u8>,
+    place: u16,
+    length: u8,
+}
+
+impl Statement {
+    // The place behind its text.
+    fn end(&self) -> usize
+        ensures { result ≡ self.now.place + self.now.length }
+    {
+        usize::from(self.place) + usize::from(self.length)
+    }
 }
 
 /// A program: the texts of its statements under their numbers, and the memory that it is given.
@@ -34,8 +52,8 @@ struct Statement {
 pub struct Program {
     // rising by their numbers
     statements: Vec<Statement>,
-    // what the statements take of the memory
-    cost: u16,
+    // their texts in the same order, each right behind the one before it
+    pool: Vec<u8>,
     memory: u16,
 }
 
@@ -59,7 +77,7 @@ impl Program {
     {
         Program {
             statements: Vec::new(alloc),
-            cost: 0,
+            pool: Vec::new(alloc),
             memory,
         }
     }
@@ -77,7 +95,7 @@ impl Program {
         ensures value { result ≡ pos (size_of self.now) }
         ensures sound { IsSound self.now }
     {
-        (self.memory - self.cost) as i16
+        (self.memory - self.cost()) as i16
     }
 
     /// The number of its statements.
@@ -104,7 +122,7 @@ impl Program {
     {
         let number = u16::try_from(number).ok()?;
         let at = self.search(number).ok()?;
-        Some(&self.statements[at].text)
+        Some(self.statement_at(at).1)
     }
 
     /// Which of the statements has this number, if one has: how many stand before it.
@@ -167,7 +185,7 @@ impl Program {
     /// byte 13 are such bytes, too); `NoNumber` where no number of at least 1 stands in front;
     /// `NumberTooBig` for a number over 32767; `TextTooLong` for a text over 255 bytes; `Full`
     /// where the statements would take more memory than there is; `Memory` where a growth was
-    /// refused.
+    /// refused for the text that the line stores.
     pub fn enter(&mut self, line: &[u8]) -> Result<(), LoadFault>
         ensures ok { OnOk result
             (after_line self.old.lines self.old.memory line.now ≡ Ok self.new.lines) }
@@ -177,6 +195,7 @@ impl Program {
         // Want of memory comes last.
         ensures memory_last { IfErr result (λ f. ¬ IsLineFault f
             → (f ≡ LoadFault.Memory) × IsOk (after_line self.old.lines self.old.memory line.now)) }
+        ensures memory_text { IsErrOf result LoadFault.Memory → HasText line.now }
         ensures err { OnErr result (self.new ≡ self.old) }
         ensures memory { self.new.memory ≡ self.old.memory }
     {
@@ -200,7 +219,8 @@ impl Program {
     {
         if let Ok(at) = self.search(number) {
             let deleted = self.statements.remove(at);
-            self.cost -= statement_cost(&deleted.text);
+            self.pool.drain(usize::from(deleted.place)..deleted.end());
+            lay_out(&mut self.statements[at..], deleted.place);
         }
     }
 
@@ -216,53 +236,78 @@ impl Program {
         }
     }
 
-    // Another text for the statement at a place.
+    // Another text for the statement at a place. All memory is taken before anything changes.
     fn replace(&mut self, at: usize, number: u16, text: &[u8]) -> Result<(), LoadFault>
         requires statement { IsTrue (is_statement (number, text.now)) }
         requires place { IsAt self.old.lines number at }
         ensures { Enters (if_room self.old.memory (with_text self.old.lines number text.now))
             self.old self.new result }
     {
-        let old = statement_cost(&self.statements[at].text);
-        let cost = self.cost - old + statement_cost(text);
+        let old = self.statements[at];
+        let cost = self.cost() - u16::from(old.length) + text.len() as u16;
         if cost > self.memory {
             return Err(LoadFault::Full);
         }
-        let statement = self.statement(number, text)?;
-        self.statements[at] = statement;
-        self.cost = cost;
+        let more = text.len().saturating_sub(usize::from(old.length));
+        if self.pool.try_reserve(more).is_err() {
+            return Err(LoadFault::Memory);
+        }
+        put_text(&mut self.pool, usize::from(old.place), old.end(), text);
+        self.statements[at] = Statement {
+            number,
+            place: old.place,
+            length: text.len() as u8,
+        };
+        lay_out(&mut self.statements[at..], old.place);
         Ok(())
     }
 
-    // A new statement, at the place where it goes.
+    // A new statement, at the place where it goes. All memory is taken before anything changes.
     fn insert(&mut self, at: usize, number: u16, text: &[u8]) -> Result<(), LoadFault>
         requires statement { IsTrue (is_statement (number, text.now)) }
         requires place { IsGapFor self.old.lines number at }
         ensures { Enters (if_room self.old.memory (with_text self.old.lines number text.now))
             self.old self.new result }
     {
-        let cost = self.cost + statement_cost(text);
+        let cost = self.cost() + (text.len() + STATEMENT_COST) as u16;
         if cost > self.memory {
             return Err(LoadFault::Full);
         }
-        let statement = self.statement(number, text)?;
-        if self.statements.insert(at, statement).is_err() {
+        if self.pool.try_reserve(text.len()).is_err() {
             return Err(LoadFault::Memory);
         }
-        self.cost = cost;
+        if self.statements.try_reserve(1).is_err() {
+            return Err(LoadFault::Memory);
+        }
+        let place = self.place_of(at);
+        put_text(&mut self.pool, usize::from(place), usize::from(place), text);
+        let statement = Statement {
+            number,
+            place,
+            length: text.len() as u8,
+        };
+        self.statements.insert(at, statement).unwrap();
+        lay_out(&mut self.statements[at..], place);
         Ok(())
     }
 
-    // A statement with a copy of the text.
-    fn statement(&self, number: u16, text: &[u8]) -> Result<Statement, LoadFault>
-        ensures ok { IfOk result (λ s. (s.number ≡ number) × (s.text.items ≡ text.now)) }
-        ensures memory { IfErr result (λ f. f ≡ LoadFault.Memory) }
+    // Where the text of the statement at this place stands, or the end of all texts.
+    fn place_of(&self, at: usize) -> u16
+        requires { at ≤ length self.now.lines }
+        ensures { result ≡ texts_length (take at self.now.lines) }
     {
-        let alloc = *self.statements.allocator();
-        match Vec::from_slice(alloc, text) {
-            Ok(text) => Ok(Statement { number, text }),
-            Err(_) => Err(LoadFault::Memory),
+        match self.statements.get(at) {
+            Some(statement) => statement.place,
+            None => self.pool.len() as u16,
         }
+    }
+
+    // What the statements take of the memory.
+    fn cost(&self) -> u16
+        ensures value { result ≡ cost self.now.lines }
+        ensures sound { IsSound self.now }
+    {
+        (self.pool.len() + STATEMENT_COST * self.statements.len()) as u16
     }
 
     /// The number and the text of the statement at a place, counted from 0 in rising order.
@@ -272,8 +317,9 @@ impl Program {
         ensures number { result.0 ≤ number_limit }
         ensures text { length result.1.now ≤ text_limit }
     {
-        let statement = &self.statements[at];
-        (statement.number, &statement.text)
+        let statement = self.statements[at];
+        let text = &self.pool[usize::from(statement.place)..statement.end()];
+        (statement.number, text)
     }
 
     // The number of the statement at this place, if there is one.
@@ -303,10 +349,27 @@ impl Program {
     }
 }
 
-// What a statement takes of the memory: its text, two for its number and one for its end.
-fn statement_cost(text: &[u8]) -> u16
-    requires { length text.now ≤ text_limit }
-    ensures { result ≡ length text.now + 3 }
+// Puts a text in the place of the bytes from `start` to `end`. It goes behind all others first, where
+// there is room for it, and is turned round with those that stand behind its place.
+fn put_text(pool: &mut Vec<u8>, start: usize, end: usize, text: &[u8])
+    requires order { start ≤ end }
+    requires within { end ≤ vec_len pool.old }
+    requires room { vec_len pool.old + length text.now ≤ vec_capacity pool.old + (end - start) }
+    ensures { pool.new.items ≡ splice pool.old.items start end text.now }
 {
-    text.len() as u16 + 3
+    pool.drain(start..end);
+    pool.extend_from_slice(text).unwrap();
+    pool[start..].rotate_right(text.len());
+}
+
+// Sets the places of statements whose texts stand one right behind the other, the first at `start`.
+fn lay_out(statements: &mut [Statement], start: u16)
+    requires { start + lengths statements.old < 2 ^ 16 }
+    ensures { statements.new ≡ laid_out start statements.old }
+{
+    let mut place = start;
+    for statement in statements.iter_mut() {
+        statement.place = place;
+        place += u16::from(statement.length);
+    }
 }

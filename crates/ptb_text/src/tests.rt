@@ -8,6 +8,7 @@ use crate::{
     word_rows,
 };
 use std::alloc::{AllocError, Global};
+use std::collections::BTreeMap;
 use std::io;
 use std::test::Fail;
 
@@ -417,6 +418,46 @@ fn lines_are_entered(rt: HostRuntime) -> Result<(), Fail> {
     ] {
         assert_eq!(rt; program.after(number), next, "after {number}");
     }
+    Ok(())
+}
+
+// Whether a program has the texts of a map under its numbers, and no others.
+fn has_texts(program: &Program, texts: &BTreeMap<i16, Vec<u8>>) -> bool {
+    let mut index: usize = 0;
+    for (number, text) in texts.iter() {
+        let text = text.as_slice();
+        if program.get(index) != Some((*number, text)) || program.line(*number) != Some(text) {
+            return false;
+        }
+        index = index.saturating_add(1);
+    }
+    index == program.len()
+}
+
+// Half of the numbers are in use at most times, so that lines are new, replaced and deleted alike.
+#[test]
+fn entered_lines_are_those_of_a_map(rt: HostRuntime) -> Result<(), Fail> {
+    let alloc = rt.alloc();
+    let mut program = Program::new(alloc, 32_767);
+    let mut texts = BTreeMap::new(alloc);
+    let mut random: u32 = 1;
+    for count in 0..2000 {
+        random = random.wrapping_mul(1_664_525).wrapping_add(1_013_904_223);
+        let number = ((random >> 16) % 128) as i16 + 128;
+        let mut line = Vec::from_slice(alloc, format!(in alloc; "{number} ")?.as_bytes())?;
+        if random >> 31 == 0 {
+            let stamp = format!(in alloc; "A{count}")?;
+            let dots = (random >> 24) as usize;
+            let text = around(alloc, stamp.as_bytes(), b'.', dots, b"")?;
+            line.extend_from_slice(&text)?;
+            texts.insert(number, text)?;
+        } else {
+            drop(texts.remove(&number));
+        }
+        assert_eq!(rt; program.enter(&line), Ok(()), "line {count}");
+        assert!(rt; has_texts(&program, &texts), "after line {count}");
+    }
+    assert!(rt; program.len() > 50);
     Ok(())
 }
 

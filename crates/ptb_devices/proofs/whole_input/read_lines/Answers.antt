@@ -1,7 +1,8 @@
 -- This file answers what is left to prove of `read_lines`.
-use Rattle.std.proofs.Common.{◌≡◌, List, ℕ, subst, arith, rules, length, take, ◌≤◌, drop}
+use Rattle.std.proofs.Common.{◌≡◌, List, ℕ, subst, arith, rules, length, take, ◌+◌, ◌-◌, ◌≤◌, drop}
 use Rattle.std.proofs.lemmas.List.{take-append-le, length-take-le}
 use Rattle.std.specs.Io.KnownBytes.{IsAtEnd}
+use Rattle.ptb_text.proofs.Counting.{IsCountedUpTo, IsCountedUpTo_more}
 use Rattle.ptb_devices.specs.Cutting.{AddsLines}
 use Rattle.ptb_devices.proofs.Reading.{IsReadUpTo_more, IsReadUpTo_bounded, IsReadUpTo_end}
 use Rattle.ptb_devices.proofs.whole_input.read_lines.Goals as goal
@@ -31,5 +32,10 @@ loop-left-preserved g c =
     (take-append-le c.in_ok-count.count c.read.new.buf (drop c.min-room.result c.loop-left.buffer) inside) c.in_ok-push_whole.ensures in
     record {
       unfailed = search rules;
+      given =
+          let more : (16777217 - c.loop-left.left) + c.in_ok-count.count ≡ 16777217 - (c.loop-left.left - c.in_ok-count.count) = omega (arith, fits, c.loop-left.invariant.room) in
+          subst (λ (n : ℕ). IsCountedUpTo (g.R.Read.given c.args.reader.now) (g.R.Read.given c.read.new.self) n) more
+          (IsCountedUpTo_more _ _ _ _ _ c.loop-left.invariant.given c.in_ok-count.ensures.given.0 c.in_ok-count.ensures.given.1);
+      room = omega (arith, c.loop-left.invariant.room);
       read = rw (← size) (IsReadUpTo_more _ _ _ _ _ _ _ _ _ _ fits_here c.loop-left.invariant.read c.in_ok-count.ensures.bytes.0 adds);
     }

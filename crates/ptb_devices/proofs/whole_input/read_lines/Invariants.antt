@@ -1,5 +1,6 @@
 -- This file says what the loops of `read_lines` keep.
-use Rattle.std.proofs.Common.{◌≡◌}
+use Rattle.std.proofs.Common.{◌≡◌, ◌≤◌, ◌-◌}
+use Rattle.ptb_text.proofs.Counting.{IsCountedUpTo}
 use Rattle.ptb_devices.proofs.Reading.{IsReadUpTo}
 use Rattle.ptb_devices.proofs.whole_input.read_lines.Given as goal
 
@@ -8,6 +9,8 @@ abbrev pub invariant-loop-left : goal.invariant-loop-left
 invariant-loop-left g l = record {
   unfailed : g.R.Read.failures l.reader ≡ g.R.Read.failures l.initial.reader;
   read : IsReadUpTo (g.R.Read.remaining l.initial.reader) (g.R.Read.remaining l.reader) l.lines.items l.cutter 16777217 l.left;
+  given : IsCountedUpTo (g.R.Read.given l.initial.reader) (g.R.Read.given l.reader) (16777217 - l.left);
+  room : l.left ≤ 16777217;
 }
 
 abbrev pub decreases-loop-left : goal.decreases-loop-left

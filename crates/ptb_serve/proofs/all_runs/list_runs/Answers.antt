@@ -4,8 +4,8 @@ use Rattle.std.proofs.lemmas.Result.{err_from_is_err_and}
 use Rattle.ptb_text.specs.Lines.{input_lines}
 use Rattle.ptb_serve.specs.Serving.{input_note, load_note, reports_note}
 use Rattle.ptb_serve.specs.Replies.{listing_reply}
-use Rattle.ptb_serve.proofs.Listed.{input_note-read, input_note-start, reports_note-write, runs_due, serves_input, serves_front, serves_reports, serves_some}
-use Rattle.ptb_serve.proofs.Served.{at_known, consumes_nothing, consumes_some, load_note-input, load_note-start, loaded_unrefused, serves_unloaded, serves_loaded, serves_refusal, when_refused}
+use Rattle.ptb_serve.proofs.Listed.{front_note-loaded, input_note-loaded, input_note-read, input_note-start, reports_note-loaded, reports_note-write, runs_due, serves_input, serves_front, serves_reports, serves_some}
+use Rattle.ptb_serve.proofs.Served.{at_known, consumes_nothing, consumes_some, load_note-input, load_note-length, load_note-refusal, load_note-start, loaded_unrefused, serves_unloaded, serves_loaded, serves_refusal, when_refused}
 use Rattle.ptb_serve.proofs.all_runs.list_runs.Goals as goal
 
 pub returns-in_err-program-clause-served : goal.returns-in_err-program-clause-served
@@ -145,3 +145,30 @@ returns-in_err-write_all_runs-clause-written g c =
 
 pub returns-clause-written : goal.returns-clause-written
 returns-clause-written g c = λ _. c.in_ok-write_all_runs.ensures.unfailed (λ n h. absurd cc)
+
+-- ---- what a note tells of the program
+
+pub returns-in_err-program-clause-tells_refusal : goal.returns-in_err-program-clause-tells_refusal
+returns-in_err-program-clause-tells_refusal g c =
+    let p = err_from_is_err_and c.from_residual.result c.from_residual.ensures.1 in
+    rw (p.1, p.2) (load_note-refusal _ _ c.in_err-program.field-0.0 c.in_err-program.ensures.refused c.in_err-program.ensures.too_long)
+
+pub returns-in_err-program-clause-tells_length : goal.returns-in_err-program-clause-tells_length
+returns-in_err-program-clause-tells_length g c =
+    let p = err_from_is_err_and c.from_residual.result c.from_residual.ensures.1 in
+    rw (p.1, p.2) (load_note-length _ _ c.in_err-program.field-0.0 c.in_err-program.ensures.given_too_long)
+
+pub returns-in_err-lines-clause-unloaded : goal.returns-in_err-lines-clause-unloaded
+returns-in_err-lines-clause-unloaded g c =
+    let p = err_from_is_err_and c.from_residual-in_err-lines.result c.from_residual-in_err-lines.ensures.1 in
+    rw (p.1, p.2) (λ h. absurd (input_note-loaded c.in_err-lines.field-0.0 h))
+
+pub returns-in_err-explorer-clause-unloaded : goal.returns-in_err-explorer-clause-unloaded
+returns-in_err-explorer-clause-unloaded g c =
+    let p = err_from_is_err_and c.from_residual-in_err-explorer.result c.from_residual-in_err-explorer.ensures.1 in
+    rw (p.1, p.2) (λ h. absurd (front_note-loaded c.in_err-explorer.field-0.0 c.in_err-explorer.ensures.faults h))
+
+pub returns-in_err-write_all_runs-clause-unloaded : goal.returns-in_err-write_all_runs-clause-unloaded
+returns-in_err-write_all_runs-clause-unloaded g c =
+    let p = err_from_is_err_and c.from_residual-in_err-write_all_runs.result c.from_residual-in_err-write_all_runs.ensures.1 in
+    rw (p.1, p.2) (λ h. absurd (reports_note-loaded c.in_err-write_all_runs.field-0.0 h))

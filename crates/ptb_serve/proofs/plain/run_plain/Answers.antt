@@ -39,6 +39,9 @@ returns-clause-read g c = λ e. absurd ((ran g c).unread e)
 pub returns-clause-unreadable : goal.returns-clause-unreadable
 returns-clause-unreadable g c = λ e. absurd ((ran g c).unread e)
 
+pub returns-clause-failed_or_given : goal.returns-clause-failed_or_given
+returns-clause-failed_or_given g c = λ e. absurd ((ran g c).unread e)
+
 pub returns-clause-unspent : goal.returns-clause-unspent
 returns-clause-unspent g c = (ran g c).unspent
 

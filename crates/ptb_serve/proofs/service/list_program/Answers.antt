@@ -4,7 +4,7 @@ use Rattle.std.proofs.lemmas.Result.{err_from_is_err_and}
 use Rattle.ptb_serve.specs.declared.note.Note.TheVariants.{Unwritten}
 use Rattle.ptb_serve.specs.Replies.{listing_reply}
 use Rattle.ptb_serve.specs.Serving.{load_note}
-use Rattle.ptb_serve.proofs.Served.{consumes_some, load_note-start, loaded_unrefused, serves_unloaded, serves_loaded, serves_refusal}
+use Rattle.ptb_serve.proofs.Served.{consumes_some, load_note-length, load_note-refusal, load_note-start, loaded_unrefused, serves_unloaded, serves_loaded, serves_refusal}
 use Rattle.ptb_serve.proofs.service.list_program.Goals as goal
 
 pub returns-in_err-program-clause-served : goal.returns-in_err-program-clause-served
@@ -53,3 +53,15 @@ returns-in_err-list-clause-program_bounded g c = consumes_some _ _ _ c.in_ok-pro
 
 pub returns-clause-program_bounded : goal.returns-clause-program_bounded
 returns-clause-program_bounded g c = consumes_some _ _ _ c.in_ok-program.ensures.bounded
+
+-- ---- what a note tells of the program
+
+pub returns-in_err-program-clause-tells_refusal : goal.returns-in_err-program-clause-tells_refusal
+returns-in_err-program-clause-tells_refusal g c =
+    let p = err_from_is_err_and c.from_residual.result c.from_residual.ensures.1 in
+    rw (p.1, p.2) (load_note-refusal _ _ c.in_err-program.field-0.0 c.in_err-program.ensures.refused c.in_err-program.ensures.too_long)
+
+pub returns-in_err-program-clause-tells_length : goal.returns-in_err-program-clause-tells_length
+returns-in_err-program-clause-tells_length g c =
+    let p = err_from_is_err_and c.from_residual.result c.from_residual.ensures.1 in
+    rw (p.1, p.2) (load_note-length _ _ c.in_err-program.field-0.0 c.in_err-program.ensures.given_too_long)

@@ -3,7 +3,7 @@ use Rattle.std.proofs.Common.{Ok, Err, refl}
 use Rattle.std.proofs.lemmas.Result.{err_from_is_err_and}
 use Rattle.ptb_serve.specs.Replies.{listing_reply, plain_reply}
 use Rattle.ptb_serve.specs.Serving.{load_note}
-use Rattle.ptb_serve.proofs.Served.{IsRunNote-memory, IsRunNote-read, IsRunNote-start, consumes_nothing, consumes_some, load_note-input, load_note-start, loaded_unrefused, serves_unloaded, serves_loaded, serves_refusal, serves_ended, serves_stopped, when_refused}
+use Rattle.ptb_serve.proofs.Served.{IsRunNote-loaded, IsRunNote-read, IsRunNote-start, IsRunNote-write, consumes_nothing, consumes_some, load_note-input, load_note-length, load_note-refusal, load_note-start, loaded_unrefused, serves_unloaded, serves_loaded, serves_refusal, serves_ended, serves_stopped, when_refused}
 use Rattle.ptb_serve.proofs.service.run_program.Goals as goal
 
 pub returns-in_err-program-clause-served : goal.returns-in_err-program-clause-served
@@ -87,5 +87,23 @@ returns-in-Ok-clause-input_read g c = λ _. c.in-Ok.ensures.input_read (λ h. ab
 pub returns-clause-input_read : goal.returns-clause-input_read
 returns-clause-input_read g c = λ h. c.in-Err.ensures.input_read (IsRunNote-read c.in-Err.fault c.run_note.result c.run_note.ensures h)
 
+pub returns-in-Ok-clause-written : goal.returns-in-Ok-clause-written
+returns-in-Ok-clause-written g c = λ _. c.in-Ok.ensures.unfailed (λ h. absurd cc)
+
 pub returns-clause-written : goal.returns-clause-written
-returns-clause-written g c = λ h. c.in-Err.ensures.unfailed (IsRunNote-memory c.in-Err.fault c.run_note.result c.run_note.ensures h)
+returns-clause-written g c = λ h. c.in-Err.ensures.unfailed (IsRunNote-write c.in-Err.fault c.run_note.result c.run_note.ensures h)
+
+-- ---- what a note tells of the program
+
+pub returns-in_err-program-clause-tells_refusal : goal.returns-in_err-program-clause-tells_refusal
+returns-in_err-program-clause-tells_refusal g c =
+    let p = err_from_is_err_and c.from_residual.result c.from_residual.ensures.1 in
+    rw (p.1, p.2) (load_note-refusal _ _ c.in_err-program.field-0.0 c.in_err-program.ensures.refused c.in_err-program.ensures.too_long)
+
+pub returns-in_err-program-clause-tells_length : goal.returns-in_err-program-clause-tells_length
+returns-in_err-program-clause-tells_length g c =
+    let p = err_from_is_err_and c.from_residual.result c.from_residual.ensures.1 in
+    rw (p.1, p.2) (load_note-length _ _ c.in_err-program.field-0.0 c.in_err-program.ensures.given_too_long)
+
+pub returns-clause-unloaded : goal.returns-clause-unloaded
+returns-clause-unloaded g c = λ h. absurd (IsRunNote-loaded c.in-Err.fault c.run_note.result c.run_note.ensures h)

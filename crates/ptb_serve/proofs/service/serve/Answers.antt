@@ -1,6 +1,6 @@
 -- This file answers what is left to prove of `serve`.
 use Rattle.ptb_serve.specs.declared.note.Note.TheVariants as notes
-use Rattle.ptb_serve.proofs.Served.{outcome_of-none, outcome_of-note, outcome_of-other, outcome_of-success, outcome_of-unread}
+use Rattle.ptb_serve.proofs.Served.{outcome_of-none, outcome_of-note, outcome_of-success, outcome_of-unread}
 use Rattle.ptb_serve.proofs.service.serve.Goals as goal
 
 pub returns-in-Plain-clause-served : goal.returns-in-Plain-clause-served
@@ -47,10 +47,28 @@ returns-in-Plain-clause-no_run_within g c = rw c.of.ensures (λ is. absurd (c.ru
 pub returns-in-All-clause-no_run_within : goal.returns-in-All-clause-no_run_within
 returns-in-All-clause-no_run_within g c = rw c.of-in-All.ensures (λ is. c.list_runs.ensures.no_run_within (outcome_of-note c.list_runs.result notes.NoRun is))
 
--- ---- the fault that came
+-- ---- what a note tells of the program and the input
 
-pub returns-in-Plain-clause-written : goal.returns-in-Plain-clause-written
-returns-in-Plain-clause-written g c = rw c.of.ensures (λ is. c.run_program.ensures.written (outcome_of-note c.run_program.result notes.OutOfMemory is))
+pub returns-in-Plain-clause-tells_refusal : goal.returns-in-Plain-clause-tells_refusal
+returns-in-Plain-clause-tells_refusal g c = rw c.of.ensures c.run_program.ensures.tells_refusal
 
-pub returns-in-All-clause-written : goal.returns-in-All-clause-written
-returns-in-All-clause-written g c = rw c.of-in-All.ensures (λ is. c.list_runs.ensures.written (outcome_of-other c.list_runs.result is))
+pub returns-in-Plain-clause-tells_length : goal.returns-in-Plain-clause-tells_length
+returns-in-Plain-clause-tells_length g c = rw c.of.ensures c.run_program.ensures.tells_length
+
+pub returns-in-Plain-clause-unloaded : goal.returns-in-Plain-clause-unloaded
+returns-in-Plain-clause-unloaded g c = rw c.of.ensures c.run_program.ensures.unloaded
+
+pub returns-in-Plain-clause-input_failed_or_given : goal.returns-in-Plain-clause-input_failed_or_given
+returns-in-Plain-clause-input_failed_or_given g c = rw c.of.ensures (λ is. c.run_program.ensures.input_failed_or_given (outcome_of-note c.run_program.result notes.InputUnread is))
+
+pub returns-in-All-clause-tells_refusal : goal.returns-in-All-clause-tells_refusal
+returns-in-All-clause-tells_refusal g c = rw c.of-in-All.ensures c.list_runs.ensures.tells_refusal
+
+pub returns-in-All-clause-tells_length : goal.returns-in-All-clause-tells_length
+returns-in-All-clause-tells_length g c = rw c.of-in-All.ensures c.list_runs.ensures.tells_length
+
+pub returns-in-All-clause-unloaded : goal.returns-in-All-clause-unloaded
+returns-in-All-clause-unloaded g c = rw c.of-in-All.ensures c.list_runs.ensures.unloaded
+
+pub returns-in-All-clause-input_failed_or_given : goal.returns-in-All-clause-input_failed_or_given
+returns-in-All-clause-input_failed_or_given g c = rw c.of-in-All.ensures (λ is. c.list_runs.ensures.input_failed_or_given (outcome_of-note c.list_runs.result notes.InputUnread is))

@@ -1,8 +1,8 @@
 -- This file answers what is left to prove of `enter_lines`.
-use Rattle.std.proofs.Common.{◌≡◌, ◌∷◌, drop, refl, sym, ap, ◌∙◌, arith}
+use Rattle.std.proofs.Common.{◌≡◌, ◌∷◌, drop, Err, refl, sym, ap, ◌∙◌, arith}
 use Rattle.ptb_text.specs.Lines.{lines}
 use Rattle.ptb_text.proofs.LineParts.{no_bytes}
-use Rattle.ptb_text.proofs.Loaded.{drop_next, accepted, acceptable, refused, all_accepted, none_entered}
+use Rattle.ptb_text.proofs.Loaded.{drop_next, has_text, accepted, acceptable, refused, all_accepted, none_entered}
 use Rattle.ptb_text.proofs.loading.enter_lines.Goals as goal
 use Rattle.ptb_text.proofs.loading.enter_lines.Goals.{After-split_line}
 
@@ -25,6 +25,11 @@ returns-in-Err-clause-memory_last c other_fault =
     let e = c.in-Err.ensures.memory_last other_fault in
     let ok = rw c.loop-rest.invariant.memory at e.1 in
     (e.0, acceptable (lines c.args.text.now) c.loop-rest.entered c.split_line.result.0.now (lines c.split_line.result.1.now) first c.args.program.memory _ c.loop-rest.invariant.so_far ok)
+
+pub returns-in-Err-clause-memory_line : goal.returns-in-Err-clause-memory_line
+returns-in-Err-clause-memory_line c memory_fault =
+    let first = left (goal.at.returns-in-Err-clause-memory_line c).After-split_line in
+    has_text (lines c.args.text.now) c.loop-rest.entered c.split_line.result.0.now (lines c.split_line.result.1.now) first (c.in-Err.ensures.memory_text (ap Err memory_fault))
 
 pub loop-rest-preserved : goal.loop-rest-preserved
 loop-rest-preserved c =

@@ -2,7 +2,7 @@
 use Rattle.std.proofs.Common.{◌≡◌, map, ap, ◌∙◌, arith}
 use Rattle.std.proofs.lemmas.List.{take_at}
 use Rattle.ptb_text.specs.Lines.{tab_as_space}
-use Rattle.ptb_text.proofs.Loaded.{IsLoaded-from_lines, IsRefusedAt-from_lines, AcceptsLines-from_lines, AcceptsLines-none}
+use Rattle.ptb_text.proofs.Loaded.{IsLoaded-from_lines, IsRefusedAt-from_lines, AcceptsLines-from_lines, AcceptsLines-none, StoresTextAt-from_lines}
 use Rattle.ptb_text.proofs.loading.load.Goals as goal
 use Rattle.ptb_text.proofs.loading.load.Goals.{After-enter_lines}
 
@@ -36,3 +36,8 @@ returns-clause-memory_last g c =
     let e = (goal.at.returns-clause-memory_last g c).After-enter_lines in
     let accepts = rw (memory_is g e) at c.enter_lines.ensures.memory_last in
     AcceptsLines-from_lines _ c.in-Ok.text.items c.deref.result.now c.args.memory c.in-Ok.ensures.ok (spaces g e) c.enter_lines.result accepts
+
+pub returns-clause-memory_line : goal.returns-clause-memory_line
+returns-clause-memory_line g c =
+    let e = (goal.at.returns-clause-memory_line g c).After-enter_lines in
+    StoresTextAt-from_lines _ c.in-Ok.text.items c.deref.result.now c.args.memory c.in-Ok.ensures.ok (spaces g e) c.enter_lines.result (omega (arith, c.in-Ok.ensures.short, c.in-Ok.text.ok.0)) c.enter_lines.ensures.memory_line

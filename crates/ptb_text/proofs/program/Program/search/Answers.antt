@@ -5,7 +5,7 @@ use Rattle.std.specs.Ordering.{nat_cmp}
 use Rattle.std.proofs.lemmas.List.Sorted.{answers_always}
 use Rattle.ptb_text.specs.declared.program.Statement.{Statement}
 use Rattle.ptb_text.specs.Places.{IsGapFor}
-use Rattle.ptb_text.proofs.Stored.{shown}
+use Rattle.ptb_text.proofs.Pool.{shown}
 use Rattle.ptb_text.proofs.Searching.{IsSearched, searched, IsGapFor-end}
 use Rattle.ptb_text.proofs.Sound.{both_true}
 use Rattle.ptb_text.proofs.program.Program.search.Goals as goal
@@ -16,8 +16,8 @@ by_number : (c : After-binary_search_by_key) → IsSearched c.args.self.now.line
 by_number c =
     let facts = c.binary_search_by_key.ensures in
     let by_key = facts.position (λ s. s.number) (answers_always _ _ _ (λ f a r g called. search rules)) in
-    let sorted : is_sorted nat_cmp (map shown c.self.inside.statements.items) ≡ true = (both_true _ _ c.self.invariant.sound.is_map).0 in
-    rw (← c.self.view_is) (searched c.self.inside.statements.items sorted c.args.number _ (rw c.deref-in-Some.ensures.value at facts.bound) (rw c.deref-in-Some.ensures.value at by_key))
+    let sorted : is_sorted nat_cmp (map (shown c.self.inside.pool.items) c.self.inside.statements.items) ≡ true = (both_true _ _ c.self.invariant.sound.is_map).0 in
+    rw (← c.self.view_is) (searched c.self.inside.pool.items c.self.inside.statements.items sorted c.args.number _ (rw c.deref-in-Some.ensures.value at facts.bound) (rw c.deref-in-Some.ensures.value at by_key))
 
 pub returns-in-Some-clause-found : goal.returns-in-Some-clause-found
 returns-in-Some-clause-found c = (by_number c).found
@@ -29,8 +29,8 @@ returns-in-Some-clause-absent c = (by_number c).absent
 behind_all : (c : After-len) (last : Option Statement) → last ≡ slice_get c.deref.result.now (length c.deref.result.now - 1) → IfSome last (λ s. s.number < c.args.number) → IsGapFor c.args.self.now.lines c.args.number c.len.result
 behind_all c last is above =
     let items = c.self.inside.statements.items in
-    let sorted : is_sorted nat_cmp (map shown items) ≡ true = (both_true _ _ c.self.invariant.sound.is_map).0 in
-    let gap = IsGapFor-end items sorted c.args.number last (rw c.deref.ensures.value at is) above in
+    let sorted : is_sorted nat_cmp (map (shown c.self.inside.pool.items) items) ≡ true = (both_true _ _ c.self.invariant.sound.is_map).0 in
+    let gap = IsGapFor-end c.self.inside.pool.items items sorted c.args.number last (rw c.deref.ensures.value at is) above in
     rw (← c.self.view_is, c.len.ensures, c.self.inside.statements.ok.0) gap
 
 pub returns-in_default-clause-absent : goal.returns-in_default-clause-absent

@@ -1,0 +1,28 @@
+# This file completes the words of ptb in bash, as soon as bash has read it.
+
+_ptb() {
+    local current=${COMP_WORDS[COMP_CWORD]} previous=${COMP_WORDS[COMP_CWORD - 1]}
+    COMPREPLY=()
+    case $previous in
+    --answers | --after)
+        mapfile -t COMPREPLY < <(compgen -W 'none' -- "$current")
+        return
+        ;;
+    --steps | --memory | --first)
+        # a number; no file is offered in its place
+        compopt +o default 2>/dev/null
+        return
+        ;;
+    esac
+    case $current in
+    -*)
+        mapfile -t COMPREPLY < <(compgen -W \
+            '--steps --memory --answers --all --after --first --list --help -h' -- "$current")
+        ;;
+    *)
+        mapfile -t COMPREPLY < <(compgen -f -X '!*.bas' -- "$current"; compgen -d -- "$current")
+        ;;
+    esac
+}
+
+complete -o filenames -o default -F _ptb ptb

@@ -1,0 +1,12 @@
+-- This file answers that the runs of each program have the laws of trees and of listings.
+use Rattle.ptb_machine.specs.Play.{play}
+use Rattle.ptb_machine.specs.Questions.{most_answers}
+use Rattle.ptb_explore.proofs.Behind.{listing_laws}
+use Rattle.ptb_explore.proofs.Tree.{tree_laws}
+use Rattle.ptb_explore.proofs.laws.program_laws.Goals as goal
+
+pub returns-clause-tree : goal.returns-clause-tree
+returns-clause-tree c = λ p input limit. tree_laws (play p input limit) (most_answers p input limit) (c.run_laws.ensures.reads p input limit)
+
+pub returns-clause-listing : goal.returns-clause-listing
+returns-clause-listing c = λ p input limit. listing_laws (play p input limit) (most_answers p input limit) (c.run_laws.ensures.reads p input limit)

@@ -1,0 +1,30 @@
+#!/bin/bash
+# Runs all tests of the built program, one script after the other. The last line is the sum of theirs.
+# PTB names another program than the one that ./ptb builds.
+set -u
+tests=$(dirname "$(readlink -f "$0")")
+passed=0
+failed=0
+
+# tried SCRIPT WORDS..: runs a script, and adds what it counts. One that ends without a count is a failure.
+tried() {
+    local name=$1 last
+    shift
+    echo "== $name"
+    last=$("$tests/$name" "$@" | tee /dev/stderr | tail -n 1)
+    if [[ $last =~ ^([0-9]+)\ passed,\ ([0-9]+)\ failed$ ]]; then
+        passed=$((passed + BASH_REMATCH[1]))
+        failed=$((failed + BASH_REMATCH[2]))
+    else
+        failed=$((failed + 1))
+    fi
+}
+
+tried binary.sh
+tried listings.sh
+tried installing.sh
+tried refusals.sh
+tried stress.sh 1 30
+
+echo "$passed passed, $failed failed"
+[ "$failed" = 0 ]

@@ -1,0 +1,215 @@
+#!/bin/bash
+# Tries ./install in a temporary folder, and the completions and the man page against --help. Where zsh or fish isn't
+# installed, its completions are compared with --help alone.
+# PTB names another program than the one that ./ptb builds.
+set -u
+root=$(dirname "$(dirname "$(readlink -f "$0")")")
+ptb=${PTB:-$root/ptb}
+folder=$(mktemp -d)
+trap 'rm -rf "$folder"' EXIT
+passed=0
+failed=0
+
+# Counts a check by whether it holds.
+count() {
+    if [ "$2" = yes ]; then
+        passed=$((passed + 1))
+    else
+        failed=$((failed + 1))
+        echo "failed: $1"
+    fi
+}
+
+# count_if NAME COMMAND WORDS..: a check that holds where the command succeeds
+count_if() {
+    local name=$1
+    shift
+    if "$@"; then count "$name" yes; else count "$name" no; fi
+}
+
+# count_same NAME SAID DUE: a check that holds where both are the same text
+count_same() {
+    if [ "$2" = "$3" ]; then
+        count "$1" yes
+    else
+        count "$1" no
+        printf '    said: %s\n    due:  %s\n' "$2" "$3" >&2
+    fi
+}
+
+"$ptb" --help </dev/null >"$folder/help" || exit 1
+
+# ---- each option of --help stands in each file, and no other does
+
+# Words from standard input in one line, each once, in order.
+in_one_line() {
+    sort -u | tr '\n' ' '
+}
+
+long=$(sed -n 's/^ \{2,\}\(-[a-zA-Z], \)\{0,1\}--\([a-z][a-z-]*\).*/\2/p' "$folder/help" | in_one_line)
+short=$(sed -n 's/^ \{2,\}-\([a-zA-Z]\)\(, .*\)\{0,1\}$/\1/p' "$folder/help" | in_one_line)
+count_if '--help has the options that were there first' \
+    [ "$(printf '%s\n' steps memory answers all after first list help | grep -cxF -f <(tr ' ' '\n' <<<"$long"))" = 8 ]
+
+# The options of two dashes in a text, and those of one dash and a letter that stand alone in it.
+long_in() {
+    grep -oE -- '--[a-z][a-z-]*' | sed 's/^--//' | in_one_line
+}
+short_in() {
+    grep -oE -- "(^|[^a-zA-Z-])-[a-zA-Z]($|[^a-zA-Z-])" | grep -oE '[a-zA-Z]' | in_one_line
+}
+
+# The words that bash offers, from the list in its file; that zsh offers, from its lines of options; that fish offers.
+bash_words=$(sed -n "/compgen -W/,/--/p" "$root/completions/ptb.bash" | grep "^ *'--")
+count_same 'options in the bash completions' "$(long_in <<<"$bash_words")" "$long"
+count_same 'short options in the bash completions' "$(short_in <<<"$bash_words")" "$short"
+count_same 'options that the bash completions name at all' "$(long_in <"$root/completions/ptb.bash")" "$long"
+# what zsh shows of an option stands in brackets, and what it excludes in parentheses in front
+zsh_words=$(grep "^    '[^:]" "$root/completions/_ptb" | sed "s/^ *'\(([^)]*)\)\{0,1\}'\{0,1\}//; s/\[.*//; s/[{},']/ /g")
+count_same 'options in the zsh completions' "$(long_in <<<"$zsh_words")" "$long"
+count_same 'short options in the zsh completions' "$(short_in <<<"$zsh_words")" "$short"
+count_same 'options that the zsh completions name at all' "$(long_in <"$root/completions/_ptb")" "$long"
+fish_words=$(grep '^complete -c ptb' "$root/completions/ptb.fish" | sed "s/ -d '.*//")
+count_same 'options in the fish completions' \
+    "$(grep -oE -- ' -l [^ ]+' <<<"$fish_words" | sed 's/^ -l //' | in_one_line)" "$long"
+count_same 'short options in the fish completions' \
+    "$(grep -oE -- ' -s [^ ]+' <<<"$fish_words" | sed 's/^ -s //' | in_one_line)" "$short"
+man_words=$(sed -n '/^\.SH OPTIONS/,/^\.PP/p' "$root/docs/ptb.1" | grep -A1 '^\.TP' | grep '^\.B' | sed 's/\\-/-/g; s/[",]/ /g')
+count_same 'options in the man page' "$(long_in <<<"$man_words")" "$long"
+count_same 'short options in the man page' "$(short_in <<<"$man_words")" "$short"
+count_same 'options that the man page names at all' "$(sed 's/\\-/-/g; s/\\f[A-Z]/ /g' "$root/docs/ptb.1" | long_in)" "$long"
+
+# ---- bash is asked
+
+mkdir "$folder/here" "$folder/here/more games"
+touch "$folder/here/dice.bas" "$folder/here/draw.bas" "$folder/here/dice.txt"
+
+# offered FILE WORD..: what bash offers for the last of these words behind ptb, in a folder with two programs
+offered() {
+    bash -c 'cd "$0" && . "$1" && shift && COMP_WORDS=(ptb "$@") && COMP_CWORD=$# && _ptb && printf "%s\n" "${COMPREPLY[@]}"' \
+        "$folder/here" "$root/completions/ptb.bash" "$@" | sed '/^$/d' | in_one_line
+}
+
+count_if 'bash reads its completions, and knows whom to ask' \
+    bash -c '. "$1" && complete -p ptb | grep -q -- "-F _ptb ptb\$"' bash "$root/completions/ptb.bash"
+for option in $long; do
+    case " $(offered "--$option") " in *" --$option "*) offers=yes ;; *) offers=no ;; esac
+    count "bash offers --$option" "$offers"
+done
+count_same 'bash offers what begins so' "$(offered --a)" '--after --all --answers '
+count_same 'bash offers all options' "$(offered --all --)" "$(tr ' ' '\n' <<<"$long" | sed '/^$/d; s/^/--/' | in_one_line)"
+count_same 'bash offers no option that there is not' "$(offered --x)" ''
+count_same 'bash offers programs and folders' "$(offered '')" 'dice.bas draw.bas more games '
+count_same 'bash offers the program that begins so' "$(offered --all di)" 'dice.bas '
+count_same 'bash offers the empty list' "$(offered --answers '')$(offered --after n)" 'none none '
+count_same 'bash offers no file for a number' "$(offered --steps '')$(offered --first di)" ''
+
+# ---- zsh and fish are asked, where they are
+
+if command -v zsh >/dev/null; then
+    count_if 'zsh reads its completions' zsh -n "$root/completions/_ptb"
+    count_same 'zsh knows whom to ask' "$(HOME=$folder zsh -fc "fpath=('$root/completions' \$fpath)
+        autoload -Uz compinit && compinit -u -D && print -r -- \$_comps[ptb]")" _ptb
+else
+    echo 'zsh is not installed: its completions were not read'
+fi
+if command -v fish >/dev/null; then
+    count_same 'fish offers what begins so' "$(HOME=$folder fish --no-config -c \
+        "source '$root/completions/ptb.fish'; complete -C 'ptb --a'" | cut -f 1 | in_one_line)" '--after --all --answers '
+else
+    echo 'fish is not installed: its completions were not read'
+fi
+
+# ---- ./install, from a copy of the repository
+
+# A copy of what ./install reads; its program is newer than its sources.
+make_copy() {
+    local crate
+    rm -rf "$folder/copy"
+    mkdir -p "$folder/copy/docs" "$folder/copy/crates/ptb/out"
+    while read -r crate; do mkdir -p "$folder/copy/crates/$crate/src"; done < <(sed -n 's/^\([a-z_]*\):.*/\1/p' "$root/crates.txt")
+    cp -R "$root/ptb" "$root/crates.txt" "$root/install" "$root/LICENSE" "$root/completions" "$folder/copy/"
+    cp "$root/docs/ptb.1" "$folder/copy/docs/"
+    case $ptb in
+    "$root/ptb") cp "$root/crates/ptb/out/ptb" "$folder/copy/crates/ptb/out/ptb" ;;
+    *) cp "$ptb" "$folder/copy/crates/ptb/out/ptb" ;;
+    esac
+    touch "$folder/copy/crates/ptb/out/ptb"
+}
+
+# installed WORDS..: runs ./install of the copy with these words
+installed() {
+    "$folder/copy/install" "$@" </dev/null >"$folder/output" 2>"$folder/errors"
+    status=$?
+}
+
+# The files below a folder, in order.
+files_below() {
+    find "$1" -type f | sort
+}
+
+make_copy
+place="$folder/a place/below"
+installed "$place"
+count_same 'install' "$status $(cat "$folder/errors")" '0 '
+count_same 'install says each file, and that PATH lacks the program' "$(sort "$folder/output")" \
+    "$(echo "The shell finds ptb once $place/bin is in PATH."; files_below "$place" | sed 's/^/installed /')"
+count_same 'it puts these files there' "$(cd "$place" && files_below .)" "./bin/ptb
+./share/bash-completion/completions/ptb
+./share/doc/ptb/LICENSE
+./share/fish/vendor_completions.d/ptb.fish
+./share/man/man1/ptb.1
+./share/zsh/site-functions/_ptb"
+count_if 'the program' cmp "$folder/copy/crates/ptb/out/ptb" "$place/bin/ptb"
+count_if 'the man page' cmp "$root/docs/ptb.1" "$place/share/man/man1/ptb.1"
+count_if 'the completions for bash' cmp "$root/completions/ptb.bash" "$place/share/bash-completion/completions/ptb"
+count_if 'the completions for zsh' cmp "$root/completions/_ptb" "$place/share/zsh/site-functions/_ptb"
+count_if 'the completions for fish' cmp "$root/completions/ptb.fish" "$place/share/fish/vendor_completions.d/ptb.fish"
+count_if 'the licence' cmp "$root/LICENSE" "$place/share/doc/ptb/LICENSE"
+count_same 'who may do what' "$(cd "$place" && find . -type f -exec stat -c '%a' {} + | sort | uniq -c | tr -s ' \n' ' ')" ' 5 644 1 755 '
+if command -v man >/dev/null && man -w ls >/dev/null 2>&1; then
+    count_same 'man finds the page' "$(MANPATH=$place/share/man man -w ptb)" "$place/share/man/man1/ptb.1"
+fi
+installed "$place"
+count_same 'install once more' "$status $(cat "$folder/errors")" '0 '
+PATH="$place/bin:$PATH" installed "$place/"
+count_same 'nothing to say of PATH' "$status $(grep -c PATH "$folder/output")" '0 0'
+
+# with DESTDIR
+DESTDIR=$folder/stage installed /usr/local
+count_same 'install below DESTDIR' "$status $(cat "$folder/errors")" '0 '
+count_same 'all of it is there, and no word on PATH' "$(sort "$folder/output")" "$(files_below "$folder/stage/usr/local" | sed 's/^/installed /')"
+count_same 'and nothing else' "$(files_below "$folder/stage" | wc -l)" 6
+
+# without the repository
+rm -rf "$folder/copy"
+count_same 'what is installed runs without the repository' "$(cd / && env -i "$place/bin/ptb" <"$root/examples/hello.bas")" HI
+count_same 'and helps' "$(cd / && env -i "$place/bin/ptb" --help)" "$(cat "$folder/help")"
+count_same 'what bash would load is installed' "$(bash -c '. "$1" && complete -p ptb | grep -o "_ptb ptb"' bash \
+    "$place/share/bash-completion/completions/ptb")" '_ptb ptb'
+
+# words that ask for nothing, a folder that can't be made, and a program that can't be built
+make_copy
+for words in '' 'one two' --help; do
+    # shellcheck disable=SC2086
+    installed $words
+    count_same "install $words" "$status $(cat "$folder/output" "$folder/errors")" '64 usage: ./install PREFIX, as ./install ~/.local'
+done
+touch "$folder/file"
+installed "$folder/file"
+count_same 'a file in the place of a folder' "$status $(tail -n 1 "$folder/errors")" "73 install: cannot write $folder/file/bin/ptb"
+count_same 'and what was installed' "$(cat "$folder/output")" ''
+rm "$folder/copy/crates/ptb/out/ptb"
+mkdir "$folder/bin"
+printf '#!/bin/sh\necho no\nexit 1\n' >"$folder/bin/rt"
+chmod +x "$folder/bin/rt"
+TMPDIR=$folder PATH=$folder/bin:$PATH installed "$folder/nowhere"
+count_same 'a program that cannot be built' "$status $(find "$folder" -name nowhere)" '70 '
+
+# ---- the licence
+
+count_same 'the licence' "$(sed -n '1p; 3p' "$root/LICENSE")" 'MIT License
+Copyright (c) 2026 the ptb authors'
+
+echo "$passed passed, $failed failed"
+[ "$failed" = 0 ]

@@ -1,0 +1,147 @@
+"""This file strikes the program's calls for memory, reads, writes and files one by one, and checks how each run ends."""
+
+import multiprocessing
+import os
+import subprocess
+import sys
+import tempfile
+from dataclasses import dataclass, replace
+
+from rows import ROWS, Reply, Row, noted
+
+KINDS = {
+    "refuse": "allocations refused",
+    "deplete": "ends of memory",
+    "starve": "files not opened",
+    "cut": "reads and writes cut",
+    "fail": "reads and writes failed",
+}
+MOST_CALLS = 5000
+# Room for the words of the command line is asked for twice: for all of them, and where that is refused for fewer.
+MOST_SPARED = 1
+SECONDS_OF_A_RUN = 60
+OUT_OF_MEMORY = noted(71, "out of memory")
+NO_PROGRAM = noted(66, "cannot read the program")
+NO_INPUT = noted(66, "cannot read the input")
+UNWRITTEN = noted(74, "cannot write")
+
+
+@dataclass(frozen=True)
+class Sweep:
+    """A row's runs with one kind of strike.
+
+    It has how many calls were struck, how many of these runs were whole all the same, how many runs ended as they may,
+    and what the others came to.
+    """
+
+    row: Row
+    kind: str
+    struck: int
+    whole: int
+    passed: int
+    faults: tuple
+
+
+def swept(task):
+    """Strikes the row's first call of this kind, the second, and so on until a run has no such call any more."""
+    ptb, strike, row, kind = task
+    with tempfile.TemporaryDirectory(prefix="ptb-refusals-") as folder:
+        row = row_with_text(row, run(ptb, strike, folder, row, "")[1])
+        replies = []
+        for number in range(1, MOST_CALLS):
+            replies.append((number, *run(ptb, strike, folder, row, f"{kind} {number}")))
+            if not replies[-1][1]:
+                break
+    whole = sum(reply == row.due for _, struck, reply in replies if struck)
+    faults = [f"{kind} {number}: {reply}" for number, struck, reply in replies if not is_due(row, kind, struck, reply)]
+    passed = len(replies) - len(faults)
+    if replies[-1][1]:
+        faults.append(f"{kind}: no end at {MOST_CALLS}")
+    if kind == "refuse" and whole > MOST_SPARED:
+        faults.append(f"{kind}: {whole} refusals made no difference")
+    return Sweep(row, kind, len(replies) - 1, whole, passed, tuple(faults))
+
+
+def row_with_text(row, unstruck):
+    """The row with its whole reply: where the text is clap's, it is that of a run in which nothing is struck."""
+    return row if isinstance(row.due, Reply) else replace(row, due=replace(unstruck, status=row.due))
+
+
+def run(ptb, strike, folder, row, how):
+    """Runs the row with a strike: what was struck, or an empty text, and the reply."""
+    program, struck = os.path.join(folder, "program.bas"), os.path.join(folder, "struck")
+    written(program, row.program)
+    written(struck, "")
+    words = row.words.split() + ([] if row.input is None else [program])
+    stdin = row.program if row.input is None else row.input
+    how_it_is_run = {
+        "input": stdin.encode(),
+        "capture_output": True,
+        "timeout": SECONDS_OF_A_RUN,
+        "env": {**os.environ, "LD_PRELOAD": strike, "STRIKE": how, "STRUCK": struck},
+    }
+    try:
+        done = subprocess.run([ptb, *words], **how_it_is_run)
+        reply = Reply(done.returncode, done.stdout, done.stderr)
+    except subprocess.TimeoutExpired as late:
+        reply = Reply("not over in time", late.stdout or b"", late.stderr or b"")
+    with open(struck, encoding="ascii") as name:
+        return name.read(), reply
+
+
+def written(path, text):
+    with open(path, "w", encoding="ascii", newline="") as file:
+        file.write(text)
+
+
+def is_due(row, kind, struck, reply):
+    """Whether a run may end so in which this call was struck, or none."""
+    if not struck or kind == "cut":
+        return reply == row.due
+    if kind == "refuse" and reply == row.due:
+        return True
+    if kind in ("refuse", "deplete"):
+        return is_cut_short(row, reply, OUT_OF_MEMORY)
+    if kind == "starve":
+        return reply == OUT_OF_MEMORY
+    if struck == "W1":
+        return is_cut_short(row, reply, UNWRITTEN)
+    if struck == "W2":
+        return (reply.status, reply.output) == (row.due.status, row.due.output)
+    return reply == (NO_INPUT if struck == "R0" and row.input is not None else NO_PROGRAM)
+
+
+def is_cut_short(row, reply, note):
+    """Whether a beginning of what is due was written, and then this note."""
+    is_noted = (reply.status, reply.errors) == (note.status, note.errors)
+    return is_noted and row.due.output.startswith(reply.output)
+
+
+def told(sweeps):
+    """Prints what became of the sweeps; gives how many runs were as they may be, and how many weren't."""
+    passed = failed = 0
+    for sweep in sweeps:
+        for fault in sweep.faults:
+            print(f"failed: {sweep.row}: {fault}")
+        passed += sweep.passed
+        failed += len(sweep.faults)
+    for kind, name in KINDS.items():
+        struck = [sweep.struck for sweep in sweeps if sweep.kind == kind]
+        whole = sum(sweep.whole for sweep in sweeps if sweep.kind == kind)
+        print(f"{name}: {sum(struck)} in {len(struck)} rows, {min(struck)} to {max(struck)} each; {whole} runs whole")
+        # where nothing is struck in any row the strikes don't reach the program
+        passed, failed = passed + any(struck), failed + (not any(struck))
+    return passed, failed
+
+
+def main():
+    ptb, strike = map(os.path.abspath, sys.argv[1:])
+    with multiprocessing.Pool() as pool:
+        sweeps = pool.map(swept, [(ptb, strike, row, kind) for kind in KINDS for row in ROWS], chunksize=1)
+    passed, failed = told(sweeps)
+    print(f"{passed} passed, {failed} failed")
+    return failed == 0
+
+
+if __name__ == "__main__":
+    sys.exit(0 if main() else 1)

@@ -1,0 +1,87 @@
+"""This file lists the runs whose calls are struck, each with the reply that is due where nothing is."""
+
+from dataclasses import dataclass
+
+
+@dataclass(frozen=True)
+class Reply:
+    """What a run comes to. The status is below 0 where a signal ended it."""
+
+    status: object
+    output: bytes
+    errors: bytes
+
+
+@dataclass(frozen=True)
+class Row:
+    """A program with its words and its input lines, and the reply that is due; where the text is clap's, its status.
+
+    Where the input is None, standard input is the program.
+    """
+
+    words: str
+    program: str
+    input: object
+    due: object
+
+    def __str__(self):
+        place = "standard input" if self.input is None else "a file"
+        return f"ptb {self.words} with {self.program!r} from {place}"
+
+
+def served(output, status=0):
+    return Reply(status, output.encode(), b"")
+
+
+def noted(status, note, output=""):
+    return Reply(status, output.encode(), f"ptb: {note}\n".encode())
+
+
+def report(header, transcript):
+    return f"RUN {header}\n{transcript}\n"
+
+
+PRODUCT = "10 PRINT RND(2)*RND(2)\n"
+PRODUCTS = [
+    report("1,1 END 1 7", "     1\n"),
+    report("1,2 END 1 7", "     2\n"),
+    report("2,1 END 1 7", "     2\n"),
+    report("2,2 END 1 7", "     4\n"),
+]
+BRANCH = "10 A=RND(2);IF A=2 B=RND(3);PRINT B\n"
+BRANCHES = [report("1 END 2 0", "")] + [report(f"2,{k} END 4 7", f"     {k}\n") for k in (1, 2, 3)]
+ECHO = "10 INPUT A;PRINT A\n"
+ECHOES = [report(f"{k} END 2 16", f"A:RND(2)\n     {k}\n") for k in (1, 2)]
+ASK = "10 INPUT A\n"
+EDITED = "10 P.1\n20 P.2\n010\tP.3\r\n20"
+FAULT = "10 PRINT 1;A=1/0\n"
+# what takes room again and again: answers and a transcript, and the lines of a program
+LONG_RUN = "10 F.I=1TO300;P.RND(1);N.I\n"
+LONG_REPORT = report(",".join(["1"] * 300) + " END 601 2100", 300 * "     1\n")
+LONG_TEXT = "".join(f"{k} REM {k}\n" for k in range(1, 50))
+
+ROWS = [
+    Row("--all", PRODUCT, "", served("".join(PRODUCTS))),
+    Row("--all", PRODUCT, None, served("".join(PRODUCTS))),
+    Row("--all --after 1,1 --first 2", PRODUCT, None, served("".join(PRODUCTS[1:3]))),
+    Row("--all", BRANCH, "", served("".join(BRANCHES))),
+    Row("--all", BRANCH, None, served("".join(BRANCHES))),
+    Row("--all --after 2,1", BRANCH, None, served("".join(BRANCHES[2:]))),
+    Row("--answers 2,3", BRANCH, "", served("     3\n")),
+    Row("--answers 2,3", BRANCH, None, served("     3\n")),
+    Row("--all", ECHO, "RND(2)\n", served("".join(ECHOES))),
+    Row("--answers 1", ECHO, "RND(2)\n", served("A:RND(2)\n     1\n")),
+    Row("", ASK, ")\n5\n", served("A:)\nWHAT?\nA:5\n")),
+    Row("", ASK, ")\n", served("A:)\nWHAT?\nA:", status=5)),
+    Row("--all", ASK, "", served(report("none NOINPUT 1 2", "A:"))),
+    Row("--list", EDITED, "", served("10 P.3\n")),
+    Row("--list", EDITED, None, served("10 P.3\n")),
+    Row("--all", LONG_RUN, "", served(LONG_REPORT)),
+    Row("--list", LONG_TEXT, None, served(LONG_TEXT)),
+    Row("", FAULT, None, served("     1\nHOW?\n10 PRINT 1;A=1/0?\n", status=2)),
+    Row("", "32768 P.1\n", None, noted(65, "line 1: number too big")),
+    Row("--all --after 2", BRANCH, None, noted(67, "not a run")),
+    Row("--answers 1,,2", PRODUCT, None, noted(64, "bad list")),
+    Row("--help", PRODUCT, None, 0),
+    Row("--steps 0", PRODUCT, None, 64),
+]

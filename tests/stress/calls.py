@@ -1,0 +1,75 @@
+"""This file calls the program, and says what every reply must be like, whatever was asked."""
+
+import os
+import re
+import subprocess
+from dataclasses import dataclass
+
+ENDINGS = {"END": 0, "STOP": 0, "WHAT": 1, "HOW": 2, "SORRY": 3, "LIMIT": 4, "NOINPUT": 5}
+LIMIT, NO_ANSWER, BAD_ANSWER = 4, 6, 7
+BAD_WORDS, REFUSED_PROGRAM, UNREAD, NO_RUN, UNWRITTEN = 64, 65, 66, 67, 74
+
+# The text for errors that goes with each status. Want of memory has one too, but nothing here is short of memory.
+NOTES = {
+    **dict.fromkeys(range(8), rb""),
+    BAD_WORDS: rb"(?s).+",
+    REFUSED_PROGRAM: rb"ptb: (?:program too long|line [1-9]\d*: "
+    rb"(?:no statement number|number too big|text too long|bad byte at [1-9]\d*|program full))\n",
+    UNREAD: rb"ptb: cannot read the (?:program|input)\n",
+    NO_RUN: rb"ptb: not a run\n",
+    UNWRITTEN: rb"ptb: cannot write\n",
+}
+SILENT = {BAD_WORDS, REFUSED_PROGRAM, NO_RUN}
+SECONDS_OF_A_CALL = 60
+
+
+@dataclass(frozen=True)
+class Call:
+    """One start of the program in a case's folder: its words, and the files that are its standard input and output."""
+
+    words: tuple
+    stdin: str = "/dev/null"
+    stdout: str = ""
+
+
+@dataclass(frozen=True)
+class Reply:
+    """What came of a call. The status is None where it was not over in time, and below 0 where a signal ended it."""
+
+    status: object
+    output: bytes
+    errors: bytes
+
+
+def reply_of(program, folder, call):
+    """Calls the program."""
+    with open(os.path.join(folder, call.stdin), "rb") as stdin:
+        stdout = open(call.stdout, "wb") if call.stdout else None
+        try:
+            done = subprocess.run(
+                [program, *call.words],
+                cwd=folder,
+                stdin=stdin,
+                stdout=stdout or subprocess.PIPE,
+                stderr=subprocess.PIPE,
+                timeout=SECONDS_OF_A_CALL,
+            )
+        except subprocess.TimeoutExpired as late:
+            return Reply(None, late.stdout or b"", late.stderr or b"")
+        finally:
+            if stdout:
+                stdout.close()
+    return Reply(done.returncode, done.stdout or b"", done.stderr)
+
+
+def fault_of(reply):
+    """Why no call may be replied to like this, or an empty text."""
+    if reply.status is None:
+        return f"not over in {SECONDS_OF_A_CALL} seconds"
+    if reply.status not in NOTES:
+        return f"status {reply.status}"
+    if not re.fullmatch(NOTES[reply.status], reply.errors):
+        return f"status {reply.status} with another text for errors than is due"
+    if reply.status in SILENT and reply.output:
+        return f"status {reply.status}, and something was written"
+    return ""

@@ -1,0 +1,407 @@
+"""This file holds the checks of a case: what must hold of the program's replies, whatever its programs mean."""
+
+from dataclasses import dataclass, replace
+
+import calls
+from calls import Call
+from reports import Malformed, raised_place, read_reports, spelled
+
+PROGRAM, INPUT = "program.bas", "input.txt"
+REPORTS = 30
+RUNS_LOOKED_AT = 3
+BOUNDS_LOOKED_AT = 5
+LONGEST_LIST = 4000
+FAR_LIMIT = 1_000_000
+ODD_WORDS = [
+    *["", "0", "1", "-1", "+1", "01", "1,2", "1,,2", "none", "32768", "1000000001", "1e3"],
+    *["x", "5 ", "\t", "١", b"\xff"],
+    *["--steps", "--memory", "--answers", "--after", "--first", "--all", "--list", "--lists", "-a", "-h", "--", "-"],
+    *["--steps=7", "--memory=64", "--after=none", "--first=2", "no such file", "."],
+]
+FAULTS = {"WHAT": b"WHAT?", "HOW": b"HOW?", "SORRY": b"SORRY"}
+
+
+@dataclass(frozen=True)
+class Failure:
+    """A check that does not hold, with the calls that show it and their replies."""
+
+    name: str
+    asked: tuple
+
+
+class Trial:
+    """The checks of one case. It counts the calls and the checks, and keeps what does not hold."""
+
+    def __init__(self, case, chance, reply_to):
+        self.case = case
+        self.chance = chance
+        self.reply_to = reply_to
+        self.calls = 0
+        self.passed = 0
+        self.failures = []
+
+    def ask(self, call):
+        """The reply to a call, which is one that there may be."""
+        self.calls += 1
+        reply = self.reply_to(call)
+        fault = calls.fault_of(reply)
+        self.hold("a reply as there may be" + (f": {fault}" if fault else ""), not fault, (call, reply))
+        return reply
+
+    def hold(self, name, holds, *asked):
+        """Counts a check, which these calls with their replies bear out."""
+        if holds:
+            self.passed += 1
+        else:
+            self.failures.append(Failure(name, asked))
+        return holds
+
+    def expect(self, name, call, status, output):
+        """Calls the program, and compares the status and the bytes that it writes with those that are due."""
+        reply = self.ask(call)
+        due = f"{name}: status {status} and {len(output)} bytes are due"
+        self.hold(due, (reply.status, reply.output) == (status, output), (call, reply), ("due", output))
+        return reply
+
+    def same(self, name, one, two):
+        """Makes two calls, and compares their replies."""
+        first, second = self.ask(one), self.ask(two)
+        self.hold(name, first == second, (one, first), (two, second))
+        return first
+
+    # ---- calls
+
+    def words(self, options, program):
+        """The options and the program's name as words, in any order and in each form that options may have."""
+        spelled_options = []
+        for name, value in options:
+            apart, together = (f"--{name}", value), (f"--{name}={value}",)
+            spelled_options.append(self.chance.choice([apart, together]) if value else (f"--{name}",))
+        if program:
+            spelled_options.append((program,))
+        self.chance.shuffle(spelled_options)
+        return tuple(word for words in spelled_options for word in words)
+
+    def call(self, options, program=PROGRAM, stdin=INPUT, stdout=""):
+        options = [*options, ("memory", str(self.case.memory))]
+        return Call(self.words(options, program), stdin, stdout)
+
+    def plain(self, answers, steps=None, **files):
+        """A plain run with these answers."""
+        options = [("answers", spelled(answers)), ("steps", str(steps or self.case.steps))]
+        return self.call(options, **files)
+
+    def runs(self, after=None, first=REPORTS, **files):
+        """A listing of runs: those behind this one, at most so many."""
+        options = [("all", ""), ("steps", str(self.case.steps))]
+        options += [] if after is None else [("after", spelled(after))]
+        options += [] if first is None else [("first", str(first))]
+        return self.call(options, **files)
+
+    def text(self, **files):
+        """A listing of the program's text."""
+        return self.call([("list", "")], **files)
+
+
+def check(trial, write):
+    """Checks a case; `write` makes a file of its folder."""
+    check_odd_words(trial)
+    listing = check_text(trial, write)
+    if listing is None:
+        return
+    reports, is_whole = check_listing(trial)
+    if not reports:
+        return
+    check_order(trial, reports)
+    check_gaps(trial, reports, is_whole)
+    check_portions(trial, reports, is_whole)
+    for report in reports:
+        check_plain(trial, report, listing)
+    for report in trial.chance.sample(reports, min(RUNS_LOOKED_AT, len(reports))):
+        check_run(trial, report)
+    check_input(trial, write, reports[0])
+    check_full_device(trial, reports[0])
+    if not is_whole:
+        check_far_run(trial, listing)
+
+
+# ---- words
+
+
+def check_odd_words(trial):
+    """Words that nobody should give have a reply too, and the same one each time."""
+    words = tuple(trial.chance.choice(ODD_WORDS) for _ in range(trial.chance.randint(1, 4)))
+    trial.same("odd words have the same reply again", Call(words), Call(words))
+
+
+# ---- texts
+
+
+def check_text(trial, write):
+    """The listing, which loads to itself, as other forms of the same lines do; None where the text is refused."""
+    call = trial.text()
+    listed = trial.ask(call)
+    if listed.status != 0:
+        check_refused(trial, call, listed)
+        return None
+    write("listed.bas", listed.output)
+    write("formed.bas", other_form(trial.case.program))
+    trial.expect("a listing loads to itself", trial.text(program="listed.bas"), 0, listed.output)
+    trial.expect("a text on standard input is listed", trial.text(program=None, stdin=PROGRAM), 0, listed.output)
+    trial.expect("other line ends and blanks, and empty lines", trial.text(program="formed.bas"), 0, listed.output)
+    numbers = [int(line.split(b" ")[0]) for line in listed.output.split(b"\n")[:-1]]
+    trial.hold("numbers rise", all(a < b for a, b in zip(numbers, numbers[1:])), (call, listed))
+    return listed.output
+
+
+def check_refused(trial, call, refusal):
+    """A text that is refused by this call is refused whatever is asked for, in the same words."""
+    for other in (trial.plain([]), trial.runs(), trial.text(program=None, stdin=PROGRAM)):
+        reply = trial.ask(other)
+        trial.hold("refused in the same words", reply == refusal, (call, refusal), (other, reply))
+
+
+def other_form(program):
+    """The same lines in another form: the line ends changed, blanks for tabs, empty lines between."""
+    lines = program.replace(b"\t", b" ").split(b"\n")
+    turned = [line[:-1] if line.endswith(b"\r") else line + b"\r" for line in lines]
+    return b"\n \n".join(turned)
+
+
+# ---- listings of runs
+
+
+def check_listing(trial):
+    """The first reports, and whether they are all. The listed text has the same ones, and so has a second call."""
+    call = trial.runs()
+    reply = trial.same("the same words again", call, call)
+    reports = reports_in(trial, call, reply)
+    is_so_many = 1 <= len(reports) <= REPORTS
+    trial.hold("one report at least, and no more than were asked for", is_so_many, (call, reply))
+    trial.expect("runs of the listed text", trial.runs(program="listed.bas"), 0, reply.output)
+    return reports, len(reports) < REPORTS
+
+
+def reports_in(trial, call, reply):
+    """The reports of a reply to this call, which must be well formed."""
+    try:
+        reports, fault = read_reports(reply.output), ""
+    except Malformed as why:
+        reports, fault = [], f": {why}"
+    trial.hold(f"reports are well formed{fault}", not fault and reply.status == 0, (call, reply))
+    return reports
+
+
+def check_order(trial, reports):
+    """Each report's run is the next one behind that of the report before."""
+    runs = [report.answers for report in reports]
+    seen = (trial.runs(), "the reports")
+    trial.hold("the first run answers 1", set(runs[0]) <= {1}, seen)
+    trial.hold("no run comes twice", len(set(runs)) == len(runs), seen)
+    for run, following in zip(runs, runs[1:]):
+        pair = f"{spelled(run)} and {spelled(following)}"
+        trial.hold(f"runs rise: {pair}", run < following, seen)
+        trial.hold(f"no run begins another: {pair}", run != following[: len(run)], seen)
+        trial.hold(f"runs raise one answer by one: {pair}", raised_place(run, following) is not None, seen)
+
+
+def check_gaps(trial, reports, is_whole):
+    """No run is left out between those of the reports, and none behind them where they are all."""
+    check_gaps_between(trial, [report.answers for report in reports], is_whole)
+
+
+def check_gaps_between(trial, runs, is_whole):
+    """Where a run's answer isn't raised for the next run, a greater one must be out of its bound."""
+    places = [(run, k) for run, place in closed_places(runs, is_whole) for k in range(place, len(run))]
+    for run, place in trial.chance.sample(places, min(BOUNDS_LOOKED_AT, len(places))):
+        check_bound(trial, run, place)
+
+
+def closed_places(runs, is_whole):
+    """Each run with the first place from which on its answers are at their bounds."""
+    for run, following in zip(runs, runs[1:]):
+        raised = raised_place(run, following)
+        if raised is not None:
+            yield run, raised + 1
+    if is_whole:
+        yield runs[-1], 0
+
+
+def check_bound(trial, run, place):
+    """One more than the run's answer at this place is a bad answer, and shows what is shown without an answer there."""
+    beginning, above = run[:place], run[place] + 1
+    if above > 32767:
+        return
+    call = trial.plain(beginning)
+    unanswered = trial.ask(call)
+    trial.hold("no answer is left", unanswered.status == calls.NO_ANSWER, (call, unanswered))
+    trial.expect("an answer above its bound", trial.plain([*beginning, above]), calls.BAD_ANSWER, unanswered.output)
+    trial.expect("no run has it", trial.runs(after=[*beginning, above]), calls.NO_RUN, b"")
+
+
+def check_portions(trial, reports, is_whole):
+    """Listings of a part of the runs are that part of the whole, and portions joined are the whole."""
+    for k, report in enumerate(reports):
+        rest = reports[k + 1 :]
+        first = trial.chance.choice([1, 2, REPORTS]) if is_whole else trial.chance.randint(1, max(1, len(rest)))
+        if is_whole or rest:
+            due = b"".join(report.text for report in rest[:first])
+            trial.expect("the runs behind one", trial.runs(report.answers, first), 0, due)
+    # a listing that isn't as whole as it looks could go on for ever
+    if is_whole and not trial.failures:
+        whole = b"".join(report.text for report in reports)
+        trial.expect("all runs, with no bound on their number", trial.runs(first=None), 0, whole)
+        trial.expect("nothing is behind the last run", trial.runs(reports[-1].answers, None), 0, b"")
+    check_joined(trial, reports)
+
+
+def check_joined(trial, reports):
+    """Portions that are taken one after the other, each behind the last run of the one before."""
+    portion = trial.chance.randint(max(1, len(reports) // 4), len(reports))
+    taken, after = b"", None
+    for begin in range(0, len(reports), portion):
+        count = min(portion, len(reports) - begin)
+        call = trial.runs(after, count)
+        reply = trial.ask(call)
+        taken += reply.output
+        after = reports[begin + count - 1].answers
+    whole = b"".join(report.text for report in reports)
+    trial.hold("portions joined are the whole", taken == whole, (call, reply), ("due", whole), ("joined", taken))
+
+
+# ---- runs
+
+
+def check_plain(trial, report, listing):
+    """A report tells what a plain run with its answers writes and ends with, within the limit."""
+    trial.expect("a plain run of a report", trial.plain(report.answers), *due_of(report))
+    seen = (trial.runs(), f"the report of {spelled(report.answers)}")
+    at_limit = report.ending == "LIMIT"
+    is_within = report.steps == trial.case.steps if at_limit else report.steps <= trial.case.steps
+    trial.hold("steps within their limit", is_within, seen)
+    if report.ending in FAULTS:
+        trial.hold("a fault shows its statement", is_fault_told(report, listing), seen)
+    if report.ending == "NOINPUT":
+        trial.hold("a prompt is shown where a line is missing", report.transcript.endswith(b":"), seen)
+
+
+def due_of(report):
+    """The status and the bytes of a plain run with a report's answers."""
+    return calls.ENDINGS[report.ending], report.transcript
+
+
+def is_fault_told(report, listing):
+    """Whether the transcript ends with a line of the fault's word and a line of the listing with a `?` put in."""
+    *_, word, marked, rest = [b"", b"", *report.transcript.split(b"\n")]
+    unmarked = {marked[:k] + marked[k + 1 :] for k in range(len(marked)) if marked[k : k + 1] == b"?"}
+    return word == FAULTS[report.ending] and rest == b"" and not unmarked.isdisjoint(listing.split(b"\n")[:-1])
+
+
+def check_run(trial, report):
+    """A run is the same with answers left over and with another limit that it doesn't meet, and no less."""
+    answers, due = report.answers, due_of(report)
+    more = [*answers, trial.chance.randint(1, 32767)]
+    trial.expect("answers that are left over", trial.plain(more), *due)
+    trial.expect("no run has more answers", trial.runs(after=more), calls.NO_RUN, b"")
+    if report.steps > 0:
+        trial.expect("as many commands as the report says", trial.plain(answers, report.steps), *due)
+    if report.ending != "LIMIT":
+        trial.expect("a limit far away", trial.plain(answers, FAR_LIMIT), *due)
+    if report.steps > 1:
+        check_fewer_steps(trial, report)
+    check_fewer_answers(trial, report)
+
+
+def check_fewer_steps(trial, report):
+    """With fewer commands than its own a run ends at the limit, and shows a beginning of its transcript."""
+    shown = report.transcript
+    for steps in (report.steps - 1, trial.chance.randint(1, report.steps - 1)):
+        call = trial.plain(report.answers, steps)
+        reply = trial.ask(call)
+        is_beginning = reply.status == calls.LIMIT and shown.startswith(reply.output)
+        trial.hold("fewer commands: status 4 and a beginning", is_beginning, (call, reply), ("whole", shown))
+        shown = reply.output
+
+
+def check_fewer_answers(trial, report):
+    """With a beginning of its answers a run ends where no answer is left, and shows a beginning of its transcript."""
+    answers = report.answers
+    for count in sorted(trial.chance.sample(range(len(answers)), min(2, len(answers)))):
+        call = trial.plain(answers[:count])
+        reply = trial.ask(call)
+        is_beginning = reply.status == calls.NO_ANSWER and report.transcript.startswith(reply.output)
+        trial.hold("fewer answers: status 6 and a beginning", is_beginning, (call, reply), ("whole", report.transcript))
+        trial.expect("a beginning is no run", trial.runs(after=answers[:count]), calls.NO_RUN, b"")
+
+
+def check_far_run(trial, listing):
+    """Of a tree that is too large to list: a run in the midst of it, and those behind it."""
+    run = far_run(trial)
+    if run is None:
+        return
+    call = trial.runs(run, 3)
+    reports = reports_in(trial, call, trial.ask(call))
+    runs = [run, *(report.answers for report in reports)]
+    for one, following in zip(runs, runs[1:]):
+        trial.hold("runs behind a far one", raised_place(one, following) is not None, (call, "the reports"))
+    for report in reports[:1]:
+        check_plain(trial, report, listing)
+        check_run(trial, report)
+    check_gaps_between(trial, runs, is_whole=len(reports) < 3)
+
+
+def far_run(trial):
+    """A run whose first answers are chosen by chance, but for bad ones; None where it is too long to look for."""
+    answers = ()
+    for _ in range(5):
+        guess = trial.chance.choice([1, 2, 2, 3, 3, 4, 6])
+        is_bad = trial.ask(trial.plain([*answers, guess])).status == calls.BAD_ANSWER
+        answers += (1,) if is_bad else (guess,)
+    answers += (1,) * LONGEST_LIST
+    too_few, enough = -1, len(answers)
+    if is_too_short(trial, answers):
+        return None
+    while enough - too_few > 1:
+        middle = (enough + too_few) // 2
+        if is_too_short(trial, answers[:middle]):
+            too_few = middle
+        else:
+            enough = middle
+    return answers[:enough]
+
+
+def is_too_short(trial, answers):
+    return trial.ask(trial.plain(answers)).status == calls.NO_ANSWER
+
+
+# ---- input and output
+
+
+def check_input(trial, write, report):
+    """What input lines drop makes no difference, nor do lines that no run asks for; without a file there are no lines."""
+    whole = trial.ask(trial.runs())
+    write("clean.txt", cleaned(trial.case.input))
+    trial.expect("the input cleaned", trial.runs(stdin="clean.txt"), whole.status, whole.output)
+    if report.ending != "NOINPUT":
+        text = trial.case.input
+        write("more.txt", text + (b"" if text.endswith(b"\n") or not text else b"\n") + b"7\n(\n")
+        trial.expect("more lines than are asked for", trial.plain(report.answers, stdin="more.txt"), *due_of(report))
+    without = trial.plain(report.answers, stdin="/dev/null")
+    inside = trial.plain(report.answers, program=None, stdin=PROGRAM)
+    trial.same("a program on standard input has no input lines", without, inside)
+
+
+def cleaned(text):
+    """The input as its lines are seen: blanks for tabs, no bytes but the printed ones, and at most 255 of them."""
+    lines = text.split(b"\n")
+    ended = lines if lines[-1] else lines[:-1]
+    shown = (bytes(byte for byte in line.replace(b"\t", b" ") if 32 <= byte <= 126) for line in ended)
+    return b"".join(line[:255] + b"\n" for line in shown)
+
+
+def check_full_device(trial, report):
+    """Where nothing can be written, that is told; a run that shows nothing has its own status."""
+    due = calls.UNWRITTEN if report.transcript else calls.ENDINGS[report.ending]
+    full = replace(trial.plain(report.answers), stdout="/dev/full")
+    trial.expect("a full device", full, due, b"")
+    trial.expect("a full device for reports", trial.runs(stdout="/dev/full"), calls.UNWRITTEN, b"")

@@ -1,0 +1,64 @@
+"""This file has wrong programs: each spoils some replies of the right one. The checks must find every one of them."""
+
+from dataclasses import replace
+
+from reports import Malformed, read_reports
+
+
+def in_reports(spoil):
+    """Spoils replies that are two reports or more."""
+
+    def spoiled(call, reply):
+        try:
+            reports = [report.text for report in read_reports(reply.output)]
+        except Malformed:
+            return reply
+        return replace(reply, output=b"".join(spoil(reports))) if len(reports) > 1 else reply
+
+    return spoiled
+
+
+def in_plain_runs(spoil):
+    """Spoils replies of plain runs that write something."""
+
+    def spoiled(call, reply):
+        is_plain = reply.status in range(8) and not {"--all", "--list"} & set(call.words)
+        return spoil(reply) if is_plain and reply.output else reply
+
+    return spoiled
+
+
+def with_status(status, of):
+    return lambda call, reply: replace(reply, status=status) if of(reply) else reply
+
+
+SPOILERS = {
+    "drops the last report": in_reports(lambda reports: reports[:-1]),
+    "drops a report in the midst": in_reports(lambda reports: reports[:1] + reports[2:]),
+    "repeats a report": in_reports(lambda reports: reports + reports[-1:]),
+    "has two reports in each other's place": in_reports(lambda reports: [reports[1], reports[0], *reports[2:]]),
+    "counts one command more": in_reports(lambda reports: [one_step_more(report) for report in reports]),
+    "changes a byte of a transcript": in_reports(lambda reports: [one_byte_changed(report) for report in reports]),
+    "changes a byte of a plain run": in_plain_runs(lambda reply: replace(reply, output=b"~" + reply.output[1:])),
+    "forgets the last byte of a plain run": in_plain_runs(lambda reply: replace(reply, output=reply.output[:-1])),
+    "answers status 0 always": with_status(0, lambda reply: True),
+    "takes a bad answer for none": with_status(6, lambda reply: reply.status == 7),
+    "crashes in place of SORRY": with_status(-11, lambda reply: reply.status == 3),
+    "says nothing on standard error": lambda call, reply: replace(reply, errors=b""),
+    "writes what it refuses": lambda call, reply: replace(reply, output=b"?") if reply.status == 67 else reply,
+    "lists a blank behind each line": lambda call, reply: (
+        replace(reply, output=reply.output.replace(b"\n", b" \n")) if "--list" in call.words else reply
+    ),
+}
+
+
+def one_step_more(report):
+    header, rest = report.split(b"\n", 1)
+    words = header.split(b" ")
+    words[3] = str(int(words[3]) + 1).encode()
+    return b" ".join(words) + b"\n" + rest
+
+
+def one_byte_changed(report):
+    header, rest = report.split(b"\n", 1)
+    return header + b"\n" + (b"~" + rest[1:] if len(rest) > 1 else rest)
