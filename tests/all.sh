@@ -23,6 +23,7 @@ tried() {
 tried binary.sh
 tried listings.sh
 tried installing.sh
+tried resuming.sh
 tried refusals.sh
 tried stress.sh 1 30
 

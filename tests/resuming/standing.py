@@ -1,0 +1,132 @@
+"""This file checks that a listing is gone on with: after each byte, in portions, and with answers that have bounds."""
+
+import os
+import subprocess
+
+from trials import DICE, ENDINGS, HEADERS, LISTING, PROGRAM, Case, no_listing, read, reports_of, write
+
+PORTION = Case(DICE.program, words=("--after", "1", "--first", "2"))
+TWO_QUESTIONS = "10 PRINT RND(2)*RND(2)\n"
+
+# a listing whose answers have their bounds, and a stand-in for the program that writes it: as it goes on behind a run
+BOUNDS = [b"RUN 1/2 END 2 0\n\n", b"RUN 2/2,1/2 HOW 3 2\nAB\n", b"RUN 2/2,2/2 END 3 1\n\n\n"]
+STAND_IN = """#!/bin/sh
+case "$*" in
+--all) tail -c +1 ;;
+'--all --after 1/2') tail -c +18 ;;
+'--all --after 2/2,1/2') tail -c +41 ;;
+*) exit 64 ;;
+esac <bounds
+"""
+
+
+def check(trials):
+    cuts(trials, "endings of all kinds", ENDINGS, [b"WHAT", b"HOW", b"SORRY", b"LIMIT", b"NOINPUT", b"STOP", b" 0\n\n"])
+    cuts(trials, "transcripts like reports", HEADERS, [b"\nRUN 1 END 2 0\n\nRUN 2,1 END 4 7\n", b"RUN 3\n"])
+    cuts(trials, "a portion", PORTION, [b"RUN 2 ", b"RUN 3 "])
+    cuts(trials, "an empty program", Case(""), [b"RUN none END 0 0\n\n"])
+    whole_and_nothing(trials)
+    portions(trials)
+    bounds(trials)
+    inputs(trials)
+    names(trials)
+
+
+def cuts(trials, name, case, parts):
+    """Cuts a listing, which has these parts, at each byte."""
+    text = trials.text(case)
+    trials.count(f"{name}: the listing has what it is about", all(part in text for part in parts), text)
+    bad = []
+    for length in range(len(text) + 1):
+        write(LISTING, text[:length])
+        reply = trials.resume_here(LISTING, "--", *trials.words(case))
+        if (reply.status, reply.errors, reply.file) != (0, "", text):
+            bad.append((length, reply))
+    trials.count(f"{name}: cut at each of {len(text)} bytes", not bad, bad[:3])
+
+
+def whole_and_nothing(trials):
+    """A listing that is whole stays as it is, also where it may not be written; one that isn't may not be read-only."""
+    text = trials.text(DICE)
+    write(LISTING, text)
+    before = os.stat(LISTING).st_mtime_ns
+    reply = trials.resume(LISTING, "--", *trials.words(DICE))
+    trials.count("a whole listing", (reply.status, reply.errors, reply.file) == (0, "", text), reply)
+    trials.count("a whole listing is left alone", os.stat(LISTING).st_mtime_ns == before)
+
+    def read_only(path, mode, buffering):
+        if mode != "rb":
+            raise PermissionError(13, "Permission denied")
+        return open(path, mode, buffering)
+
+    trials.module.open = read_only
+    trials.completed("a whole listing that may only be read", text, trials.words(DICE), text)
+    line = f"resume: {LISTING}: this file may not be written"
+    trials.refused("a part that may only be read", text[:-1], trials.words(DICE), 73, line)
+    del trials.module.open
+    trials.completed("an empty file", b"", trials.words(DICE), text, trials.resume)
+
+
+def portions(trials):
+    """Words with --first and --after, spelled in both ways and in any place, at the borders of reports."""
+    reports = reports_of(trials.text(Case(TWO_QUESTIONS)))
+    for standing in range(4):
+        name, part, whole = f"--first 3 with {standing} reports", reports[:standing], reports[:3]
+        words = [trials.ptb, "--first=3", PROGRAM, "--all"]
+        trials.completed(name, b"".join(part), words, b"".join(whole))
+    for standing in range(3):
+        name, part, whole = f"--after 1,2 with {standing} reports", reports[2 : 2 + standing], reports[2:]
+        words = [trials.ptb, PROGRAM, "--first", "+09", "--all", "--after=1,2"]
+        trials.completed(name, b"".join(part), words, b"".join(whole))
+    words = [trials.ptb, "--all", PROGRAM, "--first", "3"]
+    cause = "there are more reports than --first 3 allows"
+    place = len(b"".join(reports[:3]))
+    trials.refused("more than --first", b"".join(reports), words, 65, no_listing(place + 1, cause))
+    cause = "the listing of that program ends here"
+    trials.refused("a part more than --first", b"".join(reports)[: place + 5], words, 65, no_listing(place + 1, cause))
+    words = [trials.ptb, "--all", "--after", "1,1", PROGRAM]
+    trials.refused("reports before --after", b"".join(reports), words, 65, no_listing(1, "this run doesn't come next"))
+    words = [trials.ptb, "--all", "--after", "none", PROGRAM]
+    trials.refused("reports behind none", reports[0], words, 65, no_listing(1, "this run doesn't come next"))
+    write(LISTING, b"")
+    reply = trials.resume(LISTING, "--", trials.ptb, "--all", "--after", "3,1", PROGRAM)
+    trials.count("--after no run", (reply.status, reply.errors, reply.file) == (67, "ptb: not a run\n", b""), reply)
+
+
+def bounds(trials):
+    """Answers that are written with their bounds."""
+    text = b"".join(BOUNDS)
+    write("bounds", text)
+    write("stand_in", STAND_IN.encode())
+    os.chmod("stand_in", 0o755)
+    bad = []
+    for length in range(len(text) + 1):
+        write(LISTING, text[:length])
+        reply = trials.resume_here(LISTING, "--", "./stand_in", "--all")
+        if (reply.status, reply.file) != (0, text):
+            bad.append((length, reply))
+    trials.count("answers with bounds, cut at each byte", not bad, bad[:3])
+    wrong = BOUNDS[0] + BOUNDS[2] + BOUNDS[1]
+    due = no_listing(len(BOUNDS[0]) + 1, "this run doesn't come next")
+    trials.refused("answers with bounds in another order", wrong, ["./stand_in", "--all"], 65, due)
+
+
+def inputs(trials):
+    """A pipe as the input, and the program on standard input: each is read once."""
+    text = trials.text(ENDINGS)
+    write(LISTING, text[: len(text) // 2])
+    words = [trials.tool, LISTING, "--", *trials.words(ENDINGS)]
+    done = subprocess.run(words, input=ENDINGS.input, capture_output=True)
+    trials.count("a pipe as the input", (done.returncode, done.stdout, read(LISTING)) == (0, b"", text), done)
+    text = trials.text(DICE)
+    write(LISTING, text[: len(text) // 2])
+    reply = trials.resume(LISTING, "--", trials.ptb, "--all", stdin=PROGRAM)
+    trials.count("the program on standard input", (reply.status, reply.file) == (0, text), reply)
+
+
+def names(trials):
+    """A program that is named like an option, and a command that stands behind another one."""
+    text = trials.text(DICE)
+    write("--first", DICE.program.encode())
+    for words in [[trials.ptb, "--all", "--", "--first"], ["env", trials.ptb, "--steps", "9", "--all", PROGRAM]]:
+        trials.completed(f"words {words[1:]}", text[:-10], words, text, trials.resume)
