@@ -3,6 +3,8 @@
 # PTB names another program than the one that ./ptb builds.
 set -u
 tests=$(dirname "$(readlink -f "$0")")
+said=$(mktemp)
+trap 'rm -f "$said"' EXIT
 passed=0
 failed=0
 
@@ -11,7 +13,8 @@ tried() {
     local name=$1 last
     shift
     echo "== $name"
-    last=$("$tests/$name" "$@" | tee /dev/stderr | tail -n 1)
+    "$tests/$name" "$@" | tee "$said"
+    last=$(tail -n 1 "$said")
     if [[ $last =~ ^([0-9]+)\ passed,\ ([0-9]+)\ failed$ ]]; then
         passed=$((passed + BASH_REMATCH[1]))
         failed=$((failed + BASH_REMATCH[2]))
