@@ -20,7 +20,7 @@ cat >"$room/crates/parts/src/main.rt" <<'END'
 #![tactic(auto)]
 
 use ptb_expr::{Listed, Stop, Store, evaluate};
-use ptb_text::{Cursor, Device, load};
+use ptb_text::{Cursor, Device, Letter, load};
 use std::io;
 use std::time::Instant;
 
@@ -30,7 +30,7 @@ const LINES: u32 = 16_384;
 
 const MIXED_LINES: u32 = 37_000;
 
-const DOTS: &str = "................................................";
+const DOTS: &[u8] = b"................................................";
 
 // The values of an expression, added up over all turns.
 fn sum(text: &[u8], store: &Store) -> Result<i64, Stop> {
@@ -56,8 +56,11 @@ fn time_loading(rt: &HostRuntime, name: &str, text: &[u8]) -> io::Result<()> {
 
 fn main(rt: HostRuntime) -> io::Result<()> {
     let mut store = Store::new(rt.alloc(), 4000)?;
-    store.set(b'I', 3);
-    store.set(b'J', 50);
+    for (name, value) in [(b'I', 3), (b'J', 50)] {
+        if let Some(letter) = Letter::new(name) {
+            store.set(letter, value);
+        }
+    }
     for text in ["1", "J/7*7+I", "(I+1)*(J-1)", "I*2<=J+1", "@(I+1)", "ABS(I-J)"] {
         let start = Instant::now(&rt)?;
         let sum = sum(text.as_bytes(), &store).unwrap_or(0);
@@ -79,13 +82,13 @@ fn main(rt: HostRuntime) -> io::Result<()> {
     let mut text = Vec::new(rt.alloc());
     for at in 0..MIXED_LINES {
         let number = 10_000 + at.wrapping_mul(77) % 397;
-        let line = if at % 4 == 3 {
-            format!(in rt.alloc(); "{number}\n")?
-        } else {
-            let dots = &DOTS[..(at % 48) as usize];
-            format!(in rt.alloc(); "{number} REM {dots}\n")?
-        };
-        text.extend_from_slice(line.as_bytes())?;
+        let number = format!(in rt.alloc(); "{number}")?;
+        text.extend_from_slice(number.as_bytes())?;
+        if at % 4 != 3 {
+            text.extend_from_slice(b" REM ")?;
+            text.extend_from_slice(&DOTS[..(at % 48) as usize])?;
+        }
+        text.push(b'\n')?;
     }
     time_loading(&rt, "lines replaced and deleted", &text)
 }
