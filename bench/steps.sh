@@ -36,6 +36,12 @@ compare() {
     if command -v bwbasic >/dev/null; then line bwbasic "$6" "$(least bwbasic "$room/other.bas")"; fi
 }
 
+# lines of INPUT: a loop that adds up as many as there are
+printf '10 A=0,B=0\n20 INPUT "" C;A=A+C;IF A<30000 GOTO 20\n30 GOTO 10\n' >"$room/ptb.bas"
+yes 5 | head -n 200000 >"$room/lines"
+least_of_input() { least sh -c '"$0" --steps 10000000 "$1" <"$2"' "$program" "$room/ptb.bas" "$room/lines"; }
+printf 'INPUT of 200,000 lines: %d ms\n' "$(least_of_input)"
+
 # A=A+1;GOTO 10 alone would end with HOW? after 65,534 commands, so A begins again in time
 compare 'a sum and a jump' \
     '10 A=0\n20 A=A+1;IF A<30000 GOTO 20\n30 GOTO 10\n' \

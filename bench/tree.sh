@@ -2,8 +2,9 @@
 # Times ptb --all: bench/tree.sh [OTHER_PTB]
 #
 # Prints the microseconds that a run takes in listings of 10,000 runs of 4, 25, 110 and 790 commands: the middle and the least of ten
-# rounds, and beside them those of another build of ptb where one is named, in turn with it. Then the runs a second and the memory of trees of
-# 1,000 and of 100,000 runs.
+# rounds, and beside them those of another build of ptb where one is named, in turn with it. Then the seconds of a tree whose first thousand
+# commands are the same in all of its 100,000 runs, and the runs a second and the memory of trees of 1,000, 100,000 and 1,000,000 runs, also
+# of a program that has all the memory there can be and fills the array.
 set -eu
 root=$(dirname "$(readlink -f "$0")")/..
 program=$root/crates/ptb/out/ptb
@@ -42,12 +43,20 @@ for rounds in 0 10 52 392; do
     printf '\n'
 done
 
-printf '10 PRINT RND(10)+RND(10)+RND(10)+RND(10)+RND(10)\n' >"$room/five.bas"
-for runs in 1000 100000; do
+# a long beginning that all runs share
+printf '10 F.I=1TO500;A=A/2+I*3-I;N.I\n20 B=RND(10)*1000,B=B+RND(10)*100\n30 C=RND(10);D=RND(10);E=RND(10)\n40 P.#1,A+B,C,D,E\n' >"$room/shared.bas"
+seconds() { awk -v t="$(listing_time "$1" "$2")" 'BEGIN { printf "%.2f", t / 1e9 }'; }
+printf '100,000 runs with 1,001 commands in common: %s s' "$(seconds "$program" "$room/shared.bas")"
+if [ -n "$other" ]; then printf ', other build %s s' "$(seconds "$other" "$room/shared.bas")"; fi
+printf '\n'
+
+# tree TITLE FILE RUNS WORDS..: the runs a second, and the memory that is held at most
+tree() {
+    local title=$1 file=$2 runs=$3 start listing peak=0 spent listed
+    shift 3
     start=$(date +%s%N)
-    "$program" --all --first "$runs" "$room/five.bas" </dev/null >"$room/reports" &
+    "$program" "$@" --all --first "$runs" "$file" </dev/null >"$room/reports" &
     listing=$!
-    peak=0
     # the peak of the memory that is held, as long as there is one to read
     while read -r kilobytes < <(awk '/^VmHWM/ { print $2 }' "/proc/$listing/status" 2>/dev/null) && [ -n "$kilobytes" ]; do
         peak=$kilobytes
@@ -56,5 +65,12 @@ for runs in 1000 100000; do
     wait "$listing"
     spent=$((($(date +%s%N) - start) / 1000000 + 1))
     listed=$(grep -c '^RUN ' "$room/reports")
-    printf '%7d runs: %7d a second, %d kB of memory\n' "$listed" $((listed * 1000 / spent)) "$peak"
+    printf '%7d runs%s: %7d a second, %d kB of memory\n' "$listed" "$title" $((listed * 1000 / spent)) "$peak"
+}
+
+printf '10 PRINT RND(10)+RND(10)+RND(10)+RND(10)+RND(10)+RND(10)\n' >"$room/six.bas"
+printf '10 F.I=0TO SIZE/2-1;@(I)=I;N.I\n20 F.I=1TO4;A=A+RND(10);N.I;P.A\n' >"$room/full.bas"
+for runs in 1000 100000 1000000; do
+    tree '' "$room/six.bas" "$runs"
 done
+tree ' with a full array' "$room/full.bas" 10000 --memory 32767 --steps 100000

@@ -27,7 +27,9 @@ tried binary.sh
 tried listings.sh
 tried installing.sh
 tried resuming.sh
+tried terminal.py
 tried refusals.sh
+tried extremes.sh
 tried stress.sh 1 30
 
 echo "$passed passed, $failed failed"

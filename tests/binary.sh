@@ -122,7 +122,48 @@ run "$folder" </dev/null
 count 'a folder as the program' "$(is_as_due 66 '' 'ptb: cannot read the program\n')"
 
 run "$folder/game.bas" <"$folder"
-count 'a folder as the input' "$(is_as_due 66 '' 'ptb: cannot read the input\n')"
+count 'a folder as the input' "$(is_as_due 66 'A:' 'ptb: cannot read the input\n')"
+
+# ---- an input is read when a line is asked for
+
+printf '10 PRINT "HI"\n' >"$folder/greeting.bas"
+run "$folder/greeting.bas" <"$folder"
+count 'an input that cannot be read, and is not asked for' "$(is_as_due 0 'HI\n' '')"
+
+run --all "$folder/greeting.bas" <"$folder"
+count 'a listing reads its input whole' "$(is_as_due 66 '' 'ptb: cannot read the input\n')"
+
+# what the program shows while its input is a pipe that stays open, and what it shows at the end
+printf '10 INPUT A\n20 PRINT A*2\n30 INPUT B\n' >"$folder/questions.bas"
+mkfifo "$folder/lines"
+sleep 60 >"$folder/lines" &
+holder=$!
+"$ptb" "$folder/questions.bas" <"$folder/lines" >"$folder/output" 2>"$folder/errors" &
+process=$!
+# shows_soon BYTES: whether just these are shown within five seconds
+shows_soon() {
+    printf '%b' "$1" >"$folder/output_due"
+    for _ in $(seq 100); do
+        cmp -s "$folder/output" "$folder/output_due" && echo yes && return
+        sleep 0.05
+    done
+    echo no
+}
+count 'a prompt stands before its line has come' "$(shows_soon 'A:')"
+printf '5\n' >"$folder/lines"
+count 'a line is taken while the pipe stays open' "$(shows_soon 'A:5\n    10\nB:')"
+printf '7' >"$folder/lines"
+kill "$holder"
+wait "$process"
+status=$?
+count 'a last line without its newline' "$(is_as_due 0 'A:5\n    10\nB:7\n' '')"
+
+sleep 60 >"$folder/lines" &
+holder=$!
+timeout 10 "$ptb" "$folder/greeting.bas" <"$folder/lines" >"$folder/output" 2>"$folder/errors"
+status=$?
+kill "$holder"
+count 'a program that asks for no line waits for none' "$(is_as_due 0 'HI\n' '')"
 
 # ---- words
 

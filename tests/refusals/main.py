@@ -1,4 +1,7 @@
-"""This file strikes the program's calls for memory, reads, writes and files one by one, and checks how each run ends."""
+"""This file strikes the program's calls for memory, reads, writes and files one by one, and checks how each run ends.
+
+Then it has the allocations of tests refused.
+"""
 
 import multiprocessing
 import os
@@ -7,6 +10,7 @@ import sys
 import tempfile
 from dataclasses import dataclass, replace
 
+import of_tests
 from rows import ROWS, Reply, Row, noted
 
 KINDS = {
@@ -19,6 +23,8 @@ KINDS = {
 MOST_CALLS = 5000
 # Room for the words of the command line is asked for twice: for all of them, and where that is refused for fewer.
 MOST_SPARED = 1
+# A listing keeps at most 64 copies of its machine, each in two pieces of memory, and goes on without one that is refused.
+MOST_SPARED_COPIES = 128
 SECONDS_OF_A_RUN = 60
 OUT_OF_MEMORY = noted(71, "out of memory")
 NO_PROGRAM = noted(66, "cannot read the program")
@@ -57,9 +63,15 @@ def swept(task):
     passed = len(replies) - len(faults)
     if replies[-1][1]:
         faults.append(f"{kind}: no end at {MOST_CALLS}")
-    if kind == "refuse" and whole > MOST_SPARED:
+    if kind in ("refuse", "deplete") and whole > most_spared(row, kind):
         faults.append(f"{kind}: {whole} refusals made no difference")
     return Sweep(row, kind, len(replies) - 1, whole, passed, tuple(faults))
+
+
+def most_spared(row, kind):
+    """How many of a row's runs may be whole though an allocation was refused, or all from one on."""
+    copies = MOST_SPARED_COPIES if "--all" in row.words.split() else 0
+    return copies + (MOST_SPARED if kind == "refuse" else 0)
 
 
 def row_with_text(row, unstruck):
@@ -98,17 +110,18 @@ def is_due(row, kind, struck, reply):
     """Whether a run may end so in which this call was struck, or none."""
     if not struck or kind == "cut":
         return reply == row.due
-    if kind == "refuse" and reply == row.due:
-        return True
     if kind in ("refuse", "deplete"):
-        return is_cut_short(row, reply, OUT_OF_MEMORY)
+        return reply == row.due or is_cut_short(row, reply, OUT_OF_MEMORY)
     if kind == "starve":
         return reply == OUT_OF_MEMORY
     if struck == "W1":
         return is_cut_short(row, reply, UNWRITTEN)
     if struck == "W2":
         return (reply.status, reply.output) == (row.due.status, row.due.output)
-    return reply == (NO_INPUT if struck == "R0" and row.input is not None else NO_PROGRAM)
+    if struck == "R0" and row.input is not None:
+        # A run reads a line when it asks for it, so that it may have shown something before.
+        return reply == NO_INPUT if "--all" in row.words else is_cut_short(row, reply, NO_INPUT)
+    return reply == NO_PROGRAM
 
 
 def is_cut_short(row, reply, note):
@@ -135,10 +148,10 @@ def told(sweeps):
 
 
 def main():
-    ptb, strike = map(os.path.abspath, sys.argv[1:])
+    ptb, strike, crates = map(os.path.abspath, sys.argv[1:])
     with multiprocessing.Pool() as pool:
         sweeps = pool.map(swept, [(ptb, strike, row, kind) for kind in KINDS for row in ROWS], chunksize=1)
-    passed, failed = told(sweeps)
+    passed, failed = map(sum, zip(told(sweeps), of_tests.told(strike, crates)))
     print(f"{passed} passed, {failed} failed")
     return failed == 0
 

@@ -1,36 +1,35 @@
 -- This file proves how actions that follow one another move and stop.
-use Rattle.std.proofs.Common.{◌≡◌, ℕ, List, [], Result, Ok, Err, refl, sym, ap, subst, ◌∙◌, append-nil}
+use Rattle.std.proofs.Common.{◌≡◌, ℕ, List, Result, Ok, Err, refl, sym, subst}
 use Rattle.ptb_expr.specs.declared.fault.Fault.{Fault}
 use Rattle.ptb_expr.specs.declared.fault.FaultKind.{FaultKind}
 use Rattle.ptb_expr.specs.Store.{Cells}
 use Rattle.ptb_expr.specs.Value.{Work, fault, or_fault}
 use Rattle.ptb_command.specs.declared.stop.Stop.{Stop}
 use Rattle.ptb_command.specs.declared.stop.Stop.TheVariants as stops
-use Rattle.ptb_command.specs.State.{State}
 use Rattle.ptb_command.specs.Actions.{Faults, Halt, Action, and_then, goes_on, halt, show, attempt, or_halt, work_action}
 use Rattle.ptb_command.specs.Devices.{Refusal, nothing_refused}
 use Rattle.ptb_command.specs.Traces.{Trace, RefinesPart}
 use Rattle.ptb_command.specs.Stops.{Stops, RefinesPartTo}
-use Rattle.ptb_command.proofs.Effects.{then_keeps, begins_joined, attempt_state}
+use Rattle.ptb_command.proofs.Effects.{then_keeps, takes_itself}
 use Rattle.ptb_command.proofs.PartRefinement.{refines_part_refl, refines_part_under}
-use Rattle.ptb_command.proofs.Stops.{ShowsMore, Adds, or_halt_adds, stops_under, stops_more}
+use Rattle.ptb_command.proofs.Stops.{GoesForward, forward_itself, forward_joined, Adds, attempt_adds, or_halt_adds, stops_under, stops_more}
 
--- ---- what takes back nothing that was shown
+-- ---- what takes back nothing that was shown, and gives back no line
 
 pub goes_adds : {A : Type 0} (x : A) → Adds (goes_on x)
-goes_adds x = record { at = λ S a. ([], sym (append-nil S.shown)) }
+goes_adds x = record { at = λ S a. forward_itself S }
 
 pub halt_adds : {A : Type 0} (h : Halt) → Adds (halt {A = A} h)
-halt_adds h = record { at = λ S a. ([], sym (append-nil S.shown)) }
+halt_adds h = record { at = λ S a. forward_itself S }
 
 pub show_adds : (bytes : List ℕ) → Adds (show bytes)
-show_adds bytes = record { at = λ S a. (bytes, refl) }
+show_adds bytes = record { at = λ S a. record { shown = (bytes, refl); lines = takes_itself S.lines } }
 
 pub then_adds : {A B : Type 0} (f : Action A) (next : A → Action B) → Adds f → ((x : A) → Adds (next x)) → Adds (and_then f next)
-then_adds f next a b = then_keeps ShowsMore (λ S T U p q. begins_joined S.shown T.shown U.shown p q) f next a b
+then_adds f next a b = then_keeps GoesForward forward_joined f next a b
 
 pub work_action_adds : {A : Type 0} (f : Cells → Work A) → Adds (work_action f)
-work_action_adds f = then_adds (attempt f) or_halt (record { at = λ S a. ([], ap (λ (T : State). T.shown) (attempt_state f S a) ∙ sym (append-nil S.shown)) }) or_halt_adds
+work_action_adds f = then_adds (attempt f) or_halt (attempt_adds f) or_halt_adds
 
 -- ---- one after the other
 

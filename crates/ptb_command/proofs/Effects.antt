@@ -19,7 +19,7 @@ use Rattle.ptb_command.specs.Commands.{Part, Assign, Say, Width, Show, NewLine, 
 use Rattle.ptb_command.specs.State.{Place, Loop, Call, State, text_of, nesting, nesting_limit}
 use Rattle.ptb_command.specs.Actions.{Halt, Faults, Ends, Progress, Goes, Halts, Action, on_progress, and_then, goes_on, halt, change, show, attempt, or_halt, work_action}
 use Rattle.ptb_command.specs.Act.{newline, fails, is_full, go_to, if_room, goto_action, with_call, gosub_action, return_action, without_loop, with_loop, for_action, loops_from, is_past, loop_end, loop_turn, after_sum, next_action, finish, end_of, letter_of, first_width, command_action, is_fresh, report_bytes, step_result_of, with_step, act, value_action, target_action, store, take_line, ask_for, store_or_again, input_action, parts_action}
-use Rattle.ptb_command.specs.Effects.{progress_state, action_state, step_result_state, act_state, Begins, PartChange, EndChange, CommandChange}
+use Rattle.ptb_command.specs.Effects.{progress_state, action_state, step_result_state, act_state, Begins, TakesLines, PartChange, EndChange, CommandChange}
 
 -- ---- what is shown
 
@@ -28,6 +28,14 @@ begins_itself s = ([], sym (append-nil s))
 
 pub begins_joined : (r s t : List ℕ) → Begins r s → Begins s t → Begins r t
 begins_joined r s t b c = (b.0 ++ c.0, c.1 ∙ ap (λ u. u ++ c.0) b.1 ∙ append_assoc r b.0 c.0)
+
+-- ---- lines that are taken
+
+pub takes_itself : (ls : List (List ℕ)) → TakesLines ls ls
+takes_itself ls = ([], refl)
+
+pub takes_joined : (ls ms ns : List (List ℕ)) → TakesLines ls ms → TakesLines ms ns → TakesLines ls ns
+takes_joined ls ms ns a b = (a.0 ++ b.0, a.1 ∙ ap (λ l. a.0 ++ l) b.1 ∙ sym (append_assoc a.0 b.0 ns))
 
 -- ---- one action after the other
 
@@ -56,6 +64,49 @@ attempt_state m S a = worked_out_state (λ r. r) S (m S.cells a)
 
 -- ---- parts
 
+-- what each part keeps, all of them keep
+module _ (R : State → State → Type 0) (joined : (S T U : State) → R S T → R T U → R S U) (itself : (S : State) → R S S) (shows : (s : List ℕ) → Preserves R (show s)) (stores : (at : Target) (v : ℤ) → Preserves R (store at v)) where
+  and_keeps : {A B : Type 0} (m : Action A) (next : A → Action B) → Preserves R m → ((x : A) → Preserves R (next x)) → Preserves R (and_then m next)
+  and_keeps m next = then_keeps R joined m next
+
+  attempt_keeps : {A : Type 0} (m : Cells → Work A) → Preserves R (attempt m)
+  attempt_keeps m = record { at = λ S a. subst (λ T. R S T) (sym (attempt_state m S a)) (itself S) }
+
+  goes_keeps : {A : Type 0} (x : A) → Preserves R (goes_on x)
+  goes_keeps x = record { at = λ S a. itself S }
+
+  halt_keeps : {A : Type 0} (h : Halt) → Preserves R (halt {A = A} h)
+  halt_keeps h = record { at = λ S a. itself S }
+
+  or_halt_keeps : {A : Type 0} (r : Result A Fault) → Preserves R (or_halt r)
+  or_halt_keeps (Ok v) = goes_keeps v
+  or_halt_keeps (Err f) = halt_keeps (Faults f)
+
+  worked_keeps : {A : Type 0} (m : Cells → Work A) → Preserves R (work_action m)
+  worked_keeps m = and_keeps (attempt m) or_halt (attempt_keeps m) or_halt_keeps
+
+  pub ask_keeps : (said : List ℕ) (x : Tree) (prompt : List ℕ) → Preserves R (ask_for said x prompt)
+  ask_keeps said x prompt =
+      and_keeps (show said) _ (shows said) (λ _. and_keeps (target_action x) _ (worked_keeps _) (λ at. and_keeps (show prompt) (λ _. goes_on at) (shows prompt) (λ _. goes_keeps at)))
+
+  module _ (takes : (said : List ℕ) (x : Tree) (prompt : List ℕ) → Preserves R (λ S. input_action said x prompt S.lines S)) where
+    pub parts_keep : (parts : List Part) (w : ℕ) (operands : List ℤ) → Preserves R (parts_action parts w operands)
+    unfolding parts_action
+    parts_keep [] w operands = goes_keeps operands
+    parts_keep (Assign x y ∷ parts) w operands =
+        and_keeps (target_action x) _ (worked_keeps _) (λ at. and_keeps (value_action y) _ (worked_keeps _) (λ v. and_keeps (store at v) _ (stores at v) (λ _. parts_keep parts w operands)))
+    parts_keep (Say s ∷ parts) w operands = and_keeps (show s) _ (shows s) (λ _. parts_keep parts w operands)
+    parts_keep (Width x m ∷ parts) w operands =
+        and_keeps (value_action x) _ (worked_keeps _) (λ v. and_keeps (work_action _) _ (worked_keeps _) (λ u. parts_keep parts u operands))
+    parts_keep (Show x ∷ parts) w operands =
+        and_keeps (value_action x) _ (worked_keeps _) (λ v. and_keeps (show _) _ (shows _) (λ _. parts_keep parts w operands))
+    parts_keep (NewLine ∷ parts) w operands = and_keeps (show newline) _ (shows newline) (λ _. parts_keep parts w operands)
+    parts_keep (Take said x prompt ∷ parts) w operands =
+        and_keeps (λ S. input_action said x prompt S.lines S) _ (takes said x prompt) (λ _. parts_keep parts w operands)
+    parts_keep (Letter x ∷ parts) w operands = parts_keep parts w operands
+    parts_keep (Operand x ∷ parts) w operands = and_keeps (value_action x) _ (worked_keeps _) (λ v. parts_keep parts w (operands ++ v ∷ []))
+    parts_keep (Defect kind m ∷ parts) w operands = halt_keeps _
+
 pub part_itself : (S : State) → PartChange S S
 part_itself S = record { place = refl; loops = refl; calls = refl; steps = refl; shown = begins_itself S.shown }
 
@@ -74,31 +125,20 @@ then_part m next = then_keeps PartChange part_joined m next
 attempt_part : {A : Type 0} (m : Cells → Work A) → Preserves PartChange (attempt m)
 attempt_part m = record { at = λ S a. subst (λ T. PartChange S T) (sym (attempt_state m S a)) (part_itself S) }
 
-goes_part : {A : Type 0} (x : A) → Preserves PartChange (goes_on x)
-goes_part x = record { at = λ S a. part_itself S }
-
 halt_part : {A : Type 0} (h : Halt) → Preserves PartChange (halt {A = A} h)
 halt_part h = record { at = λ S a. part_itself S }
-
-or_halt_part : {A : Type 0} (r : Result A Fault) → Preserves PartChange (or_halt r)
-or_halt_part (Ok v) = goes_part v
-or_halt_part (Err f) = halt_part (Faults f)
-
-worked_part : {A : Type 0} (m : Cells → Work A) → Preserves PartChange (work_action m)
-worked_part m = then_part (attempt m) or_halt (attempt_part m) or_halt_part
 
 show_part : (s : List ℕ) → Preserves PartChange (show s)
 show_part s = record { at = λ S a. record { place = refl; loops = refl; calls = refl; steps = refl; shown = (s, refl) } }
 
+store_part : (at : Target) (v : ℤ) → Preserves PartChange (store at v)
+store_part at v = record { at = λ S a. record { place = refl; loops = refl; calls = refl; steps = refl; shown = begins_itself S.shown } }
+
 ask_part : (said : List ℕ) (x : Tree) (prompt : List ℕ) → Preserves PartChange (ask_for said x prompt)
-ask_part said x prompt =
-    then_part (show said) _ (show_part said) (λ _. then_part (target_action x) _ (worked_part _) (λ at. then_part (show prompt) (λ _. goes_on at) (show_part prompt) (λ _. goes_part at)))
+ask_part = ask_keeps PartChange part_joined part_itself show_part store_part
 
 take_part : (l : List ℕ) (ls : List (List ℕ)) → Preserves PartChange (take_line l ls)
 take_part l ls = record { at = λ S a. record { place = refl; loops = refl; calls = refl; steps = refl; shown = (l ++ newline, append_assoc S.shown l newline) } }
-
-store_part : (at : Target) (v : ℤ) → Preserves PartChange (store at v)
-store_part at v = record { at = λ S a. record { place = refl; loops = refl; calls = refl; steps = refl; shown = begins_itself S.shown } }
 
 -- what a line is worth
 line_value : List ℕ → Cells → Work ℤ
@@ -121,21 +161,51 @@ take_action_part : (said : List ℕ) (x : Tree) (prompt : List ℕ) → Preserve
 take_action_part said x prompt = record { at = λ S a. (input_part said x prompt S.lines).at S a }
 
 pub parts_part : (parts : List Part) (w : ℕ) (operands : List ℤ) → Preserves PartChange (parts_action parts w operands)
-unfolding parts_action
-parts_part [] w operands = goes_part operands
-parts_part (Assign x y ∷ parts) w operands =
-    then_part (target_action x) _ (worked_part _) (λ at. then_part (value_action y) _ (worked_part _) (λ v. then_part (store at v) _ (store_part at v) (λ _. parts_part parts w operands)))
-parts_part (Say s ∷ parts) w operands = then_part (show s) _ (show_part s) (λ _. parts_part parts w operands)
-parts_part (Width x m ∷ parts) w operands =
-    then_part (value_action x) _ (worked_part _) (λ v. then_part (work_action _) _ (worked_part _) (λ u. parts_part parts u operands))
-parts_part (Show x ∷ parts) w operands =
-    then_part (value_action x) _ (worked_part _) (λ v. then_part (show _) _ (show_part _) (λ _. parts_part parts w operands))
-parts_part (NewLine ∷ parts) w operands = then_part (show newline) _ (show_part newline) (λ _. parts_part parts w operands)
-parts_part (Take said x prompt ∷ parts) w operands =
-    then_part (λ S. input_action said x prompt S.lines S) _ (take_action_part said x prompt) (λ _. parts_part parts w operands)
-parts_part (Letter x ∷ parts) w operands = parts_part parts w operands
-parts_part (Operand x ∷ parts) w operands = then_part (value_action x) _ (worked_part _) (λ v. parts_part parts w (operands ++ v ∷ []))
-parts_part (Defect kind m ∷ parts) w operands = halt_part _
+parts_part = parts_keep PartChange part_joined part_itself show_part store_part take_action_part
+
+-- ---- lines are taken one by one, and none comes back
+
+abbrev pub LinesTaken : State → State → Type 0
+LinesTaken S T = TakesLines S.lines T.lines
+
+taken_joined : (S T U : State) → LinesTaken S T → LinesTaken T U → LinesTaken S U
+taken_joined S T U a b = takes_joined S.lines T.lines U.lines a b
+
+abbrev pub SameLines : State → State → Type 0
+SameLines S T = T.lines ≡ S.lines
+
+pub ask_lines : (said : List ℕ) (x : Tree) (prompt : List ℕ) → Preserves SameLines (ask_for said x prompt)
+ask_lines = ask_keeps SameLines (λ S T U p q. q ∙ p) (λ S. refl) (λ s. record { at = λ S a. refl }) (λ at v. record { at = λ S a. refl })
+
+-- after what leaves the lines as they are
+then_takes : {A B : Type 0} (next : A → Action B) (ls : List (List ℕ)) (o : Outcome (Progress A) State) → (action_state o).lines ≡ ls → ((x : A) (T : State) (rest : Answers) → T.lines ≡ ls → TakesLines ls (action_state (next x T rest)).lines) → TakesLines ls (action_state (go_on o (on_progress next))).lines
+then_takes next ls (Done (Goes x T) rest) e each = each x T rest e
+then_takes next ls (Done (Halts h T) rest) e each = ([], sym e)
+then_takes next ls (Asks n T) e each = ([], sym e)
+then_takes next ls (Out n T) e each = ([], sym e)
+
+-- where one line was taken, its value is stored, or what comes again takes more
+again_takes : (ls : List (List ℕ)) (at : Target) (again : Action (Unit {0})) → ((T : State) (rest : Answers) → T.lines ≡ ls → TakesLines ls (action_state (again T rest)).lines) → (r : Result ℤ Fault) (T : State) (rest : Answers) → T.lines ≡ ls → TakesLines ls (action_state (store_or_again at again r T rest)).lines
+again_takes ls at again each (Ok v) T rest k = ([], sym k)
+again_takes ls at again each (Err f) T rest k = each _ rest k
+
+-- an item of INPUT, in a state with these lines
+pub input_takes : (said : List ℕ) (x : Tree) (prompt : List ℕ) (ls : List (List ℕ)) (S : State) (a : Answers) → S.lines ≡ ls → TakesLines ls (action_state (input_action said x prompt ls S a)).lines
+unfolding input_action line_value
+input_takes said x prompt [] S a e =
+    then_takes _ [] (ask_for said x prompt S a) ((ask_lines said x prompt).at S a ∙ e) (λ at T rest k. ([], sym k))
+input_takes said x prompt (l ∷ ls) S a e =
+    then_takes _ (l ∷ ls) (ask_for said x prompt S a) ((ask_lines said x prompt).at S a ∙ e) (λ at T rest k.
+    let U : State = record T { lines = ls; shown = T.shown ++ l ++ newline } in
+    takes_joined (l ∷ ls) ls _ (l ∷ [], refl)
+    (then_takes (store_or_again at (input_action said x prompt ls)) ls (attempt (line_value l) U rest) (ap (λ (V : State). V.lines) (attempt_state (line_value l) U rest))
+    (again_takes ls at (input_action said x prompt ls) (input_takes said x prompt ls))))
+
+take_action_takes : (said : List ℕ) (x : Tree) (prompt : List ℕ) → Preserves LinesTaken (λ S. input_action said x prompt S.lines S)
+take_action_takes said x prompt = record { at = λ S a. input_takes said x prompt S.lines S a refl }
+
+pub parts_take : (parts : List Part) (w : ℕ) (operands : List ℤ) → Preserves LinesTaken (parts_action parts w operands)
+parts_take = parts_keep LinesTaken taken_joined (λ S. takes_itself S.lines) (λ s. record { at = λ S a. takes_itself S.lines }) (λ at v. record { at = λ S a. takes_itself S.lines }) take_action_takes
 
 -- ---- what a command does with its operands
 
@@ -266,25 +336,27 @@ finish_end _ p q e x operands = go_to_end _
 command_joined : (S T U : State) → CommandChange S T → CommandChange T U → CommandChange S U
 command_joined S T U a b = record {
   shown = begins_joined S.shown T.shown U.shown a.shown b.shown;
+  lines = takes_joined S.lines T.lines U.lines a.lines b.lines;
   steps = b.steps ∙ a.steps;
   nested = λ h. b.nested (a.nested h);
 }
 
-of_parts : (S T : State) → PartChange S T → CommandChange S T
-of_parts S T c = record {
+of_parts : (S T : State) → PartChange S T → LinesTaken S T → CommandChange S T
+of_parts S T c l = record {
   shown = c.shown;
+  lines = l;
   steps = c.steps;
   nested = λ h. omega (arith, nesting_is S, nesting_is T, ap (λ (ls : List Loop). length ls) c.loops, ap older c.calls);
 }
 
 of_end : (S T : State) → EndChange S T → CommandChange S T
-of_end S T c = record { shown = ([], c.shown ∙ sym (append-nil S.shown)); steps = c.steps; nested = c.nested }
+of_end S T c = record { shown = ([], c.shown ∙ sym (append-nil S.shown)); lines = ([], sym c.lines); steps = c.steps; nested = c.nested }
 
 pub command_change : (p : Statements) (q : Place) (c : Command) → Preserves CommandChange (command_action p q c)
 unfolding command_action
 command_change p q c =
     then_keeps CommandChange command_joined (parts_action (item_of c.parts) first_width []) (finish c.kind p q (end_of c.parts) (letter_of (item_of c.parts)))
-    (record { at = λ S a. of_parts S _ ((parts_part (item_of c.parts) first_width []).at S a) })
+    (record { at = λ S a. of_parts S _ ((parts_part (item_of c.parts) first_width []).at S a) ((parts_take (item_of c.parts) first_width []).at S a) })
     (λ operands. record { at = λ S a. of_end S _ ((finish_end c.kind p q (end_of c.parts) (letter_of (item_of c.parts)) operands).at S a) })
 
 -- a fault's report only adds to what is shown
@@ -292,6 +364,7 @@ step_result_change : (S : State) (n : ℕ) (text : List ℕ) (r : Progress (Unit
 step_result_change S n text (Goes x T) c = c
 step_result_change S n text (Halts (Faults f) T) c = record {
   shown = begins_joined S.shown T.shown _ c.shown (report_bytes (is_fresh T.shown) n text f, refl);
+  lines = c.lines;
   steps = c.steps;
   nested = c.nested;
 }

@@ -13,7 +13,7 @@ use Rattle.ptb_expr.specs.Outcome.{Answers, Outcome, Done, Asks, Out, go_on, map
 use Rattle.ptb_expr.specs.Reading.{item_of, expression, variable_tree}
 use Rattle.ptb_expr.specs.Store.{Cells}
 use Rattle.ptb_expr.specs.Tree.{Tree}
-use Rattle.ptb_expr.specs.Value.{value, target_of}
+use Rattle.ptb_expr.specs.Value.{value}
 use Rattle.ptb_command.specs.declared.commands.input.Asking.{Asking}
 use Rattle.ptb_command.specs.declared.ending.Ending.TheVariants as endings
 use Rattle.ptb_devices.specs.declared.fault.ReadFault.{ReadFault}
@@ -26,7 +26,7 @@ use Rattle.ptb_command.specs.declared.stop.Stop.{Stop}
 use Rattle.ptb_command.specs.declared.stop.Stop.TheVariants as stops
 use Rattle.ptb_command.specs.Commands.{Part, Take, input_item}
 use Rattle.ptb_command.specs.State.{State}
-use Rattle.ptb_command.specs.Actions.{Ends, Progress, Goes, Halts, Action, on_progress, and_then, goes_on, halt, show, attempt, or_halt}
+use Rattle.ptb_command.specs.Actions.{Ends, Progress, Goes, Halts, Action, on_progress, and_then, goes_on, halt, show, attempt}
 use Rattle.ptb_command.specs.Act.{newline, word_of, target_action, store, take_line, ask_for, store_or_again, input_action, parts_action}
 use Rattle.ptb_command.specs.Asking.{item_action, IsAsked}
 use Rattle.ptb_command.specs.Reads.{IsRead}
@@ -35,12 +35,12 @@ use Rattle.ptb_devices.specs.Sources.{given_lines}
 use Rattle.ptb_command.specs.Devices.{Devices, with_choices, Refusal, Unanswered, Unread, NoLine, refused_answers, refused_by, HasBroken}
 use Rattle.ptb_command.specs.Io.{io_devices, io_trace}
 use Rattle.ptb_command.specs.Traces.{Trace, trace, after, RefinesPart}
-use Rattle.ptb_command.specs.Stops.{stop_of, stop_of_read, Stops, RefinesPartTo, Comes}
-use Rattle.ptb_command.proofs.Effects.{Preserves, then_keeps, attempt_state, input_part}
+use Rattle.ptb_command.specs.Stops.{stop_of, stop_of_read, WantsLine, Stops, RefinesPartTo, Comes}
+use Rattle.ptb_command.proofs.Effects.{takes_joined, ask_lines, input_part, input_takes}
 use Rattle.ptb_command.proofs.Exchanges.{shows_nothing, with_answers_nil}
 use Rattle.ptb_command.proofs.PartRefinement.{leaves_to, leaves_itself, after_nothing, freshens_nothing, refines_part_refl, refines_part_then}
-use Rattle.ptb_command.proofs.Stops.{Adds, parts_add, stops_after}
-use Rattle.ptb_command.proofs.Actions.{goes_adds, halt_adds, show_adds, then_adds, work_action_adds, refines_part_on, stops_first}
+use Rattle.ptb_command.proofs.Stops.{GoesForward, forward_itself, Adds, parts_add, attempt_adds, stops_after}
+use Rattle.ptb_command.proofs.Actions.{goes_adds, show_adds, then_adds, work_action_adds, refines_part_on, stops_first}
 use Rattle.ptb_command.proofs.Letting.{store_adds}
 use Rattle.ptb_command.proofs.Parts.{refines_part_part, stops_part}
 use Rattle.ptb_command.proofs.Working.{has_result, has_paused}
@@ -85,18 +85,9 @@ module _ (refused : Pause → ℤ → Type 0) (l : List ℕ) (c e : Choices) (d 
       (subst (λ (x : NoValue). WorkComes refused (value cells (item_of (expression l 0))) c e (Err x)) p h))
 
 line_adds : (l : List ℕ) → Adds (line_value l)
-line_adds l = record { at = λ S a. ([], ap (λ (T : State). T.shown) (attempt_state (λ c. value c (item_of (expression l 0))) S a) ∙ sym (append-nil S.shown)) }
+line_adds l = attempt_adds (λ c. value c (item_of (expression l 0)))
 
 -- ---- lines are left as they are
-
-abbrev pub SameLines : State → State → Type 0
-SameLines S T = T.lines ≡ S.lines
-
-abbrev pub LeavesLines : {A : Type 0} → Action A → Type 0
-LeavesLines m = Preserves SameLines m
-
-lines_then : {A B : Type 0} (f : Action A) (next : A → Action B) → LeavesLines f → ((x : A) → LeavesLines (next x)) → LeavesLines (and_then f next)
-lines_then f next a b = then_keeps SameLines (λ S T U p q. q ∙ p) f next a b
 
 -- what comes next is looked at in states with these lines alone
 next_same : {A B : Type 0} (F G : A → Action B) (ls : List (List ℕ)) → ((x : A) (T : State) → T.lines ≡ ls → F x T ≡ G x T) → (o : Outcome (Progress A) State) → (action_state o).lines ≡ ls → go_on o (on_progress F) ≡ go_on o (on_progress G)
@@ -104,10 +95,6 @@ next_same F G ls same (Done (Goes x T) rest) e = ap (λ h. h rest) (same x T e)
 next_same F G ls same (Done (Halts h T) rest) e = refl
 next_same F G ls same (Asks n T) e = refl
 next_same F G ls same (Out n T) e = refl
-
-or_halt_lines : {A : Type 0} (r : Result A Fault) → LeavesLines (or_halt r)
-or_halt_lines (Ok v) = record { at = λ S a. refl }
-or_halt_lines (Err e) = record { at = λ S a. refl }
 
 -- ---- before a line is taken
 
@@ -130,12 +117,6 @@ module _ (said : List ℕ) (x : Tree) (prompt : List ℕ) where
   pub ask_adds : Adds (ask_for said x prompt)
   unfolding target_next prompt_next
   ask_adds = then_adds (show said) (λ u. target_next) (show_adds said) (λ u. target_next_adds)
-
-  ask_lines : LeavesLines (ask_for said x prompt)
-  ask_lines =
-      lines_then (show said) _ (record { at = λ S a. refl }) (λ u.
-      lines_then (target_action x) _ (lines_then (attempt _) _ (record { at = λ S a. ap (λ (T : State). T.lines) (attempt_state (λ c. target_of c x) S a) }) or_halt_lines) (λ at.
-      lines_then (show prompt) (λ u. goes_on at) (record { at = λ S a. refl }) (λ u. record { at = λ S a. refl })))
 
   said_first : {o m : Trace} → RefinesPart o m (show said) (goes_on tt) → RefinesPart o m (ask_for said x prompt) target_next
   unfolding target_next prompt_next
@@ -181,7 +162,7 @@ module _ (said : List ℕ) (x : Tree) (prompt : List ℕ) where
   -- ---- a line is taken
 
   pub item_action_adds : Adds (item_action said x prompt)
-  item_action_adds = record { at = λ S a. ((input_part said x prompt S.lines).at S a).shown }
+  item_action_adds = record { at = λ S a. record { shown = ((input_part said x prompt S.lines).at S a).shown; lines = input_takes said x prompt S.lines S a refl } }
 
   -- once a line's value is known, or its fault
   pub answered : Target → Result ℤ Fault → Action (Unit {0})
@@ -204,22 +185,10 @@ module _ (said : List ℕ) (x : Tree) (prompt : List ℕ) where
   pub line_next : Target → List ℕ → Action (Unit {0})
   line_next at l = and_then (show (l ++ newline)) (λ u. worth at l)
 
-  again_adds : (at : Target) (ls : List (List ℕ)) (r : Result ℤ Fault) → Adds (store_or_again at (input_action said x prompt ls) r)
-  again_adds at ls (Ok v) = store_adds at v
-  again_adds at ls (Err f) =
-      then_adds (show (word_of f.kind ++ newline)) (λ u. input_action said x prompt ls) (show_adds _) (λ u. record { at = λ S a. ((input_part said x prompt ls).at S a).shown })
-
   -- by the lines that are left
   answer_by : Target → List (List ℕ) → Action (Unit {0})
   answer_by at [] = halt (Ends endings.NoInput)
   answer_by at (l ∷ ls) = and_then (take_line l ls) (λ u. and_then (line_value l) (store_or_again at (input_action said x prompt ls)))
-
-  answer_adds : (at : Target) (ls : List (List ℕ)) → Adds (answer_by at ls)
-  unfolding answer_by
-  answer_adds at [] = halt_adds (Ends endings.NoInput)
-  answer_adds at (l ∷ ls) =
-      then_adds (take_line l ls) _ (record { at = λ S a. (l ++ newline, append_assoc S.shown l newline) }) (λ u.
-      then_adds (line_value l) (store_or_again at (input_action said x prompt ls)) (line_adds l) (again_adds at ls))
 
   -- a line is wanted
   pub wants : Target → Action (Unit {0})
@@ -228,16 +197,40 @@ module _ (said : List ℕ) (x : Tree) (prompt : List ℕ) where
   by_lines : (ls : List (List ℕ)) (S : State) (a : Answers) → S.lines ≡ ls → input_action said x prompt ls S a ≡ and_then (ask_for said x prompt) wants S a
   unfolding input_action wants answer_by
   by_lines [] S a e =
-      next_same (λ at. answer_by at []) wants [] (λ at T k. ap (λ ls. answer_by at ls T) (sym k)) (ask_for said x prompt S a) (ask_lines.at S a ∙ e)
+      next_same (λ at. answer_by at []) wants [] (λ at T k. ap (λ ls. answer_by at ls T) (sym k)) (ask_for said x prompt S a) ((ask_lines said x prompt).at S a ∙ e)
   by_lines (l ∷ ls) S a e =
-      next_same (λ at. answer_by at (l ∷ ls)) wants (l ∷ ls) (λ at T k. ap (λ ls. answer_by at ls T) (sym k)) (ask_for said x prompt S a) (ask_lines.at S a ∙ e)
+      next_same (λ at. answer_by at (l ∷ ls)) wants (l ∷ ls) (λ at T k. ap (λ ls. answer_by at ls T) (sym k)) (ask_for said x prompt S a) ((ask_lines said x prompt).at S a ∙ e)
 
   item_action_asks : item_action said x prompt ≡ and_then (ask_for said x prompt) wants
   item_action_asks = fun_ext (λ S. fun_ext (λ a. by_lines S.lines S a refl))
 
+  -- a line that is left is given
+  again_same : (at : Target) (ls : List (List ℕ)) (S : State) → S.lines ≡ ls → (o : Outcome (Result ℤ Fault) (Unit {0})) → go_on (map_outcome (λ r. Goes r S) (λ u. S) o) (on_progress (store_or_again at (input_action said x prompt ls))) ≡ go_on (map_outcome (λ r. Goes r S) (λ u. S) o) (on_progress (answered at))
+  unfolding answered
+  again_same at ls S e (Done (Ok v) rest) = refl
+  again_same at ls S e (Done (Err f) rest) = ap (λ k. input_action said x prompt k (record S { shown = S.shown ++ (word_of f.kind ++ newline) }) rest) (sym e)
+  again_same at ls S e (Asks n w) = refl
+  again_same at ls S e (Out n w) = refl
+
+  given_same : (at : Target) (l : List ℕ) (ls : List (List ℕ)) (S : State) → answer_by at (l ∷ ls) S ≡ line_next at l (record S { lines = ls })
+  unfolding answer_by line_next worth
+  given_same at l ls S =
+      ap (λ (s : List ℕ). and_then (line_value l) (store_or_again at (input_action said x prompt ls)) (record S { lines = ls; shown = s })) (append_assoc S.shown l newline)
+      ∙ fun_ext (λ a. again_same at ls (record S { lines = ls; shown = S.shown ++ (l ++ newline) }) refl (value S.cells (item_of (expression l 0)) a))
+
+  -- one line is taken, and what is left of the item takes more
+  answer_adds : (at : Target) (ls : List (List ℕ)) (S : State) (a : Answers) → S.lines ≡ ls → GoesForward S (action_state (answer_by at ls S a))
+  unfolding answer_by line_next worth
+  answer_adds at [] S a e = forward_itself S
+  answer_adds at (l ∷ ls) S a e =
+      let T : State = record S { lines = ls } in
+      let f = (then_adds (show (l ++ newline)) (λ u. worth at l) (show_adds _) (λ u. worth_adds at l)).at T a in
+      subst (λ (g : Answers → Outcome (Progress (Unit {0})) State). GoesForward S (action_state (g a))) (sym (given_same at l ls S))
+      (record { shown = f.shown; lines = takes_joined S.lines ls _ (l ∷ [], e) f.lines })
+
   wants_adds : (at : Target) → Adds (wants at)
-  unfolding wants answer_by
-  wants_adds at = record { at = λ S a. (answer_adds at S.lines).at S a }
+  unfolding wants
+  wants_adds at = record { at = λ S a. answer_adds at S.lines S a refl }
 
   -- what asks has come to a target, and wants a line
   wanted : {o n : Trace} (at : Target) → RefinesPart o n (ask_for said x prompt) (goes_on at) → RefinesPart o n (item_action said x prompt) (wants at)
@@ -259,6 +252,12 @@ module _ (said : List ℕ) (x : Tree) (prompt : List ℕ) where
   }
 
   -- the lines can't be read
+  line_wanted : (at : Target) (e : DeviceError) → WantsLine e (Halts (Ends endings.NoInput)) [] (wants at)
+  unfolding wants answer_by
+  line_wanted at errors.Read = (refl, λ S b k. ap (λ ls. answer_by at ls S b) k)
+  line_wanted at errors.Memory = tt
+  line_wanted at errors.Write = tt
+
   unread : (refused : Refusal → Type 0) {o n : Trace} (at : Target) (e : DeviceError) → RefinesPart o n (ask_for said x prompt) (goes_on at) → HasBroken refused n.devices.screen n.devices.screen e → Stops refused (RefinesPartTo o n (item_action said x prompt)) n.devices (stops.Broke e)
   unread refused {n = n} at e a h = record {
     left = wants at;
@@ -266,7 +265,9 @@ module _ (said : List ℕ) (x : Tree) (prompt : List ℕ) where
     part = [];
     comes = wanted at a;
     shows = shows_nothing n.devices.screen;
-    begins = λ S b. let more = (wants_adds at).at S b in (more.0, more.1 ∙ ap (λ s. s ++ more.0) (sym (append-nil S.shown)));
+    begins = λ S b. let more = ((wants_adds at).at S b).shown in (more.0, more.1 ∙ ap (λ s. s ++ more.0) (sym (append-nil S.shown)));
+    takes = λ S b. ((wants_adds at).at S b).lines;
+    wants = line_wanted at e;
     broken = h;
   }
 
@@ -274,20 +275,6 @@ module _ (said : List ℕ) (x : Tree) (prompt : List ℕ) where
   take_unread refused at reads.Read a h = unread refused at errors.Read a (record { by = inl h }, refl)
   take_unread refused at reads.TooLong a h = unread refused at errors.Read a (record { by = inr h }, refl)
   take_unread refused at reads.Memory a h = unread refused at errors.Memory a (record { by = inr (inr h) }, refl)
-
-  -- a line is given
-  again_same : (at : Target) (ls : List (List ℕ)) (S : State) → S.lines ≡ ls → (o : Outcome (Result ℤ Fault) (Unit {0})) → go_on (map_outcome (λ r. Goes r S) (λ u. S) o) (on_progress (store_or_again at (input_action said x prompt ls))) ≡ go_on (map_outcome (λ r. Goes r S) (λ u. S) o) (on_progress (answered at))
-  unfolding answered
-  again_same at ls S e (Done (Ok v) rest) = refl
-  again_same at ls S e (Done (Err f) rest) = ap (λ k. input_action said x prompt k (record S { shown = S.shown ++ (word_of f.kind ++ newline) }) rest) (sym e)
-  again_same at ls S e (Asks n w) = refl
-  again_same at ls S e (Out n w) = refl
-
-  given_same : (at : Target) (l : List ℕ) (ls : List (List ℕ)) (S : State) → answer_by at (l ∷ ls) S ≡ line_next at l (record S { lines = ls })
-  unfolding answer_by line_next worth
-  given_same at l ls S =
-      ap (λ (s : List ℕ). and_then (line_value l) (store_or_again at (input_action said x prompt ls)) (record S { lines = ls; shown = s })) (append_assoc S.shown l newline)
-      ∙ fun_ext (λ a. again_same at ls (record S { lines = ls; shown = S.shown ++ (l ++ newline) }) refl (value S.cells (item_of (expression l 0)) a))
 
   -- the lines given are then k
   line_given : (m : Trace) (at : Target) (l : List ℕ) (k : List (List ℕ)) → k ≡ m.devices.given ++ l ∷ [] → RefinesPart m (record m { devices = record m.devices { given = k } }) (wants at) (line_next at l)

@@ -26,6 +26,7 @@ pub mod Sequences
 pub mod Shown
 pub mod Stops
 pub mod Calling
+pub mod Missed
 pub mod Nesting
 pub mod Looping
 pub mod Working

@@ -9,9 +9,10 @@ use Rattle.ptb_text.specs.Device.{HasFailed, TakesSome}
 use Rattle.ptb_expr.specs.Store.{Cells}
 use Rattle.ptb_devices.specs.declared.fault.ScreenFault.{ScreenFault}
 use Rattle.ptb_devices.specs.declared.fault.ScreenFault.TheVariants as screens
+use Rattle.ptb_command.specs.declared.ending.Ending.TheVariants as endings
 use Rattle.ptb_command.specs.declared.stop.DeviceError.{DeviceError}
 use Rattle.ptb_command.specs.declared.stop.DeviceError.TheVariants as errors
-use Rattle.ptb_command.specs.Actions.{goes_on, show}
+use Rattle.ptb_command.specs.Actions.{Ends, Halts, goes_on, show}
 use Rattle.std.specs.Fmt.{signed_decimal}
 use Rattle.ptb_command.specs.Act.{is_fresh, width_of, width_limit, padded_decimal}
 use Rattle.std.specs.Int.{FitsUnsignedBits}
@@ -20,7 +21,7 @@ use Rattle.ptb_command.specs.Effects.{action_state}
 use Rattle.ptb_command.specs.Devices.{ScreenState, Devices, with_screen, bytes_alone, Shows, nothing_refused, HasBroken}
 use Rattle.ptb_command.specs.declared.stop.Stop.{Stop}
 use Rattle.ptb_command.specs.Traces.{Trace, trace, fresh_after, RefinesPart}
-use Rattle.ptb_command.specs.Stops.{stop_of_screen, Breaks, Stops, RefinesPartTo, Comes}
+use Rattle.ptb_command.specs.Stops.{stop_of_screen, WantsLine, Breaks, Stops, RefinesPartTo, Comes}
 use Rattle.ptb_command.proofs.Exchanges.{with_answers_nil}
 use Rattle.ptb_command.proofs.PartRefinement.{leaves_itself, leaves_to, refines_part_refl}
 
@@ -62,23 +63,25 @@ module _ (old new : ScreenState) (d : Devices) (fresh : Bool) (cells : Cells) (b
   }
 
   -- only a part was shown
-  part_shown : (n : ℕ) → Shows old new (take n bytes) → (e : DeviceError) → HasBroken nothing_refused old new e → Breaks nothing_refused (RefinesPartTo (trace (with_screen old d) fresh cells) (trace (with_screen new d) fresh cells) (show bytes)) (with_screen new d) action_state e
-  part_shown n s e broken = record {
+  part_shown : (n : ℕ) → Shows old new (take n bytes) → (e : DeviceError) → WantsLine e (Halts (Ends endings.NoInput)) (take n bytes) (show bytes) → HasBroken nothing_refused old new e → Breaks nothing_refused (RefinesPartTo (trace (with_screen old d) fresh cells) (trace (with_screen new d) fresh cells) (show bytes)) (with_screen new d) action_state (Halts (Ends endings.NoInput)) e
+  part_shown n s e wants broken = record {
     left = show bytes;
     middle = old;
     part = take n bytes;
     comes = refines_part_refl (trace (with_screen old d) fresh cells) (show bytes);
     shows = s;
     begins = λ S a. (drop n bytes, ap (λ l. S.shown ++ l) (sym (take-append-drop n bytes)) ∙ sym (append_assoc S.shown (take n bytes) (drop n bytes)));
+    takes = λ S a. ([], refl);
+    wants = wants;
     broken = broken;
   }
 
   -- by the contract of a screen
   pub not_shown : TakesSome old.shown new.shown bytes → old.failures ≤ new.failures → new.borrow ≡ old.borrow → new.takes_memory ≡ old.takes_memory → (fault : ScreenFault) → (IsErrOf {T = Unit {0}} (Err fault) screens.Write → HasFailed old.failures new.failures) → ((IsErrOf {T = Unit {0}} (Err fault) screens.Write → ⊥) → new.failures ≡ old.failures) → (IsErrOf {T = Unit {0}} (Err fault) screens.Memory → IsTrue old.takes_memory) → Stops nothing_refused (RefinesPartTo (trace (with_screen old d) fresh cells) (trace (with_screen new d) fresh cells) (show bytes)) (with_screen new d) (stop_of_screen fault)
   not_shown t later borrow memory screens.Write failed unfailed refused =
-      part_shown t.0 (record { shown = t.2; same_borrow = borrow; same_memory = memory }) errors.Write (failed refl, later)
+      part_shown t.0 (record { shown = t.2; same_borrow = borrow; same_memory = memory }) errors.Write tt (failed refl, later)
   not_shown t later borrow memory screens.Memory failed unfailed refused =
-      part_shown t.0 (record { shown = t.2; same_borrow = borrow; same_memory = memory }) errors.Memory (record { by = inl (refused refl) }, unfailed (λ e. cc))
+      part_shown t.0 (record { shown = t.2; same_borrow = borrow; same_memory = memory }) errors.Memory tt (record { by = inl (refused refl) }, unfailed (λ e. cc))
 
 pub shown_as : (o n : Trace) (s bytes : List ℕ) (r : Result (Unit {0}) Stop) → s ≡ bytes → Comes nothing_refused o n (show s) goes_on r → Comes nothing_refused o n (show bytes) goes_on r
 shown_as o n s bytes r e h = subst (λ (x : List ℕ). Comes nothing_refused o n (show x) goes_on r) e h

@@ -1,5 +1,5 @@
 -- This file proves how stops are put together: what stops a part of a command stops the command.
-use Rattle.std.proofs.Common.{◌≡◌, ℕ, List, [], ◌++◌, Result, Ok, Err, ℤ, refl, sym, ap, subst, ◌∙◌, append-nil}
+use Rattle.std.proofs.Common.{◌≡◌, ℕ, List, ◌++◌, Result, Ok, Err, ℤ, refl, sym, ap, subst, ◌∙◌}
 use Rattle.std.specs.Result.{IsErrAnd}
 use Rattle.std.proofs.lemmas.Result.{err_from_is_err_and}
 use Rattle.ptb_expr.specs.declared.fault.Fault.{Fault}
@@ -7,41 +7,72 @@ use Rattle.ptb_expr.specs.declared.pause.Pause.{Pause}
 use Rattle.ptb_expr.specs.declared.pause.Pause.TheVariants as pauses
 use Rattle.ptb_expr.specs.Outcome.{Answers, Outcome, Done, Asks, Out, go_on}
 use Rattle.ptb_expr.specs.Choices.{SaysOut}
+use Rattle.ptb_expr.specs.Store.{Cells}
+use Rattle.ptb_expr.specs.Value.{Work}
+use Rattle.ptb_command.specs.declared.ending.Ending.TheVariants as endings
+use Rattle.ptb_command.specs.declared.stop.DeviceError.{DeviceError}
+use Rattle.ptb_command.specs.declared.stop.DeviceError.TheVariants as errors
 use Rattle.ptb_command.specs.declared.stop.Stop.{Stop}
 use Rattle.ptb_command.specs.declared.stop.Stop.TheVariants as stops
 use Rattle.ptb_command.specs.State.{State}
 use Rattle.ptb_command.specs.Commands.{Part}
-use Rattle.ptb_command.specs.Actions.{Progress, Goes, Halts, Action, on_progress, and_then, or_halt}
+use Rattle.ptb_command.specs.Actions.{Ends, Progress, Goes, Halts, Action, on_progress, and_then, attempt, or_halt}
 use Rattle.ptb_command.specs.Act.{parts_action}
-use Rattle.ptb_command.specs.Effects.{action_state, Begins}
+use Rattle.ptb_command.specs.Effects.{action_state, Begins, TakesLines}
 use Rattle.ptb_command.specs.Devices.{Devices, with_screen, Refusal, Unanswered, NoLine}
 use Rattle.ptb_command.specs.Traces.{Trace, RefinesPart}
-use Rattle.ptb_command.specs.Stops.{Stops, RefinesPartTo, Comes}
-use Rattle.ptb_command.proofs.Effects.{Preserves, begins_joined, parts_part}
+use Rattle.ptb_command.specs.Stops.{WantsLine, Stops, RefinesPartTo, Comes}
+use Rattle.ptb_command.proofs.Effects.{Preserves, begins_itself, begins_joined, takes_itself, takes_joined, attempt_state, parts_part, parts_take}
 use Rattle.ptb_command.proofs.Exchanges.{has_broken_from}
 use Rattle.ptb_command.proofs.PartRefinement.{refines_part_then, refines_part_under}
 
--- ---- actions take back nothing that was shown
+-- ---- actions take back nothing that was shown, and give back no line
 
-abbrev pub ShowsMore : State → State → Type 0
-ShowsMore S T = Begins S.shown T.shown
+pub record GoesForward (S T : State) : Type 0 where
+  pub shown : Begins S.shown T.shown
+  pub lines : TakesLines S.lines T.lines
+
+pub forward_itself : (S : State) → GoesForward S S
+forward_itself S = record { shown = begins_itself S.shown; lines = takes_itself S.lines }
+
+pub forward_joined : (S T U : State) → GoesForward S T → GoesForward T U → GoesForward S U
+forward_joined S T U p q = record {
+  shown = begins_joined S.shown T.shown U.shown p.shown q.shown;
+  lines = takes_joined S.lines T.lines U.lines p.lines q.lines;
+}
 
 abbrev pub Adds : {A : Type 0} → Action A → Type 0
-Adds m = Preserves ShowsMore m
+Adds m = Preserves GoesForward m
 
 pub parts_add : (parts : List Part) (w : ℕ) (operands : List ℤ) → Adds (parts_action parts w operands)
-parts_add parts w operands = record { at = λ S a. ((parts_part parts w operands).at S a).shown }
+parts_add parts w operands = record { at = λ S a. record { shown = ((parts_part parts w operands).at S a).shown; lines = (parts_take parts w operands).at S a } }
+
+-- working something out changes nothing
+pub attempt_adds : {A : Type 0} (f : Cells → Work A) → Adds (attempt f)
+attempt_adds f = record { at = λ S a. subst (GoesForward S) (sym (attempt_state f S a)) (forward_itself S) }
 
 -- a fault halts, and shows nothing
 pub or_halt_adds : {A : Type 0} (r : Result A Fault) → Adds (or_halt r)
-or_halt_adds (Ok v) = record { at = λ S a. ([], sym (append-nil S.shown)) }
-or_halt_adds (Err e) = record { at = λ S a. ([], sym (append-nil S.shown)) }
+or_halt_adds (Ok v) = record { at = λ S a. forward_itself S }
+or_halt_adds (Err e) = record { at = λ S a. forward_itself S }
 
 begins_before : {A B : Type 0} (next : A → Action B) → ((x : A) → Adds (next x)) → (shown : List ℕ) (o : Outcome (Progress A) State) → Begins shown (action_state o).shown → Begins shown (action_state (go_on o (on_progress next))).shown
-begins_before next adds shown (Done (Goes x S) rest) b = begins_joined shown S.shown _ b ((adds x).at S rest)
+begins_before next adds shown (Done (Goes x S) rest) b = begins_joined shown S.shown _ b ((adds x).at S rest).shown
 begins_before next adds shown (Done (Halts h S) rest) b = b
 begins_before next adds shown (Asks n S) b = b
 begins_before next adds shown (Out n S) b = b
+
+takes_before : {A B : Type 0} (next : A → Action B) → ((x : A) → Adds (next x)) → (lines : List (List ℕ)) (o : Outcome (Progress A) State) → TakesLines lines (action_state o).lines → TakesLines lines (action_state (go_on o (on_progress next))).lines
+takes_before next adds lines (Done (Goes x S) rest) t = takes_joined lines S.lines _ t ((adds x).at S rest).lines
+takes_before next adds lines (Done (Halts h S) rest) t = t
+takes_before next adds lines (Asks n S) t = t
+takes_before next adds lines (Out n S) t = t
+
+-- what wants a line wants it before what comes next
+pub wants_before : {A B : Type 0} (into : Outcome A State → Outcome B State) (ends : State → A) (over : State → B) → ((S : State) (a : Answers) → into (Done (ends S) a) ≡ Done (over S) a) → (part : List ℕ) (left : State → Answers → Outcome A State) (e : DeviceError) → WantsLine e ends part left → WantsLine e over part (λ S a. into (left S a))
+wants_before into ends over same part left errors.Read w = (w.0, λ S a k. ap into (w.1 S a k) ∙ same S a)
+wants_before into ends over same part left errors.Memory w = tt
+wants_before into ends over same part left errors.Write w = tt
 
 -- ---- before what comes next
 
@@ -77,6 +108,8 @@ module _ {A B : Type 0} (refused : Refusal → Type 0) (R : Devices → Action A
     comes = under (with_screen h.middle n) h.left h.comes;
     shows = h.shows;
     begins = λ S a. begins_before next adds (S.shown ++ h.part) (h.left S a) (h.begins S a);
+    takes = λ S a. takes_before next adds S.lines (h.left S a) (h.takes S a);
+    wants = wants_before (λ o. go_on o (on_progress next)) (Halts (Ends endings.NoInput)) (Halts (Ends endings.NoInput)) (λ S a. refl) h.part h.left e h.wants;
     broken = h.broken;
   }
 
@@ -102,6 +135,8 @@ module _ {A : Type 0} (refused others : Refusal → Type 0) (more : (r : Refusal
     comes = along (with_screen h.middle n) h.left h.comes;
     shows = h.shows;
     begins = h.begins;
+    takes = h.takes;
+    wants = h.wants;
     broken = has_broken_from refused others more h.middle h.middle n.screen refl refl e h.broken;
   }
 

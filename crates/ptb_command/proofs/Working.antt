@@ -10,9 +10,10 @@ use Rattle.ptb_expr.specs.Choices.{Choices, Reaches, Pauses}
 use Rattle.ptb_expr.specs.Store.{Cells}
 use Rattle.ptb_expr.specs.Value.{Work}
 use Rattle.ptb_expr.specs.Evaluate.{WorkComes}
+use Rattle.ptb_command.specs.declared.ending.Ending.TheVariants as endings
 use Rattle.ptb_command.specs.declared.stop.DeviceError.TheVariants as errors
 use Rattle.ptb_command.specs.State.{State}
-use Rattle.ptb_command.specs.Actions.{Progress, Goes, goes_on, attempt, or_halt, work_action}
+use Rattle.ptb_command.specs.Actions.{Ends, Progress, Goes, Halts, goes_on, attempt, or_halt, work_action}
 use Rattle.ptb_command.specs.Effects.{action_state}
 use Rattle.ptb_command.specs.Effects.{action_state}
 use Rattle.ptb_command.specs.Devices.{Devices, answers_alone, refused_answers, with_choices}
@@ -51,7 +52,7 @@ module _ {A : Type 0} (f : Cells → Work A) (c e : Choices) (d : Devices) (fres
     refuses = p.refuses;
   }
 
-  breaks : (refused : Pause → ℤ → Type 0) → Pauses refused (f cells) c e pauses.Memory → Breaks (refused_answers refused) (RefinesPartTo (trace (with_choices c d) fresh cells) (trace (with_choices e d) fresh cells) (attempt f)) (with_choices e d) action_state errors.Memory
+  breaks : (refused : Pause → ℤ → Type 0) → Pauses refused (f cells) c e pauses.Memory → Breaks (refused_answers refused) (RefinesPartTo (trace (with_choices c d) fresh cells) (trace (with_choices e d) fresh cells) (attempt f)) (with_choices e d) action_state (Halts (Ends endings.NoInput)) errors.Memory
   breaks refused p = record {
     left = attempt (λ k. p.left);
     middle = d.screen;
@@ -59,6 +60,8 @@ module _ {A : Type 0} (f : Cells → Work A) (c e : Choices) (d : Devices) (fres
     comes = attempted p.left p.reaches;
     shows = shows_nothing d.screen;
     begins = λ S a. ([], ap (λ (T : State). T.shown) (attempt_state (λ k. p.left) S a) ∙ sym (append-nil S.shown) ∙ sym (append-nil (S.shown ++ [])));
+    takes = λ S a. ([], sym (ap (λ (T : State). T.lines) (attempt_state (λ k. p.left) S a)));
+    wants = tt;
     broken = (record { by = inr (inl (p.bound, p.refuses)) }, refl);
   }
 

@@ -1,6 +1,7 @@
 -- This file defines what a command may change of the state in which it begins.
 --     action_state o, act_state o      the state in which an action, or a whole command, goes on, halts or asks
 --     Begins shown all                 all of it begins with what is shown
+--     TakesLines lines left            of the lines some were taken, from the first on, and these are left
 --     PartChange S T                   what the parts of a command may change
 --     EndChange S T                    what a command may change once its parts are done
 --     CommandChange S T                what a whole command may change
@@ -35,6 +36,9 @@ act_state (Out n S) = S
 abbrev pub Begins : List ℕ → List ℕ → Type 0
 Begins shown all = (more : List ℕ) × (all ≡ shown ++ more)
 
+abbrev pub TakesLines : List (List ℕ) → List (List ℕ) → Type 0
+TakesLines lines left = (taken : List (List ℕ)) × (lines ≡ taken ++ left)
+
 -- variables are stored, lines are taken, and more is shown
 pub record PartChange (S T : State) : Type 0 where
   pub place : T.place ≡ S.place
@@ -52,5 +56,6 @@ pub record EndChange (S T : State) : Type 0 where
 
 pub record CommandChange (S T : State) : Type 0 where
   pub shown : Begins S.shown T.shown
+  pub lines : TakesLines S.lines T.lines
   pub steps : T.steps ≡ S.steps
   pub nested : nesting S ≤ nesting_limit → nesting T ≤ nesting_limit

@@ -1,9 +1,11 @@
 -- This file defines what a part of a command comes to, where it stops and where it goes on.
 --     stop_of_screen, stop_of_read, stop_of    why a command stops where a device fails, and where an expression has no value
+--     WantsLine e ends part left           where the input can't be read, a line is wanted
 --     Waits, IsDry, Breaks                 it stops at a question, at an input line, at a device
 --     Stops refused R n e                  it stops for the reason e
+--     UnlessMissed refused P result        P holds, unless a line was wanted and the source gave none
 --     Comes refused o n f ok result        from trace o to trace n, f comes to the result
-use Rattle.std.specs.Prelude.{◌≡◌, ℕ, List, [], ◌++◌, Result, Ok, Err, ℤ}
+use Rattle.std.specs.Prelude.{◌≡◌, ◌⊎◌, ℕ, List, [], ◌++◌, Result, Ok, Err, ℤ}
 use Rattle.ptb_expr.specs.declared.fault.Stop.{Stop as NoValue}
 use Rattle.ptb_expr.specs.declared.fault.Stop.TheVariants as values
 use Rattle.ptb_expr.specs.declared.pause.Pause.{Pause}
@@ -21,7 +23,7 @@ use Rattle.ptb_command.specs.declared.stop.Stop.{Stop}
 use Rattle.ptb_command.specs.declared.stop.Stop.TheVariants as stops
 use Rattle.ptb_command.specs.State.{State}
 use Rattle.ptb_command.specs.Actions.{Faults, Ends, Halts, Action, halt}
-use Rattle.ptb_command.specs.Effects.{action_state, Begins}
+use Rattle.ptb_command.specs.Effects.{action_state, Begins, TakesLines}
 use Rattle.ptb_command.specs.Devices.{ScreenState, Devices, with_screen, Shows, Refusal, Unanswered, NoLine, HasBroken}
 use Rattle.ptb_command.specs.Traces.{Trace, trace, RefinesPart}
 
@@ -52,6 +54,13 @@ IsRefusal pauses.Ended = Unit {0}
 IsRefusal (pauses.OutOfRange k) = Unit {0}
 IsRefusal pauses.Memory = ⊥
 
+-- the input is read only where a line is wanted: nothing of what is left was shown then, and it ends so without a line
+abbrev pub WantsLine : {A : Type 0} → DeviceError → (State → A) → List ℕ → (State → Answers → Outcome A State) → Type 0
+WantsLine errors.Read ends part left =
+    (part ≡ []) × ((S : State) (a : Answers) → S.lines ≡ [] → left S a ≡ Done (ends S) a)
+WantsLine errors.Memory ends part left = Unit {0}
+WantsLine errors.Write ends part left = Unit {0}
+
 -- R d g says that it has come to g, with devices that hold d; `refused` is what stands after a refusal
 module _ {A : Type 0} (refused : Refusal → Type 0) (R : Devices → (State → Answers → Outcome A State) → Type 0) (n : Devices) where
   -- what is left asks, and the chooser has refused the question
@@ -72,14 +81,16 @@ module _ {A : Type 0} (refused : Refusal → Type 0) (R : Devices → (State →
     pub refuses : refused NoLine
 
   -- a device has failed, or was refused memory, once it had come to what is left;
-  -- what was shown of that is a beginning of what it shows
-  pub record Breaks (state : Outcome A State → State) (e : DeviceError) : Type 0 where
+  -- what was shown of that is a beginning of what it shows, and it takes further lines at most
+  pub record Breaks (state : Outcome A State → State) (ends : State → A) (e : DeviceError) : Type 0 where
     pub left : State → Answers → Outcome A State
     pub middle : ScreenState
     pub part : List ℕ
     pub comes : R (with_screen middle n) left
     pub shows : Shows middle n.screen part
     pub begins : (S : State) (a : Answers) → Begins (S.shown ++ part) (state (left S a)).shown
+    pub takes : (S : State) (a : Answers) → TakesLines S.lines (state (left S a)).lines
+    pub wants : WantsLine e ends part left
     pub broken : HasBroken refused middle n.screen e
 
 abbrev pub Stops : {A : Type 0} → (Refusal → Type 0) → (Devices → Action A → Type 0) → Devices → Stop → Type 0
@@ -87,7 +98,23 @@ Stops refused R n (stops.Fault f) = R n (halt (Faults f))
 Stops refused R n stops.Ended = R n (halt (Ends endings.Stop))
 Stops refused R n stops.NoInput = IsDry refused R n (Halts (Ends endings.NoInput))
 Stops refused R n (stops.Pause z) = Waits refused R n z
-Stops refused R n (stops.Broke e) = Breaks refused R n action_state e
+Stops refused R n (stops.Broke e) = Breaks refused R n action_state (Halts (Ends endings.NoInput)) e
+
+-- ---- lines that the source didn't give
+
+-- `refused` is what stands after a fault of the source; memory may have been refused to another device, too
+abbrev pub UnlessStopMissed : (ReadFault → Type 0) → Type 0 → Stop → Type 0
+UnlessStopMissed refused P (stops.Fault f) = P
+UnlessStopMissed refused P stops.Ended = P
+UnlessStopMissed refused P stops.NoInput = Unit {0}
+UnlessStopMissed refused P (stops.Pause z) = P
+UnlessStopMissed refused P (stops.Broke errors.Memory) = P ⊎ refused reads.Memory
+UnlessStopMissed refused P (stops.Broke errors.Read) = Unit {0}
+UnlessStopMissed refused P (stops.Broke errors.Write) = P
+
+abbrev pub UnlessMissed : {X : Type 0} → (ReadFault → Type 0) → Type 0 → Result X Stop → Type 0
+UnlessMissed refused P (Ok x) = P
+UnlessMissed refused P (Err e) = UnlessStopMissed refused P e
 
 -- ---- where it comes to
 

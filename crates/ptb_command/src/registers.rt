@@ -1,7 +1,7 @@
 // This file has the registers, which are what commands change: where the run stands, what is stored,
 // and what is open.
 
-ghost use Rattle.std.specs.Prelude.{◌≡◌, ℕ, List, true, false, Some, IfOk};
+ghost use Rattle.std.specs.Prelude.{◌≡◌, ℕ, List, true, false, Some, IfOk, IsOk, OnOk, OnErr};
 ghost use Rattle.ptb_command.specs.Configuration.{configuration};
 ghost use Rattle.ptb_command.specs.Reads.{Follows};
 ghost use Rattle.ptb_command.specs.Representation.{Represents};
@@ -48,6 +48,37 @@ impl Registers {
             store: Store::new(alloc, program.size())?,
             stack: Stack::new(),
         })
+    }
+
+    /// Registers that hold the same.
+    ///
+    /// # Errors
+    ///
+    /// [`AllocError`] where there is no memory for the array.
+    pub fn copy(&self, alloc: Global) -> Result<Registers, AllocError>
+        ensures { IfOk result (λ r. r ≡ self.now) }
+    {
+        Ok(Registers {
+            place: self.place,
+            store: self.store.copy(alloc)?,
+            stack: self.stack.copy(),
+        })
+    }
+
+    /// Takes over what other registers hold. It takes no memory where both arrays have the same size.
+    ///
+    /// # Errors
+    ///
+    /// [`AllocError`] where there is no memory for the array. They hold what they held then.
+    pub fn copy_from(&mut self, alloc: Global, other: &Registers) -> Result<(), AllocError>
+        ensures ok { OnOk result (self.new ≡ other.now) }
+        ensures same_size { self.old.store.size ≡ other.now.store.size → IsOk result }
+        ensures err { OnErr result (self.new ≡ self.old) }
+    {
+        self.store.copy_from(alloc, &other.store)?;
+        self.stack.copy_from(&other.stack);
+        self.place = other.place;
+        Ok(())
     }
 
     /// Goes on behind a command of this statement, which ends at the cursor.

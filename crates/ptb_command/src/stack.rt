@@ -76,6 +76,23 @@ impl Stack {
         }
     }
 
+    /// A stack with the same loops and calls.
+    pub fn copy(&self) -> Stack
+        ensures { result ≡ self.now }
+    {
+        let mut copy = Stack::new();
+        copy.copy_from(self);
+        copy
+    }
+
+    /// Takes the loops and calls of another stack in place of its own.
+    pub fn copy_from(&mut self, other: &Stack)
+        ensures { self.new ≡ other.now }
+    {
+        self.opens.clear();
+        let _ = self.opens.try_extend_from_slice(other.opens.as_slice());
+    }
+
     /// Whether nothing is open.
     pub fn is_empty(&self) -> bool
         ensures { IsTrue result ↔ (self.now ≡ []) }

@@ -232,6 +232,42 @@ fn first_registers(rt: HostRuntime) -> Result<(), Fail> {
     Ok(())
 }
 
+// Passes whichever of its allocations is refused: the registers hold then what they held.
+#[test]
+fn copied_registers(rt: HostRuntime) -> Result<(), Fail> {
+    let Ok(program) = program(rt.alloc(), b"10 A=1", b"") else {
+        return Ok(());
+    };
+    let Ok(mut registers) = Registers::new(rt.alloc(), &program) else {
+        return Ok(());
+    };
+    registers.store.set(letter(b'A'), 7);
+    assert!(rt; open(&mut registers.stack, b'('));
+    let Ok(mut copy) = registers.copy(rt.alloc()) else {
+        return Ok(());
+    };
+    assert_eq!(rt; numbers(copy.place), Some((0, 0)));
+    assert_eq!(rt; copy.store.get(letter(b'A')), 7);
+    copy.store.set(letter(b'A'), 8);
+    copy.place = None;
+    assert_eq!(rt; registers.copy_from(rt.alloc(), &copy), Ok(()));
+    assert_eq!(rt; numbers(registers.place), None);
+    assert_eq!(rt; registers.store.get(letter(b'A')), 8);
+    assert_eq!(rt; closed(&mut registers.stack), 1);
+    assert_eq!(rt; closed(&mut copy.stack), 1);
+    let Ok(store) = Store::new(rt.alloc(), 4) else {
+        return Ok(());
+    };
+    copy.store = store;
+    let (a, size) = match registers.copy_from(rt.alloc(), &copy) {
+        Ok(()) => (0, 4),
+        Err(AllocError) => (8, program.size()),
+    };
+    assert_eq!(rt; registers.store.get(letter(b'A')), a);
+    assert_eq!(rt; registers.store.size(), size);
+    Ok(())
+}
+
 // The places of a program, and its lines.
 #[test]
 fn places(rt: HostRuntime) -> Result<(), Fail> {

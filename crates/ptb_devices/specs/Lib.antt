@@ -2,3 +2,8 @@
 pub mod Screens
 pub mod Sources
 pub mod Cutting
+pub mod CuttingLaws
+pub mod Inputs
+pub mod InputLaws
+pub mod Readers
+pub mod ReaderLaws

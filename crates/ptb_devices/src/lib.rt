@@ -2,17 +2,20 @@
 //!
 //! It stands on `ptb_text`, `arrayvec` and `thiserror`. The crate above may rely on the contracts
 //! of `Screen` (bytes are shown in order, all of them or a fault) and `LineSource` (lines are given
-//! in order, each once), which the screens and `Lines` here keep, and on `read_lines` (the lines of
-//! an input, cleaned and cut).
+//! in order, each once), which the screens, `Lines` and `ReaderLines` here keep, and on `read_lines`
+//! (the lines of an input, cleaned and cut). `ReaderLines` gives them while it reads the input.
 #![tactic(auto)]
 
 mod cutter;
 mod fault;
+mod line_buffer;
 mod lines;
+mod reader_lines;
 mod screen;
 mod whole_input;
 
 pub use fault::{ReadFault, ScreenFault};
 pub use lines::{Line, LineSource, Lines};
+pub use reader_lines::ReaderLines;
 pub use screen::{Screen, TextScreen, WriterScreen};
 pub use whole_input::{INPUT_LIMIT, read_lines};

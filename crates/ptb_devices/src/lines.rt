@@ -1,7 +1,7 @@
 // This file has the input lines of a run, and the sources that give them.
 
 ghost use Rattle.std.specs.Prelude.{◌≡◌, ℕ, ◌+◌, ◌-◌, ◌<◌, ◌≤◌, List, [], ◌∷◌, ◌++◌, length, drop};
-ghost use Rattle.std.specs.Prelude.{take, Option, Some, IfOk, IfErr, IfNone};
+ghost use Rattle.std.specs.Prelude.{take, Option, Some, IfOk, IfErr, IfNone, IfSome};
 ghost use Rattle.std.proofs.Common.{rules};
 ghost use Rattle.std.proofs.lemmas.Grind.{common_steps};
 ghost use Rattle.std.specs.Borrow.{sem};
@@ -27,6 +27,9 @@ pub trait LineSource {
     /// What stands between two states of it, where the calls in between gave these lines.
     ghost gives: { Self → List (List ℕ) → Self → Type 0 };
 
+    /// How many lines were asked for in vain, of those that it can tell.
+    ghost missed: { Self → ℕ };
+
     /// What stands after a fault.
     ghost refused: { Self → ReadFault → Type 0 };
 
@@ -40,7 +43,8 @@ pub trait LineSource {
     fn next(&mut self) -> Result<Option<&[u8]>, ReadFault>
         ensures* after { sem 𝓛 (Rests Self.row self.entry (λ new.
             gives self.old (given_lines result) new × IfErr result (refused new)
-            × IfOk result (λ line. IfNone line (NoneLeft (lines new))))) }
+            × IfOk result (λ line. IfNone line (NoneLeft (lines new)))
+            × IfOk result (λ line. IfSome line (λ _. missed new ≤ missed self.old)))) }
         ensures end { IfOk result (λ line. IfNone line (NoneLeft (lines self.old))) };
 
     /// With no call it gives nothing.
@@ -156,6 +160,8 @@ impl<'a> LineSource for Lines<'a> {
     ghost most = { λ s. length s.lines - s.taken };
 
     ghost gives = { Gives };
+
+    ghost missed = { λ _. 0 };
 
     ghost refused = { λ _ _. ⊥ };
 

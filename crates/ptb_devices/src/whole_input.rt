@@ -17,7 +17,8 @@ use std::alloc::{AllocError, Global};
 /// How many bytes an input may have.
 pub const INPUT_LIMIT: usize = 16_777_216;
 
-const BUFFER_SIZE: usize = 4096;
+/// How many bytes are read at once.
+pub(crate) const BUFFER_SIZE: usize = 4096;
 
 /// Reads the whole input, and cuts it into its cleaned lines.
 ///

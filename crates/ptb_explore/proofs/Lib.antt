@@ -10,6 +10,8 @@ pub mod Attempt
 pub mod Recording
 pub mod Trial
 pub mod RunPrefix
+pub mod Keep
+pub mod GoingOn
 pub mod Gathering
 pub mod ReportText
 pub mod Progress

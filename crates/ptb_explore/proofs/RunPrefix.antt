@@ -1,9 +1,10 @@
 -- This file proves how a run goes on that is played step by step, and how it ends.
-use Rattle.std.proofs.Common.{◌≡◌, ℕ, ◌+◌, ◌<◌, List, [], ◌∷◌, ◌++◌, true, Option, Some, None, Result, Ok, Err, ℤ, inl, inr, refl, sym, ap, subst, ◌∙◌, arith, append_assoc, append-nil}
+use Rattle.std.proofs.Common.{◌≡◌, ℕ, ◌+◌, ◌<◌, ◌≤◌, List, [], ◌∷◌, ◌++◌, true, Option, Some, None, Result, Ok, Err, ℤ, inl, inr, refl, sym, ap, subst, ◌∙◌, arith, append_assoc, append-nil, length, length-append, length-drop}
 use Rattle.std.proofs.Math.Path.{fun_ext}
 use Rattle.ptb_text.specs.Statements.{StoredProgram}
 use Rattle.ptb_expr.specs.declared.pause.Pause.TheVariants as pauses
-use Rattle.ptb_expr.specs.Outcome.{Answers, Outcome, Done, Asks, Out, go_on, map_outcome}
+use Rattle.ptb_devices.specs.Sources.{LineList, Gives}
+use Rattle.ptb_expr.specs.Outcome.{Answers, Outcome, Done, Asks, Out, go_on, map_outcome, bounds}
 use Rattle.ptb_expr.specs.Choices.{Choices, Asked, Reaches}
 use Rattle.ptb_command.specs.declared.ending.Ending.{Ending}
 use Rattle.ptb_command.specs.declared.ending.Ending.TheVariants as endings
@@ -20,7 +21,7 @@ use Rattle.ptb_command.specs.Stops.{Waits, IsDry}
 use Rattle.ptb_machine.specs.Steps.{StepsTo, goes, ends, StepComes, Steps}
 use Rattle.ptb_machine.specs.Questions.{most_answers}
 use Rattle.ptb_explore.specs.Laws.{TreeLaws}
-use Rattle.ptb_explore.specs.Playing.{Holds, NextIsOutside, PlayEnds}
+use Rattle.ptb_explore.specs.Playing.{Holds, NextIsOutside, PlayEnds, run_from, IsRunPrefix}
 use Rattle.ptb_explore.specs.Recording.{RefusedByPlan}
 use Rattle.ptb_explore.proofs.Tree.{tree_laws}
 use Rattle.ptb_explore.proofs.Bounds.{holds_on, holds_at_first}
@@ -29,20 +30,9 @@ use Rattle.ptb_explore.proofs.Bounds.{holds_on, holds_at_first}
 abbrev pub text_state : List ℕ → ScreenState
 text_state s = record { shown = Some s; failures = 0; borrow = None; takes_memory = true }
 
--- what is left of a run from a state on, and what it is once a turn has come to an outcome
-abbrev pub run_from : StoredProgram → ℕ → State → Answers → Outcome Finish (List ℕ)
-run_from p limit S a = map_outcome (λ f. f) (λ (T : State). T.shown) (turns p limit S a)
-
+-- what is left of a run once a turn has come to an outcome
 abbrev pub from_turn : StoredProgram → ℕ → Outcome StepResult State → Outcome Finish (List ℕ)
 from_turn p limit o = map_outcome (λ f. f) (λ (T : State). T.shown) (go_on o (after_step_result (turns p limit)))
-
--- a run was begun, and with what the chooser holds it has come to where the machine stands
-pub record IsRunPrefix (p : StoredProgram) (input : List (List ℕ)) (limit : ℕ) (c : Choices) (shown : List ℕ) (left : List (List ℕ)) (m : Configuration) : Type 0 where
-  pub state : State
-  pub represents : Represents p.lines m state
-  pub shown_is : state.shown ≡ shown
-  pub left_is : state.lines ≡ left
-  pub holds : Holds (play p input limit) c (run_from p limit state)
 
 play-is : (p : StoredProgram) (input : List (List ℕ)) (limit : ℕ) (a : Answers) → play p input limit a ≡ run_from p limit (first_state p input) a
 unfolding play
@@ -191,6 +181,52 @@ module _ (laws : RunLaws) (p : StoredProgram) (input : List (List ℕ)) (limit :
         let w : Fault faults.Write = faulted faults.Write is in
         let none : w.middle.failures ≡ 0 = w.comes.exchanges.unfailed in
         elim w.broken.0 [ inl x ↦ absurd (omega (arith, none, x)) | inr x ↦ absurd (omega (arith, none, x)) ]
+
+-- ---- a chooser that took the same answers
+
+pub prefix_to : (p : StoredProgram) (input : List (List ℕ)) (limit : ℕ) (c d : Choices) (s t : List ℕ) (left rest : List (List ℕ)) (m : Configuration) → IsRunPrefix p input limit c s left m
+    → c.taken ≡ d.taken → d.kept ≡ Some (bounds (play p input limit) d.taken) → s ≡ t → left ≡ rest → IsRunPrefix p input limit d t rest m
+prefix_to p input limit c d s t left rest m u taken kept shown lines = record {
+  state = u.state;
+  represents = u.represents;
+  shown_is = u.shown_is ∙ shown;
+  left_is = u.left_is ∙ lines;
+  holds = record { bounds_are = kept; rest = λ later. ap (λ a. play p input limit (a ++ later)) (sym taken) ∙ u.holds.rest later };
+}
+
+-- ---- what a step adds
+
+pub record Extends (c d : Choices) (s t : List ℕ) : Type 0 where
+  pub answers : Answers
+  pub bytes : List ℕ
+  pub taken : d.taken ≡ c.taken ++ answers
+  pub shown : t ≡ s ++ bytes
+
+module _ (p : StoredProgram) (input : List (List ℕ)) (limit : ℕ) (m new : Configuration) (c d : Choices) (s t : List ℕ) (given left rest : List (List ℕ)) (refused : Refusal → Type 0) (u : IsRunPrefix p input limit c s left m) where
+  turn_extends : (g : State → Answers → Outcome StepResult State) → StepsTo p.lines new (devices c (text_state s) []) u.state rest (turn p limit u.state) (devices d (text_state t) given) g → Extends c d s t
+  turn_extends g x = record { answers = x.exchange.answers; bytes = x.exchange.bytes; taken = ap (λ y. y.taken) x.exchanges.grown; shown = x.exchanges.shows.shown }
+
+  ending_extends : (e : Ending) → StepComes refused (StepsTo p.lines new (devices c (text_state s) []) u.state rest (turn p limit u.state)) (devices d (text_state t) given) (Ok (Some e)) → Extends c d s t
+  ending_extends endings.End x = turn_extends (ends endings.End) x
+  ending_extends endings.Stop x = turn_extends (ends endings.Stop) x
+  ending_extends endings.What x = turn_extends (ends endings.What) x
+  ending_extends endings.How x = turn_extends (ends endings.How) x
+  ending_extends endings.Sorry x = turn_extends (ends endings.Sorry) x
+  ending_extends endings.Limit x = turn_extends (ends endings.Limit) x
+  ending_extends endings.NoInput w = turn_extends w.left w.comes
+  ending_extends endings.NoAnswer w = turn_extends w.left w.comes
+  ending_extends endings.BadAnswer w = turn_extends w.1.left w.1.comes
+
+  pub step_extends : (o : Option Ending) (r : Result (Option Ending) RunFault) → r ≡ Ok o → left ≡ given ++ rest → Steps refused p limit m new (devices c (text_state s) []) (devices d (text_state t) given) r → Extends c d s t
+  step_extends None r is l steps =
+      turn_extends goes (subst (λ r. StepComes refused (StepsTo p.lines new (devices c (text_state s) []) u.state rest (turn p limit u.state)) (devices d (text_state t) given) r) is (steps u.state rest u.represents (u.left_is ∙ l)))
+  step_extends (Some e) r is l steps =
+      ending_extends e (subst (λ r. StepComes refused (StepsTo p.lines new (devices c (text_state s) []) u.state rest (turn p limit u.state)) (devices d (text_state t) given) r) is (steps u.state rest u.represents (u.left_is ∙ l)))
+
+-- lines that were taken were there
+pub taken_within : (s t : LineList) (xs : List (List ℕ)) → Gives s xs t → s.taken ≤ length s.lines → t.taken ≤ length s.lines
+taken_within s t xs gives l =
+    omega (arith, l, gives.counted, sym (length-drop s.taken s.lines) ∙ ap length gives.first ∙ length-append xs _)
 
 -- the runs of a program have the laws of what takes answers one by one
 pub program_laws : (laws : RunLaws) (p : StoredProgram) (input : List (List ℕ)) (limit : ℕ) → TreeLaws (play p input limit) (most_answers p input limit)

@@ -14,7 +14,7 @@ use Rattle.ptb_command.specs.declared.ending.Ending.{Ending}
 use Rattle.ptb_command.specs.declared.ending.Ending.TheVariants as endings
 use Rattle.ptb_machine.specs.Play.{Finish}
 use Rattle.ptb_explore.specs.Playing.{Holds, PlayEnds}
-use Rattle.ptb_explore.proofs.Bounds.{holds_on}
+use Rattle.ptb_explore.proofs.Bounds.{holds_on, length-bounds}
 use Rattle.ptb_explore.proofs.Attempt.{Took, out_closes, ends_at, not_whole}
 
 module _ {A W : Type 0} (play : Answers → Outcome A W) (r : Recorder) (result : A) (h : Holds play (choices_of r) (λ later. Done result later)) where
@@ -52,6 +52,13 @@ trial_out play f most c d g reads h p o =
 pub fresh_plan : (r : Recorder) → IsFresh r → take r.planned r.answers.items ≡ r.answers.items
 fresh_plan r f = ap (λ n. take n r.answers.items) (f.all_planned ∙ r.answers.ok.0) ∙ take-length r.answers.items
 
+pub result_is : {A W : Type 0} (x y : A) (a b : Answers) → ◌≡◌ {A = Outcome A W} (Done x a) (Done y b) → x ≡ y
+result_is x y a b e = cc
+
+-- a recorder that has a bound for each of its answers gave them all
+pub all_given : {A W : Type 0} (play : Answers → Outcome A W) (r : Recorder) → r.bounds.items ≡ bounds play r.answers.items → (choices_of r).taken ≡ r.answers.items
+all_given play r e = ap (λ n. take n r.answers.items) (ap length e ∙ length-bounds play [] r.answers.items) ∙ take-length r.answers.items
+
 module _ (play : Answers → Outcome Finish (List ℕ)) (r : Recorder) (steps : ℕ) (shown : List ℕ) (most : ℕ) (reads : IsReader play most) (plan : Answers) (planned : take r.planned r.answers.items ≡ plan) where
   module _ (opens : is_open (play plan) ≡ true) where
     ended_so : (e : Ending) → Holds play (choices_of r) (λ later. Done (record { ending = e; steps = steps; shown = shown }) later) → EndsAt play plan r.answers.items r.bounds.items (record { ending = e; steps = steps; shown = shown })
@@ -80,19 +87,19 @@ module _ (play : Answers → Outcome Finish (List ℕ)) (r : Recorder) (steps : 
         let same : r.planned ≡ length r.answers.items = omega (arith, n, ap length planned, alone) in
         sym (ap (λ n. take n r.answers.items) same ∙ take-length r.answers.items) ∙ planned
 
-    whole_so : (e : Ending) → Holds play (choices_of r) (λ later. Done (record { ending = e; steps = steps; shown = shown }) later) → IsRun play plan × (r.answers.items ≡ plan) × (r.bounds.items ≡ bounds play plan)
+    whole_so : (e : Ending) → Holds play (choices_of r) (λ later. Done (record { ending = e; steps = steps; shown = shown }) later) → IsRun play plan × (r.answers.items ≡ plan) × (r.bounds.items ≡ bounds play plan) × (play plan ≡ Done (record { ending = e; steps = steps; shown = shown }) [])
     whole_so e h =
         let n : length r.bounds.items ≡ length r.answers.items = omega (arith, taken, alone) in
         let all : take (length r.bounds.items) r.answers.items ≡ plan = ap (λ n. take n r.answers.items) n ∙ take-length r.answers.items ∙ all_planned in
         let came : play plan ≡ Done (record { ending = e; steps = steps; shown = shown }) [] = ap play (sym (append-nil plan)) ∙ ap (λ t. play (t ++ [])) (sym all) ∙ h.rest [] in
-        (ap is_whole came, all_planned, taken_bounds play r (record { ending = e; steps = steps; shown = shown }) h ∙ ap (bounds play) all)
+        (ap is_whole came, all_planned, taken_bounds play r (record { ending = e; steps = steps; shown = shown }) h ∙ ap (bounds play) all, came)
 
     too_long : (next : ℤ) (later : Answers) → plan ≡ take (length r.bounds.items) r.answers.items ++ next ∷ later → ⊥
     too_long next later e =
         let within : length r.bounds.items ≤ length r.answers.items = omega (arith, taken, alone) in
         omega (arith, ap length e, length-append (take (length r.bounds.items) r.answers.items) (next ∷ later), length-take-le (length r.bounds.items) r.answers.items within, taken)
 
-    pub whole_plan : (e : Ending) → PlayEnds play (choices_of r) steps shown e → IsRun play plan × (r.answers.items ≡ plan) × (r.bounds.items ≡ bounds play plan)
+    pub whole_plan : (e : Ending) → PlayEnds play (choices_of r) steps shown e → IsRun play plan × (r.answers.items ≡ plan) × (r.bounds.items ≡ bounds play plan) × (play plan ≡ Done (record { ending = e; steps = steps; shown = shown }) [])
     whole_plan endings.End h = whole_so endings.End h
     whole_plan endings.Stop h = whole_so endings.Stop h
     whole_plan endings.What h = whole_so endings.What h

@@ -5,15 +5,23 @@
 --     Reports play r               r is the report of the run of its answers
 --     NextReports play f r found   it is that of the next run, or there is none
 --     NextLeaves old result new    what the search for the next run leaves
-use Rattle.std.specs.Prelude.{◌≡◌, ℕ, List, [], Bool, true, false, Option, Some, None, Result, Ok, Err}
+--     AreCopiesAt ..               the copies are of the run at which an explorer stands
+--     AreKeptAt f runs             the same, of what contracts see of them
+--     IsPlayed play a n            the run of these answers has so many steps
+--     NextPlays ..                 how many steps were played after the next run
+use Rattle.std.specs.Prelude.{◌≡◌, ℕ, ◌-◌, List, [], Bool, true, false, Option, Some, None, Result, Ok, Err}
 use Rattle.std.specs.declared.alloc.AllocError.{AllocError}
 use Rattle.std.specs.Borrow.{Bor}
 use Rattle.ptb_text.specs.Statements.{StoredProgram}
 use Rattle.ptb_expr.specs.Outcome.{Answers, Outcome, Done, bounds}
 use Rattle.ptb_machine.specs.Play.{Finish, play}
 use Rattle.ptb_machine.specs.Questions.{most_answers}
+use Rattle.ptb_explore.specs.declared.copies.KeptCopy.{KeptCopy}
+use Rattle.ptb_explore.specs.declared.plan.Position.{Position}
+use Rattle.ptb_explore.specs.declared.plan.Position.TheVariants.{AtStart, AtRun, AtEnd}
 use Rattle.ptb_explore.specs.declared.report.Report.{Report}
-use Rattle.ptb_explore.specs.RunTree.{Front, At, End, IsNextRun, IsLast}
+use Rattle.ptb_explore.specs.Copies.{KeptRun, AreCopies, AreBeginnings, kept_steps, more_played}
+use Rattle.ptb_explore.specs.RunTree.{Front, Start, At, End, IsNextRun, IsLast}
 
 -- ---- explorers
 
@@ -23,6 +31,10 @@ pub record Exploration : Type 0 where
   -- how many commands a run may begin
   pub limit : ℕ
   pub front : Front
+  -- the copies that are kept of the run at which it stands, the one with the fewest answers first
+  pub kept : List KeptRun
+  -- how many commands were played in all
+  pub played : ℕ
 
 abbrev pub play_of : Exploration → Answers → Outcome Finish (List ℕ)
 play_of e = play e.program e.input e.limit
@@ -45,8 +57,39 @@ NextReports play f r false = IsLast play f
 
 -- ---- what is left behind
 
--- it stands at the run whose report is lent, or past the last run, or where it stood
+-- the commands that a run has in common with that of a copy are not played again
+abbrev pub played_after : List KeptRun → ℕ → Report → ℕ
+played_after kept played r = more_played played (r.steps - kept_steps r.answers.items kept)
+
+-- it stands at the run whose report is lent
+pub record FoundNext (old : Exploration) (r : Report) (new : Exploration) : Type 0 where
+  pub now : new ≡ record old { front = At r.answers.items; kept = new.kept; played = played_after old.kept old.played r }
+  pub kept : AreBeginnings 0 r.answers.items new.kept
+
+-- or past the last run, or where it stood
 abbrev pub NextLeaves : Exploration → Result (Option (Bor Report)) AllocError → Exploration → Type 0
-NextLeaves old (Ok (Some r)) new = new ≡ record old { front = At r.now.answers.items }
-NextLeaves old (Ok None) new = new ≡ record old { front = End }
-NextLeaves old (Err e) new = new ≡ old
+NextLeaves old (Ok (Some r)) new = FoundNext old r.now new
+NextLeaves old (Ok None) new = new ≡ record old { front = End; kept = [] }
+NextLeaves old (Err e) new = new ≡ record old { kept = []; played = new.played }
+
+-- ---- copies
+
+-- where it stands at no run there are none
+abbrev pub AreCopiesAt : StoredProgram → List (List ℕ) → ℕ → Position → Report → List KeptCopy → Type 0
+AreCopiesAt p input limit AtStart r ks = ks ≡ []
+AreCopiesAt p input limit AtRun r ks = AreCopies p input limit r.answers.items r.transcript.items ks
+AreCopiesAt p input limit AtEnd r ks = ks ≡ []
+
+abbrev pub AreKeptAt : Front → List KeptRun → Type 0
+AreKeptAt Start runs = runs ≡ []
+AreKeptAt (At a) runs = AreBeginnings 0 a runs
+AreKeptAt End runs = runs ≡ []
+
+-- ---- how many steps were played
+
+abbrev pub IsPlayed : (Answers → Outcome Finish (List ℕ)) → Answers → ℕ → Type 0
+IsPlayed play a n = (f : Finish) → play a ≡ Done f [] → n ≡ f.steps
+
+abbrev pub NextPlays : List KeptRun → ℕ → Report → ℕ → Bool → Type 0
+NextPlays kept old r new true = new ≡ played_after kept old r
+NextPlays kept old r new false = new ≡ old

@@ -3,6 +3,7 @@ pub mod RunTree
 pub mod Plans
 pub mod Recording
 pub mod Playing
+pub mod Copies
 pub mod Report
 pub mod Listing
 pub mod Exploring

@@ -1,52 +1,146 @@
 // This file has the explorer, which finds all runs of a program.
 
-ghost use Rattle.std.specs.Prelude.{◌≡◌, ◌≤◌, true, false, Ok, None, length};
-ghost use Rattle.std.specs.Prelude.{IfOk, OnOk, OnErr, IfSome, IfNone, IsErrOf};
+ghost use Rattle.std.specs.Prelude.{◌≡◌, ◌≤◌, true, false, Ok, None, [], length, drop};
+ghost use Rattle.std.specs.Prelude.{IfOk, OnOk, OnErr, IfSome, IfNone, IsErrOf, IsTrue};
 ghost use Rattle.ptb_expr.specs.Outcome.{is_open, bounds as bounds_of};
 ghost use Rattle.ptb_machine.specs.Play.{play};
 ghost use Rattle.ptb_machine.specs.Questions.{most_answers};
+ghost use Rattle.ptb_explore.specs.Copies.{Agrees, AreBeginnings, AreCopies, PlaysOn, WentBack};
+ghost use Rattle.ptb_explore.specs.Copies.{kept_runs, last_steps};
 ghost use Rattle.ptb_explore.specs.Exploring.{play_of, most_of, finish_of, Reports, NextReports};
+ghost use Rattle.ptb_explore.specs.Exploring.{AreCopiesAt, IsPlayed, NextPlays};
+ghost use Rattle.ptb_explore.specs.Playing.{IsRunPrefix};
+ghost use Rattle.ptb_explore.specs.Recording.{choices_of};
 ghost use Rattle.ptb_explore.specs.Laws.{TreeLaws};
 ghost use Rattle.ptb_explore.specs.Plans.{front_at, IsPosition, IsFresh, EndsAt};
 ghost use Rattle.ptb_explore.specs.RunTree.{Start, At, End, IsRun, IsNextRun, IsLast};
 
+use crate::copies::Copies;
 use crate::fault::AfterFault;
 use crate::plan::{Position, plan_next};
-use crate::playing::play_plan;
+use crate::playing::play_on;
 use crate::recorder::Recorder;
 use crate::report::Report;
-use ptb_machine::{Line, Player, TextScreen, run_laws};
+use ptb_machine::{Line, Lines, Machine, Player, TextScreen, run_laws};
 use ptb_text::Program;
 use std::alloc::{AllocError, Global};
 use std::marker::Model;
 use std::mem;
 
-// Plays a plan, and makes the report of its run.
+// Goes back to the newest copy whose answers are among the first that the plan and the report have
+// in common, or to the beginning of a run, and gives the machine that stands there.
+fn go_back(
+    alloc: Global,
+    player: &mut Player,
+    limit: u32,
+    common: usize,
+    report: &Report,
+    trial: &mut Recorder,
+    screen: &mut TextScreen,
+    source: &mut Lines,
+    copies: &mut Copies,
+) -> Result<Box<Machine>, AllocError>
+    requires fresh { IsFresh trial.old }
+    requires begins { source.old.taken ≡ 0 }
+    requires agrees { Agrees (play player.old source.old.lines limit) common
+        trial.old.answers.items report.now.answers.items report.now.bounds.items }
+    requires copies { AreCopies player.old source.old.lines limit report.now.answers.items
+        screen.old copies.old.kept.items }
+    ensures program { player.new ≡ player.old }
+    ensures plan { (choices_of trial.new).plan ≡ trial.old.answers.items }
+    ensures same_lines { source.new.lines ≡ source.old.lines }
+    ensures within { OnOk result (source.new.taken ≤ length source.new.lines) }
+    ensures unspent { IfOk result (λ b. b.value.spent ≡ false) }
+    ensures run_prefix { IfOk result (λ b. IsRunPrefix player.old source.old.lines limit
+        (choices_of trial.new) screen.new (drop source.new.taken source.new.lines) b.value) }
+    ensures copies { OnOk result (AreCopies player.old source.old.lines limit
+        (choices_of trial.new).taken screen.new copies.new.kept.items) }
+    ensures back { OnOk result (WentBack common copies.old.kept.items copies.new.kept.items) }
+    ensures steps { IfOk result (λ b. b.value.steps ≡ last_steps copies.new.kept.items) }
+{
+    match copies.go_back(alloc, common)? {
+        None => {
+            screen.cut(0);
+            let first = player.machine(alloc)?;
+            match Box::new(alloc, first) {
+                Ok(machine) => Ok(machine),
+                Err(_) => Err(AllocError),
+            }
+        }
+        Some(copy) => {
+            trial.skip(&report.bounds[..copy.taken])?;
+            screen.cut(copy.shown);
+            source.go(copy.lines);
+            match copy.machine {
+                Some(machine) => Ok(machine),
+                None => unreachable!(),
+            }
+        }
+    }
+}
+
+// Plays a plan on from a copy, and makes the report of its run. The first answers of the plan are
+// those of the report, as many as `common` says. The steps are added to those played.
 fn report_plan(
     alloc: Global,
     player: &mut Player,
     lines: &[Line],
     limit: u32,
+    common: usize,
     trial: &mut Recorder,
     report: &mut Report,
+    copies: &mut Copies,
+    played: &mut u64,
 ) -> Result<(), AllocError>
     requires fresh { IsFresh trial.old }
     requires opens { is_open (play player.old lines.now limit trial.old.answers.items) ≡ true }
+    requires agrees { Agrees (play player.old lines.now limit) common
+        trial.old.answers.items report.old.answers.items report.old.bounds.items }
+    requires copies { AreCopies player.old lines.now limit report.old.answers.items
+        report.old.transcript.items copies.old.kept.items }
     ensures program { player.new ≡ player.old }
     ensures ends { OnOk result (EndsAt (play player.old lines.now limit) trial.old.answers.items
         report.new.answers.items report.new.bounds.items (finish_of report.new)) }
     ensures answers { OnErr result (report.new.answers.items ≡ report.old.answers.items) }
     ensures bounds { OnErr result (report.new.bounds.items ≡ report.old.bounds.items) }
+    ensures copies { OnOk result (AreCopies player.old lines.now limit report.new.answers.items
+        report.new.transcript.items copies.new.kept.items) }
+    ensures played { OnOk result (PlaysOn common copies.old.kept.items played.old
+        report.new.steps played.new) }
 {
     run_laws();
     let mut screen = TextScreen::from_vec(mem::replace(&mut report.transcript, Vec::new(alloc)));
-    screen.cut(0);
-    let played = play_plan(alloc, player, lines, limit, trial, &mut screen);
+    let mut source = Lines::new(lines);
+    let machine = go_back(
+        alloc,
+        player,
+        limit,
+        common,
+        report,
+        trial,
+        &mut screen,
+        &mut source,
+        copies,
+    );
+    let mut machine = machine?;
+    let first = machine.steps();
+    let ending = play_on(
+        alloc,
+        player,
+        limit,
+        &mut machine,
+        trial,
+        &mut screen,
+        &mut source,
+        copies,
+    );
+    let steps = machine.steps();
+    copies.give_back(machine);
+    *played = played.saturating_add(u64::from(steps.saturating_sub(first)));
     report.transcript = screen.into_vec();
-    let played = played?;
+    report.ending = ending?;
+    report.steps = steps;
     trial.hand_over(&mut report.answers, &mut report.bounds);
-    report.ending = played.ending;
-    report.steps = played.steps;
     Ok(())
 }
 
@@ -59,21 +153,31 @@ fn report_next(
     position: Position,
     trial: &mut Recorder,
     report: &mut Report,
+    copies: &mut Copies,
+    played: &mut u64,
 ) -> Result<bool, AllocError>
-    requires { IsPosition (play player.old lines.now limit) position
+    requires position { IsPosition (play player.old lines.now limit) position
         report.old.answers.items report.old.bounds.items }
+    requires copies { AreCopiesAt player.old lines.now limit position report.old
+        copies.old.kept.items }
     ensures program { player.new ≡ player.old }
     ensures next { IfOk result (NextReports (play player.old lines.now limit)
         (front_at position report.old.answers.items) report.new) }
     ensures answers { OnErr result (report.new.answers.items ≡ report.old.answers.items) }
     ensures bounds { OnErr result (report.new.bounds.items ≡ report.old.bounds.items) }
     ensures ended { position ≡ Position.AtEnd → result ≡ Ok false }
+    ensures copies { IfOk result (λ found. IsTrue found → AreCopies player.old lines.now limit
+        report.new.answers.items report.new.transcript.items copies.new.kept.items) }
+    ensures played { IfOk result (NextPlays
+        (kept_runs report.old.answers.items copies.old.kept.items) played.old report.new played.new) }
 {
     run_laws();
     match plan_next(position, &report.answers, &report.bounds, trial)? {
         None => Ok(false),
-        Some(_) => {
-            report_plan(alloc, player, lines, limit, trial, report)?;
+        Some(common) => {
+            report_plan(
+                alloc, player, lines, limit, common, trial, report, copies, played,
+            )?;
             Ok(true)
         }
     }
@@ -86,20 +190,40 @@ fn check_run(
     lines: &[Line],
     limit: u32,
     trial: &mut Recorder,
+    screen: &mut TextScreen,
+    copies: &mut Copies,
+    played: &mut u64,
 ) -> Result<(), AfterFault>
-    requires { IsFresh trial.old }
+    requires fresh { IsFresh trial.old }
+    requires shown { screen.old ≡ [] }
+    requires none { copies.old.kept.items ≡ [] }
     ensures program { player.new ≡ player.old }
     ensures run { OnOk result (IsRun (play player.old lines.now limit) trial.old.answers.items) }
     ensures answers { OnOk result (trial.new.answers.items ≡ trial.old.answers.items) }
     ensures bounds { OnOk result (trial.new.bounds.items
         ≡ bounds_of (play player.old lines.now limit) trial.old.answers.items) }
+    ensures copies { OnOk result (AreCopies player.old lines.now limit trial.old.answers.items
+        screen.new copies.new.kept.items) }
+    ensures played { OnOk result (IsPlayed (play player.old lines.now limit)
+        trial.old.answers.items played.new) }
     ensures not_a_run { IsErrOf result AfterFault.NotARun
         → IsRun (play player.old lines.now limit) trial.old.answers.items → ⊥ }
 {
     run_laws();
     let planned = trial.answers.len();
-    let mut screen = TextScreen::new(alloc);
-    play_plan(alloc, player, lines, limit, trial, &mut screen)?;
+    let mut machine = player.machine(alloc)?;
+    let mut source = Lines::new(lines);
+    play_on(
+        alloc,
+        player,
+        limit,
+        &mut machine,
+        trial,
+        screen,
+        &mut source,
+        copies,
+    )?;
+    *played = u64::from(machine.steps());
     // An answer outside its bound isn't taken, so fewer are taken than planned where there is one.
     if trial.bounds.len() == planned && trial.answers.len() == planned {
         Ok(())
@@ -112,6 +236,8 @@ fn check_run(
 ///
 /// It holds the report of one run and one list of answers more, however many runs there are. One
 /// player plays them all, so that a command that was read in one run need not be read in the next.
+/// Copies of the machine are kept where the run took answers, at most 64, so that the next run goes
+/// on from the last place at which it is the same.
 #[derive(Drop)]
 pub struct Explorer<'a> {
     /// Plays the runs.
@@ -126,13 +252,18 @@ pub struct Explorer<'a> {
     report: Report,
     /// Plans the next run, and answers its questions.
     trial: Recorder,
+    /// Copies of the machine, as it stood in the run at which the explorer stands.
+    copies: Copies,
+    /// How many commands were played.
+    played: u64,
     /// Where memory comes from.
     alloc: Global,
 }
 
 impl<'a> Model for Explorer<'a> {
     ghost use Rattle.ptb_machine.specs.Play.{play};
-    ghost use Rattle.ptb_explore.specs.Exploring.{Exploration};
+    ghost use Rattle.ptb_explore.specs.Copies.{kept_runs};
+    ghost use Rattle.ptb_explore.specs.Exploring.{Exploration, AreCopiesAt};
     ghost use Rattle.ptb_explore.specs.Plans.{IsPosition, front_at};
 
     ghost Value = { Exploration };
@@ -142,15 +273,19 @@ impl<'a> Model for Explorer<'a> {
       input = e.lines.now;
       limit = e.limit;
       front = front_at e.position e.report.answers.items;
+      kept = kept_runs e.report.answers.items e.copies.kept.items;
+      played = e.played;
     } };
 
     ghost invariant = { λ e. IsPosition (play e.player e.lines.now e.limit) e.position
-        e.report.answers.items e.report.bounds.items };
+        e.report.answers.items e.report.bounds.items
+        × AreCopiesAt e.player e.lines.now e.limit e.position e.report e.copies.kept.items };
 }
 
 impl<'a> Explorer<'a> {
     ghost use Rattle.std.specs.Borrow.{sem};
     ghost use Rattle.ptb_explore.specs.Lending.{NextRests};
+    ghost use Rattle.ptb_explore.specs.Exploring.{AreKeptAt};
 
     /// An explorer before the first run of a program with these input lines. Each run may begin
     /// `limit` commands.
@@ -169,6 +304,8 @@ impl<'a> Explorer<'a> {
           input = lines.now;
           limit = limit;
           front = Start;
+          kept = [];
+          played = 0;
         }) }
 
         // Laws of the definitions.
@@ -184,6 +321,8 @@ impl<'a> Explorer<'a> {
             position: Position::AtStart,
             report: Report::new(alloc),
             trial: Recorder::new(alloc),
+            copies: Copies::new(),
+            played: 0,
             alloc,
         })
     }
@@ -206,8 +345,13 @@ impl<'a> Explorer<'a> {
           input = lines.now;
           limit = limit;
           front = At answers.now;
+          kept = e.kept;
+          played = e.played;
         }) }
         ensures run { OnOk result (IsRun (play program.now lines.now limit) answers.now) }
+        ensures kept { IfOk result (λ e. AreBeginnings 0 answers.now e.kept) }
+        ensures played { IfOk result (λ e.
+            IsPlayed (play program.now lines.now limit) answers.now e.played) }
         ensures not_a_run { IsErrOf result AfterFault.NotARun
             → IsRun (play program.now lines.now limit) answers.now → ⊥ }
 
@@ -219,8 +363,21 @@ impl<'a> Explorer<'a> {
         let mut trial = Recorder::new(alloc);
         trial.replay(answers)?;
         let mut player = Player::new(alloc, program)?;
-        check_run(alloc, &mut player, lines, limit, &mut trial)?;
+        let mut screen = TextScreen::new(alloc);
+        let mut copies = Copies::new();
+        let mut played = 0;
+        check_run(
+            alloc,
+            &mut player,
+            lines,
+            limit,
+            &mut trial,
+            &mut screen,
+            &mut copies,
+            &mut played,
+        )?;
         let mut run = Report::new(alloc);
+        run.transcript = screen.into_vec();
         trial.hand_over(&mut run.answers, &mut run.bounds);
         Ok(Explorer {
             player,
@@ -229,6 +386,8 @@ impl<'a> Explorer<'a> {
             position: Position::AtRun,
             report: run,
             trial,
+            copies,
+            played,
             alloc,
         })
     }
@@ -238,8 +397,8 @@ impl<'a> Explorer<'a> {
     ///
     /// # Errors
     ///
-    /// Where a growth was refused memory. Its place is unchanged then, and a further call looks for
-    /// that run once more.
+    /// Where a growth was refused memory. Its place is unchanged then, no copy of the machine is kept,
+    /// and a further call looks for that run once more.
     pub fn next(&mut self) -> Result<Option<&Report>, AllocError>
         ensures report { IfOk result (λ o. IfSome o (λ r. Reports (play_of self.old) r.now)) }
         ensures next { IfOk result (λ o. IfSome o (λ r.
@@ -259,13 +418,43 @@ impl<'a> Explorer<'a> {
             self.position,
             &mut self.trial,
             &mut self.report,
-        )?;
-        if found {
-            self.position = Position::AtRun;
-            Ok(Some(&self.report))
-        } else {
-            self.position = Position::AtEnd;
-            Ok(None)
+            &mut self.copies,
+            &mut self.played,
+        );
+        match found {
+            Ok(true) => {
+                self.position = Position::AtRun;
+                Ok(Some(&self.report))
+            }
+            Ok(false) => {
+                self.copies.clear();
+                self.position = Position::AtEnd;
+                Ok(None)
+            }
+            Err(fault) => {
+                self.copies.clear();
+                Err(fault)
+            }
         }
     }
+
+    /// The number of copies of the machine that are kept now, at most 64. They are of the run at which
+    /// the explorer stands; there are none where it stands at no run.
+    pub fn kept(&self) -> usize
+        ensures number { result ≡ length self.now.kept }
+        ensures most { result ≤ 64 }
+        ensures front { AreKeptAt self.now.front self.now.kept }
+    {
+        self.copies.kept.len()
+    }
+
+    /// How many commands were played, in all runs so far; `u64::MAX` where there were more.
+    pub fn played(&self) -> u64
+        ensures { result ≡ self.now.played }
+    {
+        self.played
+    }
 }
+
+#[cfg(test)]
+mod tests;

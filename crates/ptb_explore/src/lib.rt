@@ -6,6 +6,7 @@
 //! reports of the runs that are left), and on `program_laws`.
 #![tactic(auto)]
 
+mod copies;
 mod explorer;
 mod fault;
 mod laws;

@@ -15,7 +15,11 @@ use ptb_text::Write;
 
 // Writes the report of the next run, and says whether there is one.
 fn write_next<W: Write>(explorer: &mut Explorer, writer: &mut W) -> Result<bool, NextFault>
-    ensures same { explorer.new ≡ record explorer.old { front = explorer.new.front } }
+    ensures same { explorer.new ≡ record explorer.old {
+      front = explorer.new.front;
+      kept = explorer.new.kept;
+      played = explorer.new.played;
+    } }
     ensures writes { NextWrites (play_of explorer.old) (report (play_of explorer.old))
         explorer.old.front explorer.new.front
         (W.contents writer.old) (W.contents writer.new) result }
@@ -65,7 +69,11 @@ pub fn write_all_runs<W: Write>(
     first: Option<u64>,
     writer: &mut W,
 ) -> Result<u64, ExploreFault>
-    ensures same { explorer.new ≡ record explorer.old { front = explorer.new.front } }
+    ensures same { explorer.new ≡ record explorer.old {
+      front = explorer.new.front;
+      kept = explorer.new.kept;
+      played = explorer.new.played;
+    } }
     ensures writes { WritesRuns (play_of explorer.old) (report (play_of explorer.old))
         (runs_left (play_of explorer.old) (most_of explorer.old) explorer.old.front first)
         explorer.old.front explorer.new.front

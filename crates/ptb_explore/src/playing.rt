@@ -1,64 +1,63 @@
 // This file plays a program with the answers of a plan.
 
-ghost use Rattle.std.specs.Prelude.{◌≡◌, [], IfOk, OnOk};
+ghost use Rattle.std.specs.Prelude.{◌≡◌, ◌≤◌, false, length, drop, IfOk, OnOk};
 ghost use Rattle.ptb_machine.specs.Play.{play};
-ghost use Rattle.ptb_explore.specs.Playing.{PlayEnds};
+ghost use Rattle.ptb_explore.specs.Copies.{AreCopies};
+ghost use Rattle.ptb_explore.specs.Playing.{PlayEnds, IsRunPrefix};
 ghost use Rattle.ptb_explore.specs.Recording.{choices_of};
 
+use crate::copies::Copies;
 use crate::recorder::Recorder;
-use ptb_machine::{Ending, Line, Lines, Player, RunFault, TextScreen, run_laws};
+use ptb_machine::{Ending, Lines, Machine, Player, RunFault, TextScreen, run_laws};
 use std::alloc::{AllocError, Global};
 
-/// What came of a run, besides what it showed.
-#[derive(Clone, Copy, Debug, PartialEq, Eq)]
-pub(crate) struct Played {
-    /// How the run ended.
-    pub(crate) ending: Ending,
-    /// How many commands it began.
-    pub(crate) steps: u32,
-}
-
-/// Plays a run of the player's program from its beginning: with the answers of the plan, and 1 to
-/// each question behind them.
+/// Plays a run of the player's program on from where it stands: with the answers of the plan, and 1
+/// to each question behind them. Copies of the machine are kept where answers were taken.
 ///
 /// The ending is `BadAnswer` where an answer of the plan is outside its bound. It is never
 /// `NoAnswer`.
 ///
 /// # Errors
 ///
-/// Where a growth was refused memory.
-pub(crate) fn play_plan(
+/// Where a growth was refused memory, but for that of a copy, which isn't kept then.
+pub(crate) fn play_on(
     alloc: Global,
     player: &mut Player,
-    lines: &[Line],
     limit: u32,
+    machine: &mut Machine,
     trial: &mut Recorder,
     screen: &mut TextScreen,
-) -> Result<Played, AllocError>
-    requires fresh { trial.old.bounds.items ≡ [] }
-    requires shown { screen.old ≡ [] }
+    source: &mut Lines,
+    copies: &mut Copies,
+) -> Result<Ending, AllocError>
+    requires unspent { machine.old.spent ≡ false }
+    requires within { source.old.taken ≤ length source.old.lines }
+    requires run_prefix { IsRunPrefix player.old source.old.lines limit (choices_of trial.old)
+        screen.old (drop source.old.taken source.old.lines) machine.old }
+    requires copies { AreCopies player.old source.old.lines limit (choices_of trial.old).taken
+        screen.old copies.old.kept.items }
     ensures program { player.new ≡ player.old }
     ensures plan { OnOk result ((choices_of trial.new).plan ≡ (choices_of trial.old).plan) }
-    ensures ends { IfOk result (λ f. PlayEnds (play player.old lines.now limit)
-        (choices_of trial.new) f.steps screen.new f.ending) }
+    ensures ends { IfOk result (PlayEnds (play player.old source.old.lines limit)
+        (choices_of trial.new) machine.new.steps screen.new) }
+    ensures copies { OnOk result (AreCopies player.old source.old.lines limit
+        (choices_of trial.new).taken screen.new copies.new.kept.items) }
 {
     run_laws();
-    let mut machine = player.machine(alloc)?;
-    let mut source = Lines::new(lines);
     loop {
-        match player.step(&mut machine, limit, trial, screen, &mut source) {
+        let before = trial.bounds.len();
+        match player.step(machine, limit, trial, screen, source) {
             Ok(None) => {}
-            Ok(Some(ending)) => {
-                return Ok(Played {
-                    ending,
-                    steps: machine.steps(),
-                });
-            }
+            Ok(Some(ending)) => return Ok(ending),
             Err(RunFault::Memory) => return Err(AllocError),
             // Bytes and lines are in memory, and the run isn't over.
             Err(RunFault::Read) => unreachable!(),
             Err(RunFault::Write) => unreachable!(),
             Err(RunFault::Spent) => unreachable!(),
         }
+        let taken = trial.bounds.len();
+        let shown = screen.len();
+        let lines = source.taken();
+        copies.keep(alloc, machine, before, taken, shown, lines);
     }
 }

@@ -75,6 +75,22 @@ impl Recorder {
         Ok(())
     }
 
+    /// Counts the first answers of its plan as given, with these bounds.
+    ///
+    /// # Errors
+    ///
+    /// Where the bounds are refused memory.
+    pub(crate) fn skip(&mut self, bounds: &[i16]) -> Result<(), AllocError>
+        requires fresh { self.old.bounds.items ≡ [] }
+        requires planned { self.old.planned ≡ vec_len self.old.answers }
+        requires within { length bounds.now ≤ vec_len self.old.answers }
+        ensures answers { self.new.answers.items ≡ self.old.answers.items }
+        ensures planned { self.new.planned ≡ self.old.planned }
+        ensures bounds { OnOk result (self.new.bounds.items ≡ bounds.now) }
+    {
+        self.bounds.extend_from_slice(bounds)
+    }
+
     /// Gives its answers and bounds away, and keeps nothing.
     pub(crate) fn hand_over(&mut self, answers: &mut Vec<i16>, bounds: &mut Vec<i16>)
         ensures answers { answers.new.items ≡ self.old.answers.items }

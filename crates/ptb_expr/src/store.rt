@@ -1,6 +1,6 @@
 // This file has the values of the variables A to Z and of the array @, and what names one of them.
 
-ghost use Rattle.std.specs.Prelude.{◌≡◌, ℕ, ℤ, pos, ◌≤ℤ◌, IfOk};
+ghost use Rattle.std.specs.Prelude.{◌≡◌, ℕ, ℤ, pos, ◌≤ℤ◌, IfOk, IsOk, OnOk, OnErr};
 ghost use Rattle.ptb_expr.specs.Store.{value_at, with_value, index_of, element_of, with_element};
 ghost use Rattle.ptb_expr.specs.Store.{empty_cells};
 
@@ -55,6 +55,41 @@ impl Store {
             values: [0; 26],
             elements,
         })
+    }
+
+    /// A store with the same values.
+    ///
+    /// # Errors
+    ///
+    /// Where the array is refused memory.
+    pub fn copy(&self, alloc: Global) -> Result<Store, AllocError>
+        ensures { IfOk result (λ s. s ≡ self.now) }
+    {
+        Ok(Store {
+            size: self.size,
+            values: self.values,
+            elements: Vec::from_slice(alloc, &self.elements)?,
+        })
+    }
+
+    /// Takes the values of another store in place of its own. It takes no memory where both have the
+    /// same SIZE.
+    ///
+    /// # Errors
+    ///
+    /// Where the array is refused memory. Its values stay then.
+    pub fn copy_from(&mut self, alloc: Global, other: &Store) -> Result<(), AllocError>
+        ensures ok { OnOk result (self.new ≡ other.now) }
+        ensures same_size { self.old.size ≡ other.now.size → IsOk result }
+        ensures err { OnErr result (self.new ≡ self.old) }
+    {
+        if self.size != other.size {
+            *self = other.copy(alloc)?;
+            return Ok(());
+        }
+        self.values = other.values;
+        self.elements.copy_from_slice(&other.elements);
+        Ok(())
     }
 
     /// SIZE.

@@ -230,6 +230,29 @@ fn refused_array(rt: HostRuntime) {
     }
 }
 
+// Passes whichever of its allocations is refused: what a store held is then as it was.
+#[test]
+fn copied_values(rt: HostRuntime) {
+    let Ok(mut store) = Store::new(rt.alloc(), 5) else {
+        return;
+    };
+    store.set(letter(b'B'), 7);
+    store.set_element(2, 12);
+    if let Ok(copy) = store.copy(rt.alloc()) {
+        store.set(letter(b'B'), 8);
+        assert!(rt; worth(&copy, b"B+@(2)+S.", &[]) == (Ok((24, 9)), 0));
+        assert_eq!(rt; store.copy_from(rt.alloc(), &copy), Ok(()));
+        assert_eq!(rt; store.get(letter(b'B')), 7);
+    }
+    if let Ok(mut other) = Store::new(rt.alloc(), 9) {
+        let want = match other.copy_from(rt.alloc(), &store) {
+            Ok(()) => Ok((24, 9)),
+            Err(AllocError) => Ok((9, 9)),
+        };
+        assert!(rt; worth(&other, b"B+@(2)+S.", &[]) == (want, 0));
+    }
+}
+
 // Gives the answers of a list, and keeps the bounds.
 #[derive(Drop)]
 struct Kept<'a> {

@@ -17,7 +17,7 @@ use Rattle.ptb_command.specs.Commands.{Part, Assign, Say, Width, Show, NewLine, 
 use Rattle.ptb_command.specs.State.{State, Place, Loop, Call, first_state, text_of, next_command}
 use Rattle.ptb_command.specs.Actions.{Halt, Faults, Ends, Progress, Goes, Halts, Action, on_progress, and_then, goes_on, halt, change, show, attempt, or_halt, work_action}
 use Rattle.ptb_command.specs.Act.{newline, fails, is_full, if_room, goto_action, gosub_action, return_action, without_loop, with_loop, with_call, for_action, loops_from, next_action, finish, end_of, letter_of, first_width, command_action, StepResult, Next, Over, step_result_of, ending_of, with_step, act, value_action, target_action, store, take_line, ask_for, store_or_again, input_action, parts_action}
-use Rattle.ptb_machine.specs.Play.{act_unless, turn_by, turn, Finish, after_step_result, turns_within, turns, play}
+use Rattle.ptb_machine.specs.Play.{act_unless, turn_by, turn, Last, after_turn, turns_within, all_turns, Finish, finish_of, turns, play}
 use Rattle.ptb_machine.specs.EndingLaws.{IsRunEnding, EndingLaws}
 
 -- ---- how an action halts
@@ -205,25 +205,30 @@ turn_ends : (p : StoredProgram) (limit : ℕ) (S : State) (a : Answers) → Turn
 unfolding turn
 turn_ends p limit S a = turn_by_ends p limit (next_command p.lines S.place) S a
 
-after_ends : (others : State → Answers → Outcome Finish State) → ((S : State) (a : Answers) → HasRunEnding (others S a)) → (o : Outcome StepResult State) → TurnsLikeRun o → HasRunEnding (go_on o (after_step_result others))
+abbrev LastLikeRun : Outcome Last State → Type 0
+LastLikeRun (Done l rest) = IsRunEnding l.ending
+LastLikeRun (Asks n S) = Unit {0}
+LastLikeRun (Out n S) = Unit {0}
+
+after_ends : (others : State → Answers → Outcome Last State) → ((S : State) (a : Answers) → LastLikeRun (others S a)) → (o : Outcome StepResult State) → TurnsLikeRun o → LastLikeRun (go_on o (after_turn others))
 after_ends others each (Done (Next S) rest) c = each S rest
 after_ends others each (Done (Over ending S) rest) c = c
 after_ends others each (Asks n S) c = tt
 after_ends others each (Out n S) c = tt
 
-within_ends : (n : ℕ) (p : StoredProgram) (limit : ℕ) (S : State) (a : Answers) → HasRunEnding (turns_within n p limit S a)
+within_ends : (n : ℕ) (p : StoredProgram) (limit : ℕ) (S : State) (a : Answers) → LastLikeRun (turns_within n p limit S a)
 unfolding turns_within
 within_ends zero p limit S a = tt
 within_ends (suc n) p limit S a = after_ends (turns_within n p limit) (within_ends n p limit) (turn p limit S a) (turn_ends p limit S a)
 
-shown_ends : (o : Outcome Finish State) → HasRunEnding o → HasRunEnding (map_outcome (λ f. f) (λ S. S.shown) o)
-shown_ends (Done f rest) c = c
-shown_ends (Asks n S) c = tt
-shown_ends (Out n S) c = tt
+told_ends : (o : Outcome Last State) → LastLikeRun o → HasRunEnding (map_outcome (λ f. f) (λ (S : State). S.shown) (map_outcome finish_of (λ (S : State). S) o))
+told_ends (Done l rest) c = c
+told_ends (Asks n S) c = tt
+told_ends (Out n S) c = tt
 
 play_ends : (p : StoredProgram) (input : List (List ℕ)) (limit : ℕ) (a : Answers) → HasRunEnding (play p input limit a)
-unfolding play turns
-play_ends p input limit a = shown_ends (turns p limit (first_state p input) a) (within_ends _ p limit (first_state p input) a)
+unfolding play turns all_turns
+play_ends p input limit a = told_ends (all_turns p limit (first_state p input) a) (within_ends _ p limit (first_state p input) a)
 
 pub ending_laws : EndingLaws
 ending_laws = record { ends = λ p input limit a rest f e. subst HasRunEnding e (play_ends p input limit a) }

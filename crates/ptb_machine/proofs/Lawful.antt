@@ -2,7 +2,7 @@
 use Rattle.std.proofs.Common.{arith}
 use Rattle.ptb_expr.specs.Laws.{ValueLaws}
 use Rattle.ptb_command.proofs.Effects.{input_part, parts_part, finish_end, command_change, act_keeps}
-use Rattle.ptb_machine.proofs.Turns.{enough_turns, turn_change, turn_goes, turns_by_turn, turns_shown, turns_steps}
+use Rattle.ptb_machine.proofs.Turns.{enough_turns, turn_change, turn_goes, all_by_turn, all_change, turns_by_turn, turns_shown, turns_steps}
 use Rattle.ptb_machine.proofs.PlayReads.{turns_read, play_reader}
 use Rattle.ptb_machine.specs.Laws.{EffectLaws, RunLaws}
 
@@ -15,6 +15,7 @@ effect_laws = record {
   step = act_keeps;
   turn = turn_change;
   run = turns_shown;
+  all_turns = all_change;
   first = λ p input. omega arith;
 }
 
@@ -22,6 +23,7 @@ pub run_laws : ValueLaws → RunLaws
 run_laws values = record {
   one_step = turn_goes;
   by_turn = turns_by_turn;
+  last_by_turn = all_by_turn;
   enough_turns = enough_turns;
   within_limit = turns_steps;
   reads = play_reader values;

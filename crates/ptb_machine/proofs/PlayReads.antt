@@ -13,7 +13,7 @@ use Rattle.ptb_command.specs.State.{Place, State, first_state, text_of, next_com
 use Rattle.ptb_command.specs.Actions.{Faults, Ends, Progress, Goes, Halts}
 use Rattle.ptb_command.specs.Act.{finish, end_of, letter_of, first_width, command_action, StepResult, Next, Over, step_result_of, with_step, act, parts_action}
 use Rattle.ptb_machine.specs.Questions.{command_questions, line_questions, most_answers, answers_left}
-use Rattle.ptb_machine.specs.Play.{Finish, act_unless, turn_by, turn, after_step_result, turns_within, turns, play}
+use Rattle.ptb_machine.specs.Play.{Last, act_unless, turn_by, turn, after_turn, turns_within, all_turns, finish_of, turns, play}
 use Rattle.ptb_command.specs.Effects.{act_state, CommandChange}
 use Rattle.ptb_command.proofs.Effects.{act_keeps}
 use Rattle.ptb_machine.proofs.Budgets.{Budget, wider_budget, done_budget, map_budget}
@@ -104,7 +104,7 @@ module _ (values : ValueLaws) where
 
     -- ---- runs
 
-    step_result_reader : (others : State → Answers → Outcome Finish State) → ((T : State) → IsReader (others T) (cost_of T)) → (d : StepResult) → IsReader (after_step_result others d) (left_after cost_of d)
+    step_result_reader : (others : State → Answers → Outcome Last State) → ((T : State) → IsReader (others T) (cost_of T)) → (d : StepResult) → IsReader (after_turn others d) (left_after cost_of d)
     unfolding left_after
     step_result_reader others each (Next T) = each T
     step_result_reader others each (Over ending T) = done_reader _ _
@@ -114,12 +114,13 @@ module _ (values : ValueLaws) where
     within_reader zero S = done_reader _ _
     within_reader (suc n) S =
         let b = turn_budget S in
-        then_reader_by (turn p limit S) (after_step_result (turns_within n p limit)) (cost_of S) (cost_of S) (left_after cost_of) b.reads (omega arith) b.pays
+        then_reader_by (turn p limit S) (after_turn (turns_within n p limit)) (cost_of S) (cost_of S) (left_after cost_of) b.reads (omega arith) b.pays
         (step_result_reader (turns_within n p limit) (λ T. within_reader n T))
 
     turns_reader : (S : State) → IsReader (turns p limit S) (cost_of S)
-    unfolding turns
-    turns_reader S = within_reader (suc (limit - S.steps)) S
+    unfolding turns all_turns
+    turns_reader S =
+        map_reader (map_outcome finish_of (λ (T : State). T)) finish_of (λ T. T) (λ x rest. refl) (λ n v. refl) (λ n v. refl) (all_turns p limit S) _ (within_reader (suc (limit - S.steps)) S)
 
   pub turns_read : (p : StoredProgram) (limit : ℕ) (S : State) → IsReader (turns p limit S) (answers_left p limit S)
   unfolding cost_of turns_cost later lines_cost program_rnds

@@ -1,11 +1,16 @@
 -- This file proves which results a step can have.
-use Rattle.std.proofs.Common.{◌≡◌, ◌↔◌, ◌∙◌, ℕ, Bool, true, false, List, Option, Some, None, Result, Ok, Err, is_err, refl, sym, ap, subst}
+use Rattle.std.proofs.Common.{◌≡◌, ◌↔◌, ◌∙◌, ℕ, Bool, true, false, List, Option, Some, None, Result, Ok, Err, is_err, inl, inr, refl, sym, ap, subst}
+use Rattle.std.specs.Result.{IsErrAnd}
+use Rattle.std.proofs.lemmas.Result.{err_from_is_err_and}
 use Rattle.ptb_expr.specs.declared.fault.Fault.{Fault}
 use Rattle.ptb_expr.specs.declared.fault.FaultKind.{FaultKind}
+use Rattle.ptb_expr.specs.declared.fault.FaultKind.TheVariants as kinds
 use Rattle.ptb_expr.specs.declared.pause.Pause.TheVariants as pauses
 use Rattle.ptb_command.specs.declared.ending.Ending.{Ending}
+use Rattle.ptb_command.specs.declared.ending.Ending.TheVariants as endings
 use Rattle.ptb_machine.specs.declared.fault.RunFault.{RunFault}
 use Rattle.ptb_machine.specs.declared.fault.RunFault.TheVariants as faults
+use Rattle.ptb_devices.specs.declared.fault.ReadFault.{ReadFault}
 use Rattle.ptb_devices.specs.declared.fault.ScreenFault.{ScreenFault}
 use Rattle.ptb_devices.specs.declared.fault.ScreenFault.TheVariants as screens
 use Rattle.ptb_command.specs.declared.stop.DeviceError.{DeviceError}
@@ -15,7 +20,9 @@ use Rattle.ptb_command.specs.declared.stop.Stop.TheVariants as stops
 use Rattle.ptb_command.specs.Act.{report_bytes}
 use Rattle.ptb_command.specs.Traces.{Trace}
 use Rattle.ptb_command.specs.Reports.{IsShown}
-use Rattle.ptb_machine.specs.Steps.{fault_of, reported, IsResultOf}
+use Rattle.ptb_command.specs.Stops.{UnlessStopMissed, UnlessMissed}
+use Rattle.ptb_machine.specs.Steps.{fault_of, reported, IsResultOf, UnlessEndingMissed, UnlessFaultMissed, UnlessStepMissed}
+use Rattle.ptb_machine.specs.Runs.{UnlessRunMissed}
 
 -- a fault that was reported, or not
 pub result_reported : (o n : Trace) (number : ℕ) (text : List ℕ) (f : Fault) (done : Result (Unit {0}) Stop) (r : Result (Option Ending) RunFault) (shown : Result (Unit {0}) ScreenFault) → done ≡ Err (stops.Fault f) → r ≡ reported f.kind shown → IsShown o n (report_bytes o.fresh number text f) shown → IsResultOf o n number text done r
@@ -89,7 +96,68 @@ result_unspent o n number text done r is e =
     let k : true ≡ false = sym (ap is_spent e) ∙ not_spent o n number text done r is in
     absurd cc
 
+-- ---- lines that the source didn't give
+
+reported_unmissed : (refused : ReadFault → Type 0) (P : Type 0) → P → (kind : FaultKind) (shown : Result (Unit {0}) ScreenFault) → UnlessStepMissed refused P (reported kind shown)
+reported_unmissed refused P p kinds.What (Ok x) = p
+reported_unmissed refused P p kinds.How (Ok x) = p
+reported_unmissed refused P p kinds.Sorry (Ok x) = p
+reported_unmissed refused P p kind (Err screens.Memory) = inl p
+reported_unmissed refused P p kind (Err screens.Write) = p
+
+error_missed : (refused : ReadFault → Type 0) (P : Type 0) (e : DeviceError) → UnlessStopMissed refused P (stops.Broke e) → UnlessFaultMissed refused P (fault_of e)
+error_missed refused P errors.Memory h = h
+error_missed refused P errors.Read h = tt
+error_missed refused P errors.Write h = h
+
+pub result_missed : (refused : ReadFault → Type 0) (P : Type 0) (o n : Trace) (number : ℕ) (text : List ℕ) (done : Result (Unit {0}) Stop) (r : Result (Option Ending) RunFault) → IsResultOf o n number text done r → UnlessMissed refused P done → UnlessStepMissed refused P r
+result_missed refused P o n number text done r is h = by_result done is h
+  where
+    is_so : (x : Result (Option Ending) RunFault) → r ≡ x → UnlessStepMissed refused P x → UnlessStepMissed refused P r
+    is_so x e u = subst (λ (y : Result (Option Ending) RunFault). UnlessStepMissed refused P y) (sym e) u
+
+    by_result : (done : Result (Unit {0}) Stop) → IsResultOf o n number text done r → UnlessMissed refused P done → UnlessStepMissed refused P r
+    by_result (Ok x) is h = is_so _ is.is h
+    by_result (Err (stops.Fault f)) is h = is_so _ is.is (reported_unmissed refused P h f.kind is.shown)
+    by_result (Err stops.Ended) is h = is_so _ is.is h
+    by_result (Err stops.NoInput) is h = is_so _ is.is tt
+    by_result (Err (stops.Pause pauses.Ended)) is h = is_so _ is.is h
+    by_result (Err (stops.Pause (pauses.OutOfRange k))) is h = is_so _ is.is h
+    by_result (Err (stops.Pause pauses.Memory)) is h = is_so _ is.is (inl h)
+    by_result (Err (stops.Broke x)) is h = is_so _ is.is (error_missed refused P x h)
+
+-- at the exits of a run
+pub run_missed_err : (refused : ReadFault → Type 0) (P : Type 0) (r : Result Ending RunFault) (e : RunFault) → IsErrAnd r (λ y. y ≡ e) → UnlessFaultMissed refused P e → UnlessRunMissed refused P r
+run_missed_err refused P r e k h =
+    let q = err_from_is_err_and r k in
+    subst (λ (x : Result Ending RunFault). UnlessRunMissed refused P x) (sym (q.1 ∙ ap Err q.2)) h
+
+pub fault_missed_from : (refused : ReadFault → Type 0) (P Q : Type 0) → (P → Q) → (e : RunFault) → UnlessFaultMissed refused P e → UnlessFaultMissed refused Q e
+fault_missed_from refused P Q follows faults.Memory h = elim h [ inl p ↦ inl (follows p) | inr r ↦ inr r ]
+fault_missed_from refused P Q follows faults.Read h = tt
+fault_missed_from refused P Q follows faults.Write h = follows h
+fault_missed_from refused P Q follows faults.Spent h = follows h
+
+pub ending_missed_from : (P Q : Type 0) → (P → Q) → (e : Ending) → UnlessEndingMissed P e → UnlessEndingMissed Q e
+ending_missed_from P Q follows endings.End h = follows h
+ending_missed_from P Q follows endings.Stop h = follows h
+ending_missed_from P Q follows endings.What h = follows h
+ending_missed_from P Q follows endings.How h = follows h
+ending_missed_from P Q follows endings.Sorry h = follows h
+ending_missed_from P Q follows endings.Limit h = follows h
+ending_missed_from P Q follows endings.NoInput h = tt
+ending_missed_from P Q follows endings.NoAnswer h = follows h
+ending_missed_from P Q follows endings.BadAnswer h = follows h
+
+-- a step that gave this result
+pub step_missed_at : (refused : ReadFault → Type 0) (P : Type 0) (x y : Option Ending) → x ≡ y → UnlessStepMissed refused P (Ok x) → UnlessStepMissed refused P (Ok y)
+step_missed_at refused P x y e h = subst (λ (z : Option Ending). UnlessStepMissed refused P (Ok z)) e h
+
 -- ---- devices
+
+-- what holds of a source that is the same
+pub at_source : {L : Type 0} (P : L → Type 0) {x : L} (l : L) → x ≡ l → P l → P x
+at_source P l e p = subst P (sym e) p
 
 -- what holds of devices that are the same
 pub at_devices : {C S L : Type 0} (P : C → S → L → Type 0) {x : C} {y : S} {z : L} (c : C) (s : S) (l : L) → x ≡ c → y ≡ s → z ≡ l → P c s l → P x y z

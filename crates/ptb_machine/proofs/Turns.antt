@@ -1,23 +1,23 @@
 -- This file proves what a turn and a run may change, and that a run is one turn and then the turns after it.
-use Rattle.std.proofs.Common.{◌≡◌, ℕ, zero, suc, ◌+◌, ◌-◌, ◌<◌, ◌≤◌, Bool, true, false, leb, Option, Some, None, refl, subst, arith}
+use Rattle.std.proofs.Common.{◌≡◌, ℕ, zero, suc, ◌+◌, ◌-◌, ◌<◌, ◌≤◌, Bool, true, false, leb, Option, Some, None, refl, sym, ap, subst, ◌∙◌, arith}
 use Rattle.std.proofs.lemmas.Bool.{leb-false}
 use Rattle.ptb_text.specs.Statements.{StoredProgram}
-use Rattle.ptb_expr.specs.Outcome.{Answers, Outcome, Done, Asks, Out, go_on}
+use Rattle.ptb_expr.specs.Outcome.{Answers, Outcome, Done, Asks, Out, go_on, map_outcome}
 use Rattle.ptb_command.specs.Commands.{Command}
 use Rattle.ptb_command.specs.State.{Place, State, next_command}
 use Rattle.ptb_command.specs.Act.{StepResult, Next, Over, with_step}
-use Rattle.ptb_machine.specs.Play.{Finish, act_unless, turn_by, turn, after_step_result, turns_within, turns}
+use Rattle.ptb_machine.specs.Play.{Last, act_unless, turn_by, turn, after_turn, turns_within, all_turns, last_state, finish_of, after_step_result, turns}
 use Rattle.ptb_command.specs.Effects.{act_state, Begins, CommandChange}
 use Rattle.ptb_machine.specs.RunEffects.{run_shown, run_steps, TurnChange}
-use Rattle.ptb_command.proofs.Effects.{begins_itself, begins_joined, act_keeps}
+use Rattle.ptb_command.proofs.Effects.{begins_itself, begins_joined, takes_itself, takes_joined, act_keeps}
 
 -- ---- one turn
 
 turn_itself : (limit : ℕ) (S : State) → TurnChange limit S S
-turn_itself limit S = record { shown = begins_itself S.shown; nested = λ h. h; steps = λ h. h }
+turn_itself limit S = record { shown = begins_itself S.shown; lines = takes_itself S.lines; nested = λ h. h; steps = λ h. h }
 
 of_command : (limit : ℕ) (S T : State) → S.steps < limit → CommandChange (with_step S) T → TurnChange limit S T
-of_command limit S T l c = record { shown = c.shown; nested = c.nested; steps = λ h. omega (arith, c.steps) }
+of_command limit S T l c = record { shown = c.shown; lines = c.lines; nested = c.nested; steps = λ h. omega (arith, c.steps) }
 
 unless_change : (p : StoredProgram) (limit : ℕ) (r : Place × Command) (S : State) (a : Answers) (b : Bool) → leb limit S.steps ≡ b → TurnChange limit S (act_state (act_unless p r b S a))
 unless_change p limit r S a true h = turn_itself limit S
@@ -48,7 +48,7 @@ turn_goes p limit S T a rest e = by_goes p limit (next_command p.lines S.place) 
 -- ---- runs
 
 -- two ways to go on agree after a turn if they agree where it goes on
-go_on_same : (f g : State → Answers → Outcome Finish State) (o : Outcome StepResult State) → ((T : State) (rest : Answers) → o ≡ Done (Next T) rest → f T rest ≡ g T rest) → go_on o (after_step_result f) ≡ go_on o (after_step_result g)
+go_on_same : (f g : State → Answers → Outcome Last State) (o : Outcome StepResult State) → ((T : State) (rest : Answers) → o ≡ Done (Next T) rest → f T rest ≡ g T rest) → go_on o (after_turn f) ≡ go_on o (after_turn g)
 go_on_same f g (Done (Next T) rest) same = same T rest refl
 go_on_same f g (Done (Over ending T) rest) same = refl
 go_on_same f g (Asks n T) same = refl
@@ -63,45 +63,67 @@ turns_within_same (suc n) (suc m) p limit S a h k =
     go_on_same (turns_within n p limit) (turns_within m p limit) (turn p limit S a)
     (λ T rest e. let g = turn_goes p limit S T a rest e in turns_within_same n m p limit T rest (omega (arith, g.0, g.1)) (omega (arith, g.0, g.1)))
 
-pub enough_turns : (n : ℕ) (p : StoredProgram) (limit : ℕ) (S : State) (a : Answers) → limit - S.steps < n → turns_within n p limit S a ≡ turns p limit S a
-unfolding turns
+pub enough_turns : (n : ℕ) (p : StoredProgram) (limit : ℕ) (S : State) (a : Answers) → limit - S.steps < n → turns_within n p limit S a ≡ all_turns p limit S a
+unfolding all_turns
 enough_turns n p limit S a h = turns_within_same n (suc (limit - S.steps)) p limit S a h (omega arith)
 
 -- a run is one turn, and then the turns after it
-pub turns_by_turn : (p : StoredProgram) (limit : ℕ) (S : State) (a : Answers) → turns p limit S a ≡ go_on (turn p limit S a) (after_step_result (turns p limit))
-unfolding turns turns_within
-turns_by_turn p limit S a =
-    go_on_same (turns_within (limit - S.steps) p limit) (turns p limit) (turn p limit S a)
+pub all_by_turn : (p : StoredProgram) (limit : ℕ) (S : State) (a : Answers) → all_turns p limit S a ≡ go_on (turn p limit S a) (after_turn (all_turns p limit))
+unfolding all_turns turns_within
+all_by_turn p limit S a =
+    go_on_same (turns_within (limit - S.steps) p limit) (all_turns p limit) (turn p limit S a)
     (λ T rest e. let g = turn_goes p limit S T a rest e in turns_within_same (limit - S.steps) (suc (limit - T.steps)) p limit T rest (omega (arith, g.0, g.1)) (omega arith))
 
--- what is shown only grows
-after_shown : (f : State → Answers → Outcome Finish State) (limit : ℕ) (S : State) (o : Outcome StepResult State) → TurnChange limit S (act_state o) → ((T : State) (rest : Answers) → Begins T.shown (run_shown (f T rest))) → Begins S.shown (run_shown (go_on o (after_step_result f)))
-after_shown f limit S (Done (Next T) rest) c others = begins_joined S.shown T.shown _ c.shown (others T rest)
-after_shown f limit S (Done (Over ending T) rest) c others = c.shown
-after_shown f limit S (Asks n T) c others = c.shown
-after_shown f limit S (Out n T) c others = c.shown
+-- the same as it is told
+told_after : (p : StoredProgram) (limit : ℕ) (o : Outcome StepResult State) → map_outcome finish_of (λ (T : State). T) (go_on o (after_turn (all_turns p limit))) ≡ go_on o (after_step_result (turns p limit))
+unfolding turns
+told_after p limit (Done (Next T) rest) = refl
+told_after p limit (Done (Over ending T) rest) = refl
+told_after p limit (Asks n T) = refl
+told_after p limit (Out n T) = refl
 
-within_shown : (n : ℕ) (p : StoredProgram) (limit : ℕ) (S : State) (a : Answers) → Begins S.shown (run_shown (turns_within n p limit S a))
+pub turns_by_turn : (p : StoredProgram) (limit : ℕ) (S : State) (a : Answers) → turns p limit S a ≡ go_on (turn p limit S a) (after_step_result (turns p limit))
+unfolding turns
+turns_by_turn p limit S a = ap (map_outcome finish_of (λ (T : State). T)) (all_by_turn p limit S a) ∙ told_after p limit (turn p limit S a)
+
+-- what is shown only grows, lines are taken, and no more commands are begun than the limit says
+change_joined : (limit : ℕ) (S T U : State) → TurnChange limit S T → TurnChange limit T U → TurnChange limit S U
+change_joined limit S T U c d = record {
+  shown = begins_joined S.shown T.shown U.shown c.shown d.shown;
+  lines = takes_joined S.lines T.lines U.lines c.lines d.lines;
+  nested = λ h. d.nested (c.nested h);
+  steps = λ h. d.steps (c.steps h);
+}
+
+pub after_change : (f : State → Answers → Outcome Last State) (limit : ℕ) (S : State) (o : Outcome StepResult State) → TurnChange limit S (act_state o) → ((T : State) (rest : Answers) → TurnChange limit T (last_state (f T rest))) → TurnChange limit S (last_state (go_on o (after_turn f)))
+after_change f limit S (Done (Next T) rest) c others = change_joined limit S T _ c (others T rest)
+after_change f limit S (Done (Over ending T) rest) c others = c
+after_change f limit S (Asks n T) c others = c
+after_change f limit S (Out n T) c others = c
+
+within_change : (n : ℕ) (p : StoredProgram) (limit : ℕ) (S : State) (a : Answers) → TurnChange limit S (last_state (turns_within n p limit S a))
 unfolding turns_within
-within_shown zero p limit S a = begins_itself S.shown
-within_shown (suc n) p limit S a = after_shown (turns_within n p limit) limit S (turn p limit S a) (turn_change p limit S a) (λ T rest. within_shown n p limit T rest)
+within_change zero p limit S a = turn_itself limit S
+within_change (suc n) p limit S a = after_change (turns_within n p limit) limit S (turn p limit S a) (turn_change p limit S a) (λ T rest. within_change n p limit T rest)
+
+pub all_change : (p : StoredProgram) (limit : ℕ) (S : State) (a : Answers) → TurnChange limit S (last_state (all_turns p limit S a))
+unfolding all_turns
+all_change p limit S a = within_change (suc (limit - S.steps)) p limit S a
+
+told_shown : (u : Outcome Last State) → run_shown (map_outcome finish_of (λ (T : State). T) u) ≡ (last_state u).shown
+told_shown (Done l rest) = refl
+told_shown (Asks n T) = refl
+told_shown (Out n T) = refl
+
+told_steps : (u : Outcome Last State) → run_steps (map_outcome finish_of (λ (T : State). T) u) ≡ (last_state u).steps
+told_steps (Done l rest) = refl
+told_steps (Asks n T) = refl
+told_steps (Out n T) = refl
 
 pub turns_shown : (p : StoredProgram) (limit : ℕ) (S : State) (a : Answers) → Begins S.shown (run_shown (turns p limit S a))
 unfolding turns
-turns_shown p limit S a = within_shown (suc (limit - S.steps)) p limit S a
-
--- no more commands are begun than the limit says
-after_steps : (f : State → Answers → Outcome Finish State) (limit : ℕ) (S : State) (o : Outcome StepResult State) → S.steps ≤ limit → TurnChange limit S (act_state o) → ((T : State) (rest : Answers) → T.steps ≤ limit → run_steps (f T rest) ≤ limit) → run_steps (go_on o (after_step_result f)) ≤ limit
-after_steps f limit S (Done (Next T) rest) h c others = others T rest (c.steps h)
-after_steps f limit S (Done (Over ending T) rest) h c others = c.steps h
-after_steps f limit S (Asks n T) h c others = c.steps h
-after_steps f limit S (Out n T) h c others = c.steps h
-
-within_steps : (n : ℕ) (p : StoredProgram) (limit : ℕ) (S : State) (a : Answers) → S.steps ≤ limit → run_steps (turns_within n p limit S a) ≤ limit
-unfolding turns_within
-within_steps zero p limit S a h = h
-within_steps (suc n) p limit S a h = after_steps (turns_within n p limit) limit S (turn p limit S a) h (turn_change p limit S a) (λ T rest k. within_steps n p limit T rest k)
+turns_shown p limit S a = subst (Begins S.shown) (sym (told_shown (all_turns p limit S a))) (all_change p limit S a).shown
 
 pub turns_steps : (p : StoredProgram) (limit : ℕ) (S : State) (a : Answers) → S.steps ≤ limit → run_steps (turns p limit S a) ≤ limit
 unfolding turns
-turns_steps p limit S a h = within_steps (suc (limit - S.steps)) p limit S a h
+turns_steps p limit S a h = subst (λ (n : ℕ). n ≤ limit) (sym (told_steps (all_turns p limit S a))) ((all_change p limit S a).steps h)

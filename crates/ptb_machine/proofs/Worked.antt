@@ -11,11 +11,11 @@ use Rattle.ptb_command.specs.Items.{items_within, items}
 use Rattle.ptb_command.specs.Commands.{assignment, string_at, print_item, print_parts, input_item, step_parts, limit_parts, for_parts, next_parts, parts_of, command_at, command_round, commands_from}
 use Rattle.ptb_command.specs.State.{next_command}
 use Rattle.ptb_command.specs.Act.{input_action, parts_action, finish, command_action, act}
-use Rattle.ptb_machine.specs.Play.{turn, turns_within, turns, play}
+use Rattle.ptb_machine.specs.Play.{turn, turns_within, all_turns, turns, play}
 use Rattle.ptb_machine.specs.Rows.{AnswerRows, PrintRows, InputRows, LoopRows, FaultRows, ArrayRows, LongRows, StepRows}
 
 pub answer_rows : AnswerRows
-unfolding digits after_lines past_blanks spelling_in_front word_at bytes_at letter_at number_at quotation_at answer random_number value target_of product_operator sum_operator comparison more paren variable_or variable plain factor product first_product sum expr_with expr expression variable_tree items_within items assignment string_at print_item print_parts input_item step_parts limit_parts for_parts next_parts parts_of command_at command_round commands_from next_command input_action parts_action finish command_action act turn turns_within turns play
+unfolding digits after_lines past_blanks spelling_in_front word_at bytes_at letter_at number_at quotation_at answer random_number value target_of product_operator sum_operator comparison more paren variable_or variable plain factor product first_product sum expr_with expr expression variable_tree items_within items assignment string_at print_item print_parts input_item step_parts limit_parts for_parts next_parts parts_of command_at command_round commands_from next_command input_action parts_action finish command_action act turn turns_within all_turns turns play
 answer_rows = record {
   answer = refl;
   answer_left = refl;
@@ -28,7 +28,7 @@ answer_rows = record {
 }
 
 pub print_rows : PrintRows
-unfolding digits after_lines past_blanks spelling_in_front word_at bytes_at letter_at number_at quotation_at answer random_number value target_of product_operator sum_operator comparison more paren variable_or variable plain factor product first_product sum expr_with expr expression variable_tree items_within items assignment string_at print_item print_parts input_item step_parts limit_parts for_parts next_parts parts_of command_at command_round commands_from next_command input_action parts_action finish command_action act turn turns_within turns play
+unfolding digits after_lines past_blanks spelling_in_front word_at bytes_at letter_at number_at quotation_at answer random_number value target_of product_operator sum_operator comparison more paren variable_or variable plain factor product first_product sum expr_with expr expression variable_tree items_within items assignment string_at print_item print_parts input_item step_parts limit_parts for_parts next_parts parts_of command_at command_round commands_from next_command input_action parts_action finish command_action act turn turns_within all_turns turns play
 print_rows = record {
   greeting = refl;
   strings = refl;
@@ -53,7 +53,7 @@ print_rows = record {
 }
 
 pub input_rows : InputRows
-unfolding digits after_lines past_blanks spelling_in_front word_at bytes_at letter_at number_at quotation_at answer random_number value target_of product_operator sum_operator comparison more paren variable_or variable plain factor product first_product sum expr_with expr expression variable_tree items_within items assignment string_at print_item print_parts input_item step_parts limit_parts for_parts next_parts parts_of command_at command_round commands_from next_command input_action parts_action finish command_action act turn turns_within turns play
+unfolding digits after_lines past_blanks spelling_in_front word_at bytes_at letter_at number_at quotation_at answer random_number value target_of product_operator sum_operator comparison more paren variable_or variable plain factor product first_product sum expr_with expr expression variable_tree items_within items assignment string_at print_item print_parts input_item step_parts limit_parts for_parts next_parts parts_of command_at command_round commands_from next_command input_action parts_action finish command_action act turn turns_within all_turns turns play
 input_rows = record {
   random_input = refl;
   faulty_input = refl;
@@ -79,7 +79,7 @@ input_rows = record {
 }
 
 pub loop_rows : LoopRows
-unfolding digits after_lines past_blanks spelling_in_front word_at bytes_at letter_at number_at quotation_at answer random_number value target_of product_operator sum_operator comparison more paren variable_or variable plain factor product first_product sum expr_with expr expression variable_tree items_within items assignment string_at print_item print_parts input_item step_parts limit_parts for_parts next_parts parts_of command_at command_round commands_from next_command input_action parts_action finish command_action act turn turns_within turns play
+unfolding digits after_lines past_blanks spelling_in_front word_at bytes_at letter_at number_at quotation_at answer random_number value target_of product_operator sum_operator comparison more paren variable_or variable plain factor product first_product sum expr_with expr expression variable_tree items_within items assignment string_at print_item print_parts input_item step_parts limit_parts for_parts next_parts parts_of command_at command_round commands_from next_command input_action parts_action finish command_action act turn turns_within all_turns turns play
 loop_rows = record {
   loop = refl;
   one_turn = refl;
@@ -110,7 +110,7 @@ loop_rows = record {
 }
 
 pub fault_rows : FaultRows
-unfolding digits after_lines past_blanks spelling_in_front word_at bytes_at letter_at number_at quotation_at answer random_number value target_of product_operator sum_operator comparison more paren variable_or variable plain factor product first_product sum expr_with expr expression variable_tree items_within items assignment string_at print_item print_parts input_item step_parts limit_parts for_parts next_parts parts_of command_at command_round commands_from next_command input_action parts_action finish command_action act turn turns_within turns play
+unfolding digits after_lines past_blanks spelling_in_front word_at bytes_at letter_at number_at quotation_at answer random_number value target_of product_operator sum_operator comparison more paren variable_or variable plain factor product first_product sum expr_with expr expression variable_tree items_within items assignment string_at print_item print_parts input_item step_parts limit_parts for_parts next_parts parts_of command_at command_round commands_from next_command input_action parts_action finish command_action act turn turns_within all_turns turns play
 fault_rows = record {
   misspelt = refl;
   unclosed = refl;
@@ -140,7 +140,7 @@ fault_rows = record {
 }
 
 pub array_rows : ArrayRows
-unfolding digits after_lines past_blanks spelling_in_front word_at bytes_at letter_at number_at quotation_at answer random_number value target_of product_operator sum_operator comparison more paren variable_or variable plain factor product first_product sum expr_with expr expression variable_tree items_within items assignment string_at print_item print_parts input_item step_parts limit_parts for_parts next_parts parts_of command_at command_round commands_from next_command input_action parts_action finish command_action act turn turns_within turns play
+unfolding digits after_lines past_blanks spelling_in_front word_at bytes_at letter_at number_at quotation_at answer random_number value target_of product_operator sum_operator comparison more paren variable_or variable plain factor product first_product sum expr_with expr expression variable_tree items_within items assignment string_at print_item print_parts input_item step_parts limit_parts for_parts next_parts parts_of command_at command_round commands_from next_command input_action parts_action finish command_action act turn turns_within all_turns turns play
 array_rows = record {
   element = refl;
   comparison_stored = refl;
@@ -152,7 +152,7 @@ array_rows = record {
 }
 
 pub long_rows : LongRows
-unfolding digits after_lines past_blanks spelling_in_front word_at bytes_at letter_at number_at quotation_at answer random_number value target_of product_operator sum_operator comparison more paren variable_or variable plain factor product first_product sum expr_with expr expression variable_tree items_within items assignment string_at print_item print_parts input_item step_parts limit_parts for_parts next_parts parts_of command_at command_round commands_from next_command input_action parts_action finish command_action act turn turns_within turns play
+unfolding digits after_lines past_blanks spelling_in_front word_at bytes_at letter_at number_at quotation_at answer random_number value target_of product_operator sum_operator comparison more paren variable_or variable plain factor product first_product sum expr_with expr expression variable_tree items_within items assignment string_at print_item print_parts input_item step_parts limit_parts for_parts next_parts parts_of command_at command_round commands_from next_command input_action parts_action finish command_action act turn turns_within all_turns turns play
 long_rows = record {
   parens253 = refl;
   parens126 = refl;
@@ -161,7 +161,7 @@ long_rows = record {
 }
 
 pub step_rows : StepRows
-unfolding digits after_lines past_blanks spelling_in_front word_at bytes_at letter_at number_at quotation_at answer random_number value target_of product_operator sum_operator comparison more paren variable_or variable plain factor product first_product sum expr_with expr expression variable_tree items_within items assignment string_at print_item print_parts input_item step_parts limit_parts for_parts next_parts parts_of command_at command_round commands_from next_command input_action parts_action finish command_action act turn turns_within turns play
+unfolding digits after_lines past_blanks spelling_in_front word_at bytes_at letter_at number_at quotation_at answer random_number value target_of product_operator sum_operator comparison more paren variable_or variable plain factor product first_product sum expr_with expr expression variable_tree items_within items assignment string_at print_item print_parts input_item step_parts limit_parts for_parts next_parts parts_of command_at command_round commands_from next_command input_action parts_action finish command_action act turn turns_within all_turns turns play
 step_rows = record {
   one_turn = refl;
   sum_too_great = refl;

@@ -9,14 +9,14 @@ use Rattle.ptb_expr.specs.Outcome.{Answers, Done, go_on, IsReader}
 use Rattle.ptb_command.specs.Commands.{Part, Command}
 use Rattle.ptb_command.specs.State.{State, Place, first_state, nesting, nesting_limit}
 use Rattle.ptb_command.specs.Act.{Next, input_action, parts_action, finish, command_action, with_step, act}
-use Rattle.ptb_machine.specs.Play.{turn, after_step_result, turns_within, turns, play}
+use Rattle.ptb_machine.specs.Play.{turn, after_turn, turns_within, all_turns, last_state, after_step_result, turns, play}
 use Rattle.ptb_machine.specs.Questions.{most_answers, answers_left}
 use Rattle.ptb_command.specs.Effects.{action_state, act_state, Begins, PartChange, EndChange, CommandChange}
 use Rattle.ptb_machine.specs.RunEffects.{run_shown, run_steps, TurnChange}
 
 -- ---- what may change
 
--- Whatever comes of it, a question too: what was shown stays shown, a command is one step,
+-- Whatever comes of it, a question too: what was shown stays shown, lines are taken from the first on, a command is one step,
 -- and no loop or call opens past the limit.
 pub record EffectLaws : Type 0 where
   pub input :
@@ -40,6 +40,9 @@ pub record EffectLaws : Type 0 where
   pub run :
       (p : StoredProgram) (limit : ℕ) (S : State) (a : Answers)
       → Begins S.shown (run_shown (turns p limit S a))
+  pub all_turns :
+      (p : StoredProgram) (limit : ℕ) (S : State) (a : Answers)
+      → TurnChange limit S (last_state (all_turns p limit S a))
   pub first : (p : StoredProgram) (input : List (List ℕ)) → nesting (first_state p input) ≤ nesting_limit
 
 -- ---- runs
@@ -53,9 +56,13 @@ pub record RunLaws : Type 0 where
   pub by_turn :
       (p : StoredProgram) (limit : ℕ) (S : State) (a : Answers)
       → turns p limit S a ≡ go_on (turn p limit S a) (after_step_result (turns p limit))
+  -- and so are the turns to its last state
+  pub last_by_turn :
+      (p : StoredProgram) (limit : ℕ) (S : State) (a : Answers)
+      → all_turns p limit S a ≡ go_on (turn p limit S a) (after_turn (all_turns p limit))
   pub enough_turns :
       (n : ℕ) (p : StoredProgram) (limit : ℕ) (S : State) (a : Answers) → limit - S.steps < n
-      → turns_within n p limit S a ≡ turns p limit S a
+      → turns_within n p limit S a ≡ all_turns p limit S a
   -- a run begins no more commands than the limit says
   pub within_limit :
       (p : StoredProgram) (limit : ℕ) (S : State) (a : Answers)

@@ -1,6 +1,8 @@
 -- This file defines whole runs.
 --     turn p limit S           the next thing that a run does
+--     all_turns p limit S a    the last state of a run, and its ending there
 --     play p input limit a     what a run of the program p comes to with the answers a
+--     unasked_lines p input limit a    the lines of the input for which it doesn't ask
 --     plain p input limit a    the bytes and the ending of a plain run
 use Rattle.std.specs.Prelude.{ℕ, zero, suc, ◌-◌, nat_le, Bool, true, false, List, Option, Some, None}
 use Rattle.ptb_text.specs.Statements.{StoredProgram}
@@ -27,6 +29,28 @@ turn p limit S a = turn_by p limit (next_command p.lines S.place) S a
 
 -- ---- runs
 
+-- the state in which a run is over
+pub record Last : Type 0 where
+  pub ending : Ending
+  pub state : State
+
+abbrev pub last_in : Ending → State → Last
+last_in ending S = record { ending = ending; state = S }
+
+-- the run goes on, or is over
+abbrev pub after_turn : (State → Answers → Outcome Last State) → StepResult → Answers → Outcome Last State
+after_turn others (Next S) rest = others S rest
+after_turn others (Over ending S) rest = Done (last_in ending S) rest
+
+-- at most n turns
+unfoldable pub turns_within : ℕ → StoredProgram → ℕ → State → Answers → Outcome Last State
+turns_within zero p limit S a = Done (last_in endings.Limit S) a
+turns_within (suc n) p limit S a = go_on (turn p limit S a) (after_turn (turns_within n p limit))
+
+-- each turn after which a run goes on is a step below the limit, so there are no more turns than these
+unfoldable pub all_turns : StoredProgram → ℕ → State → Answers → Outcome Last State
+all_turns p limit S a = turns_within (suc (limit - S.steps)) p limit S a
+
 -- how a run ends: the commands begun, and all that was shown
 pub record Finish : Type 0 where
   pub ending : Ending
@@ -36,23 +60,30 @@ pub record Finish : Type 0 where
 abbrev pub finish_in : Ending → State → Finish
 finish_in ending S = record { ending = ending; steps = S.steps; shown = S.shown }
 
--- the run goes on, or is over
+abbrev pub finish_of : Last → Finish
+finish_of l = finish_in l.ending l.state
+
+-- what all turns come to, as the end of a run is told
+unfoldable pub turns : StoredProgram → ℕ → State → Answers → Outcome Finish State
+turns p limit S a = map_outcome finish_of (λ T. T) (all_turns p limit S a)
+
 abbrev pub after_step_result : (State → Answers → Outcome Finish State) → StepResult → Answers → Outcome Finish State
 after_step_result others (Next S) rest = others S rest
 after_step_result others (Over ending S) rest = Done (finish_in ending S) rest
 
--- at most n turns
-unfoldable pub turns_within : ℕ → StoredProgram → ℕ → State → Answers → Outcome Finish State
-turns_within zero p limit S a = Done (finish_in endings.Limit S) a
-turns_within (suc n) p limit S a = go_on (turn p limit S a) (after_step_result (turns_within n p limit))
-
--- each turn after which a run goes on is a step below the limit, so there are no more turns than these
-unfoldable pub turns : StoredProgram → ℕ → State → Answers → Outcome Finish State
-turns p limit S a = turns_within (suc (limit - S.steps)) p limit S a
-
 -- beside a question stands what was shown before it
 unfoldable pub play : StoredProgram → List (List ℕ) → ℕ → Answers → Outcome Finish (List ℕ)
 play p input limit a = map_outcome (λ f. f) (λ S. S.shown) (turns p limit (first_state p input) a)
+
+-- the state in which a run is over, or asks
+abbrev pub last_state : Outcome Last State → State
+last_state (Done l rest) = l.state
+last_state (Asks n S) = S
+last_state (Out n S) = S
+
+-- a line that the run didn't ask for is among the lines of its last state
+abbrev pub unasked_lines : StoredProgram → List (List ℕ) → ℕ → Answers → List (List ℕ)
+unasked_lines p input limit a = (last_state (all_turns p limit (first_state p input) a)).lines
 
 -- ---- plain runs
 

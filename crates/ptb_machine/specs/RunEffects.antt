@@ -4,7 +4,7 @@
 use Rattle.std.specs.Prelude.{ℕ, ◌≤◌, List}
 use Rattle.ptb_expr.specs.Outcome.{Outcome, Done, Asks, Out}
 use Rattle.ptb_command.specs.State.{State, nesting, nesting_limit}
-use Rattle.ptb_command.specs.Effects.{Begins}
+use Rattle.ptb_command.specs.Effects.{Begins, TakesLines}
 use Rattle.ptb_machine.specs.Play.{Finish}
 
 abbrev pub run_shown : Outcome Finish State → List ℕ
@@ -20,5 +20,6 @@ run_steps (Out n S) = S.steps
 -- where a turn begins within the limits it ends within them
 pub record TurnChange (limit : ℕ) (S T : State) : Type 0 where
   pub shown : Begins S.shown T.shown
+  pub lines : TakesLines S.lines T.lines
   pub nested : nesting S ≤ nesting_limit → nesting T ≤ nesting_limit
   pub steps : S.steps ≤ limit → T.steps ≤ limit

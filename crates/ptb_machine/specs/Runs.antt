@@ -1,8 +1,10 @@
 -- This file defines what a whole run comes to: the play of its program.
 --     played_bytes o                  what a run has shown, where it is over or asks
 --     Plays p limit input o n x left  with what was exchanged, this is left of the run
+--     refused_answers z later         the answer that is refused as out of range, if one is, and later ones
 --     Runs refused p limit o n r      the run comes to the result r
-use Rattle.std.specs.Prelude.{◌≡◌, ◌⊎◌, ℕ, ◌≤◌, List, [], ◌++◌, Result, Ok, Err, ℤ}
+--     UnlessRunMissed refused P r     P holds, unless a line was wanted and the source gave none
+use Rattle.std.specs.Prelude.{◌≡◌, ◌⊎◌, ℕ, ◌≤◌, List, [], ◌∷◌, ◌++◌, Result, Ok, Err, ℤ}
 use Rattle.ptb_text.specs.Statements.{StoredProgram}
 use Rattle.ptb_expr.specs.declared.pause.Pause.{Pause}
 use Rattle.ptb_expr.specs.declared.pause.Pause.TheVariants as pauses
@@ -14,10 +16,12 @@ use Rattle.ptb_machine.specs.declared.fault.RunFault.{RunFault}
 use Rattle.ptb_machine.specs.declared.fault.RunFault.TheVariants as faults
 use Rattle.ptb_command.specs.declared.stop.DeviceError.{DeviceError}
 use Rattle.ptb_command.specs.declared.stop.DeviceError.TheVariants as errors
-use Rattle.ptb_machine.specs.Play.{Finish, play}
+use Rattle.ptb_machine.specs.Play.{Finish, play, unasked_lines}
 use Rattle.ptb_command.specs.Effects.{Begins}
 use Rattle.ptb_command.specs.Devices.{Devices, with_failures, Exchange, Exchanges, Refusal, Unanswered, NoLine, HasBroken}
 use Rattle.ptb_command.specs.Traces.{Leaves}
+use Rattle.ptb_devices.specs.declared.fault.ReadFault.{ReadFault}
+use Rattle.ptb_machine.specs.Steps.{UnlessEndingMissed, UnlessFaultMissed}
 
 abbrev pub played_bytes : Outcome Finish (List ℕ) → List ℕ
 played_bytes (Done f rest) = f.shown
@@ -29,6 +33,12 @@ pub record Plays (p : StoredProgram) (limit : ℕ) (input : List (List ℕ)) (o 
   pub exchanges : Exchanges o n x
   pub leaves : Leaves (play p input limit) x.answers x.bounds left
 
+-- want of memory is no refusal of an answer
+abbrev pub refused_answers : Pause → Answers → Answers
+refused_answers pauses.Ended later = []
+refused_answers (pauses.OutOfRange k) later = k ∷ later
+refused_answers pauses.Memory later = []
+
 -- from devices that hold o to devices that hold n, where no lines were given before; `refused` is what stands after a refusal
 module _ (refused : Refusal → Type 0) (p : StoredProgram) (limit : ℕ) (input : List (List ℕ)) (o n : Devices) where
   -- the run is over, with these answers and whatever answers follow them; its bytes were shown
@@ -37,6 +47,8 @@ module _ (refused : Refusal → Type 0) (p : StoredProgram) (limit : ℕ) (input
     pub steps : ℕ
     pub plays : Plays p limit input o n exchange (λ a. Done (record { ending = ending; steps = steps; shown = exchange.bytes }) a)
     pub within_limit : steps ≤ limit
+    -- the source gave the lines for which the run asks, and no others
+    pub lines : (a : Answers) → input ≡ n.given ++ unasked_lines p input limit (exchange.answers ++ a)
 
   -- the run asks, what it shows before was shown, and the chooser has refused the question
   pub record IsUnanswered (z : Pause) : Type 0 where
@@ -47,6 +59,9 @@ module _ (refused : Refusal → Type 0) (p : StoredProgram) (limit : ℕ) (input
     pub asks : left [] ≡ Asks bound exchange.bytes
     pub outside : SaysOut left bound exchange.bytes z
     pub refuses : refused (Unanswered z bound)
+    -- the source gave the lines for which it asks before, and no others
+    pub lines : (later : Answers)
+        → input ≡ n.given ++ unasked_lines p input limit (exchange.answers ++ refused_answers z later)
 
   -- a device has failed, or was refused memory, and no write failed before;
   -- what was shown is a beginning of what the run shows, whatever answers follow
@@ -56,6 +71,11 @@ module _ (refused : Refusal → Type 0) (p : StoredProgram) (limit : ℕ) (input
     pub plays : Plays p limit input o (with_failures o.screen.failures n) exchange left
     pub begins : (a : Answers) → Begins exchange.bytes (played_bytes (left a))
     pub broken : HasBroken refused o.screen n.screen e
+    -- the source gave no line for which the run doesn't ask; it may ask for more
+    pub lines : (a : Answers)
+        → (more : List (List ℕ)) × (input ≡ n.given ++ (more ++ unasked_lines p input limit (exchange.answers ++ a)))
+    -- where the input can't be read the run asks for a line: if these were all lines, it would end so
+    pub dry : e ≡ errors.Read → input ≡ n.given → IsFinished endings.NoInput
 
 -- a run with the lines that were given, and then these
 abbrev pub RunComes : (Refusal → Type 0) → StoredProgram → ℕ → List (List ℕ) → Devices → Devices → Result Ending RunFault → Type 0
@@ -75,3 +95,8 @@ RunComes refused p limit rest o n (Err faults.Spent) = ⊥
 -- in every play whose lines begin with those that the source gave; o is to have none given
 abbrev pub Runs : (Refusal → Type 0) → StoredProgram → ℕ → Devices → Devices → Result Ending RunFault → Type 0
 Runs refused p limit o n r = (rest : List (List ℕ)) → RunComes refused p limit rest o n r
+
+-- `refused` is what stands after a fault of the source
+abbrev pub UnlessRunMissed : (ReadFault → Type 0) → Type 0 → Result Ending RunFault → Type 0
+UnlessRunMissed refused P (Ok ending) = UnlessEndingMissed P ending
+UnlessRunMissed refused P (Err fault) = UnlessFaultMissed refused P fault

@@ -22,8 +22,8 @@ pub use laws::{effect_laws, ending_laws, run_laws};
 pub use machine::Machine;
 pub use ptb_command::{Ending, command_laws};
 pub use ptb_devices::{
-    INPUT_LIMIT, Line, LineSource, Lines, ReadFault, Screen, ScreenFault, TextScreen, WriterScreen,
-    read_lines,
+    INPUT_LIMIT, Line, LineSource, Lines, ReadFault, ReaderLines, Screen, ScreenFault, TextScreen,
+    WriterScreen, read_lines,
 };
 pub use rows::{
     answer_rows, array_rows, fault_rows, input_rows, long_rows, loop_rows, print_rows, step_rows,

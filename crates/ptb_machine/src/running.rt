@@ -1,8 +1,8 @@
 // This file does whole runs.
 
-ghost use Rattle.std.specs.Prelude.{◌≡◌, ℕ, List, []};
+ghost use Rattle.std.specs.Prelude.{◌≡◌, ◌≤◌, ℕ, List, []};
 ghost use Rattle.ptb_command.specs.Devices.{devices, screen_state, refused_by};
-ghost use Rattle.ptb_machine.specs.Runs.{Runs};
+ghost use Rattle.ptb_machine.specs.Runs.{Runs, UnlessRunMissed};
 
 use crate::fault::RunFault;
 use crate::kept::Player;
@@ -33,6 +33,8 @@ pub fn run<C: Chooser, S: Screen, L: LineSource>(
         program.now limit
         (devices (C.choices chooser.old) (screen_state S.Screen screen.old) [])
         (devices (C.choices chooser.new) (screen_state S.Screen screen.new) given) result) }
+    ensures missed { UnlessRunMissed (L.refused source.new)
+        (L.missed source.new ≤ L.missed source.old) result }
 {
     let mut player = Player::new(alloc, program)?;
     let mut machine = player.machine(alloc)?;

@@ -189,6 +189,35 @@ fn steps(rt: HostRuntime) -> Result<(), Fail> {
     Ok(())
 }
 
+// A copy goes on by itself, also from where it was taken over; one of a machine that is over is over.
+// Passes whichever of its allocations is refused but the program's.
+#[test]
+fn copies(rt: HostRuntime) -> Result<(), Fail> {
+    let program = program(rt.alloc(), b"10 A=A+1,B=SIZE", b"20 P.A")?;
+    let mut list = Listed::new(&[]);
+    let mut screen = TextScreen::new(rt.alloc());
+    let mut input = Lines::new(&[]);
+    let Ok(mut machine) = Machine::new(rt.alloc(), &program) else {
+        return Ok(());
+    };
+    let Ok(mut copy) = machine.copy(rt.alloc()) else {
+        return Ok(());
+    };
+    assert!(rt; machine.step(&program, 9, &mut list, &mut screen, &mut input) == Ok(None));
+    assert_eq!(rt; copy.steps(), 0);
+    copy.copy_from(rt.alloc(), &machine)?;
+    assert_eq!(rt; copy.steps(), 1);
+    assert!(rt; copy.step(&program, 2, &mut list, &mut screen, &mut input) == Ok(None));
+    let last = copy.step(&program, 2, &mut list, &mut screen, &mut input);
+    assert!(rt; last == Ok(Some(Ending::End)));
+    assert_eq!(rt; copy.steps(), 2);
+    assert_eq!(rt; machine.steps(), 1);
+    machine.copy_from(rt.alloc(), &copy)?;
+    let spent = machine.step(&program, 9, &mut list, &mut screen, &mut input);
+    assert!(rt; spent == Err(RunFault::Spent));
+    Ok(())
+}
+
 // A report is whole, and has its mark, also where the text is longer than that of a statement.
 #[test]
 fn reports(rt: HostRuntime) -> Result<(), Fail> {

@@ -550,33 +550,40 @@ fn runs_with_input(rt: HostRuntime) -> Result<(), Fail> {
     Ok(())
 }
 
-// The whole input is read before anything is shown.
+// A line is read only when it is asked for, and what was shown before stays.
 #[test]
 fn unread_inputs(rt: HostRuntime) -> Result<(), Fail> {
-    for bytes in [&b""[..], b"5", b"5\n"] {
-        let row = run_row(b"10 PRINT \"HI\"\n", b"", 66);
-        let request = request_of(rt.alloc(), &row)?;
-        let mut program = Device::new(row.program);
-        let mut input = Device::new(Script {
-            bytes,
-            piece: 1,
-            fails: true,
-        });
-        let mut sink = make_sink(rt.alloc(), 1, usize::MAX, Failing::Breaks);
-        let mut out = Device::new(&mut sink);
-        let outcome = serve(rt.alloc(), &request, &mut program, &mut input, &mut out);
-        assert_eq!(rt;
-            (outcome.status, outcome.note),
-            (66, Some(Note::InputUnread))
-        );
-        assert!(rt; sink.taken.is_empty());
+    for (program, bytes, status, shown) in [
+        (&b"10 PRINT \"HI\""[..], &b""[..], 0, &b"HI\n"[..]),
+        (b"10 INPUT A", b"5\n", 0, b"A:5\n"),
+        (b"10 INPUT A,B", b"5\n", 66, b"A:5\nB:"),
+        (b"10 INPUT A,B", b"5\n7", 66, b"A:5\nB:"),
+        (b"10 INPUT A", b"", 66, b"A:"),
+        (b"10 INPUT A", b"5", 66, b"A:"),
+    ] {
+        for piece in [1, 5000] {
+            let row = run_row(program, shown, status);
+            let request = request_of(rt.alloc(), &row)?;
+            let mut program = Device::new(row.program);
+            let mut input = Device::new(Script {
+                bytes,
+                piece,
+                fails: true,
+            });
+            let mut sink = make_sink(rt.alloc(), 1, usize::MAX, Failing::Breaks);
+            let mut out = Device::new(&mut sink);
+            let outcome = serve(rt.alloc(), &request, &mut program, &mut input, &mut out);
+            let note = (status == 66).then_some(Note::InputUnread);
+            assert_eq!(rt; (outcome.status, outcome.note), (status, note));
+            assert_eq!(rt; sink.taken.as_slice(), shown);
+        }
     }
     Ok(())
 }
 
 #[test]
 fn endless_inputs(rt: HostRuntime) -> Result<(), Fail> {
-    let row = run_row(b"10 INPUT A\n", b"", 66);
+    let row = run_row(b"10 INPUT A\n", b"A:", 66);
     let request = request_of(rt.alloc(), &row)?;
     let mut program = Device::new(row.program);
     let mut endless = Endless { given: 0 };
@@ -589,7 +596,24 @@ fn endless_inputs(rt: HostRuntime) -> Result<(), Fail> {
         (66, Some(Note::InputUnread))
     );
     assert!(rt; endless.given <= 16_777_217);
-    assert!(rt; sink.taken.is_empty());
+    assert_eq!(rt; sink.taken.as_slice(), b"A:".as_slice());
+    Ok(())
+}
+
+// A program that asks for no line takes none.
+#[test]
+fn inputs_not_asked_for(rt: HostRuntime) -> Result<(), Fail> {
+    let row = run_row(b"10 PRINT \"HI\"\n", b"HI\n", 0);
+    let request = request_of(rt.alloc(), &row)?;
+    let mut program = Device::new(row.program);
+    let mut endless = Endless { given: 0 };
+    let mut input = Device::new(&mut endless);
+    let mut sink = make_sink(rt.alloc(), 1, usize::MAX, Failing::Breaks);
+    let mut out = Device::new(&mut sink);
+    let outcome = serve(rt.alloc(), &request, &mut program, &mut input, &mut out);
+    assert_eq!(rt; (outcome.status, outcome.note), (0, None));
+    assert_eq!(rt; endless.given, 0);
+    assert_eq!(rt; sink.taken.as_slice(), b"HI\n".as_slice());
     Ok(())
 }
 

@@ -3,3 +3,4 @@ pub mod Replying
 pub mod Served
 pub mod Playing
 pub mod Listed
+pub mod Taking

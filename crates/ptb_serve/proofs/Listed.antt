@@ -148,7 +148,7 @@ module _ (p : StoredProgram) (limit : ℕ) (after : Option Answers) (first : Opt
 
     -- by the bytes of the input, of which the lines are those that were read, and an explorer that went on from its front
     module _ (c : List ℕ) (input : List (List ℕ)) (is : input ≡ input_lines c) (e : Exploration) (f : Front)
-        (same : e ≡ record { program = p; input = input; limit = limit; front = first_front after }) (h : is_front (game input) after ≡ true) where
+        (same : e ≡ record { program = p; input = input; limit = limit; front = first_front after; kept = e.kept; played = e.played }) (h : is_front (game input) after ≡ true) where
       abbrev WritesFrom : Exploration → Result ℕ ExploreFault → Type 0
       WritesFrom e result = WritesRuns (play_of e) (report (play_of e)) (runs_left (play_of e) (most_of e) e.front first) e.front f old new result
 

@@ -1,5 +1,5 @@
 -- This file proves what a plain run comes to, from a whole run with a list of answers, a screen over a writer and a list of lines.
-use Rattle.std.proofs.Common.{◌≡◌, ℕ, suc, ◌+◌, ◌<◌, inl, inr, true, false, List, [], ◌∷◌, ◌++◌, length, take, drop, Option, Some, None, Result, Ok, Err, IfOk, IfSome, IsErrOf, ℤ, refl, sym, ap, subst, ◌∙◌, arith, append-nil, length-append, drop-cons}
+use Rattle.std.proofs.Common.{◌≡◌, ℕ, suc, ◌+◌, ◌<◌, ◌≤◌, inl, inr, true, false, List, [], ◌∷◌, ◌++◌, length, take, drop, Option, Some, Result, Ok, Err, IfOk, IsErrOf, ℤ, refl, sym, ap, subst, ◌∙◌, arith, append-nil, length-append, drop-cons}
 use Rattle.std.specs.Prelude.{slice_get}
 use Rattle.std.specs.Borrow.{MutBor}
 use Rattle.std.specs.Io.KnownBytes.{Appends}
@@ -8,8 +8,8 @@ use Rattle.std.proofs.Math.Seq.{take-append_seam}
 use Rattle.std.proofs.lemmas.List.{take-append-drop, drop_all}
 use Rattle.std.proofs.lemmas.Option.{slice_get_within, get_or_from_slice_get}
 use Rattle.ptb_text.specs.Device.{HasFailed, TakesSome}
-use Rattle.ptb_text.specs.Lines.{input_lines}
 use Rattle.ptb_text.specs.Statements.{StoredProgram}
+use Rattle.ptb_expr.specs.declared.pause.Pause.{Pause}
 use Rattle.ptb_expr.specs.declared.pause.Pause.TheVariants as pauses
 use Rattle.ptb_expr.specs.Outcome.{Answers, Outcome, Done, Asks, Out}
 use Rattle.ptb_expr.specs.Choices.{AnswerList, RefusedByList, choices_of, with_answers}
@@ -17,12 +17,16 @@ use Rattle.ptb_command.specs.declared.ending.Ending.{Ending}
 use Rattle.ptb_command.specs.declared.ending.Ending.TheVariants as endings
 use Rattle.ptb_machine.specs.declared.fault.RunFault.{RunFault}
 use Rattle.ptb_machine.specs.declared.fault.RunFault.TheVariants as runs
-use Rattle.ptb_machine.specs.Play.{Finish, play, plain, plain_of}
+use Rattle.ptb_machine.specs.Play.{Finish, play, unasked_lines, plain, plain_of}
 use Rattle.ptb_command.specs.Effects.{Begins}
-use Rattle.ptb_devices.specs.Sources.{LineList, Gives}
+use Rattle.ptb_devices.specs.declared.fault.ReadFault.{ReadFault}
+use Rattle.ptb_devices.specs.declared.fault.ReadFault.TheVariants as reads
+use Rattle.ptb_devices.specs.Sources.{NoneLeft}
+use Rattle.ptb_command.specs.declared.stop.DeviceError.{DeviceError}
+use Rattle.ptb_command.specs.declared.stop.DeviceError.TheVariants as errors
 use Rattle.ptb_command.specs.Devices.{ScreenState, Devices, devices, with_failures, Exchange, Refusal, refused_by}
-use Rattle.ptb_machine.specs.Runs.{played_bytes, Plays, IsFinished, IsUnanswered, RunComes, Runs}
-use Rattle.ptb_serve.specs.PlainRuns.{ShowsRun}
+use Rattle.ptb_machine.specs.Runs.{played_bytes, Plays, refused_answers, IsFinished, IsUnanswered, IsUnfinished, RunComes, Runs, UnlessRunMissed}
+use Rattle.ptb_serve.specs.PlainRuns.{ShowsRun, lines_taken}
 
 -- ---- lists
 
@@ -57,20 +61,23 @@ plain_bytes (Out n shown) = refl
 
 -- ---- a whole run
 
+pub takes_all : (old new : Option (List ℕ)) (bytes : List ℕ) → Appends old new bytes → TakesSome old new bytes
+takes_all old new bytes h = takes_beginning old new bytes bytes h ([], sym (append-nil bytes))
+
 -- what is said of a plain run with these answers and lines, between two states of its screen
 pub record IsPlainRun (p : StoredProgram) (limit : ℕ) (lines : List (List ℕ)) (a : List ℤ) (old new : ScreenState) (result : Result Ending RunFault) : Type 0 where
   pub same_borrow : new.borrow ≡ old.borrow
   pub ok : IfOk result (ShowsRun (plain p lines limit a) old.shown new.shown)
-  pub write : IsErrOf result runs.Write → TakesSome old.shown new.shown (plain p lines limit a).0
+  pub beginning : TakesSome old.shown new.shown (plain p lines limit a).0
   pub failed : IsErrOf result runs.Write → HasFailed old.failures new.failures
   pub memory : IsErrOf result runs.Memory → Appends old.shown new.shown []
   pub unfailed : (IsErrOf result runs.Write → ⊥) → new.failures ≡ old.failures
-  pub unread : IsErrOf result runs.Read → ⊥
   pub unspent : IsErrOf result runs.Spent → ⊥
 
-module _ (p : StoredProgram) (limit : ℕ) (a : List ℤ) (l : AnswerList) (old new : ScreenState) (given behind : List (List ℕ)) where
+-- a source of lines gave some, and these stand behind them; it says what stands after its refusals
+module _ (p : StoredProgram) (limit : ℕ) (a : List ℤ) (l : AnswerList) (old new : ScreenState) (given behind : List (List ℕ)) (unread : ReadFault → Type 0) (left : Option (List (List ℕ))) where
   abbrev refused : Refusal → Type 0
-  refused = refused_by (RefusedByList l.answers l.given) (λ _. ⊥) (Some behind)
+  refused = refused_by (RefusedByList l.answers l.given) unread left
 
   abbrev lines : List (List ℕ)
   lines = given ++ behind
@@ -88,11 +95,10 @@ module _ (p : StoredProgram) (limit : ℕ) (a : List ℤ) (l : AnswerList) (old 
   is_ok e plays h = record {
     same_borrow = plays.exchanges.shows.same_borrow;
     ok = h;
-    write = λ f. cc;
+    beginning = takes_all old.shown new.shown _ h.bytes;
     failed = λ f. cc;
     memory = λ f. cc;
     unfailed = λ f. plays.exchanges.unfailed;
-    unread = λ f. cc;
     unspent = λ f. cc;
   }
 
@@ -115,10 +121,10 @@ module _ (p : StoredProgram) (limit : ℕ) (a : List ℤ) (l : AnswerList) (old 
   finished e h = is_ok e h.plays (shows_run h.exchange _ e _ h.plays refl refl)
 
   -- INPUT found no line left, so all of them were given
-  dry : RunComes refused p limit behind before later (Ok endings.NoInput) → IsPlainRun p limit lines a old new (Ok endings.NoInput)
-  dry h =
-      let all : lines ≡ given = ap (λ r. given ++ r) h.0 ∙ append-nil given in
-      finished endings.NoInput (subst (λ i. IsFinished refused p limit i before later endings.NoInput) (sym all) (h.1 h.0))
+  dry : (NoneLeft left → behind ≡ []) → RunComes refused p limit behind before later (Ok endings.NoInput) → IsPlainRun p limit lines a old new (Ok endings.NoInput)
+  dry none h =
+      let all : lines ≡ given = ap (λ r. given ++ r) (none h.0) ∙ append-nil given in
+      finished endings.NoInput (subst (λ i. IsFinished refused p limit i before later endings.NoInput) (sym all) (h.1 (none h.0)))
 
   unanswered : IsUnanswered refused p limit lines before later pauses.Ended → IsPlainRun p limit lines a old new (Ok endings.NoAnswer)
   unanswered h =
@@ -130,76 +136,158 @@ module _ (p : StoredProgram) (limit : ℕ) (a : List ℤ) (l : AnswerList) (old 
       is_ok endings.BadAnswer h.plays
       (shows_run h.exchange h.left endings.BadAnswer _ h.plays (ap h.left (front_at l.answers l.given k h.refuses.0) ∙ h.outside (drop (suc l.given) l.answers)) refl)
 
-  unwritten : RunComes refused p limit behind before later (Err runs.Write) → IsPlainRun p limit lines a old new (Err runs.Write)
-  unwritten h =
+  -- where a device fails, what was shown is a beginning
+  begun : {e : DeviceError} → IsUnfinished refused p limit lines before later e → TakesSome old.shown new.shown (plain p lines limit a).0
+  begun h =
       let begins = h.begins rest in
       let all : (plain p lines limit a).0 ≡ played_bytes (h.left rest) = plain_bytes (play p lines limit a) ∙ ap played_bytes (play_is old.failures h.exchange h.left h.plays) in
-      record {
-        same_borrow = h.plays.exchanges.shows.same_borrow;
-        ok = tt;
-        write = λ _. takes_beginning old.shown new.shown h.exchange.bytes _ h.plays.exchanges.shows.shown (begins.0, all ∙ begins.1);
-        failed = λ _. h.broken.0;
-        memory = λ f. cc;
-        unfailed = λ f. absurd (f refl);
-        unread = λ f. cc;
-        unspent = λ f. cc;
-      }
+      takes_beginning old.shown new.shown h.exchange.bytes _ h.plays.exchanges.shows.shown (begins.0, all ∙ begins.1)
 
-  -- a list of answers, a list of lines and a screen over a writer take no memory: it was refused to the machine itself
-  out_of_memory : old.takes_memory ≡ false → RunComes refused p limit behind before later (Err runs.Memory) → later ≡ before
-  out_of_memory e h =
-      elim h [
-        | inl same ↦ same
-        | inr u ↦ elim (u.broken.0.by) [ inl t ↦ absurd (let both : true ≡ false = sym t ∙ e in cc) | inr r ↦ elim r [ inl q ↦ absurd q.1 | inr q ↦ absurd q ] ]
-      ]
-
-  unbegun : later ≡ before → IsPlainRun p limit lines a old new (Err runs.Memory)
-  unbegun e = record {
-    same_borrow = ap (λ (d : Devices). d.screen.borrow) e;
+  unwritten : RunComes refused p limit behind before later (Err runs.Write) → IsPlainRun p limit lines a old new (Err runs.Write)
+  unwritten h = record {
+    same_borrow = h.plays.exchanges.shows.same_borrow;
     ok = tt;
-    write = λ f. cc;
-    failed = λ f. cc;
-    memory = λ _. subst (λ held. Appends old.shown held []) (sym (ap (λ (d : Devices). d.screen.shown) e)) (Appends-nil old.shown);
-    unfailed = λ _. ap (λ (d : Devices). d.screen.failures) e;
-    unread = λ f. cc;
+    beginning = begun h;
+    failed = λ _. h.broken.0;
+    memory = λ f. cc;
+    unfailed = λ f. absurd (f refl);
     unspent = λ f. cc;
   }
 
-  -- a list of lines can always be read
-  is_read : RunComes refused p limit behind before later (Err runs.Read) → ⊥
-  is_read h = elim (h.broken.0.by) [ inl q ↦ q | inr q ↦ q ]
+  not_read : RunComes refused p limit behind before later (Err runs.Read) → IsPlainRun p limit lines a old new (Err runs.Read)
+  not_read h = record {
+    same_borrow = h.plays.exchanges.shows.same_borrow;
+    ok = tt;
+    beginning = begun h;
+    failed = λ f. cc;
+    memory = λ f. cc;
+    unfailed = λ f. h.broken.1;
+    unspent = λ f. cc;
+  }
 
-  run_comes : old.takes_memory ≡ false → (result : Result Ending RunFault) → RunComes refused p limit behind before later result
-      → IsPlainRun p limit lines a old new result
-  run_comes e (Ok endings.End) h = finished endings.End h
-  run_comes e (Ok endings.Stop) h = finished endings.Stop h
-  run_comes e (Ok endings.What) h = finished endings.What h
-  run_comes e (Ok endings.How) h = finished endings.How h
-  run_comes e (Ok endings.Sorry) h = finished endings.Sorry h
-  run_comes e (Ok endings.Limit) h = finished endings.Limit h
-  run_comes e (Ok endings.NoInput) h = dry h
-  run_comes e (Ok endings.NoAnswer) h = unanswered h
-  run_comes e (Ok endings.BadAnswer) h = out_of_range h.0 h.1
-  run_comes e (Err runs.Memory) h = unbegun (out_of_memory e h)
-  run_comes e (Err runs.Read) h = absurd (is_read h)
-  run_comes e (Err runs.Write) h = unwritten h
-  run_comes e (Err runs.Spent) h = absurd h
+  -- a list of answers, a source without memory and a screen over a writer take none: it was refused to the machine itself
+  out_of_memory : old.takes_memory ≡ false → (unread reads.Memory → ⊥) → RunComes refused p limit behind before later (Err runs.Memory) → later ≡ before
+  out_of_memory e no_memory h =
+      elim h [
+        | inl same ↦ same
+        | inr u ↦ elim (u.broken.0.by) [ inl t ↦ absurd (let both : true ≡ false = sym t ∙ e in cc) | inr r ↦ elim r [ inl q ↦ absurd q.1 | inr q ↦ absurd (no_memory q) ] ]
+      ]
 
--- with a list of answers and a list of lines, of which none were taken before
-module _ (p : StoredProgram) (limit : ℕ) (ls : List (List ℕ)) (a : List ℤ) (given_before l : AnswerList) (lines_before s : LineList) (old new : ScreenState) (result : Result Ending RunFault) where
-  abbrev pub RunsOnLists : Type 0
-  RunsOnLists = (given : List (List ℕ)) × (Gives lines_before given s
-      × Runs (refused_by (RefusedByList l.answers l.given) (λ _. ⊥) (Some (drop s.taken s.lines))) p limit
-      (devices (choices_of given_before) old []) (devices (choices_of l) new given) result)
+  unbegun : later ≡ before → IsPlainRun p limit lines a old new (Err runs.Memory)
+  unbegun e =
+      let nothing : Appends old.shown new.shown [] = subst (λ held. Appends old.shown held []) (sym (ap (λ (d : Devices). d.screen.shown) e)) (Appends-nil old.shown) in
+      record {
+        same_borrow = ap (λ (d : Devices). d.screen.borrow) e;
+        ok = tt;
+        beginning = (0, omega arith, nothing);
+        failed = λ f. cc;
+        memory = λ _. nothing;
+        unfailed = λ _. ap (λ (d : Devices). d.screen.failures) e;
+        unspent = λ f. cc;
+      }
 
-  pub plain_run : given_before ≡ record { answers = a; given = 0 } → lines_before ≡ record { lines = ls; taken = 0 } → old.takes_memory ≡ false
-      → RunsOnLists → IsPlainRun p limit ls a old new result
-  plain_run answers_are lines_are no_memory h =
-      let behind = drop s.taken s.lines in
-      let gives = subst (λ t. Gives t h.0 s) lines_are h.1.0 in
-      let runs = subst (λ t. Runs (refused_by (RefusedByList l.answers l.given) (λ _. ⊥) (Some behind)) p limit (devices (choices_of t) old []) (devices (choices_of l) new h.0) result) answers_are h.1.1 in
-      subst (λ i. IsPlainRun p limit i a old new result) (sym gives.first)
-      (run_comes p limit a l old new h.0 behind no_memory result (runs behind))
+  -- ---- the lines that it takes
+
+  answers_are : (failures : ℕ) (x : Exchange) (left : Answers → Outcome Finish (List ℕ)) → Plays p limit lines before (with_failures failures later) x left → a ≡ x.answers ++ rest
+  answers_are failures x left h = given_first a l x.answers x.bounds h.exchanges.grown
+
+  -- the given lines are no more than it takes, with the answers of the whole list
+  fits : (x : Exchange) (more : List (List ℕ)) → a ≡ x.answers ++ rest → lines ≡ given ++ (more ++ unasked_lines p lines limit (x.answers ++ rest)) → length given ≤ lines_taken p lines limit a
+  fits x more e k =
+      let unasked : unasked_lines p lines limit a ≡ unasked_lines p lines limit (x.answers ++ rest) = ap (unasked_lines p lines limit) e in
+      omega (arith, ap length k, ap length unasked, length-append given (more ++ unasked_lines p lines limit (x.answers ++ rest)), length-append more (unasked_lines p lines limit (x.answers ++ rest)))
+
+  fits_finished : (e : Ending) → IsFinished refused p limit lines before later e → length given ≤ lines_taken p lines limit a
+  fits_finished e h = fits h.exchange [] (answers_are new.failures h.exchange _ h.plays) (h.lines rest)
+
+  fits_unanswered : (z : Pause) (later_answers : Answers) → rest ≡ refused_answers z later_answers → IsUnanswered refused p limit lines before later z → length given ≤ lines_taken p lines limit a
+  fits_unanswered z later_answers e h =
+      fits h.exchange [] (answers_are new.failures h.exchange h.left h.plays)
+      (h.lines later_answers ∙ ap (λ q. given ++ unasked_lines p lines limit (h.exchange.answers ++ q)) (sym e))
+
+  fits_unfinished : (e : DeviceError) → IsUnfinished refused p limit lines before later e → length given ≤ lines_taken p lines limit a
+  fits_unfinished e h = let taken = h.lines rest in fits h.exchange taken.0 (answers_are old.failures h.exchange h.left h.plays) taken.1
+
+  fits_none : later ≡ before → length given ≤ lines_taken p lines limit a
+  fits_none e = omega (arith, ap (λ (d : Devices). length d.given) e)
+
+  fits_dry : (NoneLeft left → behind ≡ []) → RunComes refused p limit behind before later (Ok endings.NoInput) → length given ≤ lines_taken p lines limit a
+  fits_dry none h =
+      let all : lines ≡ given = ap (λ r. given ++ r) (none h.0) ∙ append-nil given in
+      fits_finished endings.NoInput (subst (λ i. IsFinished refused p limit i before later endings.NoInput) (sym all) (h.1 (none h.0)))
+
+  pub takes_given : old.takes_memory ≡ false → (unread reads.Memory → ⊥) → (NoneLeft left → behind ≡ []) → (result : Result Ending RunFault)
+      → RunComes refused p limit behind before later result → length given ≤ lines_taken p lines limit a
+  takes_given e no_memory none (Ok endings.End) h = fits_finished endings.End h
+  takes_given e no_memory none (Ok endings.Stop) h = fits_finished endings.Stop h
+  takes_given e no_memory none (Ok endings.What) h = fits_finished endings.What h
+  takes_given e no_memory none (Ok endings.How) h = fits_finished endings.How h
+  takes_given e no_memory none (Ok endings.Sorry) h = fits_finished endings.Sorry h
+  takes_given e no_memory none (Ok endings.Limit) h = fits_finished endings.Limit h
+  takes_given e no_memory none (Ok endings.NoInput) h = fits_dry none h
+  takes_given e no_memory none (Ok endings.NoAnswer) h = fits_unanswered pauses.Ended [] (drop_all l.given l.answers (omega (arith, h.refuses))) h
+  takes_given e no_memory none (Ok endings.BadAnswer) h =
+      fits_unanswered (pauses.OutOfRange h.0) (drop (suc l.given) l.answers) (front_at l.answers l.given h.0 h.1.refuses.0) h.1
+  takes_given e no_memory none (Err runs.Memory) h = fits_none (out_of_memory e no_memory h)
+  takes_given e no_memory none (Err runs.Read) h = fits_unfinished errors.Read h
+  takes_given e no_memory none (Err runs.Write) h = fits_unfinished errors.Write h
+  takes_given e no_memory none (Err runs.Spent) h = absurd h
+
+  -- where it asked for a line that it wasn't given, and these are all lines, it ends NOINPUT
+  pub ends_dry : (P : Type 0) → (P → ⊥) → (unread reads.Memory → ⊥) → behind ≡ [] → (result : Result Ending RunFault) → UnlessRunMissed unread P result
+      → RunComes refused p limit behind before later result → IsPlainRun p limit lines a old new (Ok endings.NoInput)
+  ends_dry P never no_memory none (Ok endings.End) m h = absurd (never m)
+  ends_dry P never no_memory none (Ok endings.Stop) m h = absurd (never m)
+  ends_dry P never no_memory none (Ok endings.What) m h = absurd (never m)
+  ends_dry P never no_memory none (Ok endings.How) m h = absurd (never m)
+  ends_dry P never no_memory none (Ok endings.Sorry) m h = absurd (never m)
+  ends_dry P never no_memory none (Ok endings.Limit) m h = absurd (never m)
+  ends_dry P never no_memory none (Ok endings.NoInput) m h = dry (λ _. none) h
+  ends_dry P never no_memory none (Ok endings.NoAnswer) m h = absurd (never m)
+  ends_dry P never no_memory none (Ok endings.BadAnswer) m h = absurd (never m)
+  ends_dry P never no_memory none (Err runs.Memory) m h = elim m [ inl q ↦ absurd (never q) | inr r ↦ absurd (no_memory r) ]
+  ends_dry P never no_memory none (Err runs.Read) m h = finished endings.NoInput (h.dry refl (ap (λ r. given ++ r) none ∙ append-nil given))
+  ends_dry P never no_memory none (Err runs.Write) m h = absurd (never m)
+  ends_dry P never no_memory none (Err runs.Spent) m h = absurd h
+
+  pub run_comes : old.takes_memory ≡ false → (unread reads.Memory → ⊥) → (NoneLeft left → behind ≡ []) → (result : Result Ending RunFault)
+      → RunComes refused p limit behind before later result → IsPlainRun p limit lines a old new result
+  run_comes e no_memory none (Ok endings.End) h = finished endings.End h
+  run_comes e no_memory none (Ok endings.Stop) h = finished endings.Stop h
+  run_comes e no_memory none (Ok endings.What) h = finished endings.What h
+  run_comes e no_memory none (Ok endings.How) h = finished endings.How h
+  run_comes e no_memory none (Ok endings.Sorry) h = finished endings.Sorry h
+  run_comes e no_memory none (Ok endings.Limit) h = finished endings.Limit h
+  run_comes e no_memory none (Ok endings.NoInput) h = dry none h
+  run_comes e no_memory none (Ok endings.NoAnswer) h = unanswered h
+  run_comes e no_memory none (Ok endings.BadAnswer) h = out_of_range h.0 h.1
+  run_comes e no_memory none (Err runs.Memory) h = unbegun (out_of_memory e no_memory h)
+  run_comes e no_memory none (Err runs.Read) h = not_read h
+  run_comes e no_memory none (Err runs.Write) h = unwritten h
+  run_comes e no_memory none (Err runs.Spent) h = absurd h
+
+-- with a list of answers, of which none were taken before
+module _ (p : StoredProgram) (limit : ℕ) (a : List ℤ) (given_before l : AnswerList) (old new : ScreenState) (given : List (List ℕ)) (unread : ReadFault → Type 0) (left : Option (List (List ℕ))) (result : Result Ending RunFault) where
+  pub plain_run : given_before ≡ record { answers = a; given = 0 } → old.takes_memory ≡ false → (unread reads.Memory → ⊥)
+      → Runs (refused_by (RefusedByList l.answers l.given) unread left) p limit (devices (choices_of given_before) old []) (devices (choices_of l) new given) result
+      → (behind : List (List ℕ)) → (NoneLeft left → behind ≡ []) → IsPlainRun p limit (given ++ behind) a old new result
+  plain_run answers_are no_room no_memory h behind none =
+      let runs = subst (λ t. Runs (refused_by (RefusedByList l.answers l.given) unread left) p limit (devices (choices_of t) old []) (devices (choices_of l) new given) result) answers_are h in
+      run_comes p limit a l old new given behind unread left no_room no_memory none result (runs behind)
+
+  pub plain_run_takes : given_before ≡ record { answers = a; given = 0 } → old.takes_memory ≡ false → (unread reads.Memory → ⊥)
+      → Runs (refused_by (RefusedByList l.answers l.given) unread left) p limit (devices (choices_of given_before) old []) (devices (choices_of l) new given) result
+      → (behind : List (List ℕ)) → (NoneLeft left → behind ≡ []) → length given ≤ lines_taken p (given ++ behind) limit a
+  plain_run_takes answers_are no_room no_memory h behind none =
+      let runs = subst (λ t. Runs (refused_by (RefusedByList l.answers l.given) unread left) p limit (devices (choices_of t) old []) (devices (choices_of l) new given) result) answers_are h in
+      takes_given p limit a l old new given behind unread left no_room no_memory none result (runs behind)
+
+  pub plain_run_dry : given_before ≡ record { answers = a; given = 0 } → (unread reads.Memory → ⊥)
+      → Runs (refused_by (RefusedByList l.answers l.given) unread left) p limit (devices (choices_of given_before) old []) (devices (choices_of l) new given) result
+      → (P : Type 0) → (P → ⊥) → UnlessRunMissed unread P result → IsPlainRun p limit (given ++ []) a old new (Ok endings.NoInput)
+  plain_run_dry answers_are no_memory h P never missed =
+      let runs = subst (λ t. Runs (refused_by (RefusedByList l.answers l.given) unread left) p limit (devices (choices_of t) old []) (devices (choices_of l) new given) result) answers_are h in
+      ends_dry p limit a l old new given [] unread left P never no_memory refl result missed (runs [])
 
 -- ---- the screen of a writer
 
@@ -211,11 +299,10 @@ state_of contents failures screen =
 -- what is said of a plain run, between two states of its writer
 pub record IsRunBetween {W : Type 0} (contents : W → Option (List ℕ)) (failures : W → ℕ) (p : StoredProgram) (limit : ℕ) (ls : List (List ℕ)) (a : List ℤ) (w v : W) (result : Result Ending RunFault) : Type 0 where
   pub ok : IfOk result (ShowsRun (plain p ls limit a) (contents w) (contents v))
-  pub write : IsErrOf result runs.Write → TakesSome (contents w) (contents v) (plain p ls limit a).0
+  pub beginning : TakesSome (contents w) (contents v) (plain p ls limit a).0
   pub failed : IsErrOf result runs.Write → HasFailed (failures w) (failures v)
   pub memory : IsErrOf result runs.Memory → Appends (contents w) (contents v) []
   pub unfailed : (IsErrOf result runs.Write → ⊥) → failures v ≡ failures w
-  pub unread : IsErrOf result runs.Read → ⊥
   pub unspent : IsErrOf result runs.Spent → ⊥
 
 -- a writer ends as it is under the name of its borrow
@@ -228,19 +315,4 @@ run_between contents failures p limit ls a screen screen_after w v result begins
     let same : screen.ghost_name ≡ screen_after.ghost_name = let e = h.same_borrow in cc in
     subst (λ x. IsRunBetween contents failures p limit ls a x v result) begins
     (subst (λ x. IsRunBetween contents failures p limit ls a screen.now x result) (sym (ends same))
-    (record { ok = h.ok; write = h.write; failed = h.failed; memory = h.memory; unfailed = h.unfailed; unread = h.unread; unspent = h.unspent }))
-
--- ---- the input that was read
-
-pub shows_known : (p : StoredProgram) (limit : ℕ) (ls : List (List ℕ)) (a : List ℤ) (held held_after : Option (List ℕ)) (known : Option (List ℕ)) (result : Result Ending RunFault)
-    → IfSome known (λ b. ls ≡ input_lines b) → IfOk result (ShowsRun (plain p ls limit a) held held_after)
-    → IfOk result (λ e. IfSome known (λ b. ShowsRun (plain p (input_lines b) limit a) held held_after e))
-shows_known p limit ls a held held_after known (Err f) are h = tt
-shows_known p limit ls a held held_after None (Ok e) are h = tt
-shows_known p limit ls a held held_after (Some b) (Ok e) are h = subst (λ i. ShowsRun (plain p i limit a) held held_after e) are h
-
-pub takes_known : (p : StoredProgram) (limit : ℕ) (ls : List (List ℕ)) (a : List ℤ) (held held_after : Option (List ℕ)) (known : Option (List ℕ))
-    → IfSome known (λ b. ls ≡ input_lines b) → TakesSome held held_after (plain p ls limit a).0
-    → IfSome known (λ b. TakesSome held held_after (plain p (input_lines b) limit a).0)
-takes_known p limit ls a held held_after None are h = tt
-takes_known p limit ls a held held_after (Some b) are h = subst (λ i. TakesSome held held_after (plain p i limit a).0) are h
+    (record { ok = h.ok; beginning = h.beginning; failed = h.failed; memory = h.memory; unfailed = h.unfailed; unspent = h.unspent }))

@@ -1,5 +1,5 @@
 -- This file proves how a request is served, from how its program was loaded and what was written.
-use Rattle.std.proofs.Common.{◌≡◌, ℕ, ◌+◌, ◌<◌, ◌≤◌, true, false, nat_lt, List, [], length, Option, Some, None, Result, Ok, Err, IfSome, IfErr, OnOk, refl, ap, ◌∙◌, sym, arith, IsErrOf, ℤ, subst}
+use Rattle.std.proofs.Common.{◌≡◌, inl, ℕ, ◌+◌, ◌<◌, ◌≤◌, true, false, nat_lt, List, [], length, Option, Some, None, Result, Ok, Err, IfOk, IfSome, IfErr, OnOk, refl, ap, ◌∙◌, sym, arith, IsErrOf, ℤ, subst}
 use Rattle.std.specs.Io.KnownBytes.{Appends, Consumes}
 use Rattle.std.proofs.KnownBytes.{Appends-nil, Consumes-nil}
 use Rattle.ptb_text.specs.declared.fault.LoadFault.{LoadFault}
@@ -15,11 +15,15 @@ use Rattle.ptb_machine.specs.declared.fault.RunFault.{RunFault}
 use Rattle.ptb_machine.specs.declared.fault.RunFault.TheVariants as faults
 use Rattle.ptb_machine.specs.Play.{plain, status}
 use Rattle.ptb_devices.specs.Sources.{ConsumesAtMost}
+use Rattle.ptb_options.specs.declared.request.Mode.TheVariants as modes
 use Rattle.ptb_serve.specs.declared.note.Note.{Note}
 use Rattle.ptb_serve.specs.declared.note.Note.TheVariants as notes
-use Rattle.ptb_serve.specs.PlainRuns.{ShowsRun}
-use Rattle.ptb_serve.specs.Replies.{Reply, refusal, plain_reply, program_of_text, reply_or_refusal, program_reply}
-use Rattle.ptb_serve.specs.Serving.{outcome_of, load_note, IsRunNote, IsUnloaded, Replies, Serves, TellsLength, TellsRefusal}
+use Rattle.ptb_options.specs.declared.request.Request.{Request}
+use Rattle.ptb_serve.specs.declared.service.Outcome.{Outcome}
+use Rattle.ptb_serve.specs.Statuses.{note_status}
+use Rattle.ptb_serve.specs.PlainRuns.{ShowsRun, lines_come, lines_taken, lines_wanted, ReadsFor}
+use Rattle.ptb_serve.specs.Replies.{Reply, refusal, plain_reply, lines_reply, program_of_text, reply_or_refusal, program_reply}
+use Rattle.ptb_serve.specs.Serving.{outcome_of, EndsUnread, wanted_by, ReadsForRun, load_note, IsRunNote, IsUnloaded, Replies, Serves, SilentBy, TellsLength, TellsRefusal}
 
 -- ---- the program of a text
 
@@ -229,18 +233,98 @@ module _ (p : StoredProgram) (steps : ℕ) (a : List ℤ) (known : Option (List 
       record { bytes = run.bytes; status = number ∙ ap status run.ending; note = refl }
 
   pub serves_stopped : (f : RunFault) (note : Note) → known ≡ Some c → IsRunNote f note
-      → (IsErrOf {T = Ending} (Err f) faults.Write → IfSome known (λ b. TakesSome old new (plain p (input_lines b) steps a).0))
-      → (IsErrOf {T = Ending} (Err f) faults.Memory → Appends old new [])
-      → (IsErrOf {T = Ending} (Err f) faults.Read → Appends old new [])
-      → Serves (plain_reply steps a c p) old new (outcome_of (Err note))
-  serves_stopped faults.Memory note is n write memory read =
-      subst (λ m. Serves (plain_reply steps a c p) old new (outcome_of (Err m))) (sym n) (0, omega arith, memory refl)
-  serves_stopped faults.Read note is n write memory read =
-      subst (λ m. Serves (plain_reply steps a c p) old new (outcome_of (Err m))) (sym n) (0, omega arith, read refl)
-  serves_stopped faults.Write note is n write memory read =
-      subst (λ m. Serves (plain_reply steps a c p) old new (outcome_of (Err m))) (sym n)
-      (at_known (λ b. TakesSome old new (plain p (input_lines b) steps a).0) c is (write refl))
-  serves_stopped faults.Spent note is n write memory read = absurd n
+      → IfSome known (λ b. TakesSome old new (plain p (input_lines b) steps a).0) → Serves (plain_reply steps a c p) old new (outcome_of (Err note))
+  serves_stopped f note is n begins = by_fault f n (at_known (λ b. TakesSome old new (plain p (input_lines b) steps a).0) c is begins) where
+    by_fault : (f : RunFault) → IsRunNote f note → TakesSome old new (plain p (input_lines c) steps a).0 → Serves (plain_reply steps a c p) old new (outcome_of (Err note))
+    by_fault faults.Memory n h = subst (λ m. Serves (plain_reply steps a c p) old new (outcome_of (Err m))) (sym n) h
+    by_fault faults.Read n h = subst (λ m. Serves (plain_reply steps a c p) old new (outcome_of (Err m))) (sym n) h
+    by_fault faults.Write n h = subst (λ m. Serves (plain_reply steps a c p) old new (outcome_of (Err m))) (sym n) h
+    by_fault faults.Spent n h = absurd n
+
+-- nothing was written where memory was refused
+pub silent_stopped : (a : List ℤ) (old new : Option (List ℕ)) (f : RunFault) (note : Note) → IsRunNote f note
+    → (IsErrOf {T = Ending} (Err f) faults.Memory → Appends old new []) → SilentBy (modes.Plain a) (Some note) old new
+silent_stopped a old new faults.Memory note n h = subst (λ m. SilentBy (modes.Plain a) (Some m) old new) (sym n) (h refl)
+silent_stopped a old new faults.Read note n h = subst (λ m. SilentBy (modes.Plain a) (Some m) old new) (sym n) tt
+silent_stopped a old new faults.Write note n h = subst (λ m. SilentBy (modes.Plain a) (Some m) old new) (sym n) tt
+silent_stopped a old new faults.Spent note n h = absurd n
+
+-- ---- an input that can't be read
+
+-- on the lines that came whole a run ends for want of a line
+pub unread_loaded : (memory : ℕ) (known : Option (List ℕ)) (steps : ℕ) (a : List ℤ) (p : StoredProgram) (i j old new : Option (List ℕ)) → IfSome known (λ b. IsLoaded memory b p.lines)
+    → p.memory ≡ memory → (taken : List ℕ) × Consumes i j taken × ShowsRun (plain p (lines_come taken) steps a) old new endings.NoInput
+    → IfSome known (λ b. (taken : List ℕ) × Consumes i j taken × EndsUnread (program_reply memory b (lines_reply steps a (lines_come taken))) old new)
+unread_loaded memory None steps a p i j old new h e r = tt
+unread_loaded memory (Some b) steps a p i j old new h e r =
+    let next = lines_reply steps a (lines_come r.0) in
+    let is : program_reply memory b next ≡ next p =
+    program_reply-loaded memory b next p.lines h ∙ ap (λ m. next (record { lines = p.lines; memory = m })) (sym e) in
+    (r.0, r.1, subst (λ (x : Reply). EndsUnread x old new) (sym is) (record { bytes = r.2.bytes; status = sym (ap status r.2.ending) }))
+
+-- ---- what is taken of the input
+
+-- where nothing was taken
+pub reads_nothing : (a : List ℤ) (request : Request) (b : List ℕ) (known : Option (List ℕ)) (outcome : Outcome) → IfSome known (λ c. ReadsForRun (modes.Plain a) request b c known outcome)
+reads_nothing a request b None outcome = tt
+reads_nothing a request b (Some c) outcome = by_text (program_of_text request.memory b) where
+  by_text : (t : Result Statements (ℕ × LoadFault)) → IfOk t (λ p. (taken : List ℕ) × Consumes (Some c) (Some c) taken
+      × ReadsFor taken (wanted_by (lines_taken (record { lines = p; memory = request.memory }) (input_lines c) request.steps a) outcome.note outcome.status))
+  by_text (Ok p) = ([], refl, inl refl)
+  by_text (Err e) = tt
+
+pub reads_nothing_for : (a : List ℤ) (request : Request) (program known : Option (List ℕ)) (outcome : Outcome) → IfSome program (λ b. IfSome known (λ c. ReadsForRun (modes.Plain a) request b c known outcome))
+reads_nothing_for a request None known outcome = tt
+reads_nothing_for a request (Some b) known outcome = reads_nothing a request b known outcome
+
+-- with the same answers
+pub taken_answers : (p : StoredProgram) (steps : ℕ) (known left : Option (List ℕ)) (result : Result Ending RunFault) (x y : List ℤ) → x ≡ y
+    → (taken : List ℕ) × Consumes known left taken × IfSome known (λ c. ReadsFor taken (lines_wanted (lines_taken p (input_lines c) steps x) result))
+    → (taken : List ℕ) × Consumes known left taken × IfSome known (λ c. ReadsFor taken (lines_wanted (lines_taken p (input_lines c) steps y) result))
+taken_answers p steps known left result x y e h =
+    subst (λ (a : List ℤ). (taken : List ℕ) × Consumes known left taken × IfSome known (λ c. ReadsFor taken (lines_wanted (lines_taken p (input_lines c) steps a) result))) e h
+
+-- a text that was loaded is that program
+pub reads_loaded : (a : List ℤ) (request : Request) (program known left : Option (List ℕ)) (p : StoredProgram) (outcome : Outcome) (result : Result Ending RunFault)
+    → IfSome program (λ b. IsLoaded request.memory b p.lines) → p.memory ≡ request.memory
+    → ((k : ℕ) → lines_wanted k result ≡ wanted_by k outcome.note outcome.status)
+    → (taken : List ℕ) × Consumes known left taken × IfSome known (λ c. ReadsFor taken (lines_wanted (lines_taken p (input_lines c) request.steps a) result))
+    → IfSome program (λ b. IfSome known (λ c. ReadsForRun (modes.Plain a) request b c left outcome))
+reads_loaded a request None known left p outcome result h e same r = tt
+reads_loaded a request (Some b) None left p outcome result h e same r = tt
+reads_loaded a request (Some b) (Some c) left p outcome result h e same r =
+    let stored : record { lines = p.lines; memory = request.memory } ≡ p = ap (λ m. record p { memory = m }) (sym e) in
+    rw (program_of_text-ok request.memory b p.lines h) (
+      r.0,
+      r.1,
+      subst (λ q. ReadsFor r.0 (wanted_by (lines_taken q (input_lines c) request.steps a) outcome.note outcome.status)) (sym stored)
+          (subst (ReadsFor r.0) (same (lines_taken p (input_lines c) request.steps a)) r.2),
+    )
+
+pub wanted_ended : (e : Ending) (n : ℕ) → n ≡ status e → (k : ℕ) → lines_wanted k (Ok e) ≡ wanted_by k (outcome_of (Ok n)).note (outcome_of (Ok n)).status
+wanted_ended e n number k = by_ending e ∙ ap (wanted_by k None) (sym number) where
+  by_ending : (e : Ending) → lines_wanted k (Ok e) ≡ wanted_by k None (status e)
+  by_ending endings.End = refl
+  by_ending endings.Stop = refl
+  by_ending endings.What = refl
+  by_ending endings.How = refl
+  by_ending endings.Sorry = refl
+  by_ending endings.Limit = refl
+  by_ending endings.NoInput = refl
+  by_ending endings.NoAnswer = refl
+  by_ending endings.BadAnswer = refl
+
+pub wanted_stopped : (f : RunFault) (note : Note) → IsRunNote f note → (k : ℕ) → lines_wanted k (Err f) ≡ wanted_by k (outcome_of (Err note)).note (outcome_of (Err note)).status
+wanted_stopped faults.Memory note n k = ap (λ m. wanted_by k (Some m) (note_status note)) (sym n)
+wanted_stopped faults.Read note n k = ap (λ m. wanted_by k (Some m) (note_status note)) (sym n)
+wanted_stopped faults.Write note n k = ap (λ m. wanted_by k (Some m) (note_status note)) (sym n)
+wanted_stopped faults.Spent note n k = absurd n
+
+-- before a listing nothing was written
+pub unread_listing : (after : Option (List ℤ)) (first : Option ℕ) (known old new : Option (List ℕ)) (note : Option Note) → SilentBy (modes.All after first) note old new
+    → note ≡ Some notes.InputUnread → IfSome known (λ _. Appends old new [])
+unread_listing after first None old new note h is = tt
+unread_listing after first (Some b) old new note h is = subst (λ m. SilentBy (modes.All after first) m old new) is h
 
 -- a run that is begun was told where to begin
 pub IsRunNote-start : (f : RunFault) (note : Note) → IsRunNote f note → IsErrOf {T = ℕ} (Err note) notes.NoRun → ⊥
@@ -263,6 +347,20 @@ IsRunNote-write faults.Memory note n h e = absurd cc
 IsRunNote-write faults.Read note n h e = absurd cc
 IsRunNote-write faults.Write note n h e = h (ap Err n)
 IsRunNote-write faults.Spent note n h e = absurd n
+
+pub IsRunNote-unread : (f : RunFault) (note : Note) → IsRunNote f note → IsErrOf {T = ℕ} (Err note) notes.InputUnread
+    → IsErrOf {T = Ending} (Err f) faults.Read
+IsRunNote-unread faults.Memory note n h = absurd cc
+IsRunNote-unread faults.Read note n h = refl
+IsRunNote-unread faults.Write note n h = absurd cc
+IsRunNote-unread faults.Spent note n h = absurd n
+
+pub IsRunNote-memory : (f : RunFault) (note : Note) → IsRunNote f note → IsErrOf {T = ℕ} (Err note) notes.OutOfMemory
+    → IsErrOf {T = Ending} (Err f) faults.Memory
+IsRunNote-memory faults.Memory note n h = refl
+IsRunNote-memory faults.Read note n h = absurd cc
+IsRunNote-memory faults.Write note n h = absurd cc
+IsRunNote-memory faults.Spent note n h = absurd n
 
 -- ---- an outcome
 

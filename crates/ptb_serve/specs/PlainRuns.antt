@@ -1,14 +1,23 @@
 -- This file defines what a plain run comes to.
 --     ShowsRun r old new e       of a run with the bytes and the ending r, the bytes were shown and the ending is e
 --     run_fault fault            the fault of a run whose input isn't read
+--     lines_come taken           the lines that came whole in these bytes
 --     IsUnreadable known old new the input could not be read, or is too long
-use Rattle.std.specs.Prelude.{◌≡◌, ◌⊎◌, ◌<◌, ℕ, List, length, Option, IfSome}
+--     lines_taken p lines limit a    how many of the lines of its input a run takes
+--     lines_wanted k result      how many a run wants that takes k lines
+--     ReadsFor taken wanted      these bytes were taken of an input for so many lines
+use Rattle.std.specs.Prelude.{◌≡◌, ◌⊎◌, ◌+◌, ◌-◌, ◌<◌, ◌≤◌, ℕ, List, [], ◌++◌, length, take, Option, None, Result, Ok, Err, IfSome}
 use Rattle.std.specs.Io.KnownBytes.{Appends}
 use Rattle.ptb_text.specs.Device.{HasFailed}
+use Rattle.ptb_text.specs.Statements.{StoredProgram}
+use Rattle.ptb_expr.specs.Outcome.{Answers}
 use Rattle.ptb_command.specs.declared.ending.Ending.{Ending}
+use Rattle.ptb_command.specs.declared.ending.Ending.TheVariants as endings
+use Rattle.ptb_devices.specs.Cutting.{whole_lines}
 use Rattle.ptb_devices.specs.declared.fault.ReadFault.{ReadFault}
 use Rattle.ptb_devices.specs.declared.fault.ReadFault.TheVariants as reads
 use Rattle.ptb_devices.specs.declared.whole_input.TheConstants.{INPUT_LIMIT}
+use Rattle.ptb_machine.specs.Play.{unasked_lines}
 use Rattle.ptb_machine.specs.declared.fault.RunFault.{RunFault}
 use Rattle.ptb_machine.specs.declared.fault.RunFault.TheVariants as runs
 
@@ -25,6 +34,49 @@ run_fault reads.Memory = runs.Memory
 abbrev pub input_limit : ℕ
 input_limit = INPUT_LIMIT
 
+-- the lines that came whole in these bytes, within what an input may have
+abbrev pub lines_come : List ℕ → List (List ℕ)
+lines_come taken = whole_lines None (take input_limit taken)
+
 -- by the bytes of a reader, where they are known, and how often it has failed
 abbrev pub IsUnreadable : Option (List ℕ) → ℕ → ℕ → Type 0
 IsUnreadable known old new = HasFailed old new ⊎ IfSome known (λ c. input_limit < length c)
+
+-- ---- what a run takes of its input
+
+-- all but those for which it doesn't ask
+abbrev pub lines_taken : StoredProgram → List (List ℕ) → ℕ → Answers → ℕ
+lines_taken p lines limit a = length lines - length (unasked_lines p lines limit a)
+
+-- one more where it ended for want of a line, or the next could not be read
+abbrev pub lines_wanted : ℕ → Result Ending RunFault → ℕ
+lines_wanted k (Ok endings.NoInput) = k + 1
+lines_wanted k (Ok endings.End) = k
+lines_wanted k (Ok endings.Stop) = k
+lines_wanted k (Ok endings.What) = k
+lines_wanted k (Ok endings.How) = k
+lines_wanted k (Ok endings.Sorry) = k
+lines_wanted k (Ok endings.Limit) = k
+lines_wanted k (Ok endings.NoAnswer) = k
+lines_wanted k (Ok endings.BadAnswer) = k
+lines_wanted k (Err runs.Read) = k + 1
+lines_wanted k (Err runs.Memory) = k
+lines_wanted k (Err runs.Write) = k
+lines_wanted k (Err runs.Spent) = k
+
+-- the bytes that one read gives at most
+abbrev pub piece_limit : ℕ
+piece_limit = 4096
+
+-- the last read gave at most so many bytes, and before it fewer lines were whole than wanted
+pub record IsReadFor (taken : List ℕ) (wanted : ℕ) : Type 0 where
+  pub before : List ℕ
+  pub piece : List ℕ
+  pub both : taken ≡ before ++ piece
+  pub some : 0 < length piece
+  pub fits : length piece ≤ piece_limit
+  pub needed : length (whole_lines None before) < wanted
+
+-- where no line is wanted nothing is taken
+abbrev pub ReadsFor : List ℕ → ℕ → Type 0
+ReadsFor taken wanted = (taken ≡ []) ⊎ IsReadFor taken wanted

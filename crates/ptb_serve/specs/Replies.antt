@@ -38,9 +38,12 @@ success bytes = record { bytes = bytes; status = 0; note = None }
 abbrev pub run_reply : List ℕ × Ending → Reply
 run_reply r = record { bytes = r.0; status = status r.1; note = None }
 
--- a run of a program on an input
+-- a run of a program on these lines, and on those of an input
+abbrev pub lines_reply : ℕ → Answers → List (List ℕ) → StoredProgram → Reply
+lines_reply steps a lines p = run_reply (plain p lines steps a)
+
 abbrev pub plain_reply : ℕ → Answers → List ℕ → StoredProgram → Reply
-plain_reply steps a c p = run_reply (plain p (input_lines c) steps a)
+plain_reply steps a c p = lines_reply steps a (input_lines c) p
 
 abbrev pub listing_reply : StoredProgram → Reply
 listing_reply p = success (listing p.lines)

@@ -10,17 +10,25 @@
 --     TellsRefusal memory known note    a text is noted as refused as it is refused, where it is known
 --     TellsLength old new note          a text is noted as too long where one byte too many was given
 --     SilentBy mode note old new        nothing was written, unless what was due was broken off
+--     EndsUnread reply old new          the reply of a run that ends for want of a line was given
+--     ServesUnread mode ..              what was written where the input could not be read
+--     wanted_by k note status           how many lines a run wanted that takes k
+--     ReadsForRun mode ..               what a plain run takes of its input
 --     IsPlainRun mode                   the program is run once
---     NeedsInput mode                   the input is read
+--     NeedsInput mode                   the input may be read
+--     NeedsWholeInput mode              the input is read to its end
 --     IsInput mode known c              c is the input, where the mode needs it
-use Rattle.std.specs.Prelude.{◌≡◌, ℕ, ◌+◌, IfSome, List, [], Option, Some, None, Result, Ok, Err}
-use Rattle.std.specs.Io.KnownBytes.{Appends}
+use Rattle.std.specs.Prelude.{◌≡◌, ◌==◌, ℕ, ◌+◌, if◌then◌else◌, IfOk, IfSome, List, [], Option, Some, None, Result, Ok, Err}
+use Rattle.std.specs.Io.KnownBytes.{Appends, Consumes}
 use Rattle.ptb_text.specs.declared.fault.LoadFault.{LoadFault}
 use Rattle.ptb_text.specs.declared.fault.LoadFault.TheVariants as loads
 use Rattle.ptb_text.specs.Device.{GivesExactly, TakesSome}
+use Rattle.ptb_text.specs.Lines.{input_lines}
 use Rattle.ptb_text.specs.Statements.{program_limit}
 use Rattle.ptb_devices.specs.declared.fault.ReadFault.{ReadFault}
 use Rattle.ptb_devices.specs.declared.fault.ReadFault.TheVariants as reads
+use Rattle.ptb_command.specs.declared.ending.Ending.TheVariants as endings
+use Rattle.ptb_machine.specs.Play.{status}
 use Rattle.ptb_machine.specs.declared.fault.RunFault.{RunFault}
 use Rattle.ptb_machine.specs.declared.fault.RunFault.TheVariants as faults
 use Rattle.ptb_explore.specs.declared.fault.AfterFault.{AfterFault}
@@ -33,7 +41,9 @@ use Rattle.ptb_options.specs.declared.request.Mode.{Mode}
 use Rattle.ptb_options.specs.declared.request.Mode.TheVariants as modes
 use Rattle.ptb_serve.specs.declared.service.Outcome.{Outcome}
 use Rattle.ptb_serve.specs.Statuses.{note_status}
-use Rattle.ptb_serve.specs.Replies.{Reply, program_of_text}
+use Rattle.ptb_options.specs.declared.request.Request.{Request}
+use Rattle.ptb_serve.specs.PlainRuns.{ReadsFor, lines_come, lines_taken}
+use Rattle.ptb_serve.specs.Replies.{Reply, lines_reply, program_of_text, program_reply}
 
 -- ---- outcomes
 
@@ -97,12 +107,28 @@ SilentWithoutMemory (modes.Plain a) old new = Appends old new []
 SilentWithoutMemory (modes.All after first) old new = Unit {0}
 SilentWithoutMemory modes.List old new = Appends old new []
 
--- nothing was written, unless a note says that a write failed, or that no memory was left for the next report
+-- nothing was written, unless a note says that a write failed, that no memory was left for the next report,
+-- or that a line that a run asked for could not be read
 abbrev pub SilentBy : Mode → Option Note → Option (List ℕ) → Option (List ℕ) → Type 0
 SilentBy mode None old new = Unit {0}
 SilentBy mode (Some notes.Unwritten) old new = Unit {0}
 SilentBy mode (Some notes.OutOfMemory) old new = SilentWithoutMemory mode old new
+SilentBy (modes.Plain a) (Some notes.InputUnread) old new = Unit {0}
 SilentBy mode (Some note) old new = Appends old new []
+
+-- its bytes were written, and its status is that of a run which ends for want of a line
+pub record EndsUnread (reply : Reply) (old new : Option (List ℕ)) : Type 0 where
+  pub bytes : Appends old new reply.bytes
+  pub status : reply.status ≡ status endings.NoInput
+
+-- on the lines that came whole in the bytes that were taken of the input a run ends for want of a line, and it has shown what it shows;
+-- a listing begins once the input was read
+abbrev pub ServesUnread : Mode → Request → Option (List ℕ) → Option (List ℕ) → List ℕ → Option (List ℕ) → Option (List ℕ) → Type 0
+ServesUnread (modes.Plain a) request known left b old new =
+    (taken : List ℕ) × Consumes known left taken
+    × EndsUnread (program_reply request.memory b (lines_reply request.steps a (lines_come taken))) old new
+ServesUnread (modes.All after first) request known left b old new = Appends old new []
+ServesUnread modes.List request known left b old new = Appends old new []
 
 -- the status of such a request alone is that of an ending
 abbrev pub IsPlainRun : Mode → Type 0
@@ -135,11 +161,32 @@ TellsLength old new None = Unit {0}
 
 -- ---- the input
 
+-- one more where the run ended for want of a line, or the next could not be read
+abbrev pub wanted_by : ℕ → Option Note → ℕ → ℕ
+wanted_by k None number = if number == status endings.NoInput then k + 1 else k
+wanted_by k (Some notes.InputUnread) number = k + 1
+wanted_by k (Some note) number = k
+
+-- the input c is read only for the lines that the run wants
+abbrev pub ReadsForRun : Mode → Request → List ℕ → List ℕ → Option (List ℕ) → Outcome → Type 0
+ReadsForRun (modes.Plain a) request b c left outcome =
+    IfOk (program_of_text request.memory b) (λ p. (taken : List ℕ) × Consumes (Some c) left taken
+    × ReadsFor taken (wanted_by (lines_taken (record { lines = p; memory = request.memory }) (input_lines c) request.steps a)
+    outcome.note outcome.status))
+ReadsForRun (modes.All after first) request b c left outcome = Unit {0}
+ReadsForRun modes.List request b c left outcome = Unit {0}
+
 -- a listing of the program's lines alone doesn't read it
 abbrev pub NeedsInput : Mode → Type 0
 NeedsInput (modes.Plain a) = Unit {0}
 NeedsInput (modes.All after first) = Unit {0}
 NeedsInput modes.List = ⊥
+
+-- a run reads it only as far as it asks for lines
+abbrev pub NeedsWholeInput : Mode → Type 0
+NeedsWholeInput (modes.Plain a) = ⊥
+NeedsWholeInput (modes.All after first) = Unit {0}
+NeedsWholeInput modes.List = ⊥
 
 -- the input, where it is needed and known; any bytes where it isn't looked at
 abbrev pub IsInput : Mode → Option (List ℕ) → List ℕ → Type 0

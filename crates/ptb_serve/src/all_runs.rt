@@ -109,6 +109,8 @@ fn explorer_behind<'a>(
       input = lines.now;
       limit = limit;
       front = first_front after.now;
+      kept = e.kept;
+      played = e.played;
     }) }
     ensures front { OnOk result (is_front (play program.now lines.now limit) after.now ≡ true) }
     ensures no_run { IsErrOf result Note.NoRun

@@ -1,27 +1,31 @@
 // This file has the plain run, which plays a program once with a list of answers.
 
-ghost use Rattle.std.specs.Prelude.{◌≡◌, ◌⊎◌, ◌+◌, ◌≤◌, [], length, IfOk, IfSome, IsErrOf, OnOk};
-ghost use Rattle.std.specs.Io.KnownBytes.{Appends};
+ghost use Rattle.std.specs.Prelude.{◌≡◌, ◌⊎◌, ◌+◌, ◌≤◌, ℕ, List, [], length, IfOk, IfSome, IsErrOf, OnOk, OnErr};
+ghost use Rattle.std.specs.Io.KnownBytes.{Appends, Consumes};
 ghost use Rattle.ptb_text.specs.Device.{GivesAtMost, GivesExactly, HasFailed, TakesSome};
 ghost use Rattle.ptb_text.specs.Lines.{input_lines};
 ghost use Rattle.ptb_machine.specs.Play.{plain};
 ghost use Rattle.ptb_devices.specs.Sources.{ConsumesAtMost};
-ghost use Rattle.ptb_serve.specs.PlainRuns.{IsUnreadable, ShowsRun, input_limit, run_fault};
+ghost use Rattle.ptb_serve.specs.PlainRuns.{IsUnreadable, ReadsFor, ShowsRun};
+ghost use Rattle.ptb_serve.specs.PlainRuns.{input_limit, lines_come, lines_taken, lines_wanted, run_fault};
 
 use ptb_expr::Listed;
-use ptb_machine::{Ending, Lines, ReadFault, RunFault, WriterScreen, read_lines, run};
+use ptb_machine::{Ending, ReadFault, ReaderLines, RunFault, WriterScreen, run};
 use ptb_text::{Program, Read, Write};
 use std::alloc::Global;
 
 /// Runs a program once, on the lines of an input and with these answers, and begins at most `limit`
 /// commands. What it shows goes to the writer.
 ///
-/// Nothing is shown until the input was read to its end. Answers that are left over are not looked
-/// at.
+/// A line is read when the run asks for it, and what it shows before was shown then: the input is
+/// read on only while fewer lines are whole than were asked for. Answers that are left over are not
+/// looked at.
 ///
 /// # Errors
 ///
-/// [`RunFault::Read`] where the input could not be read or has more than 16,777,216 bytes, and
+/// [`RunFault::Read`] where a line could not be read, or more than 16,777,216 bytes would have to
+/// be: on the lines that came whole the run ends for want of a line, and the writer got what it
+/// shows.
 /// [`RunFault::Memory`] where a growth was refused memory: nothing was shown then.
 /// [`RunFault::Write`] where the writer failed: it got a beginning of what the run shows. Never
 /// [`RunFault::Spent`].
@@ -37,15 +41,21 @@ pub fn run_plain<R: Read, W: Write>(
         ShowsRun (plain program.now (input_lines c) limit answers.now)
         (W.contents out.old) (W.contents out.new) ending)) }
     ensures within { OnOk result
-        (IfSome (R.remaining input.old) (λ c. length c ≤ input_limit)) }
-    ensures write { IsErrOf result RunFault.Write → IfSome (R.remaining input.old) (λ c.
+        (ConsumesAtMost (R.remaining input.old) (R.remaining input.new) input_limit) }
+    ensures beginning { OnErr result (IfSome (R.remaining input.old) (λ c.
         TakesSome (W.contents out.old) (W.contents out.new)
-        (plain program.now (input_lines c) limit answers.now).0) }
+        (plain program.now (input_lines c) limit answers.now).0)) }
+    ensures read { IsErrOf result RunFault.Read → (taken : List ℕ)
+        × Consumes (R.remaining input.old) (R.remaining input.new) taken
+        × ShowsRun (plain program.now (lines_come taken) limit answers.now)
+        (W.contents out.old) (W.contents out.new) Ending.NoInput }
+    ensures taken { (taken : List ℕ)
+        × Consumes (R.remaining input.old) (R.remaining input.new) taken
+        × IfSome (R.remaining input.old) (λ c. ReadsFor taken (lines_wanted
+        (lines_taken program.now (input_lines c) limit answers.now) result)) }
     ensures failed { IsErrOf result RunFault.Write
         → HasFailed (W.failures out.old) (W.failures out.new) }
     ensures memory { IsErrOf result RunFault.Memory
-        → Appends (W.contents out.old) (W.contents out.new) [] }
-    ensures read { IsErrOf result RunFault.Read
         → Appends (W.contents out.old) (W.contents out.new) [] }
     ensures unreadable { IsErrOf result RunFault.Read
         → IsUnreadable (R.remaining input.old) (R.failures input.old) (R.failures input.new) }
@@ -61,21 +71,22 @@ pub fn run_plain<R: Read, W: Write>(
         → HasFailed (R.failures input.old) (R.failures input.new)
         ⊎ GivesExactly (R.given input.old) (R.given input.new) (input_limit + 1) }
 {
-    let lines = match read_lines(alloc, input) {
-        Ok(lines) => lines,
-        Err(fault) => return Err(run_fault(fault)),
-    };
     let mut chooser = Listed::new(answers);
     let mut screen = WriterScreen::new(out);
-    let mut source = Lines::new(&lines);
-    run(
+    let mut source = ReaderLines::new(input);
+    let ended = run(
         alloc,
         program,
         limit,
         &mut chooser,
         &mut screen,
         &mut source,
-    )
+    );
+    // The source keeps its fault, so that it is told whatever the run has come to.
+    match source.fault() {
+        Some(fault) => Err(run_fault(fault)),
+        None => ended,
+    }
 }
 
 // A run on an input that isn't read.

@@ -10,8 +10,9 @@ ghost use Rattle.ptb_options.specs.declared.request.Mode.TheVariants.{List as Li
 ghost use Rattle.ptb_serve.specs.declared.note.Note.TheVariants.{Load};
 ghost use Rattle.ptb_serve.specs.PlainRuns.{IsUnreadable, input_limit};
 ghost use Rattle.ptb_serve.specs.Replies.{program_of_text, refusal, reply_in_mode, reply_to};
-ghost use Rattle.ptb_serve.specs.Serving.{IsInput, IsPlainRun, IsRunNote, NeedsInput, Serves};
-ghost use Rattle.ptb_serve.specs.Serving.{IsUnloaded, SilentBy, TellsLength, TellsRefusal};
+ghost use Rattle.ptb_serve.specs.Serving.{IsInput, IsPlainRun, IsRunNote, IsUnloaded, NeedsInput};
+ghost use Rattle.ptb_serve.specs.Serving.{NeedsWholeInput, ReadsForRun, Serves, ServesUnread, SilentBy};
+ghost use Rattle.ptb_serve.specs.Serving.{TellsLength, TellsRefusal};
 ghost use Rattle.ptb_serve.specs.Serving.{outcome_of};
 ghost use Rattle.ptb_serve.specs.Statuses.{note_status};
 
@@ -56,10 +57,13 @@ impl Outcome {
 /// text. A program's reader gives at most 1,048,577 bytes, and an input's at most 16,777,217, also
 /// one that never ends.
 ///
+/// A run reads its input only as far as it asks for lines: while fewer lines are whole than it
+/// wants, 4096 bytes at most. A report of all runs reads it whole.
+///
 /// A note says why a request isn't served, or not to its end. With [`Note::Unwritten`] a beginning
-/// of what was due was written, and with [`Note::OutOfMemory`], too, where all runs are reported.
-/// With every other note nothing was written. A write that fails always comes to
-/// [`Note::Unwritten`].
+/// of what was due was written. So it was with [`Note::OutOfMemory`] where all runs are reported,
+/// and with [`Note::InputUnread`] where a run asked for a line that could not be read. With every
+/// other note nothing was written. A write that fails always comes to [`Note::Unwritten`].
 pub fn serve<P: Read, R: Read, W: Write>(
     alloc: Global,
     request: &Request,
@@ -80,8 +84,12 @@ pub fn serve<P: Read, R: Read, W: Write>(
     ensures status { MatchOption result.note
         (result.status ≤ 7) (λ note. result.status ≡ note_status note) }
     ensures success { ¬ IsPlainRun request.now.mode → result.note ≡ None → result.status ≡ 0 }
-    ensures within { NeedsInput request.now.mode → result.note ≡ None
+    ensures within { NeedsWholeInput request.now.mode → result.note ≡ None
         → IfSome (R.remaining input.old) (λ c. length c ≤ input_limit) }
+    ensures taken_within { IsPlainRun request.now.mode → result.note ≡ None
+        → ConsumesAtMost (R.remaining input.old) (R.remaining input.new) input_limit }
+    ensures taken { IfSome (P.remaining program.old) (λ b. IfSome (R.remaining input.old) (λ c.
+        ReadsForRun request.now.mode request.now b c (R.remaining input.new) result)) }
     ensures no_run_within { result.note ≡ Some Note.NoRun
         → IfSome (R.remaining input.old) (λ c. length c ≤ input_limit) }
     ensures program_bounded { ConsumesAtMost
@@ -98,6 +106,10 @@ pub fn serve<P: Read, R: Read, W: Write>(
         (R.given input.old) (R.given input.new) (input_limit + 1) }
     ensures silent { SilentBy request.now.mode result.note
         (W.contents out.old) (W.contents out.new) }
+    ensures unread { result.note ≡ Some Note.InputUnread
+        → IfSome (P.remaining program.old) (λ b.
+        ServesUnread request.now.mode request.now (R.remaining input.old) (R.remaining input.new) b
+        (W.contents out.old) (W.contents out.new)) }
     ensures program_unread { result.note ≡ Some Note.ProgramUnread
         → HasFailed (P.failures program.old) (P.failures program.new) }
     ensures program_read { result.note ≢ Some Note.ProgramUnread
@@ -149,7 +161,13 @@ fn run_program<P: Read, R: Read, W: Write>(
         (λ _. (input.new ≡ input.old) × ¬ IsErrOf result Note.InputUnread)) }
     ensures done { IfOk result (λ status. status ≤ 7) }
     ensures within { OnOk result
-        (IfSome (R.remaining input.old) (λ c. length c ≤ input_limit)) }
+        (ConsumesAtMost (R.remaining input.old) (R.remaining input.new) input_limit) }
+    ensures taken { IfSome (P.remaining program.old) (λ b. IfSome (R.remaining input.old) (λ c.
+        ReadsForRun (Plain answers.now) request.now b c (R.remaining input.new) (outcome_of result))) }
+    ensures unread { IsErrOf result Note.InputUnread → IfSome (P.remaining program.old) (λ b.
+        ServesUnread (Plain answers.now) request.now
+        (R.remaining input.old) (R.remaining input.new) b
+        (W.contents out.old) (W.contents out.new)) }
     ensures no_start { ¬ IsErrOf result Note.NoRun }
     ensures program_bounded { ConsumesAtMost
         (P.remaining program.old) (P.remaining program.new) (program_limit + 1) }

@@ -121,3 +121,25 @@ fn places(rt: HostRuntime) -> Result<(), Fail> {
     assert_eq!(rt; back, Some((3, 4)));
     Ok(())
 }
+
+// A copy has what was open, whatever is closed or opened later; a stack that takes it over keeps
+// nothing of its own.
+#[test]
+fn copies(rt: HostRuntime) -> Result<(), Fail> {
+    let mut stack = Stack::new();
+    assert!(rt; change(&mut stack, b'A'));
+    assert!(rt; change(&mut stack, b'('));
+    let mut copy = stack.copy();
+    assert!(rt; change(&mut stack, b'B'));
+    for (byte, done) in [(b'C', true), (b'-', true)] {
+        assert_eq!(rt; change(&mut copy, byte), done);
+    }
+    stack.copy_from(&copy);
+    for byte in [b'(', b'A'] {
+        assert_eq!(rt; newest(&mut copy), Some(byte));
+        assert_eq!(rt; newest(&mut stack), Some(byte));
+    }
+    assert_eq!(rt; newest(&mut copy), None);
+    assert_eq!(rt; newest(&mut stack), None);
+    Ok(())
+}

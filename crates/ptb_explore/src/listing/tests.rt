@@ -1,11 +1,15 @@
-// This file tests listings of runs: all reports, the first of them, those behind a run, and writers
-// that fail.
+// This file tests listings of runs: all reports, the first of them, those behind a run, writers that
+// fail, and memory that is refused.
+
+ghost use Rattle.std.specs.Prelude.{◌≤◌};
 
 use super::*;
 use crate::fault::AfterFault;
 use ptb_machine::{Ending, Line, read_lines};
 use ptb_text::{Device, Program, load};
 use std::alloc::Global;
+use std::io;
+use std::io::ErrorKind;
 use std::test::Fail;
 
 const PRODUCTS: &str = "10 PRINT RND(2)*RND(2)";
@@ -135,5 +139,125 @@ fn writes_a_beginning(rt: HostRuntime) -> Result<(), Fail> {
         assert_eq!(rt; result, Err(ExploreFault::Write(size as u64 / 24)));
         assert_eq!(rt; &room[..size], &PRODUCT_REPORTS.as_bytes()[..size]);
     }
+    Ok(())
+}
+
+// How a writer fails: by an error, by one that says that it was interrupted, or by taking nothing.
+#[derive(Clone, Copy, Debug)]
+enum Failing {
+    Breaks,
+    IsInterrupted,
+    TakesNothing,
+}
+
+// Takes at most five bytes a call, until it fails at a call.
+#[derive(Drop)]
+struct Sink {
+    taken: Vec<u8>,
+    calls_left: usize,
+    failing: Failing,
+}
+
+impl io::Write for &mut Sink {
+    fn write(&mut self, buf: &[u8]) -> io::Result<usize> {
+        if self.calls_left == 0 {
+            return match self.failing {
+                Failing::Breaks => Err(io::Error::from(ErrorKind::BrokenPipe)),
+                Failing::IsInterrupted => Err(io::Error::from(ErrorKind::Interrupted)),
+                Failing::TakesNothing => Ok(0),
+            };
+        }
+        self.calls_left -= 1;
+        let count = buf.len().min(5);
+        self.taken.extend_from_slice(&buf[..count])?;
+        Ok(count)
+    }
+
+    fn flush(&mut self) -> io::Result<()> {
+        Ok(())
+    }
+}
+
+// The writer fails at its first call, at its second, and so on until none fails.
+#[test]
+fn counts_reports_of_a_failing_writer(rt: HostRuntime) -> Result<(), Fail> {
+    let (program, lines) = loaded(rt.alloc(), PRODUCTS, "")?;
+    for failing in [
+        Failing::Breaks,
+        Failing::IsInterrupted,
+        Failing::TakesNothing,
+    ] {
+        for calls in 0..=20 {
+            let mut explorer = Explorer::start(rt.alloc(), &program, &lines, 10000)?;
+            let mut sink = Sink {
+                taken: Vec::new(rt.alloc()),
+                calls_left: calls,
+                failing,
+            };
+            let result = write_all_runs(&mut explorer, None, &mut Device::new(&mut sink));
+            let due = if sink.taken.len() == 96 {
+                Ok(4)
+            } else {
+                Err(ExploreFault::Write(sink.taken.len() as u64 / 24))
+            };
+            assert_eq!(rt; result, due, "{failing:?} {calls}");
+            assert!(rt;
+                PRODUCT_REPORTS.as_bytes().starts_with(&sink.taken),
+                "{failing:?} {calls}"
+            );
+            // a report of 24 bytes takes five calls
+            assert_eq!(rt; result.is_err(), calls < 20, "{failing:?} {calls}");
+        }
+    }
+    Ok(())
+}
+
+// How many bytes the first reports of `BRANCH_REPORTS` have.
+fn branch_bytes(count: u64) -> usize
+    ensures { result ≤ 87 }
+{
+    match count {
+        0 => 0,
+        1 => 15,
+        2 => 39,
+        3 => 63,
+        _ => 87,
+    }
+}
+
+// Whether a room of dots was begun with just this text.
+fn holds(room: &[u8], text: &[u8]) -> bool {
+    match room.strip_prefix(text) {
+        Some(rest) => rest.iter().all(|b| *b == b'.'),
+        None => false,
+    }
+}
+
+// Passes whichever of its allocations is refused: the listing that ends there has just the reports
+// that it counts, and a second one by the same explorer has the others.
+#[test]
+fn refused_listings_go_on(rt: HostRuntime) -> Result<(), Fail> {
+    let mut text = BRANCHES.as_bytes();
+    let Ok(program) = load(rt.alloc(), 4096, &mut Device::new(&mut text)) else {
+        return Ok(());
+    };
+    let Ok(mut explorer) = Explorer::start(rt.alloc(), &program, &[], 10000) else {
+        return Ok(());
+    };
+    let mut room = [b'.'; 100];
+    let first = match write_all_runs(&mut explorer, None, &mut Device::new(&mut room[..])) {
+        Ok(count) => count,
+        Err(ExploreFault::Memory(count)) => {
+            println!(rt; "refused behind {count}")?;
+            count
+        }
+        Err(ExploreFault::Write(_)) => return Err(Fail::from("not written")),
+    };
+    let (front, back) = BRANCH_REPORTS.as_bytes().split_at(branch_bytes(first));
+    assert!(rt; holds(&room, front), "behind {first}");
+    let mut room = [b'.'; 100];
+    let second = write_all_runs(&mut explorer, None, &mut Device::new(&mut room[..]));
+    assert_eq!(rt; second, Ok(4_u64.saturating_sub(first)));
+    assert!(rt; holds(&room, back), "behind {first}");
     Ok(())
 }

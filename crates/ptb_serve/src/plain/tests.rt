@@ -54,7 +54,7 @@ fn endings(rt: HostRuntime) -> Result<(), Fail> {
 
 #[test]
 fn broken_devices(rt: HostRuntime) -> Result<(), Fail> {
-    let program = one_line(rt.alloc(), b"10 P.")?;
+    let program = one_line(rt.alloc(), b"10 P.;INPUT A")?;
     let mut shown = Vec::new(rt.alloc());
     let mut out = Device::new(&mut shown);
     let unread = run_plain(
@@ -66,7 +66,7 @@ fn broken_devices(rt: HostRuntime) -> Result<(), Fail> {
         &mut out,
     );
     assert_eq!(rt; unread, Err(RunFault::Read));
-    assert!(rt; shown.is_empty());
+    assert_eq!(rt; shown.as_slice(), b"\nA:".as_slice());
 
     let mut input = Device::new(&b""[..]);
     let mut broken = Device::new(Broken);

@@ -1,8 +1,15 @@
--- This file answers that a plan that is open ends at a run, whose report is made.
-use Rattle.std.proofs.Common.{◌∙◌}
+-- This file answers that a plan that is open ends at a run, whose report is made, and that the copies that are kept are of it.
+use Rattle.std.proofs.Common.{◌≡◌, ℕ, ◌-◌, List, ◌∙◌, ap, sym, subst}
+use Rattle.ptb_text.specs.Statements.{StoredProgram}
+use Rattle.ptb_command.specs.Configuration.{Configuration}
+use Rattle.ptb_devices.specs.Sources.{LineList}
 use Rattle.ptb_machine.specs.Play.{play}
 use Rattle.ptb_machine.specs.Questions.{most_answers}
-use Rattle.ptb_explore.proofs.Trial.{fresh_plan, open_ends}
+use Rattle.ptb_explore.specs.Copies.{more_played}
+use Rattle.ptb_explore.specs.Playing.{PlayEnds}
+use Rattle.ptb_explore.specs.Recording.{choices_of}
+use Rattle.ptb_explore.proofs.Keep.{kept_same}
+use Rattle.ptb_explore.proofs.Trial.{all_given, open_ends}
 use Rattle.ptb_explore.proofs.explorer.report_plan.Goals as goal
 
 pub returns-clause-ends : goal.returns-clause-ends
@@ -10,6 +17,33 @@ returns-clause-ends c =
     let p = c.args.player.now in
     let input = c.args.lines.now in
     let limit = c.args.limit in
-    let planned = c.in_ok-played.ensures.plan ∙ fresh_plan c.args.trial.now c.requires.fresh in
-    let run = open_ends (play p input limit) c.play_plan-played.new.trial c.in_ok-played.played.steps c.play_plan-played.new.screen (most_answers p input limit) (c.run_laws.ensures.reads p input limit) c.args.trial.now.answers.items planned c.requires.opens c.in_ok-played.played.ending c.in_ok-played.ensures.ends in
-    rw (c.hand_over.ensures.answers, c.hand_over.ensures.bounds, c.into_vec.ensures) run
+    let trial = c.play_on-ending.new.trial in
+    let steps = c.play_on-ending.new.machine.steps in
+    let shown = c.play_on-ending.new.screen in
+    let planned = c.in_ok-report.ensures.plan ∙ c.in_ok-machine.ensures.plan in
+    let lines : c.go_back-machine.new.source.lines ≡ input = c.go_back-machine.ensures.same_lines ∙ ap (λ (s : LineList). s.lines) c.new-source.ensures in
+    let ends = subst (λ (P : StoredProgram). PlayEnds (play P input limit) (choices_of trial) steps shown c.in_ok-report.field-0) c.go_back-machine.ensures.program
+    (subst (λ (ls : List (List ℕ)). PlayEnds (play c.go_back-machine.new.player ls limit) (choices_of trial) steps shown c.in_ok-report.field-0) lines c.in_ok-report.ensures.ends) in
+    let run = open_ends (play p input limit) trial steps shown (most_answers p input limit) (c.run_laws.ensures.reads p input limit) c.args.trial.now.answers.items planned c.requires.opens c.in_ok-report.field-0 ends in
+    rw (c.hand_over.ensures.answers, c.hand_over.ensures.bounds, c.into_vec.ensures, c.steps-steps.ensures, c.deref-2.ensures) run
+
+pub returns-clause-copies : goal.returns-clause-copies
+returns-clause-copies c =
+    let p = c.args.player.now in
+    let input = c.args.lines.now in
+    let limit = c.args.limit in
+    let trial = c.play_on-ending.new.trial in
+    let steps = c.play_on-ending.new.machine.steps in
+    let shown = c.play_on-ending.new.screen in
+    let planned = c.in_ok-report.ensures.plan ∙ c.in_ok-machine.ensures.plan in
+    let lines : c.go_back-machine.new.source.lines ≡ input = c.go_back-machine.ensures.same_lines ∙ ap (λ (s : LineList). s.lines) c.new-source.ensures in
+    let ends = subst (λ (P : StoredProgram). PlayEnds (play P input limit) (choices_of trial) steps shown c.in_ok-report.field-0) c.go_back-machine.ensures.program
+    (subst (λ (ls : List (List ℕ)). PlayEnds (play c.go_back-machine.new.player ls limit) (choices_of trial) steps shown c.in_ok-report.field-0) lines c.in_ok-report.ensures.ends) in
+    let run = open_ends (play p input limit) trial steps shown (most_answers p input limit) (c.run_laws.ensures.reads p input limit) c.args.trial.now.answers.items planned c.requires.opens c.in_ok-report.field-0 ends in
+    kept_same c.go_back-machine.new.player p c.go_back-machine.new.source.lines input limit (choices_of trial).taken _ shown _ c.play_on-ending.new.copies.kept.items _
+    (sym c.go_back-machine.ensures.program) (sym lines) (c.hand_over.ensures.answers ∙ sym (all_given (play p input limit) trial run.bounds_are)) c.into_vec.ensures (ap (λ k. k.items) c.give_back.ensures) c.in_ok-report.ensures.copies
+
+pub returns-clause-played : goal.returns-clause-played
+returns-clause-played c =
+    let first = c.steps-first.ensures ∙ ap (λ (m : Configuration). m.steps) c.deref.ensures ∙ c.in_ok-machine.ensures.steps in
+    (c.go_back-machine.new.copies.kept.items, c.in_ok-machine.ensures.back, c.saturating_add.ensures ∙ ap (λ n. more_played c.args.played.now n) (c.from.ensures ∙ c.saturating_sub.ensures ∙ ap (λ n. c.steps-steps.result - n) first))

@@ -15,7 +15,7 @@ goes_on : (r : Option ℕ) → true ≡ not (option_eq eqb r (Some 0)) → r ≡
 goes_on r h e = let f : true ≡ not (option_eq eqb (Some 0) (Some 0)) = rw e at h in absurd cc
 
 -- what is played stays the same
-of_first : (first e : Exploration) (f : Front) (old new : Option (List ℕ)) (r : Result Bool NextFault) → e ≡ record first { front = e.front } → NextWrites (play_of e) (report (play_of e)) e.front f old new r → NextWrites (play_of first) (report (play_of first)) e.front f old new r
+of_first : (first e : Exploration) (f : Front) (old new : Option (List ℕ)) (r : Result Bool NextFault) → e ≡ record first { front = e.front; kept = e.kept; played = e.played } → NextWrites (play_of e) (report (play_of e)) e.front f old new r → NextWrites (play_of first) (report (play_of first)) e.front f old new r
 of_first first e f old new r same h = subst (λ (x : Exploration). NextWrites (play_of x) (report (play_of x)) e.front f old new r) same h
 
 pub returns-in-Ok-false-clause-writes : goal.returns-in-Ok-false-clause-writes
@@ -64,7 +64,7 @@ loop-remaining-preserved g c =
     let one = of_first first l.explorer new.explorer.front (g.W.Write.contents l.writer) (g.W.Write.contents new.writer) (Ok true) l.invariant.same said in
     let more = progress_more play (most_of first) reads (report play) (runs_left play (most_of first) first.front c.args.first) first.front (g.W.Write.contents c.args.writer.now) l.explorer.front new.explorer.front l.remaining (g.W.Write.contents l.writer) (g.W.Write.contents new.writer) l.written c.saturating_add-written.result one.0 l.invariant.progress (goes_on l.remaining c.loop-remaining-test.ensures) one.1 one.2 one.3 c.saturating_add-written.ensures in
     record {
-      same = c.in-Ok-true.ensures.same ∙ ap (λ (x : Exploration). record x { front = new.explorer.front }) l.invariant.same;
+      same = c.in-Ok-true.ensures.same ∙ ap (λ (x : Exploration). record x { front = new.explorer.front; kept = new.explorer.kept; played = new.explorer.played }) l.invariant.same;
       unfailed = c.in-Ok-true.ensures.unfailed (λ h. absurd cc) ∙ l.invariant.unfailed;
       progress = rw c.one_less-remaining.ensures more;
     }

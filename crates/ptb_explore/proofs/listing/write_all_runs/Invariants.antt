@@ -10,7 +10,7 @@ abbrev pub invariant-loop-remaining : goal.invariant-loop-remaining
 invariant-loop-remaining g l =
     let play = play_of l.fn.explorer in
     record {
-      same : l.explorer ≡ record l.fn.explorer { front = l.explorer.front };
+      same : l.explorer ≡ record l.fn.explorer { front = l.explorer.front; kept = l.explorer.kept; played = l.explorer.played };
       unfailed : g.W.Write.failures l.writer ≡ g.W.Write.failures l.fn.writer;
       progress : Progress play (most_of l.fn.explorer) (report play) (runs_left play (most_of l.fn.explorer) l.fn.explorer.front l.fn.first) l.fn.explorer.front l.explorer.front l.remaining (g.W.Write.contents l.fn.writer) (g.W.Write.contents l.writer) l.written;
     }

@@ -1,18 +1,15 @@
 -- This file answers what is left to prove of `run`.
-use Rattle.std.proofs.Common.{[], ◌++◌, refl, ap, ◌∙◌, Ok, Err}
+use Rattle.std.proofs.Common.{◌≤◌, [], ◌++◌, arith, inl, refl, ap, ◌∙◌, Ok, Err}
 use Rattle.ptb_command.specs.Devices.{devices, screen_state, refused_by, nothing_refused}
+use Rattle.ptb_machine.proofs.Results.{run_missed_err, fault_missed_from, ending_missed_from, step_missed_at}
 use Rattle.ptb_machine.proofs.Runs.{run_begins, run_on, run_falls, run_over, run_breaks, runs_nothing, runs_err, steps_at, runs_of, not_spent}
 use Rattle.ptb_machine.proofs.running.run.Goals as goal
 
-pub returns-in_err-player : goal.returns-in_err-player
-returns-in_err-player g c = record {
-  runs = ([], (g.met.L.LineSource.gives_none c.args.source.now, runs_nothing _ _ _ (devices (g.C.Chooser.choices c.args.chooser.now) (screen_state g.S.Screen c.args.screen.now) []) _ c.from_residual.ensures.1));
-}
+pub returns-in_err-player-clause-runs : goal.returns-in_err-player-clause-runs
+returns-in_err-player-clause-runs g c = ([], (g.met.L.LineSource.gives_none c.args.source.now, runs_nothing _ _ _ (devices (g.C.Chooser.choices c.args.chooser.now) (screen_state g.S.Screen c.args.screen.now) []) _ c.from_residual.ensures.1))
 
-pub returns-in_err-machine : goal.returns-in_err-machine
-returns-in_err-machine g c = record {
-  runs = ([], (g.met.L.LineSource.gives_none c.args.source.now, runs_nothing _ _ _ (devices (g.C.Chooser.choices c.args.chooser.now) (screen_state g.S.Screen c.args.screen.now) []) _ c.from_residual-in_err-machine.ensures.1));
-}
+pub returns-in_err-machine-clause-runs : goal.returns-in_err-machine-clause-runs
+returns-in_err-machine-clause-runs g c = ([], (g.met.L.LineSource.gives_none c.args.source.now, runs_nothing _ _ _ (devices (g.C.Chooser.choices c.args.chooser.now) (screen_state g.S.Screen c.args.screen.now) []) _ c.from_residual-in_err-machine.ensures.1))
 
 pub steps-init : goal.steps-init
 steps-init g c = (
@@ -20,50 +17,45 @@ steps-init g c = (
   c.in_ok-machine.ensures.fits,
   c.in_ok-machine.ensures.unspent,
   ([], (g.met.L.LineSource.gives_none c.args.source.now, run_begins c.in_ok-player.player c.args.limit c.in_ok-machine.machine _ refl c.in_ok-machine.ensures.first)),
+  omega arith,
 )
 
 pub step-requires : goal.step-requires
 step-requires g c = record { fits = c.steps.invariant.1 }
 
-pub returns-in_err-ending : goal.returns-in_err-ending
-returns-in_err-ending g c =
+pub returns-in_err-ending-clause-runs : goal.returns-in_err-ending-clause-runs
+returns-in_err-ending-clause-runs g c =
     let run = c.steps.invariant.3 in
     let step = c.in_err-ending.ensures in
     let d = devices (g.C.Chooser.choices c.steps.chooser) (screen_state g.S.Screen c.steps.screen) run.0 in
     let e = devices (g.C.Chooser.choices c.step.new.chooser) (screen_state g.S.Screen c.step.new.screen) step.steps.0 in
     let o = devices (g.C.Chooser.choices c.args.chooser.now) (screen_state g.S.Screen c.args.screen.now) [] in
     let n = devices (g.C.Chooser.choices c.step.new.chooser) (screen_state g.S.Screen c.step.new.screen) (run.0 ++ step.steps.0) in
-    let refused = refused_by (g.C.Chooser.refused c.step.new.chooser) (g.L.LineSource.refused c.step.new.source) (g.L.LineSource.lines c.step.new.source) in
-    record {
-      runs = (
-        run.0 ++ step.steps.0,
-        (
-          g.met.L.LineSource.gives_more _ _ _ _ _ run.1.0 step.steps.1.0,
-          runs_of refused _ _ c.args.limit o n _ c.steps.invariant.0
-              (runs_err _ _ _ _ _ _ _ c.from_residual-in_err-ending.ensures.1 (run_breaks _ c.steps.player c.args.limit _ _ _ d e run.1.1 _ (not_spent _ _ c.steps.invariant.2 (λ k. step.spent.0 (ap Err k))) step.steps.1.1)),
-        ),
-      );
-    }
+    let refused = refused_by (g.C.Chooser.refused c.step.new.chooser) (g.L.LineSource.refused c.step.new.source) (g.L.LineSource.lines c.step.new.source) in (
+      run.0 ++ step.steps.0,
+      (
+        g.met.L.LineSource.gives_more _ _ _ _ _ run.1.0 step.steps.1.0,
+        runs_of refused _ _ c.args.limit o n _ c.steps.invariant.0
+            (runs_err _ _ _ _ _ _ _ c.from_residual-in_err-ending.ensures.1 (run_breaks _ c.steps.player c.args.limit _ _ _ d e run.1.1 _ (not_spent _ _ c.steps.invariant.2 (λ k. step.spent.0 (ap Err k))) step.steps.1.1)),
+      ),
+    )
 
-pub returns-in-Some : goal.returns-in-Some
-returns-in-Some g c =
+pub returns-in-Some-clause-runs : goal.returns-in-Some-clause-runs
+returns-in-Some-clause-runs g c =
     let run = c.steps.invariant.3 in
     let step = c.in_ok-ending.ensures in
     let d = devices (g.C.Chooser.choices c.steps.chooser) (screen_state g.S.Screen c.steps.screen) run.0 in
     let e = devices (g.C.Chooser.choices c.step.new.chooser) (screen_state g.S.Screen c.step.new.screen) step.steps.0 in
     let o = devices (g.C.Chooser.choices c.args.chooser.now) (screen_state g.S.Screen c.args.screen.now) [] in
     let n = devices (g.C.Chooser.choices c.step.new.chooser) (screen_state g.S.Screen c.step.new.screen) (run.0 ++ step.steps.0) in
-    let refused = refused_by (g.C.Chooser.refused c.step.new.chooser) (g.L.LineSource.refused c.step.new.source) (g.L.LineSource.lines c.step.new.source) in
-    record {
-      runs = (
-        run.0 ++ step.steps.0,
-        (
-          g.met.L.LineSource.gives_more _ _ _ _ _ run.1.0 step.steps.1.0,
-          runs_of refused _ _ c.args.limit o n (Ok c.in-Some.ending) c.steps.invariant.0
-              (run_over _ c.steps.player c.args.limit _ _ _ d e run.1.1 _ (steps_at _ _ _ _ _ _ _ _ _ c.in-Some.is step.steps.1.1)),
-        ),
-      );
-    }
+    let refused = refused_by (g.C.Chooser.refused c.step.new.chooser) (g.L.LineSource.refused c.step.new.source) (g.L.LineSource.lines c.step.new.source) in (
+      run.0 ++ step.steps.0,
+      (
+        g.met.L.LineSource.gives_more _ _ _ _ _ run.1.0 step.steps.1.0,
+        runs_of refused _ _ c.args.limit o n (Ok c.in-Some.ending) c.steps.invariant.0
+            (run_over _ c.steps.player c.args.limit _ _ _ d e run.1.1 _ (steps_at _ _ _ _ _ _ _ _ _ c.in-Some.is step.steps.1.1)),
+      ),
+    )
 
 pub steps-smaller : goal.steps-smaller
 steps-smaller g c =
@@ -77,6 +69,7 @@ pub steps-preserved : goal.steps-preserved
 steps-preserved g c =
     let run = c.steps.invariant.3 in
     let step = c.in_ok-ending.ensures in
+    let missed = step_missed_at (g.L.LineSource.refused c.step.new.source) (g.L.LineSource.missed c.step.new.source ≤ g.L.LineSource.missed c.steps.source) _ _ c.in_default.is step.missed in
     let d = devices (g.C.Chooser.choices c.steps.chooser) (screen_state g.S.Screen c.steps.screen) run.0 in
     let e = devices (g.C.Chooser.choices c.step.new.chooser) (screen_state g.S.Screen c.step.new.screen) step.steps.0 in (
       step.program ∙ c.steps.invariant.0,
@@ -89,4 +82,22 @@ steps-preserved g c =
           rw step.program (run_on nothing_refused c.steps.player c.args.limit _ _ _ d e run.1.1 (steps_at _ _ _ _ _ _ _ _ _ c.in_default.is step.steps.1.1)),
         ),
       ),
+      omega (arith, missed, c.steps.invariant.4),
     )
+
+-- ---- lines that are asked for in vain
+
+pub returns-in_err-player-clause-missed : goal.returns-in_err-player-clause-missed
+returns-in_err-player-clause-missed g c = run_missed_err (g.L.LineSource.refused c.args.source.now) (g.L.LineSource.missed c.args.source.now ≤ g.L.LineSource.missed c.args.source.now) _ _ c.from_residual.ensures.1 (inl (omega arith))
+
+pub returns-in_err-machine-clause-missed : goal.returns-in_err-machine-clause-missed
+returns-in_err-machine-clause-missed g c = run_missed_err (g.L.LineSource.refused c.args.source.now) (g.L.LineSource.missed c.args.source.now ≤ g.L.LineSource.missed c.args.source.now) _ _ c.from_residual-in_err-machine.ensures.1 (inl (omega arith))
+
+pub returns-in_err-ending-clause-missed : goal.returns-in_err-ending-clause-missed
+returns-in_err-ending-clause-missed g c =
+    run_missed_err (g.L.LineSource.refused c.step.new.source) (g.L.LineSource.missed c.step.new.source ≤ g.L.LineSource.missed c.args.source.now) _ _ c.from_residual-in_err-ending.ensures.1
+    (fault_missed_from (g.L.LineSource.refused c.step.new.source) (g.L.LineSource.missed c.step.new.source ≤ g.L.LineSource.missed c.steps.source) (g.L.LineSource.missed c.step.new.source ≤ g.L.LineSource.missed c.args.source.now) (λ h. omega (arith, h, c.steps.invariant.4)) _ c.in_err-ending.ensures.missed)
+
+pub returns-in-Some-clause-missed : goal.returns-in-Some-clause-missed
+returns-in-Some-clause-missed g c =
+    ending_missed_from (g.L.LineSource.missed c.step.new.source ≤ g.L.LineSource.missed c.steps.source) (g.L.LineSource.missed c.step.new.source ≤ g.L.LineSource.missed c.args.source.now) (λ h. omega (arith, h, c.steps.invariant.4)) _ (step_missed_at (g.L.LineSource.refused c.step.new.source) (g.L.LineSource.missed c.step.new.source ≤ g.L.LineSource.missed c.steps.source) _ _ c.in-Some.is c.in_ok-ending.ensures.missed)

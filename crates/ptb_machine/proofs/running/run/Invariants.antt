@@ -1,5 +1,5 @@
 -- This file says what a run has come to before each step.
-use Rattle.std.proofs.Common.{◌≡◌, ℕ, ◌-◌, false, List, []}
+use Rattle.std.proofs.Common.{◌≡◌, ◌≤◌, ℕ, ◌-◌, false, List, []}
 use Rattle.ptb_command.specs.Devices.{devices, screen_state}
 use Rattle.ptb_machine.specs.Steps.{FitsProgram}
 use Rattle.ptb_machine.proofs.Runs.{HasRun}
@@ -12,6 +12,7 @@ invariant-steps g l =
     × HasRun l.player l.limit l.machine
     (devices (g.C.Chooser.choices l.fn.chooser) (screen_state g.S.Screen l.fn.screen) [])
     (devices (g.C.Chooser.choices l.chooser) (screen_state g.S.Screen l.screen) given)))
+    × (g.L.LineSource.missed l.source ≤ g.L.LineSource.missed l.fn.source)
 
 abbrev pub decreases-steps : goal.decreases-steps
 decreases-steps g l = l.limit - l.machine.steps

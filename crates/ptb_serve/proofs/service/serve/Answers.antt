@@ -1,6 +1,6 @@
 -- This file answers what is left to prove of `serve`.
 use Rattle.ptb_serve.specs.declared.note.Note.TheVariants as notes
-use Rattle.ptb_serve.proofs.Served.{outcome_of-none, outcome_of-note, outcome_of-success, outcome_of-unread}
+use Rattle.ptb_serve.proofs.Served.{unread_listing, outcome_of-none, outcome_of-note, outcome_of-success, outcome_of-unread}
 use Rattle.ptb_serve.proofs.service.serve.Goals as goal
 
 pub returns-in-Plain-clause-served : goal.returns-in-Plain-clause-served
@@ -36,7 +36,19 @@ pub returns-in-All-clause-success : goal.returns-in-All-clause-success
 returns-in-All-clause-success g c = λ h. rw c.of-in-All.ensures (outcome_of-success c.list_runs.result c.list_runs.ensures.done)
 
 pub returns-in-Plain-clause-within : goal.returns-in-Plain-clause-within
-returns-in-Plain-clause-within g c = λ _. rw c.of.ensures (outcome_of-none c.run_program.result _ c.run_program.ensures.within)
+returns-in-Plain-clause-within g c = λ h. absurd (rw c.in-Plain.is at h)
+
+pub returns-in-Plain-clause-taken_within : goal.returns-in-Plain-clause-taken_within
+returns-in-Plain-clause-taken_within g c = λ _. rw c.of.ensures (outcome_of-none c.run_program.result _ c.run_program.ensures.within)
+
+pub returns-in-All-clause-taken_within : goal.returns-in-All-clause-taken_within
+returns-in-All-clause-taken_within g c = λ h. absurd (rw c.in-All.is at h)
+
+pub returns-in-Plain-clause-unread : goal.returns-in-Plain-clause-unread
+returns-in-Plain-clause-unread g c = rw (c.of.ensures, c.in-Plain.is) (λ is. c.run_program.ensures.unread (outcome_of-note c.run_program.result notes.InputUnread is))
+
+pub returns-in-All-clause-unread : goal.returns-in-All-clause-unread
+returns-in-All-clause-unread g c = rw (c.of-in-All.ensures, c.in-All.is) (λ is. unread_listing c.in-All.after c.in-All.first _ _ _ _ c.list_runs.ensures.silent is)
 
 pub returns-in-All-clause-within : goal.returns-in-All-clause-within
 returns-in-All-clause-within g c = λ _. rw c.of-in-All.ensures (outcome_of-none c.list_runs.result _ c.list_runs.ensures.within)
@@ -72,3 +84,8 @@ returns-in-All-clause-unloaded g c = rw c.of-in-All.ensures c.list_runs.ensures.
 
 pub returns-in-All-clause-input_failed_or_given : goal.returns-in-All-clause-input_failed_or_given
 returns-in-All-clause-input_failed_or_given g c = rw c.of-in-All.ensures (λ is. c.list_runs.ensures.input_failed_or_given (outcome_of-note c.list_runs.result notes.InputUnread is))
+
+-- ---- what is taken of the input
+
+pub returns-in-Plain-clause-taken : goal.returns-in-Plain-clause-taken
+returns-in-Plain-clause-taken g c = rw (c.of.ensures, c.in-Plain.is) c.run_program.ensures.taken

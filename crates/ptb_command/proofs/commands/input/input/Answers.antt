@@ -1,5 +1,5 @@
 -- This file answers what is left to prove of `input`.
-use Rattle.std.proofs.Common.{◌∙◌, ◌++◌, [], arith, refl}
+use Rattle.std.proofs.Common.{◌≤◌, ◌∙◌, ◌++◌, [], arith, refl}
 use Rattle.ptb_expr.specs.Reading.{item_of}
 use Rattle.ptb_command.specs.Act.{first_width}
 use Rattle.ptb_command.specs.Commands.{input_item, end_check, parts_of}
@@ -8,6 +8,7 @@ use Rattle.ptb_command.proofs.Comings.{if_ok_both, comes_unrefused}
 use Rattle.ptb_command.proofs.Commas.{comma_closed, comma_ended, comma_on, comma_first}
 use Rattle.ptb_command.proofs.Going.{item_in_front, going_start, going_last, last_closes, going_on, going_first}
 use Rattle.ptb_command.proofs.Inputting.{none_given, refines_part_joined, stops_joined}
+use Rattle.ptb_command.proofs.Missed.{unmissed, missed_err, stop_missed_from}
 use Rattle.ptb_command.proofs.PartRefinement.{refines_part_then}
 use Rattle.ptb_command.proofs.Parts.{refines_part_parts}
 use Rattle.ptb_command.proofs.Stops.{comes_err, comes_after, stops_after}
@@ -20,6 +21,7 @@ items-init g c = record {
   same = record { chooser = refl; screen = refl; source = refl };
   given = [];
   gives = g.met.L.LineSource.gives_none _;
+  missed = omega arith;
   going = going_start _ _ _ _ _ _ _ refl c.requires (λ before. none_given _ _);
 }
 
@@ -54,6 +56,7 @@ items-preserved g c =
       same = record { chooser = same.chooser ∙ was.same.chooser; screen = same.screen ∙ was.same.screen; source = same.source ∙ was.same.source };
       given = was.given ++ one.0;
       gives = g.met.L.LineSource.gives_more _ _ _ _ _ was.gives one.1.0;
+      missed = omega (arith, c.in_ok-input_item.ensures.missed, was.missed);
       going = going_on _ _ _ _ _ _ _ _ was.going _ _ _ _
           (comma_on t (input_item t c.items.cursor.place) _ _ item.whole comma)
           (omega (arith, item.ahead.after, ahead.after)) ahead.within
@@ -102,3 +105,10 @@ returns-then-not-token-clause-closed g c =
       ends = e;
     })
     whole ends)
+
+pub returns-in_err-input_item-clause-missed : goal.returns-in_err-input_item-clause-missed
+returns-in_err-input_item-clause-missed g c =
+    missed_err (g.L.LineSource.refused c.input_item.new.io.source.now) _ _ _ c.from_residual.ensures.1 (stop_missed_from (g.L.LineSource.refused c.input_item.new.io.source.now) (g.L.LineSource.missed c.input_item.new.io.source.now ≤ g.L.LineSource.missed c.items.io.source.now) (g.L.LineSource.missed c.input_item.new.io.source.now ≤ g.L.LineSource.missed c.args.io.now.source.now) (λ h. omega (arith, h, c.items.invariant.missed)) _ c.in_err-input_item.ensures.missed)
+
+pub returns-then-not-token-clause-missed : goal.returns-then-not-token-clause-missed
+returns-then-not-token-clause-missed g c = unmissed (g.L.LineSource.refused c.input_item.new.io.source.now) _ (omega (arith, c.in_ok-input_item.ensures.missed, c.items.invariant.missed)) c.check_end.result

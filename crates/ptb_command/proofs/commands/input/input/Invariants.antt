@@ -1,5 +1,5 @@
 -- This file says what the loops of `input` keep.
-use Rattle.std.proofs.Common.{◌≡◌, ◌-◌, List, ℕ, ◌++◌, length, []}
+use Rattle.std.proofs.Common.{◌≡◌, ◌≤◌, ◌-◌, List, ℕ, ◌++◌, length, []}
 use Rattle.ptb_text.specs.declared.word.Word.TheVariants.{InputKw}
 use Rattle.ptb_expr.specs.Reading.{item_of}
 use Rattle.ptb_command.specs.Act.{action_of, first_width}
@@ -19,6 +19,7 @@ invariant-items g l =
       same : SameBorrows l.fn.io l.io;
       given : List (List ℕ);
       gives : g.L.LineSource.gives l.fn.io.source.now given l.io.source.now;
+      missed : g.L.LineSource.missed l.io.source.now ≤ g.L.LineSource.missed l.fn.io.source.now;
       going : Going t (λ j. comma_round t (input_item t j)) (parts_of InputKw t i) i l.cursor.place first_width []
           (λ k. (before : List (List ℕ)) → RefinesPart
           (io_trace g.C.Chooser.choices g.S.Screen l.fn.io before l.fn.store)

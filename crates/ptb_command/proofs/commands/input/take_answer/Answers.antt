@@ -1,5 +1,5 @@
 -- This file answers what is left to prove of `take_answer`.
-use Rattle.std.proofs.Common.{◌≡◌, ◌∙◌, ◌++◌, [], ◌∷◌, Ok, None, IfErr, IfOk, IfNone, ap, append_assoc, refl, rules, subst, sym, to_z, of_z, w16}
+use Rattle.std.proofs.Common.{◌≡◌, ◌≤◌, ◌∙◌, ◌++◌, [], ◌∷◌, Ok, None, IfErr, IfOk, IfNone, ap, append_assoc, arith, refl, rules, subst, sym, to_z, of_z, w16}
 use Rattle.ptb_text.specs.CursorState.{CursorState}
 use Rattle.ptb_command.specs.declared.stop.Stop.TheVariants as stops
 use Rattle.ptb_command.specs.Devices.{screen_state, with_screen, refused_answers}
@@ -8,6 +8,7 @@ use Rattle.ptb_devices.specs.Sources.{given_lines, NoneLeft}
 use Rattle.ptb_command.proofs.Letting.{store_refines_part}
 use Rattle.ptb_command.proofs.Actions.{stops_unrefused}
 use Rattle.ptb_command.proofs.Inputting.{take_ask_stops, take_unread, take_dry, take_given, line_refines_part, line_stops, newline_stops, worth_stops, stored_refines_part, again_refines_part, again_stops, gives_no_more, gives_one_more, none_given, line_known, answers_too}
+use Rattle.ptb_command.proofs.Missed.{stop_unmissed, missed_err, missed_read, given_missed}
 use Rattle.ptb_command.proofs.PartRefinement.{refines_part_then}
 use Rattle.ptb_command.proofs.Stops.{comes_err, stops_after, stops_more}
 use Rattle.ptb_command.proofs.commands.input.take_answer.Goals as goal
@@ -19,6 +20,7 @@ answers-init g c = record {
   same = record { chooser = refl; screen = refl; source = refl };
   given = [];
   gives = g.met.L.LineSource.gives_none _;
+  missed = omega arith;
   refines = λ before. none_given _ _;
 }
 
@@ -165,6 +167,7 @@ answers-preserved g c =
       };
       given = lines;
       gives = rw borrows.source (gives_one_more g.L.LineSource.gives g.met.L.LineSource.gives_more _ _ _ _ c.in-Some.line.now c.next.result (ap given_lines (c.in_ok-line.was ∙ ap Ok c.in-Some.is)) gives c.next.follows.holds-at-none.0);
+      missed = rw borrows.source (given_missed g.L.LineSource.missed c.args.io.now.source.now c.ask.new.io.source.now c.next.follows.lender-at-none c.in-Some.line c.next.result (c.in_ok-line.was ∙ ap Ok c.in-Some.is) (rw c.ask.ensures.same.source c.answers.invariant.missed) c.next.follows.holds-at-none.3);
       refines = λ before.
           let d = io_devices g.C.Chooser.choices g.S.Screen c.ask.new.io (before ++ lines) in
           let asked = rw was.place at (rw was.text at (c.in_ok-target.ensures.comes (before ++ was.given))) in
@@ -196,3 +199,30 @@ returns-in_err-show-in-Err-clause-comes g c =
             (stops_unrefused _ _ _ _ _ (c.in_err-show-in-Err.ensures.comes (before ++ lines) c.answers.store)))),
       ),
     )
+
+-- ---- lines that are asked for in vain
+
+pub returns-in_err-target-clause-missed : goal.returns-in_err-target-clause-missed
+returns-in_err-target-clause-missed g c =
+    missed_err (g.L.LineSource.refused c.ask.new.io.source.now) _ _ _ c.from_residual.ensures.1 (stop_unmissed (g.L.LineSource.refused c.ask.new.io.source.now) (g.L.LineSource.missed c.ask.new.io.source.now ≤ g.L.LineSource.missed c.args.io.now.source.now) (rw c.ask.ensures.same.source c.answers.invariant.missed) _)
+
+pub returns-in_err-line-clause-missed : goal.returns-in_err-line-clause-missed
+returns-in_err-line-clause-missed g c =
+    missed_err (g.L.LineSource.refused c.next.follows.lender-at-none) _ _ _ c.from_residual-in_err-line.ensures.1
+    (missed_read (g.L.LineSource.refused c.next.follows.lender-at-none) _ c.in_err-line.field-0.0 (subst (λ r. IfErr r (g.L.LineSource.refused c.next.follows.lender-at-none)) c.in_err-line.was c.next.follows.holds-at-none.1))
+
+pub returns-in_err-show-clause-missed : goal.returns-in_err-show-clause-missed
+returns-in_err-show-clause-missed g c = missed_err (g.L.LineSource.refused c.next.follows.lender-at-none) _ _ _ c.from_residual-in_err-show.ensures.1 (stop_unmissed (g.L.LineSource.refused c.next.follows.lender-at-none) _ (given_missed g.L.LineSource.missed c.args.io.now.source.now c.ask.new.io.source.now c.next.follows.lender-at-none c.in-Some.line c.next.result (c.in_ok-line.was ∙ ap Ok c.in-Some.is) (rw c.ask.ensures.same.source c.answers.invariant.missed) c.next.follows.holds-at-none.3) _)
+
+pub returns-in_err-show-2-clause-missed : goal.returns-in_err-show-2-clause-missed
+returns-in_err-show-2-clause-missed g c = missed_err (g.L.LineSource.refused c.next.follows.lender-at-none) _ _ _ c.from_residual-in_err-show-2.ensures.1 (stop_unmissed (g.L.LineSource.refused c.next.follows.lender-at-none) _ (given_missed g.L.LineSource.missed c.args.io.now.source.now c.ask.new.io.source.now c.next.follows.lender-at-none c.in-Some.line c.next.result (c.in_ok-line.was ∙ ap Ok c.in-Some.is) (rw c.ask.ensures.same.source c.answers.invariant.missed) c.next.follows.holds-at-none.3) _)
+
+pub returns-in_err-value-clause-missed : goal.returns-in_err-value-clause-missed
+returns-in_err-value-clause-missed g c = missed_err (g.L.LineSource.refused c.next.follows.lender-at-none) _ _ _ c.from_residual-in_err-value.ensures.1 (stop_unmissed (g.L.LineSource.refused c.next.follows.lender-at-none) _ (given_missed g.L.LineSource.missed c.args.io.now.source.now c.ask.new.io.source.now c.next.follows.lender-at-none c.in-Some.line c.next.result (c.in_ok-line.was ∙ ap Ok c.in-Some.is) (rw c.ask.ensures.same.source c.answers.invariant.missed) c.next.follows.holds-at-none.3) _)
+
+pub returns-in-Ok-clause-missed : goal.returns-in-Ok-clause-missed
+returns-in-Ok-clause-missed g c = given_missed g.L.LineSource.missed c.args.io.now.source.now c.ask.new.io.source.now c.next.follows.lender-at-none c.in-Some.line c.next.result (c.in_ok-line.was ∙ ap Ok c.in-Some.is) (rw c.ask.ensures.same.source c.answers.invariant.missed) c.next.follows.holds-at-none.3
+
+pub returns-in_err-show-in-Err-clause-missed : goal.returns-in_err-show-in-Err-clause-missed
+returns-in_err-show-in-Err-clause-missed g c =
+    missed_err (g.L.LineSource.refused c.show-in-Err.new.self.source.now) _ _ _ c.from_residual-in_err-show-in-Err.ensures.1 (stop_unmissed (g.L.LineSource.refused c.show-in-Err.new.self.source.now) (g.L.LineSource.missed c.show-in-Err.new.self.source.now ≤ g.L.LineSource.missed c.args.io.now.source.now) (rw c.in_err-show-in-Err.ensures.same.source (given_missed g.L.LineSource.missed c.args.io.now.source.now c.ask.new.io.source.now c.next.follows.lender-at-none c.in-Some.line c.next.result (c.in_ok-line.was ∙ ap Ok c.in-Some.is) (rw c.ask.ensures.same.source c.answers.invariant.missed) c.next.follows.holds-at-none.3)) _)

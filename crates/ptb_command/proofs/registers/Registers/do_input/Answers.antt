@@ -3,6 +3,7 @@ use Rattle.std.proofs.Common.{[], ap, refl}
 use Rattle.ptb_text.specs.declared.word.Word.TheVariants.{InputKw}
 use Rattle.ptb_command.specs.Configuration.{configuration}
 use Rattle.ptb_command.proofs.Doing.{parts_stopped, plain_done, input_plain}
+use Rattle.ptb_command.proofs.Missed.{missed_err}
 use Rattle.ptb_command.proofs.registers.Registers.do_input.Goals as goal
 
 pub returns-in_err-input-clause-acts : goal.returns-in_err-input-clause-acts
@@ -25,3 +26,6 @@ returns-clause-acts g c =
             (record { place = refl; stack = refl; steps = refl }) (ap (λ r. configuration r steps c.input.new.io.fresh spent) c.go_behind.ensures.place) begun c.in_ok-input.ensures.closed (rw c.input.ensures.text at c.go_behind.ensures.follows) [] (done.1.1 before),
       ),
     )
+
+pub returns-in_err-input-clause-missed : goal.returns-in_err-input-clause-missed
+returns-in_err-input-clause-missed g c = missed_err (g.L.LineSource.refused c.input.new.io.source.now) _ _ _ c.from_residual.ensures.1 c.in_err-input.ensures.missed

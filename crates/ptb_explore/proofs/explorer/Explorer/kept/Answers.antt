@@ -1,0 +1,10 @@
+-- This file answers that the copies that are kept are of the run at which the explorer stands.
+use Rattle.std.proofs.Common.{subst}
+use Rattle.ptb_explore.specs.Exploring.{Exploration, AreKeptAt}
+use Rattle.ptb_explore.proofs.GoingOn.{kept_at}
+use Rattle.ptb_explore.proofs.explorer.Explorer.kept.Goals as goal
+
+pub returns-clause-front : goal.returns-clause-front
+returns-clause-front c =
+    let e = c.self.inside in
+    subst (λ (x : Exploration). AreKeptAt x.front x.kept) c.self.view_is (kept_at e.player e.lines.now e.limit e.position e.report e.copies.kept.items c.self.invariant.1)

@@ -1,0 +1,23 @@
+-- This file says what is kept while a run is played.
+use Rattle.std.proofs.Common.{◌≡◌, ◌≤◌, ◌-◌, length, drop, false}
+use Rattle.ptb_machine.specs.Steps.{FitsProgram}
+use Rattle.ptb_explore.specs.Copies.{AreCopies}
+use Rattle.ptb_explore.specs.Playing.{IsRunPrefix}
+use Rattle.ptb_explore.specs.Recording.{choices_of}
+use Rattle.ptb_explore.proofs.playing.play_on.Given as goal
+
+abbrev pub invariant-loop-ending : goal.invariant-loop-ending
+invariant-loop-ending l = record {
+  program : l.player ≡ l.fn.player;
+  plan : (choices_of l.trial).plan ≡ (choices_of l.fn.trial).plan;
+  same_lines : l.source.lines ≡ l.fn.source.lines;
+  within : l.source.taken ≤ length l.fn.source.lines;
+  unspent : l.machine.spent ≡ false;
+  fits : FitsProgram l.player l.machine;
+  run_prefix : IsRunPrefix l.player l.fn.source.lines l.limit (choices_of l.trial) l.screen (drop l.source.taken l.source.lines) l.machine;
+  copies : AreCopies l.player l.fn.source.lines l.limit (choices_of l.trial).taken l.screen l.copies.kept.items;
+}
+
+-- each step is below the limit
+abbrev pub decreases-loop-ending : goal.decreases-loop-ending
+decreases-loop-ending l = l.limit - l.machine.steps

@@ -1,0 +1,172 @@
+// This file has the copies of a machine that are kept of a run, from which the next runs go on.
+
+ghost use Rattle.std.specs.Prelude.{◌≡◌, ℕ, [], drop, IfOk};
+ghost use Rattle.ptb_explore.specs.Copies.{Adds, GoesBackTo, IsSameCopy};
+
+use arrayvec::ArrayVec;
+use ptb_machine::Machine;
+use std::alloc::{AllocError, Global};
+
+/// How many copies are kept at most.
+pub(crate) const MOST_COPIES: usize = 64;
+
+/// A copy of a machine, and how far its run was.
+#[derive(Default, Drop)]
+pub(crate) struct KeptCopy {
+    /// The machine. A place that is not in use has none.
+    pub(crate) machine: Option<Box<Machine>>,
+    /// How many answers were taken.
+    pub(crate) taken: usize,
+    /// How many bytes were shown.
+    pub(crate) shown: usize,
+    /// How many lines were taken.
+    pub(crate) lines: usize,
+}
+
+// Copies a machine, into the room of another where there is one.
+fn copied(
+    alloc: Global,
+    room: Option<Box<Machine>>,
+    machine: &Machine,
+) -> Result<Box<Machine>, AllocError>
+    ensures { IfOk result (λ b. b.value ≡ machine.now) }
+{
+    match room {
+        Some(mut copy) => {
+            copy.copy_from(alloc, machine)?;
+            Ok(copy)
+        }
+        None => match Box::new(alloc, machine.copy(alloc)?) {
+            Ok(copy) => Ok(copy),
+            Err(_) => Err(AllocError),
+        },
+    }
+}
+
+impl KeptCopy {
+    // A copy of it, which takes the room of another machine where there is one.
+    fn copy(&self, alloc: Global, room: Option<Box<Machine>>) -> Result<KeptCopy, AllocError>
+        ensures { IfOk result (IsSameCopy self.now) }
+    {
+        let machine = match &self.machine {
+            Some(machine) => Some(copied(alloc, room, machine)?),
+            None => None,
+        };
+        Ok(KeptCopy {
+            machine,
+            taken: self.taken,
+            shown: self.shown,
+            lines: self.lines,
+        })
+    }
+}
+
+/// The copies of a run that are kept, at most [`MOST_COPIES`].
+///
+/// Machines that no copy needs are held for their room. With them there are at most
+/// [`MOST_COPIES`] machines, since a new one is made only where there is no such room.
+#[derive(Drop)]
+pub(crate) struct Copies {
+    /// Those that are kept, the one with the fewest answers first.
+    pub(crate) kept: ArrayVec<KeptCopy, MOST_COPIES>,
+    /// Machines that no copy needs.
+    pub(crate) spare: ArrayVec<Option<Box<Machine>>, MOST_COPIES>,
+}
+
+impl Copies {
+    /// No copies.
+    pub(crate) fn new() -> Copies
+        ensures { result.kept.items ≡ [] }
+    {
+        Copies {
+            kept: ArrayVec::new(),
+            spare: ArrayVec::new(),
+        }
+    }
+
+    // Room for one copy more: that of the one with the fewest answers, which is dropped, where there
+    // are as many as can be.
+    fn room(&mut self) -> Option<Box<Machine>>
+        ensures { (n : ℕ) × (self.new.kept.items ≡ drop n self.old.kept.items) }
+    {
+        if self.kept.is_full() {
+            let KeptCopy { machine, .. } = self.kept.remove(0);
+            return machine;
+        }
+        self.spare.pop().flatten()
+    }
+
+    /// Keeps a copy of a machine that took answers in its last step, if there is memory for it.
+    /// `before` is the number of answers taken before that step.
+    pub(crate) fn keep(
+        &mut self,
+        alloc: Global,
+        machine: &Machine,
+        before: usize,
+        taken: usize,
+        shown: usize,
+        lines: usize,
+    )
+        ensures { Adds before machine.now taken shown lines
+            self.old.kept.items self.new.kept.items }
+    {
+        if taken <= before {
+            return;
+        }
+        let room = self.room();
+        if let Ok(copy) = copied(alloc, room, machine) {
+            let _ = self.kept.try_push(KeptCopy {
+                machine: Some(copy),
+                taken,
+                shown,
+                lines,
+            });
+        }
+    }
+
+    /// Drops the copies that took more answers than `most`, and gives a copy of the newest that is
+    /// left, from which a run can go on.
+    ///
+    /// # Errors
+    ///
+    /// Where that copy is refused memory.
+    pub(crate) fn go_back(
+        &mut self,
+        alloc: Global,
+        most: usize,
+    ) -> Result<Option<KeptCopy>, AllocError>
+        ensures { IfOk result (GoesBackTo most self.old.kept.items self.new.kept.items) }
+    {
+        loop {
+            // So the one that is taken out can be put back.
+            prove!(self.kept.len() <= MOST_COPIES);
+            let Some(newest) = self.kept.pop() else {
+                return Ok(None);
+            };
+            if newest.taken <= most {
+                let room = self.spare.pop().flatten();
+                let copy = newest.copy(alloc, room)?;
+                self.kept.push(newest);
+                return Ok(Some(copy));
+            }
+            let _ = self.spare.try_push(newest.machine);
+        }
+    }
+
+    /// Takes the machine of a run that is over, for its room, if there are fewer than can be kept.
+    pub(crate) fn give_back(&mut self, machine: Box<Machine>)
+        ensures { self.new.kept ≡ self.old.kept }
+    {
+        if self.kept.len() + self.spare.len() < MOST_COPIES {
+            let _ = self.spare.try_push(Some(machine));
+        }
+    }
+
+    /// Drops all copies, and gives their room back.
+    pub(crate) fn clear(&mut self)
+        ensures { self.new.kept.items ≡ [] }
+    {
+        self.kept.clear();
+        self.spare.clear();
+    }
+}

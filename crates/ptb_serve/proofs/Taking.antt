@@ -1,0 +1,325 @@
+-- This file proves what a plain run took of its input, from how a source of its lines went on.
+use Rattle.std.proofs.Common.{◌≡◌, ℕ, ◌+◌, ◌-◌, ◌≤◌, ◌<◌, ◌⊎◌, inl, inr, Bool, true, false, nat_lt, List, [], ◌∷◌, ◌++◌, length, take, drop, Option, Some, None, Result, Ok, Err, IfOk, IfSome, IsErrOf, OnOk, ℤ, refl, sym, ap, subst, ◌∙◌, arith, append_assoc, length-append, take_all, take-append-drop}
+use Rattle.std.specs.Prelude.{option_map, OnErr}
+use Rattle.std.proofs.lemmas.Bool.{lt-ltb, le-ltb, ltb-true, ltb-false}
+use Rattle.std.specs.Io.KnownBytes.{Consumes}
+use Rattle.ptb_text.specs.Device.{GivesAtMost, GivesExactly, HasFailed, TakesSome}
+use Rattle.ptb_text.specs.Lines.{input_lines}
+use Rattle.ptb_devices.specs.declared.fault.ReadFault.{ReadFault}
+use Rattle.ptb_devices.specs.declared.fault.ReadFault.TheVariants as reads
+use Rattle.ptb_devices.specs.declared.line_buffer.InputEnd.{InputEnd}
+use Rattle.ptb_devices.specs.declared.line_buffer.InputEnd.TheVariants.{Open, Ended, Failed, Exceeded}
+use Rattle.ptb_devices.specs.Cutting.{kept_bytes, whole_lines, last_piece, last_line}
+use Rattle.ptb_devices.specs.CuttingLaws.{whole_lines-append}
+use Rattle.ptb_devices.specs.Inputs.{InputState, InputNow, fresh_input, open_piece, lines_left, lines_to_end, known_lines, input_now, ReadsOn, Refuses, asked, fault_at, IsReadAhead, asked_at}
+use Rattle.ptb_devices.specs.InputLaws.{take-split}
+use Rattle.ptb_devices.specs.declared.reader_lines.ReaderLines.{ReaderLines}
+use Rattle.ptb_devices.specs.Readers.{line_input, line_reader, input_of, GivesFrom}
+use Rattle.ptb_devices.specs.Sources.{Loses, NoneLeft, ConsumesAtMost}
+use Rattle.ptb_devices.proofs.Cutting.{input_lines-cut}
+use Rattle.ptb_text.specs.Statements.{StoredProgram}
+use Rattle.ptb_expr.specs.Choices.{AnswerList, RefusedByList}
+use Rattle.ptb_command.specs.Devices.{Devices, refused_by}
+use Rattle.ptb_machine.specs.declared.fault.RunFault.TheVariants as runs
+use Rattle.ptb_machine.specs.Runs.{RunComes, UnlessRunMissed}
+use Rattle.ptb_command.specs.declared.ending.Ending.{Ending}
+use Rattle.ptb_command.specs.declared.ending.Ending.TheVariants as endings
+use Rattle.ptb_machine.specs.declared.fault.RunFault.{RunFault}
+use Rattle.ptb_machine.specs.Play.{plain}
+use Rattle.ptb_serve.specs.PlainRuns.{IsUnreadable, ShowsRun, run_fault, lines_come, lines_taken, lines_wanted, ReadsFor}
+use Rattle.ptb_serve.proofs.Playing.{IsRunBetween}
+
+abbrev pub fresh : Option (List ℕ) → ℕ → ℕ → InputNow
+fresh known x f = record { state = fresh_input; bytes = known; given = x; failures = f }
+
+-- the lines of an input that stand behind those that were given
+pub record IsBehind (c : List ℕ) (given : List (List ℕ)) (n : InputNow) : Type 0 where
+  pub rest : List (List ℕ)
+  pub whole : input_lines c ≡ given ++ rest
+  pub none : NoneLeft (known_lines n) → rest ≡ []
+
+-- ---- an input whose bytes are known
+
+-- where a reader's bytes are known, they still are
+record IsKnown (n : InputNow) (xs given : List (List ℕ)) : Type 0 where
+  bytes : List ℕ
+  is : n.bytes ≡ Some bytes
+  lines : xs ≡ given ++ lines_left n.state bytes
+
+is_known : (n : InputNow) (xs given : List (List ℕ)) (b : Option (List ℕ)) → n.bytes ≡ b → Loses (Some xs) (option_map (lines_left n.state) b) given → IsKnown n xs given
+is_known n xs given None e l = absurd l
+is_known n xs given (Some y) e l = record { bytes = y; is = e; lines = l }
+
+module _ (wanted : ℕ) (c : List ℕ) (x f : ℕ) (n : InputNow) (given : List (List ℕ)) (on : ReadsOn wanted (fresh (Some c) x f) given n) where
+  abbrev known : IsKnown n (lines_left fresh_input c) given
+  known = is_known n (lines_left fresh_input c) given n.bytes refl on.loses
+
+  none_left : NoneLeft (known_lines n) → lines_left n.state known.bytes ≡ []
+  none_left h = subst (λ b. NoneLeft (option_map (lines_left n.state) b)) known.is h
+
+  -- all of it may be read
+  short : length c < 16777217 → IsBehind c given n
+  short fits =
+      let within : nat_lt (length c) 16777217 ≡ true = lt-ltb (length c) 16777217 fits in
+      let all : take 16777216 c ≡ c = take_all 16777216 c (omega (arith, fits)) in
+      let same : lines_left fresh_input c ≡ input_lines c =
+      ap (λ t. lines_to_end t None (take 16777216 c)) within ∙ ap (lines_to_end true None) all ∙ sym (input_lines-cut c) in
+      record { rest = lines_left n.state known.bytes; whole = sym same ∙ known.lines; none = none_left }
+
+  -- it is too long to be read to its end
+  module _ (exceeds : 16777217 ≤ length c) where
+    abbrev taken : List ℕ
+    taken = on.taken
+
+    split : c ≡ taken ++ known.bytes
+    split = subst (λ b. Consumes (Some c) b on.taken) known.is on.consumed
+
+    going : n.state.end ≡ Ended → ⊥
+    going e = elim (on.ended e) [ inl p ↦ absurd (let clash : Open ≡ Ended = p in cc) | inr p ↦ absurd (omega (arith, p, exceeds)) ]
+
+    abbrev waiting : List (List ℕ)
+    waiting = whole_lines (open_piece n.state) n.state.waiting
+
+    abbrev front : List ℕ
+    front = take 16777216 taken
+
+    cut : whole_lines None front ≡ given ++ waiting
+    cut = (on.cut going).0
+
+    abbrev behind : List (List ℕ)
+    behind = whole_lines (last_piece None front) (drop 16777216 taken ++ known.bytes)
+
+    all_bytes : c ≡ front ++ (drop 16777216 taken ++ known.bytes)
+    all_bytes = split ∙ ap (λ l. l ++ known.bytes) (sym (take-append-drop 16777216 taken)) ∙ append_assoc front (drop 16777216 taken) known.bytes
+
+    whole : input_lines c ≡ given ++ (waiting ++ (behind ++ last_line (last_piece None c)))
+    whole =
+        input_lines-cut c
+        ∙ ap (λ l. l ++ last_line (last_piece None c)) (ap (whole_lines None) all_bytes ∙ whole_lines-append None front (drop 16777216 taken ++ known.bytes) ∙ ap (λ l. l ++ behind) cut)
+        ∙ append_assoc (given ++ waiting) behind (last_line (last_piece None c)) ∙ append_assoc given waiting (behind ++ last_line (last_piece None c))
+
+    -- the line that is cut off is never given
+    left_over : NoneLeft (known_lines n) → ⊥
+    left_over h =
+        let beyond : nat_lt (length c) 16777217 ≡ false = le-ltb (length c) 16777217 exceeds in
+        let first : take 16777216 c ≡ front ++ take (16777216 - length taken) known.bytes = ap (take 16777216) split ∙ take-split 16777216 taken known.bytes in
+        let more = whole_lines (last_piece None front) (take (16777216 - length taken) known.bytes) in
+        let cut_lines : whole_lines None (take 16777216 c) ≡ (given ++ waiting) ++ more =
+        ap (whole_lines None) first ∙ whole_lines-append None front (take (16777216 - length taken) known.bytes) ∙ ap (λ l. l ++ more) cut in
+        let lines : lines_left fresh_input c ≡ whole_lines None (take 16777216 c) ++ (kept_bytes (last_piece None (take 16777216 c)) ∷ []) =
+        ap (λ t. lines_to_end t None (take 16777216 c)) beyond in
+        let all : whole_lines None (take 16777216 c) ++ (kept_bytes (last_piece None (take 16777216 c)) ∷ []) ≡ given ++ lines_left n.state known.bytes = sym lines ∙ known.lines in
+        omega (
+          arith,
+          ap length all,
+          length-append (whole_lines None (take 16777216 c)) (kept_bytes (last_piece None (take 16777216 c)) ∷ []),
+          length-append given (lines_left n.state known.bytes),
+          ap length (none_left h),
+          ap length cut_lines,
+          length-append (given ++ waiting) more,
+          length-append given waiting,
+        )
+
+    long : IsBehind c given n
+    long = record { rest = waiting ++ (behind ++ last_line (last_piece None c)); whole = whole; none = λ h. absurd (left_over h) }
+
+  by_length : (t : Bool) → nat_lt (length c) 16777217 ≡ t → IsBehind c given n
+  by_length true e = short (ltb-true (length c) 16777217 e)
+  by_length false e = long (ltb-false (length c) 16777217 e)
+
+  pub lines_behind : IsBehind c given n
+  lines_behind = by_length (nat_lt (length c) 16777217) refl
+
+-- ---- faults
+
+ends_at : (end : InputEnd) → (fault_at end ≡ None → ⊥) → (end ≡ Failed) ⊎ (end ≡ Exceeded)
+ends_at Open h = absurd (h refl)
+ends_at Ended h = absurd (h refl)
+ends_at Failed h = inl refl
+ends_at Exceeded h = inr refl
+
+faulty : (end : InputEnd) (fault : ReadFault) → fault_at end ≡ Some fault → fault_at end ≡ None → ⊥
+faulty end fault e h = absurd (let clash : Some fault ≡ None = sym e ∙ h in cc)
+
+unfailed_end : (end : InputEnd) → fault_at end ≡ None → end ≡ Failed → ⊥
+unfailed_end end h e = absurd (let clash : Some reads.Read ≡ None = sym (ap fault_at e) ∙ h in cc)
+
+within_end : (end : InputEnd) → fault_at end ≡ None → end ≡ Exceeded → ⊥
+within_end end h e = absurd (let clash : Some reads.TooLong ≡ None = sym (ap fault_at e) ∙ h in cc)
+
+-- no fault is want of memory
+pub fault_without_memory : (end : InputEnd) → fault_at end ≡ Some reads.Memory → ⊥
+fault_without_memory Open e = absurd cc
+fault_without_memory Ended e = absurd cc
+fault_without_memory Failed e = absurd cc
+fault_without_memory Exceeded e = absurd cc
+
+module _ (wanted : ℕ) (known : Option (List ℕ)) (x f : ℕ) (n : InputNow) (given : List (List ℕ)) (on : ReadsOn wanted (fresh known x f) given n) where
+  pub takes_at_most : ConsumesAtMost known n.bytes 16777217
+  takes_at_most = (on.taken, omega (arith, on.room), on.consumed)
+
+  pub given_at_most : GivesAtMost x n.given 16777217
+  given_at_most = (on.counted.at_most.0, omega (arith, on.room, on.counted.at_most.1))
+
+  -- where no fault has come
+  pub takes_within : fault_at n.state.end ≡ None → ConsumesAtMost known n.bytes 16777216
+  takes_within h = (on.taken, omega (arith, on.room, on.spare (omega arith) (within_end n.state.end h)), on.consumed)
+
+  pub reads_unfailed : fault_at n.state.end ≡ None → n.failures ≡ f
+  reads_unfailed h = on.unfailed (unfailed_end n.state.end h)
+
+  -- where one has, the lines given are those that came whole
+  module _ (fault : ReadFault) (is : fault_at n.state.end ≡ Some fault) where
+    closed : n.state.end ≡ Open → ⊥
+    closed e = absurd (let clash : None ≡ Some fault = sym (ap fault_at e) ∙ is in cc)
+
+    unended : n.state.end ≡ Ended → ⊥
+    unended e = absurd (let clash : None ≡ Some fault = sym (ap fault_at e) ∙ is in cc)
+
+    pub came_whole : lines_come on.taken ≡ given ++ []
+    came_whole =
+        (on.cut unended).0 ∙ ap (λ w. given ++ whole_lines (open_piece n.state) w) (on.drained (λ _. refl) closed)
+
+    too_long : n.state.left ≡ 0 → (a b : Option (List ℕ)) → Consumes a b on.taken → IfSome a (λ c. 16777216 < length c)
+    too_long none None b c = tt
+    too_long none (Some x) None c = absurd c
+    too_long none (Some x) (Some y) c = omega (arith, ap length c, length-append on.taken y, on.room, none)
+
+    pub is_unreadable : IsUnreadable known f n.failures
+    is_unreadable = elim (ends_at n.state.end (faulty n.state.end fault is)) [
+      | inl e ↦ elim (on.failed e) [ inl p ↦ absurd (let clash : Open ≡ Failed = p in cc) | inr p ↦ inl p ]
+      | inr e ↦ elim (on.exceeded e) [ inl p ↦ absurd (let clash : Open ≡ Exceeded = p in cc) | inr p ↦ inr (too_long p known n.bytes on.consumed) ]
+    ]
+
+    -- the reader failed, or has given one byte too many
+    pub failed_or_given : HasFailed f n.failures ⊎ GivesExactly x n.given 16777217
+    failed_or_given = elim (ends_at n.state.end (faulty n.state.end fault is)) [
+      | inl e ↦ elim (on.failed e) [ inl p ↦ absurd (let clash : Open ≡ Failed = p in cc) | inr p ↦ inl p ]
+      | inr e ↦ elim (on.exceeded e) [
+        | inl p ↦ absurd (let clash : Open ≡ Exceeded = p in cc)
+        | inr p ↦ inr (all_given (omega (arith, on.room, p)))
+      ]
+    ] where
+      all_given : length on.taken ≡ 16777217 → GivesExactly x n.given 16777217
+      all_given e = subst (λ k. GivesExactly x n.given k) e (on.counted.exactly (omega (arith, e)))
+
+-- ---- how far the input was read
+
+asked_one : (a : InputState) → asked a ≤ 1
+asked_one a = by_end a.end a.is_given where
+  by_end : (end : InputEnd) (given : Bool) → asked_at end given ≤ 1
+  by_end Open given = omega arith
+  by_end Ended true = omega arith
+  by_end Ended false = omega arith
+  by_end Failed given = omega arith
+  by_end Exceeded given = omega arith
+
+-- where a fault has come, a line was asked for in vain
+pub fault_asked : (a : InputState) (fault : ReadFault) → fault_at a.end ≡ Some fault → asked a ≤ 0 → ⊥
+fault_asked a fault e h = by_end a.end a.is_given e h where
+  by_end : (end : InputEnd) (given : Bool) → fault_at end ≡ Some fault → asked_at end given ≤ 0 → ⊥
+  by_end Open given e h = absurd (let clash : None ≡ Some fault = e in cc)
+  by_end Ended given e h = absurd (let clash : None ≡ Some fault = e in cc)
+  by_end Failed given e h = omega (arith, h)
+  by_end Exceeded given e h = omega (arith, h)
+
+-- by how the run has ended
+pub wanted_within : (a : InputState) (result : Result Ending RunFault) → UnlessRunMissed (Refuses a.end) (asked a ≤ 0) result → (k : ℕ) → k + asked a ≤ lines_wanted k result
+wanted_within a (Ok endings.End) m k = omega (arith, m)
+wanted_within a (Ok endings.Stop) m k = omega (arith, m)
+wanted_within a (Ok endings.What) m k = omega (arith, m)
+wanted_within a (Ok endings.How) m k = omega (arith, m)
+wanted_within a (Ok endings.Sorry) m k = omega (arith, m)
+wanted_within a (Ok endings.Limit) m k = omega (arith, m)
+wanted_within a (Ok endings.NoInput) m k = omega (arith, asked_one a)
+wanted_within a (Ok endings.NoAnswer) m k = omega (arith, m)
+wanted_within a (Ok endings.BadAnswer) m k = omega (arith, m)
+wanted_within a (Err runs.Memory) m k = elim m [ inl q ↦ omega (arith, q) | inr r ↦ absurd (fault_without_memory a.end r) ]
+wanted_within a (Err runs.Read) m k = omega (arith, asked_one a)
+wanted_within a (Err runs.Write) m k = omega (arith, m)
+wanted_within a (Err runs.Spent) m k = omega (arith, m)
+
+-- by the fault that has come
+pub wanted_at_fault : (a : InputState) (fault : ReadFault) → fault_at a.end ≡ Some fault → (k : ℕ) → k + asked a ≤ lines_wanted k (Err (run_fault fault))
+wanted_at_fault a reads.Read e k = omega (arith, asked_one a)
+wanted_at_fault a reads.TooLong e k = omega (arith, asked_one a)
+wanted_at_fault a reads.Memory e k = absurd (fault_without_memory a.end e)
+
+module _ (p : StoredProgram) (limit : ℕ) (a : List ℤ) (wanted x f : ℕ) (n : InputNow) (given : List (List ℕ))
+    (takes : (behind : List (List ℕ)) → (NoneLeft (known_lines n) → behind ≡ []) → length given ≤ lines_taken p (given ++ behind) limit a)
+    (result : Result Ending RunFault) (within : (k : ℕ) → k + wanted ≤ lines_wanted k result) where
+  pub reads_for : (known : Option (List ℕ)) (on : ReadsOn wanted (fresh known x f) given n) → IfSome known (λ c. ReadsFor on.taken (lines_wanted (lines_taken p (input_lines c) limit a) result))
+  reads_for None on = tt
+  reads_for (Some c) on = by_ahead on.ahead where
+    b : IsBehind c given n
+    b = lines_behind wanted c x f n given on
+
+    few : length given ≤ lines_taken p (input_lines c) limit a
+    few = subst (λ i. length given ≤ lines_taken p i limit a) (sym b.whole) (takes b.rest b.none)
+
+    by_ahead : (on.taken ≡ []) ⊎ IsReadAhead fresh_input on.taken (length given + wanted) → ReadsFor on.taken (lines_wanted (lines_taken p (input_lines c) limit a) result)
+    by_ahead (inl none) = inl none
+    by_ahead (inr h) =
+        let needed : length (whole_lines None h.before) < length given + wanted = h.needed in
+        inr (record { before = h.before; piece = h.piece; both = h.both; some = h.some; fits = h.fits; needed = omega (arith, needed, few, within (lines_taken p (input_lines c) limit a)) })
+
+-- ---- a run on the lines of a reader
+
+-- what a source of lines over a reader took of it
+pub taken_by : {R : Type 0} (remaining : R → Option (List ℕ)) (counted failures : R → ℕ) (s t : ReaderLines R) (given : List (List ℕ)) (i : R)
+    → line_input s ≡ fresh_input → (line_reader s).now ≡ i → GivesFrom remaining counted failures s given t
+    → ReadsOn (asked (line_input t)) (fresh (remaining i) (counted i) (failures i)) given (input_of remaining counted failures t)
+taken_by remaining counted failures s t given i state reader gives =
+    subst (λ r. ReadsOn (asked (line_input t)) (input_now remaining counted failures fresh_input r) given (input_of remaining counted failures t)) reader
+    (subst (λ (a : InputState). ReadsOn (asked (line_input t)) (input_now remaining counted failures a (line_reader s).now) given (input_of remaining counted failures t)) state gives.reads)
+
+module _ {W : Type 0} (contents : W → Option (List ℕ)) (written : W → ℕ) (p : StoredProgram) (limit : ℕ) (a : List ℤ) (w v : W) (ended : Result Ending RunFault)
+    (wanted x f : ℕ) (n : InputNow) (given : List (List ℕ))
+    (between : (behind : List (List ℕ)) → (NoneLeft (known_lines n) → behind ≡ []) → IsRunBetween contents written p limit (given ++ behind) a w v ended) where
+  -- by the bytes of the input, where they are known
+  pub shows_input : (known : Option (List ℕ)) → ReadsOn wanted (fresh known x f) given n
+      → IfOk ended (λ e. IfSome known (λ c. ShowsRun (plain p (input_lines c) limit a) (contents w) (contents v) e))
+  shows_input None on = nothing ended where
+    nothing : (r : Result Ending RunFault) → IfOk r (λ e. IfSome None (λ c. ShowsRun (plain p (input_lines c) limit a) (contents w) (contents v) e))
+    nothing (Ok e) = tt
+    nothing (Err fault) = tt
+  shows_input (Some c) on =
+      let b = lines_behind wanted c x f n given on in
+      subst (λ i. IfOk ended (ShowsRun (plain p i limit a) (contents w) (contents v))) (sym b.whole) (between b.rest b.none).ok
+
+  pub begins_input : (known : Option (List ℕ)) → ReadsOn wanted (fresh known x f) given n
+      → IfSome known (λ c. TakesSome (contents w) (contents v) (plain p (input_lines c) limit a).0)
+  begins_input None on = tt
+  begins_input (Some c) on =
+      let b = lines_behind wanted c x f n given on in
+      subst (λ i. TakesSome (contents w) (contents v) (plain p i limit a).0) (sym b.whole) (between b.rest b.none).beginning
+
+-- on the lines that came whole, where a fault has come, it ends for want of a line
+pub shows_come : {W : Type 0} (contents : W → Option (List ℕ)) (written : W → ℕ) (p : StoredProgram) (limit : ℕ) (a : List ℤ) (w v : W) (wanted x f : ℕ) (n : InputNow) (given : List (List ℕ)) (known : Option (List ℕ)) (on : ReadsOn wanted (fresh known x f) given n) (fault : ReadFault)
+    → fault_at n.state.end ≡ Some fault → IsRunBetween contents written p limit (given ++ []) a w v (Ok endings.NoInput)
+    → ShowsRun (plain p (lines_come on.taken) limit a) (contents w) (contents v) endings.NoInput
+shows_come contents written p limit a w v wanted x f n given known on fault is run =
+    subst (λ i. ShowsRun (plain p i limit a) (contents w) (contents v) endings.NoInput) (sym (came_whole wanted known x f n given on fault is)) run.ok
+
+-- ---- how a run has ended
+
+-- where the source has come to no fault, the run doesn't say that a line could not be read
+module _ (p : StoredProgram) (limit : ℕ) (l : AnswerList) (o n : Devices) (end : InputEnd) (left : Option (List (List ℕ))) where
+  pub never_unread : fault_at end ≡ None → (ended : Result Ending RunFault)
+      → RunComes (refused_by (RefusedByList l.answers l.given) (Refuses end) left) p limit [] o n ended → IsErrOf ended runs.Read → ⊥
+  never_unread none (Ok e) h is = absurd cc
+  never_unread none (Err runs.Memory) h is = absurd cc
+  never_unread none (Err runs.Write) h is = absurd cc
+  never_unread none (Err runs.Spent) h is = absurd h
+  never_unread none (Err runs.Read) h is = elim (h.broken.0.by) [
+    | inl q ↦ faulty end reads.Read q none
+    | inr q ↦ faulty end reads.TooLong q none
+  ]
+
+pub where_ok : (r : Result Ending RunFault) (Q : Type 0) → Q → OnOk r Q
+where_ok (Ok e) Q q = q
+where_ok (Err f) Q q = tt
+
+pub where_err : (r : Result Ending RunFault) (Q : Type 0) → Q → OnErr r Q
+where_err (Ok e) Q q = tt
+where_err (Err f) Q q = q

@@ -1,0 +1,93 @@
+"""This file runs the program at the ends of its ranges, under a small stack, and compares its replies with those that are due."""
+
+import multiprocessing
+import os
+import resource
+import subprocess
+import sys
+import tempfile
+import time
+
+from cases import Reply, cases
+
+STACK = 256 * 1024
+SECONDS_OF_A_RUN = 300
+# A word of 120,000 bytes leaves little room for the variables of the environment.
+VARIABLES = {"PATH": "/usr/bin:/bin"}
+SHOWN = 120
+CASES = cases()
+
+
+def limit_stack():
+    resource.setrlimit(resource.RLIMIT_STACK, (STACK, STACK))
+
+
+def replied(words, stdin):
+    """Runs these words under the small stack, with this file as standard input."""
+    how = {"env": VARIABLES, "preexec_fn": limit_stack, "timeout": SECONDS_OF_A_RUN}
+    try:
+        done = subprocess.run(words, stdin=stdin, capture_output=True, **how)
+        return Reply(done.returncode, done.stdout, done.stderr)
+    except subprocess.TimeoutExpired as late:
+        return Reply("not over in time", late.stdout or b"", late.stderr or b"")
+    except OSError as error:
+        return Reply(f"not started: {error}", b"", b"")
+
+
+def tried(task):
+    """Runs a case by its number: its reply where that isn't due, and how long it took."""
+    ptb, number = task
+    case = CASES[number]
+    with tempfile.TemporaryDirectory(prefix="ptb-extremes-") as folder:
+        program = os.path.join(folder, "program.bas")
+        stdin = program if case.input is None else os.path.join(folder, "input.txt")
+        for path, text in ((program, case.program), (stdin, case.input)):
+            if text is not None:
+                with open(path, "wb") as file:
+                    file.write(text)
+        words = [ptb, *case.words, *([] if case.input is None else [program])]
+        began = time.monotonic()
+        with open(stdin, "rb") as file:
+            reply = replied(words, file)
+        return None if reply == case.due else told(reply, case.due), time.monotonic() - began
+
+
+def told(reply, due):
+    """A reply, and where it differs from the one that is due, in a line."""
+    pairs = enumerate(zip(reply.output, due.output))
+    length = min(len(reply.output), len(due.output))
+    place = next((k for k, (byte, other) in pairs if byte != other), length)
+    here = reply.output[place : place + SHOWN]
+    wanted = due.output[place : place + SHOWN]
+    return (
+        f"status {reply.status} ({due.status} is due), {len(reply.output)} bytes ({len(due.output)} are due),"
+        f" from byte {place} on {here!r} ({wanted!r} is due), errors {reply.errors[:SHOWN]!r} ({due.errors!r})"
+    )
+
+
+def has_small_stack():
+    """Whether the stack of what is run here is as small as it is to be."""
+    with open(os.devnull, "rb") as nothing:
+        return replied(["/bin/sh", "-c", "ulimit -s"], nothing).output == b"256\n"
+
+
+def main():
+    ptb = os.path.abspath(sys.argv[1])
+    passed = failed = 0
+    if not has_small_stack():
+        print("failed: the stack is not limited")
+        failed += 1
+    with multiprocessing.get_context("fork").Pool() as pool:
+        results = pool.map(tried, [(ptb, number) for number in range(len(CASES))], chunksize=1)
+    for case, (fault, _) in zip(CASES, results):
+        if fault:
+            print(f"failed: {case.name}: {fault}")
+        passed, failed = passed + (not fault), failed + bool(fault)
+    seconds, name = max((seconds, case.name) for case, (_, seconds) in zip(CASES, results))
+    print(f"the longest run, {name}, took {seconds:.1f} seconds")
+    print(f"{passed} passed, {failed} failed")
+    return failed == 0
+
+
+if __name__ == "__main__":
+    sys.exit(0 if main() else 1)

@@ -1,0 +1,63 @@
+"""This file refuses the allocations of tests that pass whichever of them is refused."""
+
+import os
+import re
+import subprocess
+import tempfile
+
+# The tests, and behind how many reports memory must have been refused at least once.
+TESTS = [
+    ("ptb_text", "tests::refused_growths_are_answered", set()),
+    ("ptb_text", "tests::refused_lines_are_entered_again", set()),
+    ("ptb_expr", "tests::refused_array", set()),
+    ("ptb_command", "tests::first_registers", set()),
+    ("ptb_explore", "listing::tests::refused_listings_go_on", {"0", "1"}),
+]
+MOST_CALLS = 1000
+SECONDS_OF_A_TEST = 60
+
+
+def swept(strike, program, test, wanted):
+    """Refuses the test's first allocation, the second, and so on until a run has no such allocation any more.
+
+    It gives how many were refused, how many of the runs passed, and what went wrong.
+    """
+    seen, passed, faults = set(), 0, []
+    with tempfile.TemporaryDirectory(prefix="ptb-refusals-") as folder:
+        for number in range(1, MOST_CALLS):
+            done, was_struck = run(program, test, strike, os.path.join(folder, "struck"), number)
+            seen |= set(re.findall(r"refused behind (\d+)", done.stdout))
+            if done.returncode == 0 and "test result: ok" in done.stdout:
+                passed += 1
+            else:
+                faults.append(f"allocation {number}: status {done.returncode}, {done.stdout}{done.stderr}")
+            if not was_struck:
+                break
+    if was_struck or number == 1:
+        faults.append(f"allocations refused: {number}, which is none, or there are more")
+    if not wanted <= seen:
+        faults.append(f"memory was refused behind {sorted(seen)} reports, and not behind {sorted(wanted)}")
+    return number - 1, passed, faults
+
+
+def run(program, test, strike, struck, number):
+    """Runs a test with one of its allocations refused, and says whether there was one."""
+    with open(struck, "w", encoding="ascii"):
+        pass
+    variables = {**os.environ, "LD_PRELOAD": strike, "STRIKE": f"refuse {number}", "STRUCK": struck}
+    how = {"capture_output": True, "text": True, "timeout": SECONDS_OF_A_TEST, "env": variables}
+    done = subprocess.run([program, test], **how)
+    return done, os.path.getsize(struck) > 0
+
+
+def told(strike, crates):
+    """Tries the tests, and prints what became of them; gives how many runs passed, and how many faults there are."""
+    passed = failed = 0
+    for crate, test, wanted in TESTS:
+        program = os.path.join(crates, crate, "out", f"{crate}_tests")
+        refused, well, faults = swept(strike, program, test, wanted)
+        for fault in faults:
+            print(f"failed: {crate} {test}: {fault}")
+        print(f"allocations refused: {refused} in the test {test} of {crate}")
+        passed, failed = passed + well, failed + len(faults)
+    return passed, failed
