@@ -8,7 +8,7 @@ _ptb() {
         mapfile -t COMPREPLY < <(compgen -W 'none' -- "$current")
         return
         ;;
-    --steps | --memory | --first)
+    --steps | --memory | --seed | --first)
         # a number; no file is offered in its place
         compopt +o default 2>/dev/null
         return
@@ -17,7 +17,7 @@ _ptb() {
     case $current in
     -*)
         mapfile -t COMPREPLY < <(compgen -W \
-            '--steps --memory --answers --all --after --first --list --help -h' -- "$current")
+            '--steps --memory --answers --seed --all --after --first --list --help -h' -- "$current")
         ;;
     *)
         mapfile -t COMPREPLY < <(compgen -f -X '!*.bas' -- "$current"; compgen -d -- "$current")

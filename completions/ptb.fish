@@ -3,6 +3,7 @@
 complete -c ptb -l steps -x -d 'Begin at most N commands'
 complete -c ptb -l memory -x -d 'Give the program N bytes of memory'
 complete -c ptb -l answers -x -a none -d 'Answer the questions of RND with these numbers'
+complete -c ptb -l seed -x -d 'Answer them with numbers drawn from the seed N'
 complete -c ptb -l all -d 'Write a report of every run'
 complete -c ptb -l after -x -a none -d 'Of all runs, only those after the one with these answers'
 complete -c ptb -l first -x -d 'Of all reports, write at most N'

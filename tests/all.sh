@@ -28,6 +28,7 @@ tried listings.sh
 tried installing.sh
 tried resuming.sh
 tried terminal.py
+tried documents.py
 tried refusals.sh
 tried extremes.sh
 tried stress.sh 1 30

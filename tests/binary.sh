@@ -6,18 +6,7 @@ root=$(dirname "$(dirname "$(readlink -f "$0")")")
 ptb=${PTB:-$root/ptb}
 folder=$(mktemp -d)
 trap 'rm -rf "$folder"' EXIT
-passed=0
-failed=0
-
-# Counts a check by whether it holds.
-count() {
-    if [ "$2" = yes ]; then
-        passed=$((passed + 1))
-    else
-        failed=$((failed + 1))
-        echo "failed: $1"
-    fi
-}
+. "$root/tests/shared/counting.sh"
 
 # Whether the last run had this status, and wrote just these bytes and this text for errors.
 is_as_due() {

@@ -7,25 +7,7 @@ root=$(dirname "$(dirname "$(readlink -f "$0")")")
 ptb=${PTB:-$root/ptb}
 folder=$(mktemp -d)
 trap 'rm -rf "$folder"' EXIT
-passed=0
-failed=0
-
-# Counts a check by whether it holds.
-count() {
-    if [ "$2" = yes ]; then
-        passed=$((passed + 1))
-    else
-        failed=$((failed + 1))
-        echo "failed: $1"
-    fi
-}
-
-# count_if NAME COMMAND WORDS..: a check that holds where the command succeeds
-count_if() {
-    local name=$1
-    shift
-    if "$@"; then count "$name" yes; else count "$name" no; fi
-}
+. "$root/tests/shared/counting.sh"
 
 "$ptb" --list </dev/null || exit 1
 

@@ -20,11 +20,7 @@
 # PTB names another program than the one that ./ptb builds; CC names the C compiler, in whose place the kit's will do.
 set -u
 root=$(dirname "$(dirname "$(readlink -f "$0")")")
-if [ -z "${PTB-}" ]; then
-    # the start script looks for newer sources at each start, which is done once here
-    "$root/ptb" <"$root/examples/hello.bas" >/dev/null || exit 1
-    PTB=$root/crates/ptb/out/ptb
-fi
+. "$root/tests/shared/built.sh"
 folder=$(mktemp -d)
 trap 'rm -rf "$folder"' EXIT
 
@@ -38,4 +34,4 @@ compiled "${CC:-cc}" 2>/dev/null || compiled "$kit/toolchain/bin/clang" -fuse-ld
 for crate in ptb_text ptb_expr ptb_command ptb_explore; do
     [ -x "$root/crates/$crate/out/${crate}_tests" ] || (cd "$root/crates/$crate" && rt test >/dev/null) || exit 1
 done
-python3 -B "$root/tests/refusals/main.py" "$PTB" "$folder/strike.so" "$root/crates"
+PYTHONPATH=$root/tests/shared python3 -B "$root/tests/refusals/main.py" "$PTB" "$folder/strike.so" "$root/crates"

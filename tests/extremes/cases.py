@@ -3,20 +3,13 @@
 from dataclasses import dataclass
 from typing import Optional
 
+from replies import Reply
+
 TEXT_LIMIT = 1_048_576
 INPUT_LIMIT = 16_777_216
 STATEMENT_LIMIT = 255
 STEP_LIMIT = 1_000_000_000
 LETTERS = "ABCDEFGHIJKLMNOPQRSTUVWXYZ"
-
-
-@dataclass(frozen=True)
-class Reply:
-    """What a run comes to. The status is below 0 where a signal ended it."""
-
-    status: object
-    output: bytes
-    errors: bytes
 
 
 @dataclass(frozen=True)

@@ -3,12 +3,12 @@
 import multiprocessing
 import os
 import resource
-import subprocess
 import sys
 import tempfile
 import time
 
-from cases import Reply, cases
+from cases import cases
+from replies import Reply, replied
 
 STACK = 256 * 1024
 SECONDS_OF_A_RUN = 300
@@ -22,14 +22,11 @@ def limit_stack():
     resource.setrlimit(resource.RLIMIT_STACK, (STACK, STACK))
 
 
-def replied(words, stdin):
+def replied_in_small_stack(words, stdin):
     """Runs these words under the small stack, with this file as standard input."""
-    how = {"env": VARIABLES, "preexec_fn": limit_stack, "timeout": SECONDS_OF_A_RUN}
+    how = {"env": VARIABLES, "preexec_fn": limit_stack, "capture_output": True}
     try:
-        done = subprocess.run(words, stdin=stdin, capture_output=True, **how)
-        return Reply(done.returncode, done.stdout, done.stderr)
-    except subprocess.TimeoutExpired as late:
-        return Reply("not over in time", late.stdout or b"", late.stderr or b"")
+        return replied(words, SECONDS_OF_A_RUN, stdin=stdin, **how)
     except OSError as error:
         return Reply(f"not started: {error}", b"", b"")
 
@@ -48,7 +45,7 @@ def tried(task):
         words = [ptb, *case.words, *([] if case.input is None else [program])]
         began = time.monotonic()
         with open(stdin, "rb") as file:
-            reply = replied(words, file)
+            reply = replied_in_small_stack(words, file)
         return None if reply == case.due else told(reply, case.due), time.monotonic() - began
 
 
@@ -68,7 +65,7 @@ def told(reply, due):
 def has_small_stack():
     """Whether the stack of what is run here is as small as it is to be."""
     with open(os.devnull, "rb") as nothing:
-        return replied(["/bin/sh", "-c", "ulimit -s"], nothing).output == b"256\n"
+        return replied_in_small_stack(["/bin/sh", "-c", "ulimit -s"], nothing).output == b"256\n"
 
 
 def main():

@@ -5,13 +5,13 @@ Then it has the allocations of tests refused.
 
 import multiprocessing
 import os
-import subprocess
 import sys
 import tempfile
 from dataclasses import dataclass, replace
 
 import of_tests
-from rows import ROWS, Reply, Row, noted
+from replies import Reply, replied
+from rows import ROWS, Row, noted
 
 KINDS = {
     "refuse": "allocations refused",
@@ -89,14 +89,9 @@ def run(ptb, strike, folder, row, how):
     how_it_is_run = {
         "input": stdin.encode(),
         "capture_output": True,
-        "timeout": SECONDS_OF_A_RUN,
         "env": {**os.environ, "LD_PRELOAD": strike, "STRIKE": how, "STRUCK": struck},
     }
-    try:
-        done = subprocess.run([ptb, *words], **how_it_is_run)
-        reply = Reply(done.returncode, done.stdout, done.stderr)
-    except subprocess.TimeoutExpired as late:
-        reply = Reply("not over in time", late.stdout or b"", late.stderr or b"")
+    reply = replied([ptb, *words], SECONDS_OF_A_RUN, **how_it_is_run)
     with open(struck, encoding="ascii") as name:
         return name.read(), reply
 

@@ -10,7 +10,11 @@ TESTS = [
     ("ptb_text", "tests::refused_growths_are_answered", set()),
     ("ptb_text", "tests::refused_lines_are_entered_again", set()),
     ("ptb_expr", "tests::refused_array", set()),
+    ("ptb_expr", "tests::copied_values", set()),
+    ("ptb_expr", "tests::refused_answers", set()),
     ("ptb_command", "tests::first_registers", set()),
+    ("ptb_command", "tests::copied_registers", set()),
+    ("ptb_explore", "explorer::tests::refused_copies", set()),
     ("ptb_explore", "listing::tests::refused_listings_go_on", {"0", "1"}),
 ]
 MOST_CALLS = 1000

@@ -2,14 +2,7 @@
 
 from dataclasses import dataclass
 
-
-@dataclass(frozen=True)
-class Reply:
-    """What a run comes to. The status is below 0 where a signal ended it."""
-
-    status: object
-    output: bytes
-    errors: bytes
+from replies import Reply
 
 
 @dataclass(frozen=True)
@@ -50,6 +43,7 @@ PRODUCTS = [
 ]
 BRANCH = "10 A=RND(2);IF A=2 B=RND(3);PRINT B\n"
 BRANCHES = [report("1 END 2 0", "")] + [report(f"2,{k} END 4 7", f"     {k}\n") for k in (1, 2, 3)]
+DICE = "10 PRINT RND(6),RND(6)\n"
 ECHO = "10 INPUT A;PRINT A\n"
 ECHOES = [report(f"{k} END 2 16", f"A:RND(2)\n     {k}\n") for k in (1, 2)]
 ASK = "10 INPUT A\n"
@@ -68,6 +62,9 @@ ROWS = [
     Row("--all", BRANCH, None, served("".join(BRANCHES))),
     Row("--all --after 2,1", BRANCH, None, served("".join(BRANCHES[2:]))),
     Row("--answers 2,3", BRANCH, "", served("     3\n")),
+    Row("--seed 7", BRANCH, "", served("")),
+    Row("--seed 7", DICE, "", served("     3     5\n")),
+    Row("--seed 7", LONG_RUN, "", served(300 * "     1\n")),
     Row("--answers 2,3", BRANCH, None, served("     3\n")),
     Row("--all", ECHO, "RND(2)\n", served("".join(ECHOES))),
     Row("--answers 1", ECHO, "RND(2)\n", served("A:RND(2)\n     1\n")),

@@ -3,7 +3,10 @@
 import os
 import re
 import subprocess
+from contextlib import nullcontext
 from dataclasses import dataclass
+
+from replies import NOT_OVER, replied
 
 ENDINGS = {"END": 0, "STOP": 0, "WHAT": 1, "HOW": 2, "SORRY": 3, "LIMIT": 4, "NOINPUT": 5}
 LIMIT, NO_ANSWER, BAD_ANSWER = 4, 6, 7
@@ -32,39 +35,17 @@ class Call:
     stdout: str = ""
 
 
-@dataclass(frozen=True)
-class Reply:
-    """What came of a call. The status is None where it was not over in time, and below 0 where a signal ended it."""
-
-    status: object
-    output: bytes
-    errors: bytes
-
-
 def reply_of(program, folder, call):
     """Calls the program."""
     with open(os.path.join(folder, call.stdin), "rb") as stdin:
-        stdout = open(call.stdout, "wb") if call.stdout else None
-        try:
-            done = subprocess.run(
-                [program, *call.words],
-                cwd=folder,
-                stdin=stdin,
-                stdout=stdout or subprocess.PIPE,
-                stderr=subprocess.PIPE,
-                timeout=SECONDS_OF_A_CALL,
-            )
-        except subprocess.TimeoutExpired as late:
-            return Reply(None, late.stdout or b"", late.stderr or b"")
-        finally:
-            if stdout:
-                stdout.close()
-    return Reply(done.returncode, done.stdout or b"", done.stderr)
+        with open(call.stdout, "wb") if call.stdout else nullcontext(subprocess.PIPE) as stdout:
+            how = {"cwd": folder, "stdin": stdin, "stdout": stdout, "stderr": subprocess.PIPE}
+            return replied([program, *call.words], SECONDS_OF_A_CALL, **how)
 
 
 def fault_of(reply):
     """Why no call may be replied to like this, or an empty text."""
-    if reply.status is None:
+    if reply.status == NOT_OVER:
         return f"not over in {SECONDS_OF_A_CALL} seconds"
     if reply.status not in NOTES:
         return f"status {reply.status}"

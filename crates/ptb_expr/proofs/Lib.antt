@@ -5,9 +5,11 @@ pub mod Formulas
 pub mod Marks
 pub mod Parts
 pub mod Reaching
+pub mod Seeds
 pub mod Spelling
 pub mod Taking
 pub mod Uniqueness
 pub mod Worked
 pub mod Readers
+pub mod Zeros
 pub mod ValueReads

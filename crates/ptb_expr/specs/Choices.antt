@@ -12,7 +12,7 @@ use Rattle.ptb_expr.specs.Outcome.{Answers, Outcome, Asks, Out, is_answer}
 
 -- ---- what a chooser holds
 
--- the plan is what a chooser was made with, as a list of answers; no call changes it
+-- the plan is what a chooser was made with, as a list of numbers: its answers, or its seed; no call changes it
 pub record Choices : Type 0 where
   pub plan : List ℤ
   pub taken : Answers

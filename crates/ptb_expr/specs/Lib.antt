@@ -2,6 +2,7 @@
 pub mod Outcome
 pub mod AnswerText
 pub mod Choices
+pub mod Seeds
 pub mod Store
 pub mod Tree
 pub mod Value

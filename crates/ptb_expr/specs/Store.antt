@@ -3,7 +3,7 @@
 --     index_of size i                                    the index i of the array, if there is such an element
 --     element_of c i, with_element c i v                 the element there
 --     empty_cells size                                   all of them 0
-use Rattle.std.specs.Prelude.{ℕ, ◌+◌, ◌-◌, ◌/◌, List, ℤ, pos, ◌*ℤ◌, Result, Ok, Err, if◌then◌else◌, int_lt, slice_index_or, slice_set, unsigned_abs, replicate}
+use Rattle.std.specs.Prelude.{ℕ, ◌+◌, ◌-◌, ◌/◌, List, ℤ, pos, ◌*ℤ◌, Result, Ok, Err, if◌then◌else◌, int_lt, slice_index_or, slice_set, unsigned_abs, replicate, ◌≡◌, drop, length}
 use Rattle.ptb_expr.specs.declared.fault.FaultKind.{FaultKind}
 use Rattle.ptb_expr.specs.declared.fault.FaultKind.TheVariants.{How, Sorry}
 
@@ -40,3 +40,7 @@ empty_cells size = record {
   values = replicate 26 (pos 0);
   elements = replicate (unsigned_abs size / 2 + 1) (pos 0);
 }
+
+-- all values behind the first n are 0
+abbrev pub IsZeroFrom : ℕ → List ℤ → Type 0
+IsZeroFrom n values = drop n values ≡ replicate (length values - n) (pos 0)

@@ -1,10 +1,11 @@
 //! Expressions of Tiny BASIC: the store of variables and array, the choosers that answer RND, and
 //! the evaluation of an expression while it is read.
 //!
-//! It stands on `ptb_text` and `thiserror`. The crate above may rely on `evaluate` and `target`:
-//! whoever answers, they come to what `specs/Value` makes of the tree that `specs/Spells` reads at
-//! the cursor, be it a value, a fault with its mark or a question; on the laws of `Chooser`; and on
-//! `Formula`, a short expression that is read once and worked out often.
+//! It stands on `ptb_text`, on `rand_core` and `rand_pcg` for the answers of a seed, and on
+//! `thiserror`. The crate above may rely on `evaluate` and `target`: whoever answers, they come to
+//! what `specs/Value` makes of the tree that `specs/Spells` reads at the cursor, be it a value, a
+//! fault with its mark or a question; on the laws of `Chooser`; on `Seeded`, whose answers are those
+//! of `specs/Seeds`; and on `Formula`, a short expression that is read once and worked out often.
 #![tactic(auto)]
 
 mod chooser;
@@ -15,6 +16,7 @@ mod laws;
 mod operator;
 mod pause;
 mod rows;
+mod seeded;
 mod store;
 #[cfg(test)]
 mod tests;
@@ -27,4 +29,5 @@ pub use laws::{mark_laws, spelling_laws, value_laws};
 pub use operator::Operator;
 pub use pause::Pause;
 pub use rows::value_rows;
+pub use seeded::Seeded;
 pub use store::{Store, Target};

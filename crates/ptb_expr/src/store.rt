@@ -1,6 +1,7 @@
 // This file has the values of the variables A to Z and of the array @, and what names one of them.
 
-ghost use Rattle.std.specs.Prelude.{◌≡◌, ℕ, ℤ, pos, ◌≤ℤ◌, IfOk, IsOk, OnOk, OnErr};
+ghost use Rattle.std.specs.Prelude.{◌≡◌, ◌≤◌, ℕ, ℤ, pos, ◌≤ℤ◌, IfOk, IsOk, OnOk, OnErr};
+ghost use Rattle.std.specs.Prelude.{◌++◌, length, take, drop};
 ghost use Rattle.ptb_expr.specs.Store.{value_at, with_value, index_of, element_of, with_element};
 ghost use Rattle.ptb_expr.specs.Store.{empty_cells};
 
@@ -24,18 +25,30 @@ pub struct Store {
     size: i16,
     values: [i16; 26],
     elements: Vec<i16>,
+    /// How many of the first elements a copy takes over: those behind them are 0.
+    used: usize,
+}
+
+// Takes over as many of the first values of others.
+fn copy_front(values: &mut [i16], others: &[i16], count: usize)
+    requires same_length { length values.old ≡ length others.now }
+    requires within { count ≤ length others.now }
+    ensures { values.new ≡ take count others.now ++ drop count values.old }
+{
+    values[..count].copy_from_slice(&others[..count]);
 }
 
 impl Model for Store {
-    ghost use Rattle.std.specs.Prelude.{◌≡◌, ◌+◌, ◌/◌, pos, ◌≤ℤ◌, length, unsigned_abs, vec_len};
-    ghost use Rattle.ptb_expr.specs.Store.{Cells};
+    ghost use Rattle.std.specs.Prelude.{◌≡◌, ◌+◌, ◌/◌, ◌≤◌, pos, ◌≤ℤ◌, length, unsigned_abs, vec_len};
+    ghost use Rattle.ptb_expr.specs.Store.{Cells, IsZeroFrom};
 
     ghost Value = { Cells };
 
     ghost view = { λ s. record { size = s.size; values = s.values; elements = s.elements.items } };
 
     ghost invariant = { λ s. (length s.values ≡ 26) × (pos 0 ≤ℤ s.size)
-        × (vec_len s.elements ≡ unsigned_abs s.size / 2 + 1) };
+        × (vec_len s.elements ≡ unsigned_abs s.size / 2 + 1)
+        × (s.used ≤ vec_len s.elements) × IsZeroFrom s.used s.elements.items };
 }
 
 impl Store {
@@ -54,6 +67,7 @@ impl Store {
             size,
             values: [0; 26],
             elements,
+            used: 0,
         })
     }
 
@@ -69,6 +83,7 @@ impl Store {
             size: self.size,
             values: self.values,
             elements: Vec::from_slice(alloc, &self.elements)?,
+            used: self.used,
         })
     }
 
@@ -87,8 +102,10 @@ impl Store {
             *self = other.copy(alloc)?;
             return Ok(());
         }
+        let used = self.used.max(other.used);
         self.values = other.values;
-        self.elements.copy_from_slice(&other.elements);
+        copy_front(&mut self.elements, &other.elements, used);
+        self.used = other.used;
         Ok(())
     }
 
@@ -148,6 +165,8 @@ impl Store {
         requires { index_of self.old.size index ≡ Ok index }
         ensures { self.new ≡ with_element self.old index value }
     {
-        self.elements[index as usize] = value;
+        let at = index as usize;
+        self.elements[at] = value;
+        self.used = self.used.max(at + 1);
     }
 }

@@ -5,6 +5,8 @@ ghost use Rattle.ptb_text.specs.Words.{is_letter};
 
 use super::*;
 use ptb_text::{Cursor, Letter};
+use rand_core::utils::NextWord;
+use rand_pcg::Lcg64Xsh32;
 use std::alloc::{AllocError, Global};
 use std::test::Fail;
 
@@ -240,9 +242,10 @@ fn copied_values(rt: HostRuntime) {
     store.set_element(2, 12);
     if let Ok(copy) = store.copy(rt.alloc()) {
         store.set(letter(b'B'), 8);
-        assert!(rt; worth(&copy, b"B+@(2)+S.", &[]) == (Ok((24, 9)), 0));
+        store.set_element(1, 5);
+        assert!(rt; worth(&copy, b"B+@(1)+@(2)+S.", &[]) == (Ok((24, 14)), 0));
         assert_eq!(rt; store.copy_from(rt.alloc(), &copy), Ok(()));
-        assert_eq!(rt; store.get(letter(b'B')), 7);
+        assert!(rt; worth(&store, b"B+@(1)+@(2)+S.", &[]) == (Ok((24, 14)), 0));
     }
     if let Ok(mut other) = Store::new(rt.alloc(), 9) {
         let want = match other.copy_from(rt.alloc(), &store) {
@@ -309,6 +312,87 @@ fn kept_bounds(rt: HostRuntime) -> Result<(), Fail> {
     assert!(rt; target(&mut cursor, &store, &mut kept) == Ok(Target::Element(2)));
     assert!(rt; kept.bounds.as_slice() == [2].as_slice());
     Ok(())
+}
+
+// What the generator gives next for a question with this bound.
+fn next_answer(generator: &mut Lcg64Xsh32, bound: u32) -> i64 {
+    1 + i64::from(generator.next_word() % bound.max(1))
+}
+
+// What RND of the bound is, and i64::MAX where it is a fault or a pause.
+fn asked(store: &Store, seeded: &mut Seeded, text: &str) -> i64 {
+    match evaluate(&mut Cursor::new(text.as_bytes(), 0), store, seeded) {
+        Ok(value) => i64::from(value),
+        Err(_) => i64::MAX,
+    }
+}
+
+#[test]
+fn seeded_answers(rt: HostRuntime) -> Result<(), Fail> {
+    let store = Store::new(rt.alloc(), 4)?;
+    for seed in [0, 1, 4294967295] {
+        let mut seeded = Seeded::new(rt.alloc(), seed);
+        let mut generator = Lcg64Xsh32::new(seed, 1);
+        for (text, bound) in [
+            ("R.(6)", 6),
+            ("R.(1)", 1),
+            ("R.(32767)", 32767),
+            ("R.(6)", 6),
+            ("R.(100)", 100),
+            ("R.(2)", 2),
+            ("R.(20000)", 20000),
+        ] {
+            let want = next_answer(&mut generator, bound);
+            assert_eq!(rt; asked(&store, &mut seeded, text), want, "{seed} {text}");
+        }
+        assert!(rt; seeded.bounds() == [6, 1, 32767, 6, 100, 2, 20000].as_slice());
+        let mut generator = Lcg64Xsh32::new(seed, 1);
+        assert_eq!(rt; seeded.answers().len(), 7);
+        assert!(rt;
+            i64::from(seeded.answers()[0]) == next_answer(&mut generator, 6),
+            "{seed}"
+        );
+    }
+    Ok(())
+}
+
+// A question that is asked with a bound below 1 is a fault, and no word is drawn for it.
+#[test]
+fn seeded_faults(rt: HostRuntime) -> Result<(), Fail> {
+    let store = Store::new(rt.alloc(), 4)?;
+    let mut seeded = Seeded::new(rt.alloc(), 7);
+    let mut cursor = Cursor::new(b"R.(0)", 0);
+    let how = Fault {
+        kind: FaultKind::How,
+        mark: 5,
+    };
+    assert!(rt; evaluate(&mut cursor, &store, &mut seeded) == Err(Stop::Fault(how)));
+    assert!(rt; seeded.bounds().is_empty());
+    let want = next_answer(&mut Lcg64Xsh32::new(7, 1), 9);
+    assert_eq!(rt; asked(&store, &mut seeded, "R.(9)"), want);
+    Ok(())
+}
+
+// Passes whichever of its allocations is refused: the lists are then as they were, and the next
+// answer is the one that was refused.
+#[test]
+fn refused_answers(rt: HostRuntime) {
+    let mut seeded = Seeded::new(rt.alloc(), 7);
+    let mut generator = Lcg64Xsh32::new(7, 1);
+    for _ in 0..40 {
+        let given = seeded.answers().len();
+        match seeded.choose(100) {
+            Ok(answer) => {
+                assert_eq!(rt; i64::from(answer), next_answer(&mut generator, 100));
+                assert_eq!(rt; seeded.answers().len(), given + 1);
+            }
+            Err(pause) => {
+                assert!(rt; pause == Pause::Memory);
+                assert_eq!(rt; seeded.answers().len(), given);
+            }
+        }
+        assert_eq!(rt; seeded.bounds().len(), seeded.answers().len());
+    }
 }
 
 // The formula at the front of a text, and the place after it.

@@ -37,7 +37,7 @@ some_injective : (n k : ℕ) → Some n ≡ Some k → n ≡ k
 some_injective n k e = cc
 
 -- it is the option at place 1, and no other
-only_place : (j : ℕ) (r : Rule) → j < 8 → bytes_eq (get_or tool_rules j r).id name ≡ true → j ≡ 1
+only_place : (j : ℕ) (r : Rule) → j < 9 → bytes_eq (get_or tool_rules j r).id name ≡ true → j ≡ 1
 only_place zero r lt e = absurd (cc)
 only_place (suc zero) r lt e = refl
 only_place (suc (suc zero)) r lt e = absurd (cc)
@@ -46,13 +46,14 @@ only_place (suc (suc (suc (suc zero)))) r lt e = absurd (cc)
 only_place (suc (suc (suc (suc (suc zero))))) r lt e = absurd (cc)
 only_place (suc (suc (suc (suc (suc (suc zero)))))) r lt e = absurd (cc)
 only_place (suc (suc (suc (suc (suc (suc (suc zero))))))) r lt e = absurd (cc)
-only_place (suc (suc (suc (suc (suc (suc (suc (suc j)))))))) r lt e = absurd (omega arith)
+only_place (suc (suc (suc (suc (suc (suc (suc (suc zero)))))))) r lt e = absurd (cc)
+only_place (suc (suc (suc (suc (suc (suc (suc (suc (suc j))))))))) r lt e = absurd (omega arith)
 
 module _ (c : Command) (m : ArgMatches) (is_tool : app_of c ≡ tool) (p : IsParsedFrom c m) where
   rules_are : map rule_of (args_of c) ≡ tool_rules
   rules_are = ap (λ a. a.top.rules) is_tool
 
-  count : length (args_of c) ≡ 8
+  count : length (args_of c) ≡ 9
   count = sym (length-map (args_of c) rule_of) ∙ ap length rules_are
 
   rule_at : (j : ℕ) (d : Arg) → j < length (args_of c) → rule_of (get_or (args_of c) j d) ≡ get_or tool_rules j (rule_of d)

@@ -22,7 +22,7 @@ use Rattle.ptb_options.specs.declared.request.Mode.{Mode}
 use Rattle.ptb_options.specs.declared.request.Mode.TheVariants as modes
 use Rattle.ptb_options.specs.declared.request.Request.{Request}
 use Rattle.ptb_options.specs.declared.usage.UsageFault.{UsageFault}
-use Rattle.ptb_options.specs.declared.usage.UsageFault.TheVariants.{ListWithOther, AfterWithoutAll, FirstWithoutAll, AnswersWithAll, BadList, Memory}
+use Rattle.ptb_options.specs.declared.usage.UsageFault.TheVariants.{ListWithOther, AfterWithoutAll, FirstWithoutAll, AnswersWithAll, SeedWithAll, SeedWithAnswers, BadList, Memory}
 
 -- ---- the options
 
@@ -31,6 +31,7 @@ pub record Options : Type 0 where
   pub steps : Option ℕ
   pub memory : Option ℕ
   pub answers : Option (List ℕ)
+  pub seed : Option ℕ
   pub all : Bool
   pub after : Option (List ℕ)
   pub first : Option ℕ
@@ -38,7 +39,7 @@ pub record Options : Type 0 where
 
 -- an empty command line
 abbrev pub no_options : Options
-no_options = record { steps = None; memory = None; answers = None; all = false; after = None; first = None; list = false }
+no_options = record { steps = None; memory = None; answers = None; seed = None; all = false; after = None; first = None; list = false }
 
 -- what clap found for each option
 abbrev pub entries_of : ArgMatches → List Row
@@ -68,6 +69,7 @@ options_of entries = record {
   steps = number_of 32 (codes "steps") entries;
   memory = number_of 16 (codes "memory") entries;
   answers = first_of (codes "answers") entries;
+  seed = number_of 64 (codes "seed") entries;
   all = is_given (codes "all") entries;
   after = first_of (codes "after") entries;
   first = number_of 64 (codes "first") entries;
@@ -83,11 +85,13 @@ HasMemorySize o = ForSome o.memory IsMemorySize
 -- the rules are looked at in this order
 abbrev pub clash : Options → Option UsageFault
 clash o =
-    if o.list && (o.all || is_some o.answers || is_some o.after || is_some o.first) then Some ListWithOther
+    if o.list && (o.all || is_some o.answers || is_some o.seed || is_some o.after || is_some o.first) then Some ListWithOther
     else (if is_some o.after && not o.all then Some AfterWithoutAll
     else (if is_some o.first && not o.all then Some FirstWithoutAll
     else (if is_some o.answers && o.all then Some AnswersWithAll
-    else None)))
+    else (if is_some o.seed && o.all then Some SeedWithAll
+    else (if is_some o.seed && is_some o.answers then Some SeedWithAnswers
+    else None)))))
 
 -- a list that may be left out
 abbrev pub SpellsIfGiven : Option (List ℕ) → Option (List ℤ) → Type 0
@@ -96,11 +100,12 @@ SpellsIfGiven None (Some a) = ⊥
 SpellsIfGiven (Some s) None = ⊥
 SpellsIfGiven (Some s) (Some a) = SpellsList s a
 
--- with neither --list nor --all there is one run
+-- with neither --list nor --all there is one run, by a list of answers or by a seed
 abbrev pub AsksMode : Options → Mode → Type 0
 AsksMode o modes.List = o.list ≡ true
 AsksMode o (modes.All after first) = (o.list ≡ false) × (o.all ≡ true) × SpellsIfGiven o.after after × (first ≡ o.first)
-AsksMode o (modes.Plain a) = (o.list ≡ false) × (o.all ≡ false) × SpellsList (unwrap_or o.answers (codes "none")) a
+AsksMode o (modes.Plain a) = (o.list ≡ false) × (o.all ≡ false) × (o.seed ≡ None) × SpellsList (unwrap_or o.answers (codes "none")) a
+AsksMode o (modes.Seeded seed) = (o.list ≡ false) × (o.all ≡ false) × (o.seed ≡ Some seed)
 
 -- without --steps a run begins at most so many commands
 abbrev pub default_steps : ℕ

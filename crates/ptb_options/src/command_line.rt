@@ -23,6 +23,7 @@ pub fn command<'a>(alloc: Global) -> Result<Command<'a>, AllocError>
 {
     let steps = value_parser!(u32).range(1..=1_000_000_000);
     let memory = value_parser!(u16).range(64..=32767);
+    let seed = value_parser!(u64).range(0..=4_294_967_295);
     let first = value_parser!(u64).range(1..=1_000_000_000);
     Command::new(alloc, "ptb")
         .about(help::ABOUT)
@@ -30,6 +31,7 @@ pub fn command<'a>(alloc: Global) -> Result<Command<'a>, AllocError>
         .arg(number_option(alloc, "steps", steps, help::STEPS))?
         .arg(number_option(alloc, "memory", memory, help::MEMORY))?
         .arg(text_option(alloc, "answers", help::ANSWERS))?
+        .arg(number_option(alloc, "seed", seed, help::SEED))?
         .arg(flag(alloc, "all", help::ALL))?
         .arg(text_option(alloc, "after", help::ALL_AFTER))?
         .arg(number_option(alloc, "first", first, help::FIRST))?

@@ -21,8 +21,8 @@ use std::marker::Model;
 ///
 /// The first that applies, in this order: [`UsageFault::ListWithOther`],
 /// [`UsageFault::AfterWithoutAll`], [`UsageFault::FirstWithoutAll`],
-/// [`UsageFault::AnswersWithAll`], [`UsageFault::BadList`]. [`UsageFault::Memory`] comes only while
-/// a list is kept.
+/// [`UsageFault::AnswersWithAll`], [`UsageFault::SeedWithAll`], [`UsageFault::SeedWithAnswers`],
+/// [`UsageFault::BadList`]. [`UsageFault::Memory`] comes only while a list is kept.
 pub fn decide(alloc: Global, matches: &ArgMatches<'_>) -> Result<Request, UsageFault>
     requires { HasMemorySize (options_of (entries_of matches.now)) }
     ensures ok { IfOk result (Asks (options_of (entries_of matches.now))) }
@@ -46,6 +46,7 @@ struct GivenOptions<'a> {
     steps: Option<u32>,
     memory: Option<u16>,
     answers: Option<&'a str>,
+    seed: Option<u64>,
     all: bool,
     after: Option<&'a str>,
     first: Option<u64>,
@@ -62,6 +63,7 @@ impl<'a> Model for GivenOptions<'a> {
       steps = line.steps;
       memory = line.memory;
       answers = option_copied line.answers;
+      seed = line.seed;
       all = line.all;
       after = option_copied line.after;
       first = line.first;
@@ -78,6 +80,7 @@ impl<'a> GivenOptions<'a> {
             steps: matches.get_one("steps"),
             memory: matches.get_one("memory"),
             answers: matches.get_str("answers"),
+            seed: matches.get_one("seed"),
             all: is_given(matches, "all"),
             after: matches.get_str("after"),
             first: matches.get_one("first"),
@@ -90,8 +93,8 @@ impl<'a> GivenOptions<'a> {
         ensures { result ≡ clash self.now }
     {
         let (answers, after) = (self.answers.is_some(), self.after.is_some());
-        let first = self.first.is_some();
-        if self.list && (self.all || answers || after || first) {
+        let (seed, first) = (self.seed.is_some(), self.first.is_some());
+        if self.list && (self.all || answers || seed || after || first) {
             Some(UsageFault::ListWithOther)
         } else if after && !self.all {
             Some(UsageFault::AfterWithoutAll)
@@ -99,6 +102,10 @@ impl<'a> GivenOptions<'a> {
             Some(UsageFault::FirstWithoutAll)
         } else if answers && self.all {
             Some(UsageFault::AnswersWithAll)
+        } else if seed && self.all {
+            Some(UsageFault::SeedWithAll)
+        } else if seed && answers {
+            Some(UsageFault::SeedWithAnswers)
         } else {
             None
         }
@@ -118,6 +125,9 @@ impl<'a> GivenOptions<'a> {
                 after: list(alloc, self.after)?,
                 first: self.first,
             });
+        }
+        if let Some(seed) = self.seed {
+            return Ok(Mode::Seeded(seed));
         }
         match list(alloc, self.answers)? {
             Some(answers) => Ok(Mode::Plain(answers)),

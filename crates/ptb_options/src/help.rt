@@ -13,6 +13,10 @@ pub const MEMORY: &str = "Give the program N bytes of memory, 64 to 32767 [defau
 pub const ANSWERS: &str =
     "Answer the questions of RND with these numbers, in order [default: none]";
 
+/// The help of `--seed`.
+pub const SEED: &str =
+    "Answer them with numbers drawn from the seed N, 0 to 4294967295, the same each time";
+
 /// The help of `--all`.
 pub const ALL: &str = "Write a report of every run, in the order of their answers";
 
@@ -53,5 +57,7 @@ Examples:
           runs game.bas on the lines of moves.txt
   ptb --answers 6,1,3 --steps 500 dice.bas
           runs dice.bas with these rolls, 500 commands at most
+  ptb --seed 7 dice.bas
+          runs dice.bas with rolls that are drawn from the seed 7
   ptb --all --first 10 dice.bas < throws.txt
           reports the first ten runs of dice.bas on the lines of throws.txt";

@@ -13,6 +13,8 @@ pub const DEFAULT_MEMORY: u16 = 4096;
 pub enum Mode {
     /// It is run once, with these answers.
     Plain(Answers),
+    /// It is run once, with the answers that this seed gives, 0 to 4,294,967,295.
+    Seeded(u64),
     /// All its runs are listed.
     All {
         /// The run after which the listing begins; from the first run on where there is none.

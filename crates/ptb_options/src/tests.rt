@@ -22,7 +22,7 @@ fn asked(alloc: Global, words: &[&str]) -> Result<Result<Request, UsageFault>, c
 
 #[test]
 fn options_that_clash(rt: HostRuntime) -> Result<(), Fail> {
-    let table: [(&[&str], UsageFault, &str); 11] = [
+    let table: [(&[&str], UsageFault, &str); 18] = [
         (
             &["--list", "--after", "1"],
             UsageFault::ListWithOther,
@@ -72,6 +72,41 @@ fn options_that_clash(rt: HostRuntime) -> Result<(), Fail> {
             &["--all", "--answers", "x"],
             UsageFault::AnswersWithAll,
             "ptb: --answers excludes --all",
+        ),
+        (
+            &["--list", "--seed", "1"],
+            UsageFault::ListWithOther,
+            "ptb: --list stands alone",
+        ),
+        (
+            &["--seed", "1", "--after", "0"],
+            UsageFault::AfterWithoutAll,
+            "ptb: --after needs --all",
+        ),
+        (
+            &["--seed", "1", "--all", "--answers", "x"],
+            UsageFault::AnswersWithAll,
+            "ptb: --answers excludes --all",
+        ),
+        (
+            &["--seed", "1", "--all"],
+            UsageFault::SeedWithAll,
+            "ptb: --seed excludes --all",
+        ),
+        (
+            &["--all", "--seed", "1", "--after", "x"],
+            UsageFault::SeedWithAll,
+            "ptb: --seed excludes --all",
+        ),
+        (
+            &["--seed", "1", "--answers", "none"],
+            UsageFault::SeedWithAnswers,
+            "ptb: --seed excludes --answers",
+        ),
+        (
+            &["--answers", "x", "--seed", "1"],
+            UsageFault::SeedWithAnswers,
+            "ptb: --seed excludes --answers",
         ),
         (
             &["--all", "--after", "2,1/"],
@@ -186,6 +221,25 @@ fn plain_requests(rt: HostRuntime) -> Result<(), Fail> {
 }
 
 #[test]
+fn seeded_requests(rt: HostRuntime) -> Result<(), Fail> {
+    let table: [(&[&str], u32, u64); 4] = [
+        (&["--seed", "0"], 10000, 0),
+        (&["--seed=65543", "game.bas"], 10000, 65543),
+        (&["--steps", "5", "--seed", "4294967295"], 5, 4294967295),
+        (&["--seed", "007"], 10000, 7),
+    ];
+    for (words, steps, want) in table {
+        let request = asked(rt.alloc(), words)??;
+        assert_eq!(rt; (request.steps, request.memory), (steps, 4096), "{words:?}");
+        let Mode::Seeded(seed) = request.mode else {
+            panic!(rt; "{words:?} is no run by a seed");
+        };
+        assert_eq!(rt; seed, want, "{words:?}");
+    }
+    Ok(())
+}
+
+#[test]
 fn requests_for_all_runs(rt: HostRuntime) -> Result<(), Fail> {
     let table: [(&[&str], Option<&[i16]>, Option<u64>); 4] = [
         (&["--all"], None, None),
@@ -225,7 +279,7 @@ fn requests_for_a_listing(rt: HostRuntime) -> Result<(), Fail> {
 
 #[test]
 fn words_that_clap_refuses(rt: HostRuntime) {
-    let table: [(&[&str], ErrorKind, u8); 13] = [
+    let table: [(&[&str], ErrorKind, u8); 17] = [
         (&["--steps", "0"], ErrorKind::ValueValidation, 64),
         (&["--steps", "1000000001"], ErrorKind::ValueValidation, 64),
         (&["--steps", "1,000"], ErrorKind::ValueValidation, 64),
@@ -237,7 +291,11 @@ fn words_that_clap_refuses(rt: HostRuntime) {
             ErrorKind::ValueValidation,
             64,
         ),
+        (&["--seed", "4294967296"], ErrorKind::ValueValidation, 64),
+        (&["--seed=-1"], ErrorKind::ValueValidation, 64),
+        (&["--seed", "x"], ErrorKind::ValueValidation, 64),
         (&["--steps"], ErrorKind::InvalidValue, 64),
+        (&["--seed"], ErrorKind::InvalidValue, 64),
         (&["--stops", "1"], ErrorKind::UnknownArgument, 64),
         (&["one.bas", "two.bas"], ErrorKind::UnknownArgument, 64),
         (&["--all", "--all"], ErrorKind::ArgumentConflict, 64),
@@ -269,6 +327,8 @@ fn help_names_each_option(rt: HostRuntime) -> Result<(), Fail> {
         "4096",
         "--answers <LIST>",
         "none",
+        "--seed <N>",
+        "0 to 4294967295",
         "--all",
         "--after <LIST>",
         "--first <N>",

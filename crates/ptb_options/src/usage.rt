@@ -19,7 +19,7 @@ pub enum UsageFault {
     /// `--answers` stands beside `--all`.
     #[error("ptb: --answers excludes --all")]
     AnswersWithAll,
-    /// `--list` stands beside `--all`, `--answers`, `--after` or `--first`.
+    /// `--list` stands beside `--all`, `--answers`, `--seed`, `--after` or `--first`.
     #[error("ptb: --list stands alone")]
     ListWithOther,
     /// A list of answers isn't spelled as one.
@@ -28,6 +28,12 @@ pub enum UsageFault {
     /// A growth was refused memory.
     #[error("ptb: out of memory")]
     Memory,
+    /// `--seed` stands beside `--all`.
+    #[error("ptb: --seed excludes --all")]
+    SeedWithAll,
+    /// `--seed` stands beside `--answers`.
+    #[error("ptb: --seed excludes --answers")]
+    SeedWithAnswers,
 }
 
 impl UsageFault {

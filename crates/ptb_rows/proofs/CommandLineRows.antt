@@ -14,6 +14,12 @@ clash_rows = record {
   after_and_first = refl;
   first_alone = refl;
   answers_and_all = refl;
+  seed_listing = refl;
+  seed_and_after = refl;
+  seed_and_both = refl;
+  seed_and_all = refl;
+  seed_and_answers = refl;
+  seed_alone = refl;
   steps_listing = refl;
 }
 
@@ -24,6 +30,7 @@ option_rows = record {
   operand = refl;
   numbers = refl;
   lists = refl;
+  seed = refl;
   switches = refl;
 }
 
@@ -40,6 +47,9 @@ fault_rows = record {
   no_first = refl;
   most_first = refl;
   many_first = refl;
+  least_seed = refl;
+  most_seed = refl;
+  great_seed = refl;
   no_number = refl;
   unknown = refl;
   second_operand = refl;

@@ -1,6 +1,7 @@
 -- This file names the files of lemmas.
 pub mod OnPrograms
 pub mod RunRows
+pub mod SeedRows
 pub mod ProgramRows
 pub mod ExampleRows
 pub mod LongRunRows

@@ -4,7 +4,7 @@ use Rattle.ptb_text.specs.declared.fault.LoadFault.TheVariants.{NoNumber, Number
 use Rattle.clap.specs.Words.{fault_of, matches_of}
 use Rattle.clap.specs.declared.error.ErrorKind.{ErrorKind}
 use Rattle.clap.specs.declared.error.ErrorKind.TheVariants.{ArgumentConflict, DisplayHelp, UnknownArgument, ValueValidation}
-use Rattle.ptb_options.specs.declared.usage.UsageFault.TheVariants.{ListWithOther, AfterWithoutAll, FirstWithoutAll, AnswersWithAll}
+use Rattle.ptb_options.specs.declared.usage.UsageFault.TheVariants.{ListWithOther, AfterWithoutAll, FirstWithoutAll, AnswersWithAll, SeedWithAll, SeedWithAnswers}
 use Rattle.ptb_options.specs.AnswerLists.{SpellsList, IsMisspelled}
 use Rattle.ptb_options.specs.CommandLine.{tool}
 use Rattle.ptb_options.specs.Options.{default_memory, default_steps, Options, no_options, options_of, clash}
@@ -27,6 +27,9 @@ one_line l = text (l ∷ [])
 -- requests with the steps and the memory of one that gives none
 abbrev pub run : List ℤ → Request
 run answers = record { steps = default_steps; memory = default_memory; mode = modes.Plain answers }
+
+abbrev pub seeded : ℕ → Request
+seeded seed = record { steps = default_steps; memory = default_memory; mode = modes.Seeded seed }
 
 -- all runs, or the first n of those behind a run
 abbrev pub all : Request
@@ -60,6 +63,19 @@ pub record RunRows : Type 0 where
   pub input : reply_to (run []) (codes "10 INPUT A") (text (codes ")" ∷ codes "5" ∷ [])) ≡ run_end (text (codes "A:)" ∷ codes "WHAT?" ∷ codes "A:5" ∷ [])) 0
   pub no_input : reply_to (run []) (codes "10 INPUT A") (one_line (codes ")")) ≡ run_end (text (codes "A:)" ∷ codes "WHAT?" ∷ []) ++ codes "A:") 5
   pub small_memory : reply_to (record (run []) { memory = 64 }) (codes "10 @(28)=1") [] ≡ run_end (text (codes "SORRY" ∷ codes "10 @(28)?=1" ∷ [])) 3
+
+-- runs whose answers are drawn from a seed
+pub record SeedRows : Type 0 where
+  pub only_answer : reply_to (seeded 7) (codes "10 P.RND(1)") [] ≡ run_end (one_line (codes "     1")) 0
+  pub rolls : reply_to (seeded 7) (codes "10 P.RND(6),RND(6),RND(100)") [] ≡ run_end (one_line (codes "     3     5    13")) 0
+  pub least : reply_to (seeded 0) (codes "10 P.RND(6),RND(6),RND(6)") [] ≡ run_end (one_line (codes "     6     6     3")) 0
+  pub second : reply_to (seeded 1) (codes "10 P.RND(6),RND(6),RND(6)") [] ≡ run_end (one_line (codes "     2     3     2")) 0
+  pub greatest : reply_to (seeded 4294967295) (codes "10 P.RND(6),RND(6),RND(6)") [] ≡ run_end (one_line (codes "     4     2     5")) 0
+  pub rolled_input : reply_to (seeded 7) (codes "10 INPUT A;PRINT A") (one_line (codes "RND(6)")) ≡ run_end (text (codes "A:RND(6)" ∷ codes "     3" ∷ [])) 0
+  pub no_input : reply_to (seeded 7) (codes "10 INPUT A") [] ≡ run_end (codes "A:") 5
+  pub fault : reply_to (seeded 7) (codes "10 P.RND(0)") [] ≡ run_end (text (codes "HOW?" ∷ codes "10 P.RND(0)?" ∷ [])) 2
+  pub limit : reply_to (record (seeded 7) { steps = 5 }) (codes "10 A=RND(2);GOTO 10") [] ≡ run_end [] 4
+  pub refused : reply_to (seeded 7) (codes "0 P.") [] ≡ refusal (notes.Load 1 NoNumber)
 
 -- programs that run once
 pub record ProgramRows : Type 0 where
@@ -183,6 +199,12 @@ pub record ClashRows : Type 0 where
   pub after_and_first : clash (options (codes "--first" ∷ codes "3" ∷ codes "--after" ∷ codes "0" ∷ [])) ≡ Some AfterWithoutAll
   pub first_alone : clash (options (codes "--first=3" ∷ [])) ≡ Some FirstWithoutAll
   pub answers_and_all : clash (options (codes "--all" ∷ codes "--answers" ∷ codes "none" ∷ [])) ≡ Some AnswersWithAll
+  pub seed_listing : clash (options (codes "--seed" ∷ codes "7" ∷ codes "--list" ∷ [])) ≡ Some ListWithOther
+  pub seed_and_after : clash (options (codes "--seed" ∷ codes "7" ∷ codes "--after" ∷ codes "0" ∷ [])) ≡ Some AfterWithoutAll
+  pub seed_and_both : clash (options (codes "--seed=7" ∷ codes "--all" ∷ codes "--answers" ∷ codes "1" ∷ [])) ≡ Some AnswersWithAll
+  pub seed_and_all : clash (options (codes "--all" ∷ codes "--seed" ∷ codes "7" ∷ [])) ≡ Some SeedWithAll
+  pub seed_and_answers : clash (options (codes "--answers" ∷ codes "none" ∷ codes "--seed" ∷ codes "7" ∷ [])) ≡ Some SeedWithAnswers
+  pub seed_alone : clash (options (codes "--seed" ∷ codes "7" ∷ codes "--steps" ∷ codes "5" ∷ [])) ≡ None
   pub steps_listing : clash (options (codes "--list" ∷ codes "--steps" ∷ codes "5" ∷ [])) ≡ None
 
 -- texts that write a list of answers, and texts that write none
@@ -205,6 +227,7 @@ pub record OptionRows : Type 0 where
   pub numbers : options (codes "--steps" ∷ codes "5" ∷ codes "--memory=64" ∷ codes "--first" ∷ codes "1000000000" ∷ [])
       ≡ record no_options { steps = Some 5; memory = Some 64; first = Some 1000000000 }
   pub lists : options (codes "--after" ∷ codes "2,1" ∷ codes "--answers" ∷ [] ∷ []) ≡ record no_options { after = Some (codes "2,1"); answers = Some [] }
+  pub seed : options (codes "--seed" ∷ codes "4294967295" ∷ []) ≡ record no_options { seed = Some 4294967295 }
   pub switches : options (codes "--all" ∷ codes "--list" ∷ []) ≡ record no_options { all = true; list = true }
 
 -- words that clap refuses
@@ -219,6 +242,9 @@ pub record FaultRows : Type 0 where
   pub no_first : faults (codes "--first" ∷ codes "0" ∷ []) ≡ ValueValidation ∷ []
   pub most_first : faults (codes "--first" ∷ codes "1000000000" ∷ []) ≡ []
   pub many_first : faults (codes "--first" ∷ codes "1000000001" ∷ []) ≡ ValueValidation ∷ []
+  pub least_seed : faults (codes "--seed" ∷ codes "0" ∷ []) ≡ []
+  pub most_seed : faults (codes "--seed" ∷ codes "4294967295" ∷ []) ≡ []
+  pub great_seed : faults (codes "--seed" ∷ codes "4294967296" ∷ []) ≡ ValueValidation ∷ []
   pub no_number : faults (codes "--steps" ∷ codes "many" ∷ []) ≡ ValueValidation ∷ []
   pub unknown : faults (codes "--stops" ∷ []) ≡ UnknownArgument ∷ []
   pub second_operand : faults (codes "a" ∷ codes "b" ∷ []) ≡ UnknownArgument ∷ []

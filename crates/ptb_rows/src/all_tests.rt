@@ -3,47 +3,12 @@
 ghost use Rattle.std.specs.Prelude.{IfOk};
 ghost use Rattle.ptb_text.specs.Statements.{IsMemorySize};
 
+use crate::tests::{Endless, Failing, Script, Sink, make_sink};
 use ptb_options::{DEFAULT_MEMORY, DEFAULT_STEPS, Mode, Request};
 use ptb_serve::{Note, Outcome, serve};
 use ptb_text::Device;
 use std::alloc::{AllocError, Global};
-use std::io;
-use std::io::ErrorKind;
 use std::test::Fail;
-
-// Takes some bytes a call, until it fails at a call.
-#[derive(Drop)]
-struct Sink {
-    taken: Vec<u8>,
-    piece: usize,
-    calls_left: usize,
-}
-
-impl io::Write for &mut Sink {
-    fn write(&mut self, buf: &[u8]) -> io::Result<usize> {
-        if self.calls_left == 0 {
-            return Err(io::Error::from(ErrorKind::BrokenPipe));
-        }
-        self.calls_left -= 1;
-        let count = self.piece.min(buf.len());
-        self.taken.extend_from_slice(&buf[..count])?;
-        Ok(count)
-    }
-
-    fn flush(&mut self) -> io::Result<()> {
-        Ok(())
-    }
-}
-
-// Fails at once.
-#[derive(Drop)]
-struct Broken;
-
-impl io::Read for Broken {
-    fn read(&mut self, _buf: &mut [u8]) -> io::Result<usize> {
-        Err(io::Error::from(ErrorKind::Other))
-    }
-}
 
 // A program with its input and the most commands of a run, the run behind which its listing begins,
 // and how many reports it has at most.
@@ -84,23 +49,23 @@ fn request_of(alloc: Global, asked: &Asked<'_>) -> Result<Request, AllocError>
     })
 }
 
-// What a listing comes to with a writer that takes some bytes a call, and fails behind some calls.
+// Serves a listing with this writer.
+fn served_to(alloc: Global, asked: &Asked<'_>, sink: &mut Sink) -> Result<Outcome, AllocError> {
+    let request = request_of(alloc, asked)?;
+    let mut program = Device::new(asked.program);
+    let mut input = Device::new(asked.input);
+    let mut out = Device::new(sink);
+    Ok(serve(alloc, &request, &mut program, &mut input, &mut out))
+}
+
+// What a listing comes to with a writer that takes some bytes a call.
 fn served(
     alloc: Global,
     asked: &Asked<'_>,
     piece: usize,
-    calls: usize,
 ) -> Result<(Outcome, Vec<u8>), AllocError> {
-    let request = request_of(alloc, asked)?;
-    let mut program = Device::new(asked.program);
-    let mut input = Device::new(asked.input);
-    let mut sink = Sink {
-        taken: Vec::new(alloc),
-        piece,
-        calls_left: calls,
-    };
-    let mut out = Device::new(&mut sink);
-    let outcome = serve(alloc, &request, &mut program, &mut input, &mut out);
+    let mut sink = make_sink(alloc, piece, usize::MAX, Failing::Breaks);
+    let outcome = served_to(alloc, asked, &mut sink)?;
     Ok((outcome, sink.taken))
 }
 
@@ -179,7 +144,7 @@ fn all_runs(rt: HostRuntime) -> Result<(), Fail> {
     ];
     for (asked, text) in table {
         for piece in [1, 5, 100_000] {
-            let (outcome, bytes) = served(rt.alloc(), &asked, piece, usize::MAX)?;
+            let (outcome, bytes) = served(rt.alloc(), &asked, piece)?;
             assert_eq!(rt; (outcome.status, outcome.note), (0, None), "{asked:?}");
             assert_eq!(rt; bytes.as_slice(), text, "{asked:?}");
         }
@@ -199,7 +164,7 @@ fn most_answers(rt: HostRuntime) -> Result<(), Fail> {
         text.extend_from_slice(b",1")?;
     }
     text.extend_from_slice(b" END 10001 0\n\n")?;
-    let (outcome, bytes) = served(rt.alloc(), &asked, 100_000, usize::MAX)?;
+    let (outcome, bytes) = served(rt.alloc(), &asked, 100_000)?;
     assert_eq!(rt; (outcome.status, outcome.note), (0, None));
     assert_eq!(rt; bytes.as_slice(), text.as_slice());
     Ok(())
@@ -239,7 +204,7 @@ fn runs_behind_a_run(rt: HostRuntime) -> Result<(), Fail> {
             first,
             ..all_of(program)
         };
-        let (outcome, bytes) = served(rt.alloc(), &asked, 100, usize::MAX)?;
+        let (outcome, bytes) = served(rt.alloc(), &asked, 100)?;
         assert_eq!(rt; (outcome.status, outcome.note), (0, None), "{asked:?}");
         assert_eq!(rt; bytes.as_slice(), text, "{asked:?}");
     }
@@ -261,7 +226,7 @@ fn runs_behind_no_run(rt: HostRuntime) -> Result<(), Fail> {
             after: Some(answers),
             ..all_of(program)
         };
-        let (outcome, bytes) = served(rt.alloc(), &asked, 100, usize::MAX)?;
+        let (outcome, bytes) = served(rt.alloc(), &asked, 100)?;
         assert_eq!(rt;
             (outcome.status, outcome.note),
             (67, Some(Note::NoRun)),
@@ -312,8 +277,8 @@ fn listings_in_two_parts(rt: HostRuntime) -> Result<(), Fail> {
                 after: Some(*answers),
                 ..asked
             };
-            let (_, mut bytes) = served(rt.alloc(), &front, 100, usize::MAX)?;
-            let (_, rest) = served(rt.alloc(), &back, 100, usize::MAX)?;
+            let (_, mut bytes) = served(rt.alloc(), &front, 100)?;
+            let (_, rest) = served(rt.alloc(), &back, 100)?;
             bytes.extend_from_slice(&rest)?;
             assert_eq!(rt; bytes.as_slice(), text, "{back:?}");
         }
@@ -321,26 +286,32 @@ fn listings_in_two_parts(rt: HostRuntime) -> Result<(), Fail> {
     Ok(())
 }
 
-// What was written of a listing is its beginning, whichever call fails.
+// What was written of a listing is its beginning, whichever call fails. A report of 24 bytes takes
+// five calls.
 #[test]
 fn listings_that_break_off(rt: HostRuntime) -> Result<(), Fail> {
-    for calls in 0..30 {
-        let (outcome, bytes) = served(rt.alloc(), &all_of(TWO_ROLLS), 5, calls)?;
-        if outcome.note.is_some() {
+    for failing in [
+        Failing::Breaks,
+        Failing::IsInterrupted,
+        Failing::TakesNothing,
+    ] {
+        for calls in 0..=20 {
+            let mut sink = make_sink(rt.alloc(), 5, calls, failing);
+            let outcome = served_to(rt.alloc(), &all_of(TWO_ROLLS), &mut sink)?;
+            let due = if calls == 20 {
+                (0, None)
+            } else {
+                (74, Some(Note::Unwritten))
+            };
+            assert_eq!(rt; (outcome.status, outcome.note), due, "{failing:?} {calls}");
+            let length = 24 * (calls / 5) + 5 * (calls % 5);
             assert_eq!(rt;
-                (outcome.status, outcome.note),
-                (74, Some(Note::Unwritten)),
-                "{calls}"
+                sink.taken.as_slice(),
+                &TWO_ROLLS_TEXT[..length],
+                "{failing:?} {calls}"
             );
-        } else {
-            assert_eq!(rt; bytes.len(), TWO_ROLLS_TEXT.len());
         }
-        assert!(rt; bytes.len() <= 5 * calls);
-        assert!(rt; TWO_ROLLS_TEXT.starts_with(&bytes), "{calls}");
     }
-    let (outcome, bytes) = served(rt.alloc(), &all_of(TWO_ROLLS), 5, 2)?;
-    assert_eq!(rt; (outcome.status, outcome.note), (74, Some(Note::Unwritten)));
-    assert!(rt; bytes.len() <= 10);
     Ok(())
 }
 
@@ -348,17 +319,41 @@ fn listings_that_break_off(rt: HostRuntime) -> Result<(), Fail> {
 #[test]
 fn unread_inputs(rt: HostRuntime) -> Result<(), Fail> {
     for program in [ONE_ROLL, b"10 INPUT A"] {
-        let request = request_of(rt.alloc(), &all_of(program))?;
-        let mut text = Device::new(program);
-        let mut input = Device::new(Broken);
-        let mut bytes = Vec::new(rt.alloc());
-        let mut out = Device::new(&mut bytes);
-        let outcome = serve(rt.alloc(), &request, &mut text, &mut input, &mut out);
-        assert_eq!(rt;
-            (outcome.status, outcome.note),
-            (66, Some(Note::InputUnread))
-        );
-        assert!(rt; bytes.is_empty());
+        for bytes in [&b""[..], b"5", b"5\n"] {
+            let request = request_of(rt.alloc(), &all_of(program))?;
+            let mut text = Device::new(program);
+            let mut input = Device::new(Script {
+                bytes,
+                piece: 1,
+                fails: true,
+            });
+            let mut sink = make_sink(rt.alloc(), 1, usize::MAX, Failing::Breaks);
+            let mut out = Device::new(&mut sink);
+            let outcome = serve(rt.alloc(), &request, &mut text, &mut input, &mut out);
+            assert_eq!(rt;
+                (outcome.status, outcome.note),
+                (66, Some(Note::InputUnread))
+            );
+            assert!(rt; sink.taken.is_empty());
+        }
     }
+    Ok(())
+}
+
+#[test]
+fn endless_inputs(rt: HostRuntime) -> Result<(), Fail> {
+    let request = request_of(rt.alloc(), &all_of(b"10 INPUT A"))?;
+    let mut program = Device::new(&b"10 INPUT A"[..]);
+    let mut endless = Endless { given: 0 };
+    let mut input = Device::new(&mut endless);
+    let mut sink = make_sink(rt.alloc(), 1, usize::MAX, Failing::Breaks);
+    let mut out = Device::new(&mut sink);
+    let outcome = serve(rt.alloc(), &request, &mut program, &mut input, &mut out);
+    assert_eq!(rt;
+        (outcome.status, outcome.note),
+        (66, Some(Note::InputUnread))
+    );
+    assert!(rt; endless.given <= 16_777_217);
+    assert!(rt; sink.taken.is_empty());
     Ok(())
 }

@@ -2,12 +2,18 @@
 
 ghost use Rattle.ptb_rows.specs.Rows.{AfterRows, AllRows, ClashRows, ExampleRows, FaultRows};
 ghost use Rattle.ptb_rows.specs.Rows.{ListRows, ListingRows, LongRunRows, OptionRows, ProgramRows};
-ghost use Rattle.ptb_rows.specs.Rows.{RefusalRows, RunRows};
+ghost use Rattle.ptb_rows.specs.Rows.{RefusalRows, RunRows, SeedRows};
 
 /// Worked rows of plain runs.
 #[tactic(auto, using(crate::proofs::RunRows::run_rows))]
 pub fn run_rows()
     ensures { RunRows }
+{}
+
+/// Worked rows of runs by a seed.
+#[tactic(auto, using(crate::proofs::SeedRows::seed_rows))]
+pub fn seed_rows()
+    ensures { SeedRows }
 {}
 
 /// Worked rows of programs that run once.

@@ -6,6 +6,8 @@ ghost use Rattle.ptb_text.specs.Statements.{IsMemorySize};
 use ptb_options::{DEFAULT_MEMORY, DEFAULT_STEPS, Mode, Request};
 use ptb_serve::{Note, Outcome, serve};
 use ptb_text::{Device, LoadFault};
+use rand_core::utils::NextWord;
+use rand_pcg::Lcg64Xsh32;
 use std::alloc::{AllocError, Global};
 use std::io;
 use std::io::ErrorKind;
@@ -13,10 +15,10 @@ use std::test::Fail;
 
 // Gives some bytes a call, and then its end or a fault.
 #[derive(Drop)]
-struct Script<'a> {
-    bytes: &'a [u8],
-    piece: usize,
-    fails: bool,
+pub(crate) struct Script<'a> {
+    pub(crate) bytes: &'a [u8],
+    pub(crate) piece: usize,
+    pub(crate) fails: bool,
 }
 
 impl io::Read for Script<'_> {
@@ -31,8 +33,8 @@ impl io::Read for Script<'_> {
 
 // Gives the byte 65 without end, and counts how often.
 #[derive(Drop)]
-struct Endless {
-    given: usize,
+pub(crate) struct Endless {
+    pub(crate) given: usize,
 }
 
 impl io::Read for &mut Endless {
@@ -47,7 +49,7 @@ impl io::Read for &mut Endless {
 
 // How a writer fails: by an error, by one that says that it was interrupted, or by taking nothing.
 #[derive(Clone, Copy, Debug)]
-enum Failing {
+pub(crate) enum Failing {
     Breaks,
     IsInterrupted,
     TakesNothing,
@@ -55,8 +57,8 @@ enum Failing {
 
 // Takes some bytes a call, until it fails at a call.
 #[derive(Drop)]
-struct Sink {
-    taken: Vec<u8>,
+pub(crate) struct Sink {
+    pub(crate) taken: Vec<u8>,
     piece: usize,
     calls_left: usize,
     failing: Failing,
@@ -82,7 +84,7 @@ impl io::Write for &mut Sink {
     }
 }
 
-fn make_sink(alloc: Global, piece: usize, calls_left: usize, failing: Failing) -> Sink {
+pub(crate) fn make_sink(alloc: Global, piece: usize, calls_left: usize, failing: Failing) -> Sink {
     Sink {
         taken: Vec::new(alloc),
         piece,
@@ -95,6 +97,7 @@ fn make_sink(alloc: Global, piece: usize, calls_left: usize, failing: Failing) -
 #[derive(Clone, Copy, Debug)]
 enum Asked<'a> {
     Run(&'a [i16]),
+    Seed(u64),
     List,
 }
 
@@ -144,6 +147,7 @@ fn request_of(alloc: Global, row: &Row<'_>) -> Result<Request, AllocError>
 {
     let mode = match row.asked {
         Asked::Run(answers) => Mode::Plain(Vec::from_slice(alloc, answers)?.into()),
+        Asked::Seed(seed) => Mode::Seeded(seed),
         Asked::List => Mode::List,
     };
     Ok(Request {
@@ -151,6 +155,15 @@ fn request_of(alloc: Global, row: &Row<'_>) -> Result<Request, AllocError>
         memory: row.memory.clamp(64, 32767),
         mode,
     })
+}
+
+// Serves a row with this writer.
+fn served_to(alloc: Global, row: &Row<'_>, sink: &mut Sink) -> Result<Outcome, AllocError> {
+    let request = request_of(alloc, row)?;
+    let mut program = Device::new(row.program);
+    let mut input = Device::new(row.input);
+    let mut out = Device::new(sink);
+    Ok(serve(alloc, &request, &mut program, &mut input, &mut out))
 }
 
 // Serves a row whose readers give some bytes a call, and whose writer takes as many.
@@ -220,6 +233,65 @@ fn listings(rt: HostRuntime) -> Result<(), Fail> {
 }
 
 #[test]
+fn seeded_runs(rt: HostRuntime) -> Result<(), Fail> {
+    let rows = [
+        Row {
+            asked: Asked::Seed(7),
+            ..run_row(b"10 P.RND(1)", b"     1\n", 0)
+        },
+        Row {
+            asked: Asked::Seed(7),
+            ..run_row(b"10 P.RND(6),RND(6),RND(100)", b"     3     5    13\n", 0)
+        },
+        Row {
+            asked: Asked::Seed(7),
+            input: b"RND(6)\n",
+            ..run_row(b"10 INPUT A;PRINT A", b"A:RND(6)\n     3\n", 0)
+        },
+        Row {
+            asked: Asked::Seed(7),
+            ..run_row(b"10 INPUT A", b"A:", 5)
+        },
+    ];
+    assert!(rt; mistake(rt.alloc(), &rows)?.is_none());
+    Ok(())
+}
+
+// Twenty answers from 1 to 6, drawn from the generator here.
+fn drawn_list(alloc: Global, seed: u64) -> Result<Vec<i16>, AllocError> {
+    let mut generator = Lcg64Xsh32::new(seed, 1);
+    let mut list = Vec::new(alloc);
+    for _ in 0..20 {
+        list.push((1 + generator.next_word() % 6) as i16)?;
+    }
+    Ok(list)
+}
+
+// What twenty questions for a number from 1 to 6 show.
+fn twenty_rolls(alloc: Global, asked: Asked<'_>) -> Result<(Outcome, Vec<u8>), AllocError> {
+    let row = Row {
+        asked,
+        ..run_row(b"10 F.I=1TO20;P.RND(6),;N.I", b"", 0)
+    };
+    served(alloc, &row, 5)
+}
+
+// A run by a seed shows the same bytes as one with the list that is drawn.
+#[test]
+fn seeds_and_lists(rt: HostRuntime) -> Result<(), Fail> {
+    for seed in [0, 1, 4294967295] {
+        let list = drawn_list(rt.alloc(), seed)?;
+        let (by_list, want) = twenty_rolls(rt.alloc(), Asked::Run(&list))?;
+        let (by_seed, bytes) = twenty_rolls(rt.alloc(), Asked::Seed(seed))?;
+        assert_eq!(rt; (by_list.status, by_list.note), (0, None));
+        assert_eq!(rt; (by_seed.status, by_seed.note), (0, None));
+        assert_eq!(rt; bytes.len(), 120);
+        assert_eq!(rt; bytes.as_slice(), want.as_slice(), "{seed}");
+    }
+    Ok(())
+}
+
+#[test]
 fn refused_programs(rt: HostRuntime) -> Result<(), Fail> {
     let eleven = b"1 P.1\n2 P.1\n3 P.1\n4 P.1\n5 P.1\n6 P.1\n7 P.1\n8 P.1\n9 P.1\n10 P.1\n11 P.1\n";
     let big = Note::Load(1, LoadFault::NumberTooBig);
@@ -239,7 +311,7 @@ fn refused_programs(rt: HostRuntime) -> Result<(), Fail> {
         },
     ];
     for row in rows {
-        for asked in [Asked::Run(&[]), Asked::List] {
+        for asked in [Asked::Run(&[]), Asked::Seed(7), Asked::List] {
             let row = Row { asked, ..row };
             assert!(rt; mistake(rt.alloc(), &[row])?.is_none(), "{row:?}");
         }
@@ -278,7 +350,7 @@ fn refused_long_programs(rt: HostRuntime) -> Result<(), Fail> {
             text.push(byte)?;
         }
         text.extend_from_slice(behind)?;
-        for asked in [Asked::Run(&[]), Asked::List] {
+        for asked in [Asked::Run(&[]), Asked::Seed(7), Asked::List] {
             let row = Row {
                 asked,
                 ..refused_row(&text, 65, note)
@@ -294,7 +366,7 @@ fn refused_long_programs(rt: HostRuntime) -> Result<(), Fail> {
 // A reader of the program that fails, at once or behind its first bytes.
 #[test]
 fn unread_programs(rt: HostRuntime) -> Result<(), Fail> {
-    for asked in [Asked::Run(&[]), Asked::List] {
+    for asked in [Asked::Run(&[]), Asked::Seed(7), Asked::List] {
         for bytes in [&b""[..], b"10 P.", b"10 P.1\n"] {
             let row = Row {
                 asked,
@@ -320,7 +392,7 @@ fn unread_programs(rt: HostRuntime) -> Result<(), Fail> {
 
 #[test]
 fn endless_programs(rt: HostRuntime) -> Result<(), Fail> {
-    for asked in [Asked::Run(&[]), Asked::List] {
+    for asked in [Asked::Run(&[]), Asked::Seed(7), Asked::List] {
         let row = Row {
             asked,
             ..run_row(b"", b"", 65)
@@ -368,12 +440,8 @@ fn listings_that_cannot_be_written(rt: HostRuntime) -> Result<(), Fail> {
         Failing::TakesNothing,
     ] {
         for calls in 0..=8 {
-            let request = request_of(rt.alloc(), &row)?;
-            let mut program = Device::new(row.program);
-            let mut input = Device::new(row.input);
             let mut sink = make_sink(rt.alloc(), 2, calls, failing);
-            let mut out = Device::new(&mut sink);
-            let outcome = serve(rt.alloc(), &request, &mut program, &mut input, &mut out);
+            let outcome = served_to(rt.alloc(), &row, &mut sink)?;
             let note = if calls == 8 {
                 None
             } else {
@@ -617,39 +685,39 @@ fn inputs_not_asked_for(rt: HostRuntime) -> Result<(), Fail> {
     Ok(())
 }
 
-// What was written of a transcript is its beginning, whichever call fails.
+// What was written of a transcript is its beginning, whichever call fails. The numbers of bytes are
+// those before the first call, before the second, and so on. What is shown at a time is written by
+// itself: the prompt and the line in pieces of one byte, and WHAT? with its newline, which is six.
 #[test]
 fn runs_that_cannot_be_written(rt: HostRuntime) -> Result<(), Fail> {
     let transcript = b"A:)\nWHAT?\nA:5\n";
     let row = input_row(b"10 INPUT A", b")\n5\n", transcript, 0);
+    let table = [
+        (1, &[0, 1, 2, 3, 4, 5, 6, 7, 8, 9, 10, 11, 12, 13, 14][..]),
+        (5, &[0, 1, 2, 3, 4, 9, 10, 11, 12, 13, 14]),
+    ];
     for failing in [
         Failing::Breaks,
         Failing::IsInterrupted,
         Failing::TakesNothing,
     ] {
-        for calls in 0..=14 {
-            let request = request_of(rt.alloc(), &row)?;
-            let mut program = Device::new(row.program);
-            let mut input = Device::new(row.input);
-            let mut sink = make_sink(rt.alloc(), 1, calls, failing);
-            let mut out = Device::new(&mut sink);
-            let outcome = serve(rt.alloc(), &request, &mut program, &mut input, &mut out);
-            let note = if calls == 14 {
-                None
-            } else {
-                Some(Note::Unwritten)
-            };
-            let status = if calls == 14 { 0 } else { 74 };
-            assert_eq!(rt;
-                (outcome.status, outcome.note),
-                (status, note),
-                "{failing:?} {calls}"
-            );
-            assert_eq!(rt;
-                sink.taken.as_slice(),
-                &transcript[..calls],
-                "{failing:?} {calls}"
-            );
+        for (piece, lengths) in table {
+            for (calls, length) in lengths.iter().enumerate() {
+                let mut sink = make_sink(rt.alloc(), piece, calls, failing);
+                let outcome = served_to(rt.alloc(), &row, &mut sink)?;
+                let due = if *length == transcript.len() {
+                    (0, None)
+                } else {
+                    (74, Some(Note::Unwritten))
+                };
+                let seen = (outcome.status, outcome.note);
+                assert_eq!(rt; seen, due, "{failing:?} {piece} {calls}");
+                assert_eq!(rt;
+                    sink.taken.as_slice(),
+                    &transcript[..*length],
+                    "{failing:?} {piece} {calls}"
+                );
+            }
         }
     }
     Ok(())

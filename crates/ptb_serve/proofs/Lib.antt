@@ -4,3 +4,5 @@ pub mod Served
 pub mod Playing
 pub mod Listed
 pub mod Taking
+pub mod Drawing
+pub mod Answering

@@ -1,18 +1,15 @@
--- This file proves what a plain run comes to, from a whole run with a list of answers, a screen over a writer and a list of lines.
-use Rattle.std.proofs.Common.{◌≡◌, ℕ, suc, ◌+◌, ◌<◌, ◌≤◌, inl, inr, true, false, List, [], ◌∷◌, ◌++◌, length, take, drop, Option, Some, Result, Ok, Err, IfOk, IsErrOf, ℤ, refl, sym, ap, subst, ◌∙◌, arith, append-nil, length-append, drop-cons}
-use Rattle.std.specs.Prelude.{slice_get}
+-- This file proves what a run comes to that goes by a list of answers, from a whole run with a chooser, a screen over a writer and a list of lines.
+use Rattle.std.proofs.Common.{◌≡◌, ℕ, ◌+◌, ◌≤◌, ◌⊎◌, inl, inr, true, false, List, [], ◌++◌, length, take, Option, Some, Result, Ok, Err, IfOk, IsErrOf, ℤ, refl, sym, ap, subst, ◌∙◌, arith, append-nil, length-append}
 use Rattle.std.specs.Borrow.{MutBor}
 use Rattle.std.specs.Io.KnownBytes.{Appends}
 use Rattle.std.proofs.KnownBytes.{Appends-nil}
 use Rattle.std.proofs.Math.Seq.{take-append_seam}
-use Rattle.std.proofs.lemmas.List.{take-append-drop, drop_all}
-use Rattle.std.proofs.lemmas.Option.{slice_get_within, get_or_from_slice_get}
 use Rattle.ptb_text.specs.Device.{HasFailed, TakesSome}
 use Rattle.ptb_text.specs.Statements.{StoredProgram}
 use Rattle.ptb_expr.specs.declared.pause.Pause.{Pause}
 use Rattle.ptb_expr.specs.declared.pause.Pause.TheVariants as pauses
 use Rattle.ptb_expr.specs.Outcome.{Answers, Outcome, Done, Asks, Out}
-use Rattle.ptb_expr.specs.Choices.{AnswerList, RefusedByList, choices_of, with_answers}
+use Rattle.ptb_expr.specs.Choices.{Asked, Choices, with_answers}
 use Rattle.ptb_command.specs.declared.ending.Ending.{Ending}
 use Rattle.ptb_command.specs.declared.ending.Ending.TheVariants as endings
 use Rattle.ptb_machine.specs.declared.fault.RunFault.{RunFault}
@@ -26,31 +23,15 @@ use Rattle.ptb_command.specs.declared.stop.DeviceError.{DeviceError}
 use Rattle.ptb_command.specs.declared.stop.DeviceError.TheVariants as errors
 use Rattle.ptb_command.specs.Devices.{ScreenState, Devices, devices, with_failures, Exchange, Refusal, refused_by}
 use Rattle.ptb_machine.specs.Runs.{played_bytes, Plays, refused_answers, IsFinished, IsUnanswered, IsUnfinished, RunComes, Runs, UnlessRunMissed}
-use Rattle.ptb_serve.specs.PlainRuns.{ShowsRun, lines_taken}
+use Rattle.ptb_serve.specs.PlainRuns.{ShowsRun, lines_taken, IsLed, GoesBy}
 
 -- ---- lists
-
-front_at : {A : Type 0} (xs : List A) (i : ℕ) (x : A) → slice_get xs i ≡ Some x → drop i xs ≡ x ∷ drop (suc i) xs
-front_at xs i x e =
-    let within : i < length xs = slice_get_within xs i x e in
-    drop-cons xs i x within ∙ ap (λ y. y ∷ drop (suc i) xs) (get_or_from_slice_get xs i x x e)
 
 pub takes_beginning : (old new : Option (List ℕ)) (bytes all : List ℕ) → Appends old new bytes → Begins bytes all → TakesSome old new all
 takes_beginning old new bytes all h begins =
     let size : length all ≡ length bytes + length begins.0 = ap length begins.1 ∙ length-append bytes begins.0 in
     let front : take (length bytes) all ≡ bytes = ap (take (length bytes)) begins.1 ∙ take-append_seam bytes begins.0 in
     (length bytes, omega arith, subst (Appends old new) (sym front) h)
-
--- ---- the answers of a list
-
--- the answers that were given are the first of the list
-given_first : (a : List ℤ) (l : AnswerList) (answers : Answers) (bounds : List ℤ)
-    → choices_of l ≡ with_answers answers bounds (choices_of (record { answers = a; given = 0 }))
-    → a ≡ answers ++ drop l.given l.answers
-given_first a l answers bounds e =
-    let same : l.answers ≡ a = ap (λ c. c.plan) e in
-    let first : take l.given l.answers ≡ answers = ap (λ c. c.taken) e in
-    sym same ∙ sym (take-append-drop l.given l.answers) ∙ ap (λ t. t ++ drop l.given l.answers) first
 
 -- ---- what is left of a run
 
@@ -64,34 +45,36 @@ plain_bytes (Out n shown) = refl
 pub takes_all : (old new : Option (List ℕ)) (bytes : List ℕ) → Appends old new bytes → TakesSome old new bytes
 takes_all old new bytes h = takes_beginning old new bytes bytes h ([], sym (append-nil bytes))
 
--- what is said of a plain run with these answers and lines, between two states of its screen
-pub record IsPlainRun (p : StoredProgram) (limit : ℕ) (lines : List (List ℕ)) (a : List ℤ) (old new : ScreenState) (result : Result Ending RunFault) : Type 0 where
+-- what is said of a run with these answers and lines, between two states of its screen
+pub record IsPlainRun (p : StoredProgram) (limit : ℕ) (lines : List (List ℕ)) (a : Answers) (refuses : Pause → ℤ → Type 0) (old new : ScreenState) (result : Result Ending RunFault) : Type 0 where
   pub same_borrow : new.borrow ≡ old.borrow
   pub ok : IfOk result (ShowsRun (plain p lines limit a) old.shown new.shown)
   pub beginning : TakesSome old.shown new.shown (plain p lines limit a).0
   pub failed : IsErrOf result runs.Write → HasFailed old.failures new.failures
-  pub memory : IsErrOf result runs.Memory → Appends old.shown new.shown []
+  pub memory : IsErrOf result runs.Memory → Appends old.shown new.shown [] ⊎ ((n : ℤ) × refuses pauses.Memory n)
   pub unfailed : (IsErrOf result runs.Write → ⊥) → new.failures ≡ old.failures
   pub unspent : IsErrOf result runs.Spent → ⊥
 
 -- a source of lines gave some, and these stand behind them; it says what stands after its refusals
-module _ (p : StoredProgram) (limit : ℕ) (a : List ℤ) (l : AnswerList) (old new : ScreenState) (given behind : List (List ℕ)) (unread : ReadFault → Type 0) (left : Option (List (List ℕ))) where
+module _ (p : StoredProgram) (limit : ℕ) (a : Answers) (refuses : Pause → ℤ → Type 0) (c d : Choices) (old new : ScreenState) (given behind : List (List ℕ)) (unread : ReadFault → Type 0) (left : Option (List (List ℕ)))
+    (led : (taken : Answers) (bounds : List ℤ) → Asked (play p (given ++ behind) limit) taken bounds → d ≡ with_answers taken bounds c → IsLed refuses taken a) where
   abbrev refused : Refusal → Type 0
-  refused = refused_by (RefusedByList l.answers l.given) unread left
+  refused = refused_by refuses unread left
 
   abbrev lines : List (List ℕ)
   lines = given ++ behind
 
   abbrev before : Devices
-  before = devices (choices_of (record { answers = a; given = 0 })) old []
+  before = devices c old []
 
   abbrev later : Devices
-  later = devices (choices_of l) new given
+  later = devices d new given
 
-  abbrev rest : Answers
-  rest = drop l.given l.answers
+  -- what is left of the answers behind those that were taken, however often the writer has failed
+  left_by : (failures : ℕ) (x : Exchange) (left : Answers → Outcome Finish (List ℕ)) → Plays p limit lines before (with_failures failures later) x left → IsLed refuses x.answers a
+  left_by failures x left h = led x.answers x.bounds h.leaves.asked h.exchanges.grown
 
-  is_ok : {x : Exchange} {left : Answers → Outcome Finish (List ℕ)} (e : Ending) → Plays p limit lines before later x left → ShowsRun (plain p lines limit a) old.shown new.shown e → IsPlainRun p limit lines a old new (Ok e)
+  is_ok : {x : Exchange} {left : Answers → Outcome Finish (List ℕ)} (e : Ending) → Plays p limit lines before later x left → ShowsRun (plain p lines limit a) old.shown new.shown e → IsPlainRun p limit lines a refuses old new (Ok e)
   is_ok e plays h = record {
     same_borrow = plays.exchanges.shows.same_borrow;
     ok = h;
@@ -102,14 +85,15 @@ module _ (p : StoredProgram) (limit : ℕ) (a : List ℤ) (l : AnswerList) (old 
     unspent = λ f. cc;
   }
 
-  -- the play with all of the answers is what is left of it, with those that are left, however often the writer has failed
-  play_is : (failures : ℕ) (x : Exchange) (left : Answers → Outcome Finish (List ℕ)) → Plays p limit lines before (with_failures failures later) x left → play p lines limit a ≡ left rest
+  -- the play with all of the answers is what is left of it, with those that are left
+  play_is : (failures : ℕ) (x : Exchange) (left : Answers → Outcome Finish (List ℕ)) (h : Plays p limit lines before (with_failures failures later) x left)
+      → play p lines limit a ≡ left (left_by failures x left h).rest
   play_is failures x left h =
-      ap (play p lines limit) (given_first a l x.answers x.bounds h.exchanges.grown)
-      ∙ ap (λ (f : Answers → Outcome Finish (List ℕ)). f rest) h.leaves.rest
+      let behind = left_by failures x left h in
+      ap (play p lines limit) behind.whole ∙ ap (λ (f : Answers → Outcome Finish (List ℕ)). f behind.rest) h.leaves.rest
 
-  shows_run : (x : Exchange) (left : Answers → Outcome Finish (List ℕ)) (e : Ending) (o : Outcome Finish (List ℕ)) → Plays p limit lines before later x left
-      → left rest ≡ o → plain_of o ≡ (x.bytes, e) → ShowsRun (plain p lines limit a) old.shown new.shown e
+  shows_run : (x : Exchange) (left : Answers → Outcome Finish (List ℕ)) (e : Ending) (o : Outcome Finish (List ℕ)) (h : Plays p limit lines before later x left)
+      → left (left_by new.failures x left h).rest ≡ o → plain_of o ≡ (x.bytes, e) → ShowsRun (plain p lines limit a) old.shown new.shown e
   shows_run x left e o h is ends =
       let all : plain p lines limit a ≡ (x.bytes, e) = ap plain_of (play_is new.failures x left h ∙ is) ∙ ends in
       record {
@@ -117,33 +101,34 @@ module _ (p : StoredProgram) (limit : ℕ) (a : List ℤ) (l : AnswerList) (old 
         bytes = subst (Appends old.shown new.shown) (sym (ap (λ r. r.0) all)) h.exchanges.shows.shown;
       }
 
-  finished : (e : Ending) → IsFinished refused p limit lines before later e → IsPlainRun p limit lines a old new (Ok e)
+  finished : (e : Ending) → IsFinished refused p limit lines before later e → IsPlainRun p limit lines a refuses old new (Ok e)
   finished e h = is_ok e h.plays (shows_run h.exchange _ e _ h.plays refl refl)
 
   -- INPUT found no line left, so all of them were given
-  dry : (NoneLeft left → behind ≡ []) → RunComes refused p limit behind before later (Ok endings.NoInput) → IsPlainRun p limit lines a old new (Ok endings.NoInput)
+  dry : (NoneLeft left → behind ≡ []) → RunComes refused p limit behind before later (Ok endings.NoInput) → IsPlainRun p limit lines a refuses old new (Ok endings.NoInput)
   dry none h =
       let all : lines ≡ given = ap (λ r. given ++ r) (none h.0) ∙ append-nil given in
       finished endings.NoInput (subst (λ i. IsFinished refused p limit i before later endings.NoInput) (sym all) (h.1 (none h.0)))
 
-  unanswered : IsUnanswered refused p limit lines before later pauses.Ended → IsPlainRun p limit lines a old new (Ok endings.NoAnswer)
+  unanswered : IsUnanswered refused p limit lines before later pauses.Ended → IsPlainRun p limit lines a refuses old new (Ok endings.NoAnswer)
   unanswered h =
-      let none : rest ≡ [] = drop_all l.given l.answers (omega (arith, h.refuses)) in
+      let none = (left_by new.failures h.exchange h.left h.plays).ended h.bound h.refuses in
       is_ok endings.NoAnswer h.plays (shows_run h.exchange h.left endings.NoAnswer _ h.plays (ap h.left none ∙ h.asks) refl)
 
-  out_of_range : (k : ℤ) → IsUnanswered refused p limit lines before later (pauses.OutOfRange k) → IsPlainRun p limit lines a old new (Ok endings.BadAnswer)
+  out_of_range : (k : ℤ) → IsUnanswered refused p limit lines before later (pauses.OutOfRange k) → IsPlainRun p limit lines a refuses old new (Ok endings.BadAnswer)
   out_of_range k h =
-      is_ok endings.BadAnswer h.plays
-      (shows_run h.exchange h.left endings.BadAnswer _ h.plays (ap h.left (front_at l.answers l.given k h.refuses.0) ∙ h.outside (drop (suc l.given) l.answers)) refl)
+      let next = (left_by new.failures h.exchange h.left h.plays).outside k h.bound h.refuses in
+      is_ok endings.BadAnswer h.plays (shows_run h.exchange h.left endings.BadAnswer _ h.plays (ap h.left next.1 ∙ h.outside next.0) refl)
 
   -- where a device fails, what was shown is a beginning
   begun : {e : DeviceError} → IsUnfinished refused p limit lines before later e → TakesSome old.shown new.shown (plain p lines limit a).0
   begun h =
-      let begins = h.begins rest in
-      let all : (plain p lines limit a).0 ≡ played_bytes (h.left rest) = plain_bytes (play p lines limit a) ∙ ap played_bytes (play_is old.failures h.exchange h.left h.plays) in
+      let begins = h.begins (left_by old.failures h.exchange h.left h.plays).rest in
+      let all : (plain p lines limit a).0 ≡ played_bytes (h.left (left_by old.failures h.exchange h.left h.plays).rest) =
+      plain_bytes (play p lines limit a) ∙ ap played_bytes (play_is old.failures h.exchange h.left h.plays) in
       takes_beginning old.shown new.shown h.exchange.bytes _ h.plays.exchanges.shows.shown (begins.0, all ∙ begins.1)
 
-  unwritten : RunComes refused p limit behind before later (Err runs.Write) → IsPlainRun p limit lines a old new (Err runs.Write)
+  unwritten : RunComes refused p limit behind before later (Err runs.Write) → IsPlainRun p limit lines a refuses old new (Err runs.Write)
   unwritten h = record {
     same_borrow = h.plays.exchanges.shows.same_borrow;
     ok = tt;
@@ -154,7 +139,7 @@ module _ (p : StoredProgram) (limit : ℕ) (a : List ℤ) (l : AnswerList) (old 
     unspent = λ f. cc;
   }
 
-  not_read : RunComes refused p limit behind before later (Err runs.Read) → IsPlainRun p limit lines a old new (Err runs.Read)
+  not_read : RunComes refused p limit behind before later (Err runs.Read) → IsPlainRun p limit lines a refuses old new (Err runs.Read)
   not_read h = record {
     same_borrow = h.plays.exchanges.shows.same_borrow;
     ok = tt;
@@ -165,51 +150,65 @@ module _ (p : StoredProgram) (limit : ℕ) (a : List ℤ) (l : AnswerList) (old 
     unspent = λ f. cc;
   }
 
-  -- a list of answers, a source without memory and a screen over a writer take none: it was refused to the machine itself
-  out_of_memory : old.takes_memory ≡ false → (unread reads.Memory → ⊥) → RunComes refused p limit behind before later (Err runs.Memory) → later ≡ before
+  -- a source without memory and a screen over a writer take none: it was refused to the machine itself, or to the chooser
+  abbrev MemoryRefused : Type 0
+  MemoryRefused = (later ≡ before) ⊎ (IsUnfinished refused p limit lines before later errors.Memory × ((n : ℤ) × refuses pauses.Memory n))
+
+  out_of_memory : old.takes_memory ≡ false → (unread reads.Memory → ⊥) → RunComes refused p limit behind before later (Err runs.Memory) → MemoryRefused
   out_of_memory e no_memory h =
       elim h [
-        | inl same ↦ same
-        | inr u ↦ elim (u.broken.0.by) [ inl t ↦ absurd (let both : true ≡ false = sym t ∙ e in cc) | inr r ↦ elim r [ inl q ↦ absurd q.1 | inr q ↦ absurd (no_memory q) ] ]
+        | inl same ↦ inl same
+        | inr u ↦ elim (u.broken.0.by) [ inl t ↦ absurd (let both : true ≡ false = sym t ∙ e in cc) | inr r ↦ elim r [ inl q ↦ inr (u, q) | inr q ↦ absurd (no_memory q) ] ]
       ]
 
-  unbegun : later ≡ before → IsPlainRun p limit lines a old new (Err runs.Memory)
-  unbegun e =
+  no_room : MemoryRefused → IsPlainRun p limit lines a refuses old new (Err runs.Memory)
+  no_room (inl e) =
       let nothing : Appends old.shown new.shown [] = subst (λ held. Appends old.shown held []) (sym (ap (λ (d : Devices). d.screen.shown) e)) (Appends-nil old.shown) in
       record {
         same_borrow = ap (λ (d : Devices). d.screen.borrow) e;
         ok = tt;
         beginning = (0, omega arith, nothing);
         failed = λ f. cc;
-        memory = λ _. nothing;
+        memory = λ _. inl nothing;
         unfailed = λ _. ap (λ (d : Devices). d.screen.failures) e;
         unspent = λ f. cc;
       }
+  no_room (inr r) = record {
+    same_borrow = r.0.plays.exchanges.shows.same_borrow;
+    ok = tt;
+    beginning = begun r.0;
+    failed = λ f. cc;
+    memory = λ _. inr r.1;
+    unfailed = λ f. r.0.broken.1;
+    unspent = λ f. cc;
+  }
 
   -- ---- the lines that it takes
 
-  answers_are : (failures : ℕ) (x : Exchange) (left : Answers → Outcome Finish (List ℕ)) → Plays p limit lines before (with_failures failures later) x left → a ≡ x.answers ++ rest
-  answers_are failures x left h = given_first a l x.answers x.bounds h.exchanges.grown
-
-  -- the given lines are no more than it takes, with the answers of the whole list
-  fits : (x : Exchange) (more : List (List ℕ)) → a ≡ x.answers ++ rest → lines ≡ given ++ (more ++ unasked_lines p lines limit (x.answers ++ rest)) → length given ≤ lines_taken p lines limit a
-  fits x more e k =
+  -- the given lines are no more than it takes, with all of the answers
+  fits : (x : Exchange) (rest : Answers) (more : List (List ℕ)) → a ≡ x.answers ++ rest → lines ≡ given ++ (more ++ unasked_lines p lines limit (x.answers ++ rest)) → length given ≤ lines_taken p lines limit a
+  fits x rest more e k =
       let unasked : unasked_lines p lines limit a ≡ unasked_lines p lines limit (x.answers ++ rest) = ap (unasked_lines p lines limit) e in
       omega (arith, ap length k, ap length unasked, length-append given (more ++ unasked_lines p lines limit (x.answers ++ rest)), length-append more (unasked_lines p lines limit (x.answers ++ rest)))
 
   fits_finished : (e : Ending) → IsFinished refused p limit lines before later e → length given ≤ lines_taken p lines limit a
-  fits_finished e h = fits h.exchange [] (answers_are new.failures h.exchange _ h.plays) (h.lines rest)
+  fits_finished e h = let behind = left_by new.failures h.exchange _ h.plays in fits h.exchange behind.rest [] behind.whole (h.lines behind.rest)
 
-  fits_unanswered : (z : Pause) (later_answers : Answers) → rest ≡ refused_answers z later_answers → IsUnanswered refused p limit lines before later z → length given ≤ lines_taken p lines limit a
-  fits_unanswered z later_answers e h =
-      fits h.exchange [] (answers_are new.failures h.exchange h.left h.plays)
-      (h.lines later_answers ∙ ap (λ q. given ++ unasked_lines p lines limit (h.exchange.answers ++ q)) (sym e))
+  fits_unanswered : (z : Pause) (later_answers : Answers) (h : IsUnanswered refused p limit lines before later z)
+      → (left_by new.failures h.exchange h.left h.plays).rest ≡ refused_answers z later_answers → length given ≤ lines_taken p lines limit a
+  fits_unanswered z later_answers h e =
+      let behind = left_by new.failures h.exchange h.left h.plays in
+      fits h.exchange behind.rest [] behind.whole (h.lines later_answers ∙ ap (λ q. given ++ unasked_lines p lines limit (h.exchange.answers ++ q)) (sym e))
 
   fits_unfinished : (e : DeviceError) → IsUnfinished refused p limit lines before later e → length given ≤ lines_taken p lines limit a
-  fits_unfinished e h = let taken = h.lines rest in fits h.exchange taken.0 (answers_are old.failures h.exchange h.left h.plays) taken.1
+  fits_unfinished e h =
+      let behind = left_by old.failures h.exchange h.left h.plays in
+      let taken = h.lines behind.rest in
+      fits h.exchange behind.rest taken.0 behind.whole taken.1
 
-  fits_none : later ≡ before → length given ≤ lines_taken p lines limit a
-  fits_none e = omega (arith, ap (λ (d : Devices). length d.given) e)
+  fits_none : MemoryRefused → length given ≤ lines_taken p lines limit a
+  fits_none (inl e) = omega (arith, ap (λ (d : Devices). length d.given) e)
+  fits_none (inr r) = fits_unfinished errors.Memory r.0
 
   fits_dry : (NoneLeft left → behind ≡ []) → RunComes refused p limit behind before later (Ok endings.NoInput) → length given ≤ lines_taken p lines limit a
   fits_dry none h =
@@ -225,9 +224,11 @@ module _ (p : StoredProgram) (limit : ℕ) (a : List ℤ) (l : AnswerList) (old 
   takes_given e no_memory none (Ok endings.Sorry) h = fits_finished endings.Sorry h
   takes_given e no_memory none (Ok endings.Limit) h = fits_finished endings.Limit h
   takes_given e no_memory none (Ok endings.NoInput) h = fits_dry none h
-  takes_given e no_memory none (Ok endings.NoAnswer) h = fits_unanswered pauses.Ended [] (drop_all l.given l.answers (omega (arith, h.refuses))) h
+  takes_given e no_memory none (Ok endings.NoAnswer) h =
+      fits_unanswered pauses.Ended [] h ((left_by new.failures h.exchange h.left h.plays).ended h.bound h.refuses)
   takes_given e no_memory none (Ok endings.BadAnswer) h =
-      fits_unanswered (pauses.OutOfRange h.0) (drop (suc l.given) l.answers) (front_at l.answers l.given h.0 h.1.refuses.0) h.1
+      let next = (left_by new.failures h.1.exchange h.1.left h.1.plays).outside h.0 h.1.bound h.1.refuses in
+      fits_unanswered (pauses.OutOfRange h.0) next.0 h.1 next.1
   takes_given e no_memory none (Err runs.Memory) h = fits_none (out_of_memory e no_memory h)
   takes_given e no_memory none (Err runs.Read) h = fits_unfinished errors.Read h
   takes_given e no_memory none (Err runs.Write) h = fits_unfinished errors.Write h
@@ -235,7 +236,7 @@ module _ (p : StoredProgram) (limit : ℕ) (a : List ℤ) (l : AnswerList) (old 
 
   -- where it asked for a line that it wasn't given, and these are all lines, it ends NOINPUT
   pub ends_dry : (P : Type 0) → (P → ⊥) → (unread reads.Memory → ⊥) → behind ≡ [] → (result : Result Ending RunFault) → UnlessRunMissed unread P result
-      → RunComes refused p limit behind before later result → IsPlainRun p limit lines a old new (Ok endings.NoInput)
+      → RunComes refused p limit behind before later result → IsPlainRun p limit lines a refuses old new (Ok endings.NoInput)
   ends_dry P never no_memory none (Ok endings.End) m h = absurd (never m)
   ends_dry P never no_memory none (Ok endings.Stop) m h = absurd (never m)
   ends_dry P never no_memory none (Ok endings.What) m h = absurd (never m)
@@ -251,7 +252,7 @@ module _ (p : StoredProgram) (limit : ℕ) (a : List ℤ) (l : AnswerList) (old 
   ends_dry P never no_memory none (Err runs.Spent) m h = absurd h
 
   pub run_comes : old.takes_memory ≡ false → (unread reads.Memory → ⊥) → (NoneLeft left → behind ≡ []) → (result : Result Ending RunFault)
-      → RunComes refused p limit behind before later result → IsPlainRun p limit lines a old new result
+      → RunComes refused p limit behind before later result → IsPlainRun p limit lines a refuses old new result
   run_comes e no_memory none (Ok endings.End) h = finished endings.End h
   run_comes e no_memory none (Ok endings.Stop) h = finished endings.Stop h
   run_comes e no_memory none (Ok endings.What) h = finished endings.What h
@@ -261,33 +262,28 @@ module _ (p : StoredProgram) (limit : ℕ) (a : List ℤ) (l : AnswerList) (old 
   run_comes e no_memory none (Ok endings.NoInput) h = dry none h
   run_comes e no_memory none (Ok endings.NoAnswer) h = unanswered h
   run_comes e no_memory none (Ok endings.BadAnswer) h = out_of_range h.0 h.1
-  run_comes e no_memory none (Err runs.Memory) h = unbegun (out_of_memory e no_memory h)
+  run_comes e no_memory none (Err runs.Memory) h = no_room (out_of_memory e no_memory h)
   run_comes e no_memory none (Err runs.Read) h = not_read h
   run_comes e no_memory none (Err runs.Write) h = unwritten h
   run_comes e no_memory none (Err runs.Spent) h = absurd h
 
--- with a list of answers, of which none were taken before
-module _ (p : StoredProgram) (limit : ℕ) (a : List ℤ) (given_before l : AnswerList) (old new : ScreenState) (given : List (List ℕ)) (unread : ReadFault → Type 0) (left : Option (List (List ℕ))) (result : Result Ending RunFault) where
-  pub plain_run : given_before ≡ record { answers = a; given = 0 } → old.takes_memory ≡ false → (unread reads.Memory → ⊥)
-      → Runs (refused_by (RefusedByList l.answers l.given) unread left) p limit (devices (choices_of given_before) old []) (devices (choices_of l) new given) result
-      → (behind : List (List ℕ)) → (NoneLeft left → behind ≡ []) → IsPlainRun p limit (given ++ behind) a old new result
-  plain_run answers_are no_room no_memory h behind none =
-      let runs = subst (λ t. Runs (refused_by (RefusedByList l.answers l.given) unread left) p limit (devices (choices_of t) old []) (devices (choices_of l) new given) result) answers_are h in
-      run_comes p limit a l old new given behind unread left no_room no_memory none result (runs behind)
+-- where the chooser goes by these answers on whatever lines
+module _ (p : StoredProgram) (limit : ℕ) (answers : List (List ℕ) → Answers) (refuses : Pause → ℤ → Type 0) (c d : Choices) (old new : ScreenState) (given : List (List ℕ)) (unread : ReadFault → Type 0) (left : Option (List (List ℕ)))
+    (result : Result Ending RunFault) (goes : GoesBy refuses c d answers p limit) (h : Runs (refused_by refuses unread left) p limit (devices c old []) (devices d new given) result) where
+  pub led_run : old.takes_memory ≡ false → (unread reads.Memory → ⊥) → (behind : List (List ℕ)) → (NoneLeft left → behind ≡ [])
+      → IsPlainRun p limit (given ++ behind) (answers (given ++ behind)) refuses old new result
+  led_run no_room no_memory behind none =
+      run_comes p limit (answers (given ++ behind)) refuses c d old new given behind unread left (goes (given ++ behind)) no_room no_memory none result (h behind)
 
-  pub plain_run_takes : given_before ≡ record { answers = a; given = 0 } → old.takes_memory ≡ false → (unread reads.Memory → ⊥)
-      → Runs (refused_by (RefusedByList l.answers l.given) unread left) p limit (devices (choices_of given_before) old []) (devices (choices_of l) new given) result
-      → (behind : List (List ℕ)) → (NoneLeft left → behind ≡ []) → length given ≤ lines_taken p (given ++ behind) limit a
-  plain_run_takes answers_are no_room no_memory h behind none =
-      let runs = subst (λ t. Runs (refused_by (RefusedByList l.answers l.given) unread left) p limit (devices (choices_of t) old []) (devices (choices_of l) new given) result) answers_are h in
-      takes_given p limit a l old new given behind unread left no_room no_memory none result (runs behind)
+  pub led_run_takes : old.takes_memory ≡ false → (unread reads.Memory → ⊥) → (behind : List (List ℕ)) → (NoneLeft left → behind ≡ [])
+      → length given ≤ lines_taken p (given ++ behind) limit (answers (given ++ behind))
+  led_run_takes no_room no_memory behind none =
+      takes_given p limit (answers (given ++ behind)) refuses c d old new given behind unread left (goes (given ++ behind)) no_room no_memory none result (h behind)
 
-  pub plain_run_dry : given_before ≡ record { answers = a; given = 0 } → (unread reads.Memory → ⊥)
-      → Runs (refused_by (RefusedByList l.answers l.given) unread left) p limit (devices (choices_of given_before) old []) (devices (choices_of l) new given) result
-      → (P : Type 0) → (P → ⊥) → UnlessRunMissed unread P result → IsPlainRun p limit (given ++ []) a old new (Ok endings.NoInput)
-  plain_run_dry answers_are no_memory h P never missed =
-      let runs = subst (λ t. Runs (refused_by (RefusedByList l.answers l.given) unread left) p limit (devices (choices_of t) old []) (devices (choices_of l) new given) result) answers_are h in
-      ends_dry p limit a l old new given [] unread left P never no_memory refl result missed (runs [])
+  pub led_run_dry : (unread reads.Memory → ⊥) → (P : Type 0) → (P → ⊥) → UnlessRunMissed unread P result
+      → IsPlainRun p limit (given ++ []) (answers (given ++ [])) refuses old new (Ok endings.NoInput)
+  led_run_dry no_memory P never missed =
+      ends_dry p limit (answers (given ++ [])) refuses c d old new given [] unread left (goes (given ++ [])) P never no_memory refl result missed (h [])
 
 -- ---- the screen of a writer
 
@@ -297,22 +293,22 @@ state_of contents failures screen =
     record { shown = contents screen.now; failures = failures screen.now; borrow = Some screen.ghost_name; takes_memory = false }
 
 -- what is said of a plain run, between two states of its writer
-pub record IsRunBetween {W : Type 0} (contents : W → Option (List ℕ)) (failures : W → ℕ) (p : StoredProgram) (limit : ℕ) (ls : List (List ℕ)) (a : List ℤ) (w v : W) (result : Result Ending RunFault) : Type 0 where
+pub record IsRunBetween {W : Type 0} (contents : W → Option (List ℕ)) (failures : W → ℕ) (p : StoredProgram) (limit : ℕ) (ls : List (List ℕ)) (a : Answers) (refuses : Pause → ℤ → Type 0) (w v : W) (result : Result Ending RunFault) : Type 0 where
   pub ok : IfOk result (ShowsRun (plain p ls limit a) (contents w) (contents v))
   pub beginning : TakesSome (contents w) (contents v) (plain p ls limit a).0
   pub failed : IsErrOf result runs.Write → HasFailed (failures w) (failures v)
-  pub memory : IsErrOf result runs.Memory → Appends (contents w) (contents v) []
+  pub memory : IsErrOf result runs.Memory → Appends (contents w) (contents v) [] ⊎ ((n : ℤ) × refuses pauses.Memory n)
   pub unfailed : (IsErrOf result runs.Write → ⊥) → failures v ≡ failures w
   pub unspent : IsErrOf result runs.Spent → ⊥
 
 -- a writer ends as it is under the name of its borrow
-pub run_between : {W : Type 0} (contents : W → Option (List ℕ)) (failures : W → ℕ) (p : StoredProgram) (limit : ℕ) (ls : List (List ℕ)) (a : List ℤ)
+pub run_between : {W : Type 0} (contents : W → Option (List ℕ)) (failures : W → ℕ) (p : StoredProgram) (limit : ℕ) (ls : List (List ℕ)) (a : Answers) (refuses : Pause → ℤ → Type 0)
     (screen screen_after : MutBor W) (w v : W) (result : Result Ending RunFault)
     → screen.now ≡ w → (screen.ghost_name ≡ screen_after.ghost_name → v ≡ screen_after.now)
-    → IsPlainRun p limit ls a (state_of contents failures screen) (state_of contents failures screen_after) result
-    → IsRunBetween contents failures p limit ls a w v result
-run_between contents failures p limit ls a screen screen_after w v result begins ends h =
+    → IsPlainRun p limit ls a refuses (state_of contents failures screen) (state_of contents failures screen_after) result
+    → IsRunBetween contents failures p limit ls a refuses w v result
+run_between contents failures p limit ls a refuses screen screen_after w v result begins ends h =
     let same : screen.ghost_name ≡ screen_after.ghost_name = let e = h.same_borrow in cc in
-    subst (λ x. IsRunBetween contents failures p limit ls a x v result) begins
-    (subst (λ x. IsRunBetween contents failures p limit ls a screen.now x result) (sym (ends same))
+    subst (λ x. IsRunBetween contents failures p limit ls a refuses x v result) begins
+    (subst (λ x. IsRunBetween contents failures p limit ls a refuses screen.now x result) (sym (ends same))
     (record { ok = h.ok; beginning = h.beginning; failed = h.failed; memory = h.memory; unfailed = h.unfailed; unspent = h.unspent }))

@@ -1,11 +1,12 @@
 -- This file proves the laws of replies.
-use Rattle.std.proofs.Common.{◌≡◌, refl, ap, ◌∙◌, ℕ, ◌<◌, List, length, Bool, true, false, Option, Some, None, Ok, Err, ◌↔◌}
+use Rattle.std.proofs.Common.{◌≡◌, refl, sym, ap, ◌∙◌, ℕ, ◌<◌, List, length, Bool, true, false, Option, Some, None, Ok, Err, ◌↔◌}
 use Rattle.std.proofs.lemmas.Bool.{false_from_ne_true, lt-ltb}
 use Rattle.ptb_text.specs.declared.fault.LoadFault.{LoadFault}
 use Rattle.ptb_text.specs.declared.fault.LoadFault.TheVariants.{TooLong}
 use Rattle.ptb_text.specs.Lines.{input_lines}
 use Rattle.ptb_text.specs.Statements.{Statements, StoredProgram, program, program_limit}
-use Rattle.ptb_expr.specs.Outcome.{Answers, Outcome}
+use Rattle.ptb_expr.specs.Outcome.{Answers, Outcome, IsReader}
+use Rattle.ptb_machine.specs.Laws.{RunLaws}
 use Rattle.ptb_machine.specs.Play.{Finish, play}
 use Rattle.ptb_machine.specs.Questions.{most_answers}
 use Rattle.ptb_explore.specs.Laws.{ListingLaws}
@@ -15,8 +16,10 @@ use Rattle.ptb_serve.specs.declared.note.Note.TheVariants as notes
 use Rattle.ptb_options.specs.declared.request.Mode.{Mode}
 use Rattle.ptb_options.specs.declared.request.Mode.TheVariants as modes
 use Rattle.ptb_options.specs.declared.request.Request.{Request}
-use Rattle.ptb_serve.specs.Replies.{Reply, refusal, plain_reply, first_front, is_front, all_reply, listing_reply, program_of_text, reply_or_refusal, program_reply, reply_in_mode}
-use Rattle.ptb_serve.specs.ReplyLaws.{ListsRuns, RunReplies, ReplyLaws}
+use Rattle.ptb_serve.specs.SeededRuns.{seeded_answers}
+use Rattle.ptb_serve.proofs.Drawing.{one_is_drawn}
+use Rattle.ptb_serve.specs.Replies.{Reply, refusal, plain_reply, seeded_reply, first_front, is_front, all_reply, listing_reply, program_of_text, reply_or_refusal, program_reply, reply_in_mode}
+use Rattle.ptb_serve.specs.ReplyLaws.{ListsRuns, RunReplies, RunsBySeed, ReplyLaws}
 use Rattle.ptb_serve.proofs.Listed.{reply-listed, reply-refused}
 
 -- ---- a text that is refused
@@ -32,6 +35,7 @@ refused memory b next e h = ap (reply_or_refusal next memory) h
 refused_in_mode : (m : Mode) (r : Request) (b c : List ℕ) (e : ℕ × LoadFault) → program_of_text r.memory b ≡ Err e
     → reply_in_mode m r b c ≡ refusal (notes.Load e.0 e.1)
 refused_in_mode (modes.Plain a) r b c e h = refused r.memory b (plain_reply r.steps a c) e h
+refused_in_mode (modes.Seeded seed) r b c e h = refused r.memory b (seeded_reply r.steps seed c) e h
 refused_in_mode (modes.All after first) r b c e h = refused r.memory b (λ p. all_reply p (input_lines c) r.steps after first) e h
 refused_in_mode modes.List r b c e h = refused r.memory b listing_reply e h
 
@@ -41,7 +45,8 @@ accepted : (memory : ℕ) (b : List ℕ) (next : StoredProgram → Reply) (p : S
     → program_reply memory b next ≡ next (record { lines = p; memory = memory })
 accepted memory b next p h = ap (reply_or_refusal next memory) h
 
-module _ (p : StoredProgram) (c : List ℕ) (limit : ℕ) (laws : ListingLaws (play p (input_lines c) limit) (most_answers p (input_lines c) limit)) where
+module _ (p : StoredProgram) (c : List ℕ) (limit : ℕ) (laws : ListingLaws (play p (input_lines c) limit) (most_answers p (input_lines c) limit))
+    (reads : IsReader (play p (input_lines c) limit) (most_answers p (input_lines c) limit)) where
   abbrev game : Answers → Outcome Finish (List ℕ)
   game = play p (input_lines c) limit
 
@@ -61,27 +66,43 @@ module _ (p : StoredProgram) (c : List ℕ) (limit : ℕ) (laws : ListingLaws (p
   }
 
   -- where replies to runs of it are those of the definition
+  -- where the reply to a seed is that of the definition
+  runs_by_seed : (reply : Mode → Reply) → ((a : Answers) → reply (modes.Plain a) ≡ plain_reply limit a c p)
+      → (seed : ℕ) → reply (modes.Seeded seed) ≡ seeded_reply limit seed c p → RunsBySeed seed game reply
+  runs_by_seed reply plain seed seeded =
+      let one = one_is_drawn seed (most_answers p (input_lines c) limit) game reads in
+      record {
+        answers = seeded_answers seed p (input_lines c) limit;
+        drawn = one.0;
+        only = one.1;
+        same = seeded ∙ sym (plain (seeded_answers seed p (input_lines c) limit));
+      }
+
   run_replies : (reply : Mode → Reply) → ((a : Answers) → reply (modes.Plain a) ≡ plain_reply limit a c p)
+      → ((seed : ℕ) → reply (modes.Seeded seed) ≡ seeded_reply limit seed c p)
       → ((after : Option Answers) (first : Option ℕ) → reply (modes.All after first) ≡ all_reply p (input_lines c) limit after first)
       → RunReplies game reply
-  run_replies reply plain all = record {
+  run_replies reply plain seeded all = record {
     all_runs = lists_runs None refl (IsRun game) (λ a. (λ h. h.0, λ h. (h, refl))) (λ first. reply (modes.All None first)) (all None);
     runs_after = λ r run.
         lists_runs (Some r) run (λ a. IsRun game a × Before r a) (λ a. (λ h. h, λ h. h)) (λ first. reply (modes.All (Some r) first)) (all (Some r));
     no_run = λ r first none. all (Some r) first ∙ reply-refused p limit (Some r) first (input_lines c) (false_from_ne_true _ none);
     run_report = λ a f ends. ap (report_of a) ends;
     plain_run = plain;
+    seeded_run = λ seed. runs_by_seed reply plain seed (seeded seed);
   }
 
 -- ---- all of them
 
-pub reply_laws : ((p : StoredProgram) (input : List (List ℕ)) (limit : ℕ) → ListingLaws (play p input limit) (most_answers p input limit)) → ReplyLaws
-reply_laws laws = record {
+pub reply_laws : RunLaws → ((p : StoredProgram) (input : List (List ℕ)) (limit : ℕ) → ListingLaws (play p input limit) (most_answers p input limit)) → ReplyLaws
+reply_laws runs laws = record {
   too_long = λ r b c long. refused_in_mode r.mode r b c (0, TooLong) (too_long_text r.memory b long);
   refused = λ r b c e h. refused_in_mode r.mode r b c e h;
   accepted = λ memory steps b c p h.
-      run_replies (record { lines = p; memory = memory }) c steps (laws (record { lines = p; memory = memory }) (input_lines c) steps) _
+      run_replies (record { lines = p; memory = memory }) c steps (laws (record { lines = p; memory = memory }) (input_lines c) steps)
+      (runs.reads (record { lines = p; memory = memory }) (input_lines c) steps) _
       (λ a. accepted memory b (plain_reply steps a c) p h)
+      (λ seed. accepted memory b (seeded_reply steps seed c) p h)
       (λ after first. accepted memory b (λ p. all_reply p (input_lines c) steps after first) p h);
   listed = λ r b c p h mode. ap (λ m. reply_in_mode m r b c) mode ∙ accepted r.memory b listing_reply p h;
 }

@@ -13,17 +13,16 @@ use Rattle.ptb_command.specs.declared.ending.Ending.{Ending}
 use Rattle.ptb_command.specs.declared.ending.Ending.TheVariants as endings
 use Rattle.ptb_machine.specs.declared.fault.RunFault.{RunFault}
 use Rattle.ptb_machine.specs.declared.fault.RunFault.TheVariants as faults
-use Rattle.ptb_machine.specs.Play.{plain, status}
+use Rattle.ptb_machine.specs.Play.{status}
 use Rattle.ptb_devices.specs.Sources.{ConsumesAtMost}
 use Rattle.ptb_options.specs.declared.request.Mode.TheVariants as modes
 use Rattle.ptb_serve.specs.declared.note.Note.{Note}
 use Rattle.ptb_serve.specs.declared.note.Note.TheVariants as notes
-use Rattle.ptb_options.specs.declared.request.Request.{Request}
 use Rattle.ptb_serve.specs.declared.service.Outcome.{Outcome}
 use Rattle.ptb_serve.specs.Statuses.{note_status}
 use Rattle.ptb_serve.specs.PlainRuns.{ShowsRun, lines_come, lines_taken, lines_wanted, ReadsFor}
-use Rattle.ptb_serve.specs.Replies.{Reply, refusal, plain_reply, lines_reply, program_of_text, reply_or_refusal, program_reply}
-use Rattle.ptb_serve.specs.Serving.{outcome_of, EndsUnread, wanted_by, ReadsForRun, load_note, IsRunNote, IsUnloaded, Replies, Serves, SilentBy, TellsLength, TellsRefusal}
+use Rattle.ptb_serve.specs.Replies.{Reply, refusal, run_reply, program_of_text, reply_or_refusal, program_reply}
+use Rattle.ptb_serve.specs.Serving.{outcome_of, EndsUnread, wanted_by, load_note, IsRunNote, IsUnloaded, Replies, Serves, SilentBy, TellsLength, TellsRefusal}
 
 -- ---- the program of a text
 
@@ -225,20 +224,24 @@ status_within endings.NoInput = omega arith
 status_within endings.NoAnswer = omega arith
 status_within endings.BadAnswer = omega arith
 
-module _ (p : StoredProgram) (steps : ℕ) (a : List ℤ) (known : Option (List ℕ)) (c : List ℕ) (old new : Option (List ℕ)) where
-  pub serves_ended : (e : Ending) (n : ℕ) → n ≡ status e → known ≡ Some c → IfSome known (λ b. ShowsRun (plain p (input_lines b) steps a) old new e)
-      → Serves (plain_reply steps a c p) old new (outcome_of (Ok n))
+-- what a run comes to on the lines of an input
+module _ (run : List (List ℕ) → List ℕ × Ending) (known : Option (List ℕ)) (c : List ℕ) (old new : Option (List ℕ)) where
+  abbrev due : Reply
+  due = run_reply (run (input_lines c))
+
+  pub serves_ended : (e : Ending) (n : ℕ) → n ≡ status e → known ≡ Some c → IfSome known (λ b. ShowsRun (run (input_lines b)) old new e)
+      → Serves due old new (outcome_of (Ok n))
   serves_ended e n number is h =
-      let run = at_known (λ b. ShowsRun (plain p (input_lines b) steps a) old new e) c is h in
-      record { bytes = run.bytes; status = number ∙ ap status run.ending; note = refl }
+      let shown = at_known (λ b. ShowsRun (run (input_lines b)) old new e) c is h in
+      record { bytes = shown.bytes; status = number ∙ ap status shown.ending; note = refl }
 
   pub serves_stopped : (f : RunFault) (note : Note) → known ≡ Some c → IsRunNote f note
-      → IfSome known (λ b. TakesSome old new (plain p (input_lines b) steps a).0) → Serves (plain_reply steps a c p) old new (outcome_of (Err note))
-  serves_stopped f note is n begins = by_fault f n (at_known (λ b. TakesSome old new (plain p (input_lines b) steps a).0) c is begins) where
-    by_fault : (f : RunFault) → IsRunNote f note → TakesSome old new (plain p (input_lines c) steps a).0 → Serves (plain_reply steps a c p) old new (outcome_of (Err note))
-    by_fault faults.Memory n h = subst (λ m. Serves (plain_reply steps a c p) old new (outcome_of (Err m))) (sym n) h
-    by_fault faults.Read n h = subst (λ m. Serves (plain_reply steps a c p) old new (outcome_of (Err m))) (sym n) h
-    by_fault faults.Write n h = subst (λ m. Serves (plain_reply steps a c p) old new (outcome_of (Err m))) (sym n) h
+      → IfSome known (λ b. TakesSome old new (run (input_lines b)).0) → Serves due old new (outcome_of (Err note))
+  serves_stopped f note is n begins = by_fault f n (at_known (λ b. TakesSome old new (run (input_lines b)).0) c is begins) where
+    by_fault : (f : RunFault) → IsRunNote f note → TakesSome old new (run (input_lines c)).0 → Serves due old new (outcome_of (Err note))
+    by_fault faults.Memory n h = subst (λ m. Serves due old new (outcome_of (Err m))) (sym n) h
+    by_fault faults.Read n h = subst (λ m. Serves due old new (outcome_of (Err m))) (sym n) h
+    by_fault faults.Write n h = subst (λ m. Serves due old new (outcome_of (Err m))) (sym n) h
     by_fault faults.Spent n h = absurd n
 
 -- nothing was written where memory was refused
@@ -249,33 +252,46 @@ silent_stopped a old new faults.Read note n h = subst (λ m. SilentBy (modes.Pla
 silent_stopped a old new faults.Write note n h = subst (λ m. SilentBy (modes.Plain a) (Some m) old new) (sym n) tt
 silent_stopped a old new faults.Spent note n h = absurd n
 
+-- the answers of a seed take memory
+pub silent_seeded : (seed : ℕ) (old new : Option (List ℕ)) (f : RunFault) (note : Note) → IsRunNote f note → SilentBy (modes.Seeded seed) (Some note) old new
+silent_seeded seed old new faults.Memory note n = subst (λ m. SilentBy (modes.Seeded seed) (Some m) old new) (sym n) tt
+silent_seeded seed old new faults.Read note n = subst (λ m. SilentBy (modes.Seeded seed) (Some m) old new) (sym n) tt
+silent_seeded seed old new faults.Write note n = subst (λ m. SilentBy (modes.Seeded seed) (Some m) old new) (sym n) tt
+silent_seeded seed old new faults.Spent note n = absurd n
+
 -- ---- an input that can't be read
 
 -- on the lines that came whole a run ends for want of a line
-pub unread_loaded : (memory : ℕ) (known : Option (List ℕ)) (steps : ℕ) (a : List ℤ) (p : StoredProgram) (i j old new : Option (List ℕ)) → IfSome known (λ b. IsLoaded memory b p.lines)
-    → p.memory ≡ memory → (taken : List ℕ) × Consumes i j taken × ShowsRun (plain p (lines_come taken) steps a) old new endings.NoInput
-    → IfSome known (λ b. (taken : List ℕ) × Consumes i j taken × EndsUnread (program_reply memory b (lines_reply steps a (lines_come taken))) old new)
-unread_loaded memory None steps a p i j old new h e r = tt
-unread_loaded memory (Some b) steps a p i j old new h e r =
-    let next = lines_reply steps a (lines_come r.0) in
+pub unread_loaded : (memory : ℕ) (known : Option (List ℕ)) (run : StoredProgram → List (List ℕ) → List ℕ × Ending) (p : StoredProgram) (i j old new : Option (List ℕ)) → IfSome known (λ b. IsLoaded memory b p.lines)
+    → p.memory ≡ memory → (taken : List ℕ) × Consumes i j taken × ShowsRun (run p (lines_come taken)) old new endings.NoInput
+    → IfSome known (λ b. (taken : List ℕ) × Consumes i j taken × EndsUnread (program_reply memory b (λ q. run_reply (run q (lines_come taken)))) old new)
+unread_loaded memory None run p i j old new h e r = tt
+unread_loaded memory (Some b) run p i j old new h e r =
+    let next : StoredProgram → Reply = λ q. run_reply (run q (lines_come r.0)) in
     let is : program_reply memory b next ≡ next p =
     program_reply-loaded memory b next p.lines h ∙ ap (λ m. next (record { lines = p.lines; memory = m })) (sym e) in
     (r.0, r.1, subst (λ (x : Reply). EndsUnread x old new) (sym is) (record { bytes = r.2.bytes; status = sym (ap status r.2.ending) }))
 
 -- ---- what is taken of the input
 
+-- by how many lines a run of a program takes of an input
+abbrev pub ReadsBy : (StoredProgram → List ℕ → ℕ) → ℕ → List ℕ → List ℕ → Option (List ℕ) → Outcome → Type 0
+ReadsBy count memory b c left outcome =
+    IfOk (program_of_text memory b) (λ p. (taken : List ℕ) × Consumes (Some c) left taken
+    × ReadsFor taken (wanted_by (count (record { lines = p; memory = memory }) c) outcome.note outcome.status))
+
 -- where nothing was taken
-pub reads_nothing : (a : List ℤ) (request : Request) (b : List ℕ) (known : Option (List ℕ)) (outcome : Outcome) → IfSome known (λ c. ReadsForRun (modes.Plain a) request b c known outcome)
-reads_nothing a request b None outcome = tt
-reads_nothing a request b (Some c) outcome = by_text (program_of_text request.memory b) where
+reads_nothing : (count : StoredProgram → List ℕ → ℕ) (memory : ℕ) (b : List ℕ) (known : Option (List ℕ)) (outcome : Outcome) → IfSome known (λ c. ReadsBy count memory b c known outcome)
+reads_nothing count memory b None outcome = tt
+reads_nothing count memory b (Some c) outcome = by_text (program_of_text memory b) where
   by_text : (t : Result Statements (ℕ × LoadFault)) → IfOk t (λ p. (taken : List ℕ) × Consumes (Some c) (Some c) taken
-      × ReadsFor taken (wanted_by (lines_taken (record { lines = p; memory = request.memory }) (input_lines c) request.steps a) outcome.note outcome.status))
+      × ReadsFor taken (wanted_by (count (record { lines = p; memory = memory }) c) outcome.note outcome.status))
   by_text (Ok p) = ([], refl, inl refl)
   by_text (Err e) = tt
 
-pub reads_nothing_for : (a : List ℤ) (request : Request) (program known : Option (List ℕ)) (outcome : Outcome) → IfSome program (λ b. IfSome known (λ c. ReadsForRun (modes.Plain a) request b c known outcome))
-reads_nothing_for a request None known outcome = tt
-reads_nothing_for a request (Some b) known outcome = reads_nothing a request b known outcome
+pub reads_nothing_for : (count : StoredProgram → List ℕ → ℕ) (memory : ℕ) (program known : Option (List ℕ)) (outcome : Outcome) → IfSome program (λ b. IfSome known (λ c. ReadsBy count memory b c known outcome))
+reads_nothing_for count memory None known outcome = tt
+reads_nothing_for count memory (Some b) known outcome = reads_nothing count memory b known outcome
 
 -- with the same answers
 pub taken_answers : (p : StoredProgram) (steps : ℕ) (known left : Option (List ℕ)) (result : Result Ending RunFault) (x y : List ℤ) → x ≡ y
@@ -285,20 +301,19 @@ taken_answers p steps known left result x y e h =
     subst (λ (a : List ℤ). (taken : List ℕ) × Consumes known left taken × IfSome known (λ c. ReadsFor taken (lines_wanted (lines_taken p (input_lines c) steps a) result))) e h
 
 -- a text that was loaded is that program
-pub reads_loaded : (a : List ℤ) (request : Request) (program known left : Option (List ℕ)) (p : StoredProgram) (outcome : Outcome) (result : Result Ending RunFault)
-    → IfSome program (λ b. IsLoaded request.memory b p.lines) → p.memory ≡ request.memory
+pub reads_loaded : (count : StoredProgram → List ℕ → ℕ) (memory : ℕ) (program known left : Option (List ℕ)) (p : StoredProgram) (outcome : Outcome) (result : Result Ending RunFault)
+    → IfSome program (λ b. IsLoaded memory b p.lines) → p.memory ≡ memory
     → ((k : ℕ) → lines_wanted k result ≡ wanted_by k outcome.note outcome.status)
-    → (taken : List ℕ) × Consumes known left taken × IfSome known (λ c. ReadsFor taken (lines_wanted (lines_taken p (input_lines c) request.steps a) result))
-    → IfSome program (λ b. IfSome known (λ c. ReadsForRun (modes.Plain a) request b c left outcome))
-reads_loaded a request None known left p outcome result h e same r = tt
-reads_loaded a request (Some b) None left p outcome result h e same r = tt
-reads_loaded a request (Some b) (Some c) left p outcome result h e same r =
-    let stored : record { lines = p.lines; memory = request.memory } ≡ p = ap (λ m. record p { memory = m }) (sym e) in
-    rw (program_of_text-ok request.memory b p.lines h) (
+    → (taken : List ℕ) × Consumes known left taken × IfSome known (λ c. ReadsFor taken (lines_wanted (count p c) result))
+    → IfSome program (λ b. IfSome known (λ c. ReadsBy count memory b c left outcome))
+reads_loaded count memory None known left p outcome result h e same r = tt
+reads_loaded count memory (Some b) None left p outcome result h e same r = tt
+reads_loaded count memory (Some b) (Some c) left p outcome result h e same r =
+    let stored : record { lines = p.lines; memory = memory } ≡ p = ap (λ m. record p { memory = m }) (sym e) in
+    rw (program_of_text-ok memory b p.lines h) (
       r.0,
       r.1,
-      subst (λ q. ReadsFor r.0 (wanted_by (lines_taken q (input_lines c) request.steps a) outcome.note outcome.status)) (sym stored)
-          (subst (ReadsFor r.0) (same (lines_taken p (input_lines c) request.steps a)) r.2),
+      subst (λ q. ReadsFor r.0 (wanted_by (count q c) outcome.note outcome.status)) (sym stored) (subst (ReadsFor r.0) (same (count p c)) r.2),
     )
 
 pub wanted_ended : (e : Ending) (n : ℕ) → n ≡ status e → (k : ℕ) → lines_wanted k (Ok e) ≡ wanted_by k (outcome_of (Ok n)).note (outcome_of (Ok n)).status

@@ -18,7 +18,8 @@ use Rattle.ptb_devices.specs.Readers.{line_input, line_reader, input_of, GivesFr
 use Rattle.ptb_devices.specs.Sources.{Loses, NoneLeft, ConsumesAtMost}
 use Rattle.ptb_devices.proofs.Cutting.{input_lines-cut}
 use Rattle.ptb_text.specs.Statements.{StoredProgram}
-use Rattle.ptb_expr.specs.Choices.{AnswerList, RefusedByList}
+use Rattle.ptb_expr.specs.declared.pause.Pause.{Pause}
+use Rattle.ptb_expr.specs.Outcome.{Answers}
 use Rattle.ptb_command.specs.Devices.{Devices, refused_by}
 use Rattle.ptb_machine.specs.declared.fault.RunFault.TheVariants as runs
 use Rattle.ptb_machine.specs.Runs.{RunComes, UnlessRunMissed}
@@ -245,23 +246,24 @@ wanted_at_fault a reads.Read e k = omega (arith, asked_one a)
 wanted_at_fault a reads.TooLong e k = omega (arith, asked_one a)
 wanted_at_fault a reads.Memory e k = absurd (fault_without_memory a.end e)
 
-module _ (p : StoredProgram) (limit : ℕ) (a : List ℤ) (wanted x f : ℕ) (n : InputNow) (given : List (List ℕ))
-    (takes : (behind : List (List ℕ)) → (NoneLeft (known_lines n) → behind ≡ []) → length given ≤ lines_taken p (given ++ behind) limit a)
+-- the answers by which a run goes may hang on its lines
+module _ (p : StoredProgram) (limit : ℕ) (a : List (List ℕ) → Answers) (wanted x f : ℕ) (n : InputNow) (given : List (List ℕ))
+    (takes : (behind : List (List ℕ)) → (NoneLeft (known_lines n) → behind ≡ []) → length given ≤ lines_taken p (given ++ behind) limit (a (given ++ behind)))
     (result : Result Ending RunFault) (within : (k : ℕ) → k + wanted ≤ lines_wanted k result) where
-  pub reads_for : (known : Option (List ℕ)) (on : ReadsOn wanted (fresh known x f) given n) → IfSome known (λ c. ReadsFor on.taken (lines_wanted (lines_taken p (input_lines c) limit a) result))
+  pub reads_for : (known : Option (List ℕ)) (on : ReadsOn wanted (fresh known x f) given n) → IfSome known (λ c. ReadsFor on.taken (lines_wanted (lines_taken p (input_lines c) limit (a (input_lines c))) result))
   reads_for None on = tt
   reads_for (Some c) on = by_ahead on.ahead where
     b : IsBehind c given n
     b = lines_behind wanted c x f n given on
 
-    few : length given ≤ lines_taken p (input_lines c) limit a
-    few = subst (λ i. length given ≤ lines_taken p i limit a) (sym b.whole) (takes b.rest b.none)
+    few : length given ≤ lines_taken p (input_lines c) limit (a (input_lines c))
+    few = subst (λ i. length given ≤ lines_taken p i limit (a i)) (sym b.whole) (takes b.rest b.none)
 
-    by_ahead : (on.taken ≡ []) ⊎ IsReadAhead fresh_input on.taken (length given + wanted) → ReadsFor on.taken (lines_wanted (lines_taken p (input_lines c) limit a) result)
+    by_ahead : (on.taken ≡ []) ⊎ IsReadAhead fresh_input on.taken (length given + wanted) → ReadsFor on.taken (lines_wanted (lines_taken p (input_lines c) limit (a (input_lines c))) result)
     by_ahead (inl none) = inl none
     by_ahead (inr h) =
         let needed : length (whole_lines None h.before) < length given + wanted = h.needed in
-        inr (record { before = h.before; piece = h.piece; both = h.both; some = h.some; fits = h.fits; needed = omega (arith, needed, few, within (lines_taken p (input_lines c) limit a)) })
+        inr (record { before = h.before; piece = h.piece; both = h.both; some = h.some; fits = h.fits; needed = omega (arith, needed, few, within (lines_taken p (input_lines c) limit (a (input_lines c)))) })
 
 -- ---- a run on the lines of a reader
 
@@ -273,40 +275,40 @@ taken_by remaining counted failures s t given i state reader gives =
     subst (λ r. ReadsOn (asked (line_input t)) (input_now remaining counted failures fresh_input r) given (input_of remaining counted failures t)) reader
     (subst (λ (a : InputState). ReadsOn (asked (line_input t)) (input_now remaining counted failures a (line_reader s).now) given (input_of remaining counted failures t)) state gives.reads)
 
-module _ {W : Type 0} (contents : W → Option (List ℕ)) (written : W → ℕ) (p : StoredProgram) (limit : ℕ) (a : List ℤ) (w v : W) (ended : Result Ending RunFault)
+module _ {W : Type 0} (contents : W → Option (List ℕ)) (written : W → ℕ) (p : StoredProgram) (limit : ℕ) (a : List (List ℕ) → Answers) (refuses : Pause → ℤ → Type 0) (w v : W) (ended : Result Ending RunFault)
     (wanted x f : ℕ) (n : InputNow) (given : List (List ℕ))
-    (between : (behind : List (List ℕ)) → (NoneLeft (known_lines n) → behind ≡ []) → IsRunBetween contents written p limit (given ++ behind) a w v ended) where
+    (between : (behind : List (List ℕ)) → (NoneLeft (known_lines n) → behind ≡ []) → IsRunBetween contents written p limit (given ++ behind) (a (given ++ behind)) refuses w v ended) where
   -- by the bytes of the input, where they are known
   pub shows_input : (known : Option (List ℕ)) → ReadsOn wanted (fresh known x f) given n
-      → IfOk ended (λ e. IfSome known (λ c. ShowsRun (plain p (input_lines c) limit a) (contents w) (contents v) e))
+      → IfOk ended (λ e. IfSome known (λ c. ShowsRun (plain p (input_lines c) limit (a (input_lines c))) (contents w) (contents v) e))
   shows_input None on = nothing ended where
-    nothing : (r : Result Ending RunFault) → IfOk r (λ e. IfSome None (λ c. ShowsRun (plain p (input_lines c) limit a) (contents w) (contents v) e))
+    nothing : (r : Result Ending RunFault) → IfOk r (λ e. IfSome None (λ c. ShowsRun (plain p (input_lines c) limit (a (input_lines c))) (contents w) (contents v) e))
     nothing (Ok e) = tt
     nothing (Err fault) = tt
   shows_input (Some c) on =
       let b = lines_behind wanted c x f n given on in
-      subst (λ i. IfOk ended (ShowsRun (plain p i limit a) (contents w) (contents v))) (sym b.whole) (between b.rest b.none).ok
+      subst (λ i. IfOk ended (ShowsRun (plain p i limit (a i)) (contents w) (contents v))) (sym b.whole) (between b.rest b.none).ok
 
   pub begins_input : (known : Option (List ℕ)) → ReadsOn wanted (fresh known x f) given n
-      → IfSome known (λ c. TakesSome (contents w) (contents v) (plain p (input_lines c) limit a).0)
+      → IfSome known (λ c. TakesSome (contents w) (contents v) (plain p (input_lines c) limit (a (input_lines c))).0)
   begins_input None on = tt
   begins_input (Some c) on =
       let b = lines_behind wanted c x f n given on in
-      subst (λ i. TakesSome (contents w) (contents v) (plain p i limit a).0) (sym b.whole) (between b.rest b.none).beginning
+      subst (λ i. TakesSome (contents w) (contents v) (plain p i limit (a i)).0) (sym b.whole) (between b.rest b.none).beginning
 
 -- on the lines that came whole, where a fault has come, it ends for want of a line
-pub shows_come : {W : Type 0} (contents : W → Option (List ℕ)) (written : W → ℕ) (p : StoredProgram) (limit : ℕ) (a : List ℤ) (w v : W) (wanted x f : ℕ) (n : InputNow) (given : List (List ℕ)) (known : Option (List ℕ)) (on : ReadsOn wanted (fresh known x f) given n) (fault : ReadFault)
-    → fault_at n.state.end ≡ Some fault → IsRunBetween contents written p limit (given ++ []) a w v (Ok endings.NoInput)
-    → ShowsRun (plain p (lines_come on.taken) limit a) (contents w) (contents v) endings.NoInput
-shows_come contents written p limit a w v wanted x f n given known on fault is run =
-    subst (λ i. ShowsRun (plain p i limit a) (contents w) (contents v) endings.NoInput) (sym (came_whole wanted known x f n given on fault is)) run.ok
+pub shows_come : {W : Type 0} (contents : W → Option (List ℕ)) (written : W → ℕ) (p : StoredProgram) (limit : ℕ) (a : List (List ℕ) → Answers) (refuses : Pause → ℤ → Type 0) (w v : W) (wanted x f : ℕ) (n : InputNow) (given : List (List ℕ)) (known : Option (List ℕ)) (on : ReadsOn wanted (fresh known x f) given n) (fault : ReadFault)
+    → fault_at n.state.end ≡ Some fault → IsRunBetween contents written p limit (given ++ []) (a (given ++ [])) refuses w v (Ok endings.NoInput)
+    → ShowsRun (plain p (lines_come on.taken) limit (a (lines_come on.taken))) (contents w) (contents v) endings.NoInput
+shows_come contents written p limit a refuses w v wanted x f n given known on fault is run =
+    subst (λ i. ShowsRun (plain p i limit (a i)) (contents w) (contents v) endings.NoInput) (sym (came_whole wanted known x f n given on fault is)) run.ok
 
 -- ---- how a run has ended
 
 -- where the source has come to no fault, the run doesn't say that a line could not be read
-module _ (p : StoredProgram) (limit : ℕ) (l : AnswerList) (o n : Devices) (end : InputEnd) (left : Option (List (List ℕ))) where
+module _ (p : StoredProgram) (limit : ℕ) (refuses : Pause → ℤ → Type 0) (o n : Devices) (end : InputEnd) (left : Option (List (List ℕ))) where
   pub never_unread : fault_at end ≡ None → (ended : Result Ending RunFault)
-      → RunComes (refused_by (RefusedByList l.answers l.given) (Refuses end) left) p limit [] o n ended → IsErrOf ended runs.Read → ⊥
+      → RunComes (refused_by refuses (Refuses end) left) p limit [] o n ended → IsErrOf ended runs.Read → ⊥
   never_unread none (Ok e) h is = absurd cc
   never_unread none (Err runs.Memory) h is = absurd cc
   never_unread none (Err runs.Write) h is = absurd cc

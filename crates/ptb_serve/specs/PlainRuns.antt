@@ -3,21 +3,26 @@
 --     run_fault fault            the fault of a run whose input isn't read
 --     lines_come taken           the lines that came whole in these bytes
 --     IsUnreadable known old new the input could not be read, or is too long
+--     IsLed refuses taken all    what a chooser is to answer begins with what it has answered
+--     GoesBy refuses c d answers p limit    a chooser goes by these answers on the lines of each input
 --     lines_taken p lines limit a    how many of the lines of its input a run takes
 --     lines_wanted k result      how many a run wants that takes k lines
 --     ReadsFor taken wanted      these bytes were taken of an input for so many lines
-use Rattle.std.specs.Prelude.{◌≡◌, ◌⊎◌, ◌+◌, ◌-◌, ◌<◌, ◌≤◌, ℕ, List, [], ◌++◌, length, take, Option, None, Result, Ok, Err, IfSome}
+use Rattle.std.specs.Prelude.{◌≡◌, ◌⊎◌, ◌+◌, ◌-◌, ◌<◌, ◌≤◌, ℕ, List, [], ◌++◌, length, take, ◌∷◌, Option, None, Result, Ok, Err, IfSome, ℤ}
 use Rattle.std.specs.Io.KnownBytes.{Appends}
 use Rattle.ptb_text.specs.Device.{HasFailed}
 use Rattle.ptb_text.specs.Statements.{StoredProgram}
+use Rattle.ptb_expr.specs.declared.pause.Pause.{Pause}
+use Rattle.ptb_expr.specs.declared.pause.Pause.TheVariants as pauses
 use Rattle.ptb_expr.specs.Outcome.{Answers}
+use Rattle.ptb_expr.specs.Choices.{Asked, Choices, with_answers}
 use Rattle.ptb_command.specs.declared.ending.Ending.{Ending}
 use Rattle.ptb_command.specs.declared.ending.Ending.TheVariants as endings
 use Rattle.ptb_devices.specs.Cutting.{whole_lines}
 use Rattle.ptb_devices.specs.declared.fault.ReadFault.{ReadFault}
 use Rattle.ptb_devices.specs.declared.fault.ReadFault.TheVariants as reads
 use Rattle.ptb_devices.specs.declared.whole_input.TheConstants.{INPUT_LIMIT}
-use Rattle.ptb_machine.specs.Play.{unasked_lines}
+use Rattle.ptb_machine.specs.Play.{play, unasked_lines}
 use Rattle.ptb_machine.specs.declared.fault.RunFault.{RunFault}
 use Rattle.ptb_machine.specs.declared.fault.RunFault.TheVariants as runs
 
@@ -41,6 +46,22 @@ lines_come taken = whole_lines None (take input_limit taken)
 -- by the bytes of a reader, where they are known, and how often it has failed
 abbrev pub IsUnreadable : Option (List ℕ) → ℕ → ℕ → Type 0
 IsUnreadable known old new = HasFailed old new ⊎ IfSome known (λ c. input_limit < length c)
+
+-- ---- the answers by which a run goes
+
+-- `all` is what a chooser is to answer, and some of it was taken; `refuses` is what stands after a refusal
+pub record IsLed (refuses : Pause → ℤ → Type 0) (taken all : Answers) : Type 0 where
+  pub rest : Answers
+  pub whole : all ≡ taken ++ rest
+  -- it ends where nothing is left, and an answer is out of range where it is the next
+  pub ended : (n : ℤ) → refuses pauses.Ended n → rest ≡ []
+  pub outside : (k n : ℤ) → refuses (pauses.OutOfRange k) n → (later : Answers) × (rest ≡ k ∷ later)
+
+-- whatever a run on these lines has asked, between two states of its chooser; the answers may hang on the lines
+abbrev pub GoesBy : (Pause → ℤ → Type 0) → Choices → Choices → (List (List ℕ) → Answers) → StoredProgram → ℕ → Type 0
+GoesBy refuses c d answers p limit =
+    (lines : List (List ℕ)) (taken : Answers) (bounds : List ℤ)
+    → Asked (play p lines limit) taken bounds → d ≡ with_answers taken bounds c → IsLed refuses taken (answers lines)
 
 -- ---- what a run takes of its input
 

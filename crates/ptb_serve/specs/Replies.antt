@@ -18,6 +18,7 @@ use Rattle.ptb_serve.specs.declared.note.Note.TheVariants as notes
 use Rattle.ptb_options.specs.declared.request.Mode.{Mode}
 use Rattle.ptb_options.specs.declared.request.Mode.TheVariants as modes
 use Rattle.ptb_options.specs.declared.request.Request.{Request}
+use Rattle.ptb_serve.specs.SeededRuns.{seeded_run}
 use Rattle.ptb_serve.specs.Statuses.{note_status}
 
 -- ---- replies
@@ -44,6 +45,13 @@ lines_reply steps a lines p = run_reply (plain p lines steps a)
 
 abbrev pub plain_reply : ℕ → Answers → List ℕ → StoredProgram → Reply
 plain_reply steps a c p = lines_reply steps a (input_lines c) p
+
+-- a run by a seed
+abbrev pub seeded_lines_reply : ℕ → ℕ → List (List ℕ) → StoredProgram → Reply
+seeded_lines_reply steps seed lines p = run_reply (seeded_run seed p lines steps)
+
+abbrev pub seeded_reply : ℕ → ℕ → List ℕ → StoredProgram → Reply
+seeded_reply steps seed c p = seeded_lines_reply steps seed (input_lines c) p
 
 abbrev pub listing_reply : StoredProgram → Reply
 listing_reply p = success (listing p.lines)
@@ -90,6 +98,7 @@ all_reply p input limit after first = runs_reply (play p input limit) (most_answ
 
 abbrev pub reply_in_mode : Mode → Request → List ℕ → List ℕ → Reply
 reply_in_mode (modes.Plain a) request b c = program_reply request.memory b (plain_reply request.steps a c)
+reply_in_mode (modes.Seeded seed) request b c = program_reply request.memory b (seeded_reply request.steps seed c)
 reply_in_mode (modes.All after first) request b c = program_reply request.memory b (λ p. all_reply p (input_lines c) request.steps after first)
 reply_in_mode modes.List request b c = program_reply request.memory b listing_reply
 

@@ -1,5 +1,6 @@
 -- This file states the laws of replies.
 --     ListsRuns play IsListed reply    the replies to a listing are the reports of these runs, or of the first n of them
+--     RunsBySeed seed play reply       the reply to a run by a seed is that to one plain run, whose answers are drawn from the seed
 --     RunReplies play reply            what the replies are where a program is run, once or with all answers
 --     ReplyLaws                        what a reply is for every program text and every input
 use Rattle.std.specs.Prelude.{◌≡◌, ℕ, ◌<◌, List, [], length, take, Option, Some, None, Ok, Err, ◌↔◌, Contains}
@@ -16,6 +17,7 @@ use Rattle.ptb_serve.specs.declared.note.Note.TheVariants as notes
 use Rattle.ptb_options.specs.declared.request.Mode.{Mode}
 use Rattle.ptb_options.specs.declared.request.Mode.TheVariants as modes
 use Rattle.ptb_options.specs.declared.request.Request.{Request}
+use Rattle.ptb_serve.specs.SeededRuns.{IsDrawn}
 use Rattle.ptb_serve.specs.Replies.{Reply, refusal, success, run_reply, program_of_text, reply_to}
 
 -- One list of runs stands behind all replies of a listing, whatever number of them is asked for.
@@ -30,6 +32,14 @@ pub record ListsRuns (play : Answers → Outcome Finish (List ℕ)) (IsListed : 
   -- with a number n, the reports of the first n of them, or of all where there are fewer
   pub first : (n : ℕ) → reply (Some n) ≡ success (text (report play) (take n runs))
 
+-- A seed gives the answers of one run: each is drawn from the seed for the bound of its question. No other list of answers is drawn so.
+pub record RunsBySeed (seed : ℕ) (play : Answers → Outcome Finish (List ℕ)) (reply : Mode → Reply) : Type 0 where
+  pub answers : Answers
+  pub drawn : IsDrawn seed play answers
+  pub only : (a : Answers) → IsDrawn seed play a → a ≡ answers
+  -- the reply is that to a plain run with these answers
+  pub same : reply (modes.Seeded seed) ≡ reply (modes.Plain answers)
+
 -- `play` tells what the program comes to on the input, by the list of answers.
 pub record RunReplies (play : Answers → Outcome Finish (List ℕ)) (reply : Mode → Reply) : Type 0 where
   -- all runs are listed, and nothing else
@@ -42,6 +52,8 @@ pub record RunReplies (play : Answers → Outcome Finish (List ℕ)) (reply : Mo
   pub run_report : (a : Answers) (f : Finish) → play a ≡ Done f [] → report play a ≡ report_text a (word_of f.ending) f.steps f.shown
   -- a plain run writes what play shows, and has the status of its ending, also where an answer is missing or outside its bound
   pub plain_run : (a : Answers) → reply (modes.Plain a) ≡ run_reply (plain_of (play a))
+  -- a run by a seed is a plain run with the answers that are drawn from the seed
+  pub seeded_run : (seed : ℕ) → RunsBySeed seed play reply
 
 pub record ReplyLaws : Type 0 where
   -- a text that is too long is refused as a whole, whatever is asked for and whatever stands in it

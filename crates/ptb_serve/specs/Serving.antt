@@ -24,7 +24,7 @@ use Rattle.ptb_text.specs.declared.fault.LoadFault.{LoadFault}
 use Rattle.ptb_text.specs.declared.fault.LoadFault.TheVariants as loads
 use Rattle.ptb_text.specs.Device.{GivesExactly, TakesSome}
 use Rattle.ptb_text.specs.Lines.{input_lines}
-use Rattle.ptb_text.specs.Statements.{program_limit}
+use Rattle.ptb_text.specs.Statements.{StoredProgram, program_limit}
 use Rattle.ptb_devices.specs.declared.fault.ReadFault.{ReadFault}
 use Rattle.ptb_devices.specs.declared.fault.ReadFault.TheVariants as reads
 use Rattle.ptb_command.specs.declared.ending.Ending.TheVariants as endings
@@ -43,7 +43,8 @@ use Rattle.ptb_serve.specs.declared.service.Outcome.{Outcome}
 use Rattle.ptb_serve.specs.Statuses.{note_status}
 use Rattle.ptb_options.specs.declared.request.Request.{Request}
 use Rattle.ptb_serve.specs.PlainRuns.{ReadsFor, lines_come, lines_taken}
-use Rattle.ptb_serve.specs.Replies.{Reply, lines_reply, program_of_text, program_reply}
+use Rattle.ptb_serve.specs.Replies.{Reply, lines_reply, seeded_lines_reply, program_of_text, program_reply}
+use Rattle.ptb_serve.specs.SeededRuns.{seeded_answers}
 
 -- ---- outcomes
 
@@ -101,9 +102,10 @@ ServesBy (Some note) reply old new outcome = Replies reply old new outcome
 abbrev pub Serves : Reply → Option (List ℕ) → Option (List ℕ) → Outcome → Type 0
 Serves reply old new outcome = ServesBy outcome.note reply old new outcome
 
--- memory is asked for before anything is written, and only where runs are listed between their reports, too
+-- memory is asked for before anything is written, and where runs are listed between their reports, and for the answers of a seed, too
 abbrev pub SilentWithoutMemory : Mode → Option (List ℕ) → Option (List ℕ) → Type 0
 SilentWithoutMemory (modes.Plain a) old new = Appends old new []
+SilentWithoutMemory (modes.Seeded seed) old new = Unit {0}
 SilentWithoutMemory (modes.All after first) old new = Unit {0}
 SilentWithoutMemory modes.List old new = Appends old new []
 
@@ -114,6 +116,7 @@ SilentBy mode None old new = Unit {0}
 SilentBy mode (Some notes.Unwritten) old new = Unit {0}
 SilentBy mode (Some notes.OutOfMemory) old new = SilentWithoutMemory mode old new
 SilentBy (modes.Plain a) (Some notes.InputUnread) old new = Unit {0}
+SilentBy (modes.Seeded seed) (Some notes.InputUnread) old new = Unit {0}
 SilentBy mode (Some note) old new = Appends old new []
 
 -- its bytes were written, and its status is that of a run which ends for want of a line
@@ -127,12 +130,16 @@ abbrev pub ServesUnread : Mode → Request → Option (List ℕ) → Option (Lis
 ServesUnread (modes.Plain a) request known left b old new =
     (taken : List ℕ) × Consumes known left taken
     × EndsUnread (program_reply request.memory b (lines_reply request.steps a (lines_come taken))) old new
+ServesUnread (modes.Seeded seed) request known left b old new =
+    (taken : List ℕ) × Consumes known left taken
+    × EndsUnread (program_reply request.memory b (seeded_lines_reply request.steps seed (lines_come taken))) old new
 ServesUnread (modes.All after first) request known left b old new = Appends old new []
 ServesUnread modes.List request known left b old new = Appends old new []
 
 -- the status of such a request alone is that of an ending
 abbrev pub IsPlainRun : Mode → Type 0
 IsPlainRun (modes.Plain a) = Unit {0}
+IsPlainRun (modes.Seeded seed) = Unit {0}
 IsPlainRun (modes.All after first) = ⊥
 IsPlainRun modes.List = ⊥
 
@@ -167,11 +174,19 @@ wanted_by k None number = if number == status endings.NoInput then k + 1 else k
 wanted_by k (Some notes.InputUnread) number = k + 1
 wanted_by k (Some note) number = k
 
+-- how many of the lines of its input a run by a seed takes
+abbrev pub seeded_taken : ℕ → StoredProgram → List (List ℕ) → ℕ → ℕ
+seeded_taken seed p lines steps = lines_taken p lines steps (seeded_answers seed p lines steps)
+
 -- the input c is read only for the lines that the run wants
 abbrev pub ReadsForRun : Mode → Request → List ℕ → List ℕ → Option (List ℕ) → Outcome → Type 0
 ReadsForRun (modes.Plain a) request b c left outcome =
     IfOk (program_of_text request.memory b) (λ p. (taken : List ℕ) × Consumes (Some c) left taken
     × ReadsFor taken (wanted_by (lines_taken (record { lines = p; memory = request.memory }) (input_lines c) request.steps a)
+    outcome.note outcome.status))
+ReadsForRun (modes.Seeded seed) request b c left outcome =
+    IfOk (program_of_text request.memory b) (λ p. (taken : List ℕ) × Consumes (Some c) left taken
+    × ReadsFor taken (wanted_by (seeded_taken seed (record { lines = p; memory = request.memory }) (input_lines c) request.steps)
     outcome.note outcome.status))
 ReadsForRun (modes.All after first) request b c left outcome = Unit {0}
 ReadsForRun modes.List request b c left outcome = Unit {0}
@@ -179,17 +194,20 @@ ReadsForRun modes.List request b c left outcome = Unit {0}
 -- a listing of the program's lines alone doesn't read it
 abbrev pub NeedsInput : Mode → Type 0
 NeedsInput (modes.Plain a) = Unit {0}
+NeedsInput (modes.Seeded seed) = Unit {0}
 NeedsInput (modes.All after first) = Unit {0}
 NeedsInput modes.List = ⊥
 
 -- a run reads it only as far as it asks for lines
 abbrev pub NeedsWholeInput : Mode → Type 0
 NeedsWholeInput (modes.Plain a) = ⊥
+NeedsWholeInput (modes.Seeded seed) = ⊥
 NeedsWholeInput (modes.All after first) = Unit {0}
 NeedsWholeInput modes.List = ⊥
 
 -- the input, where it is needed and known; any bytes where it isn't looked at
 abbrev pub IsInput : Mode → Option (List ℕ) → List ℕ → Type 0
 IsInput (modes.Plain a) known c = known ≡ Some c
+IsInput (modes.Seeded seed) known c = known ≡ Some c
 IsInput (modes.All after first) known c = known ≡ Some c
 IsInput modes.List known c = Unit {0}

@@ -13,7 +13,7 @@ mod service;
 
 pub use laws::reply_laws;
 pub use note::Note;
-pub use plain::run_plain;
+pub use plain::{run_plain, run_seeded};
 pub use service::{Outcome, serve};
 
 #[cfg(test)]

@@ -1,16 +1,18 @@
-// This file has the plain run, which plays a program once with a list of answers.
+// This file has the runs that play a program once, with a list of answers or with those of a seed.
 
-ghost use Rattle.std.specs.Prelude.{◌≡◌, ◌⊎◌, ◌+◌, ◌≤◌, ℕ, List, [], length, IfOk, IfSome, IsErrOf, OnOk, OnErr};
+ghost use Rattle.std.specs.Prelude.{◌≡◌, ◌⊎◌, ◌+◌, ◌≤◌, ℕ, ℤ, List, [], length};
+ghost use Rattle.std.specs.Prelude.{IfOk, IfSome, IsErrOf, OnOk, OnErr};
 ghost use Rattle.std.specs.Io.KnownBytes.{Appends, Consumes};
 ghost use Rattle.ptb_text.specs.Device.{GivesAtMost, GivesExactly, HasFailed, TakesSome};
 ghost use Rattle.ptb_text.specs.Lines.{input_lines};
 ghost use Rattle.ptb_machine.specs.Play.{plain};
 ghost use Rattle.ptb_devices.specs.Sources.{ConsumesAtMost};
-ghost use Rattle.ptb_serve.specs.PlainRuns.{IsUnreadable, ReadsFor, ShowsRun};
+ghost use Rattle.ptb_serve.specs.PlainRuns.{GoesBy, IsUnreadable, ReadsFor, ShowsRun};
 ghost use Rattle.ptb_serve.specs.PlainRuns.{input_limit, lines_come, lines_taken, lines_wanted, run_fault};
+ghost use Rattle.ptb_serve.specs.SeededRuns.{seeded_answers, seeded_run};
 
-use ptb_expr::Listed;
-use ptb_machine::{Ending, ReadFault, ReaderLines, RunFault, WriterScreen, run};
+use ptb_expr::{Chooser, Listed, Pause, Seeded};
+use ptb_machine::{Ending, ReadFault, ReaderLines, RunFault, WriterScreen, run, run_laws};
 use ptb_text::{Program, Read, Write};
 use std::alloc::Global;
 
@@ -72,16 +74,130 @@ pub fn run_plain<R: Read, W: Write>(
         ⊎ GivesExactly (R.given input.old) (R.given input.new) (input_limit + 1) }
 {
     let mut chooser = Listed::new(answers);
+    run_on_input(alloc, program, limit, &mut chooser, input, out)
+}
+
+/// Runs a program once, on the lines of an input and with the answers that the seed gives to its
+/// questions, and begins at most `limit` commands. What it shows goes to the writer.
+///
+/// The answers are those of one list: the run is the plain run with this list, and its answers are
+/// what is drawn from the seed for the bounds of its questions. None is missing or out of range.
+/// Lines are read as they are for a plain run.
+///
+/// # Errors
+///
+/// [`RunFault::Read`] and [`RunFault::Write`] as for a plain run; the answers are then those of the
+/// run on the lines that came whole. [`RunFault::Memory`] where a growth was refused memory: the
+/// writer got a beginning of what the run shows. Never [`RunFault::Spent`].
+pub fn run_seeded<R: Read, W: Write>(
+    alloc: Global,
+    program: &Program,
+    seed: u64,
+    limit: u32,
+    input: &mut R,
+    out: &mut W,
+) -> Result<Ending, RunFault>
+    ensures ok { IfOk result (λ ending. IfSome (R.remaining input.old) (λ c.
+        ShowsRun (seeded_run seed program.now (input_lines c) limit)
+        (W.contents out.old) (W.contents out.new) ending)) }
+    ensures within { OnOk result
+        (ConsumesAtMost (R.remaining input.old) (R.remaining input.new) input_limit) }
+    ensures beginning { OnErr result (IfSome (R.remaining input.old) (λ c.
+        TakesSome (W.contents out.old) (W.contents out.new)
+        (seeded_run seed program.now (input_lines c) limit).0)) }
+    ensures read { IsErrOf result RunFault.Read → (taken : List ℕ)
+        × Consumes (R.remaining input.old) (R.remaining input.new) taken
+        × ShowsRun (seeded_run seed program.now (lines_come taken) limit)
+        (W.contents out.old) (W.contents out.new) Ending.NoInput }
+    ensures taken { (taken : List ℕ)
+        × Consumes (R.remaining input.old) (R.remaining input.new) taken
+        × IfSome (R.remaining input.old) (λ c. ReadsFor taken (lines_wanted
+        (lines_taken program.now (input_lines c) limit
+        (seeded_answers seed program.now (input_lines c) limit)) result)) }
+    ensures failed { IsErrOf result RunFault.Write
+        → HasFailed (W.failures out.old) (W.failures out.new) }
+    ensures unreadable { IsErrOf result RunFault.Read
+        → IsUnreadable (R.remaining input.old) (R.failures input.old) (R.failures input.new) }
+    ensures input_read { ¬ IsErrOf result RunFault.Read
+        → R.failures input.new ≡ R.failures input.old }
+    ensures unfailed { ¬ IsErrOf result RunFault.Write
+        → W.failures out.new ≡ W.failures out.old }
+    ensures unspent { ¬ IsErrOf result RunFault.Spent }
+    ensures bounded { ConsumesAtMost (R.remaining input.old) (R.remaining input.new)
+        (input_limit + 1) }
+    ensures given { GivesAtMost (R.given input.old) (R.given input.new) (input_limit + 1) }
+    ensures failed_or_given { IsErrOf result RunFault.Read
+        → HasFailed (R.failures input.old) (R.failures input.new)
+        ⊎ GivesExactly (R.given input.old) (R.given input.new) (input_limit + 1) }
+{
+    run_laws();
+    let mut chooser = Seeded::new(alloc, seed);
+    run_on_input(alloc, program, limit, &mut chooser, input, out)
+}
+
+// A run with a chooser that goes by some answers, on the lines of an input.
+fn run_on_input<C: Chooser, R: Read, W: Write>(
+    alloc: Global,
+    program: &Program,
+    limit: u32,
+    chooser: &mut C,
+    input: &mut R,
+    out: &mut W,
+) -> Result<Ending, RunFault>
+    ensures ok { (answers : List (List ℕ) → List ℤ) → GoesBy (C.refused chooser.new)
+        (C.choices chooser.old) (C.choices chooser.new) answers program.now limit
+        → IfOk result (λ ending. IfSome (R.remaining input.old) (λ c.
+        ShowsRun (plain program.now (input_lines c) limit (answers (input_lines c)))
+        (W.contents out.old) (W.contents out.new) ending)) }
+    ensures within { OnOk result
+        (ConsumesAtMost (R.remaining input.old) (R.remaining input.new) input_limit) }
+    ensures beginning { (answers : List (List ℕ) → List ℤ) → GoesBy (C.refused chooser.new)
+        (C.choices chooser.old) (C.choices chooser.new) answers program.now limit
+        → OnErr result (IfSome (R.remaining input.old) (λ c.
+        TakesSome (W.contents out.old) (W.contents out.new)
+        (plain program.now (input_lines c) limit (answers (input_lines c))).0)) }
+    ensures read { (answers : List (List ℕ) → List ℤ) → GoesBy (C.refused chooser.new)
+        (C.choices chooser.old) (C.choices chooser.new) answers program.now limit
+        → IsErrOf result RunFault.Read → (taken : List ℕ)
+        × Consumes (R.remaining input.old) (R.remaining input.new) taken
+        × ShowsRun (plain program.now (lines_come taken) limit (answers (lines_come taken)))
+        (W.contents out.old) (W.contents out.new) Ending.NoInput }
+    ensures taken { (answers : List (List ℕ) → List ℤ) → GoesBy (C.refused chooser.new)
+        (C.choices chooser.old) (C.choices chooser.new) answers program.now limit
+        → (taken : List ℕ)
+        × Consumes (R.remaining input.old) (R.remaining input.new) taken
+        × IfSome (R.remaining input.old) (λ c. ReadsFor taken (lines_wanted
+        (lines_taken program.now (input_lines c) limit (answers (input_lines c))) result)) }
+    ensures failed { (answers : List (List ℕ) → List ℤ) → GoesBy (C.refused chooser.new)
+        (C.choices chooser.old) (C.choices chooser.new) answers program.now limit
+        → IsErrOf result RunFault.Write
+        → HasFailed (W.failures out.old) (W.failures out.new) }
+    ensures memory { (answers : List (List ℕ) → List ℤ) → GoesBy (C.refused chooser.new)
+        (C.choices chooser.old) (C.choices chooser.new) answers program.now limit
+        → IsErrOf result RunFault.Memory
+        → Appends (W.contents out.old) (W.contents out.new) []
+        ⊎ ((n : ℤ) × C.refused chooser.new Pause.Memory n) }
+    ensures unreadable { IsErrOf result RunFault.Read
+        → IsUnreadable (R.remaining input.old) (R.failures input.old) (R.failures input.new) }
+    ensures input_read { ¬ IsErrOf result RunFault.Read
+        → R.failures input.new ≡ R.failures input.old }
+    ensures unfailed { (answers : List (List ℕ) → List ℤ) → GoesBy (C.refused chooser.new)
+        (C.choices chooser.old) (C.choices chooser.new) answers program.now limit
+        → ¬ IsErrOf result RunFault.Write
+        → W.failures out.new ≡ W.failures out.old }
+    ensures unspent { (answers : List (List ℕ) → List ℤ) → GoesBy (C.refused chooser.new)
+        (C.choices chooser.old) (C.choices chooser.new) answers program.now limit
+        → ¬ IsErrOf result RunFault.Spent }
+    ensures bounded { ConsumesAtMost (R.remaining input.old) (R.remaining input.new)
+        (input_limit + 1) }
+    ensures given { GivesAtMost (R.given input.old) (R.given input.new) (input_limit + 1) }
+    ensures failed_or_given { IsErrOf result RunFault.Read
+        → HasFailed (R.failures input.old) (R.failures input.new)
+        ⊎ GivesExactly (R.given input.old) (R.given input.new) (input_limit + 1) }
+{
     let mut screen = WriterScreen::new(out);
     let mut source = ReaderLines::new(input);
-    let ended = run(
-        alloc,
-        program,
-        limit,
-        &mut chooser,
-        &mut screen,
-        &mut source,
-    );
+    let ended = run(alloc, program, limit, chooser, &mut screen, &mut source);
     // The source keeps its fault, so that it is told whatever the run has come to.
     match source.fault() {
         Some(fault) => Err(run_fault(fault)),

@@ -6,7 +6,7 @@ ghost use Rattle.ptb_text.specs.Device.{GivesAtMost, GivesExactly, HasFailed};
 ghost use Rattle.ptb_text.specs.Statements.{IsMemorySize, program_limit};
 ghost use Rattle.ptb_machine.specs.Play.{status};
 ghost use Rattle.ptb_devices.specs.Sources.{ConsumesAtMost};
-ghost use Rattle.ptb_options.specs.declared.request.Mode.TheVariants.{List as Listing, Plain};
+ghost use Rattle.ptb_options.specs.declared.request.Mode.TheVariants.{List as Listing, Plain, Seeded};
 ghost use Rattle.ptb_serve.specs.declared.note.Note.TheVariants.{Load};
 ghost use Rattle.ptb_serve.specs.PlainRuns.{IsUnreadable, input_limit};
 ghost use Rattle.ptb_serve.specs.Replies.{program_of_text, refusal, reply_in_mode, reply_to};
@@ -18,7 +18,7 @@ ghost use Rattle.ptb_serve.specs.Statuses.{note_status};
 
 use crate::all_runs::list_runs;
 use crate::note::Note;
-use crate::plain::run_plain;
+use crate::plain::{run_plain, run_seeded};
 use ptb_machine::{Ending, RunFault};
 use ptb_options::{Answers, Mode, Request};
 use ptb_text::{Read, Write, list, load};
@@ -132,6 +132,9 @@ pub fn serve<P: Read, R: Read, W: Write>(
         Mode::Plain(answers) => {
             Outcome::of(run_program(alloc, request, answers, program, input, out))
         }
+        Mode::Seeded(seed) => {
+            Outcome::of(run_by_seed(alloc, request, *seed, program, input, out))
+        }
         Mode::All { after, first } => {
             Outcome::of(list_runs(alloc, request, after, *first, program, input, out))
         }
@@ -205,6 +208,74 @@ fn run_program<P: Read, R: Read, W: Write>(
     match run_plain(alloc, &program, answers, request.steps, input, out) {
         Ok(ending) => Ok(ending_status(ending)),
         Err(fault) => Err(run_note(fault)),
+    }
+}
+
+// Loads the program, and runs it with the answers of this seed. The status is that of its ending.
+fn run_by_seed<P: Read, R: Read, W: Write>(
+    alloc: Global,
+    request: &Request,
+    seed: u64,
+    program: &mut P,
+    input: &mut R,
+    out: &mut W,
+) -> Result<u8, Note>
+    requires { IsMemorySize request.now.memory }
+    ensures served { (c : List ℕ) → R.remaining input.old ≡ Some c
+        → IfSome (P.remaining program.old) (λ b.
+        Serves (reply_in_mode (Seeded seed) request.now b c)
+        (W.contents out.old) (W.contents out.new) (outcome_of result)) }
+    ensures refused { IfSome (P.remaining program.old) (λ b.
+        IfErr (program_of_text request.now.memory b) (λ e. Serves (refusal (Load e.0 e.1))
+        (W.contents out.old) (W.contents out.new) (outcome_of result))) }
+    ensures load_first { IfSome (P.remaining program.old) (λ b.
+        IfErr (program_of_text request.now.memory b)
+        (λ _. (input.new ≡ input.old) × ¬ IsErrOf result Note.InputUnread)) }
+    ensures done { IfOk result (λ status. status ≤ 7) }
+    ensures within { OnOk result
+        (ConsumesAtMost (R.remaining input.old) (R.remaining input.new) input_limit) }
+    ensures taken { IfSome (P.remaining program.old) (λ b. IfSome (R.remaining input.old) (λ c.
+        ReadsForRun (Seeded seed) request.now b c (R.remaining input.new) (outcome_of result))) }
+    ensures unread { IsErrOf result Note.InputUnread → IfSome (P.remaining program.old) (λ b.
+        ServesUnread (Seeded seed) request.now
+        (R.remaining input.old) (R.remaining input.new) b
+        (W.contents out.old) (W.contents out.new)) }
+    ensures no_start { ¬ IsErrOf result Note.NoRun }
+    ensures program_bounded { ConsumesAtMost
+        (P.remaining program.old) (P.remaining program.new) (program_limit + 1) }
+    ensures input_bounded { ConsumesAtMost
+        (R.remaining input.old) (R.remaining input.new) (input_limit + 1) }
+    ensures tells_refusal { TellsRefusal request.now.memory (P.remaining program.old)
+        (outcome_of result).note }
+    ensures tells_length { TellsLength (P.given program.old) (P.given program.new)
+        (outcome_of result).note }
+    ensures unloaded { IsUnloaded (outcome_of result).note → input.new ≡ input.old }
+    ensures program_given { GivesAtMost
+        (P.given program.old) (P.given program.new) (program_limit + 1) }
+    ensures input_given { GivesAtMost
+        (R.given input.old) (R.given input.new) (input_limit + 1) }
+    ensures silent { SilentBy (Seeded seed) (outcome_of result).note
+        (W.contents out.old) (W.contents out.new) }
+    ensures program_unread { IsErrOf result Note.ProgramUnread
+        → HasFailed (P.failures program.old) (P.failures program.new) }
+    ensures program_read { ¬ IsErrOf result Note.ProgramUnread
+        → P.failures program.new ≡ P.failures program.old }
+    ensures input_unread { IsErrOf result Note.InputUnread
+        → IsUnreadable (R.remaining input.old) (R.failures input.old) (R.failures input.new) }
+    ensures input_failed_or_given { IsErrOf result Note.InputUnread
+        → HasFailed (R.failures input.old) (R.failures input.new)
+        ⊎ GivesExactly (R.given input.old) (R.given input.new) (input_limit + 1) }
+    ensures input_read { ¬ IsErrOf result Note.InputUnread
+        → R.failures input.new ≡ R.failures input.old }
+    ensures unwritten { IsErrOf result Note.Unwritten
+        → HasFailed (W.failures out.old) (W.failures out.new) }
+    ensures written { ¬ IsErrOf result Note.Unwritten
+        → W.failures out.new ≡ W.failures out.old }
+{
+    let program = load(alloc, request.memory, program)?;
+    match run_seeded(alloc, &program, seed, request.steps, input, out) {
+        Ok(ending) => Ok(ending_status(ending)),
+        Err(broken) => Err(run_note(broken)),
     }
 }
 

@@ -9,6 +9,7 @@ use Rattle.ptb.proofs.serve_without_input.Goals as goal
 -- an input without bytes, whether the mode reads it or not
 no_bytes : (mode : Mode) (held : List ℕ) → held ≡ [] → IsInput mode (Some held) []
 no_bytes (modes.Plain a) held e = ap Some e
+no_bytes (modes.Seeded seed) held e = ap Some e
 no_bytes (modes.All after first) held e = ap Some e
 no_bytes modes.List held e = tt
 

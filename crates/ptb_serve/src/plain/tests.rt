@@ -1,4 +1,4 @@
-// This file tests plain runs that end, and that can't be read or written.
+// This file tests runs that end, and that can't be read or written.
 
 use super::*;
 use ptb_text::{Device, LoadFault};
@@ -52,6 +52,54 @@ fn endings(rt: HostRuntime) -> Result<(), Fail> {
     Ok(())
 }
 
+// A run by a seed has an answer to each question.
+#[test]
+fn seeded_endings(rt: HostRuntime) -> Result<(), Fail> {
+    for (seed, line, ending, shown) in [
+        (0, &b"10 P.RND(2)"[..], Ending::End, &b"     2\n"[..]),
+        (7, b"10 P.RND(2)", Ending::End, b"     1\n"),
+        (7, b"10 P.RND(6),RND(6)", Ending::End, b"     3     5\n"),
+        (
+            4294967295,
+            b"10 P.RND(6),RND(6)",
+            Ending::End,
+            b"     4     2\n",
+        ),
+        (7, b"10 P.RND(1);INPUT A", Ending::NoInput, b"     1\nA:"),
+        (7, b"10 A=RND(2);GOTO 10", Ending::Limit, b""),
+        (7, b"10 A=RND(0)", Ending::How, b"HOW?\n10 A=RND(0)?\n"),
+    ] {
+        let program = one_line(rt.alloc(), line)?;
+        let mut input = Device::new(&b""[..]);
+        let mut shown_bytes = Vec::new(rt.alloc());
+        let mut out = Device::new(&mut shown_bytes);
+        let result = run_seeded(rt.alloc(), &program, seed, 10, &mut input, &mut out);
+        assert_eq!(rt; result, Ok(ending));
+        assert_eq!(rt; shown_bytes.as_slice(), shown);
+    }
+    Ok(())
+}
+
+// Passes whichever of its allocations is refused: a beginning is shown then.
+#[test]
+fn refused_seeded_runs(rt: HostRuntime) {
+    let Ok(program) = one_line(rt.alloc(), b"10 F.I=1TO40;P.#1,RND(1);N.I") else {
+        return;
+    };
+    let mut input = Device::new(&b""[..]);
+    let mut shown = [0; 80];
+    let mut out = Device::new(&mut shown[..]);
+    match run_seeded(rt.alloc(), &program, 7, 200, &mut input, &mut out) {
+        Ok(ending) => assert_eq!(rt; ending, Ending::End),
+        Err(fault) => assert_eq!(rt; fault, RunFault::Memory),
+    }
+    let mut ended = false;
+    for pair in shown.as_chunks::<2>().0 {
+        assert!(rt; *pair == *b"1\n" && !ended || *pair == [0, 0], "{pair:?}");
+        ended = *pair == [0, 0];
+    }
+}
+
 #[test]
 fn broken_devices(rt: HostRuntime) -> Result<(), Fail> {
     let program = one_line(rt.alloc(), b"10 P.;INPUT A")?;
@@ -71,6 +119,15 @@ fn broken_devices(rt: HostRuntime) -> Result<(), Fail> {
     let mut input = Device::new(&b""[..]);
     let mut broken = Device::new(Broken);
     let unwritten = run_plain(rt.alloc(), &program, &[], 10, &mut input, &mut broken);
+    assert_eq!(rt; unwritten, Err(RunFault::Write));
+
+    let mut unread_input = Device::new(Broken);
+    let mut shown = Vec::new(rt.alloc());
+    let mut out = Device::new(&mut shown);
+    let unread = run_seeded(rt.alloc(), &program, 7, 10, &mut unread_input, &mut out);
+    assert_eq!(rt; unread, Err(RunFault::Read));
+    assert_eq!(rt; shown.as_slice(), b"\nA:".as_slice());
+    let unwritten = run_seeded(rt.alloc(), &program, 7, 10, &mut input, &mut broken);
     assert_eq!(rt; unwritten, Err(RunFault::Write));
     Ok(())
 }

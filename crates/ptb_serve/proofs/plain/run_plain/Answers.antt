@@ -1,197 +1,35 @@
--- This file answers what is left to prove of `run_plain`.
-use Rattle.std.proofs.Common.{◌≡◌, ◌≤◌, List, ℕ, [], ◌++◌, length, Some, None, Ok, Err, IsErrOf, refl, sym, subst, ◌∙◌}
-use Rattle.ptb_command.specs.declared.ending.Ending.TheVariants as endings
-use Rattle.ptb_devices.specs.Inputs.{InputState, known_lines, ReadsOn, Refuses, asked, fault_at}
-use Rattle.ptb_devices.specs.Readers.{line_input, line_reader, input_of}
-use Rattle.ptb_devices.specs.Sources.{NoneLeft}
-use Rattle.ptb_machine.specs.declared.fault.RunFault.TheVariants as runs
-use Rattle.ptb_machine.specs.Runs.{UnlessRunMissed}
-use Rattle.ptb_serve.specs.PlainRuns.{lines_taken, run_fault}
-use Rattle.ptb_serve.proofs.Playing.{IsRunBetween, plain_run, plain_run_takes, plain_run_dry, run_between, state_of}
-use Rattle.ptb_serve.proofs.Taking.{fresh, fault_without_memory, never_unread, where_ok, where_err, taken_by, shows_input, begins_input, shows_come, fault_asked, wanted_within, wanted_at_fault, reads_for, takes_within}
+-- This file answers that a run with a list of answers is the plain run with this list.
+use Rattle.ptb_serve.proofs.Answering.{goes_by_list, none_refused}
 use Rattle.ptb_serve.proofs.plain.run_plain.Goals as goal
-use Rattle.ptb_serve.proofs.plain.run_plain.Goals.{After-run_fault, In-None}
 
--- ---- where the source has come to a fault
+pub returns-clause-ok : goal.returns-clause-ok
+returns-clause-ok g c = c.run_on_input.ensures.ok (λ _. c.args.answers.now)
+    (goes_by_list c.args.answers.now c.new-chooser.result c.run_on_input.new.chooser c.args.program.now c.args.limit c.new-chooser.ensures)
 
--- what the source took of the input
-on_some : (g : _) (c : After-run_fault g)
-    → ReadsOn (asked (line_input c.run-ended.new.source)) (fresh (g.R.Read.remaining c.args.input.now) (g.R.Read.given c.args.input.now) (g.R.Read.failures c.args.input.now))
-    c.run-ended.ensures.runs.0 (input_of g.R.Read.remaining g.R.Read.given g.R.Read.failures c.run-ended.new.source)
-on_some g c =
-    taken_by g.R.Read.remaining g.R.Read.given g.R.Read.failures c.new-source.result c.run-ended.new.source c.run-ended.ensures.runs.0 c.args.input.now
-    c.new-source.ensures.input c.new-source.ensures.reader c.run-ended.ensures.runs.1.0
+pub returns-clause-beginning : goal.returns-clause-beginning
+returns-clause-beginning g c = c.run_on_input.ensures.beginning (λ _. c.args.answers.now)
+    (goes_by_list c.args.answers.now c.new-chooser.result c.run_on_input.new.chooser c.args.program.now c.args.limit c.new-chooser.ensures)
 
--- the reader that the source leaves
-ends_some : (g : _) (c : After-run_fault g) → c.input-1.given.0 ≡ (line_reader c.run-ended.new.source).now
-ends_some g c = c.input-1.given.1 (sym c.new-source.ensures.same_borrow ∙ sym c.run-ended.ensures.runs.1.0.same_borrow)
+pub returns-clause-read : goal.returns-clause-read
+returns-clause-read g c = c.run_on_input.ensures.read (λ _. c.args.answers.now)
+    (goes_by_list c.args.answers.now c.new-chooser.result c.run_on_input.new.chooser c.args.program.now c.args.limit c.new-chooser.ensures)
 
--- what is said of the run, whatever lines stand behind those that it was given
-between_some : (g : _) (c : After-run_fault g) (behind : List (List ℕ))
-    → (NoneLeft (known_lines (input_of g.R.Read.remaining g.R.Read.given g.R.Read.failures c.run-ended.new.source)) → behind ≡ [])
-    → IsRunBetween g.W.Write.contents g.W.Write.failures c.args.program.now c.args.limit (c.run-ended.ensures.runs.0 ++ behind) c.args.answers.now c.args.out.now c.out-1.given.0 c.run-ended.result
-between_some g c behind none =
-    let contents = g.W.Write.contents in
-    let failures = g.W.Write.failures in
-    run_between contents failures _ _ _ _ c.new-screen.result.writer c.run-ended.new.screen.writer _ _ c.run-ended.result
-    c.new-screen.ensures.writer (λ e. c.out-1.given.1 (sym c.new-screen.ensures.same_borrow ∙ e))
-    (plain_run c.args.program.now c.args.limit c.args.answers.now c.new-chooser.result c.run-ended.new.chooser
-    (state_of contents failures c.new-screen.result.writer) (state_of contents failures c.run-ended.new.screen.writer) c.run-ended.ensures.runs.0
-    (Refuses (line_input c.run-ended.new.source).end) (known_lines (input_of g.R.Read.remaining g.R.Read.given g.R.Read.failures c.run-ended.new.source)) c.run-ended.result
-    c.new-chooser.ensures refl (fault_without_memory (line_input c.run-ended.new.source).end) c.run-ended.ensures.runs.1.1 behind none)
+pub returns-clause-taken : goal.returns-clause-taken
+returns-clause-taken g c = c.run_on_input.ensures.taken (λ _. c.args.answers.now)
+    (goes_by_list c.args.answers.now c.new-chooser.result c.run_on_input.new.chooser c.args.program.now c.args.limit c.new-chooser.ensures)
 
--- it took the lines that it was given
-takes_some : (g : _) (c : After-run_fault g) (behind : List (List ℕ))
-    → (NoneLeft (known_lines (input_of g.R.Read.remaining g.R.Read.given g.R.Read.failures c.run-ended.new.source)) → behind ≡ [])
-    → length c.run-ended.ensures.runs.0 ≤ lines_taken c.args.program.now (c.run-ended.ensures.runs.0 ++ behind) c.args.limit c.args.answers.now
-takes_some g c behind none =
-    let contents = g.W.Write.contents in
-    let failures = g.W.Write.failures in
-    plain_run_takes c.args.program.now c.args.limit c.args.answers.now c.new-chooser.result c.run-ended.new.chooser
-    (state_of contents failures c.new-screen.result.writer) (state_of contents failures c.run-ended.new.screen.writer) c.run-ended.ensures.runs.0
-    (Refuses (line_input c.run-ended.new.source).end) (known_lines (input_of g.R.Read.remaining g.R.Read.given g.R.Read.failures c.run-ended.new.source)) c.run-ended.result
-    c.new-chooser.ensures refl (fault_without_memory (line_input c.run-ended.new.source).end) c.run-ended.ensures.runs.1.1 behind none
+pub returns-clause-failed : goal.returns-clause-failed
+returns-clause-failed g c = c.run_on_input.ensures.failed (λ _. c.args.answers.now)
+    (goes_by_list c.args.answers.now c.new-chooser.result c.run_on_input.new.chooser c.args.program.now c.args.limit c.new-chooser.ensures)
 
--- and asked for one more at most where it says so
-missed_some : (g : _) (c : After-run_fault g) → UnlessRunMissed (Refuses (line_input c.run-ended.new.source).end) (asked (line_input c.run-ended.new.source) ≤ 0) c.run-ended.result
-missed_some g c =
-    subst (λ (s : InputState). UnlessRunMissed (Refuses (line_input c.run-ended.new.source).end) (asked (line_input c.run-ended.new.source) ≤ asked s) c.run-ended.result)
-    c.new-source.ensures.input c.run-ended.ensures.missed
+pub returns-clause-unfailed : goal.returns-clause-unfailed
+returns-clause-unfailed g c = c.run_on_input.ensures.unfailed (λ _. c.args.answers.now)
+    (goes_by_list c.args.answers.now c.new-chooser.result c.run_on_input.new.chooser c.args.program.now c.args.limit c.new-chooser.ensures)
 
--- the fault, as the input has it
-fault_is : (g : _) (c : After-run_fault g) → fault_at (line_input c.run-ended.new.source).end ≡ Some c.in-Some.fault
-fault_is g c = sym c.fault.ensures ∙ c.in-Some.is
+pub returns-clause-unspent : goal.returns-clause-unspent
+returns-clause-unspent g c = c.run_on_input.ensures.unspent (λ _. c.args.answers.now)
+    (goes_by_list c.args.answers.now c.new-chooser.result c.run_on_input.new.chooser c.args.program.now c.args.limit c.new-chooser.ensures)
 
--- on the lines that it was given it ends for want of one
-dry_some : (g : _) (c : After-run_fault g)
-    → IsRunBetween g.W.Write.contents g.W.Write.failures c.args.program.now c.args.limit (c.run-ended.ensures.runs.0 ++ []) c.args.answers.now c.args.out.now c.out-1.given.0 (Ok endings.NoInput)
-dry_some g c =
-    let contents = g.W.Write.contents in
-    let failures = g.W.Write.failures in
-    run_between contents failures _ _ _ _ c.new-screen.result.writer c.run-ended.new.screen.writer _ _ (Ok endings.NoInput)
-    c.new-screen.ensures.writer (λ e. c.out-1.given.1 (sym c.new-screen.ensures.same_borrow ∙ e))
-    (plain_run_dry c.args.program.now c.args.limit c.args.answers.now c.new-chooser.result c.run-ended.new.chooser
-    (state_of contents failures c.new-screen.result.writer) (state_of contents failures c.run-ended.new.screen.writer) c.run-ended.ensures.runs.0
-    (Refuses (line_input c.run-ended.new.source).end) (known_lines (input_of g.R.Read.remaining g.R.Read.given g.R.Read.failures c.run-ended.new.source)) c.run-ended.result
-    c.new-chooser.ensures (fault_without_memory (line_input c.run-ended.new.source).end) c.run-ended.ensures.runs.1.1
-    (asked (line_input c.run-ended.new.source) ≤ 0) (fault_asked (line_input c.run-ended.new.source) c.in-Some.fault (fault_is g c)) (missed_some g c))
-
-pub returns-in-Some-clause-beginning : goal.returns-in-Some-clause-beginning
-returns-in-Some-clause-beginning g c =
-    begins_input g.W.Write.contents g.W.Write.failures c.args.program.now c.args.limit c.args.answers.now c.args.out.now c.out-1.given.0 c.run-ended.result
-    (asked (line_input c.run-ended.new.source)) (g.R.Read.given c.args.input.now) (g.R.Read.failures c.args.input.now) _ c.run-ended.ensures.runs.0 (between_some g c) _ (on_some g c)
-
-pub returns-in-Some-clause-read : goal.returns-in-Some-clause-read
-returns-in-Some-clause-read g c = λ _. rw (ends_some g c) (
-  (on_some g c).taken,
-  (on_some g c).consumed,
-  shows_come g.W.Write.contents g.W.Write.failures c.args.program.now c.args.limit c.args.answers.now c.args.out.now c.out-1.given.0
-      (asked (line_input c.run-ended.new.source)) (g.R.Read.given c.args.input.now) (g.R.Read.failures c.args.input.now) _ c.run-ended.ensures.runs.0 _ (on_some g c)
-      c.in-Some.fault (fault_is g c) (dry_some g c),
-)
-
-pub returns-in-Some-clause-taken : goal.returns-in-Some-clause-taken
-returns-in-Some-clause-taken g c = rw (ends_some g c, c.run_fault.ensures) (
-  (on_some g c).taken,
-  (on_some g c).consumed,
-  reads_for c.args.program.now c.args.limit c.args.answers.now (asked (line_input c.run-ended.new.source)) (g.R.Read.given c.args.input.now) (g.R.Read.failures c.args.input.now) _ c.run-ended.ensures.runs.0
-      (takes_some g c) (Err (run_fault c.in-Some.fault)) (wanted_at_fault (line_input c.run-ended.new.source) c.in-Some.fault (fault_is g c)) _ (on_some g c),
-)
-
-pub returns-in-Some-clause-unfailed : goal.returns-in-Some-clause-unfailed
-returns-in-Some-clause-unfailed g c = λ _. (dry_some g c).unfailed (λ f. cc)
-
--- ---- where it has come to none
-
--- what the source took of the input
-on_none : (g : _) (c : In-None g)
-    → ReadsOn (asked (line_input c.run-ended.new.source)) (fresh (g.R.Read.remaining c.args.input.now) (g.R.Read.given c.args.input.now) (g.R.Read.failures c.args.input.now))
-    c.run-ended.ensures.runs.0 (input_of g.R.Read.remaining g.R.Read.given g.R.Read.failures c.run-ended.new.source)
-on_none g c =
-    taken_by g.R.Read.remaining g.R.Read.given g.R.Read.failures c.new-source.result c.run-ended.new.source c.run-ended.ensures.runs.0 c.args.input.now
-    c.new-source.ensures.input c.new-source.ensures.reader c.run-ended.ensures.runs.1.0
-
--- the reader that the source leaves
-ends_none : (g : _) (c : In-None g) → c.input-1.given.0 ≡ (line_reader c.run-ended.new.source).now
-ends_none g c = c.input-1.given.1 (sym c.new-source.ensures.same_borrow ∙ sym c.run-ended.ensures.runs.1.0.same_borrow)
-
--- what is said of the run, whatever lines stand behind those that it was given
-between_none : (g : _) (c : In-None g) (behind : List (List ℕ))
-    → (NoneLeft (known_lines (input_of g.R.Read.remaining g.R.Read.given g.R.Read.failures c.run-ended.new.source)) → behind ≡ [])
-    → IsRunBetween g.W.Write.contents g.W.Write.failures c.args.program.now c.args.limit (c.run-ended.ensures.runs.0 ++ behind) c.args.answers.now c.args.out.now c.out-1.given.0 c.run-ended.result
-between_none g c behind none =
-    let contents = g.W.Write.contents in
-    let failures = g.W.Write.failures in
-    run_between contents failures _ _ _ _ c.new-screen.result.writer c.run-ended.new.screen.writer _ _ c.run-ended.result
-    c.new-screen.ensures.writer (λ e. c.out-1.given.1 (sym c.new-screen.ensures.same_borrow ∙ e))
-    (plain_run c.args.program.now c.args.limit c.args.answers.now c.new-chooser.result c.run-ended.new.chooser
-    (state_of contents failures c.new-screen.result.writer) (state_of contents failures c.run-ended.new.screen.writer) c.run-ended.ensures.runs.0
-    (Refuses (line_input c.run-ended.new.source).end) (known_lines (input_of g.R.Read.remaining g.R.Read.given g.R.Read.failures c.run-ended.new.source)) c.run-ended.result
-    c.new-chooser.ensures refl (fault_without_memory (line_input c.run-ended.new.source).end) c.run-ended.ensures.runs.1.1 behind none)
-
--- it took the lines that it was given
-takes_none : (g : _) (c : In-None g) (behind : List (List ℕ))
-    → (NoneLeft (known_lines (input_of g.R.Read.remaining g.R.Read.given g.R.Read.failures c.run-ended.new.source)) → behind ≡ [])
-    → length c.run-ended.ensures.runs.0 ≤ lines_taken c.args.program.now (c.run-ended.ensures.runs.0 ++ behind) c.args.limit c.args.answers.now
-takes_none g c behind none =
-    let contents = g.W.Write.contents in
-    let failures = g.W.Write.failures in
-    plain_run_takes c.args.program.now c.args.limit c.args.answers.now c.new-chooser.result c.run-ended.new.chooser
-    (state_of contents failures c.new-screen.result.writer) (state_of contents failures c.run-ended.new.screen.writer) c.run-ended.ensures.runs.0
-    (Refuses (line_input c.run-ended.new.source).end) (known_lines (input_of g.R.Read.remaining g.R.Read.given g.R.Read.failures c.run-ended.new.source)) c.run-ended.result
-    c.new-chooser.ensures refl (fault_without_memory (line_input c.run-ended.new.source).end) c.run-ended.ensures.runs.1.1 behind none
-
--- and asked for one more at most where it says so
-missed_none : (g : _) (c : In-None g) → UnlessRunMissed (Refuses (line_input c.run-ended.new.source).end) (asked (line_input c.run-ended.new.source) ≤ 0) c.run-ended.result
-missed_none g c =
-    subst (λ (s : InputState). UnlessRunMissed (Refuses (line_input c.run-ended.new.source).end) (asked (line_input c.run-ended.new.source) ≤ asked s) c.run-ended.result)
-    c.new-source.ensures.input c.run-ended.ensures.missed
-
-no_fault : (g : _) (c : In-None g) → fault_at (line_input c.run-ended.new.source).end ≡ None
-no_fault g c = sym c.fault.ensures ∙ c.in-None.is
-
--- so the run doesn't say that a line could not be read
-not_unread : (g : _) (c : In-None g) → IsErrOf c.run-ended.result runs.Read → ⊥
-not_unread g c = never_unread _ _ _ _ _ _ _ (no_fault g c) c.run-ended.result (c.run-ended.ensures.runs.1.1 [])
-
-pub returns-in-None-clause-ok : goal.returns-in-None-clause-ok
-returns-in-None-clause-ok g c =
-    shows_input g.W.Write.contents g.W.Write.failures c.args.program.now c.args.limit c.args.answers.now c.args.out.now c.out-1.given.0 c.run-ended.result
-    (asked (line_input c.run-ended.new.source)) (g.R.Read.given c.args.input.now) (g.R.Read.failures c.args.input.now) _ c.run-ended.ensures.runs.0 (between_none g c) _ (on_none g c)
-
-pub returns-in-None-clause-within : goal.returns-in-None-clause-within
-returns-in-None-clause-within g c = rw (ends_none g c) (where_ok c.run-ended.result _ (takes_within _ _ _ _ _ _ (on_none g c) (no_fault g c)))
-
-pub returns-in-None-clause-beginning : goal.returns-in-None-clause-beginning
-returns-in-None-clause-beginning g c = where_err c.run-ended.result _ (
-    begins_input g.W.Write.contents g.W.Write.failures c.args.program.now c.args.limit c.args.answers.now c.args.out.now c.out-1.given.0 c.run-ended.result
-    (asked (line_input c.run-ended.new.source)) (g.R.Read.given c.args.input.now) (g.R.Read.failures c.args.input.now) _ c.run-ended.ensures.runs.0 (between_none g c) _ (on_none g c))
-
-pub returns-in-None-clause-read : goal.returns-in-None-clause-read
-returns-in-None-clause-read g c = λ e. absurd (not_unread g c e)
-
-pub returns-in-None-clause-taken : goal.returns-in-None-clause-taken
-returns-in-None-clause-taken g c = rw (ends_none g c) (
-  (on_none g c).taken,
-  (on_none g c).consumed,
-  reads_for c.args.program.now c.args.limit c.args.answers.now (asked (line_input c.run-ended.new.source)) (g.R.Read.given c.args.input.now) (g.R.Read.failures c.args.input.now) _ c.run-ended.ensures.runs.0
-      (takes_none g c) c.run-ended.result (wanted_within (line_input c.run-ended.new.source) c.run-ended.result (missed_none g c)) _ (on_none g c),
-)
-
-pub returns-in-None-clause-failed : goal.returns-in-None-clause-failed
-returns-in-None-clause-failed g c = (between_none g c [] (λ _. refl)).failed
-
-pub returns-in-None-clause-memory : goal.returns-in-None-clause-memory
-returns-in-None-clause-memory g c = (between_none g c [] (λ _. refl)).memory
-
-pub returns-in-None-clause-unreadable : goal.returns-in-None-clause-unreadable
-returns-in-None-clause-unreadable g c = λ e. absurd (not_unread g c e)
-
-pub returns-in-None-clause-unfailed : goal.returns-in-None-clause-unfailed
-returns-in-None-clause-unfailed g c = (between_none g c [] (λ _. refl)).unfailed
-
-pub returns-in-None-clause-unspent : goal.returns-in-None-clause-unspent
-returns-in-None-clause-unspent g c = (between_none g c [] (λ _. refl)).unspent
-
-pub returns-in-None-clause-failed_or_given : goal.returns-in-None-clause-failed_or_given
-returns-in-None-clause-failed_or_given g c = λ e. absurd (not_unread g c e)
+pub returns-clause-memory : goal.returns-clause-memory
+returns-clause-memory g c = λ h. none_refused c.run_on_input.new.chooser (c.run_on_input.ensures.memory (λ _. c.args.answers.now)
+    (goes_by_list c.args.answers.now c.new-chooser.result c.run_on_input.new.chooser c.args.program.now c.args.limit c.new-chooser.ensures) h)

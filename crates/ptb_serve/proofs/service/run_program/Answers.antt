@@ -2,6 +2,9 @@
 use Rattle.std.proofs.Common.{Ok, Err, refl}
 use Rattle.std.proofs.lemmas.Result.{err_from_is_err_and}
 use Rattle.ptb_serve.specs.Replies.{listing_reply, plain_reply}
+use Rattle.ptb_machine.specs.Play.{plain}
+use Rattle.ptb_text.specs.Lines.{input_lines}
+use Rattle.ptb_serve.specs.PlainRuns.{lines_taken}
 use Rattle.ptb_serve.specs.Serving.{load_note, outcome_of}
 use Rattle.ptb_serve.proofs.Served.{IsRunNote-loaded, IsRunNote-read, IsRunNote-start, IsRunNote-unread, IsRunNote-write, consumes_nothing, consumes_some, load_note-input, load_note-length, load_note-refusal, load_note-start, loaded_unrefused, serves_unloaded, serves_loaded, serves_refusal, serves_ended, serves_stopped, silent_stopped, unread_loaded, reads_nothing_for, taken_answers, reads_loaded, wanted_ended, wanted_stopped, when_refused}
 use Rattle.ptb_serve.proofs.service.run_program.Goals as goal
@@ -18,14 +21,14 @@ returns-in-Ok-clause-served g c = λ i is.
     let h = rw c.as_slice-answers.ensures at c.in-Ok.ensures.ok in
     serves_loaded _ _ (plain_reply c.args.request.now.steps c.args.answers.now i) c.in_ok-program.program _ _ (Ok c.ending_status.result)
     c.in_ok-program.ensures.ok c.in_ok-program.ensures.memory
-    (serves_ended c.in_ok-program.program c.args.request.now.steps c.args.answers.now _ i _ _ c.in-Ok.ending c.ending_status.result c.ending_status.ensures is h)
+    (serves_ended (λ lines. plain c.in_ok-program.program lines c.args.request.now.steps c.args.answers.now) _ i _ _ c.in-Ok.ending c.ending_status.result c.ending_status.ensures is h)
 
 pub returns-clause-served : goal.returns-clause-served
 returns-clause-served g c = λ i is.
     let begins = rw c.as_slice-answers.ensures at c.in-Err.ensures.beginning in
     serves_loaded _ _ (plain_reply c.args.request.now.steps c.args.answers.now i) c.in_ok-program.program _ _ (Err c.run_note.result)
     c.in_ok-program.ensures.ok c.in_ok-program.ensures.memory
-    (serves_stopped c.in_ok-program.program c.args.request.now.steps c.args.answers.now _ i _ _ c.in-Err.fault c.run_note.result is c.run_note.ensures begins)
+    (serves_stopped (λ lines. plain c.in_ok-program.program lines c.args.request.now.steps c.args.answers.now) _ i _ _ c.in-Err.fault c.run_note.result is c.run_note.ensures begins)
 
 -- ---- an input that can't be read
 
@@ -40,7 +43,7 @@ returns-in-Ok-clause-unread g c = λ h. absurd cc
 pub returns-clause-unread : goal.returns-clause-unread
 returns-clause-unread g c = λ h.
     let shown = rw c.as_slice-answers.ensures at (c.in-Err.ensures.read (IsRunNote-unread c.in-Err.fault c.run_note.result c.run_note.ensures h)) in
-    unread_loaded _ _ c.args.request.now.steps c.args.answers.now c.in_ok-program.program _ _ _ _ c.in_ok-program.ensures.ok c.in_ok-program.ensures.memory shown
+    unread_loaded _ _ (λ p lines. plain p lines c.args.request.now.steps c.args.answers.now) c.in_ok-program.program _ _ _ _ c.in_ok-program.ensures.ok c.in_ok-program.ensures.memory shown
 
 pub returns-clause-silent : goal.returns-clause-silent
 returns-clause-silent g c = silent_stopped c.args.answers.now _ _ c.in-Err.fault c.run_note.result c.run_note.ensures c.in-Err.ensures.memory
@@ -128,14 +131,14 @@ returns-clause-unloaded g c = λ h. absurd (IsRunNote-loaded c.in-Err.fault c.ru
 -- ---- what is taken of the input
 
 pub returns-in_err-program-clause-taken : goal.returns-in_err-program-clause-taken
-returns-in_err-program-clause-taken g c = reads_nothing_for c.args.answers.now c.args.request.now _ _ (outcome_of c.from_residual.result)
+returns-in_err-program-clause-taken g c = reads_nothing_for (λ p b. lines_taken p (input_lines b) c.args.request.now.steps c.args.answers.now) c.args.request.now.memory _ _ (outcome_of c.from_residual.result)
 
 pub returns-in-Ok-clause-taken : goal.returns-in-Ok-clause-taken
 returns-in-Ok-clause-taken g c =
-    reads_loaded c.args.answers.now c.args.request.now _ _ _ c.in_ok-program.program (outcome_of (Ok c.ending_status.result)) (Ok c.in-Ok.ending) c.in_ok-program.ensures.ok c.in_ok-program.ensures.memory
+    reads_loaded (λ p b. lines_taken p (input_lines b) c.args.request.now.steps c.args.answers.now) c.args.request.now.memory _ _ _ c.in_ok-program.program (outcome_of (Ok c.ending_status.result)) (Ok c.in-Ok.ending) c.in_ok-program.ensures.ok c.in_ok-program.ensures.memory
     (wanted_ended c.in-Ok.ending c.ending_status.result c.ending_status.ensures) (taken_answers c.in_ok-program.program c.args.request.now.steps _ _ (Ok c.in-Ok.ending) _ _ c.as_slice-answers.ensures c.in-Ok.ensures.taken)
 
 pub returns-clause-taken : goal.returns-clause-taken
 returns-clause-taken g c =
-    reads_loaded c.args.answers.now c.args.request.now _ _ _ c.in_ok-program.program (outcome_of (Err c.run_note.result)) (Err c.in-Err.fault) c.in_ok-program.ensures.ok c.in_ok-program.ensures.memory
+    reads_loaded (λ p b. lines_taken p (input_lines b) c.args.request.now.steps c.args.answers.now) c.args.request.now.memory _ _ _ c.in_ok-program.program (outcome_of (Err c.run_note.result)) (Err c.in-Err.fault) c.in_ok-program.ensures.ok c.in_ok-program.ensures.memory
     (wanted_stopped c.in-Err.fault c.run_note.result c.run_note.ensures) (taken_answers c.in_ok-program.program c.args.request.now.steps _ _ (Err c.in-Err.fault) _ _ c.as_slice-answers.ensures c.in-Err.ensures.taken)

@@ -89,3 +89,46 @@ returns-in-All-clause-input_failed_or_given g c = rw c.of-in-All.ensures (λ is.
 
 pub returns-in-Plain-clause-taken : goal.returns-in-Plain-clause-taken
 returns-in-Plain-clause-taken g c = rw (c.of.ensures, c.in-Plain.is) c.run_program.ensures.taken
+
+-- ---- a run by a seed
+
+pub returns-in-Seeded-clause-served : goal.returns-in-Seeded-clause-served
+returns-in-Seeded-clause-served g c = λ i is.
+    let known = rw c.in-Seeded.is at is in
+    rw (c.of-in-Seeded.ensures, c.in-Seeded.is) (c.run_by_seed.ensures.served i known)
+
+pub returns-in-Seeded-clause-refused : goal.returns-in-Seeded-clause-refused
+returns-in-Seeded-clause-refused g c = rw c.of-in-Seeded.ensures c.run_by_seed.ensures.refused
+
+pub returns-in-Seeded-clause-load_first : goal.returns-in-Seeded-clause-load_first
+returns-in-Seeded-clause-load_first g c = rw c.of-in-Seeded.ensures (outcome_of-unread _ _ _ c.run_by_seed.result notes.InputUnread c.run_by_seed.ensures.load_first)
+
+pub returns-in-Seeded-clause-success : goal.returns-in-Seeded-clause-success
+returns-in-Seeded-clause-success g c = λ h. absurd (h (rw c.in-Seeded.is tt))
+
+pub returns-in-Seeded-clause-within : goal.returns-in-Seeded-clause-within
+returns-in-Seeded-clause-within g c = λ h. absurd (rw c.in-Seeded.is at h)
+
+pub returns-in-Seeded-clause-taken_within : goal.returns-in-Seeded-clause-taken_within
+returns-in-Seeded-clause-taken_within g c = λ _. rw c.of-in-Seeded.ensures (outcome_of-none c.run_by_seed.result _ c.run_by_seed.ensures.within)
+
+pub returns-in-Seeded-clause-unread : goal.returns-in-Seeded-clause-unread
+returns-in-Seeded-clause-unread g c = rw (c.of-in-Seeded.ensures, c.in-Seeded.is) (λ is. c.run_by_seed.ensures.unread (outcome_of-note c.run_by_seed.result notes.InputUnread is))
+
+pub returns-in-Seeded-clause-no_run_within : goal.returns-in-Seeded-clause-no_run_within
+returns-in-Seeded-clause-no_run_within g c = rw c.of-in-Seeded.ensures (λ is. absurd (c.run_by_seed.ensures.no_start (outcome_of-note c.run_by_seed.result notes.NoRun is)))
+
+pub returns-in-Seeded-clause-tells_refusal : goal.returns-in-Seeded-clause-tells_refusal
+returns-in-Seeded-clause-tells_refusal g c = rw c.of-in-Seeded.ensures c.run_by_seed.ensures.tells_refusal
+
+pub returns-in-Seeded-clause-tells_length : goal.returns-in-Seeded-clause-tells_length
+returns-in-Seeded-clause-tells_length g c = rw c.of-in-Seeded.ensures c.run_by_seed.ensures.tells_length
+
+pub returns-in-Seeded-clause-unloaded : goal.returns-in-Seeded-clause-unloaded
+returns-in-Seeded-clause-unloaded g c = rw c.of-in-Seeded.ensures c.run_by_seed.ensures.unloaded
+
+pub returns-in-Seeded-clause-input_failed_or_given : goal.returns-in-Seeded-clause-input_failed_or_given
+returns-in-Seeded-clause-input_failed_or_given g c = rw c.of-in-Seeded.ensures (λ is. c.run_by_seed.ensures.input_failed_or_given (outcome_of-note c.run_by_seed.result notes.InputUnread is))
+
+pub returns-in-Seeded-clause-taken : goal.returns-in-Seeded-clause-taken
+returns-in-Seeded-clause-taken g c = rw (c.of-in-Seeded.ensures, c.in-Seeded.is) c.run_by_seed.ensures.taken

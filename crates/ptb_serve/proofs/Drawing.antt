@@ -1,0 +1,134 @@
+-- This file proves that the answers of a run by a seed are those that are drawn for the bounds of its questions.
+use Rattle.std.proofs.Common.{◌≡◌, ◌∙◌, ℕ, zero, suc, ◌<◌, ◌%◌, ◌⊎◌, true, List, [], ◌∷◌, ◌++◌, length, refl, sym, ap, subst, arith, inl, inr}
+use Rattle.std.proofs.lemmas.Int.{ints}
+use Rattle.std.proofs.lemmas.Nat.{mod_below}
+use Rattle.std.specs.Prelude.{ℤ, pos, negsuc, ◌≤ℤ◌, Some}
+use Rattle.rand_pcg.specs.Lcg.{Lcg}
+use Rattle.rand_pcg.specs.Pcg.{pcg32}
+use Rattle.ptb_text.specs.Statements.{StoredProgram}
+use Rattle.ptb_expr.specs.Outcome.{Answers, Outcome, Done, Asks, IsReader, bounds, bounds_after, bound_of, is_answer, is_whole}
+use Rattle.ptb_expr.proofs.Readers.{open_is, whole_is}
+use Rattle.ptb_expr.specs.Choices.{Asked, with_answers}
+use Rattle.ptb_expr.specs.Seeds.{SeededAnswers, RefusedForMemory, drawn_answer, drawn_answers, drawn_from, generator_of, seeded_choices}
+use Rattle.ptb_machine.specs.Laws.{RunLaws}
+use Rattle.ptb_machine.specs.Play.{play}
+use Rattle.ptb_machine.specs.Questions.{most_answers}
+use Rattle.ptb_serve.specs.PlainRuns.{GoesBy}
+use Rattle.ptb_explore.specs.RunTree.{IsRun}
+use Rattle.ptb_explore.proofs.Bounds.{bounds_from}
+use Rattle.ptb_explore.proofs.Tree.{run_asks}
+use Rattle.ptb_serve.specs.SeededRuns.{IsDrawn, answers_by, seeded_answers, to_question}
+
+-- where something is asked, fewer answers were given
+abbrev pub Few : {A W : Type 0} → (Answers → Outcome A W) → ℕ → Type 0
+Few {W = W} f most = (q : Answers) (n : ℤ) (w : W) → f q ≡ Asks n w → length q < most
+
+few_behind : {A W : Type 0} (f : Answers → Outcome A W) (most : ℕ) (k : ℤ) → Few f (suc most) → Few (λ a. f (k ∷ a)) most
+few_behind f most k few = λ q n w e. let l = few (k ∷ q) n w e in omega (arith, l)
+
+-- what is answered begins with what was taken, where that was drawn for its bounds
+pub drawn_first : {A W : Type 0} (most : ℕ) (g : Lcg) (f : Answers → Outcome A W) (ts : Answers) (bs : List ℤ) → Few f most → Asked f ts bs → ts ≡ drawn_from g bs
+    → (rest : Answers) × (answers_by most g f ≡ ts ++ rest)
+drawn_first most g f [] [] few asked e = (answers_by most g f, refl)
+drawn_first most g f [] (n ∷ bs) few asked e = absurd asked
+drawn_first most g f (k ∷ ts) [] few asked e = absurd asked
+drawn_first zero g f (k ∷ ts) (n ∷ bs) few asked e = let l = few [] n asked.0.0 asked.0.1 in absurd (omega (arith, l))
+drawn_first (suc most) g f (k ∷ ts) (n ∷ bs) few asked e =
+    let first : k ≡ drawn_answer (pcg32 g).0 n = cc in
+    let others : ts ≡ drawn_from (pcg32 g).1 bs = cc in
+    let behind = drawn_first most (pcg32 g).1 (λ a. f (k ∷ a)) ts bs (few_behind f most k few) asked.1 others in
+    let answered : answers_by (suc most) g f ≡ drawn_answer (pcg32 g).0 n ∷ answers_by most (pcg32 g).1 (λ a. f (drawn_answer (pcg32 g).0 n ∷ a)) =
+    ap (to_question (λ n. drawn_answer (pcg32 g).0 n ∷ answers_by most (pcg32 g).1 (λ a. f (drawn_answer (pcg32 g).0 n ∷ a)))) asked.0.1 in (
+      behind.0,
+      answered ∙ ap (λ x. x ∷ answers_by most (pcg32 g).1 (λ a. f (x ∷ a))) (sym first) ∙ ap (λ l. k ∷ l) behind.1,
+    )
+
+-- ---- the one list that is drawn
+
+-- what an answer leaves takes answers as before, one fewer
+reader_behind : {A W : Type 0} (f : Answers → Outcome A W) (most : ℕ) (n k : ℤ) (w : W) → IsReader f (suc most) → f [] ≡ Asks n w → is_answer n k ≡ true → IsReader (λ a. f (k ∷ a)) most
+reader_behind f most n k w reads e i = record {
+  begins = reads.inside [] n k w e i;
+  done = λ q b. reads.done (k ∷ q) b;
+  out = λ q b. reads.out (k ∷ q) b;
+  inside = λ q. reads.inside (k ∷ q);
+  outside = λ q. reads.outside (k ∷ q);
+  positive = λ q. reads.positive (k ∷ q);
+  few = few_behind f most k reads.few;
+  spends = λ q rest x h. let l = reads.spends (k ∷ q) rest x h in omega (arith, l);
+}
+
+bounds_behind : {A W : Type 0} (f : Answers → Outcome A W) (n k : ℤ) (w : W) (a : Answers) → f [] ≡ Asks n w → bounds f (k ∷ a) ≡ n ∷ bounds (λ later. f (k ∷ later)) a
+bounds_behind f n k w a e = ap (λ o. bound_of o ∷ bounds_after f (k ∷ []) a) e ∙ ap (λ l. n ∷ l) (bounds_from f (k ∷ []) [] a)
+
+drawn_inside : (word : ℕ) (n : ℤ) → pos 1 ≤ℤ n → is_answer n (drawn_answer word n) ≡ true
+drawn_inside word (pos zero) h = absurd (omega (arith, h))
+drawn_inside word (pos (suc n)) h = let l : word % suc n < suc n = mod_below word (suc n) (omega arith) in grind (arith, ints, l)
+drawn_inside word (negsuc n) h = absurd (omega (arith, h))
+
+answers_by-done : {A W : Type 0} (most : ℕ) (g : Lcg) (f : Answers → Outcome A W) (x : A) (rest : Answers) → f [] ≡ Done x rest → answers_by most g f ≡ []
+answers_by-done zero g f x rest e = refl
+answers_by-done (suc most) g f x rest e = ap (to_question _) e
+
+answers_by-asks : {A W : Type 0} (most : ℕ) (g : Lcg) (f : Answers → Outcome A W) (n : ℤ) (w : W) → f [] ≡ Asks n w
+    → answers_by (suc most) g f ≡ drawn_answer (pcg32 g).0 n ∷ answers_by most (pcg32 g).1 (λ a. f (drawn_answer (pcg32 g).0 n ∷ a))
+answers_by-asks most g f n w e = ap (to_question (λ n. drawn_answer (pcg32 g).0 n ∷ answers_by most (pcg32 g).1 (λ a. f (drawn_answer (pcg32 g).0 n ∷ a)))) e
+
+-- a run, of which each answer is drawn for the bound of its question
+abbrev IsDrawnFrom : {A W : Type 0} → Lcg → (Answers → Outcome A W) → Answers → Type 0
+IsDrawnFrom g f a = IsRun f a × (a ≡ drawn_from g (bounds f a))
+
+answers_by-drawn : {A W : Type 0} (most : ℕ) (g : Lcg) (f : Answers → Outcome A W) → IsReader f most → IsDrawnFrom g f (answers_by most g f)
+answers_by-drawn most g f reads = by_first most g f reads (open_is (f []) reads.begins) where
+  by_first : {A W : Type 0} (most : ℕ) (g : Lcg) (f : Answers → Outcome A W) → IsReader f most → ((x : A) × (f [] ≡ Done x [])) ⊎ ((n : ℤ) × (w : W) × (f [] ≡ Asks n w)) → IsDrawnFrom g f (answers_by most g f)
+  by_first most g f reads (inl d) = subst (IsDrawnFrom g f) (sym (answers_by-done most g f d.0 [] d.1)) (ap is_whole d.1, refl)
+  by_first zero g f reads (inr q) = let l = reads.few [] q.0 q.1 q.2 in absurd (omega (arith, l))
+  by_first (suc most) g f reads (inr q) =
+      let k = drawn_answer (pcg32 g).0 q.0 in
+      let others = reader_behind f most q.0 k q.1 reads q.2 (drawn_inside (pcg32 g).0 q.0 (reads.positive [] q.0 q.1 q.2)) in
+      let behind = by_first most (pcg32 g).1 (λ a. f (k ∷ a)) others (open_is (f (k ∷ [])) others.begins) in
+      let a = answers_by most (pcg32 g).1 (λ a. f (k ∷ a)) in
+      subst (IsDrawnFrom g f) (sym (answers_by-asks most g f q.0 q.1 q.2))
+      (behind.0, ap (λ l. k ∷ l) behind.1 ∙ ap (drawn_from g) (sym (bounds_behind f q.0 k q.1 a q.2)))
+
+-- no other list is
+drawn_alone : {A W : Type 0} (most : ℕ) (g : Lcg) (f : Answers → Outcome A W) (b : Answers) → IsReader f most → IsDrawnFrom g f b → b ≡ answers_by most g f
+drawn_alone most g f [] reads h = let w = whole_is (f []) h.0 in sym (answers_by-done most g f w.0 [] w.1)
+drawn_alone zero g f (k ∷ b) reads h =
+    let q = run_asks f zero reads [] b k h.0 in
+    let l = reads.few [] q.0 q.1 q.2 in absurd (omega (arith, l))
+drawn_alone (suc most) g f (k ∷ b) reads h =
+    let q = run_asks f (suc most) reads [] b k h.0 in
+    let drawn : k ∷ b ≡ drawn_answer (pcg32 g).0 q.0 ∷ drawn_from (pcg32 g).1 (bounds (λ a. f (k ∷ a)) b) = h.1 ∙ ap (drawn_from g) (bounds_behind f q.0 k q.1 b q.2) in
+    let first : k ≡ drawn_answer (pcg32 g).0 q.0 = cc in
+    let rest : b ≡ drawn_from (pcg32 g).1 (bounds (λ a. f (k ∷ a)) b) = cc in
+    let behind = drawn_alone most (pcg32 g).1 (λ a. f (k ∷ a)) b (reader_behind f most q.0 k q.1 reads q.2 q.3) (h.0, rest) in
+    ap (λ l. k ∷ l) behind ∙ ap (λ x. x ∷ answers_by most (pcg32 g).1 (λ a. f (x ∷ a))) first ∙ sym (answers_by-asks most g f q.0 q.1 q.2)
+
+-- the list by which a run by a seed goes is drawn, and it is the only one
+pub one_is_drawn : {A W : Type 0} (seed most : ℕ) (f : Answers → Outcome A W) → IsReader f most
+    → IsDrawn seed f (answers_by most (generator_of seed) f) × ((b : Answers) → IsDrawn seed f b → b ≡ answers_by most (generator_of seed) f)
+one_is_drawn seed most f reads =
+    let h = answers_by-drawn most (generator_of seed) f reads in
+    (record { run = h.0; drawn = h.1 }, λ b d. drawn_alone most (generator_of seed) f b reads (d.run, d.drawn))
+
+-- ---- a chooser by a seed
+
+-- what it has answered was drawn for the bounds of what it was asked
+taken_drawn : (seed : ℕ) (s t : SeededAnswers) (taken : Answers) (bounds : List ℤ) → s ≡ record { seed = seed; bounds = [] }
+    → seeded_choices t ≡ with_answers taken bounds (seeded_choices s) → taken ≡ drawn_answers seed bounds
+taken_drawn seed s t taken bounds begins e =
+    let choices : seeded_choices t ≡ with_answers taken bounds (seeded_choices (record { seed = seed; bounds = [] })) = e ∙ ap (λ x. with_answers taken bounds (seeded_choices x)) begins in
+    let plan : pos t.seed ∷ [] ≡ pos seed ∷ [] = ap (λ c. c.plan) choices in
+    let answers : drawn_answers t.seed t.bounds ≡ taken = ap (λ c. c.taken) choices in
+    let kept : Some t.bounds ≡ Some bounds = ap (λ c. c.kept) choices in
+    let same_seed : t.seed ≡ seed = cc in
+    let same_bounds : t.bounds ≡ bounds = cc in
+    sym answers ∙ ap (λ x. drawn_answers x t.bounds) same_seed ∙ ap (drawn_answers seed) same_bounds
+
+pub goes_by_seed : RunLaws → (seed : ℕ) (s t : SeededAnswers) (p : StoredProgram) (limit : ℕ) → s ≡ record { seed = seed; bounds = [] }
+    → GoesBy RefusedForMemory (seeded_choices s) (seeded_choices t) (λ lines. seeded_answers seed p lines limit) p limit
+goes_by_seed laws seed s t p limit begins lines taken bounds asked grown =
+    let few = (laws.reads p lines limit).few in
+    let first = drawn_first (most_answers p lines limit) (generator_of seed) (play p lines limit) taken bounds few asked (taken_drawn seed s t taken bounds begins grown) in
+    record { rest = first.0; whole = first.1; ended = λ n h. absurd h; outside = λ k n h. absurd h }

@@ -1,0 +1,38 @@
+-- This file defines the run that a seed makes.
+--     answers_by most g f              what a generator draws for the questions of f, one after the other
+--     seeded_answers seed p input limit     the answers of the run of a program by a seed
+--     seeded_run seed p input limit    the bytes and the ending of this run
+--     IsDrawn seed play a              a is a run, and its answers are drawn from the seed for the bounds of its questions
+use Rattle.std.specs.Prelude.{◌≡◌, ℕ, zero, suc, List, [], ◌∷◌, ℤ}
+use Rattle.rand_pcg.specs.Lcg.{Lcg}
+use Rattle.rand_pcg.specs.Pcg.{pcg32}
+use Rattle.ptb_text.specs.Statements.{StoredProgram}
+use Rattle.ptb_expr.specs.Outcome.{Answers, Outcome, Done, Asks, Out, bounds}
+use Rattle.ptb_expr.specs.Seeds.{drawn_answer, drawn_answers, generator_of}
+use Rattle.ptb_command.specs.declared.ending.Ending.{Ending}
+use Rattle.ptb_machine.specs.Play.{play, plain}
+use Rattle.ptb_machine.specs.Questions.{most_answers}
+use Rattle.ptb_explore.specs.RunTree.{IsRun}
+
+-- where a question is left open, it is answered
+abbrev pub to_question : {A W : Type 0} → (ℤ → Answers) → Outcome A W → Answers
+to_question answers (Done x rest) = []
+to_question answers (Asks n w) = answers n
+to_question answers (Out n w) = []
+
+-- the question that f leaves open is answered by the next word, and then those that f asks behind this answer, at most so many
+abbrev pub answers_by : {A W : Type 0} → ℕ → Lcg → (Answers → Outcome A W) → Answers
+answers_by zero g f = []
+answers_by (suc most) g f =
+    to_question (λ n. drawn_answer (pcg32 g).0 n ∷ answers_by most (pcg32 g).1 (λ a. f (drawn_answer (pcg32 g).0 n ∷ a))) (f [])
+
+-- no run asks more than `most_answers`
+abbrev pub seeded_answers : ℕ → StoredProgram → List (List ℕ) → ℕ → Answers
+seeded_answers seed p input limit = answers_by (most_answers p input limit) (generator_of seed) (play p input limit)
+
+abbrev pub seeded_run : ℕ → StoredProgram → List (List ℕ) → ℕ → List ℕ × Ending
+seeded_run seed p input limit = plain p input limit (seeded_answers seed p input limit)
+
+pub record IsDrawn {A W : Type 0} (seed : ℕ) (play : Answers → Outcome A W) (a : Answers) : Type 0 where
+  pub run : IsRun play a
+  pub drawn : a ≡ drawn_answers seed (bounds play a)
