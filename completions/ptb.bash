@@ -8,6 +8,10 @@ _ptb() {
         mapfile -t COMPREPLY < <(compgen -W 'none' -- "$current")
         return
         ;;
+    --form)
+        mapfile -t COMPREPLY < <(compgen -W '1 2' -- "$current")
+        return
+        ;;
     --steps | --memory | --seed | --first)
         # a number; no file is offered in its place
         compopt +o default 2>/dev/null
@@ -17,7 +21,7 @@ _ptb() {
     case $current in
     -*)
         mapfile -t COMPREPLY < <(compgen -W \
-            '--steps --memory --answers --seed --all --after --first --list --help -h' -- "$current")
+            '--steps --memory --answers --seed --all --after --first --form --list --help -h' -- "$current")
         ;;
     *)
         mapfile -t COMPREPLY < <(compgen -f -X '!*.bas' -- "$current"; compgen -d -- "$current")

@@ -86,9 +86,12 @@ refused 'a full program' '1 P.1234567890\n2 P.1234567890\n3 P.1234567890\n4 P.12
 # ---- all runs
 
 plain 'all runs' '10 PRINT "HI"\n' 0 'RUN none END 1 3\nHI\n\n' --all
-plain 'the first runs' '10 P.RND(6)\n' 0 'RUN 1 END 1 7\n     1\n\n' --all --first 1
-plain 'the runs behind one' '10 P.RND(2)\n' 0 'RUN 2 END 1 7\n     2\n\n' --all --after 1
+plain 'the first runs' '10 P.RND(6)\n' 0 'RUN 1/6 END 1 7\n     1\n\n' --all --first 1
+plain 'answers alone' '10 P.RND(6)\n' 0 'RUN 1 END 1 7\n     1\n\n' --all --first 1 --form 1
+plain 'the runs behind one' '10 P.RND(2)\n' 0 'RUN 2/2 END 1 7\n     2\n\n' --all --after 1
+plain 'the runs behind one with its bound' '10 P.RND(2)\n' 0 'RUN 2/2 END 1 7\n     2\n\n' --all --after 1/2
 refused 'answers that are no run' '10 P.RND(2)\n' 67 'ptb: not a run' --all --after 3
+refused 'a bound that is another' '10 P.RND(2)\n' 67 'ptb: not a run' --all --after 1/3
 
 # ---- files
 
@@ -172,6 +175,7 @@ complains 'a number with a separator' --steps 1,000
 complains 'two programs' one.bas two.bas
 refused '--after without --all' '' 64 'ptb: --after needs --all' --after 1
 refused '--first without --all' '' 64 'ptb: --first needs --all' --first 1
+refused '--form without --all' '' 64 'ptb: --form needs --all' --form 1
 refused '--answers with --all' '' 64 'ptb: --answers excludes --all' --answers 1 --all
 refused '--list with --answers' '' 64 'ptb: --list stands alone' --list --answers none
 refused 'a bad list' '' 64 'ptb: bad list' --answers 01
@@ -235,7 +239,7 @@ done
 # the examples with few questions, each with all its runs
 for runs in "$root"/examples/*.runs; do
     example=${runs%.runs}
-    run --all "$example.bas" <"$example.input"
+    run --all --form 1 "$example.bas" <"$example.input"
     if [ "$status" = 0 ] && cmp -s "$folder/output" "$runs" && [ ! -s "$folder/errors" ]; then
         count "all runs of the example $(basename "$example")" yes
     else

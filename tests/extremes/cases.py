@@ -95,14 +95,14 @@ def loops(letters):
 
 
 CHECKSUM = 9973
-# 26 loops, a call, 26 loops, a call, and 10 loops are 64. Then lines are taken up to one that is 0.
+# 26 loops and a call, nine times, and 13 loops are 256. Then lines are taken up to one that is 0.
 DEEPEST = f"""\
 10 {loops(LETTERS)};GOS.20;S.
-20 {loops(LETTERS)};GOS.30;R.
-30 {loops(LETTERS[:10])};S=0
-40 INPUT V;IF V=0 GOTO 60
-50 S=S*3+V,S=S-S/{CHECKSUM}*{CHECKSUM};GOTO 40
-60 P.S;{";".join(f"N.{letter}" for letter in reversed(LETTERS[:10]))};R.
+{"".join(f"{line} {loops(LETTERS)};GOS.{line + 10};R." + chr(10) for line in range(20, 100, 10))}\
+100 {loops(LETTERS[:13])};S=0
+110 INPUT V;IF V=0 GOTO 130
+120 S=S*3+V,S=S-S/{CHECKSUM}*{CHECKSUM};GOTO 110
+130 P.S;{";".join(f"N.{letter}" for letter in reversed(LETTERS[:13]))};R.
 """
 
 
@@ -119,17 +119,17 @@ def checksum(numbers):
 
 
 def deepest():
-    """64 open loops and calls, with an input of 16 MiB that is taken to its end."""
+    """256 open loops and calls, with an input of 16 MiB that is taken to its end."""
     numbers = values(INPUT_LIMIT // 256)
     lines = [f"{number:6} ".ljust(255, "X") for number in numbers]
     text = "".join(line + "\n" for line in lines)
     assert len(text) == INPUT_LIMIT
     shown = "".join(f"V:{line}\n" for line in lines) + f"{checksum(numbers[:-1]):6}\n"
-    # line 10 and line 20, line 30, the lines that are not 0, the last one, line 60, and RETURN and STOP
-    steps = 27 + 27 + 11 + 4 * (len(lines) - 1) + 3 + 12 + 2
-    few = "--steps 262222"
+    # lines 10 to 90, line 100, the lines that are not 0, the last one, line 130, and eight RETURNs and STOP
+    steps = 9 * 27 + 14 + 4 * (len(lines) - 1) + 3 + 15 + 9
+    few = "--steps 262424"
     assert few.endswith(str(steps))
-    yield run("64 open, 16 MiB of input", DEEPEST, shown, words=few, lines=text)
+    yield run("256 open, 16 MiB of input", DEEPEST, shown, words=few, lines=text)
     yield run("all runs of it", DEEPEST, report([], "STOP", steps, shown), words=few + " --all", lines=text)
     too_long = text + "\n"
     yield run("a byte more, behind the last line that is asked for", DEEPEST, shown, words=few, lines=too_long)
@@ -145,8 +145,8 @@ def long_lines():
 
 def too_deep():
     shown = "SORRY\n10 F.I=1TO1?;GOS.10\n"
-    yield run("a 65th loop", "10 F.I=1TO1;GOS.10\n", shown, 3)
-    yield run("all runs of it", "10 F.I=1TO1;GOS.10\n", report([], "SORRY", 65, shown), words="--all")
+    yield run("a 257th loop", "10 F.I=1TO1;GOS.10\n", shown, 3)
+    yield run("all runs of it", "10 F.I=1TO1;GOS.10\n", report([], "SORRY", 257, shown), words="--all")
 
 
 # ---- steps
@@ -211,7 +211,7 @@ def long_lists():
     loop = "F.I=1TO30000;A=RND(1);N.I"
     program = f"10 {loop}\n20 {loop}\n"
     ones = [1] * 60_000
-    listed, steps = "--steps 200000 --all", 2 * (1 + 2 * 30_000)
+    listed, steps = "--steps 200000 --all --form 1", 2 * (1 + 2 * 30_000)
 
     def after(answers):
         return f"{listed} --after {','.join(map(str, answers))}"

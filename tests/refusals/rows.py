@@ -42,7 +42,7 @@ PRODUCTS = [
     report("2,2 END 1 7", "     4\n"),
 ]
 BRANCH = "10 A=RND(2);IF A=2 B=RND(3);PRINT B\n"
-BRANCHES = [report("1 END 2 0", "")] + [report(f"2,{k} END 4 7", f"     {k}\n") for k in (1, 2, 3)]
+BRANCHES = [report("1/2 END 2 0", "")] + [report(f"2/2,{k}/3 END 4 7", f"     {k}\n") for k in (1, 2, 3)]
 DICE = "10 PRINT RND(6),RND(6)\n"
 ECHO = "10 INPUT A;PRINT A\n"
 ECHOES = [report(f"{k} END 2 16", f"A:RND(2)\n     {k}\n") for k in (1, 2)]
@@ -55,29 +55,31 @@ LONG_REPORT = report(",".join(["1"] * 300) + " END 601 2100", 300 * "     1\n")
 LONG_TEXT = "".join(f"{k} REM {k}\n" for k in range(1, 50))
 
 ROWS = [
-    Row("--all", PRODUCT, "", served("".join(PRODUCTS))),
-    Row("--all", PRODUCT, None, served("".join(PRODUCTS))),
-    Row("--all --after 1,1 --first 2", PRODUCT, None, served("".join(PRODUCTS[1:3]))),
+    Row("--all --form 1", PRODUCT, "", served("".join(PRODUCTS))),
+    Row("--all --form 1", PRODUCT, None, served("".join(PRODUCTS))),
+    Row("--all --form 1 --after 1,1 --first 2", PRODUCT, None, served("".join(PRODUCTS[1:3]))),
     Row("--all", BRANCH, "", served("".join(BRANCHES))),
     Row("--all", BRANCH, None, served("".join(BRANCHES))),
-    Row("--all --after 2,1", BRANCH, None, served("".join(BRANCHES[2:]))),
+    Row("--all --after 2/2,1", BRANCH, None, served("".join(BRANCHES[2:]))),
     Row("--answers 2,3", BRANCH, "", served("     3\n")),
     Row("--seed 7", BRANCH, "", served("")),
     Row("--seed 7", DICE, "", served("     3     5\n")),
     Row("--seed 7", LONG_RUN, "", served(300 * "     1\n")),
     Row("--answers 2,3", BRANCH, None, served("     3\n")),
-    Row("--all", ECHO, "RND(2)\n", served("".join(ECHOES))),
+    Row("--all --form 1", ECHO, "RND(2)\n", served("".join(ECHOES))),
     Row("--answers 1", ECHO, "RND(2)\n", served("A:RND(2)\n     1\n")),
     Row("", ASK, ")\n5\n", served("A:)\nWHAT?\nA:5\n")),
     Row("", ASK, ")\n", served("A:)\nWHAT?\nA:", status=5)),
     Row("--all", ASK, "", served(report("none NOINPUT 1 2", "A:"))),
     Row("--list", EDITED, "", served("10 P.3\n")),
     Row("--list", EDITED, None, served("10 P.3\n")),
-    Row("--all", LONG_RUN, "", served(LONG_REPORT)),
+    Row("--all --form 1", LONG_RUN, "", served(LONG_REPORT)),
     Row("--list", LONG_TEXT, None, served(LONG_TEXT)),
     Row("", FAULT, None, served("     1\nHOW?\n10 PRINT 1;A=1/0?\n", status=2)),
     Row("", "32768 P.1\n", None, noted(65, "line 1: number too big")),
     Row("--all --after 2", BRANCH, None, noted(67, "not a run")),
+    Row("--all --after 2/3,1/3", BRANCH, None, noted(67, "not a run")),
+    Row("--all --after 2/2,1/", BRANCH, None, noted(64, "bad list")),
     Row("--answers 1,,2", PRODUCT, None, noted(64, "bad list")),
     Row("--help", PRODUCT, None, 0),
     Row("--steps 0", PRODUCT, None, 64),

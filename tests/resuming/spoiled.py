@@ -9,6 +9,10 @@ NOT_NEXT = "this run doesn't come next"
 OTHER_BYTE = "that program writes another byte here"
 ENDS_HERE = "the listing of that program ends here"
 
+# in form 1: bounds of the reports before the last aren't looked at
+ALONE = ("--form", "1")
+ALONE_ENDINGS = Case(ENDINGS.program, ENDINGS.input, (*ENDINGS.words, *ALONE))
+
 
 def check(trials):
     no_listings(trials)
@@ -33,17 +37,19 @@ def no_listings(trials):
     trials.refused("a listing twice", text + text, words, 65, no_listing(len(text) + 1, NOT_NEXT))
     number = b"RUN 1 END 1 " + b"9" * 6000 + b"\n"
     trials.refused("a number of bytes without end", number, words, 65, no_listing(1, NO_REPORT))
-    number = b"RUN 1 END 1 999999999999999999\n"
-    trials.refused("a number of bytes too large", number, words, 65, no_listing(13, OTHER_BYTE))
+    number = b"RUN 1/4 END 1 999999999999999999\n"
+    trials.refused("a number of bytes too large", number, words, 65, no_listing(15, OTHER_BYTE))
+    trials.refused("a report in another form", b"RUN 1 END 1 7\n     1\n\n", words, 65, no_listing(6, OTHER_BYTE))
     trials.refused("an answer too large", b"RUN 999999 END 1 0\n\n", words, 65, no_listing(1, NO_REPORT))
 
 
 def other_programs(trials):
     """Listings of other programs: which differ in what they show, or have runs that this one doesn't have."""
-    shown = reports_of(trials.text(Case("10 PRINT RND(4)+1\n")))
-    more = reports_of(trials.text(Case("10 PRINT RND(6)\n")))
-    whole = trials.text(DICE)
-    words = trials.words(DICE)
+    dice = Case(DICE.program, words=ALONE)
+    shown = reports_of(trials.text(Case("10 PRINT RND(4)+1\n", words=ALONE)))
+    more = reports_of(trials.text(Case("10 PRINT RND(6)\n", words=ALONE)))
+    whole = trials.text(dice)
+    words = trials.words(dice)
     for reports in 1, 3, 4:
         place = len(b"".join(shown[: reports - 1])) + len("RUN 1 END 1 7\n     ")
         due = no_listing(place + 1, OTHER_BYTE)
@@ -80,7 +86,7 @@ def other_orders(trials):
 def changed_bytes(trials):
     """A listing of which one byte is changed: any of its last report, or of a header, up to the answers or behind the
     steps; in the last header any. (The steps and the transcripts of the reports before the last aren't looked at.)"""
-    reports = reports_of(trials.text(ENDINGS))
+    reports = reports_of(trials.text(ALONE_ENDINGS))
     places, place = [], 0
     for report in reports[:-1]:
         header = report[: report.index(b"\n") + 1]
@@ -98,19 +104,20 @@ def is_refused(trials, text, place, flip):
     """Whether the listing with this byte changed is refused as none, and left as it was."""
     content = text[:place] + bytes([text[place] ^ flip]) + text[place + 1 :]
     write(LISTING, content)
-    reply = trials.resume_here(LISTING, "--", *trials.words(ENDINGS))
+    reply = trials.resume_here(LISTING, "--", *trials.words(ALONE_ENDINGS))
     told = reply.errors.startswith(no_listing(0, "").partition("0")[0])
     return reply.status == 65 and told and reply.file == content
 
 
 def long_lines(trials):
     """Runs with so many answers that a header is read in several pieces, or that they can't be a word."""
-    case = Case("10 FOR I=1 TO 20000;LET A=RND(1)+RND(1);NEXT I\n20 PRINT RND(3)\n", words=("--steps", "90000"))
+    words = ("--steps", "90000", *ALONE)
+    case = Case("10 FOR I=1 TO 20000;LET A=RND(1)+RND(1);NEXT I\n20 PRINT RND(3)\n", words=words)
     text = trials.text(case)
     for length in 70_000, 79_999, len(text) // 2 - 5, len(text) // 2 + 5, len(text) - 1:
         name = f"a long header: {length} bytes of {len(text)}"
         trials.completed(name, text[:length], trials.words(case), text)
-    case = Case("10 FOR I=1 TO 30000;LET A=RND(1)+RND(1)+RND(1);NEXT I\n20 PRINT RND(3)\n", words=("--steps", "90000"))
+    case = Case("10 FOR I=1 TO 30000;LET A=RND(1)+RND(1)+RND(1);NEXT I\n20 PRINT RND(3)\n", words=words)
     text = trials.text(case)
     part = text[:-1]
     write(LISTING, part)

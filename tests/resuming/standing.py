@@ -6,6 +6,7 @@ import subprocess
 from trials import DICE, ENDINGS, HEADERS, LISTING, PROGRAM, Case, no_listing, read, reports_of, write
 
 PORTION = Case(DICE.program, words=("--after", "1", "--first", "2"))
+ALONE = Case(DICE.program, words=("--form", "1"))
 TWO_QUESTIONS = "10 PRINT RND(2)*RND(2)\n"
 
 # a listing whose answers have their bounds, and a stand-in for the program that writes it: as it goes on behind a run
@@ -23,7 +24,8 @@ esac <bounds
 def check(trials):
     cuts(trials, "endings of all kinds", ENDINGS, [b"WHAT", b"HOW", b"SORRY", b"LIMIT", b"NOINPUT", b"STOP", b" 0\n\n"])
     cuts(trials, "transcripts like reports", HEADERS, [b"\nRUN 1 END 2 0\n\nRUN 2,1 END 4 7\n", b"RUN 3\n"])
-    cuts(trials, "a portion", PORTION, [b"RUN 2 ", b"RUN 3 "])
+    cuts(trials, "a portion", PORTION, [b"RUN 2/4 ", b"RUN 3/4 "])
+    cuts(trials, "answers alone", ALONE, [b"RUN 2 ", b"RUN 3 "])
     cuts(trials, "an empty program", Case(""), [b"RUN none END 0 0\n\n"])
     whole_and_nothing(trials)
     portions(trials)

@@ -4,7 +4,7 @@ from dataclasses import dataclass, replace
 
 import calls
 from calls import Call
-from reports import Malformed, raised_place, read_reports, spelled
+from reports import Malformed, marked, raised_place, read_reports, spelled, without_bounds
 
 PROGRAM, INPUT = "program.bas", "input.txt"
 REPORTS = 30
@@ -16,7 +16,7 @@ ODD_WORDS = [
     *["", "0", "1", "-1", "+1", "01", "1,2", "1,,2", "none", "32768", "1000000001", "1e3"],
     *["x", "5 ", "\t", "١", b"\xff"],
     *["--steps", "--memory", "--answers", "--after", "--first", "--all", "--list", "--lists", "-a", "-h", "--", "-"],
-    *["--steps=7", "--memory=64", "--after=none", "--first=2", "no such file", "."],
+    *["--steps=7", "--memory=64", "--after=none", "--first=2", "--form", "--form=1", "--form=3", "1/2", "no such file", "."],
 ]
 FAULTS = {"WHAT": b"WHAT?", "HOW": b"HOW?", "SORRY": b"SORRY"}
 
@@ -91,11 +91,12 @@ class Trial:
         options = [("answers", spelled(answers)), ("steps", str(steps or self.case.steps))]
         return self.call(options, **files)
 
-    def runs(self, after=None, first=REPORTS, **files):
-        """A listing of runs: those behind this one, at most so many."""
+    def runs(self, after=None, first=REPORTS, bounds=None, form=None, **files):
+        """A listing of runs: those behind this one, with these bounds of its answers, at most so many."""
         options = [("all", ""), ("steps", str(self.case.steps))]
-        options += [] if after is None else [("after", spelled(after))]
+        options += [] if after is None else [("after", spelled(after) if bounds is None else marked(after, bounds))]
         options += [] if first is None else [("first", str(first))]
+        options += [("form", form)] if form else self.chance.choice([[], [("form", "2")]])
         return self.call(options, **files)
 
     def text(self, **files):
@@ -113,6 +114,7 @@ def check(trial, write):
     if not reports:
         return
     check_order(trial, reports)
+    check_bounds(trial, reports)
     check_gaps(trial, reports, is_whole)
     check_portions(trial, reports, is_whole)
     for report in reports:
@@ -205,6 +207,30 @@ def check_order(trial, reports):
         trial.hold(f"runs raise one answer by one: {pair}", raised_place(run, following) is not None, seen)
 
 
+def check_bounds(trial, reports):
+    """Form 1 has the same reports without bounds. Each answer is within its bound; bounds that are stated are looked at."""
+    alone = b"".join(without_bounds(report) for report in reports)
+    trial.expect("the answers alone", trial.runs(form="1"), 0, alone)
+    for report in reports:
+        is_within = all(1 <= answer <= bound for answer, bound in zip(report.answers, report.bounds))
+        trial.hold("answers within their bounds", is_within, (trial.runs(), f"the report of {spelled(report.answers)}"))
+    for report in trial.chance.sample(reports, min(RUNS_LOOKED_AT, len(reports))):
+        check_stated_bounds(trial, report)
+
+
+def check_stated_bounds(trial, report):
+    """The bounds of a run may stand in the list to go on behind, some or all of them, and no others."""
+    some = [trial.chance.choice([0, bound]) for bound in report.bounds]
+    due = trial.ask(trial.runs(report.answers, 1, form="2")).output
+    trial.expect("behind a run with some of its bounds", trial.runs(report.answers, 1, some), 0, due)
+    trial.expect("behind a run with its bounds", trial.runs(report.answers, 1, report.bounds), 0, due)
+    if report.bounds:
+        place = trial.chance.randrange(len(report.bounds))
+        other = 1 + (report.bounds[place] + trial.chance.randrange(32766)) % 32767
+        wrong = [*some[:place], other, *some[place + 1 :]]
+        trial.expect("behind a run with another bound", trial.runs(report.answers, 1, wrong), calls.NO_RUN, b"")
+
+
 def check_gaps(trial, reports, is_whole):
     """No run is left out between those of the reports, and none behind them where they are all."""
     check_gaps_between(trial, [report.answers for report in reports], is_whole)
@@ -246,7 +272,7 @@ def check_portions(trial, reports, is_whole):
         first = trial.chance.choice([1, 2, REPORTS]) if is_whole else trial.chance.randint(1, max(1, len(rest)))
         if is_whole or rest:
             due = b"".join(report.text for report in rest[:first])
-            trial.expect("the runs behind one", trial.runs(report.answers, first), 0, due)
+            trial.expect("the runs behind one", trial.runs(report.answers, first, form="2"), 0, due)
     # a listing that isn't as whole as it looks could go on for ever
     if is_whole and not trial.failures:
         whole = b"".join(report.text for report in reports)

@@ -4,15 +4,16 @@ import re
 from dataclasses import dataclass
 
 HEADER = re.compile(
-    rb"RUN (none|[1-9]\d*(?:,[1-9]\d*)*) (END|STOP|WHAT|HOW|SORRY|LIMIT|NOINPUT) (0|[1-9]\d*) (0|[1-9]\d*)\n"
+    rb"RUN (none|[1-9]\d*/[1-9]\d*(?:,[1-9]\d*/[1-9]\d*)*) (END|STOP|WHAT|HOW|SORRY|LIMIT|NOINPUT) (0|[1-9]\d*) (0|[1-9]\d*)\n"
 )
 
 
 @dataclass(frozen=True)
 class Report:
-    """A run's answers, how it ended, how many commands it began, its transcript, and the bytes of the whole report."""
+    """A run's answers with their bounds, how it ended, how many commands it began, its transcript, and the bytes of the whole report."""
 
     answers: tuple
+    bounds: tuple
     ending: str
     steps: int
     transcript: bytes
@@ -41,8 +42,10 @@ def read_report(text, place):
     end = header.end() + int(length)
     if text[end : end + 1] != b"\n":
         raise Malformed(f"the transcript of the report at byte {place} doesn't end where its header says")
+    items = [] if answers == b"none" else [item.split(b"/") for item in answers.split(b",")]
     return Report(
-        () if answers == b"none" else tuple(map(int, answers.split(b","))),
+        tuple(int(answer) for answer, _ in items),
+        tuple(int(bound) for _, bound in items),
         ending.decode(),
         int(steps),
         text[header.end() : end],
@@ -53,6 +56,19 @@ def read_report(text, place):
 def spelled(answers):
     """The list as a word of the command line."""
     return ",".join(map(str, answers)) or "none"
+
+
+def marked(answers, bounds):
+    """The list as a word of the command line, each answer with its bound; where there is no bound, the answer alone."""
+    items = [f"{answer}/{bound}" if bound else str(answer) for answer, bound in zip(answers, bounds)]
+    return ",".join(items) or "none"
+
+
+def without_bounds(report):
+    """The bytes of the report in form 1."""
+    header, rest = report.text.split(b"\n", 1)
+    word, _, others = header.split(b" ", 2)
+    return b" ".join([word, spelled(report.answers).encode(), others]) + b"\n" + rest
 
 
 def raised_place(run, following):

@@ -250,7 +250,7 @@ class Maker:
         letters = self.chance.sample(string.ascii_uppercase, self.chance.randint(2, 23))
         heads = ";".join(f"F.{letter}=1TO{self.pick('1123')}" for letter in letters)
         nexts = ";".join(f"N.{letter}" for letter in reversed(letters))
-        depth = self.pick([3, 20, 38, 60, 63, 64, 65])
+        depth = self.pick([3, 20, 128, 230, 252, 255, 256, 257])
         forms = [
             [heads, "GOS.40", "S.", f"@(0)=@(0)+1;IF@(0)<{depth}GOS.40", "R."],
             [heads, "P.R.(2)", nexts],

@@ -6,11 +6,11 @@
 //! `main` opens the right files and streams is tested, not proved.
 #![tactic(auto)]
 
-ghost use Rattle.std.specs.Prelude.{◌≡◌, ◌≢◌, [], IfSome, codes, option_copied};
+ghost use Rattle.std.specs.Prelude.{◌≡◌, ◌≢◌, ◌≤ℤ◌, pos, [], IfSome, codes, option_copied};
 ghost use Rattle.std.specs.IoError.{error_kind};
 ghost use Rattle.clap.specs.Words.{first_of, kind_of};
 ghost use Rattle.ptb_text.specs.Statements.{IsMemorySize};
-ghost use Rattle.ptb_options.specs.Options.{HasMemorySize, entries_of, options_of};
+ghost use Rattle.ptb_options.specs.Options.{HasBound, HasMemorySize, entries_of, options_of};
 ghost use Rattle.ptb_serve.specs.Replies.{reply_to};
 ghost use Rattle.ptb_serve.specs.Serving.{Serves};
 ghost use Rattle.ptb_serve.specs.Statuses.{note_status};
@@ -81,7 +81,8 @@ fn refuse<R: Runtime>(rt: &R, error: &clap::Error) -> u8
 
 // Does what the options ask for.
 fn answer<R: Runtime + AllocGlobal>(rt: &R, matches: &ArgMatches<'_>) -> u8
-    requires { HasMemorySize (options_of (entries_of matches.now)) }
+    requires memory { HasMemorySize (options_of (entries_of matches.now)) }
+    requires bound { HasBound (options_of (entries_of matches.now)) }
     ensures { IsAnswerStatus (options_of (entries_of matches.now)) result }
 {
     let request = match decide(rt.alloc(), matches) {
@@ -116,7 +117,8 @@ fn open_note(error: &io::Error) -> Note
 
 // Serves a request for the program of a file, with the lines of standard input.
 fn serve_file<R: Runtime + AllocGlobal>(rt: &R, request: &Request, path: &str) -> u8
-    requires { IsMemorySize request.now.memory }
+    requires memory { IsMemorySize request.now.memory }
+    requires bound { IfSome request.now.rules.choose (λ n. pos 1 ≤ℤ n) }
     ensures { IsServedStatus request.now.mode result }
 {
     let file = match fs::open(rt, path) {
@@ -134,7 +136,8 @@ fn serve_file<R: Runtime + AllocGlobal>(rt: &R, request: &Request, path: &str) -
 
 // Serves a request for the program of standard input, without input lines.
 fn serve_standard_input<R: Runtime + AllocGlobal>(rt: &R, request: &Request) -> u8
-    requires { IsMemorySize request.now.memory }
+    requires memory { IsMemorySize request.now.memory }
+    requires bound { IfSome request.now.rules.choose (λ n. pos 1 ≤ℤ n) }
     ensures { IsServedStatus request.now.mode result }
 {
     let mut program = Device::new(rt.reader());
@@ -152,7 +155,8 @@ fn serve_without_input<P: Read, W: Write>(
     program: &mut P,
     out: &mut W,
 ) -> Outcome
-    requires { IsMemorySize request.now.memory }
+    requires memory { IsMemorySize request.now.memory }
+    requires bound { IfSome request.now.rules.choose (λ n. pos 1 ≤ℤ n) }
     ensures served { IfSome (P.remaining program.old) (λ b.
         Serves (reply_to request.now b []) (W.contents out.old) (W.contents out.new) result) }
     ensures written { result.note ≢ Some Note.Unwritten

@@ -68,11 +68,11 @@ pub acts_word : {X : Type 0} (refused : Refusal → Type 0) (p : Statements) (m 
 acts_word refused p m n o d q t i word v r e a = subst (λ (x : Word). Acts refused p m n o d (command_action p q (command_of x (parts_of x t i))) r) (sym e) a
 
 -- a command that takes no line
-pub acts_alone : {X : Type 0} (refused others : Refusal → Type 0) → ((r : Refusal) → refused r → others r) → (p : Statements) (m n : Configuration) (o : Devices) (choices : Choices) (screen : ScreenState) (before : List (List ℕ)) (q : Place) (t : List ℕ) (i : ℕ) (word v : Word) (r : Result X Stop) → word ≡ v → Acts refused p m n o (devices choices screen before) (command_action p q (command_of v (parts_of v t i))) r → Acts others p m n o (devices choices screen (before ++ [])) (command_action p q (command_of word (parts_of word t i))) r
-acts_alone refused others more p m n o choices screen before q t i word v r e a =
-    subst (λ (x : List (List ℕ)). Acts others p m n o (devices choices screen x) (command_action p q (command_of word (parts_of word t i))) r) (sym (append-nil before))
-    (acts_more refused others more p m n o (devices choices screen before) _ r
-    (acts_word refused p m n o (devices choices screen before) q t i word v r e a))
+pub acts_alone : {X : Type 0} (refused others : Refusal → Type 0) → ((r : Refusal) → refused r → others r) → (p : Statements) (m n : Configuration) (o : Devices) (choices : Choices) (screen : ScreenState) (most : ℕ) (choose : Option ℤ) (before : List (List ℕ)) (q : Place) (t : List ℕ) (i : ℕ) (word v : Word) (r : Result X Stop) → word ≡ v → Acts refused p m n o (devices choices screen most choose before) (command_action p q (command_of v (parts_of v t i))) r → Acts others p m n o (devices choices screen most choose (before ++ [])) (command_action p q (command_of word (parts_of word t i))) r
+acts_alone refused others more p m n o choices screen most choose before q t i word v r e a =
+    subst (λ (x : List (List ℕ)). Acts others p m n o (devices choices screen most choose x) (command_action p q (command_of word (parts_of word t i))) r) (sym (append-nil before))
+    (acts_more refused others more p m n o (devices choices screen most choose before) _ r
+    (acts_word refused p m n o (devices choices screen most choose before) q t i word v r e a))
 
 -- ---- the next command
 

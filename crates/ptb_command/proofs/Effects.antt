@@ -14,11 +14,11 @@ use Rattle.ptb_expr.specs.Tree.{Tree}
 use Rattle.ptb_expr.specs.Outcome.{Answers, Outcome, Done, Asks, Out, go_on, map_outcome}
 use Rattle.ptb_expr.specs.Store.{Cells, with_value}
 use Rattle.ptb_expr.specs.Reading.{item_of, expression}
-use Rattle.ptb_expr.specs.Value.{Work, value}
+use Rattle.ptb_expr.specs.Value.{Work, random_number, value}
 use Rattle.ptb_command.specs.Commands.{Part, Assign, Say, Width, Show, NewLine, Take, Letter, Operand, Defect, Command}
 use Rattle.ptb_command.specs.State.{Place, Loop, Call, State, text_of, nesting, nesting_limit}
 use Rattle.ptb_command.specs.Actions.{Halt, Faults, Ends, Progress, Goes, Halts, Action, on_progress, and_then, goes_on, halt, change, show, attempt, or_halt, work_action}
-use Rattle.ptb_command.specs.Act.{newline, fails, is_full, go_to, if_room, goto_action, with_call, gosub_action, return_action, without_loop, with_loop, for_action, loops_from, is_past, loop_end, loop_turn, after_sum, next_action, finish, end_of, letter_of, first_width, command_action, is_fresh, report_bytes, step_result_of, with_step, act, value_action, target_action, store, take_line, ask_for, store_or_again, input_action, parts_action}
+use Rattle.ptb_command.specs.Act.{newline, without_line, fails, is_full, go_to, if_room, goto_action, with_call, gosub_action, return_action, without_loop, with_loop, for_action, loops_from, is_past, loop_end, loop_turn, after_sum, next_action, finish, end_of, letter_of, first_width, command_action, is_fresh, report_bytes, step_result_of, with_step, act, value_action, target_action, store, take_line, ask_for, store_or_again, input_action, parts_action}
 use Rattle.ptb_command.specs.Effects.{progress_state, action_state, step_result_state, act_state, Begins, TakesLines, PartChange, EndChange, CommandChange}
 
 -- ---- what is shown
@@ -89,6 +89,10 @@ module _ (R : State → State → Type 0) (joined : (S T U : State) → R S T �
   ask_keeps said x prompt =
       and_keeps (show said) _ (shows said) (λ _. and_keeps (target_action x) _ (worked_keeps _) (λ at. and_keeps (show prompt) (λ _. goes_on at) (shows prompt) (λ _. goes_keeps at)))
 
+  pub without_keeps : (choose : Option ℤ) (at : Target) → Preserves R (without_line choose at)
+  without_keeps None at = halt_keeps _
+  without_keeps (Some n) at = and_keeps (work_action (λ _. random_number n 0)) _ (worked_keeps _) (λ v. and_keeps (show _) _ (shows _) (λ _. stores at v))
+
   module _ (takes : (said : List ℕ) (x : Tree) (prompt : List ℕ) → Preserves R (λ S. input_action said x prompt S.lines S)) where
     pub parts_keep : (parts : List Part) (w : ℕ) (operands : List ℤ) → Preserves R (parts_action parts w operands)
     unfolding parts_action
@@ -137,6 +141,9 @@ store_part at v = record { at = λ S a. record { place = refl; loops = refl; cal
 ask_part : (said : List ℕ) (x : Tree) (prompt : List ℕ) → Preserves PartChange (ask_for said x prompt)
 ask_part = ask_keeps PartChange part_joined part_itself show_part store_part
 
+without_part : (choose : Option ℤ) (at : Target) → Preserves PartChange (without_line choose at)
+without_part = without_keeps PartChange part_joined part_itself show_part store_part
+
 take_part : (l : List ℕ) (ls : List (List ℕ)) → Preserves PartChange (take_line l ls)
 take_part l ls = record { at = λ S a. record { place = refl; loops = refl; calls = refl; steps = refl; shown = (l ++ newline, append_assoc S.shown l newline) } }
 
@@ -150,7 +157,7 @@ again_part at again (Err f) k = then_part (show _) _ (show_part _) (λ _. k)
 
 pub input_part : (said : List ℕ) (x : Tree) (prompt : List ℕ) (lines : List (List ℕ)) → Preserves PartChange (input_action said x prompt lines)
 unfolding input_action line_value
-input_part said x prompt [] = then_part (ask_for said x prompt) _ (ask_part said x prompt) (λ at. halt_part _)
+input_part said x prompt [] = then_part (ask_for said x prompt) _ (ask_part said x prompt) (λ at. record { at = λ S a. (without_part S.choose at).at S a })
 input_part said x prompt (l ∷ ls) =
     then_part (ask_for said x prompt) _ (ask_part said x prompt) (λ at.
     then_part (take_line l ls) _ (take_part l ls) (λ _.
@@ -174,6 +181,9 @@ taken_joined S T U a b = takes_joined S.lines T.lines U.lines a b
 abbrev pub SameLines : State → State → Type 0
 SameLines S T = T.lines ≡ S.lines
 
+without_lines : (choose : Option ℤ) (at : Target) → Preserves SameLines (without_line choose at)
+without_lines = without_keeps SameLines (λ S T U p q. q ∙ p) (λ S. refl) (λ s. record { at = λ S a. refl }) (λ at v. record { at = λ S a. refl })
+
 pub ask_lines : (said : List ℕ) (x : Tree) (prompt : List ℕ) → Preserves SameLines (ask_for said x prompt)
 ask_lines = ask_keeps SameLines (λ S T U p q. q ∙ p) (λ S. refl) (λ s. record { at = λ S a. refl }) (λ at v. record { at = λ S a. refl })
 
@@ -193,7 +203,7 @@ again_takes ls at again each (Err f) T rest k = each _ rest k
 pub input_takes : (said : List ℕ) (x : Tree) (prompt : List ℕ) (ls : List (List ℕ)) (S : State) (a : Answers) → S.lines ≡ ls → TakesLines ls (action_state (input_action said x prompt ls S a)).lines
 unfolding input_action line_value
 input_takes said x prompt [] S a e =
-    then_takes _ [] (ask_for said x prompt S a) ((ask_lines said x prompt).at S a ∙ e) (λ at T rest k. ([], sym k))
+    then_takes _ [] (ask_for said x prompt S a) ((ask_lines said x prompt).at S a ∙ e) (λ at T rest k. ([], sym ((without_lines T.choose at).at T rest ∙ k)))
 input_takes said x prompt (l ∷ ls) S a e =
     then_takes _ (l ∷ ls) (ask_for said x prompt S a) ((ask_lines said x prompt).at S a ∙ e) (λ at T rest k.
     let U : State = record T { lines = ls; shown = T.shown ++ l ++ newline } in

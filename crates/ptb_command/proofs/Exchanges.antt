@@ -1,5 +1,5 @@
 -- This file proves how exchanges with the devices are put together.
-use Rattle.std.proofs.Common.{◌≡◌, ℕ, List, [], ◌++◌, Option, Some, None, ℤ, refl, sym, ap, subst, ◌∙◌, arith, append_assoc, append-nil, inl, inr, Bool}
+use Rattle.std.proofs.Common.{◌≡◌, ℕ, List, [], ◌∷◌, ◌++◌, length, Option, Some, None, ℤ, refl, sym, ap, subst, ◌∙◌, arith, append_assoc, append-nil, length-append, inl, inr, Bool}
 use Rattle.std.specs.Prelude.{IsTrue}
 use Rattle.std.specs.Io.KnownBytes.{Appends}
 use Rattle.ptb_text.specs.Device.{HasFailed}
@@ -8,7 +8,7 @@ use Rattle.ptb_expr.specs.Choices.{Choices, with_answers, with_bounds}
 use Rattle.ptb_command.specs.declared.stop.DeviceError.{DeviceError}
 use Rattle.ptb_command.specs.declared.stop.DeviceError.TheVariants as errors
 use Rattle.ptb_devices.specs.declared.fault.ReadFault.TheVariants as faults
-use Rattle.ptb_command.specs.Devices.{ScreenState, Devices, Exchange, no_exchange, both_exchanges, Shows, Exchanges, Refusal, Unanswered, Unread, HasNoMemory, IsUnread, HasBroken}
+use Rattle.ptb_command.specs.Devices.{ScreenState, Devices, Exchange, no_exchange, both_exchanges, Shows, Exchanges, MayFollow, Refusal, Unanswered, Unread, HasNoMemory, IsUnread, HasBroken}
 use Rattle.ptb_expr.specs.declared.pause.Pause.TheVariants as pauses
 
 -- ---- choices
@@ -52,7 +52,7 @@ shows_then a b c xs ys p q = record {
 }
 
 pub exchanges_none : (d : Devices) → Exchanges d d no_exchange
-exchanges_none d = record { grown = sym (with_answers_nil d.choices); shows = shows_nothing d.screen; unfailed = refl; given = sym (append-nil d.given) }
+exchanges_none d = record { grown = sym (with_answers_nil d.choices); shows = shows_nothing d.screen; unfailed = refl; given = sym (append-nil d.given); falls = omega arith; same_choose = refl }
 
 pub exchanges_then : {c d e : Devices} {x y : Exchange} → Exchanges c d x → Exchanges d e y → Exchanges c e (both_exchanges x y)
 exchanges_then {c = c} {d = d} {e = e} {x = x} {y = y} p q = record {
@@ -60,7 +60,17 @@ exchanges_then {c = c} {d = d} {e = e} {x = x} {y = y} p q = record {
   shows = shows_then c.screen d.screen e.screen x.bytes y.bytes p.shows q.shows;
   unfailed = q.unfailed ∙ p.unfailed;
   given = q.given ∙ ap (λ l. l ++ y.given) p.given ∙ append_assoc c.given x.given y.given;
+  falls = omega (arith, p.falls, q.falls, length-append x.given y.given);
+  same_choose = q.same_choose ∙ p.same_choose;
 }
+
+pub no_lines : (xs ys : List (List ℕ)) → length xs ≡ 0 → ys ≡ [] → xs ++ ys ≡ []
+no_lines [] ys e k = k
+no_lines (x ∷ xs) ys e k = absurd (omega (arith, e))
+
+-- what may follow an exchange may, behind the lines that it gives, follow what came before it
+pub follows_before : {d e : Devices} {y : Exchange} → Exchanges d e y → (rest : List (List ℕ)) → MayFollow e rest → MayFollow d (y.given ++ rest)
+follows_before {y = y} q rest f = λ none. no_lines y.given rest (omega (arith, q.falls, none)) (f (omega (arith, q.falls, none)))
 
 -- ---- failures
 

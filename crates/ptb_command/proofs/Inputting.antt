@@ -1,6 +1,9 @@
 -- This file proves what an item of INPUT comes to, step by step.
-use Rattle.std.proofs.Common.{◌≡◌, ℕ, Bool, List, [], ◌∷◌, ◌++◌, Option, Result, Ok, Err, ℤ, refl, sym, ap, subst, ◌∙◌, append_assoc, append-nil, arith, inl, inr, Bor}
-use Rattle.std.specs.Prelude.{IfOk}
+use Rattle.std.proofs.Common.{◌≡◌, ◌≤◌, ◌+◌, ℕ, Bool, true, List, [], ◌∷◌, ◌++◌, Option, Some, None, Result, Ok, Err, ℤ, pos, refl, sym, ap, subst, ◌∙◌, append_assoc, append-nil, arith, inl, inr, Bor}
+use Rattle.std.proofs.lemmas.Int.{ints}
+use Rattle.std.specs.Prelude.{IfOk, if◌then◌else◌, int_le, ◌≤ℤ◌}
+use Rattle.std.specs.Fmt.{signed_decimal}
+use Rattle.ptb_expr.specs.declared.fault.FaultKind.TheVariants.{How}
 use Rattle.std.proofs.Math.Path.{fun_ext}
 use Rattle.ptb_expr.specs.declared.fault.Fault.{Fault}
 use Rattle.ptb_expr.specs.declared.fault.Stop.{Stop as NoValue}
@@ -9,11 +12,11 @@ use Rattle.ptb_expr.specs.declared.pause.Pause.{Pause}
 use Rattle.ptb_expr.specs.declared.store.Target.{Target}
 use Rattle.ptb_expr.specs.Choices.{Choices}
 use Rattle.ptb_expr.specs.Evaluate.{WorkComes}
-use Rattle.ptb_expr.specs.Outcome.{Answers, Outcome, Done, Asks, Out, go_on, map_outcome}
+use Rattle.ptb_expr.specs.Outcome.{Answers, Outcome, Done, Asks, Out, go_on, map_outcome, failure, answer}
 use Rattle.ptb_expr.specs.Reading.{item_of, expression, variable_tree}
 use Rattle.ptb_expr.specs.Store.{Cells}
 use Rattle.ptb_expr.specs.Tree.{Tree}
-use Rattle.ptb_expr.specs.Value.{value}
+use Rattle.ptb_expr.specs.Value.{Work, fault, random_number, chosen, value}
 use Rattle.ptb_command.specs.declared.commands.input.Asking.{Asking}
 use Rattle.ptb_command.specs.declared.ending.Ending.TheVariants as endings
 use Rattle.ptb_devices.specs.declared.fault.ReadFault.{ReadFault}
@@ -26,16 +29,16 @@ use Rattle.ptb_command.specs.declared.stop.Stop.{Stop}
 use Rattle.ptb_command.specs.declared.stop.Stop.TheVariants as stops
 use Rattle.ptb_command.specs.Commands.{Part, Take, input_item}
 use Rattle.ptb_command.specs.State.{State}
-use Rattle.ptb_command.specs.Actions.{Ends, Progress, Goes, Halts, Action, on_progress, and_then, goes_on, halt, show, attempt}
-use Rattle.ptb_command.specs.Act.{newline, word_of, target_action, store, take_line, ask_for, store_or_again, input_action, parts_action}
+use Rattle.ptb_command.specs.Actions.{Ends, Progress, Goes, Halts, Action, on_progress, and_then, goes_on, halt, show, attempt, or_halt, work_action}
+use Rattle.ptb_command.specs.Act.{newline, word_of, target_action, store, take_line, ask_for, store_or_again, answer_instead, without_line, input_action, parts_action}
 use Rattle.ptb_command.specs.Asking.{item_action, IsAsked}
 use Rattle.ptb_command.specs.Reads.{IsRead}
 use Rattle.ptb_command.specs.Effects.{action_state}
 use Rattle.ptb_devices.specs.Sources.{given_lines}
-use Rattle.ptb_command.specs.Devices.{Devices, with_choices, Refusal, Unanswered, Unread, NoLine, refused_answers, refused_by, HasBroken}
+use Rattle.ptb_command.specs.Devices.{Devices, Exchanges, no_exchange, with_choices, Refusal, Unanswered, Unread, NoLine, refused_answers, refused_by, HasBroken}
 use Rattle.ptb_command.specs.Io.{io_devices, io_trace}
 use Rattle.ptb_command.specs.Traces.{Trace, trace, after, RefinesPart}
-use Rattle.ptb_command.specs.Stops.{stop_of, stop_of_read, WantsLine, Stops, RefinesPartTo, Comes}
+use Rattle.ptb_command.specs.Stops.{stop_of, stop_of_read, LacksLine, WantsLine, Stops, RefinesPartTo, Comes}
 use Rattle.ptb_command.proofs.Effects.{takes_joined, ask_lines, input_part, input_takes}
 use Rattle.ptb_command.proofs.Exchanges.{shows_nothing, with_answers_nil}
 use Rattle.ptb_command.proofs.PartRefinement.{leaves_to, leaves_itself, after_nothing, freshens_nothing, refines_part_refl, refines_part_then}
@@ -43,7 +46,7 @@ use Rattle.ptb_command.proofs.Stops.{GoesForward, forward_itself, Adds, parts_ad
 use Rattle.ptb_command.proofs.Actions.{goes_adds, show_adds, then_adds, work_action_adds, refines_part_on, stops_first}
 use Rattle.ptb_command.proofs.Letting.{store_adds}
 use Rattle.ptb_command.proofs.Parts.{refines_part_part, stops_part}
-use Rattle.ptb_command.proofs.Working.{has_result, has_paused}
+use Rattle.ptb_command.proofs.Working.{has_result, has_paused, has_value, has_no_value}
 
 -- ---- bytes in two pieces
 
@@ -95,6 +98,98 @@ next_same F G ls same (Done (Goes x T) rest) e = ap (λ h. h rest) (same x T e)
 next_same F G ls same (Done (Halts h T) rest) e = refl
 next_same F G ls same (Asks n T) e = refl
 next_same F G ls same (Out n T) e = refl
+
+-- ---- a source that can give less
+
+abbrev pub with_most : ℕ → Trace → Trace
+with_most most m = record m { devices = record m.devices { most = most } }
+
+abbrev pub with_given : List (List ℕ) → Trace → Trace
+with_given given m = record m { devices = record m.devices { given = given } }
+
+exchanges_most : (d : Devices) (most : ℕ) → most ≤ d.most → Exchanges d (record d { most = most }) no_exchange
+exchanges_most d most fewer = record {
+  grown = sym (with_answers_nil d.choices);
+  shows = shows_nothing d.screen;
+  unfailed = refl;
+  given = sym (append-nil d.given);
+  falls = omega (arith, fewer);
+  same_choose = refl;
+}
+
+fewer_left : {A : Type 0} (m : Trace) (most : ℕ) → most ≤ m.devices.most → (f : Action A) → RefinesPart m (with_most most m) f f
+fewer_left m most fewer f = record {
+  exchange = no_exchange;
+  exchanges = exchanges_most m.devices most fewer;
+  fresh = freshens_nothing m.fresh;
+  leaves = λ S rest _ w. leaves_to (f (after m [] rest S)) (ap f (after_nothing m rest S w)) (leaves_itself (f S));
+}
+
+-- ---- an answer instead of a line
+
+random_chosen : (n : ℤ) (m : ℕ) → pos 1 ≤ℤ n → chosen n ≡ random_number n m
+unfolding random_number
+random_chosen n m h =
+    let b : int_le (pos 1) n ≡ true = grind (arith, ints) in
+    sym (ap (λ (c : Bool). if c then chosen n else failure (fault How m)) b)
+
+chosen_asks : (n : ℤ) → chosen n [] ≡ Asks n tt
+unfolding answer
+chosen_asks n = refl
+
+-- with a value that is found as RND finds it
+module _ (n : ℤ) (at : Target) where
+  abbrev pub instead_value : Action ℤ
+  instead_value = work_action (λ c. random_number n 0)
+
+  instead_next : ℤ → Action (Unit {0})
+  instead_next v = and_then (show (signed_decimal v ++ newline)) (λ u. store at v)
+
+  instead_next_adds : (v : ℤ) → Adds (instead_next v)
+  unfolding instead_next
+  instead_next_adds v = then_adds (show (signed_decimal v ++ newline)) (λ u. store at v) (show_adds _) (λ u. store_adds at v)
+
+  instead_asks : pos 1 ≤ℤ n → (S : State) → answer_instead n at S [] ≡ Asks n S
+  instead_asks h S =
+      ap (λ (f : Work ℤ). and_then (work_action (λ c. f)) (λ v. and_then (show (signed_decimal v ++ newline)) (λ u. store at v)) S []) (sym (random_chosen n 0 h))
+      ∙ ap (λ o. go_on (go_on (map_outcome (λ r. Goes r S) (λ u. S) o) (on_progress or_halt)) (on_progress (λ v. and_then (show (signed_decimal v ++ newline)) (λ u. store at v)))) (chosen_asks n)
+
+  pub instead_value_stops : (refused : Refusal → Type 0) (o k : Trace) (e : Stop) → Stops refused (RefinesPartTo o k instead_value) k.devices e → Stops refused (RefinesPartTo o k (answer_instead n at)) k.devices e
+  unfolding instead_value instead_next
+  instead_value_stops refused o k e h = stops_first refused o k instead_value instead_next instead_next_adds e h
+
+  value_then : {o m : Trace} (v u : ℤ) → u ≡ v → RefinesPart o m instead_value (goes_on u) → RefinesPart o m (answer_instead n at) (instead_next v)
+  unfolding instead_value instead_next
+  value_then {o = o} {m = m} v u k a = refines_part_on instead_next (subst (λ (z : ℤ). RefinesPart o m instead_value (goes_on z)) k a)
+
+  pub instead_digits_stops : (refused : Refusal → Type 0) {o m : Trace} (k : Trace) (v u : ℤ) → u ≡ v → (e : Stop) → RefinesPart o m instead_value (goes_on u) → Stops refused (RefinesPartTo m k (show (signed_decimal v))) k.devices e → Stops refused (RefinesPartTo o k (answer_instead n at)) k.devices e
+  unfolding instead_next
+  instead_digits_stops refused {m = m} k v u is e a h =
+      stops_after refused k (value_then v u is a) e
+      (stops_first refused m k (show (signed_decimal v ++ newline)) (λ u. store at v) (λ u. store_adds at v) e (first_stops (signed_decimal v) newline refused m k e h))
+
+  pub instead_newline_stops : (refused : Refusal → Type 0) {o m l : Trace} (k : Trace) (v u : ℤ) → u ≡ v → (e : Stop) → RefinesPart o m instead_value (goes_on u) → RefinesPart m l (show (signed_decimal v)) (goes_on tt) → Stops refused (RefinesPartTo l k (show newline)) k.devices e → Stops refused (RefinesPartTo o k (answer_instead n at)) k.devices e
+  unfolding instead_next
+  instead_newline_stops refused {m = m} k v u is e a b h =
+      stops_after refused k (value_then v u is a) e
+      (stops_first refused m k (show (signed_decimal v ++ newline)) (λ u. store at v) (λ u. store_adds at v) e (second_stops (signed_decimal v) newline refused k e b h))
+
+  pub instead_stored : {o m l j k : Trace} (v u : ℤ) → u ≡ v → RefinesPart o m instead_value (goes_on u) → RefinesPart m l (show (signed_decimal v)) (goes_on tt) → RefinesPart l j (show newline) (goes_on tt) → RefinesPart j k (store at v) (goes_on tt) → RefinesPart o k (answer_instead n at) (goes_on tt)
+  unfolding instead_next
+  instead_stored v u is a b c d =
+      refines_part_then (value_then v u is a) (refines_part_then (refines_part_on (λ u. store at v) (both_move (signed_decimal v) newline b c)) d)
+
+-- what the chooser comes to, as the value
+module _ (refused : Pause → ℤ → Type 0) (n : ℤ) (c e : Choices) (d : Devices) (fresh : Bool) (cells : Cells) (high : pos 1 ≤ℤ n) where
+  pub chosen_value : (at : Target) (v : ℤ) → WorkComes refused (chosen n) c e (Ok v) → RefinesPart (trace (with_choices c d) fresh cells) (trace (with_choices e d) fresh cells) (instead_value n at) (goes_on v)
+  unfolding instead_value
+  chosen_value at v h =
+      has_value (λ c. random_number n 0) c e d fresh cells v v refl (subst (λ (f : Work ℤ). WorkComes refused f c e (Ok v)) (random_chosen n 0 high) h)
+
+  pub chosen_stops : (at : Target) (s : NoValue) → WorkComes refused (chosen n) c e (Err s) → Stops (refused_answers refused) (RefinesPartTo (trace (with_choices c d) fresh cells) (trace (with_choices e d) fresh cells) (instead_value n at)) (with_choices e d) (stop_of s)
+  unfolding instead_value
+  chosen_stops at s h =
+      has_no_value (λ c. random_number n 0) c e d fresh cells refused s (subst (λ (f : Work ℤ). WorkComes refused f c e (Err s)) (random_chosen n 0 high) h)
 
 -- ---- before a line is taken
 
@@ -187,7 +282,7 @@ module _ (said : List ℕ) (x : Tree) (prompt : List ℕ) where
 
   -- by the lines that are left
   answer_by : Target → List (List ℕ) → Action (Unit {0})
-  answer_by at [] = halt (Ends endings.NoInput)
+  answer_by at [] = λ S. without_line S.choose at S
   answer_by at (l ∷ ls) = and_then (take_line l ls) (λ u. and_then (line_value l) (store_or_again at (input_action said x prompt ls)))
 
   -- a line is wanted
@@ -197,7 +292,7 @@ module _ (said : List ℕ) (x : Tree) (prompt : List ℕ) where
   by_lines : (ls : List (List ℕ)) (S : State) (a : Answers) → S.lines ≡ ls → input_action said x prompt ls S a ≡ and_then (ask_for said x prompt) wants S a
   unfolding input_action wants answer_by
   by_lines [] S a e =
-      next_same (λ at. answer_by at []) wants [] (λ at T k. ap (λ ls. answer_by at ls T) (sym k)) (ask_for said x prompt S a) ((ask_lines said x prompt).at S a ∙ e)
+      next_same (λ at S. without_line S.choose at S) wants [] (λ at T k. ap (λ ls. answer_by at ls T) (sym k)) (ask_for said x prompt S a) ((ask_lines said x prompt).at S a ∙ e)
   by_lines (l ∷ ls) S a e =
       next_same (λ at. answer_by at (l ∷ ls)) wants (l ∷ ls) (λ at T k. ap (λ ls. answer_by at ls T) (sym k)) (ask_for said x prompt S a) ((ask_lines said x prompt).at S a ∙ e)
 
@@ -218,10 +313,15 @@ module _ (said : List ℕ) (x : Tree) (prompt : List ℕ) where
       ap (λ (s : List ℕ). and_then (line_value l) (store_or_again at (input_action said x prompt ls)) (record S { lines = ls; shown = s })) (append_assoc S.shown l newline)
       ∙ fun_ext (λ a. again_same at ls (record S { lines = ls; shown = S.shown ++ (l ++ newline) }) refl (value S.cells (item_of (expression l 0)) a))
 
+  -- without a line
+  without_adds : (choose : Option ℤ) (at : Target) → Adds (without_line choose at)
+  without_adds None at = record { at = λ S a. forward_itself S }
+  without_adds (Some n) at = then_adds (work_action (λ _. random_number n 0)) _ (work_action_adds _) (λ v. then_adds (show _) _ (show_adds _) (λ _. store_adds at v))
+
   -- one line is taken, and what is left of the item takes more
   answer_adds : (at : Target) (ls : List (List ℕ)) (S : State) (a : Answers) → S.lines ≡ ls → GoesForward S (action_state (answer_by at ls S a))
   unfolding answer_by line_next worth
-  answer_adds at [] S a e = forward_itself S
+  answer_adds at [] S a e = (without_adds S.choose at).at S a
   answer_adds at (l ∷ ls) S a e =
       let T : State = record S { lines = ls } in
       let f = (then_adds (show (l ++ newline)) (λ u. worth at l) (show_adds _) (λ u. worth_adds at l)).at T a in
@@ -241,58 +341,85 @@ module _ (said : List ℕ) (x : Tree) (prompt : List ℕ) where
   take_ask_stops refused o n e h =
       subst (λ (f : Action (Unit {0})). Stops refused (RefinesPartTo o n f) n.devices e) (sym item_action_asks) (stops_first refused o n (ask_for said x prompt) wants wants_adds e h)
 
-  -- no line is left
-  pub take_dry : (refused : Refusal → Type 0) {o n : Trace} (at : Target) → RefinesPart o n (ask_for said x prompt) (goes_on at) → refused NoLine → Stops refused (RefinesPartTo o n (item_action said x prompt)) n.devices stops.NoInput
+  -- the source can give none, so none is left
+  no_line : (m : Trace) (most : ℕ) (at : Target) → most ≡ 0 → RefinesPart m (with_most most m) (wants at) (without_line m.devices.choose at)
   unfolding wants answer_by
-  take_dry refused at a h = record {
-    left = wants at;
-    comes = wanted at a;
-    dry = λ S b e. ap (λ ls. answer_by at ls S b) e;
+  no_line m most at none = record {
+    exchange = no_exchange;
+    exchanges = exchanges_most m.devices most (omega (arith, none));
+    fresh = freshens_nothing m.fresh;
+    leaves = λ S rest f w.
+        let lines : S.lines ≡ [] = w.lines ∙ f none in
+        leaves_to (without_line m.devices.choose at (after m [] rest S))
+        (ap (λ ls. answer_by at ls S) lines
+        ∙ ap (λ c. without_line c at S) w.choose
+        ∙ ap (without_line m.devices.choose at) (after_nothing m rest S w))
+        (leaves_itself (wants at S));
+  }
+
+  pub take_none : {o m : Trace} (most : ℕ) (at : Target) → most ≡ 0 → RefinesPart o m (ask_for said x prompt) (goes_on at) → RefinesPart o (with_most most m) (item_action said x prompt) (without_line m.devices.choose at)
+  take_none {m = m} most at none a = refines_part_then (wanted at a) (no_line m most at none)
+
+  -- the run ends for want of a line
+  pub take_dry : (refused : Refusal → Type 0) {o m : Trace} (most : ℕ) (at : Target) → most ≡ 0 → m.devices.choose ≡ None → RefinesPart o m (ask_for said x prompt) (goes_on at) → refused NoLine → Stops refused (RefinesPartTo o (with_most most m) (item_action said x prompt)) (with_most most m).devices stops.NoInput
+  take_dry refused {o = o} {m = m} most at none choose a h = record {
+    left = halt (Ends endings.NoInput);
+    comes = subst (λ c. RefinesPart o (with_most most m) (item_action said x prompt) (without_line c at)) choose (take_none most at none a);
+    dry = λ S b e. refl;
     refuses = h;
   }
 
+  -- an answer is asked for instead
+  pub take_instead : {o m : Trace} (most : ℕ) (n : ℤ) (at : Target) → most ≡ 0 → m.devices.choose ≡ Some n → RefinesPart o m (ask_for said x prompt) (goes_on at) → RefinesPart o (with_most most m) (item_action said x prompt) (answer_instead n at)
+  take_instead {o = o} {m = m} most n at none choose a =
+      subst (λ c. RefinesPart o (with_most most m) (item_action said x prompt) (without_line c at)) choose (take_none most at none a)
+
   -- the lines can't be read
+  lacks_line : (at : Target) (S : State) (choose : Option ℤ) → wants at S ≡ without_line choose at S → LacksLine choose (Halts (Ends endings.NoInput)) (wants at) S
+  lacks_line at S None e = λ b. ap (λ (f : Answers → Outcome (Progress (Unit {0})) State). f b) e
+  lacks_line at S (Some n) e = λ h. ap (λ (f : Answers → Outcome (Progress (Unit {0})) State). f []) e ∙ instead_asks n at h S
+
   line_wanted : (at : Target) (e : DeviceError) → WantsLine e (Halts (Ends endings.NoInput)) [] (wants at)
   unfolding wants answer_by
-  line_wanted at errors.Read = (refl, λ S b k. ap (λ ls. answer_by at ls S b) k)
+  line_wanted at errors.Read = (refl, λ S k. lacks_line at S S.choose (ap (λ ls. answer_by at ls S) k))
   line_wanted at errors.Memory = tt
   line_wanted at errors.Write = tt
 
-  unread : (refused : Refusal → Type 0) {o n : Trace} (at : Target) (e : DeviceError) → RefinesPart o n (ask_for said x prompt) (goes_on at) → HasBroken refused n.devices.screen n.devices.screen e → Stops refused (RefinesPartTo o n (item_action said x prompt)) n.devices (stops.Broke e)
-  unread refused {n = n} at e a h = record {
+  unread : (refused : Refusal → Type 0) {o m : Trace} (most : ℕ) (at : Target) (e : DeviceError) → most ≤ m.devices.most → RefinesPart o m (ask_for said x prompt) (goes_on at) → HasBroken refused m.devices.screen m.devices.screen e → Stops refused (RefinesPartTo o (with_most most m) (item_action said x prompt)) (with_most most m).devices (stops.Broke e)
+  unread refused {m = m} most at e fewer a h = record {
     left = wants at;
-    middle = n.devices.screen;
+    middle = m.devices.screen;
     part = [];
-    comes = wanted at a;
-    shows = shows_nothing n.devices.screen;
+    comes = refines_part_then (wanted at a) (fewer_left m most fewer (wants at));
+    shows = shows_nothing m.devices.screen;
     begins = λ S b. let more = ((wants_adds at).at S b).shown in (more.0, more.1 ∙ ap (λ s. s ++ more.0) (sym (append-nil S.shown)));
     takes = λ S b. ((wants_adds at).at S b).lines;
     wants = line_wanted at e;
     broken = h;
   }
 
-  pub take_unread : (refused : Refusal → Type 0) {o n : Trace} (at : Target) (f : ReadFault) → RefinesPart o n (ask_for said x prompt) (goes_on at) → refused (Unread f) → Stops refused (RefinesPartTo o n (item_action said x prompt)) n.devices (stop_of_read f)
-  take_unread refused at reads.Read a h = unread refused at errors.Read a (record { by = inl h }, refl)
-  take_unread refused at reads.TooLong a h = unread refused at errors.Read a (record { by = inr h }, refl)
-  take_unread refused at reads.Memory a h = unread refused at errors.Memory a (record { by = inr (inr h) }, refl)
+  pub take_unread : (refused : Refusal → Type 0) {o m : Trace} (most : ℕ) (at : Target) (f : ReadFault) → most ≤ m.devices.most → RefinesPart o m (ask_for said x prompt) (goes_on at) → refused (Unread f) → Stops refused (RefinesPartTo o (with_most most m) (item_action said x prompt)) (with_most most m).devices (stop_of_read f)
+  take_unread refused most at reads.Read fewer a h = unread refused most at errors.Read fewer a (record { by = inl h }, refl)
+  take_unread refused most at reads.TooLong fewer a h = unread refused most at errors.Read fewer a (record { by = inr h }, refl)
+  take_unread refused most at reads.Memory fewer a h = unread refused most at errors.Memory fewer a (record { by = inr (inr h) }, refl)
 
   -- the lines given are then k
-  line_given : (m : Trace) (at : Target) (l : List ℕ) (k : List (List ℕ)) → k ≡ m.devices.given ++ l ∷ [] → RefinesPart m (record m { devices = record m.devices { given = k } }) (wants at) (line_next at l)
+  line_given : (m : Trace) (most : ℕ) (at : Target) (l : List ℕ) (k : List (List ℕ)) → most + 1 ≤ m.devices.most → k ≡ m.devices.given ++ l ∷ [] → RefinesPart m (with_given k (with_most most m)) (wants at) (line_next at l)
   unfolding wants
-  line_given m at l k e = record {
+  line_given m most at l k fewer e = record {
     exchange = record { answers = []; bounds = []; bytes = []; given = l ∷ [] };
-    exchanges = record { grown = sym (with_answers_nil m.devices.choices); shows = shows_nothing m.devices.screen; unfailed = refl; given = e };
+    exchanges = record { grown = sym (with_answers_nil m.devices.choices); shows = shows_nothing m.devices.screen; unfailed = refl; given = e; falls = omega (arith, fewer); same_choose = refl };
     fresh = freshens_nothing m.fresh;
-    leaves = λ S rest w.
+    leaves = λ S rest f w.
         let taken : record S { lines = rest } ≡ after m [] rest S =
-        after_nothing m rest (record S { lines = rest }) (record { fresh = w.fresh; cells = w.cells; lines = refl }) in
+        after_nothing m rest (record S { lines = rest }) (record { fresh = w.fresh; cells = w.cells; lines = refl; choose = w.choose }) in
         leaves_to (line_next at l (after m [] rest S))
         (ap (λ ls. answer_by at ls S) w.lines ∙ given_same at l rest S ∙ ap (line_next at l) taken)
         (leaves_itself (wants at S));
   }
 
-  pub take_given : {o m : Trace} (at : Target) (l : List ℕ) (k : List (List ℕ)) → k ≡ m.devices.given ++ l ∷ [] → RefinesPart o m (ask_for said x prompt) (goes_on at) → RefinesPart o (record m { devices = record m.devices { given = k } }) (item_action said x prompt) (line_next at l)
-  take_given {m = m} at l k e a = refines_part_then (wanted at a) (line_given m at l k e)
+  pub take_given : {o m : Trace} (most : ℕ) (at : Target) (l : List ℕ) (k : List (List ℕ)) → most + 1 ≤ m.devices.most → k ≡ m.devices.given ++ l ∷ [] → RefinesPart o m (ask_for said x prompt) (goes_on at) → RefinesPart o (with_given k (with_most most m)) (item_action said x prompt) (line_next at l)
+  take_given {m = m} most at l k fewer e a = refines_part_then (wanted at a) (line_given m most at l k fewer e)
 
   -- ---- once a line is given
 
@@ -370,13 +497,13 @@ none_given o f =
     subst (λ (ks : List (List ℕ)). RefinesPart o (record o { devices = record o.devices { given = ks } }) f f) (sym (append-nil o.devices.given)) (refines_part_refl o f)
 
 -- lines that are given after others
-module _ {C S L : Type 0} (choices : C → Choices) (screen : Ghosts S) (io : Io C S L) (cells : Cells) (before xs ys : List (List ℕ)) where
-  pub refines_part_joined : {A : Type 0} {m : Trace} {f g : Action A} → RefinesPart m (io_trace choices screen io ((before ++ xs) ++ ys) cells) f g → RefinesPart m (io_trace choices screen io (before ++ (xs ++ ys)) cells) f g
-  refines_part_joined {m = m} {f = f} {g = g} h = subst (λ (ks : List (List ℕ)). RefinesPart m (io_trace choices screen io ks cells) f g) (append_assoc before xs ys) h
+module _ {C S L : Type 0} (choices : C → Choices) (screen : Ghosts S) (most : L → ℕ) (io : Io C S L) (cells : Cells) (before xs ys : List (List ℕ)) where
+  pub refines_part_joined : {A : Type 0} {m : Trace} {f g : Action A} → RefinesPart m (io_trace choices screen most io ((before ++ xs) ++ ys) cells) f g → RefinesPart m (io_trace choices screen most io (before ++ (xs ++ ys)) cells) f g
+  refines_part_joined {m = m} {f = f} {g = g} h = subst (λ (ks : List (List ℕ)). RefinesPart m (io_trace choices screen most io ks cells) f g) (append_assoc before xs ys) h
 
-  pub stops_joined : {A : Type 0} (refused : Refusal → Type 0) (m : Trace) (f : Action A) (e : Stop) → Stops refused (RefinesPartTo m (io_trace choices screen io ((before ++ xs) ++ ys) cells) f) (io_devices choices screen io ((before ++ xs) ++ ys)) e → Stops refused (RefinesPartTo m (io_trace choices screen io (before ++ (xs ++ ys)) cells) f) (io_devices choices screen io (before ++ (xs ++ ys))) e
+  pub stops_joined : {A : Type 0} (refused : Refusal → Type 0) (m : Trace) (f : Action A) (e : Stop) → Stops refused (RefinesPartTo m (io_trace choices screen most io ((before ++ xs) ++ ys) cells) f) (io_devices choices screen most io ((before ++ xs) ++ ys)) e → Stops refused (RefinesPartTo m (io_trace choices screen most io (before ++ (xs ++ ys)) cells) f) (io_devices choices screen most io (before ++ (xs ++ ys))) e
   stops_joined refused m f e h =
-      subst (λ (ks : List (List ℕ)). Stops refused (RefinesPartTo m (io_trace choices screen io ks cells) f) (io_devices choices screen io ks) e) (append_assoc before xs ys) h
+      subst (λ (ks : List (List ℕ)). Stops refused (RefinesPartTo m (io_trace choices screen most io ks cells) f) (io_devices choices screen most io ks) e) (append_assoc before xs ys) h
 
 -- what a line is worth
 pub line_known : {o n : Trace} (l : List ℕ) (r s : Result ℤ Fault) → r ≡ s → RefinesPart o n (line_value l) (goes_on r) → RefinesPart o n (line_value l) (goes_on s)

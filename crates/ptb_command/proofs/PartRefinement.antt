@@ -9,7 +9,7 @@ use Rattle.ptb_command.specs.Actions.{Action, on_progress, and_then}
 use Rattle.ptb_command.specs.Act.{is_fresh}
 use Rattle.ptb_command.specs.Devices.{Exchange, no_exchange, both_exchanges}
 use Rattle.ptb_command.specs.Traces.{Trace, Freshens, Fits, after, Leaves, RefinesPart}
-use Rattle.ptb_command.proofs.Exchanges.{exchanges_none, exchanges_then}
+use Rattle.ptb_command.proofs.Exchanges.{exchanges_none, exchanges_then, follows_before}
 
 -- ---- questions that are answered
 
@@ -53,11 +53,11 @@ leaves_at p later = ap (λ h. h later) p.rest
 
 -- ---- states
 
-pub fits_after : (o n : Trace) (x : Exchange) (rest : List (List ℕ)) (S : State) → Freshens o.fresh x.bytes n.fresh → Fits o (x.given ++ rest) S → Fits n rest (after n x.bytes rest S)
-fits_after o n x rest S fresh w = record { fresh = fresh S.shown w.fresh; cells = refl; lines = refl }
+pub fits_after : (o n : Trace) (x : Exchange) (rest : List (List ℕ)) (S : State) → Freshens o.fresh x.bytes n.fresh → n.devices.choose ≡ o.devices.choose → Fits o (x.given ++ rest) S → Fits n rest (after n x.bytes rest S)
+fits_after o n x rest S fresh same w = record { fresh = fresh S.shown w.fresh; cells = refl; lines = refl; choose = w.choose ∙ sym same }
 
 fits_assoc : (o : Trace) (ks ls rest : List (List ℕ)) (S : State) → Fits o ((ks ++ ls) ++ rest) S → Fits o (ks ++ (ls ++ rest)) S
-fits_assoc o ks ls rest S w = record { fresh = w.fresh; cells = w.cells; lines = w.lines ∙ append_assoc ks ls rest }
+fits_assoc o ks ls rest S w = record { fresh = w.fresh; cells = w.cells; lines = w.lines ∙ append_assoc ks ls rest; choose = w.choose }
 
 pub after_nothing : (o : Trace) (rest : List (List ℕ)) (S : State) → Fits o rest S → S ≡ after o [] rest S
 after_nothing o rest S w =
@@ -82,7 +82,7 @@ refines_part_same o f g e = record {
   exchange = no_exchange;
   exchanges = exchanges_none o.devices;
   fresh = freshens_nothing o.fresh;
-  leaves = λ S rest w. leaves_to (g (after o [] rest S)) (e S rest w ∙ ap g (after_nothing o rest S w)) (leaves_itself (f S));
+  leaves = λ S rest _ w. leaves_to (g (after o [] rest S)) (e S rest w ∙ ap g (after_nothing o rest S w)) (leaves_itself (f S));
 }
 
 pub refines_part_refl : {A : Type 0} (o : Trace) (f : State → Answers → Outcome A State) → RefinesPart o o f f
@@ -93,13 +93,13 @@ refines_part_then {o = o} {m = m} {n = n} {f = f} {g = g} {h = h} a b = record {
   exchange = both_exchanges a.exchange b.exchange;
   exchanges = exchanges_then a.exchanges b.exchanges;
   fresh = freshens_then o.fresh m.fresh n.fresh a.exchange.bytes b.exchange.bytes a.fresh b.fresh;
-  leaves = λ S rest w.
+  leaves = λ S rest f w.
       let lines = b.exchange.given ++ rest in
       let fits = fits_assoc o a.exchange.given b.exchange.given rest S w in
       leaves_to (h (after n (a.exchange.bytes ++ b.exchange.bytes) rest S))
       (ap h (after_twice m n a.exchange.bytes b.exchange.bytes lines rest S))
-      (leaves_then (a.leaves S lines fits)
-      (b.leaves (after m a.exchange.bytes lines S) rest (fits_after o m a.exchange lines S a.fresh fits)));
+      (leaves_then (a.leaves S lines (follows_before b.exchanges rest f) fits)
+      (b.leaves (after m a.exchange.bytes lines S) rest f (fits_after o m a.exchange lines S a.fresh a.exchanges.same_choose fits)));
 }
 
 -- in what comes to the same where it asks
@@ -108,7 +108,7 @@ refines_part_into into asks m = record {
   exchange = m.exchange;
   exchanges = m.exchanges;
   fresh = m.fresh;
-  leaves = λ S rest w. leaves_under into (λ T. T) asks (m.leaves S rest w);
+  leaves = λ S rest f w. leaves_under into (λ T. T) asks (m.leaves S rest f w);
 }
 
 -- before what comes next

@@ -54,9 +54,9 @@ module _ (old new : ScreenState) (d : Devices) (fresh : Bool) (cells : Cells) (b
   pub shown : Shows old new bytes → new.failures ≡ old.failures → (after : Bool) → after ≡ fresh_after fresh bytes → RefinesPart (trace (with_screen old d) fresh cells) (trace (with_screen new d) after cells) (show bytes) (goes_on tt)
   shown s unfailed after e = record {
     exchange = bytes_alone bytes;
-    exchanges = record { grown = sym (with_answers_nil d.choices); shows = s; unfailed = unfailed; given = sym (append-nil d.given) };
+    exchanges = record { grown = sym (with_answers_nil d.choices); shows = s; unfailed = unfailed; given = sym (append-nil d.given); falls = omega arith; same_choose = refl };
     fresh = λ h k. is_fresh-append h bytes ∙ ap (λ x. fresh_after x bytes) k ∙ sym e;
-    leaves = λ S rest w. leaves_to _
+    leaves = λ S rest _ w. leaves_to _
         (ap (λ (c : Cells). goes_on tt (record S { cells = c; shown = S.shown ++ bytes })) w.cells
         ∙ ap (λ (l : List (List ℕ)). goes_on tt (record S { cells = cells; lines = l; shown = S.shown ++ bytes })) w.lines)
         (leaves_itself (show bytes S));

@@ -1,5 +1,5 @@
 -- This file proves how stops are put together: what stops a part of a command stops the command.
-use Rattle.std.proofs.Common.{◌≡◌, ℕ, List, ◌++◌, Result, Ok, Err, ℤ, refl, sym, ap, subst, ◌∙◌}
+use Rattle.std.proofs.Common.{◌≡◌, ℕ, List, ◌++◌, Option, Some, None, Result, Ok, Err, ℤ, refl, sym, ap, subst, ◌∙◌}
 use Rattle.std.specs.Result.{IsErrAnd}
 use Rattle.std.proofs.lemmas.Result.{err_from_is_err_and}
 use Rattle.ptb_expr.specs.declared.fault.Fault.{Fault}
@@ -21,7 +21,7 @@ use Rattle.ptb_command.specs.Act.{parts_action}
 use Rattle.ptb_command.specs.Effects.{action_state, Begins, TakesLines}
 use Rattle.ptb_command.specs.Devices.{Devices, with_screen, Refusal, Unanswered, NoLine}
 use Rattle.ptb_command.specs.Traces.{Trace, RefinesPart}
-use Rattle.ptb_command.specs.Stops.{WantsLine, Stops, RefinesPartTo, Comes}
+use Rattle.ptb_command.specs.Stops.{LacksLine, WantsLine, Stops, RefinesPartTo, Comes}
 use Rattle.ptb_command.proofs.Effects.{Preserves, begins_itself, begins_joined, takes_itself, takes_joined, attempt_state, parts_part, parts_take}
 use Rattle.ptb_command.proofs.Exchanges.{has_broken_from}
 use Rattle.ptb_command.proofs.PartRefinement.{refines_part_then, refines_part_under}
@@ -68,11 +68,15 @@ takes_before next adds lines (Done (Halts h S) rest) t = t
 takes_before next adds lines (Asks n S) t = t
 takes_before next adds lines (Out n S) t = t
 
+lacks_before : {A B : Type 0} (into : Outcome A State → Outcome B State) (ends : State → A) (over : State → B) → ((S : State) (a : Answers) → into (Done (ends S) a) ≡ Done (over S) a) → ((n : ℤ) (S : State) → into (Asks n S) ≡ Asks n S) → (left : State → Answers → Outcome A State) (S : State) (choose : Option ℤ) → LacksLine choose ends left S → LacksLine choose over (λ S a. into (left S a)) S
+lacks_before into ends over same asks left S None w = λ a. ap into (w a) ∙ same S a
+lacks_before into ends over same asks left S (Some n) w = λ h. ap into (w h) ∙ asks n S
+
 -- what wants a line wants it before what comes next
-pub wants_before : {A B : Type 0} (into : Outcome A State → Outcome B State) (ends : State → A) (over : State → B) → ((S : State) (a : Answers) → into (Done (ends S) a) ≡ Done (over S) a) → (part : List ℕ) (left : State → Answers → Outcome A State) (e : DeviceError) → WantsLine e ends part left → WantsLine e over part (λ S a. into (left S a))
-wants_before into ends over same part left errors.Read w = (w.0, λ S a k. ap into (w.1 S a k) ∙ same S a)
-wants_before into ends over same part left errors.Memory w = tt
-wants_before into ends over same part left errors.Write w = tt
+pub wants_before : {A B : Type 0} (into : Outcome A State → Outcome B State) (ends : State → A) (over : State → B) → ((S : State) (a : Answers) → into (Done (ends S) a) ≡ Done (over S) a) → ((n : ℤ) (S : State) → into (Asks n S) ≡ Asks n S) → (part : List ℕ) (left : State → Answers → Outcome A State) (e : DeviceError) → WantsLine e ends part left → WantsLine e over part (λ S a. into (left S a))
+wants_before into ends over same asks part left errors.Read w = (w.0, λ S k. lacks_before into ends over same asks left S S.choose (w.1 S k))
+wants_before into ends over same asks part left errors.Memory w = tt
+wants_before into ends over same asks part left errors.Write w = tt
 
 -- ---- before what comes next
 
@@ -109,7 +113,7 @@ module _ {A B : Type 0} (refused : Refusal → Type 0) (R : Devices → Action A
     shows = h.shows;
     begins = λ S a. begins_before next adds (S.shown ++ h.part) (h.left S a) (h.begins S a);
     takes = λ S a. takes_before next adds S.lines (h.left S a) (h.takes S a);
-    wants = wants_before (λ o. go_on o (on_progress next)) (Halts (Ends endings.NoInput)) (Halts (Ends endings.NoInput)) (λ S a. refl) h.part h.left e h.wants;
+    wants = wants_before (λ o. go_on o (on_progress next)) (Halts (Ends endings.NoInput)) (Halts (Ends endings.NoInput)) (λ S a. refl) (λ n S. refl) h.part h.left e h.wants;
     broken = h.broken;
   }
 
@@ -156,6 +160,10 @@ stops_more refused others more o n f e h = stops_along refused others more (Refi
 pub comes_after : {A X : Type 0} (refused : Refusal → Type 0) {o m : Trace} (n : Trace) {f g : Action A} (ok : X → Action A) → RefinesPart o m f g → (r : Result X Stop) → Comes refused m n g ok r → Comes refused o n f ok r
 comes_after refused n ok a (Ok x) h = refines_part_then a h
 comes_after refused n ok a (Err e) h = stops_after refused n a e h
+
+pub comes_more : {A X : Type 0} (refused others : Refusal → Type 0) → ((r : Refusal) → refused r → others r) → (o n : Trace) (f : Action A) (ok : X → Action A) (r : Result X Stop) → Comes refused o n f ok r → Comes others o n f ok r
+comes_more refused others more o n f ok (Ok x) h = h
+comes_more refused others more o n f ok (Err e) h = stops_more refused others more o n f e h
 
 -- at the exit of a `?`
 pub comes_err : {A X : Type 0} (refused : Refusal → Type 0) (o n : Trace) (f : Action A) (ok : X → Action A) (r : Result X Stop) (e : Stop) → IsErrAnd r (λ y. y ≡ e) → Stops refused (RefinesPartTo o n f) n.devices e → Comes refused o n f ok r

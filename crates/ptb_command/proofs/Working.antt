@@ -1,5 +1,5 @@
 -- This file proves what a part of a command comes to where it works something out.
-use Rattle.std.proofs.Common.{◌≡◌, Bool, [], ◌++◌, Result, Ok, Err, ℤ, refl, sym, ap, subst, ◌∙◌, append-nil, inl, inr}
+use Rattle.std.proofs.Common.{◌≡◌, Bool, [], ◌++◌, Result, Ok, Err, ℤ, refl, sym, ap, subst, ◌∙◌, append-nil, arith, inl, inr}
 use Rattle.ptb_expr.specs.declared.fault.Fault.{Fault}
 use Rattle.ptb_expr.specs.declared.fault.Stop.{Stop as NoValue}
 use Rattle.ptb_expr.specs.declared.fault.Stop.TheVariants as values
@@ -30,14 +30,14 @@ module _ {A : Type 0} (f : Cells → Work A) (c e : Choices) (d : Devices) (fres
   attempted : (g : Work A) → Reaches (f cells) c e g → RefinesPart (trace (with_choices c d) fresh cells) (trace (with_choices e d) fresh cells) (attempt f) (attempt (λ k. g))
   attempted g p = record {
     exchange = answers_alone p.answers p.bounds;
-    exchanges = record { grown = p.grown; shows = shows_nothing d.screen; unfailed = refl; given = sym (append-nil d.given) };
+    exchanges = record { grown = p.grown; shows = shows_nothing d.screen; unfailed = refl; given = sym (append-nil d.given); falls = omega arith; same_choose = refl };
     fresh = freshens_nothing fresh;
-    leaves = λ S rest w.
+    leaves = λ S rest _ w.
         let n = trace (with_choices e d) fresh cells in
         let later : Answers → Outcome (Progress (Result A Fault)) State = attempt (λ k. g) (after n [] rest S) in
         subst (λ k. Leaves (λ a. map_outcome (λ r. Goes r S) (λ u. S) (f k a)) p.answers p.bounds later) (sym w.cells)
         (leaves_to later
-        (ap (λ (T : State). attempt (λ k. g) T) (after_nothing n rest S (record { fresh = w.fresh; cells = w.cells; lines = w.lines })))
+        (ap (λ (T : State). attempt (λ k. g) T) (after_nothing n rest S (record { fresh = w.fresh; cells = w.cells; lines = w.lines; choose = w.choose })))
         (leaves_under (λ o. map_outcome (λ r. Goes r S) (λ u. S) o) (λ u. S) (λ n v. refl) (record { asked = p.asked; rest = p.rest })));
   }
 

@@ -17,7 +17,7 @@ use Rattle.ptb_expr.specs.Outcome.{Answers, Outcome, map_outcome}
 use Rattle.ptb_expr.specs.Store.{value_at, with_value}
 use Rattle.ptb_expr.specs.Tree.{Tree}
 use Rattle.ptb_expr.specs.Reading.{Reading, Whole, Malformed, item_of, expression}
-use Rattle.ptb_expr.specs.Value.{fault, or_fault, in_range, value, target_of, with_target}
+use Rattle.ptb_expr.specs.Value.{fault, or_fault, in_range, random_number, value, target_of, with_target}
 use Rattle.ptb_command.specs.declared.ending.Ending.{Ending}
 use Rattle.ptb_command.specs.declared.ending.Ending.TheVariants as endings
 use Rattle.ptb_command.specs.Commands.{Part, Assign, Say, Width, Show, NewLine, Take, Letter, Operand, Defect, Command}
@@ -78,9 +78,19 @@ abbrev pub store_or_again : Target → Action (Unit {0}) → Result ℤ Fault �
 store_or_again at again (Ok v) = store at v
 store_or_again at again (Err f) = and_then (show (word_of f.kind ++ newline)) (λ _. again)
 
+-- an answer is asked for as RND asks with this bound, which is at least 1; it is shown as a line, and stored
+abbrev pub answer_instead : ℤ → Target → Action (Unit {0})
+answer_instead n at =
+    and_then (work_action (λ _. random_number n 0)) (λ v. and_then (show (signed_decimal v ++ newline)) (λ _. store at v))
+
+-- where no line is left the run ends, or asks for an answer with this bound instead
+abbrev pub without_line : Option ℤ → Target → Action (Unit {0})
+without_line None at = halt (Ends endings.NoInput)
+without_line (Some n) at = answer_instead n at
+
 -- an item of INPUT, over the lines that are left: a line's beginning is read as an expression
 unfoldable pub input_action : List ℕ → Tree → List ℕ → List (List ℕ) → Action (Unit {0})
-input_action said x prompt [] = and_then (ask_for said x prompt) (λ _. halt (Ends endings.NoInput))
+input_action said x prompt [] = and_then (ask_for said x prompt) (λ at S. without_line S.choose at S)
 input_action said x prompt (l ∷ ls) =
     and_then (ask_for said x prompt) (λ at.
     and_then (take_line l ls) (λ _.

@@ -7,7 +7,7 @@ use Rattle.ptb_expr.specs.Outcome.{Answers, Outcome}
 use Rattle.ptb_command.specs.declared.stop.Stop.{Stop}
 use Rattle.ptb_command.specs.State.{State}
 use Rattle.ptb_command.specs.Actions.{Action, goes_on}
-use Rattle.ptb_command.specs.Devices.{Devices, Exchange, Exchanges, Refusal}
+use Rattle.ptb_command.specs.Devices.{Devices, Exchange, Exchanges, MayFollow, Refusal}
 use Rattle.ptb_command.specs.Traces.{Leaves}
 use Rattle.ptb_command.specs.Configuration.{Configuration}
 use Rattle.ptb_command.specs.Representation.{Represents}
@@ -20,12 +20,16 @@ pub record Leads {A : Type 0} (p : Statements) (new : Configuration) (x : Exchan
   pub represents : Represents p new state
   pub shown : state.shown ≡ S.shown ++ x.bytes
   pub lines : state.lines ≡ rest
+  pub choose : state.choose ≡ S.choose
 
--- in every state for which the old machine stands, and whose lines begin with those that are given
+-- in every state for which the old machine stands, which asks for answers as the devices say, and whose lines begin with those
+-- that are given, and have left what may follow them
 pub record Refines {A : Type 0} (p : Statements) (old new : Configuration) (o n : Devices) (f g : State → Answers → Outcome A State) : Type 0 where
   pub exchange : Exchange
   pub exchanges : Exchanges o n exchange
-  pub leads : (S : State) (rest : List (List ℕ)) → Represents p old S → S.lines ≡ exchange.given ++ rest → Leads p new exchange rest S (f S) g
+  pub leads :
+      (S : State) (rest : List (List ℕ)) → Represents p old S → S.choose ≡ o.choose → MayFollow n rest → S.lines ≡ exchange.given ++ rest
+      → Leads p new exchange rest S (f S) g
 
 -- with the old machine f has come to an action, with the new machine and these devices
 abbrev pub RefinesTo : {A : Type 0} → Statements → Configuration → Configuration → Devices → Action A → Devices → Action A → Type 0

@@ -1,11 +1,12 @@
 -- This file defines what the devices of a run hold, and what passes between them and the run.
---     Devices                  the chooser's answers, the screen, and the lines that the source gave
+--     Devices                  the chooser's answers, the screen, the lines that the source gave, and those it can give
 --     Exchange                 answers with their bounds, bytes that are shown, and lines that are given
 --     both_exchanges x y       one exchange after another
 --     Exchanges o n x          from o to n the devices exchange x, and no write fails
+--     MayFollow d rest         the source may have these lines left
 --     Refusal                  what the chooser or the line source refuses
 --     HasBroken refused o n e  between o and n the device that the error e names has failed
-use Rattle.std.specs.Prelude.{◌≡◌, ◌≤◌, ◌⊎◌, ℕ, Bool, List, [], ◌++◌, Option, ℤ, IsTrue}
+use Rattle.std.specs.Prelude.{◌≡◌, ◌≤◌, ◌+◌, ◌⊎◌, ℕ, Bool, List, [], ◌++◌, length, Option, ℤ, IsTrue}
 use Rattle.std.specs.Borrow.{GName}
 use Rattle.std.specs.Io.KnownBytes.{Appends}
 use Rattle.ptb_text.specs.Device.{HasFailed}
@@ -37,11 +38,15 @@ screen_state g s = record { shown = g.shown s; failures = g.failures s; borrow =
 pub record Devices : Type 0 where
   pub choices : Choices
   pub screen : ScreenState
+  -- at most how many lines the source can still give
+  pub most : ℕ
+  -- where it gives none, the bound with which an answer is asked for instead, if one is
+  pub choose : Option ℤ
   -- the lines that the source gave so far
   pub given : List (List ℕ)
 
-abbrev pub devices : Choices → ScreenState → List (List ℕ) → Devices
-devices choices screen given = record { choices = choices; screen = screen; given = given }
+abbrev pub devices : Choices → ScreenState → ℕ → Option ℤ → List (List ℕ) → Devices
+devices choices screen most choose given = record { choices = choices; screen = screen; most = most; choose = choose; given = given }
 
 -- the same with another chooser, with another screen, and with a writer that has failed so often
 abbrev pub with_choices : Choices → Devices → Devices
@@ -90,6 +95,12 @@ pub record Exchanges (o n : Devices) (x : Exchange) : Type 0 where
   pub shows : Shows o.screen n.screen x.bytes
   pub unfailed : n.screen.failures ≡ o.screen.failures
   pub given : n.given ≡ o.given ++ x.given
+  pub falls : n.most + length x.given ≤ o.most
+  pub same_choose : n.choose ≡ o.choose
+
+-- lines that may be left behind those that were given: none where the source can give none
+abbrev pub MayFollow : Devices → List (List ℕ) → Type 0
+MayFollow d rest = d.most ≡ 0 → rest ≡ []
 
 -- ---- refusals
 

@@ -1,8 +1,8 @@
 -- This file defines what the devices of a command hold.
---     io_devices choices screen io given         what they hold, beside the lines that the source gave
---     io_trace choices screen io given cells     the trace at which the devices stand
---     SameBorrows old new                        the borrows are the same
---     SameDevices old new                        so is the source, which gave nothing
+--     io_devices choices screen most io given         what they hold, beside the lines that the source gave
+--     io_trace choices screen most io given cells     the trace at which the devices stand
+--     SameBorrows old new                             the borrows are the same, and the bound
+--     SameDevices old new                             so is the source, which gave nothing
 use Rattle.std.specs.Prelude.{◌≡◌, ℕ, List}
 use Rattle.ptb_expr.specs.Choices.{Choices}
 use Rattle.ptb_expr.specs.Store.{Cells}
@@ -11,18 +11,21 @@ use Rattle.ptb_devices.specs.declared.screen.Screen.{Ghosts}
 use Rattle.ptb_command.specs.Devices.{Devices, devices, screen_state}
 use Rattle.ptb_command.specs.Traces.{Trace, trace}
 
-abbrev pub io_devices : {C S L : Type 0} → (C → Choices) → Ghosts S → Io C S L → List (List ℕ) → Devices
-io_devices choices screen io given = devices (choices io.chooser.now) (screen_state screen io.screen.now) given
+abbrev pub io_devices : {C S L : Type 0} → (C → Choices) → Ghosts S → (L → ℕ) → Io C S L → List (List ℕ) → Devices
+io_devices choices screen most io given =
+    devices (choices io.chooser.now) (screen_state screen io.screen.now) (most io.source.now) io.choose given
 
-abbrev pub io_trace : {C S L : Type 0} → (C → Choices) → Ghosts S → Io C S L → List (List ℕ) → Cells → Trace
-io_trace choices screen io given cells = trace (io_devices choices screen io given) io.fresh cells
+abbrev pub io_trace : {C S L : Type 0} → (C → Choices) → Ghosts S → (L → ℕ) → Io C S L → List (List ℕ) → Cells → Trace
+io_trace choices screen most io given cells = trace (io_devices choices screen most io given) io.fresh cells
 
 pub record SameBorrows {C S L : Type 0} (old new : Io C S L) : Type 0 where
   pub chooser : new.chooser.ghost_name ≡ old.chooser.ghost_name
   pub screen : new.screen.ghost_name ≡ old.screen.ghost_name
   pub source : new.source.ghost_name ≡ old.source.ghost_name
+  pub choose : new.choose ≡ old.choose
 
 pub record SameDevices {C S L : Type 0} (old new : Io C S L) : Type 0 where
   pub chooser : new.chooser.ghost_name ≡ old.chooser.ghost_name
   pub screen : new.screen.ghost_name ≡ old.screen.ghost_name
   pub source : new.source ≡ old.source
+  pub choose : new.choose ≡ old.choose

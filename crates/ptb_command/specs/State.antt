@@ -1,10 +1,9 @@
 -- This file defines the state of a run.
---     first_state p input              where a run begins
+--     first_state p input choose       where a run begins
 --     next_command p place             the command that is next at a place, with its own place
 use Rattle.std.specs.Prelude.{ℕ, ◌+◌, List, [], length, Option, Some, None, unwrap_or, ℤ, pos, sum_by, slice_get, option_map}
 use Rattle.ptb_text.specs.Statements.{Statements, StoredProgram, text_at, first_number, number_after, size_of}
 use Rattle.ptb_expr.specs.Store.{Cells, empty_cells}
-use Rattle.ptb_command.specs.declared.stack.TheConstants.{NESTING_LIMIT}
 use Rattle.ptb_command.specs.Commands.{Command, commands}
 
 -- a statement's number, and the index of one of its commands; at the count of its commands the next statement is meant
@@ -25,7 +24,8 @@ pub record Call : Type 0 where
   pub loops : List Loop
 
 -- where a run stands: at the end no place is left; the loops of the newest level, newest first; the calls, newest first;
--- what is left of the input, what was shown, and how many commands were begun
+-- what is left of the input, what was shown, how many commands were begun; and, as long as the run lasts, the bound with which
+-- INPUT asks for an answer where no line is left, if it does
 pub record State : Type 0 where
   pub place : Option Place
   pub cells : Cells
@@ -34,6 +34,7 @@ pub record State : Type 0 where
   pub lines : List (List ℕ)
   pub shown : List ℕ
   pub steps : ℕ
+  pub choose : Option ℤ
 
 -- how many loops and calls are open
 abbrev pub nesting : State → ℕ
@@ -41,7 +42,7 @@ nesting S = length S.loops + sum_by (λ c. length c.loops + 1) S.calls
 
 -- how many may be open together
 abbrev pub nesting_limit : ℕ
-nesting_limit = NESTING_LIMIT
+nesting_limit = 256
 
 -- ---- places
 
@@ -85,8 +86,8 @@ next_command p (Some q) = command_or_next p q (command_there p q)
 -- ---- the first state
 
 -- a run starts at the least number, with zeros everywhere and nothing open
-abbrev pub first_state : StoredProgram → List (List ℕ) → State
-first_state p input = record {
+abbrev pub first_state : StoredProgram → List (List ℕ) → Option ℤ → State
+first_state p input choose = record {
   place = first_place p.lines;
   cells = empty_cells (pos (size_of p));
   loops = [];
@@ -94,4 +95,5 @@ first_state p input = record {
   lines = input;
   shown = [];
   steps = 0;
+  choose = choose;
 }

@@ -1,11 +1,13 @@
 -- This file defines what a part of a command comes to, where it stops and where it goes on.
 --     stop_of_screen, stop_of_read, stop_of    why a command stops where a device fails, and where an expression has no value
+--     LacksLine choose ends left S         without a line it ends, or asks for an answer
 --     WantsLine e ends part left           where the input can't be read, a line is wanted
 --     Waits, IsDry, Breaks                 it stops at a question, at an input line, at a device
 --     Stops refused R n e                  it stops for the reason e
 --     UnlessMissed refused P result        P holds, unless a line was wanted and the source gave none
+--     NotMissed choose old new most        no line was asked for in vain, unless an answer was asked for instead
 --     Comes refused o n f ok result        from trace o to trace n, f comes to the result
-use Rattle.std.specs.Prelude.{◌≡◌, ◌⊎◌, ℕ, List, [], ◌++◌, Result, Ok, Err, ℤ}
+use Rattle.std.specs.Prelude.{◌≡◌, ◌≤◌, ◌⊎◌, ℕ, List, [], ◌++◌, Option, Some, None, Result, Ok, Err, ℤ, pos, ◌≤ℤ◌}
 use Rattle.ptb_expr.specs.declared.fault.Stop.{Stop as NoValue}
 use Rattle.ptb_expr.specs.declared.fault.Stop.TheVariants as values
 use Rattle.ptb_expr.specs.declared.pause.Pause.{Pause}
@@ -54,10 +56,15 @@ IsRefusal pauses.Ended = Unit {0}
 IsRefusal (pauses.OutOfRange k) = Unit {0}
 IsRefusal pauses.Memory = ⊥
 
--- the input is read only where a line is wanted: nothing of what is left was shown then, and it ends so without a line
+-- without a line it ends so, or asks with this bound, which is at least 1
+abbrev pub LacksLine : {A : Type 0} → Option ℤ → (State → A) → (State → Answers → Outcome A State) → State → Type 0
+LacksLine None ends left S = (a : Answers) → left S a ≡ Done (ends S) a
+LacksLine (Some n) ends left S = pos 1 ≤ℤ n → left S [] ≡ Asks n S
+
+-- the input is read only where a line is wanted: nothing of what is left was shown then, and without a line it comes to no more
 abbrev pub WantsLine : {A : Type 0} → DeviceError → (State → A) → List ℕ → (State → Answers → Outcome A State) → Type 0
 WantsLine errors.Read ends part left =
-    (part ≡ []) × ((S : State) (a : Answers) → S.lines ≡ [] → left S a ≡ Done (ends S) a)
+    (part ≡ []) × ((S : State) → S.lines ≡ [] → LacksLine S.choose ends left S)
 WantsLine errors.Memory ends part left = Unit {0}
 WantsLine errors.Write ends part left = Unit {0}
 
@@ -115,6 +122,11 @@ UnlessStopMissed refused P (stops.Broke errors.Write) = P
 abbrev pub UnlessMissed : {X : Type 0} → (ReadFault → Type 0) → Type 0 → Result X Stop → Type 0
 UnlessMissed refused P (Ok x) = P
 UnlessMissed refused P (Err e) = UnlessStopMissed refused P e
+
+-- no line was asked for in vain; where answers are asked for instead, one may have been that the source can't give
+abbrev pub NotMissed : Option ℤ → ℕ → ℕ → ℕ → Type 0
+NotMissed None old new most = new ≤ old
+NotMissed (Some n) old new most = (new ≤ old) ⊎ (most ≡ 0)
 
 -- ---- where it comes to
 

@@ -9,7 +9,7 @@ use Rattle.ptb_expr.specs.Choices.{Asked}
 use Rattle.ptb_expr.specs.Store.{Cells}
 use Rattle.ptb_command.specs.State.{State}
 use Rattle.ptb_command.specs.Act.{is_fresh}
-use Rattle.ptb_command.specs.Devices.{Devices, Exchange, Exchanges}
+use Rattle.ptb_command.specs.Devices.{Devices, Exchange, Exchanges, MayFollow}
 
 -- whether the transcript is fresh is known, and nothing else of it
 pub record Trace : Type 0 where
@@ -34,6 +34,7 @@ pub record Fits (o : Trace) (left : List (List ℕ)) (S : State) : Type 0 where
   pub fresh : is_fresh S.shown ≡ o.fresh
   pub cells : S.cells ≡ o.cells
   pub lines : S.lines ≡ left
+  pub choose : S.choose ≡ o.devices.choose
 
 -- once the trace is n, these bytes were shown, and these lines are left
 abbrev pub after : Trace → List ℕ → List (List ℕ) → State → State
@@ -46,10 +47,10 @@ pub record Leaves {A W : Type 0} (f : Answers → Outcome A W) (answers : Answer
   pub asked : Asked f answers bounds
   pub rest : (λ later. f (answers ++ later)) ≡ g
 
--- in every state that fits and whose lines begin with those that are taken
+-- in every state that fits, whose lines begin with those that are taken, and have left what may follow them
 pub record RefinesPart {A : Type 0} (o n : Trace) (f g : State → Answers → Outcome A State) : Type 0 where
   pub exchange : Exchange
   pub exchanges : Exchanges o.devices n.devices exchange
   pub fresh : Freshens o.fresh exchange.bytes n.fresh
-  pub leaves : (S : State) (rest : List (List ℕ)) → Fits o (exchange.given ++ rest) S
+  pub leaves : (S : State) (rest : List (List ℕ)) → MayFollow n.devices rest → Fits o (exchange.given ++ rest) S
       → Leaves (f S) exchange.answers exchange.bounds (g (after n exchange.bytes rest S))

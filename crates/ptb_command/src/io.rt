@@ -27,17 +27,26 @@ pub struct Io<'a, C, S, L> {
     pub source: &'a mut L,
     /// Whether nothing was shown, or a newline last.
     pub fresh: bool,
+    /// The bound with which INPUT asks for an answer where no line is left, if it does.
+    pub choose: Option<i16>,
 }
 
 impl<'a, C: Chooser, S: Screen, L: LineSource> Io<'a, C, S, L> {
     ghost use Rattle.ptb_command.specs.Io.{io_trace, SameDevices};
 
     /// These devices, taken together.
-    pub fn new(chooser: &'a mut C, screen: &'a mut S, source: &'a mut L, fresh: bool) -> Self
+    pub fn new(
+        chooser: &'a mut C,
+        screen: &'a mut S,
+        source: &'a mut L,
+        fresh: bool,
+        choose: Option<i16>,
+    ) -> Self
         ensures chooser { result.chooser.ghost_name ≡ chooser.entry.ghost_name }
         ensures screen { result.screen.ghost_name ≡ screen.entry.ghost_name }
         ensures source { result.source.ghost_name ≡ source.entry.ghost_name }
         ensures fresh { result.fresh ≡ fresh }
+        ensures choose { result.choose ≡ choose }
         ensures chooser_now { result.chooser.now ≡ chooser.old }
         ensures screen_now { result.screen.now ≡ screen.old }
         ensures source_now { result.source.now ≡ source.old }
@@ -47,14 +56,15 @@ impl<'a, C: Chooser, S: Screen, L: LineSource> Io<'a, C, S, L> {
             screen,
             source,
             fresh,
+            choose,
         }
     }
 
     /// Shows bytes as a part of a command.
     pub(crate) fn show(&mut self, bytes: &[u8]) -> Result<(), Stop>
         ensures comes { (given : List (List ℕ)) (cells : Cells) → Comes nothing_refused
-            (io_trace C.choices S.Screen self.old given cells)
-            (io_trace C.choices S.Screen self.new given cells)
+            (io_trace C.choices S.Screen L.most self.old given cells)
+            (io_trace C.choices S.Screen L.most self.new given cells)
             (show_action bytes.now) goes_on result }
         ensures same { SameDevices self.old self.new }
     {
@@ -66,8 +76,8 @@ impl<'a, C: Chooser, S: Screen, L: LineSource> Io<'a, C, S, L> {
         ensures text { cursor.new.text ≡ cursor.old.text }
         ensures comes { (given : List (List ℕ)) → Comes
             (refused_answers (C.refused self.new.chooser.now))
-            (io_trace C.choices S.Screen self.old given store.now)
-            (io_trace C.choices S.Screen self.new given store.now)
+            (io_trace C.choices S.Screen L.most self.old given store.now)
+            (io_trace C.choices S.Screen L.most self.new given store.now)
             (value_action (item_of (expression cursor.old.text cursor.old.place))) goes_on result }
         ensures read { IfOk result (λ _. IsRead cursor.old.text cursor.old.place
             (expression cursor.old.text cursor.old.place) cursor.new.place) }

@@ -1,7 +1,7 @@
 // This file has the registers, which are what commands change: where the run stands, what is stored,
 // and what is open.
 
-ghost use Rattle.std.specs.Prelude.{◌≡◌, ℕ, List, true, false, Some, IfOk, IsOk, OnOk, OnErr};
+ghost use Rattle.std.specs.Prelude.{◌≡◌, ℕ, ℤ, List, true, false, Option, Some, IfOk, IsOk, OnOk, OnErr};
 ghost use Rattle.ptb_command.specs.Configuration.{configuration};
 ghost use Rattle.ptb_command.specs.Reads.{Follows};
 ghost use Rattle.ptb_command.specs.Representation.{Represents};
@@ -38,9 +38,9 @@ impl Registers {
     // Inlined, so that the registers of each run are written once and not copied.
     #[inline(always)]
     pub fn new(alloc: Global, program: &Program) -> Result<Registers, AllocError>
-        ensures { IfOk result (λ r. (input : List (List ℕ)) →
+        ensures { IfOk result (λ r. (input : List (List ℕ)) (choose : Option ℤ) →
             Represents program.now.lines (configuration r 0 true false)
-            (first_state program.now input)) }
+            (first_state program.now input choose)) }
     {
         command_laws();
         Ok(Registers {

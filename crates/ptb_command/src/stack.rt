@@ -12,7 +12,7 @@ use ptb_text::Letter;
 use std::marker::Model;
 
 /// How many loops and calls may be open together.
-pub const NESTING_LIMIT: usize = 64;
+pub const NESTING_LIMIT: usize = 256;
 
 /// An open FOR.
 // The place is first: behind the smaller parts it is copied together with the gap before it and read

@@ -81,7 +81,7 @@ fn done(
     let word = first_word(&mut cursor);
     let mut list = Listed::new(&[4]);
     let mut source = Lines::new(lines);
-    let mut io = Io::new(&mut list, screen, &mut source, true);
+    let mut io = Io::new(&mut list, screen, &mut source, true, None);
     let result = registers.do_command(program, 0, word, &mut cursor, &mut io);
     (result, io.fresh)
 }

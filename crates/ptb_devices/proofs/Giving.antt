@@ -6,7 +6,7 @@ use Rattle.ptb_devices.specs.declared.line_buffer.InputEnd.TheVariants.{Open, En
 use Rattle.ptb_devices.specs.declared.fault.ReadFault.{ReadFault}
 use Rattle.ptb_devices.specs.Cutting.{kept_bytes}
 use Rattle.ptb_devices.specs.Sources.{Loses, NoneLeft}
-use Rattle.ptb_devices.specs.Inputs.{InputState, InputNow, known_lines, CutsLine, CutsAll, asked_at, asked, ReadsOn, fault_at}
+use Rattle.ptb_devices.specs.Inputs.{InputState, InputNow, most_lines, known_lines, CutsLine, CutsAll, asked_at, asked, ReadsOn, fault_at}
 use Rattle.ptb_devices.specs.InputLaws.{ReadsOn_then}
 use Rattle.ptb_devices.proofs.ReadingOn.{ReadsOn_line, ReadsOn_all, ReadsOn_last}
 
@@ -100,6 +100,14 @@ module _ (m n : InputNow) (reads : ReadsOn 1 m [] n) where
     none_at None None h = tt
     none_at None (Some bytes) h = refl
     none_at (Some kept) a h = absurd (h refl)
+
+    most_at : (p : Option (List ℕ)) → (IsSome p → ⊥) → most_lines (record { piece = p; is_given = false; waiting = []; left = n.state.left; end = Ended }) ≡ 0
+    most_at None h = refl
+    most_at (Some kept) h = absurd (h refl)
+
+    -- and none can be given
+    pub none_more : (b : InputState) (t : Bool) → b ≡ record n.state { is_given = t } → t ≡ false → (IsSome n.state.piece → ⊥) → most_lines b ≡ 0
+    none_more b t is false_is unbegun = ap most_lines (is ∙ at_end-is t ∙ ap at_end false_is) ∙ most_at n.state.piece unbegun
 
     -- else no line is left
     pub none_given : (b : InputState) (t : Bool) → b ≡ record n.state { is_given = t } → t ≡ false → (IsSome n.state.piece → ⊥)

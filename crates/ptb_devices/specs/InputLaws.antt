@@ -1,5 +1,6 @@
 -- This file proves the laws of an input that goes on, as a line source has to keep them.
-use Rattle.std.proofs.Common.{◌≡◌, ℕ, zero, suc, ◌+◌, ◌-◌, ◌≤◌, ◌<◌, ◌⊎◌, inl, inr, List, [], ◌∷◌, ◌++◌, length, take, Option, Some, None, IfSome, refl, sym, ap, subst, ◌∙◌, append_assoc, append-nil, arith, length-append}
+use Rattle.std.proofs.Common.{◌≡◌, ℕ, zero, suc, ◌+◌, ◌-◌, ◌≤◌, ◌<◌, ◌⊎◌, inl, inr, true, List, [], ◌∷◌, ◌++◌, length, take, Option, Some, None, IfSome, refl, sym, ap, subst, ◌∙◌, append_assoc, append-nil, arith, length-append}
+use Rattle.std.specs.Prelude.{option_map}
 use Rattle.std.proofs.Math.Nat.{eq-or-lt_of_le}
 use Rattle.std.proofs.Math.Seq.{take-nil}
 use Rattle.std.proofs.lemmas.List.{take_all}
@@ -8,10 +9,10 @@ use Rattle.std.proofs.KnownBytes.{Consumes-nil, Consumes-trans}
 use Rattle.ptb_text.specs.Device.{HasFailed}
 use Rattle.ptb_devices.specs.declared.line_buffer.InputEnd.{InputEnd}
 use Rattle.ptb_devices.specs.declared.line_buffer.InputEnd.TheVariants.{Open, Ended, Failed, Exceeded}
-use Rattle.ptb_devices.specs.Cutting.{whole_lines, last_piece, Cuts}
+use Rattle.ptb_devices.specs.Cutting.{whole_lines, last_piece, last_line, Cuts}
 use Rattle.ptb_devices.specs.CuttingLaws.{whole_lines-append, last_piece-append}
-use Rattle.ptb_devices.specs.Sources.{Loses}
-use Rattle.ptb_devices.specs.Inputs.{InputNow, IsCounted, open_piece, known_lines, IsReadAhead, ReadsOn, asked}
+use Rattle.ptb_devices.specs.Sources.{Loses, NoneLeft}
+use Rattle.ptb_devices.specs.Inputs.{InputNow, IsCounted, open_piece, cut_at_end, ends_within, lines_to_end, most_to_come, most_lines, known_lines, IsReadAhead, ReadsOn, asked}
 
 -- ---- lines, failures and bytes over several calls
 
@@ -84,6 +85,28 @@ Cuts_on p q r v w first second xs ys zs c d =
           ∙ ap (λ l. xs ++ l) (sym (whole_lines-append q w second) ∙ d.0) ∙ sym (append_assoc xs ys zs),
       ap (last_piece p) all ∙ last_piece-append p (v ++ first) second ∙ ap (λ s. last_piece s second) c.1 ∙ sym (last_piece-append q w second) ∙ d.1,
     )
+
+-- ---- an input of which no line can come
+
+-- where no line can be given, none is left
+pub none_known : (m : InputNow) → most_lines m.state ≡ 0 → NoneLeft (known_lines m)
+none_known m none = by_state m.state.end m.state.waiting (open_piece m.state) refl refl refl m.bytes
+  where
+    by_bytes : (left : ℕ) (waiting : List ℕ) (p : Option (List ℕ)) (bytes : Option (List ℕ)) → length waiting ≡ 0 → length (last_line p) ≡ 0
+        → NoneLeft (option_map (λ b. lines_to_end true p (waiting ++ cut_at_end Ended left b)) bytes)
+    by_bytes left waiting p None e f = tt
+    by_bytes left [] None (Some b) e f = refl
+    by_bytes left [] (Some kept) (Some b) e f = absurd (omega (arith, f))
+    by_bytes left (x ∷ waiting) p (Some b) e f = absurd (omega (arith, e))
+
+    by_state : (end : InputEnd) (waiting : List ℕ) (p : Option (List ℕ)) → m.state.end ≡ end → m.state.waiting ≡ waiting → open_piece m.state ≡ p → (bytes : Option (List ℕ))
+        → NoneLeft (option_map (λ b. lines_to_end (ends_within m.state.end m.state.left b) (open_piece m.state) (m.state.waiting ++ cut_at_end m.state.end m.state.left b)) bytes)
+    by_state Ended waiting p e f g bytes =
+        let none : most_to_come Ended m.state.left + length m.state.waiting + length (last_line (open_piece m.state)) ≡ 0 = rw e at none in
+        rw e (by_bytes m.state.left m.state.waiting (open_piece m.state) bytes (omega (arith, none)) (omega (arith, none)))
+    by_state Open waiting p e f g bytes = absurd (omega (arith, rw e at none))
+    by_state Failed waiting p e f g bytes = absurd (omega (arith, rw e at none))
+    by_state Exceeded waiting p e f g bytes = absurd (omega (arith, rw e at none))
 
 -- ---- an input that goes on
 

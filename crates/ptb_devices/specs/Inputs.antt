@@ -73,8 +73,15 @@ lines_to_end ends p bytes = whole_lines p bytes ++ (if ends then last_line (last
 abbrev pub lines_left : InputState → List ℕ → List (List ℕ)
 lines_left a bytes = lines_to_end (ends_within a.end a.left bytes) (open_piece a) (a.waiting ++ cut_bytes a bytes)
 
+-- at most how many lines are ended by bytes that can still come: none once the end has come; else as many as the bytes, and one that is cut off
+abbrev pub most_to_come : InputEnd → ℕ → ℕ
+most_to_come Ended left = 0
+most_to_come Open left = left + 1
+most_to_come Failed left = left + 1
+most_to_come Exceeded left = left + 1
+
 abbrev pub most_lines : InputState → ℕ
-most_lines a = a.left + length a.waiting + length (last_line (open_piece a))
+most_lines a = most_to_come a.end a.left + length a.waiting + length (last_line (open_piece a))
 
 -- ---- a line is cut
 

@@ -44,7 +44,8 @@ pub trait LineSource {
         ensures* after { sem 𝓛 (Rests Self.row self.entry (λ new.
             gives self.old (given_lines result) new × IfErr result (refused new)
             × IfOk result (λ line. IfNone line (NoneLeft (lines new)))
-            × IfOk result (λ line. IfSome line (λ _. missed new ≤ missed self.old)))) }
+            × IfOk result (λ line. IfSome line (λ _. missed new ≤ missed self.old))
+            × IfOk result (λ line. IfNone line (most new ≡ 0)))) }
         ensures end { IfOk result (λ line. IfNone line (NoneLeft (lines self.old))) };
 
     /// With no call it gives nothing.
@@ -60,6 +61,9 @@ pub trait LineSource {
 
     /// Each line that it gives is one fewer that it can give.
     ghost falls: { (s t : Self) (xs : List (List ℕ)) → gives s xs t → most t + length xs ≤ most s };
+
+    /// Where it can give no line, none is left.
+    ghost ends: { (s : Self) → most s ≡ 0 → NoneLeft (lines s) };
 }
 
 /// An input line: at most 255 bytes from 32 to 126.
@@ -173,6 +177,8 @@ impl<'a> LineSource for Lines<'a> {
     ghost loses = { Prim.search (rules, common_steps) };
 
     ghost falls = { Prim.search (rules, common_steps) };
+
+    ghost ends = { Prim.search (rules, common_steps) };
 
     fn next(&mut self) -> Result<Option<&[u8]>, ReadFault> {
         if self.taken == self.lines.len() {

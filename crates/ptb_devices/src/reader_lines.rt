@@ -3,6 +3,7 @@
 ghost use Rattle.std.specs.Prelude.{◌≡◌};
 ghost use Rattle.ptb_devices.specs.Inputs.{asked, fresh_input, fault_at, known_lines, most_lines, Refuses};
 ghost use Rattle.ptb_devices.specs.Readers.{line_reader, line_input, input_of, GivesFrom};
+ghost use Rattle.ptb_devices.specs.InputLaws.{none_known};
 ghost use Rattle.ptb_devices.specs.ReaderLaws.{GivesFrom_none, GivesFrom_more};
 
 use crate::fault::ReadFault;
@@ -62,6 +63,8 @@ impl<'a, R: Read> LineSource for ReaderLines<'a, R> {
     ghost loses = { λ s t xs gives. gives.reads.loses };
 
     ghost falls = { λ s t xs gives. gives.reads.falls };
+
+    ghost ends = { λ s none. none_known (input_of R.remaining R.given R.failures s) none };
 
     fn next(&mut self) -> Result<Option<&[u8]>, ReadFault> {
         self.buffer.forget_given();

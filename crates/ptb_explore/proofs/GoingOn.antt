@@ -2,6 +2,7 @@
 use Rattle.std.proofs.Common.{◌≡◌, ℕ, ◌-◌, ◌≤◌, List, [], ◌∷◌, ◌++◌, length, take, drop, Some, refl, ap, sym, subst, ◌∙◌, arith, append_assoc}
 use Rattle.std.specs.Prelude.{ℤ, pos, ◌+ℤ◌, slice_index_or}
 use Rattle.std.proofs.lemmas.Int.{ints}
+use Rattle.ptb_machine.specs.declared.rules.Rules.{Rules}
 use Rattle.ptb_text.specs.Statements.{StoredProgram}
 use Rattle.ptb_expr.specs.Outcome.{Answers, Outcome, bounds}
 use Rattle.ptb_expr.specs.Choices.{Choices}
@@ -32,25 +33,25 @@ front_none : {X : Type 0} (xs ys : List X) → [] ≡ xs ++ ys → xs ≡ []
 front_none [] ys e = refl
 front_none (x ∷ xs) ys e = absurd cc
 
-module _ (p : StoredProgram) (input : List (List ℕ)) (limit : ℕ) where
-  pub position_copies : (position : Position) (r : Report) (ks : List KeptCopy) → AreCopiesAt p input limit position r ks → AreCopies p input limit r.answers.items r.transcript.items ks
-  position_copies AtStart r ks h = kept_none p input limit r.answers.items r.transcript.items ks h
+module _ (p : StoredProgram) (input : List (List ℕ)) (rules : Rules) where
+  pub position_copies : (position : Position) (r : Report) (ks : List KeptCopy) → AreCopiesAt p input rules position r ks → AreCopies p input rules r.answers.items r.transcript.items ks
+  position_copies AtStart r ks h = kept_none p input rules r.answers.items r.transcript.items ks h
   position_copies AtRun r ks h = h
-  position_copies AtEnd r ks h = kept_none p input limit r.answers.items r.transcript.items ks h
+  position_copies AtEnd r ks h = kept_none p input rules r.answers.items r.transcript.items ks h
 
-  pub none_at : (position : Position) (r : Report) (ks : List KeptCopy) → ks ≡ [] → AreCopiesAt p input limit position r ks
+  pub none_at : (position : Position) (r : Report) (ks : List KeptCopy) → ks ≡ [] → AreCopiesAt p input rules position r ks
   none_at AtStart r ks e = e
-  none_at AtRun r ks e = kept_none p input limit r.answers.items r.transcript.items ks e
+  none_at AtRun r ks e = kept_none p input rules r.answers.items r.transcript.items ks e
   none_at AtEnd r ks e = e
 
   -- what contracts see of them
-  pub kept_at : (position : Position) (r : Report) (ks : List KeptCopy) → AreCopiesAt p input limit position r ks → AreKeptAt (front_at position r.answers.items) (kept_runs r.answers.items ks)
+  pub kept_at : (position : Position) (r : Report) (ks : List KeptCopy) → AreCopiesAt p input rules position r ks → AreKeptAt (front_at position r.answers.items) (kept_runs r.answers.items ks)
   kept_at AtStart r ks h = ap (kept_runs r.answers.items) h
-  kept_at AtRun r ks h = kept_beginnings p input limit r.answers.items r.transcript.items ks h
+  kept_at AtRun r ks h = kept_beginnings p input rules r.answers.items r.transcript.items ks h
   kept_at AtEnd r ks h = ap (kept_runs r.answers.items) h
 
   -- what is left of the copies ends with the newest that the next answers begin with
-  next_steps : (position : Position) (r : Report) (plan ones answers : Answers) (i : ℕ) (old left : List KeptCopy) → PlansNext position r.answers.items r.bounds.items plan (Some i) → AreCopiesAt p input limit position r old → answers ≡ plan ++ ones → WentBack i old left
+  next_steps : (position : Position) (r : Report) (plan ones answers : Answers) (i : ℕ) (old left : List KeptCopy) → PlansNext position r.answers.items r.bounds.items plan (Some i) → AreCopiesAt p input rules position r old → answers ≡ plan ++ ones → WentBack i old left
       → kept_steps answers (kept_runs r.answers.items old) ≡ last_steps left
   next_steps AtStart r plan ones answers i old left n h e back =
       let none : left ≡ [] = front_none left back.0.dropped (sym h ∙ back.0.split) in
@@ -59,38 +60,38 @@ module _ (p : StoredProgram) (input : List (List ℕ)) (limit : ℕ) where
       let a = r.answers.items in
       let y = slice_index_or a i (pos 0) +ℤ pos 1 in
       let is : answers ≡ take i a ++ y ∷ ones = e ∙ ap (λ s. s ++ ones) n.1 ∙ append_assoc (take i a) (y ∷ []) ones in
-      rw is (steps_behind p input limit i a ones y n.0.within (omega (arith, ints)) r.transcript.items old left h back)
+      rw is (steps_behind p input rules i a ones y n.0.within (omega (arith, ints)) r.transcript.items old left h back)
   next_steps AtEnd r plan ones answers i old left n h e back = absurd n
 
   -- so many steps are played
-  pub next_played : (position : Position) (r : Report) (plan ones answers : Answers) (i : ℕ) (old : List KeptCopy) (played steps new : ℕ) → PlansNext position r.answers.items r.bounds.items plan (Some i) → AreCopiesAt p input limit position r old → answers ≡ plan ++ ones → PlaysOn i old played steps new
+  pub next_played : (position : Position) (r : Report) (plan ones answers : Answers) (i : ℕ) (old : List KeptCopy) (played steps new : ℕ) → PlansNext position r.answers.items r.bounds.items plan (Some i) → AreCopiesAt p input rules position r old → answers ≡ plan ++ ones → PlaysOn i old played steps new
       → new ≡ more_played played (steps - kept_steps answers (kept_runs r.answers.items old))
   next_played position r plan ones answers i old played steps new n h e plays =
       plays.2 ∙ ap (λ k. more_played played (steps - k)) (sym (next_steps position r plan ones answers i old plays.0 n h e plays.1))
 
 -- ---- where the run goes on from a copy
 
-module _ (p : StoredProgram) (input : List (List ℕ)) (limit : ℕ) (most : ℕ) (plan answers : Answers) (bounded : List ℤ) (w : List ℕ) (left : List KeptCopy) (j : KeptCopy)
-    (agrees : Agrees (play p input limit) most plan answers bounded) (on : GoesOn p input limit most answers w left j) where
+module _ (p : StoredProgram) (input : List (List ℕ)) (rules : Rules) (most : ℕ) (plan answers : Answers) (bounded : List ℤ) (w : List ℕ) (left : List KeptCopy) (j : KeptCopy)
+    (agrees : Agrees (play p input rules) most plan answers bounded) (on : GoesOn p input rules most answers w left j) where
   pub on_len : j.taken ≤ length bounded
-  on_len = agreed_len (play p input limit) most j.taken plan answers bounded agrees on.few
+  on_len = agreed_len (play p input rules) most j.taken plan answers bounded agrees on.few
 
   -- a recorder with the plan has the copy's answers, once it has their bounds
   module _ (given : List ℤ) (all : Answers) (bounds_are : given ≡ take j.taken bounded) (plan_is : all ≡ plan) where
     pub on_taken : take (length given) all ≡ take j.taken answers
-    on_taken = agreed_taken (play p input limit) most j.taken plan answers bounded agrees on.few given all bounds_are plan_is
+    on_taken = agreed_taken (play p input rules) most j.taken plan answers bounded agrees on.few given all bounds_are plan_is
 
-    on_kept : given ≡ bounds (play p input limit) (take (length given) all)
-    on_kept = bounds_are ∙ agreed_bounds (play p input limit) most j.taken plan answers bounded agrees on.few ∙ sym (ap (bounds (play p input limit)) on_taken)
+    on_kept : given ≡ bounds (play p input rules) (take (length given) all)
+    on_kept = bounds_are ∙ agreed_bounds (play p input rules) most j.taken plan answers bounded agrees on.few ∙ sym (ap (bounds (play p input rules)) on_taken)
 
     pub on_prefix : (planned : Answers) (shown : List ℕ) (source : LineList) (m : Configuration) → shown ≡ take j.shown w → source ≡ record { lines = input; taken = j.lines } → machine_of j ≡ Some m
-        → IsRunPrefix p input limit (record { plan = planned; taken = take (length given) all; kept = Some given }) shown (drop source.taken source.lines) m
+        → IsRunPrefix p input rules (record { plan = planned; taken = take (length given) all; kept = Some given }) shown (drop source.taken source.lines) m
     on_prefix planned shown source m shown_is source_is machine_is =
         let d : Choices = record { plan = planned; taken = take (length given) all; kept = Some given } in
-        let at = stands_machine p input limit j (take j.taken answers) (take j.shown w) m on.stands machine_is in
-        subst (λ (n : Configuration). IsRunPrefix p input limit d shown (drop source.taken source.lines) n) at
-        (prefix_to p input limit (taken_choices (play p input limit) (take j.taken answers)) d (take j.shown w) shown (drop j.lines input) (drop source.taken source.lines) on.stands.machine on.stands.run_prefix
+        let at = stands_machine p input rules j (take j.taken answers) (take j.shown w) m on.stands machine_is in
+        subst (λ (n : Configuration). IsRunPrefix p input rules d shown (drop source.taken source.lines) n) at
+        (prefix_to p input rules (taken_choices (play p input rules) (take j.taken answers)) d (take j.shown w) shown (drop j.lines input) (drop source.taken source.lines) on.stands.machine on.stands.run_prefix
         (sym on_taken) (ap Some on_kept) (sym shown_is) (sym (ap (λ (s : LineList). drop s.taken s.lines) source_is)))
 
-    pub on_copies : (shown : List ℕ) → shown ≡ take j.shown w → AreCopies p input limit (take (length given) all) shown left
-    on_copies shown shown_is = kept_same p p input input limit (take j.taken answers) (take (length given) all) (take j.shown w) shown left left refl refl on_taken shown_is refl on.copies
+    pub on_copies : (shown : List ℕ) → shown ≡ take j.shown w → AreCopies p input rules (take (length given) all) shown left
+    on_copies shown shown_is = kept_same p p input input rules (take j.taken answers) (take (length given) all) (take j.shown w) shown left left refl refl on_taken shown_is refl on.copies

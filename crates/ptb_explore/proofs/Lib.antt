@@ -13,6 +13,7 @@ pub mod RunPrefix
 pub mod Keep
 pub mod GoingOn
 pub mod Gathering
+pub mod Stated
 pub mod ReportText
 pub mod Progress
 pub mod Worked

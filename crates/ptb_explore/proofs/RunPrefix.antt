@@ -1,5 +1,5 @@
 -- This file proves how a run goes on that is played step by step, and how it ends.
-use Rattle.std.proofs.Common.{◌≡◌, ℕ, ◌+◌, ◌<◌, ◌≤◌, List, [], ◌∷◌, ◌++◌, true, Option, Some, None, Result, Ok, Err, ℤ, inl, inr, refl, sym, ap, subst, ◌∙◌, arith, append_assoc, append-nil, length, length-append, length-drop}
+use Rattle.std.proofs.Common.{◌≡◌, ℕ, ◌+◌, ◌-◌, ◌<◌, ◌≤◌, List, [], ◌∷◌, ◌++◌, true, Option, Some, None, Result, Ok, Err, ℤ, inl, inr, refl, sym, ap, subst, ◌∙◌, arith, append_assoc, append-nil, length, drop, length-append, length-drop}
 use Rattle.std.proofs.Math.Path.{fun_ext}
 use Rattle.ptb_text.specs.Statements.{StoredProgram}
 use Rattle.ptb_expr.specs.declared.pause.Pause.TheVariants as pauses
@@ -19,6 +19,7 @@ use Rattle.ptb_command.specs.Configuration.{Configuration}
 use Rattle.ptb_command.specs.Representation.{Represents}
 use Rattle.ptb_command.specs.Stops.{Waits, IsDry}
 use Rattle.ptb_machine.specs.Steps.{StepsTo, goes, ends, StepComes, Steps}
+use Rattle.ptb_machine.specs.declared.rules.Rules.{Rules}
 use Rattle.ptb_machine.specs.Questions.{most_answers}
 use Rattle.ptb_explore.specs.Laws.{TreeLaws}
 use Rattle.ptb_explore.specs.Playing.{Holds, NextIsOutside, PlayEnds, run_from, IsRunPrefix}
@@ -31,106 +32,107 @@ abbrev pub text_state : List ℕ → ScreenState
 text_state s = record { shown = Some s; failures = 0; borrow = None; takes_memory = true }
 
 -- what is left of a run once a turn has come to an outcome
-abbrev pub from_turn : StoredProgram → ℕ → Outcome StepResult State → Outcome Finish (List ℕ)
-from_turn p limit o = map_outcome (λ f. f) (λ (T : State). T.shown) (go_on o (after_step_result (turns p limit)))
+abbrev pub from_turn : StoredProgram → Rules → Outcome StepResult State → Outcome Finish (List ℕ)
+from_turn p rules o = map_outcome (λ f. f) (λ (T : State). T.shown) (go_on o (after_step_result (turns p rules.limit)))
 
-play-is : (p : StoredProgram) (input : List (List ℕ)) (limit : ℕ) (a : Answers) → play p input limit a ≡ run_from p limit (first_state p input) a
+play-is : (p : StoredProgram) (input : List (List ℕ)) (rules : Rules) (a : Answers) → play p input rules a ≡ run_from p rules (first_state p input rules.choose) a
 unfolding play
-play-is p input limit a = refl
+play-is p input rules a = refl
 
-pub run_prefix_at_first : (p : StoredProgram) (input : List (List ℕ)) (limit : ℕ) (c : Choices) (m : Configuration) → c.taken ≡ [] → c.kept ≡ Some [] → Represents p.lines m (first_state p input) → IsRunPrefix p input limit c [] input m
-run_prefix_at_first p input limit c m t k s =
-    let h = holds_at_first (play p input limit) c t k in
-    record { state = first_state p input; represents = s; shown_is = refl; left_is = refl; holds = record { bounds_are = h.bounds_are; rest = λ later. h.rest later ∙ play-is p input limit later } }
+pub run_prefix_at_first : (p : StoredProgram) (input : List (List ℕ)) (rules : Rules) (c : Choices) (m : Configuration) → c.taken ≡ [] → c.kept ≡ Some [] → Represents p.lines m (first_state p input rules.choose) → IsRunPrefix p input rules c [] input m
+run_prefix_at_first p input rules c m t k s =
+    let h = holds_at_first (play p input rules) c t k in
+    record { state = first_state p input rules.choose; represents = s; shown_is = refl; left_is = refl; choose = refl; holds = record { bounds_are = h.bounds_are; rest = λ later. h.rest later ∙ play-is p input rules later } }
 
 -- a turn that is put into a run asks what it asked before
-asked_in_run : (p : StoredProgram) (limit : ℕ) (f : Answers → Outcome StepResult State) (ts : Answers) (bs : List ℤ) → Asked f ts bs → Asked (λ a. from_turn p limit (f a)) ts bs
-asked_in_run p limit f [] [] h = tt
-asked_in_run p limit f [] (n ∷ bs) h = absurd h
-asked_in_run p limit f (k ∷ ts) [] h = absurd h
-asked_in_run p limit f (k ∷ ts) (n ∷ bs) h = ((h.0.0.shown, ap (from_turn p limit) h.0.1), asked_in_run p limit (λ later. f (k ∷ later)) ts bs h.1)
+asked_in_run : (p : StoredProgram) (rules : Rules) (f : Answers → Outcome StepResult State) (ts : Answers) (bs : List ℤ) → Asked f ts bs → Asked (λ a. from_turn p rules (f a)) ts bs
+asked_in_run p rules f [] [] h = tt
+asked_in_run p rules f [] (n ∷ bs) h = absurd h
+asked_in_run p rules f (k ∷ ts) [] h = absurd h
+asked_in_run p rules f (k ∷ ts) (n ∷ bs) h = ((h.0.0.shown, ap (from_turn p rules) h.0.1), asked_in_run p rules (λ later. f (k ∷ later)) ts bs h.1)
 
 holds_to : {A W : Type 0} (f : Answers → Outcome A W) (c : Choices) (g h : Answers → Outcome A W) → ((later : Answers) → g later ≡ h later) → Holds f c g → Holds f c h
 holds_to f c g h same x = record { bounds_are = x.bounds_are; rest = λ later. x.rest later ∙ same later }
 
-module _ (laws : RunLaws) (p : StoredProgram) (input : List (List ℕ)) (limit : ℕ) where
+module _ (laws : RunLaws) (p : StoredProgram) (input : List (List ℕ)) (rules : Rules) where
   -- a run is one turn, and then the turns after it
-  by_turn : (S : State) → run_from p limit S ≡ (λ a. from_turn p limit (turn p limit S a))
-  by_turn S = fun_ext (λ a. ap (map_outcome (λ f. f) (λ (T : State). T.shown)) (laws.by_turn p limit S a))
+  by_turn : (S : State) → run_from p rules S ≡ (λ a. from_turn p rules (turn p rules.limit S a))
+  by_turn S = fun_ext (λ a. ap (map_outcome (λ f. f) (λ (T : State). T.shown)) (laws.by_turn p rules.limit S a))
 
   -- ---- the turn of a run that is underway has come to g
 
-  module _ (m new : Configuration) (c d : Choices) (s t : List ℕ) (given left rest : List (List ℕ)) (u : IsRunPrefix p input limit c s left m) (g : State → Answers → Outcome StepResult State) (x : StepsTo p.lines new (devices c (text_state s) []) u.state rest (turn p limit u.state) (devices d (text_state t) given) g) where
+  module _ (m new : Configuration) (c d : Choices) (s t : List ℕ) (given left rest : List (List ℕ)) (most few : ℕ) (u : IsRunPrefix p input rules c s left m) (g : State → Answers → Outcome StepResult State) (x : StepsTo p.lines new (devices c (text_state s) most rules.choose []) u.state rest (turn p rules.limit u.state) (devices d (text_state t) few rules.choose given) g) where
     abbrev there : State
     there = x.leads.state
 
-    turn_reaches : Reaches (run_from p limit u.state) c d (λ a. from_turn p limit (g there a))
+    turn_reaches : Reaches (run_from p rules u.state) c d (λ a. from_turn p rules (g there a))
     turn_reaches =
-        let asked = asked_in_run p limit (turn p limit u.state) x.exchange.answers x.exchange.bounds x.leads.leaves.asked in
+        let asked = asked_in_run p rules (turn p rules.limit u.state) x.exchange.answers x.exchange.bounds x.leads.leaves.asked in
         record {
           answers = x.exchange.answers;
           bounds = x.exchange.bounds;
           grown = x.exchanges.grown;
           asked = subst (λ f. Asked f x.exchange.answers x.exchange.bounds) (sym (by_turn u.state)) asked;
-          rest = ap (λ f. λ later. f (x.exchange.answers ++ later)) (by_turn u.state) ∙ ap (λ g. λ later. from_turn p limit (g later)) x.leads.leaves.rest;
+          rest = ap (λ f. λ later. f (x.exchange.answers ++ later)) (by_turn u.state) ∙ ap (λ g. λ later. from_turn p rules (g later)) x.leads.leaves.rest;
         }
 
-    turn_holds : (d.plan ≡ c.plan) × Holds (play p input limit) d (λ a. from_turn p limit (g there a))
-    turn_holds = holds_on (play p input limit) c d (run_from p limit u.state) (λ a. from_turn p limit (g there a)) u.holds turn_reaches
+    turn_holds : (d.plan ≡ c.plan) × Holds (play p input rules) d (λ a. from_turn p rules (g there a))
+    turn_holds = holds_on (play p input rules) c d (run_from p rules u.state) (λ a. from_turn p rules (g there a)) u.holds turn_reaches
 
     shown_there : there.shown ≡ t
     shown_there = x.leads.shown ∙ ap (λ b. b ++ x.exchange.bytes) u.shown_is ∙ sym x.exchanges.shows.shown
 
   -- it goes on
-  module _ (m new : Configuration) (c d : Choices) (s t : List ℕ) (given left rest : List (List ℕ)) (u : IsRunPrefix p input limit c s left m) (x : StepsTo p.lines new (devices c (text_state s) []) u.state rest (turn p limit u.state) (devices d (text_state t) given) goes) where
-    goes_run_prefix : IsRunPrefix p input limit d t rest new
+  module _ (m new : Configuration) (c d : Choices) (s t : List ℕ) (given left rest : List (List ℕ)) (most few : ℕ) (u : IsRunPrefix p input rules c s left m) (x : StepsTo p.lines new (devices c (text_state s) most rules.choose []) u.state rest (turn p rules.limit u.state) (devices d (text_state t) few rules.choose given) goes) where
+    goes_run_prefix : IsRunPrefix p input rules d t rest new
     goes_run_prefix = record {
       state = x.leads.state;
       represents = x.leads.represents;
-      shown_is = shown_there m new c d s t given left rest u goes x;
+      shown_is = shown_there m new c d s t given left rest most few u goes x;
       left_is = x.leads.lines;
-      holds = (turn_holds m new c d s t given left rest u goes x).1;
+      choose = x.leads.choose ∙ u.choose;
+      holds = (turn_holds m new c d s t given left rest most few u goes x).1;
     }
 
-    goes_below : (m.steps < limit) × (new.steps ≡ m.steps + 1)
+    goes_below : (m.steps < rules.limit) × (new.steps ≡ m.steps + 1)
     goes_below =
-        let e : turn p limit u.state (x.exchange.answers ++ []) ≡ Done (Next x.leads.state) [] = ap (λ f. f []) x.leads.leaves.rest in
-        let one = laws.one_step p limit u.state x.leads.state (x.exchange.answers ++ []) [] e in
+        let e : turn p rules.limit u.state (x.exchange.answers ++ []) ≡ Done (Next x.leads.state) [] = ap (λ f. f []) x.leads.leaves.rest in
+        let one = laws.one_step p rules.limit u.state x.leads.state (x.exchange.answers ++ []) [] e in
         (omega (arith, one.0, u.represents.steps), omega (arith, one.1, u.represents.steps, x.leads.represents.steps))
 
   -- it ends
-  module _ (m new : Configuration) (c d : Choices) (s t : List ℕ) (given left rest : List (List ℕ)) (u : IsRunPrefix p input limit c s left m) where
-    over_is : (e : Ending) (T : State) → Represents p.lines new T → T.shown ≡ t → (a : Answers) → from_turn p limit (ends e T a) ≡ Done (record { ending = e; steps = new.steps; shown = t }) a
+  module _ (m new : Configuration) (c d : Choices) (s t : List ℕ) (given left rest : List (List ℕ)) (most few : ℕ) (u : IsRunPrefix p input rules c s left m) where
+    over_is : (e : Ending) (T : State) → Represents p.lines new T → T.shown ≡ t → (a : Answers) → from_turn p rules (ends e T a) ≡ Done (record { ending = e; steps = new.steps; shown = t }) a
     over_is e T y h a = ap (λ (n : ℕ). Done (record { ending = e; steps = n; shown = T.shown }) a) y.steps ∙ ap (λ (b : List ℕ). Done (record { ending = e; steps = new.steps; shown = b }) a) h
 
     abbrev Ended : Ending → Type 0
-    Ended e = Holds (play p input limit) d (λ later. Done (record { ending = e; steps = new.steps; shown = t }) later)
+    Ended e = Holds (play p input rules) d (λ later. Done (record { ending = e; steps = new.steps; shown = t }) later)
 
-    pub ends_so : (e : Ending) → StepsTo p.lines new (devices c (text_state s) []) u.state rest (turn p limit u.state) (devices d (text_state t) given) (ends e) → (d.plan ≡ c.plan) × Ended e
+    pub ends_so : (e : Ending) → StepsTo p.lines new (devices c (text_state s) most rules.choose []) u.state rest (turn p rules.limit u.state) (devices d (text_state t) few rules.choose given) (ends e) → (d.plan ≡ c.plan) × Ended e
     ends_so e x =
-        let h = turn_holds m new c d s t given left rest u (ends e) x in
-        (h.0, holds_to (play p input limit) d _ _ (over_is e x.leads.state x.leads.represents (shown_there m new c d s t given left rest u (ends e) x)) h.1)
+        let h = turn_holds m new c d s t given left rest most few u (ends e) x in
+        (h.0, holds_to (play p input rules) d _ _ (over_is e x.leads.state x.leads.represents (shown_there m new c d s t given left rest most few u (ends e) x)) h.1)
 
     -- INPUT finds no line left
-    ends_dry : IsDry (refused_by (RefusedByPlan d) (λ _. ⊥) (Some rest)) (StepsTo p.lines new (devices c (text_state s) []) u.state rest (turn p limit u.state)) (devices d (text_state t) given) (Over endings.NoInput) → (d.plan ≡ c.plan) × Ended endings.NoInput
+    ends_dry : IsDry (refused_by (RefusedByPlan d) (λ _. ⊥) (Some rest)) (StepsTo p.lines new (devices c (text_state s) most rules.choose []) u.state rest (turn p rules.limit u.state)) (devices d (text_state t) few rules.choose given) (Over endings.NoInput) → (d.plan ≡ c.plan) × Ended endings.NoInput
     ends_dry w =
         let x = w.comes in
         let T : State = x.leads.state in
         let none : T.lines ≡ [] = x.leads.lines ∙ w.refuses in
-        let h = turn_holds m new c d s t given left rest u w.left x in
-        (h.0, holds_to (play p input limit) d _ _ (λ a. ap (from_turn p limit) (w.dry T a none) ∙ over_is endings.NoInput T x.leads.represents (shown_there m new c d s t given left rest u w.left x) a) h.1)
+        let h = turn_holds m new c d s t given left rest most few u w.left x in
+        (h.0, holds_to (play p input rules) d _ _ (λ a. ap (from_turn p rules) (w.dry T a none) ∙ over_is endings.NoInput T x.leads.represents (shown_there m new c d s t given left rest most few u w.left x) a) h.1)
 
     -- the plan's next answer is outside its bound
-    ends_outside : (k : ℤ) → Waits (refused_by (RefusedByPlan d) (λ _. ⊥) (Some rest)) (StepsTo p.lines new (devices c (text_state s) []) u.state rest (turn p limit u.state)) (devices d (text_state t) given) (pauses.OutOfRange k) → (d.plan ≡ c.plan) × NextIsOutside (play p input limit) d
+    ends_outside : (k : ℤ) → Waits (refused_by (RefusedByPlan d) (λ _. ⊥) (Some rest)) (StepsTo p.lines new (devices c (text_state s) most rules.choose []) u.state rest (turn p rules.limit u.state)) (devices d (text_state t) few rules.choose given) (pauses.OutOfRange k) → (d.plan ≡ c.plan) × NextIsOutside (play p input rules) d
     ends_outside k w =
         let x = w.comes in
         let T : State = x.leads.state in
-        let h = turn_holds m new c d s t given left rest u w.left x in
-        let reads = laws.reads p input limit in
+        let h = turn_holds m new c d s t given left rest most few u w.left x in
+        let reads = laws.reads p input rules in
         let later = w.refuses.0.0 in
-        let asks : play p input limit d.taken ≡ Asks w.bound T.shown = ap (play p input limit) (sym (append-nil d.taken)) ∙ h.1.rest [] ∙ ap (from_turn p limit) (w.asks T) in
-        let out : play p input limit (d.taken ++ k ∷ []) ≡ Out w.bound T.shown = reads.outside d.taken w.bound k T.shown asks w.refuses.1 in
-        let all : play p input limit ((d.taken ++ k ∷ []) ++ later) ≡ Out w.bound T.shown = reads.out (d.taken ++ k ∷ []) later w.bound T.shown out in (
+        let asks : play p input rules d.taken ≡ Asks w.bound T.shown = ap (play p input rules) (sym (append-nil d.taken)) ∙ h.1.rest [] ∙ ap (from_turn p rules) (w.asks T) in
+        let out : play p input rules (d.taken ++ k ∷ []) ≡ Out w.bound T.shown = reads.outside d.taken w.bound k T.shown asks w.refuses.1 in
+        let all : play p input rules ((d.taken ++ k ∷ []) ++ later) ≡ Out w.bound T.shown = reads.out (d.taken ++ k ∷ []) later w.bound T.shown out in (
           h.0,
           record {
             next = k;
@@ -138,11 +140,11 @@ module _ (laws : RunLaws) (p : StoredProgram) (input : List (List ℕ)) (limit :
             plan_is = w.refuses.0.1;
             bound = w.bound;
             beside = T.shown;
-            out = ap (play p input limit) (w.refuses.0.1 ∙ sym (append_assoc d.taken (k ∷ []) later)) ∙ all;
+            out = ap (play p input rules) (w.refuses.0.1 ∙ sym (append_assoc d.taken (k ∷ []) later)) ∙ all;
           },
         )
 
-    ending_comes : (e : Ending) → StepComes (refused_by (RefusedByPlan d) (λ _. ⊥) (Some rest)) (StepsTo p.lines new (devices c (text_state s) []) u.state rest (turn p limit u.state)) (devices d (text_state t) given) (Ok (Some e)) → (d.plan ≡ c.plan) × PlayEnds (play p input limit) d new.steps t e
+    ending_comes : (e : Ending) → StepComes (refused_by (RefusedByPlan d) (λ _. ⊥) (Some rest)) (StepsTo p.lines new (devices c (text_state s) most rules.choose []) u.state rest (turn p rules.limit u.state)) (devices d (text_state t) few rules.choose given) (Ok (Some e)) → (d.plan ≡ c.plan) × PlayEnds (play p input rules) d new.steps t e
     ending_comes endings.End x = ends_so endings.End x
     ending_comes endings.Stop x = ends_so endings.Stop x
     ending_comes endings.What x = ends_so endings.What x
@@ -155,23 +157,23 @@ module _ (laws : RunLaws) (p : StoredProgram) (input : List (List ℕ)) (limit :
 
   -- ---- a step, by its result
 
-  pub step_goes : (m new : Configuration) (c d : Choices) (s t : List ℕ) (given left rest : List (List ℕ)) (refused : Refusal → Type 0) (r : Result (Option Ending) RunFault) → r ≡ Ok None → IsRunPrefix p input limit c s left m → left ≡ given ++ rest → Steps refused p limit m new (devices c (text_state s) []) (devices d (text_state t) given) r → (d.plan ≡ c.plan) × IsRunPrefix p input limit d t rest new × ((m.steps < limit) × (new.steps ≡ m.steps + 1))
-  step_goes m new c d s t given left rest refused r e u l steps =
-      let x = subst (λ r. StepComes refused (StepsTo p.lines new (devices c (text_state s) []) u.state rest (turn p limit u.state)) (devices d (text_state t) given) r) e (steps u.state rest u.represents (u.left_is ∙ l)) in
-      ((turn_holds m new c d s t given left rest u goes x).0, goes_run_prefix m new c d s t given left rest u x, goes_below m new c d s t given left rest u x)
+  pub step_goes : (m new : Configuration) (c d : Choices) (s t : List ℕ) (given left rest : List (List ℕ)) (most few : ℕ) (refused : Refusal → Type 0) (r : Result (Option Ending) RunFault) → r ≡ Ok None → IsRunPrefix p input rules c s left m → left ≡ given ++ rest → (few ≡ 0 → rest ≡ []) → Steps refused p rules.limit m new (devices c (text_state s) most rules.choose []) (devices d (text_state t) few rules.choose given) r → (d.plan ≡ c.plan) × IsRunPrefix p input rules d t rest new × ((m.steps < rules.limit) × (new.steps ≡ m.steps + 1))
+  step_goes m new c d s t given left rest most few refused r e u l follows steps =
+      let x = subst (λ r. StepComes refused (StepsTo p.lines new (devices c (text_state s) most rules.choose []) u.state rest (turn p rules.limit u.state)) (devices d (text_state t) few rules.choose given) r) e (steps u.state rest u.represents u.choose follows (u.left_is ∙ l)) in
+      ((turn_holds m new c d s t given left rest most few u goes x).0, goes_run_prefix m new c d s t given left rest most few u x, goes_below m new c d s t given left rest most few u x)
 
-  pub step_ends : (m new : Configuration) (c d : Choices) (s t : List ℕ) (given left rest : List (List ℕ)) (e : Ending) (r : Result (Option Ending) RunFault) → r ≡ Ok (Some e) → IsRunPrefix p input limit c s left m → left ≡ given ++ rest → Steps (refused_by (RefusedByPlan d) (λ _. ⊥) (Some rest)) p limit m new (devices c (text_state s) []) (devices d (text_state t) given) r → (d.plan ≡ c.plan) × PlayEnds (play p input limit) d new.steps t e
-  step_ends m new c d s t given left rest e r is u l steps =
-      let x = subst (λ r. StepComes (refused_by (RefusedByPlan d) (λ _. ⊥) (Some rest)) (StepsTo p.lines new (devices c (text_state s) []) u.state rest (turn p limit u.state)) (devices d (text_state t) given) r) is (steps u.state rest u.represents (u.left_is ∙ l)) in
-      ending_comes m new c d s t given left rest u e x
+  pub step_ends : (m new : Configuration) (c d : Choices) (s t : List ℕ) (given left rest : List (List ℕ)) (most few : ℕ) (e : Ending) (r : Result (Option Ending) RunFault) → r ≡ Ok (Some e) → IsRunPrefix p input rules c s left m → left ≡ given ++ rest → (few ≡ 0 → rest ≡ []) → Steps (refused_by (RefusedByPlan d) (λ _. ⊥) (Some rest)) p rules.limit m new (devices c (text_state s) most rules.choose []) (devices d (text_state t) few rules.choose given) r → (d.plan ≡ c.plan) × PlayEnds (play p input rules) d new.steps t e
+  step_ends m new c d s t given left rest most few e r is u l follows steps =
+      let x = subst (λ r. StepComes (refused_by (RefusedByPlan d) (λ _. ⊥) (Some rest)) (StepsTo p.lines new (devices c (text_state s) most rules.choose []) u.state rest (turn p rules.limit u.state)) (devices d (text_state t) few rules.choose given) r) is (steps u.state rest u.represents u.choose follows (u.left_is ∙ l)) in
+      ending_comes m new c d s t given left rest most few u e x
 
   -- a machine that isn't spent, whose bytes and lines are in memory, has no fault but want of memory
-  module _ (m new : Configuration) (c d : Choices) (s t : List ℕ) (given left rest : List (List ℕ)) (r : Result (Option Ending) RunFault) (u : IsRunPrefix p input limit c s left m) (l : left ≡ given ++ rest) (steps : Steps (refused_by (RefusedByPlan d) (λ _. ⊥) (Some rest)) p limit m new (devices c (text_state s) []) (devices d (text_state t) given) r) where
+  module _ (m new : Configuration) (c d : Choices) (s t : List ℕ) (given left rest : List (List ℕ)) (most few : ℕ) (r : Result (Option Ending) RunFault) (u : IsRunPrefix p input rules c s left m) (l : left ≡ given ++ rest) (follows : few ≡ 0 → rest ≡ []) (steps : Steps (refused_by (RefusedByPlan d) (λ _. ⊥) (Some rest)) p rules.limit m new (devices c (text_state s) most rules.choose []) (devices d (text_state t) few rules.choose given) r) where
     abbrev Fault : RunFault → Type 0
-    Fault f = StepComes (refused_by (RefusedByPlan d) (λ _. ⊥) (Some rest)) (StepsTo p.lines new (devices c (text_state s) []) u.state rest (turn p limit u.state)) (devices d (text_state t) given) (Err f)
+    Fault f = StepComes (refused_by (RefusedByPlan d) (λ _. ⊥) (Some rest)) (StepsTo p.lines new (devices c (text_state s) most rules.choose []) u.state rest (turn p rules.limit u.state)) (devices d (text_state t) few rules.choose given) (Err f)
 
     faulted : (f : RunFault) → r ≡ Err f → Fault f
-    faulted f is = subst (λ r. StepComes (refused_by (RefusedByPlan d) (λ _. ⊥) (Some rest)) (StepsTo p.lines new (devices c (text_state s) []) u.state rest (turn p limit u.state)) (devices d (text_state t) given) r) is (steps u.state rest u.represents (u.left_is ∙ l))
+    faulted f is = subst (λ r. StepComes (refused_by (RefusedByPlan d) (λ _. ⊥) (Some rest)) (StepsTo p.lines new (devices c (text_state s) most rules.choose []) u.state rest (turn p rules.limit u.state)) (devices d (text_state t) few rules.choose given) r) is (steps u.state rest u.represents u.choose follows (u.left_is ∙ l))
 
     pub never_unread : r ≡ Err faults.Read → ⊥
     never_unread is = let w : Fault faults.Read = faulted faults.Read is in elim w.broken.0.by [ inl x ↦ x | inr x ↦ x ]
@@ -184,14 +186,15 @@ module _ (laws : RunLaws) (p : StoredProgram) (input : List (List ℕ)) (limit :
 
 -- ---- a chooser that took the same answers
 
-pub prefix_to : (p : StoredProgram) (input : List (List ℕ)) (limit : ℕ) (c d : Choices) (s t : List ℕ) (left rest : List (List ℕ)) (m : Configuration) → IsRunPrefix p input limit c s left m
-    → c.taken ≡ d.taken → d.kept ≡ Some (bounds (play p input limit) d.taken) → s ≡ t → left ≡ rest → IsRunPrefix p input limit d t rest m
-prefix_to p input limit c d s t left rest m u taken kept shown lines = record {
+pub prefix_to : (p : StoredProgram) (input : List (List ℕ)) (rules : Rules) (c d : Choices) (s t : List ℕ) (left rest : List (List ℕ)) (m : Configuration) → IsRunPrefix p input rules c s left m
+    → c.taken ≡ d.taken → d.kept ≡ Some (bounds (play p input rules) d.taken) → s ≡ t → left ≡ rest → IsRunPrefix p input rules d t rest m
+prefix_to p input rules c d s t left rest m u taken kept shown lines = record {
   state = u.state;
   represents = u.represents;
   shown_is = u.shown_is ∙ shown;
   left_is = u.left_is ∙ lines;
-  holds = record { bounds_are = kept; rest = λ later. ap (λ a. play p input limit (a ++ later)) (sym taken) ∙ u.holds.rest later };
+  choose = u.choose;
+  holds = record { bounds_are = kept; rest = λ later. ap (λ a. play p input rules (a ++ later)) (sym taken) ∙ u.holds.rest later };
 }
 
 -- ---- what a step adds
@@ -202,11 +205,11 @@ pub record Extends (c d : Choices) (s t : List ℕ) : Type 0 where
   pub taken : d.taken ≡ c.taken ++ answers
   pub shown : t ≡ s ++ bytes
 
-module _ (p : StoredProgram) (input : List (List ℕ)) (limit : ℕ) (m new : Configuration) (c d : Choices) (s t : List ℕ) (given left rest : List (List ℕ)) (refused : Refusal → Type 0) (u : IsRunPrefix p input limit c s left m) where
-  turn_extends : (g : State → Answers → Outcome StepResult State) → StepsTo p.lines new (devices c (text_state s) []) u.state rest (turn p limit u.state) (devices d (text_state t) given) g → Extends c d s t
+module _ (p : StoredProgram) (input : List (List ℕ)) (rules : Rules) (m new : Configuration) (c d : Choices) (s t : List ℕ) (given left rest : List (List ℕ)) (most few : ℕ) (refused : Refusal → Type 0) (u : IsRunPrefix p input rules c s left m) where
+  turn_extends : (g : State → Answers → Outcome StepResult State) → StepsTo p.lines new (devices c (text_state s) most rules.choose []) u.state rest (turn p rules.limit u.state) (devices d (text_state t) few rules.choose given) g → Extends c d s t
   turn_extends g x = record { answers = x.exchange.answers; bytes = x.exchange.bytes; taken = ap (λ y. y.taken) x.exchanges.grown; shown = x.exchanges.shows.shown }
 
-  ending_extends : (e : Ending) → StepComes refused (StepsTo p.lines new (devices c (text_state s) []) u.state rest (turn p limit u.state)) (devices d (text_state t) given) (Ok (Some e)) → Extends c d s t
+  ending_extends : (e : Ending) → StepComes refused (StepsTo p.lines new (devices c (text_state s) most rules.choose []) u.state rest (turn p rules.limit u.state)) (devices d (text_state t) few rules.choose given) (Ok (Some e)) → Extends c d s t
   ending_extends endings.End x = turn_extends (ends endings.End) x
   ending_extends endings.Stop x = turn_extends (ends endings.Stop) x
   ending_extends endings.What x = turn_extends (ends endings.What) x
@@ -217,11 +220,18 @@ module _ (p : StoredProgram) (input : List (List ℕ)) (limit : ℕ) (m new : Co
   ending_extends endings.NoAnswer w = turn_extends w.left w.comes
   ending_extends endings.BadAnswer w = turn_extends w.1.left w.1.comes
 
-  pub step_extends : (o : Option Ending) (r : Result (Option Ending) RunFault) → r ≡ Ok o → left ≡ given ++ rest → Steps refused p limit m new (devices c (text_state s) []) (devices d (text_state t) given) r → Extends c d s t
-  step_extends None r is l steps =
-      turn_extends goes (subst (λ r. StepComes refused (StepsTo p.lines new (devices c (text_state s) []) u.state rest (turn p limit u.state)) (devices d (text_state t) given) r) is (steps u.state rest u.represents (u.left_is ∙ l)))
-  step_extends (Some e) r is l steps =
-      ending_extends e (subst (λ r. StepComes refused (StepsTo p.lines new (devices c (text_state s) []) u.state rest (turn p limit u.state)) (devices d (text_state t) given) r) is (steps u.state rest u.represents (u.left_is ∙ l)))
+  pub step_extends : (o : Option Ending) (r : Result (Option Ending) RunFault) → r ≡ Ok o → left ≡ given ++ rest → (few ≡ 0 → rest ≡ []) → Steps refused p rules.limit m new (devices c (text_state s) most rules.choose []) (devices d (text_state t) few rules.choose given) r → Extends c d s t
+  step_extends None r is l follows steps =
+      turn_extends goes (subst (λ r. StepComes refused (StepsTo p.lines new (devices c (text_state s) most rules.choose []) u.state rest (turn p rules.limit u.state)) (devices d (text_state t) few rules.choose given) r) is (steps u.state rest u.represents u.choose follows (u.left_is ∙ l)))
+  step_extends (Some e) r is l follows steps =
+      ending_extends e (subst (λ r. StepComes refused (StepsTo p.lines new (devices c (text_state s) most rules.choose []) u.state rest (turn p rules.limit u.state)) (devices d (text_state t) few rules.choose given) r) is (steps u.state rest u.represents u.choose follows (u.left_is ∙ l)))
+
+-- where a list can give no line, none is left
+pub none_follow : (s : LineList) → length s.lines - s.taken ≡ 0 → drop s.taken s.lines ≡ []
+none_follow s none = nothing (drop s.taken s.lines) (omega (arith, none, length-drop s.taken s.lines)) where
+  nothing : (ls : List (List ℕ)) → length ls ≡ 0 → ls ≡ []
+  nothing [] e = refl
+  nothing (l ∷ ls) e = absurd (omega (arith, e))
 
 -- lines that were taken were there
 pub taken_within : (s t : LineList) (xs : List (List ℕ)) → Gives s xs t → s.taken ≤ length s.lines → t.taken ≤ length s.lines
@@ -229,5 +239,5 @@ taken_within s t xs gives l =
     omega (arith, l, gives.counted, sym (length-drop s.taken s.lines) ∙ ap length gives.first ∙ length-append xs _)
 
 -- the runs of a program have the laws of what takes answers one by one
-pub program_laws : (laws : RunLaws) (p : StoredProgram) (input : List (List ℕ)) (limit : ℕ) → TreeLaws (play p input limit) (most_answers p input limit)
-program_laws laws p input limit = tree_laws (play p input limit) (most_answers p input limit) (laws.reads p input limit)
+pub program_laws : (laws : RunLaws) (p : StoredProgram) (input : List (List ℕ)) (rules : Rules) → TreeLaws (play p input rules) (most_answers p input rules.limit)
+program_laws laws p input rules = tree_laws (play p input rules) (most_answers p input rules.limit) (laws.reads p input rules)

@@ -4,7 +4,7 @@
 --     IsSameCopy k j                         j is a copy as k is
 --     Adds before m taken shown lines old new    what keeping one more leaves of the copies
 --     GoesBack most old new                  those that took more answers than this are dropped
---     AreCopies p input limit t w ks         the copies, the oldest first, are of a run with the answers t that showed w
+--     AreCopies p input rules t w ks         the copies, the oldest first, are of a run with the answers t that showed w
 --     Agrees play n plan answers bounds      a plan begins with n of the answers, whose bounds are right
 --     KeptRun                                what contracts see of a copy
 --     kept_runs answers ks                   what contracts see of the copies of a run with these answers
@@ -14,6 +14,7 @@
 use Rattle.std.specs.Prelude.{◌≡◌, ℕ, ◌+◌, ◌-◌, ◌^◌, min, ◌<◌, ◌≤◌, List, [], ◌∷◌, ◌++◌, length, take, drop, map, Bool, true, false, ◌&&◌, if◌then◌else◌, ◌⊎◌, Option, Some, None, option_map, ℤ}
 use Rattle.std.specs.List.{AllByRecursion}
 use Rattle.std.specs.Ordering.{int_eq}
+use Rattle.ptb_machine.specs.declared.rules.Rules.{Rules}
 use Rattle.ptb_text.specs.Statements.{StoredProgram}
 use Rattle.ptb_expr.specs.Outcome.{Answers, Outcome, bounds}
 use Rattle.ptb_expr.specs.Choices.{Choices}
@@ -81,14 +82,14 @@ last_steps ks = last_steps_of 0 ks
 abbrev pub taken_choices : {A W : Type 0} → (Answers → Outcome A W) → Answers → Choices
 taken_choices play t = record { plan = t; taken = t; kept = Some (bounds play t) }
 
-module _ (p : StoredProgram) (input : List (List ℕ)) (limit : ℕ) where
+module _ (p : StoredProgram) (input : List (List ℕ)) (rules : Rules) where
   -- after the answers t, with the bytes w shown, play stands where the copy does
   pub record StandsAt (k : KeptCopy) (t : Answers) (w : List ℕ) : Type 0 where
     pub machine : Configuration
     pub machine_is : machine_of k ≡ Some machine
     pub unspent : machine.spent ≡ false
     pub within : k.lines ≤ length input
-    pub run_prefix : IsRunPrefix p input limit (taken_choices (play p input limit) t) w (drop k.lines input) machine
+    pub run_prefix : IsRunPrefix p input rules (taken_choices (play p input rules) t) w (drop k.lines input) machine
 
   -- each took a beginning of the answers, longer than that of the copy before it, and showed a beginning of the bytes
   abbrev pub KeptFrom : Answers → List ℕ → ℕ → ℕ → List KeptCopy → Type 0

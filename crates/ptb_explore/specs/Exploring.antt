@@ -14,6 +14,7 @@ use Rattle.std.specs.declared.alloc.AllocError.{AllocError}
 use Rattle.std.specs.Borrow.{Bor}
 use Rattle.ptb_text.specs.Statements.{StoredProgram}
 use Rattle.ptb_expr.specs.Outcome.{Answers, Outcome, Done, bounds}
+use Rattle.ptb_machine.specs.declared.rules.Rules.{Rules}
 use Rattle.ptb_machine.specs.Play.{Finish, play}
 use Rattle.ptb_machine.specs.Questions.{most_answers}
 use Rattle.ptb_explore.specs.declared.copies.KeptCopy.{KeptCopy}
@@ -28,8 +29,7 @@ use Rattle.ptb_explore.specs.RunTree.{Front, Start, At, End, IsNextRun, IsLast}
 pub record Exploration : Type 0 where
   pub program : StoredProgram
   pub input : List (List ℕ)
-  -- how many commands a run may begin
-  pub limit : ℕ
+  pub rules : Rules
   pub front : Front
   -- the copies that are kept of the run at which it stands, the one with the fewest answers first
   pub kept : List KeptRun
@@ -37,10 +37,10 @@ pub record Exploration : Type 0 where
   pub played : ℕ
 
 abbrev pub play_of : Exploration → Answers → Outcome Finish (List ℕ)
-play_of e = play e.program e.input e.limit
+play_of e = play e.program e.input e.rules
 
 abbrev pub most_of : Exploration → ℕ
-most_of e = most_answers e.program e.input e.limit
+most_of e = most_answers e.program e.input e.rules.limit
 
 -- ---- reports
 
@@ -75,10 +75,10 @@ NextLeaves old (Err e) new = new ≡ record old { kept = []; played = new.played
 -- ---- copies
 
 -- where it stands at no run there are none
-abbrev pub AreCopiesAt : StoredProgram → List (List ℕ) → ℕ → Position → Report → List KeptCopy → Type 0
-AreCopiesAt p input limit AtStart r ks = ks ≡ []
-AreCopiesAt p input limit AtRun r ks = AreCopies p input limit r.answers.items r.transcript.items ks
-AreCopiesAt p input limit AtEnd r ks = ks ≡ []
+abbrev pub AreCopiesAt : StoredProgram → List (List ℕ) → Rules → Position → Report → List KeptCopy → Type 0
+AreCopiesAt p input rules AtStart r ks = ks ≡ []
+AreCopiesAt p input rules AtRun r ks = AreCopies p input rules r.answers.items r.transcript.items ks
+AreCopiesAt p input rules AtEnd r ks = ks ≡ []
 
 abbrev pub AreKeptAt : Front → List KeptRun → Type 0
 AreKeptAt Start runs = runs ≡ []

@@ -4,6 +4,8 @@ pub mod Plans
 pub mod Recording
 pub mod Playing
 pub mod Copies
+pub mod AnswerText
+pub mod MarkedRuns
 pub mod Report
 pub mod Listing
 pub mod Exploring

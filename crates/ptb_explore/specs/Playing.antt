@@ -2,8 +2,8 @@
 --     Holds play c left                      what a chooser holds, and what of the play is left to be done
 --     NextIsOutside play c                   the plan's next answer is outside its bound
 --     PlayEnds play c steps shown ending     the play has this ending
---     run_from p limit S                     what is left of a run from the state S on
---     IsRunPrefix p input limit c shown left m    with what a chooser holds, a run has come to where a machine stands
+--     run_from p rules S                     what is left of a run from the state S on
+--     IsRunPrefix p input rules c shown left m    with what a chooser holds, a run has come to where a machine stands
 use Rattle.std.specs.Prelude.{◌≡◌, ℕ, List, ◌∷◌, ◌++◌, Some, ℤ}
 use Rattle.ptb_text.specs.Statements.{StoredProgram}
 use Rattle.ptb_expr.specs.Outcome.{Answers, Outcome, Done, Out, bounds, map_outcome}
@@ -13,6 +13,7 @@ use Rattle.ptb_command.specs.declared.ending.Ending.TheVariants as endings
 use Rattle.ptb_command.specs.State.{State}
 use Rattle.ptb_command.specs.Configuration.{Configuration}
 use Rattle.ptb_command.specs.Representation.{Represents}
+use Rattle.ptb_machine.specs.declared.rules.Rules.{Rules}
 use Rattle.ptb_machine.specs.Play.{Finish, turns, play}
 
 module _ {A W : Type 0} (play : Answers → Outcome A W) where
@@ -39,13 +40,14 @@ PlayEnds play c steps shown ending = Holds play c (λ later. Done (record { endi
 -- ---- a run that is underway
 
 -- what is left of a run from a state on
-abbrev pub run_from : StoredProgram → ℕ → State → Answers → Outcome Finish (List ℕ)
-run_from p limit S a = map_outcome (λ f. f) (λ (T : State). T.shown) (turns p limit S a)
+abbrev pub run_from : StoredProgram → Rules → State → Answers → Outcome Finish (List ℕ)
+run_from p rules S a = map_outcome (λ f. f) (λ (T : State). T.shown) (turns p rules.limit S a)
 
 -- a run was begun, and with what the chooser holds it has come to where the machine stands
-pub record IsRunPrefix (p : StoredProgram) (input : List (List ℕ)) (limit : ℕ) (c : Choices) (shown : List ℕ) (left : List (List ℕ)) (m : Configuration) : Type 0 where
+pub record IsRunPrefix (p : StoredProgram) (input : List (List ℕ)) (rules : Rules) (c : Choices) (shown : List ℕ) (left : List (List ℕ)) (m : Configuration) : Type 0 where
   pub state : State
   pub represents : Represents p.lines m state
   pub shown_is : state.shown ≡ shown
   pub left_is : state.lines ≡ left
-  pub holds : Holds (play p input limit) c (run_from p limit state)
+  pub choose : state.choose ≡ rules.choose
+  pub holds : Holds (play p input rules) c (run_from p rules state)

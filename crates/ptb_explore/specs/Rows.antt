@@ -1,8 +1,10 @@
 -- This file has worked rows of runs and of their reports.
-use Rattle.std.specs.Prelude.{◌≡◌, ℕ, [], ◌∷◌, codes, false, true, Some, None, pos}
+use Rattle.std.specs.Prelude.{◌≡◌, ℕ, [], ◌∷◌, ◌++◌, codes, false, true, Some, None, pos}
 use Rattle.ptb_expr.specs.Outcome.{Answers, is_whole, bounds}
 use Rattle.ptb_expr.specs.Rows.{worth}
 use Rattle.ptb_explore.specs.RunTree.{At, End, is_before, tree, runs_left}
+use Rattle.ptb_explore.specs.AnswerText.{answers_of, marked, spelling, unmarked}
+use Rattle.ptb_explore.specs.MarkedRuns.{states_bounds}
 use Rattle.ptb_explore.specs.Report.{report_text}
 
 -- a list of one answer, and of two
@@ -42,7 +44,20 @@ pub record RunRows : Type 0 where
 
 pub record ReportRows : Type 0 where
   pub none : report_text [] (codes "END") 0 [] ≡ codes "RUN none END 0 0\n\n"
-  pub one_answer : report_text (one 1) (codes "END") 1 (codes "     1\n") ≡ codes "RUN 1 END 1 7\n     1\n\n"
-  pub two_answers : report_text (two 2 3) (codes "END") 4 (codes "     3\n") ≡ codes "RUN 2,3 END 4 7\n     3\n\n"
+  pub one_answer : report_text (unmarked (one 1)) (codes "END") 1 (codes "     1\n") ≡ codes "RUN 1 END 1 7\n     1\n\n"
+  pub two_answers : report_text (unmarked (two 2 3)) (codes "END") 4 (codes "     3\n") ≡ codes "RUN 2,3 END 4 7\n     3\n\n"
   pub no_steps_left : report_text [] (codes "LIMIT") 5 [] ≡ codes "RUN none LIMIT 5 0\n\n"
   pub no_newline_shown : report_text [] (codes "NOINPUT") 1 (codes "A:") ≡ codes "RUN none NOINPUT 1 2\nA:\n"
+  -- each answer with its bound
+  pub one_bound : report_text (marked (one 1) (one 2)) (codes "END") 2 [] ≡ codes "RUN 1/2 END 2 0\n\n"
+  pub two_bounds : report_text (marked (two 2 1) (two 2 3)) (codes "END") 4 (codes "     1\n") ≡ codes "RUN 2/2,1/3 END 4 7\n     1\n\n"
+  pub no_bounds : report_text (marked [] []) (codes "END") 0 [] ≡ codes "RUN none END 0 0\n\n"
+  pub some_bounds : spelling (marked (one 2) (one 2) ++ unmarked (one 1)) ≡ codes "2/2,1"
+  -- bounds that are stated of the answers of a run
+  pub right_bounds : states_bounds (marked (two 2 1) (two 2 3)) (two 2 3) ≡ true
+  pub right_first : states_bounds (marked (one 2) (one 2) ++ unmarked (one 1)) (two 2 3) ≡ true
+  pub right_last : states_bounds (unmarked (one 2) ++ marked (one 1) (one 3)) (two 2 3) ≡ true
+  pub wrong_first : states_bounds (marked (two 2 1) (two 3 3)) (two 2 3) ≡ false
+  pub wrong_last : states_bounds (marked (two 2 1) (two 2 2)) (two 2 3) ≡ false
+  pub none_stated : states_bounds (unmarked (two 2 1)) (two 2 3) ≡ true
+  pub their_answers : answers_of (marked (one 2) (one 2) ++ unmarked (one 1)) ≡ two 2 1

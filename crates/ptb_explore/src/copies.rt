@@ -1,10 +1,12 @@
 // This file has the copies of a machine that are kept of a run, from which the next runs go on.
 
-ghost use Rattle.std.specs.Prelude.{◌≡◌, ℕ, [], drop, IfOk};
+ghost use Rattle.std.specs.Prelude.{◌≡◌, ℕ, ℤ, List, Option, [], drop, false, IfOk};
+ghost use Rattle.ptb_command.specs.Representation.{Represents};
+ghost use Rattle.ptb_command.specs.State.{first_state};
 ghost use Rattle.ptb_explore.specs.Copies.{Adds, GoesBackTo, IsSameCopy};
 
 use arrayvec::ArrayVec;
-use ptb_machine::Machine;
+use ptb_machine::{Machine, Player};
 use std::alloc::{AllocError, Global};
 
 /// How many copies are kept at most.
@@ -36,10 +38,33 @@ fn copied(
             copy.copy_from(alloc, machine)?;
             Ok(copy)
         }
-        None => match Box::new(alloc, machine.copy(alloc)?) {
-            Ok(copy) => Ok(copy),
-            Err(_) => Err(AllocError),
-        },
+        None => made_copy(alloc, machine),
+    }
+}
+
+// Copies a machine into room of its own.
+// Apart from where there is room already, since the room of a machine on the stack is cleared at each
+// call: that took a tenth of a listing's time.
+#[inline(never)]
+fn made_copy(alloc: Global, machine: &Machine) -> Result<Box<Machine>, AllocError>
+    ensures { IfOk result (λ b. b.value ≡ machine.now) }
+{
+    match Box::new(alloc, machine.copy(alloc)?) {
+        Ok(copy) => Ok(copy),
+        Err(_) => Err(AllocError),
+    }
+}
+
+// A machine at the beginning of a run, in room of its own; apart for the same reason.
+#[inline(never)]
+fn made_first(alloc: Global, player: &Player) -> Result<Box<Machine>, AllocError>
+    ensures first { IfOk result (λ b. (input : List (List ℕ)) (choose : Option ℤ) →
+        Represents player.now.lines b.value (first_state player.now input choose)) }
+    ensures unspent { IfOk result (λ b. b.value.spent ≡ false) }
+{
+    match Box::new(alloc, player.machine(alloc)?) {
+        Ok(machine) => Ok(machine),
+        Err(_) => Err(AllocError),
     }
 }
 
@@ -94,6 +119,31 @@ impl Copies {
             return machine;
         }
         self.spare.pop().flatten()
+    }
+
+    /// A machine at the beginning of a run of the player's program, in the room of one that no copy needs
+    /// where there is one.
+    ///
+    /// # Errors
+    ///
+    /// Where there is no memory for it.
+    pub(crate) fn begin(
+        &mut self,
+        alloc: Global,
+        player: &Player,
+    ) -> Result<Box<Machine>, AllocError>
+        ensures kept { self.new.kept ≡ self.old.kept }
+        ensures first { IfOk result (λ b. (input : List (List ℕ)) (choose : Option ℤ) →
+            Represents player.now.lines b.value (first_state player.now input choose)) }
+        ensures unspent { IfOk result (λ b. b.value.spent ≡ false) }
+    {
+        match self.spare.pop().flatten() {
+            Some(mut machine) => {
+                player.restart(alloc, &mut machine)?;
+                Ok(machine)
+            }
+            None => made_first(alloc, player),
+        }
     }
 
     /// Keeps a copy of a machine that took answers in its last step, if there is memory for it.

@@ -1,14 +1,16 @@
 // This file has the explorer, which finds all runs of a program.
 
-ghost use Rattle.std.specs.Prelude.{◌≡◌, ◌≤◌, true, false, Ok, None, [], length, drop};
+ghost use Rattle.std.specs.Prelude.{◌≡◌, ◌≤◌, ◌≤ℤ◌, pos, true, false, Ok, None, [], length, drop};
 ghost use Rattle.std.specs.Prelude.{IfOk, OnOk, OnErr, IfSome, IfNone, IsErrOf, IsTrue};
 ghost use Rattle.ptb_expr.specs.Outcome.{is_open, bounds as bounds_of};
 ghost use Rattle.ptb_machine.specs.Play.{play};
 ghost use Rattle.ptb_machine.specs.Questions.{most_answers};
+ghost use Rattle.ptb_explore.specs.AnswerText.{answers_of};
 ghost use Rattle.ptb_explore.specs.Copies.{Agrees, AreBeginnings, AreCopies, PlaysOn, WentBack};
 ghost use Rattle.ptb_explore.specs.Copies.{kept_runs, last_steps};
 ghost use Rattle.ptb_explore.specs.Exploring.{play_of, most_of, finish_of, Reports, NextReports};
 ghost use Rattle.ptb_explore.specs.Exploring.{AreCopiesAt, IsPlayed, NextPlays};
+ghost use Rattle.ptb_explore.specs.MarkedRuns.{IsMarkedRun, states_bounds};
 ghost use Rattle.ptb_explore.specs.Playing.{IsRunPrefix};
 ghost use Rattle.ptb_explore.specs.Recording.{choices_of};
 ghost use Rattle.ptb_explore.specs.Laws.{TreeLaws};
@@ -17,11 +19,12 @@ ghost use Rattle.ptb_explore.specs.RunTree.{Start, At, End, IsRun, IsNextRun, Is
 
 use crate::copies::Copies;
 use crate::fault::AfterFault;
+use crate::form::{Marked, answers_of, states_bounds};
 use crate::plan::{Position, plan_next};
 use crate::playing::play_on;
 use crate::recorder::Recorder;
 use crate::report::Report;
-use ptb_machine::{Line, Lines, Machine, Player, TextScreen, run_laws};
+use ptb_machine::{Line, Lines, Machine, Player, Rules, TextScreen, run_laws};
 use ptb_text::Program;
 use std::alloc::{AllocError, Global};
 use std::marker::Model;
@@ -32,7 +35,7 @@ use std::mem;
 fn go_back(
     alloc: Global,
     player: &mut Player,
-    limit: u32,
+    rules: Rules,
     common: usize,
     report: &Report,
     trial: &mut Recorder,
@@ -42,18 +45,18 @@ fn go_back(
 ) -> Result<Box<Machine>, AllocError>
     requires fresh { IsFresh trial.old }
     requires begins { source.old.taken ≡ 0 }
-    requires agrees { Agrees (play player.old source.old.lines limit) common
+    requires agrees { Agrees (play player.old source.old.lines rules) common
         trial.old.answers.items report.now.answers.items report.now.bounds.items }
-    requires copies { AreCopies player.old source.old.lines limit report.now.answers.items
+    requires copies { AreCopies player.old source.old.lines rules report.now.answers.items
         screen.old copies.old.kept.items }
     ensures program { player.new ≡ player.old }
     ensures plan { (choices_of trial.new).plan ≡ trial.old.answers.items }
     ensures same_lines { source.new.lines ≡ source.old.lines }
     ensures within { OnOk result (source.new.taken ≤ length source.new.lines) }
     ensures unspent { IfOk result (λ b. b.value.spent ≡ false) }
-    ensures run_prefix { IfOk result (λ b. IsRunPrefix player.old source.old.lines limit
+    ensures run_prefix { IfOk result (λ b. IsRunPrefix player.old source.old.lines rules
         (choices_of trial.new) screen.new (drop source.new.taken source.new.lines) b.value) }
-    ensures copies { OnOk result (AreCopies player.old source.old.lines limit
+    ensures copies { OnOk result (AreCopies player.old source.old.lines rules
         (choices_of trial.new).taken screen.new copies.new.kept.items) }
     ensures back { OnOk result (WentBack common copies.old.kept.items copies.new.kept.items) }
     ensures steps { IfOk result (λ b. b.value.steps ≡ last_steps copies.new.kept.items) }
@@ -61,11 +64,7 @@ fn go_back(
     match copies.go_back(alloc, common)? {
         None => {
             screen.cut(0);
-            let first = player.machine(alloc)?;
-            match Box::new(alloc, first) {
-                Ok(machine) => Ok(machine),
-                Err(_) => Err(AllocError),
-            }
+            copies.begin(alloc, player)
         }
         Some(copy) => {
             trial.skip(&report.bounds[..copy.taken])?;
@@ -85,25 +84,26 @@ fn report_plan(
     alloc: Global,
     player: &mut Player,
     lines: &[Line],
-    limit: u32,
+    rules: Rules,
     common: usize,
     trial: &mut Recorder,
     report: &mut Report,
     copies: &mut Copies,
     played: &mut u64,
 ) -> Result<(), AllocError>
+    requires choose { IfSome rules.choose (λ n. pos 1 ≤ℤ n) }
     requires fresh { IsFresh trial.old }
-    requires opens { is_open (play player.old lines.now limit trial.old.answers.items) ≡ true }
-    requires agrees { Agrees (play player.old lines.now limit) common
+    requires opens { is_open (play player.old lines.now rules trial.old.answers.items) ≡ true }
+    requires agrees { Agrees (play player.old lines.now rules) common
         trial.old.answers.items report.old.answers.items report.old.bounds.items }
-    requires copies { AreCopies player.old lines.now limit report.old.answers.items
+    requires copies { AreCopies player.old lines.now rules report.old.answers.items
         report.old.transcript.items copies.old.kept.items }
     ensures program { player.new ≡ player.old }
-    ensures ends { OnOk result (EndsAt (play player.old lines.now limit) trial.old.answers.items
+    ensures ends { OnOk result (EndsAt (play player.old lines.now rules) trial.old.answers.items
         report.new.answers.items report.new.bounds.items (finish_of report.new)) }
     ensures answers { OnErr result (report.new.answers.items ≡ report.old.answers.items) }
     ensures bounds { OnErr result (report.new.bounds.items ≡ report.old.bounds.items) }
-    ensures copies { OnOk result (AreCopies player.old lines.now limit report.new.answers.items
+    ensures copies { OnOk result (AreCopies player.old lines.now rules report.new.answers.items
         report.new.transcript.items copies.new.kept.items) }
     ensures played { OnOk result (PlaysOn common copies.old.kept.items played.old
         report.new.steps played.new) }
@@ -114,7 +114,7 @@ fn report_plan(
     let machine = go_back(
         alloc,
         player,
-        limit,
+        rules,
         common,
         report,
         trial,
@@ -127,7 +127,7 @@ fn report_plan(
     let ending = play_on(
         alloc,
         player,
-        limit,
+        rules,
         &mut machine,
         trial,
         &mut screen,
@@ -149,24 +149,25 @@ fn report_next(
     alloc: Global,
     player: &mut Player,
     lines: &[Line],
-    limit: u32,
+    rules: Rules,
     position: Position,
     trial: &mut Recorder,
     report: &mut Report,
     copies: &mut Copies,
     played: &mut u64,
 ) -> Result<bool, AllocError>
-    requires position { IsPosition (play player.old lines.now limit) position
+    requires choose { IfSome rules.choose (λ n. pos 1 ≤ℤ n) }
+    requires position { IsPosition (play player.old lines.now rules) position
         report.old.answers.items report.old.bounds.items }
-    requires copies { AreCopiesAt player.old lines.now limit position report.old
+    requires copies { AreCopiesAt player.old lines.now rules position report.old
         copies.old.kept.items }
     ensures program { player.new ≡ player.old }
-    ensures next { IfOk result (NextReports (play player.old lines.now limit)
+    ensures next { IfOk result (NextReports (play player.old lines.now rules)
         (front_at position report.old.answers.items) report.new) }
     ensures answers { OnErr result (report.new.answers.items ≡ report.old.answers.items) }
     ensures bounds { OnErr result (report.new.bounds.items ≡ report.old.bounds.items) }
     ensures ended { position ≡ Position.AtEnd → result ≡ Ok false }
-    ensures copies { IfOk result (λ found. IsTrue found → AreCopies player.old lines.now limit
+    ensures copies { IfOk result (λ found. IsTrue found → AreCopies player.old lines.now rules
         report.new.answers.items report.new.transcript.items copies.new.kept.items) }
     ensures played { IfOk result (NextPlays
         (kept_runs report.old.answers.items copies.old.kept.items) played.old report.new played.new) }
@@ -176,7 +177,7 @@ fn report_next(
         None => Ok(false),
         Some(common) => {
             report_plan(
-                alloc, player, lines, limit, common, trial, report, copies, played,
+                alloc, player, lines, rules, common, trial, report, copies, played,
             )?;
             Ok(true)
         }
@@ -188,26 +189,27 @@ fn check_run(
     alloc: Global,
     player: &mut Player,
     lines: &[Line],
-    limit: u32,
+    rules: Rules,
     trial: &mut Recorder,
     screen: &mut TextScreen,
     copies: &mut Copies,
     played: &mut u64,
 ) -> Result<(), AfterFault>
+    requires choose { IfSome rules.choose (λ n. pos 1 ≤ℤ n) }
     requires fresh { IsFresh trial.old }
     requires shown { screen.old ≡ [] }
     requires none { copies.old.kept.items ≡ [] }
     ensures program { player.new ≡ player.old }
-    ensures run { OnOk result (IsRun (play player.old lines.now limit) trial.old.answers.items) }
+    ensures run { OnOk result (IsRun (play player.old lines.now rules) trial.old.answers.items) }
     ensures answers { OnOk result (trial.new.answers.items ≡ trial.old.answers.items) }
     ensures bounds { OnOk result (trial.new.bounds.items
-        ≡ bounds_of (play player.old lines.now limit) trial.old.answers.items) }
-    ensures copies { OnOk result (AreCopies player.old lines.now limit trial.old.answers.items
+        ≡ bounds_of (play player.old lines.now rules) trial.old.answers.items) }
+    ensures copies { OnOk result (AreCopies player.old lines.now rules trial.old.answers.items
         screen.new copies.new.kept.items) }
-    ensures played { OnOk result (IsPlayed (play player.old lines.now limit)
+    ensures played { OnOk result (IsPlayed (play player.old lines.now rules)
         trial.old.answers.items played.new) }
     ensures not_a_run { IsErrOf result AfterFault.NotARun
-        → IsRun (play player.old lines.now limit) trial.old.answers.items → ⊥ }
+        → IsRun (play player.old lines.now rules) trial.old.answers.items → ⊥ }
 {
     run_laws();
     let planned = trial.answers.len();
@@ -216,7 +218,7 @@ fn check_run(
     play_on(
         alloc,
         player,
-        limit,
+        rules,
         &mut machine,
         trial,
         screen,
@@ -244,8 +246,8 @@ pub struct Explorer<'a> {
     player: Player<'a>,
     /// The lines that answer INPUT, in each run from the first on.
     lines: &'a [Line],
-    /// The most commands that a run begins.
-    limit: u32,
+    /// By which each run is played.
+    rules: Rules,
     /// Where the listing of the runs stands.
     position: Position,
     /// Its answers and bounds are those of the run at which the explorer stands.
@@ -261,6 +263,7 @@ pub struct Explorer<'a> {
 }
 
 impl<'a> Model for Explorer<'a> {
+    ghost use Rattle.std.specs.Prelude.{pos, ◌≤ℤ◌, IfSome};
     ghost use Rattle.ptb_machine.specs.Play.{play};
     ghost use Rattle.ptb_explore.specs.Copies.{kept_runs};
     ghost use Rattle.ptb_explore.specs.Exploring.{Exploration, AreCopiesAt};
@@ -271,15 +274,16 @@ impl<'a> Model for Explorer<'a> {
     ghost view = { λ e. record {
       program = e.player;
       input = e.lines.now;
-      limit = e.limit;
+      rules = e.rules;
       front = front_at e.position e.report.answers.items;
       kept = kept_runs e.report.answers.items e.copies.kept.items;
       played = e.played;
     } };
 
-    ghost invariant = { λ e. IsPosition (play e.player e.lines.now e.limit) e.position
+    ghost invariant = { λ e. IsPosition (play e.player e.lines.now e.rules) e.position
         e.report.answers.items e.report.bounds.items
-        × AreCopiesAt e.player e.lines.now e.limit e.position e.report e.copies.kept.items };
+        × AreCopiesAt e.player e.lines.now e.rules e.position e.report e.copies.kept.items
+        × IfSome e.rules.choose (λ n. pos 1 ≤ℤ n) };
 }
 
 impl<'a> Explorer<'a> {
@@ -287,8 +291,8 @@ impl<'a> Explorer<'a> {
     ghost use Rattle.ptb_explore.specs.Lending.{NextRests};
     ghost use Rattle.ptb_explore.specs.Exploring.{AreKeptAt};
 
-    /// An explorer before the first run of a program with these input lines. Each run may begin
-    /// `limit` commands.
+    /// An explorer before the first run of a program with these input lines. Each run is played by
+    /// these rules.
     ///
     /// # Errors
     ///
@@ -297,27 +301,28 @@ impl<'a> Explorer<'a> {
         alloc: Global,
         program: &'a Program,
         lines: &'a [Line],
-        limit: u32,
+        rules: Rules,
     ) -> Result<Explorer<'a>, AllocError>
+        requires { IfSome rules.choose (λ n. pos 1 ≤ℤ n) }
         ensures start { IfOk result (λ e. e ≡ record {
           program = program.now;
           input = lines.now;
-          limit = limit;
+          rules = rules;
           front = Start;
           kept = [];
           played = 0;
         }) }
 
         // Laws of the definitions.
-        ensures laws { TreeLaws (play program.now lines.now limit)
-            (most_answers program.now lines.now limit) }
+        ensures laws { TreeLaws (play program.now lines.now rules)
+            (most_answers program.now lines.now rules.limit) }
     {
         run_laws();
         let player = Player::new(alloc, program)?;
         Ok(Explorer {
             player,
             lines,
-            limit,
+            rules,
             position: Position::AtStart,
             report: Report::new(alloc),
             trial: Recorder::new(alloc),
@@ -337,31 +342,106 @@ impl<'a> Explorer<'a> {
         alloc: Global,
         program: &'a Program,
         lines: &'a [Line],
-        limit: u32,
+        rules: Rules,
         answers: &[i16],
     ) -> Result<Explorer<'a>, AfterFault>
+        requires { IfSome rules.choose (λ n. pos 1 ≤ℤ n) }
         ensures after { IfOk result (λ e. e ≡ record {
           program = program.now;
           input = lines.now;
-          limit = limit;
+          rules = rules;
           front = At answers.now;
           kept = e.kept;
           played = e.played;
         }) }
-        ensures run { OnOk result (IsRun (play program.now lines.now limit) answers.now) }
+        ensures run { OnOk result (IsRun (play program.now lines.now rules) answers.now) }
         ensures kept { IfOk result (λ e. AreBeginnings 0 answers.now e.kept) }
         ensures played { IfOk result (λ e.
-            IsPlayed (play program.now lines.now limit) answers.now e.played) }
+            IsPlayed (play program.now lines.now rules) answers.now e.played) }
         ensures not_a_run { IsErrOf result AfterFault.NotARun
-            → IsRun (play program.now lines.now limit) answers.now → ⊥ }
+            → IsRun (play program.now lines.now rules) answers.now → ⊥ }
 
         // Laws of the definitions.
-        ensures laws { TreeLaws (play program.now lines.now limit)
-            (most_answers program.now lines.now limit) }
+        ensures laws { TreeLaws (play program.now lines.now rules)
+            (most_answers program.now lines.now rules.limit) }
     {
         run_laws();
         let mut trial = Recorder::new(alloc);
         trial.replay(answers)?;
+        Explorer::at_plan(alloc, program, lines, rules, trial, &[])
+    }
+
+    /// An explorer that stands at the run of the answers of a list, of which some may have their
+    /// bounds.
+    ///
+    /// # Errors
+    ///
+    /// [`AfterFault::NotARun`] where the answers are no run, or a bound that stands in the list is not
+    /// that of the question; [`AfterFault::Memory`] where a growth was refused memory.
+    pub fn after_marked(
+        alloc: Global,
+        program: &'a Program,
+        lines: &'a [Line],
+        rules: Rules,
+        list: &[Marked],
+    ) -> Result<Explorer<'a>, AfterFault>
+        requires { IfSome rules.choose (λ n. pos 1 ≤ℤ n) }
+        ensures after { IfOk result (λ e. e ≡ record {
+          program = program.now;
+          input = lines.now;
+          rules = rules;
+          front = At (answers_of list.now);
+          kept = e.kept;
+          played = e.played;
+        }) }
+        ensures run { OnOk result (IsMarkedRun (play program.now lines.now rules) list.now) }
+        ensures kept { IfOk result (λ e. AreBeginnings 0 (answers_of list.now) e.kept) }
+        ensures played { IfOk result (λ e.
+            IsPlayed (play program.now lines.now rules) (answers_of list.now) e.played) }
+        ensures not_a_run { IsErrOf result AfterFault.NotARun
+            → IsMarkedRun (play program.now lines.now rules) list.now → ⊥ }
+
+        // Laws of the definitions.
+        ensures laws { TreeLaws (play program.now lines.now rules)
+            (most_answers program.now lines.now rules.limit) }
+    {
+        run_laws();
+        let trial = Recorder::planning(alloc, answers_of(alloc, list)?);
+        Explorer::at_plan(alloc, program, lines, rules, trial, list)
+    }
+
+    // An explorer that stands at the run of a plan, of whose first questions these bounds are stated.
+    fn at_plan(
+        alloc: Global,
+        program: &'a Program,
+        lines: &'a [Line],
+        rules: Rules,
+        mut trial: Recorder,
+        stated: &[Marked],
+    ) -> Result<Explorer<'a>, AfterFault>
+        requires choose { IfSome rules.choose (λ n. pos 1 ≤ℤ n) }
+        requires fresh { IsFresh trial }
+        requires within { length stated.now ≤ length trial.answers.items }
+        ensures after { IfOk result (λ e. e ≡ record {
+          program = program.now;
+          input = lines.now;
+          rules = rules;
+          front = At trial.answers.items;
+          kept = e.kept;
+          played = e.played;
+        }) }
+        ensures run { OnOk result (IsRun (play program.now lines.now rules) trial.answers.items) }
+        ensures stated { OnOk result (states_bounds stated.now
+            (bounds_of (play program.now lines.now rules) trial.answers.items) ≡ true) }
+        ensures kept { IfOk result (λ e. AreBeginnings 0 trial.answers.items e.kept) }
+        ensures played { IfOk result (λ e.
+            IsPlayed (play program.now lines.now rules) trial.answers.items e.played) }
+        ensures not_a_run { IsErrOf result AfterFault.NotARun
+            → IsRun (play program.now lines.now rules) trial.answers.items
+            → states_bounds stated.now
+            (bounds_of (play program.now lines.now rules) trial.answers.items) ≡ true → ⊥ }
+    {
+        run_laws();
         let mut player = Player::new(alloc, program)?;
         let mut screen = TextScreen::new(alloc);
         let mut copies = Copies::new();
@@ -370,19 +450,22 @@ impl<'a> Explorer<'a> {
             alloc,
             &mut player,
             lines,
-            limit,
+            rules,
             &mut trial,
             &mut screen,
             &mut copies,
             &mut played,
         )?;
+        if !states_bounds(stated, &trial.bounds) {
+            return Err(AfterFault::NotARun);
+        }
         let mut run = Report::new(alloc);
         run.transcript = screen.into_vec();
         trial.hand_over(&mut run.answers, &mut run.bounds);
         Ok(Explorer {
             player,
             lines,
-            limit,
+            rules,
             position: Position::AtRun,
             report: run,
             trial,
@@ -414,7 +497,7 @@ impl<'a> Explorer<'a> {
             self.alloc,
             &mut self.player,
             self.lines,
-            self.limit,
+            self.rules,
             self.position,
             &mut self.trial,
             &mut self.report,

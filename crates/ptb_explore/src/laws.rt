@@ -3,6 +3,7 @@
 ghost use Rattle.std.specs.Prelude.{ℕ, List};
 ghost use Rattle.ptb_text.specs.Statements.{StoredProgram};
 ghost use Rattle.ptb_expr.specs.Outcome.{Answers, Outcome, IsReader};
+ghost use Rattle.ptb_machine.specs.declared.rules.Rules.{Rules};
 ghost use Rattle.ptb_machine.specs.Play.{play};
 ghost use Rattle.ptb_machine.specs.Questions.{most_answers};
 ghost use Rattle.ptb_explore.specs.Laws.{ListingLaws, TreeLaws};
@@ -22,12 +23,12 @@ pub fn listing_laws<A, W>()
         → ListingLaws play most }
 {}
 
-/// The runs of each program on each input, with each limit, have these laws.
+/// The runs of each program on each input, by any rules, have these laws.
 pub fn program_laws()
-    ensures tree { (p : StoredProgram) (input : List (List ℕ)) (limit : ℕ)
-        → TreeLaws (play p input limit) (most_answers p input limit) }
-    ensures listing { (p : StoredProgram) (input : List (List ℕ)) (limit : ℕ)
-        → ListingLaws (play p input limit) (most_answers p input limit) }
+    ensures tree { (p : StoredProgram) (input : List (List ℕ)) (rules : Rules)
+        → TreeLaws (play p input rules) (most_answers p input rules.limit) }
+    ensures listing { (p : StoredProgram) (input : List (List ℕ)) (rules : Rules)
+        → ListingLaws (play p input rules) (most_answers p input rules.limit) }
 {
     run_laws();
 }

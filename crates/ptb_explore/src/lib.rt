@@ -2,13 +2,14 @@
 //!
 //! It stands on `ptb_machine`, on definitions of the two crates below that, on `ptb_expr`,
 //! `ptb_text`, `arrayvec`, `itoa` and `thiserror`. The crate above may rely on `Explorer::start`
-//! and `after` (where a listing begins, or that the answers are no run), on `write_all_runs` (the
+//! `after` and `after_marked` (where a listing begins, or that the answers are no run), on `write_all_runs` (the
 //! reports of the runs that are left), and on `program_laws`.
 #![tactic(auto)]
 
 mod copies;
 mod explorer;
 mod fault;
+mod form;
 mod laws;
 mod listing;
 mod plan;
@@ -21,6 +22,7 @@ mod tests;
 
 pub use explorer::Explorer;
 pub use fault::{AfterFault, ExploreFault};
+pub use form::{Form, Marked};
 pub use laws::{listing_laws, program_laws, tree_laws};
 pub use listing::write_all_runs;
 pub use report::Report;

@@ -9,18 +9,23 @@ ghost use Rattle.ptb_explore.specs.RunTree.{runs_left};
 
 use crate::explorer::Explorer;
 use crate::fault::{ExploreFault, NextFault};
+use crate::form::Form;
 use crate::report::{word, write_report};
 use ptb_machine::run_laws;
 use ptb_text::Write;
 
 // Writes the report of the next run, and says whether there is one.
-fn write_next<W: Write>(explorer: &mut Explorer, writer: &mut W) -> Result<bool, NextFault>
+fn write_next<W: Write>(
+    explorer: &mut Explorer,
+    form: Form,
+    writer: &mut W,
+) -> Result<bool, NextFault>
     ensures same { explorer.new ≡ record explorer.old {
       front = explorer.new.front;
       kept = explorer.new.kept;
       played = explorer.new.played;
     } }
-    ensures writes { NextWrites (play_of explorer.old) (report (play_of explorer.old))
+    ensures writes { NextWrites (play_of explorer.old) (report form (play_of explorer.old))
         explorer.old.front explorer.new.front
         (W.contents writer.old) (W.contents writer.new) result }
     ensures failed { IsErrOf result NextFault.Write
@@ -34,7 +39,9 @@ fn write_next<W: Write>(explorer: &mut Explorer, writer: &mut W) -> Result<bool,
         Ok(Some(run)) => {
             match write_report(
                 writer,
+                form,
                 &run.answers,
+                &run.bounds,
                 word(run.ending),
                 run.steps,
                 &run.transcript,
@@ -57,7 +64,7 @@ fn one_less(remaining: Option<u64>) -> Option<u64>
 }
 
 /// Writes the reports of the runs that are left, or of the first of them, in the order of their
-/// answers. The number of reports, or `u64::MAX` where there were more.
+/// answers and in this form. The number of reports, or `u64::MAX` where there were more.
 ///
 /// # Errors
 ///
@@ -67,6 +74,7 @@ fn one_less(remaining: Option<u64>) -> Option<u64>
 pub fn write_all_runs<W: Write>(
     explorer: &mut Explorer,
     first: Option<u64>,
+    form: Form,
     writer: &mut W,
 ) -> Result<u64, ExploreFault>
     ensures same { explorer.new ≡ record explorer.old {
@@ -74,7 +82,7 @@ pub fn write_all_runs<W: Write>(
       kept = explorer.new.kept;
       played = explorer.new.played;
     } }
-    ensures writes { WritesRuns (play_of explorer.old) (report (play_of explorer.old))
+    ensures writes { WritesRuns (play_of explorer.old) (report form (play_of explorer.old))
         (runs_left (play_of explorer.old) (most_of explorer.old) explorer.old.front first)
         explorer.old.front explorer.new.front
         (W.contents writer.old) (W.contents writer.new) result }
@@ -87,7 +95,7 @@ pub fn write_all_runs<W: Write>(
     let mut written: u64 = 0;
     let mut remaining = first;
     while remaining != Some(0) {
-        match write_next(explorer, writer) {
+        match write_next(explorer, form, writer) {
             Ok(true) => {}
             Ok(false) => return Ok(written),
             Err(NextFault::Memory) => return Err(ExploreFault::Memory(written)),

@@ -1,6 +1,6 @@
 // This file plays a program with the answers of a plan.
 
-ghost use Rattle.std.specs.Prelude.{◌≡◌, ◌≤◌, false, length, drop, IfOk, OnOk};
+ghost use Rattle.std.specs.Prelude.{◌≡◌, ◌≤◌, ◌≤ℤ◌, pos, false, length, drop, IfOk, IfSome, OnOk};
 ghost use Rattle.ptb_machine.specs.Play.{play};
 ghost use Rattle.ptb_explore.specs.Copies.{AreCopies};
 ghost use Rattle.ptb_explore.specs.Playing.{PlayEnds, IsRunPrefix};
@@ -8,7 +8,7 @@ ghost use Rattle.ptb_explore.specs.Recording.{choices_of};
 
 use crate::copies::Copies;
 use crate::recorder::Recorder;
-use ptb_machine::{Ending, Lines, Machine, Player, RunFault, TextScreen, run_laws};
+use ptb_machine::{Ending, Lines, Machine, Player, Rules, RunFault, TextScreen, run_laws};
 use std::alloc::{AllocError, Global};
 
 /// Plays a run of the player's program on from where it stands: with the answers of the plan, and 1
@@ -23,30 +23,31 @@ use std::alloc::{AllocError, Global};
 pub(crate) fn play_on(
     alloc: Global,
     player: &mut Player,
-    limit: u32,
+    rules: Rules,
     machine: &mut Machine,
     trial: &mut Recorder,
     screen: &mut TextScreen,
     source: &mut Lines,
     copies: &mut Copies,
 ) -> Result<Ending, AllocError>
+    requires choose { IfSome rules.choose (λ n. pos 1 ≤ℤ n) }
     requires unspent { machine.old.spent ≡ false }
     requires within { source.old.taken ≤ length source.old.lines }
-    requires run_prefix { IsRunPrefix player.old source.old.lines limit (choices_of trial.old)
+    requires run_prefix { IsRunPrefix player.old source.old.lines rules (choices_of trial.old)
         screen.old (drop source.old.taken source.old.lines) machine.old }
-    requires copies { AreCopies player.old source.old.lines limit (choices_of trial.old).taken
+    requires copies { AreCopies player.old source.old.lines rules (choices_of trial.old).taken
         screen.old copies.old.kept.items }
     ensures program { player.new ≡ player.old }
     ensures plan { OnOk result ((choices_of trial.new).plan ≡ (choices_of trial.old).plan) }
-    ensures ends { IfOk result (PlayEnds (play player.old source.old.lines limit)
+    ensures ends { IfOk result (PlayEnds (play player.old source.old.lines rules)
         (choices_of trial.new) machine.new.steps screen.new) }
-    ensures copies { OnOk result (AreCopies player.old source.old.lines limit
+    ensures copies { OnOk result (AreCopies player.old source.old.lines rules
         (choices_of trial.new).taken screen.new copies.new.kept.items) }
 {
     run_laws();
     loop {
         let before = trial.bounds.len();
-        match player.step(machine, limit, trial, screen, source) {
+        match player.step(machine, rules, trial, screen, source) {
             Ok(None) => {}
             Ok(Some(ending)) => return Ok(ending),
             Err(RunFault::Memory) => return Err(AllocError),

@@ -40,6 +40,19 @@ impl Recorder {
         }
     }
 
+    /// A recorder with this plan.
+    pub(crate) fn planning(alloc: Global, answers: Vec<i16>) -> Self
+        ensures answers { result.answers.items ≡ answers.items }
+        ensures bounds { result.bounds.items ≡ [] }
+        ensures planned { result.planned ≡ vec_len result.answers }
+    {
+        Recorder {
+            planned: answers.len(),
+            answers,
+            bounds: Vec::new(alloc),
+        }
+    }
+
     /// Plans these answers and the raised one behind them. None was given yet.
     ///
     /// # Errors

@@ -1,12 +1,13 @@
 // This file has the reports of runs, and their writer.
 
-ghost use Rattle.std.specs.Prelude.{◌≡◌, [], ◌++◌, OnOk, OnErr};
+ghost use Rattle.std.specs.Prelude.{◌≡◌, ◌==◌, [], ◌++◌, length, OnOk, OnErr, codes, if◌then◌else◌};
 ghost use Rattle.std.specs.Io.KnownBytes.{Appends};
 ghost use Rattle.std.specs.List.{flat_map};
 ghost use Rattle.ptb_text.specs.Device.{TakesSome, HasFailed};
-ghost use Rattle.ptb_expr.specs.AnswerText.{spelling};
+ghost use Rattle.ptb_explore.specs.AnswerText.{item_text, items_in, spelling};
 ghost use Rattle.ptb_explore.specs.Report.{report_text, word_of, Gathers};
 
+use crate::form::{Form, Marked};
 use arrayvec::ArrayVec;
 use itoa::Buffer;
 use ptb_machine::Ending;
@@ -102,34 +103,66 @@ fn put_all<W: Write>(
     Ok(())
 }
 
-// Adds the answers to the pending bytes, joined by commas.
-fn put_answers<W: Write>(
+// What stands in front of the item at a place.
+fn separator(place: usize) -> &'static [u8]
+    ensures { result.now ≡ (if place == 0 then [] else codes ",") }
+{
+    if place == 0 { b"" } else { b"," }
+}
+
+// Adds an item to the pending bytes, behind a separator.
+fn put_item<W: Write>(
     out: &mut W,
     pending: &mut Pending,
-    answers: &[i16],
+    separator: &[u8],
+    item: Marked,
 ) -> Result<(), DeviceFault>
     ensures ok { OnOk result (Gathers (W.contents out.old) (W.contents out.new)
-        (pending.old.items ++ spelling answers.now) pending.new.items) }
+        (pending.old.items ++ (separator.now ++ item_text item)) pending.new.items) }
     ensures fault { OnErr result (TakesSome (W.contents out.old) (W.contents out.new)
-        (pending.old.items ++ spelling answers.now)) }
+        (pending.old.items ++ (separator.now ++ item_text item))) }
     ensures failed { OnErr result (HasFailed (W.failures out.old) (W.failures out.new)) }
     ensures unfailed { OnOk result (W.failures out.new ≡ W.failures out.old) }
 {
-    let Some((first, others)) = answers.split_first() else {
+    let (mut answer, mut bound) = (Buffer::new(), Buffer::new());
+    let answer = answer.format(item.answer).as_bytes();
+    match item.bound {
+        None => put_all(out, pending, &[separator, answer]),
+        Some(number) => {
+            let bound = bound.format(number).as_bytes();
+            put_all(out, pending, &[separator, answer, b"/", bound])
+        }
+    }
+}
+
+// Adds the answers to the pending bytes as a form has them, joined by commas.
+fn put_answers<W: Write>(
+    out: &mut W,
+    pending: &mut Pending,
+    form: Form,
+    answers: &[i16],
+    bounds: &[i16],
+) -> Result<(), DeviceFault>
+    requires { length answers.now ≡ length bounds.now }
+    ensures ok { OnOk result (Gathers (W.contents out.old) (W.contents out.new)
+        (pending.old.items ++ spelling (items_in form answers.now bounds.now))
+        pending.new.items) }
+    ensures fault { OnErr result (TakesSome (W.contents out.old) (W.contents out.new)
+        (pending.old.items ++ spelling (items_in form answers.now bounds.now))) }
+    ensures failed { OnErr result (HasFailed (W.failures out.old) (W.failures out.new)) }
+    ensures unfailed { OnOk result (W.failures out.new ≡ W.failures out.old) }
+{
+    if answers.is_empty() {
         return put(out, pending, b"none");
-    };
-    put(out, pending, Buffer::new().format(*first).as_bytes())?;
-    for answer in others {
-        put_all(
-            out,
-            pending,
-            &[b",", Buffer::new().format(*answer).as_bytes()],
-        )?;
+    }
+    for k in 0..answers.len() {
+        put_item(out, pending, separator(k), form.item(answers[k], bounds[k]))?;
     }
     Ok(())
 }
 
-/// Writes the report of a run: its answers, the word of its ending, its steps, and what it showed.
+/// Writes the report of a run: its answers as the form has them, the word of its ending, its steps,
+/// and what it showed. Each answer has its bound.
 ///
 /// It takes no memory, and writes a short report in one piece.
 ///
@@ -138,21 +171,24 @@ fn put_answers<W: Write>(
 /// [`DeviceFault`] where the writer failed. A beginning of the report may have been taken then.
 pub(crate) fn write_report<W: Write>(
     out: &mut W,
+    form: Form,
     answers: &[i16],
+    bounds: &[i16],
     word: &[u8],
     steps: u32,
     transcript: &[u8],
 ) -> Result<(), DeviceFault>
+    requires { length answers.now ≡ length bounds.now }
     ensures ok { OnOk result (Appends (W.contents out.old) (W.contents out.new)
-        (report_text answers.now word.now steps transcript.now)) }
+        (report_text (items_in form answers.now bounds.now) word.now steps transcript.now)) }
     ensures fault { OnErr result (TakesSome (W.contents out.old) (W.contents out.new)
-        (report_text answers.now word.now steps transcript.now)) }
+        (report_text (items_in form answers.now bounds.now) word.now steps transcript.now)) }
     ensures failed { OnErr result (HasFailed (W.failures out.old) (W.failures out.new)) }
     ensures unfailed { OnOk result (W.failures out.new ≡ W.failures out.old) }
 {
     let mut pending = Pending::new();
     put(out, &mut pending, b"RUN ")?;
-    put_answers(out, &mut pending, answers)?;
+    put_answers(out, &mut pending, form, answers, bounds)?;
     let (mut counted, mut sized) = (Buffer::new(), Buffer::new());
     let steps = counted.format(steps).as_bytes();
     let size = sized.format(transcript.len()).as_bytes();

@@ -1,12 +1,25 @@
 // This file has the tests.
 
-ghost use Rattle.std.specs.Prelude.{pos, ◌≤ℤ◌};
+ghost use Rattle.std.specs.Prelude.{◌≡◌, pos, ◌≤ℤ◌, None};
 
+use crate::form::Form;
 use crate::recorder::Recorder;
 use crate::report::write_report;
 use ptb_expr::{Chooser, Pause};
+use ptb_machine::Rules;
 use ptb_text::{Device, DeviceFault};
+use std::alloc::Global;
 use std::test::Fail;
+
+/// Rules by which a run ends where no line is left.
+pub(crate) fn plain_rules(limit: u32) -> Rules
+    ensures { result ≡ record { limit = limit; choose = None } }
+{
+    Rules {
+        limit,
+        choose: None,
+    }
+}
 
 /// Asks any chooser.
 fn ask<C: Chooser>(chooser: &mut C, bound: i16) -> Result<i16, Pause>
@@ -39,23 +52,59 @@ fn refuses_what_is_out_of_range(rt: HostRuntime) -> Result<(), Fail> {
     Ok(())
 }
 
+// The text of a report whose answers have these bounds.
+fn written(
+    alloc: Global,
+    form: Form,
+    answers: &[i16],
+    bounds: &[i16],
+    word: &[u8],
+    steps: u32,
+    transcript: &[u8],
+) -> Result<Vec<u8>, Fail> {
+    if answers.len() != bounds.len() {
+        return Err(Fail::from("a bound too many or too few"));
+    }
+    let mut bytes = Vec::new(alloc);
+    let mut out = Device::new(&mut bytes);
+    match write_report(&mut out, form, answers, bounds, word, steps, transcript) {
+        Ok(()) => Ok(bytes),
+        Err(_) => Err(Fail::from("not written")),
+    }
+}
+
 #[test]
 fn writes_reports(rt: HostRuntime) -> Result<(), Fail> {
     let answers: [&[i16]; 4] = [&[], &[2, 1], &[32767], &[]];
+    let bounds: [&[i16]; 4] = [&[], &[2, 3], &[32767], &[]];
     let words: [&[u8]; 4] = [b"END", b"HOW", b"STOP", b"NOINPUT"];
     let steps = [0, 2, 1000000000, 1];
     let shown: [&[u8]; 4] = [b"", b"     1\n", b"x", b"A:"];
-    let texts: [&str; 4] = [
-        "RUN none END 0 0\n\n",
-        "RUN 2,1 HOW 2 7\n     1\n\n",
-        "RUN 32767 STOP 1000000000 1\nx\n",
-        "RUN none NOINPUT 1 2\nA:\n",
+    let texts: [[&str; 2]; 4] = [
+        ["RUN none END 0 0\n\n", "RUN none END 0 0\n\n"],
+        [
+            "RUN 2,1 HOW 2 7\n     1\n\n",
+            "RUN 2/2,1/3 HOW 2 7\n     1\n\n",
+        ],
+        [
+            "RUN 32767 STOP 1000000000 1\nx\n",
+            "RUN 32767/32767 STOP 1000000000 1\nx\n",
+        ],
+        ["RUN none NOINPUT 1 2\nA:\n", "RUN none NOINPUT 1 2\nA:\n"],
     ];
     for i in 0..4 {
-        let mut bytes = Vec::new(rt.alloc());
-        let mut out = Device::new(&mut bytes);
-        assert!(rt; write_report(&mut out, answers[i], words[i], steps[i], shown[i]).is_ok());
-        assert_eq!(rt; bytes.as_slice(), texts[i].as_bytes(), "report {i}");
+        for (form, text) in [(Form::One, texts[i][0]), (Form::Two, texts[i][1])] {
+            let bytes = written(
+                rt.alloc(),
+                form,
+                answers[i],
+                bounds[i],
+                words[i],
+                steps[i],
+                shown[i],
+            )?;
+            assert_eq!(rt; bytes.as_slice(), text.as_bytes(), "report {i}");
+        }
     }
     Ok(())
 }
@@ -69,9 +118,16 @@ fn writes_a_long_report(rt: HostRuntime) -> Result<(), Fail> {
     text.extend_from_slice(b" LIMIT 5 600\n")?;
     text.resize(text.len() + 600, b'x')?;
     text.push(b'\n')?;
-    let mut bytes = Vec::new(rt.alloc());
-    let mut out = Device::new(&mut bytes);
-    assert!(rt; write_report(&mut out, &[10; 300], b"LIMIT", 5, &[b'x'; 600]).is_ok());
+    let (answers, shown) = ([10; 300], [b'x'; 600]);
+    let bytes = written(
+        rt.alloc(),
+        Form::One,
+        &answers,
+        &answers,
+        b"LIMIT",
+        5,
+        &shown,
+    )?;
     assert_eq!(rt; bytes.as_slice(), text.as_slice());
     Ok(())
 }
@@ -82,7 +138,7 @@ fn writes_a_beginning(rt: HostRuntime) {
         let mut room = [b'.'; 17];
         let mut out = Device::new(&mut room[..size]);
         assert_eq!(rt;
-            write_report(&mut out, &[1, 2], b"END", 3, b""),
+            write_report(&mut out, Form::One, &[1, 2], &[1, 2], b"END", 3, b""),
             Err(DeviceFault)
         );
         assert_eq!(rt; &room[..size], &b"RUN 1,2 END 3 0\n\n"[..size]);

@@ -2,6 +2,7 @@
 --     value c x                the value of the tree x, with the cells c
 --     target_of c x            what the tree of a variable names: a letter, or an element whose index is worked out
 --     operation op v w         what an operator gives
+--     chosen n                 an answer from 1 to n
 use Rattle.std.specs.Prelude.{ℕ, Bool, not, ◌&&◌, ℤ, pos, ◌+ℤ◌, ◌-ℤ◌, ◌*ℤ◌, Result, Ok, Err, if◌then◌else◌, int_lt, int_le, int_div, unsigned_abs, neg_ℤ}
 use Rattle.std.specs.Ordering.{int_eq}
 use Rattle.ptb_expr.specs.declared.operator.Operator.{Operator}
@@ -59,9 +60,13 @@ absolute_value v = in_range (pos 0) (pos (unsigned_abs v))
 
 -- ---- trees
 
--- RND: an answer from 1 to n, where n is at least 1
+-- an answer from 1 to n
+abbrev pub chosen : ℤ → Work ℤ
+chosen n = λ a. go_on (answer n tt a) success
+
+-- RND: such an answer, where n is at least 1
 unfoldable pub random_number : ℤ → ℕ → Work ℤ
-random_number n m = if int_le (pos 1) n then (λ a. go_on (answer n tt a) success) else failure (fault How m)
+random_number n m = if int_le (pos 1) n then chosen n else failure (fault How m)
 
 unfoldable pub value : Cells → Tree → Work ℤ
 value c (Num v) = success v

@@ -22,7 +22,7 @@ mod store;
 mod tests;
 
 pub use chooser::{Chooser, Listed};
-pub use eval::{evaluate, target};
+pub use eval::{answer_to, evaluate, target};
 pub use fault::{Fault, FaultKind, Stop};
 pub use formula::{Formula, Operand, Operation};
 pub use laws::{mark_laws, spelling_laws, value_laws};

@@ -135,6 +135,16 @@ fn answers(rt: HostRuntime) -> Result<(), Fail> {
     Ok(())
 }
 
+// A question without an expression.
+#[test]
+fn answers_within_a_bound(rt: HostRuntime) {
+    assert!(rt; answer_to(2, &mut Listed::new(&[2, 1])) == Ok(2));
+    assert!(rt; answer_to(1, &mut Listed::new(&[1])) == Ok(1));
+    assert!(rt; answer_to(2, &mut Listed::new(&[])) == Err(Stop::Pause(Pause::Ended)));
+    assert!(rt; answer_to(2, &mut Listed::new(&[3])) == Err(Stop::Pause(Pause::OutOfRange(3))));
+    assert!(rt; answer_to(2, &mut Listed::new(&[0])) == Err(Stop::Pause(Pause::OutOfRange(0))));
+}
+
 // A question comes before what is wrong behind it, and after what is wrong in front.
 #[test]
 fn questions_in_order(rt: HostRuntime) -> Result<(), Fail> {

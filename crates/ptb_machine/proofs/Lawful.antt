@@ -16,7 +16,7 @@ effect_laws = record {
   turn = turn_change;
   run = turns_shown;
   all_turns = all_change;
-  first = λ p input. omega arith;
+  first = λ p input choose. omega arith;
 }
 
 pub run_laws : ValueLaws → RunLaws

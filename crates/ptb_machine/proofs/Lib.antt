@@ -1,4 +1,5 @@
 -- This file names the files of lemmas.
+pub mod Beginning
 pub mod Advancing
 pub mod Budgets
 pub mod Endings

@@ -1,6 +1,6 @@
 -- This file proves that a run takes its answers one by one, and how many it takes at most.
 use Rattle.std.proofs.Common.{◌≡◌, ℕ, zero, suc, ◌+◌, ◌-◌, ◌*◌, ◌<◌, ◌≤◌, Bool, true, false, leb, List, [], ◌∷◌, length, Option, Some, None, refl, ap, subst, arith}
-use Rattle.std.specs.Prelude.{sum_by}
+use Rattle.std.specs.Prelude.{ℤ, sum_by}
 use Rattle.std.proofs.lemmas.Bool.{leb-false}
 use Rattle.std.proofs.lemmas.List.Sums.{sum_by-cons}
 use Rattle.ptb_text.specs.Statements.{Statements, StoredProgram}
@@ -12,6 +12,7 @@ use Rattle.ptb_command.specs.Commands.{Command}
 use Rattle.ptb_command.specs.State.{Place, State, first_state, text_of, next_command}
 use Rattle.ptb_command.specs.Actions.{Faults, Ends, Progress, Goes, Halts}
 use Rattle.ptb_command.specs.Act.{finish, end_of, letter_of, first_width, command_action, StepResult, Next, Over, step_result_of, with_step, act, parts_action}
+use Rattle.ptb_machine.specs.declared.rules.Rules.{Rules}
 use Rattle.ptb_machine.specs.Questions.{command_questions, line_questions, most_answers, answers_left}
 use Rattle.ptb_machine.specs.Play.{Last, act_unless, turn_by, turn, after_turn, turns_within, all_turns, finish_of, turns, play}
 use Rattle.ptb_command.specs.Effects.{act_state, CommandChange}
@@ -138,9 +139,9 @@ module _ (values : ValueLaws) where
   some_line [] = omega arith
   some_line (l ∷ ls) = omega arith
 
-  first_is : (p : StoredProgram) (input : List (List ℕ)) (limit : ℕ) → cost_of p limit (first_state p input) ≡ program_rnds p.lines * limit + lines_cost (program_rnds p.lines) input
+  first_is : (p : StoredProgram) (input : List (List ℕ)) (limit : ℕ) (choose : Option ℤ) → cost_of p limit (first_state p input choose) ≡ program_rnds p.lines * limit + lines_cost (program_rnds p.lines) input
   unfolding cost_of turns_cost later
-  first_is p input limit =
+  first_is p input limit choose =
       let none : limit - 0 ≡ limit = omega arith in
       ap (λ n. program_rnds p.lines * n + lines_cost (program_rnds p.lines) input) none
 
@@ -152,14 +153,14 @@ module _ (values : ValueLaws) where
   enough : (program lines number limit : ℕ) → lines ≤ lines * number → program * limit + (lines + program * number) ≤ (program + lines) * (limit + 2 * number)
   enough program lines number limit h = omega arith
 
-  first_cost : (p : StoredProgram) (input : List (List ℕ)) (limit : ℕ) → cost_of p limit (first_state p input) ≤ most_answers p input limit
-  first_cost p input limit =
-      let all : cost_of p limit (first_state p input) ≡ program_rnds p.lines * limit + lines_cost (program_rnds p.lines) input = first_is p input limit in
+  first_cost : (p : StoredProgram) (input : List (List ℕ)) (limit : ℕ) (choose : Option ℤ) → cost_of p limit (first_state p input choose) ≤ most_answers p input limit
+  first_cost p input limit choose =
+      let all : cost_of p limit (first_state p input choose) ≡ program_rnds p.lines * limit + lines_cost (program_rnds p.lines) input = first_is p input limit choose in
       let bound : (program_rnds p.lines + sum_by line_questions input) * (limit + 2 * length input) ≡ most_answers p input limit = bound_is p input limit in
       omega (arith, lines_cost-is (program_rnds p.lines) input, enough (program_rnds p.lines) (sum_by line_questions input) (length input) limit (some_line input))
 
-  pub play_reader : (p : StoredProgram) (input : List (List ℕ)) (limit : ℕ) → IsReader (play p input limit) (most_answers p input limit)
+  pub play_reader : (p : StoredProgram) (input : List (List ℕ)) (rules : Rules) → IsReader (play p input rules) (most_answers p input rules.limit)
   unfolding play
-  play_reader p input limit =
-      wider_reader (play p input limit) _ _ (first_cost p input limit)
-      (map_reader (map_outcome (λ f. f) (λ (S : State). S.shown)) (λ f. f) (λ S. S.shown) (λ x rest. refl) (λ n v. refl) (λ n v. refl) (turns p limit (first_state p input)) _ (turns_reader p limit (first_state p input)))
+  play_reader p input rules =
+      wider_reader (play p input rules) _ _ (first_cost p input rules.limit rules.choose)
+      (map_reader (map_outcome (λ f. f) (λ (S : State). S.shown)) (λ f. f) (λ S. S.shown) (λ x rest. refl) (λ n v. refl) (λ n v. refl) (turns p rules.limit (first_state p input rules.choose)) _ (turns_reader p rules.limit (first_state p input rules.choose)))

@@ -1,5 +1,5 @@
 -- This file proves what a run comes to: its steps, one after the other.
-use Rattle.std.proofs.Common.{◌≡◌, inl, inr, ℕ, ◌-◌, ◌<◌, ◌≤◌, Bool, true, false, List, [], ◌++◌, Option, Some, None, Result, Ok, Err, ℤ, refl, sym, ap, subst, ◌∙◌, append-nil, append_assoc, arith}
+use Rattle.std.proofs.Common.{◌≡◌, inl, inr, ℕ, ◌+◌, ◌-◌, ◌<◌, ◌≤◌, length, Bool, true, false, List, [], ◌++◌, Option, Some, None, Result, Ok, Err, ℤ, refl, sym, ap, subst, ◌∙◌, append-nil, append_assoc, arith}
 use Rattle.std.specs.Result.{IsErrAnd}
 use Rattle.std.proofs.Math.Path.{fun_ext}
 use Rattle.std.proofs.lemmas.Bool.{false≢true}
@@ -20,15 +20,16 @@ use Rattle.ptb_command.specs.State.{State, first_state}
 use Rattle.ptb_command.specs.Act.{StepResult, Next, Over}
 use Rattle.ptb_machine.specs.Play.{Last, last_in, after_turn, turn, all_turns, last_state, unasked_lines, Finish, finish_of, turns, play}
 use Rattle.ptb_command.specs.Effects.{act_state, Begins, TakesLines}
-use Rattle.ptb_command.specs.Devices.{ScreenState, Devices, with_screen, Shows, Exchange, no_exchange, both_exchanges, Exchanges, Refusal}
+use Rattle.ptb_command.specs.Devices.{ScreenState, Devices, with_screen, Shows, Exchange, no_exchange, both_exchanges, Exchanges, MayFollow, Refusal}
 use Rattle.ptb_command.specs.Traces.{Leaves}
-use Rattle.ptb_command.specs.Stops.{Waits, IsDry, Breaks}
+use Rattle.ptb_command.specs.Stops.{LacksLine, Waits, IsDry, Breaks}
+use Rattle.ptb_machine.specs.declared.rules.Rules.{Rules}
 use Rattle.ptb_command.specs.Configuration.{Configuration}
 use Rattle.ptb_command.specs.Representation.{Represents}
 use Rattle.ptb_machine.specs.Steps.{StepsTo, goes, ends, StepComes, Steps}
-use Rattle.ptb_machine.specs.Runs.{played_bytes, Plays, refused_answers, IsFinished, IsUnanswered, IsUnfinished, RunComes, Runs}
+use Rattle.ptb_machine.specs.Runs.{played_bytes, Plays, refused_answers, IsFinished, IsUnanswered, IsUnfinished, LacksInput, RunComes, Runs}
 use Rattle.ptb_command.proofs.Effects.{begins_joined, takes_joined}
-use Rattle.ptb_command.proofs.Exchanges.{shows_then, exchanges_none, exchanges_then, has_broken_from}
+use Rattle.ptb_command.proofs.Exchanges.{shows_then, exchanges_none, exchanges_then, no_lines, has_broken_from}
 use Rattle.ptb_command.proofs.PartRefinement.{leaves_itself, leaves_then, leaves_to, leaves_under, leaves_at}
 use Rattle.ptb_command.proofs.Stops.{out_before}
 use Rattle.ptb_machine.proofs.Turns.{all_by_turn, turn_goes, all_change}
@@ -49,41 +50,43 @@ abbrev pub onto : Devices → Devices → Devices
 onto d e = record e { given = d.given ++ e.given }
 
 exchanges_onto : (d e : Devices) (x : Exchange) → Exchanges (record d { given = [] }) e x → Exchanges d (onto d e) x
-exchanges_onto d e x h = record { grown = h.grown; shows = h.shows; unfailed = h.unfailed; given = ap (λ l. d.given ++ l) h.given }
+exchanges_onto d e x h = record { grown = h.grown; shows = h.shows; unfailed = h.unfailed; given = ap (λ l. d.given ++ l) h.given; falls = h.falls; same_choose = h.same_choose }
 
 -- the run of p with this input has come to g
-abbrev pub RunsTo : StoredProgram → ℕ → Configuration → Devices → List (List ℕ) → List (List ℕ) → Devices → (State → Answers → Outcome Last State) → Type 0
-RunsTo p limit m o input rest d g =
-    StepsTo p.lines m o (first_state p input) rest (all_turns p limit (first_state p input)) d g
+abbrev pub RunsTo : StoredProgram → Rules → Configuration → Devices → List (List ℕ) → List (List ℕ) → Devices → (State → Answers → Outcome Last State) → Type 0
+RunsTo p rules m o input rest d g =
+    StepsTo p.lines m o (first_state p input rules.choose) rest (all_turns p rules.limit (first_state p input rules.choose)) d g
 
 -- it has come to a machine, whatever lines are left
-abbrev pub HasRun : StoredProgram → ℕ → Configuration → Devices → Devices → Type 0
-HasRun p limit m o d = (input rest : List (List ℕ)) → input ≡ d.given ++ rest → RunsTo p limit m o input rest d (all_turns p limit)
+abbrev pub HasRun : StoredProgram → Rules → Configuration → Devices → Devices → Type 0
+HasRun p rules m o d = (input rest : List (List ℕ)) → MayFollow d rest → input ≡ d.given ++ rest → RunsTo p rules m o input rest d (all_turns p rules.limit)
 
-pub run_begins : (p : StoredProgram) (limit : ℕ) (m : Configuration) (o : Devices) → o.given ≡ [] → ((input : List (List ℕ)) → Represents p.lines m (first_state p input)) → HasRun p limit m o o
-run_begins p limit m o none first input rest e = record {
+pub run_begins : (p : StoredProgram) (rules : Rules) (m : Configuration) (o : Devices) → o.given ≡ [] → ((input : List (List ℕ)) → Represents p.lines m (first_state p input rules.choose)) → HasRun p rules m o o
+run_begins p rules m o none first input rest _ e = record {
   exchange = no_exchange;
   exchanges = exchanges_none o;
   leads = record {
-    state = first_state p input;
-    leaves = leaves_itself (all_turns p limit (first_state p input));
+    state = first_state p input rules.choose;
+    leaves = leaves_itself (all_turns p rules.limit (first_state p input rules.choose));
     represents = first input;
     shown = refl;
     lines = e ∙ ap (λ l. l ++ rest) none;
+    choose = refl;
   };
 }
 
 -- where the run has come to a machine, its next turn leads it on
-run_then : (p : StoredProgram) (limit : ℕ) (m n : Configuration) (o d e : Devices) (input left rest : List (List ℕ)) (g : State → Answers → Outcome StepResult State) (h : RunsTo p limit m o input left d (all_turns p limit)) → StepsTo p.lines n (record d { given = [] }) h.leads.state rest (turn p limit h.leads.state) e g → RunsTo p limit n o input rest (onto d e) (then_turns p limit g)
-run_then p limit m n o d e input left rest g h s = record {
+run_then : (p : StoredProgram) (rules : Rules) (m n : Configuration) (o d e : Devices) (input left rest : List (List ℕ)) (g : State → Answers → Outcome StepResult State) (h : RunsTo p rules m o input left d (all_turns p rules.limit)) → StepsTo p.lines n (record d { given = [] }) h.leads.state rest (turn p rules.limit h.leads.state) e g → RunsTo p rules n o input rest (onto d e) (then_turns p rules.limit g)
+run_then p rules m n o d e input left rest g h s = record {
   exchange = both_exchanges h.exchange s.exchange;
   exchanges = exchanges_then h.exchanges (exchanges_onto d e s.exchange s.exchanges);
   leads = record {
     state = s.leads.state;
-    leaves = leaves_then h.leads.leaves (turns_leave p limit h.leads.state s.leads.state g s.leads.leaves);
+    leaves = leaves_then h.leads.leaves (turns_leave p rules.limit h.leads.state s.leads.state g s.leads.leaves);
     represents = s.leads.represents;
     shown = s.leads.shown ∙ ap (λ l. l ++ s.exchange.bytes) h.leads.shown;
     lines = s.leads.lines;
+    choose = s.leads.choose ∙ h.leads.choose;
   };
 }
 
@@ -96,29 +99,29 @@ told u = map_outcome (λ f. f) (λ (T : State). T.shown) (map_outcome finish_of 
 abbrev pub playing : (State → Answers → Outcome Last State) → State → Answers → Outcome Finish (List ℕ)
 playing g S a = told (g S a)
 
-plays_to : (p : StoredProgram) (limit : ℕ) (m : Configuration) (o d : Devices) (input rest : List (List ℕ)) (g : State → Answers → Outcome Last State) (h : RunsTo p limit m o input rest d g) → Plays p limit input o d h.exchange (playing g h.leads.state)
+plays_to : (p : StoredProgram) (rules : Rules) (m : Configuration) (o d : Devices) (input rest : List (List ℕ)) (g : State → Answers → Outcome Last State) (h : RunsTo p rules m o input rest d g) → Plays p rules input o d h.exchange (playing g h.leads.state)
 unfolding play turns
-plays_to p limit m o d input rest g h = record {
+plays_to p rules m o d input rest g h = record {
   exchanges = h.exchanges;
   leaves = leaves_under told (λ (T : State). T.shown) (λ k T. refl) h.leads.leaves;
 }
 
-plays_as : (p : StoredProgram) (limit : ℕ) (input : List (List ℕ)) (o d : Devices) (x : Exchange) (f g : Answers → Outcome Finish (List ℕ)) → f ≡ g → Plays p limit input o d x f → Plays p limit input o d x g
-plays_as p limit input o d x f g e h = record { exchanges = h.exchanges; leaves = leaves_to g e h.leaves }
+plays_as : (p : StoredProgram) (rules : Rules) (input : List (List ℕ)) (o d : Devices) (x : Exchange) (f g : Answers → Outcome Finish (List ℕ)) → f ≡ g → Plays p rules input o d x f → Plays p rules input o d x g
+plays_as p rules input o d x f g e h = record { exchanges = h.exchanges; leaves = leaves_to g e h.leaves }
 
 -- the lines that are left behind those that were given are those of the last state
-lines_are : (p : StoredProgram) (limit : ℕ) (m : Configuration) (o d : Devices) (input rest : List (List ℕ)) (g : State → Answers → Outcome Last State) (h : RunsTo p limit m o input rest d g) → input ≡ d.given ++ rest → (later : Answers) → (last_state (g h.leads.state later)).lines ≡ h.leads.state.lines → input ≡ d.given ++ unasked_lines p input limit (h.exchange.answers ++ later)
-lines_are p limit m o d input rest g h k later same =
+lines_are : (p : StoredProgram) (rules : Rules) (m : Configuration) (o d : Devices) (input rest : List (List ℕ)) (g : State → Answers → Outcome Last State) (h : RunsTo p rules m o input rest d g) → input ≡ d.given ++ rest → (later : Answers) → (last_state (g h.leads.state later)).lines ≡ h.leads.state.lines → input ≡ d.given ++ unasked_lines p input rules (h.exchange.answers ++ later)
+lines_are p rules m o d input rest g h k later same =
     k ∙ ap (λ l. d.given ++ l) (sym (ap (λ u. (last_state u).lines) (leaves_at h.leads.leaves later) ∙ same ∙ h.leads.lines))
 
 -- it is over
-run_ends : (refused : Refusal → Type 0) (p : StoredProgram) (limit : ℕ) (m : Configuration) (o d : Devices) (input rest : List (List ℕ)) (ending : Ending) (g : State → Answers → Outcome Last State) (h : RunsTo p limit m o input rest d g) → input ≡ d.given ++ rest → ((a : Answers) → g h.leads.state a ≡ Done (last_in ending h.leads.state) a) → IsFinished refused p limit input o d ending
-run_ends refused p limit m o d input rest ending g h k e = record {
+run_ends : (refused : Refusal → Type 0) (p : StoredProgram) (rules : Rules) (m : Configuration) (o d : Devices) (input rest : List (List ℕ)) (ending : Ending) (g : State → Answers → Outcome Last State) (h : RunsTo p rules m o input rest d g) → input ≡ d.given ++ rest → ((a : Answers) → g h.leads.state a ≡ Done (last_in ending h.leads.state) a) → IsFinished refused p rules input o d ending
+run_ends refused p rules m o d input rest ending g h k e = record {
   exchange = h.exchange;
   steps = h.leads.state.steps;
-  plays = plays_as p limit input o d h.exchange _ _ (fun_ext (λ a. ap told (e a) ∙ ap (λ (s : List ℕ). Done (record { ending = ending; steps = h.leads.state.steps; shown = s }) a) h.leads.shown)) (plays_to p limit m o d input rest g h);
-  within_limit = subst (λ (T : State). T.steps ≤ limit) (ap last_state (leaves_at h.leads.leaves [] ∙ e [])) ((all_change p limit (first_state p input) (h.exchange.answers ++ [])).steps (omega arith));
-  lines = λ a. lines_are p limit m o d input rest g h k a (ap (λ u. (last_state u).lines) (e a));
+  plays = plays_as p rules input o d h.exchange _ _ (fun_ext (λ a. ap told (e a) ∙ ap (λ (s : List ℕ). Done (record { ending = ending; steps = h.leads.state.steps; shown = s }) a) h.leads.shown)) (plays_to p rules m o d input rest g h);
+  within_limit = subst (λ (T : State). T.steps ≤ rules.limit) (ap last_state (leaves_at h.leads.leaves [] ∙ e [])) ((all_change p rules.limit (first_state p input rules.choose) (h.exchange.answers ++ [])).steps (omega arith));
+  lines = λ a. lines_are p rules m o d input rest g h k a (ap (λ u. (last_state u).lines) (e a));
 }
 
 -- with a refused answer it asks, or is out
@@ -138,19 +141,19 @@ refused_state bound T (pauses.OutOfRange k) = refl
 refused_state bound T pauses.Memory = refl
 
 -- a question is refused
-run_waits : (refused : Refusal → Type 0) (p : StoredProgram) (limit : ℕ) (m : Configuration) (o d : Devices) (input rest : List (List ℕ)) (z : Pause) → input ≡ d.given ++ rest → (w : Waits {A = Last} refused (RunsTo p limit m o input rest) d z) → IsUnanswered refused p limit input o d z
-run_waits refused p limit m o d input rest z k w =
+run_waits : (refused : Refusal → Type 0) (p : StoredProgram) (rules : Rules) (m : Configuration) (o d : Devices) (input rest : List (List ℕ)) (z : Pause) → input ≡ d.given ++ rest → (w : Waits {A = Last} refused (RunsTo p rules m o input rest) d z) → IsUnanswered refused p rules input o d z
+run_waits refused p rules m o d input rest z k w =
     let T = w.comes.leads.state in
     record {
       exchange = w.comes.exchange;
       bound = w.bound;
       left = playing w.left T;
-      plays = plays_to p limit m o d input rest w.left w.comes;
+      plays = plays_to p rules m o d input rest w.left w.comes;
       asks = ap told (w.asks T) ∙ ap (Asks w.bound) w.comes.leads.shown;
       outside = subst (λ (s : List ℕ). SaysOut (playing w.left T) w.bound s z) w.comes.leads.shown
           (out_before told (λ (S : State). S.shown) (λ k S. refl) (w.left T) w.bound T z (w.outside T));
       refuses = w.refuses;
-      lines = λ later. lines_are p limit m o d input rest w.left w.comes k (refused_answers z later) (ap (λ u. (last_state u).lines) (refused_at (w.left T) w.bound T z later (w.asks T) (w.outside T)) ∙ refused_state w.bound T z);
+      lines = λ later. lines_are p rules m o d input rest w.left w.comes k (refused_answers z later) (ap (λ u. (last_state u).lines) (refused_at (w.left T) w.bound T z later (w.asks T) (w.outside T)) ∙ refused_state w.bound T z);
     }
 
 played_shown : (u : Outcome Last State) → played_bytes (told u) ≡ (last_state u).shown
@@ -159,79 +162,83 @@ played_shown (Asks k S) = refl
 played_shown (Out k S) = refl
 
 -- the turns after a turn show more
-more_shown : (p : StoredProgram) (limit : ℕ) (shown : List ℕ) (u : Outcome StepResult State) → Begins shown (act_state u).shown → Begins shown (last_state (go_on u (after_turn (all_turns p limit)))).shown
-more_shown p limit shown (Done (Next S) rest) b = begins_joined shown S.shown _ b (all_change p limit S rest).shown
-more_shown p limit shown (Done (Over e S) rest) b = b
-more_shown p limit shown (Asks k S) b = b
-more_shown p limit shown (Out k S) b = b
+more_shown : (p : StoredProgram) (rules : Rules) (shown : List ℕ) (u : Outcome StepResult State) → Begins shown (act_state u).shown → Begins shown (last_state (go_on u (after_turn (all_turns p rules.limit)))).shown
+more_shown p rules shown (Done (Next S) rest) b = begins_joined shown S.shown _ b (all_change p rules.limit S rest).shown
+more_shown p rules shown (Done (Over e S) rest) b = b
+more_shown p rules shown (Asks k S) b = b
+more_shown p rules shown (Out k S) b = b
 
 -- and take more lines
-more_taken : (p : StoredProgram) (limit : ℕ) (lines : List (List ℕ)) (u : Outcome StepResult State) → TakesLines lines (act_state u).lines → TakesLines lines (last_state (go_on u (after_turn (all_turns p limit)))).lines
-more_taken p limit lines (Done (Next S) rest) t = takes_joined lines S.lines _ t (all_change p limit S rest).lines
-more_taken p limit lines (Done (Over e S) rest) t = t
-more_taken p limit lines (Asks k S) t = t
-more_taken p limit lines (Out k S) t = t
+more_taken : (p : StoredProgram) (rules : Rules) (lines : List (List ℕ)) (u : Outcome StepResult State) → TakesLines lines (act_state u).lines → TakesLines lines (last_state (go_on u (after_turn (all_turns p rules.limit)))).lines
+more_taken p rules lines (Done (Next S) rest) t = takes_joined lines S.lines _ t (all_change p rules.limit S rest).lines
+more_taken p rules lines (Done (Over e S) rest) t = t
+more_taken p rules lines (Asks k S) t = t
+more_taken p rules lines (Out k S) t = t
 
 -- ---- steps, one after the other
 
-module _ (refused : Refusal → Type 0) (p : StoredProgram) (limit : ℕ) (m n : Configuration) (o d e : Devices) (h : HasRun p limit m o d) where
+module _ (refused : Refusal → Type 0) (p : StoredProgram) (rules : Rules) (m n : Configuration) (o d e : Devices) (same : o.choose ≡ rules.choose) (falls : e.most + length e.given ≤ d.most) (h : HasRun p rules m o d) where
   -- the run before the step, where these lines are left after it
-  before : (input rest : List (List ℕ)) → input ≡ (d.given ++ e.given) ++ rest → RunsTo p limit m o input (e.given ++ rest) d (all_turns p limit)
-  before input rest k = h input (e.given ++ rest) (k ∙ append_assoc d.given e.given rest)
+  before : (input rest : List (List ℕ)) → MayFollow e rest → input ≡ (d.given ++ e.given) ++ rest → RunsTo p rules m o input (e.given ++ rest) d (all_turns p rules.limit)
+  before input rest f k =
+      h input (e.given ++ rest) (λ none. no_lines e.given rest (omega (arith, falls, none)) (f (omega (arith, falls, none)))) (k ∙ append_assoc d.given e.given rest)
+
+  -- and it asks for answers as the devices say
+  chosen : {input rest : List (List ℕ)} {g : State → Answers → Outcome Last State} (b : RunsTo p rules m o input rest d g) → b.leads.state.choose ≡ d.choose
+  chosen b = b.leads.choose ∙ sym (b.exchanges.same_choose ∙ same)
 
   -- the run goes on
-  pub run_on : Steps refused p limit m n (record d { given = [] }) e (Ok None) → HasRun p limit n o (onto d e)
-  run_on s input rest k =
-      let b = before input rest k in
-      run_then p limit m n o d e input (e.given ++ rest) rest goes b (s b.leads.state rest b.leads.represents b.leads.lines)
+  pub run_on : Steps refused p rules.limit m n (record d { given = [] }) e (Ok None) → HasRun p rules n o (onto d e)
+  run_on s input rest f k =
+      let b = before input rest f k in
+      run_then p rules m n o d e input (e.given ++ rest) rest goes b (s b.leads.state rest b.leads.represents (chosen b) f b.leads.lines)
 
-  pub run_falls : Steps refused p limit m n (record d { given = [] }) e (Ok None) → limit - n.steps < limit - m.steps
+  pub run_falls : Steps refused p rules.limit m n (record d { given = [] }) e (Ok None) → rules.limit - n.steps < rules.limit - m.steps
   run_falls s =
-      let b = before ((d.given ++ e.given) ++ []) [] refl in
-      let x = s b.leads.state [] b.leads.represents b.leads.lines in
-      let goes_on = turn_goes p limit b.leads.state x.leads.state (x.exchange.answers ++ []) [] (leaves_at x.leads.leaves []) in
+      let b = before ((d.given ++ e.given) ++ []) [] (λ _. refl) refl in
+      let x = s b.leads.state [] b.leads.represents (chosen b) (λ _. refl) b.leads.lines in
+      let goes_on = turn_goes p rules.limit b.leads.state x.leads.state (x.exchange.answers ++ []) [] (leaves_at x.leads.leaves []) in
       omega (arith, goes_on.0, goes_on.1, b.leads.represents.steps, x.leads.represents.steps)
 
-  module _ (rest : List (List ℕ)) where
+  module _ (rest : List (List ℕ)) (f : MayFollow e rest) where
     abbrev whole : List (List ℕ)
     whole = (d.given ++ e.given) ++ rest
 
-    b : RunsTo p limit m o whole (e.given ++ rest) d (all_turns p limit)
-    b = before whole rest refl
+    b : RunsTo p rules m o whole (e.given ++ rest) d (all_turns p rules.limit)
+    b = before whole rest f refl
 
     -- the last step has come to g, with devices that hold f
     abbrev LastStep : Devices → (State → Answers → Outcome StepResult State) → Type 0
-    LastStep f g = StepsTo p.lines n (record d { given = [] }) b.leads.state rest (turn p limit b.leads.state) f g
+    LastStep f g = StepsTo p.lines n (record d { given = [] }) b.leads.state rest (turn p rules.limit b.leads.state) f g
 
-    last : (f : Devices) (g : State → Answers → Outcome StepResult State) → LastStep f g → RunsTo p limit n o whole rest (onto d f) (then_turns p limit g)
-    last f g s = run_then p limit m n o d f whole (e.given ++ rest) rest g b s
+    last : (f : Devices) (g : State → Answers → Outcome StepResult State) → LastStep f g → RunsTo p rules n o whole rest (onto d f) (then_turns p rules.limit g)
+    last f g s = run_then p rules m n o d f whole (e.given ++ rest) rest g b s
 
-    ended : (ending : Ending) → LastStep e (ends ending) → IsFinished refused p limit whole o (onto d e) ending
-    ended ending s = run_ends refused p limit n o (onto d e) whole rest ending (then_turns p limit (ends ending)) (last e (ends ending) s) refl (λ a. refl)
+    ended : (ending : Ending) → LastStep e (ends ending) → IsFinished refused p rules whole o (onto d e) ending
+    ended ending s = run_ends refused p rules n o (onto d e) whole rest ending (then_turns p rules.limit (ends ending)) (last e (ends ending) s) refl (λ a. refl)
 
-    waited : (z : Pause) → Waits refused LastStep e z → IsUnanswered refused p limit whole o (onto d e) z
-    waited z w = run_waits refused p limit n o (onto d e) whole rest z refl (record {
-      left = then_turns p limit w.left;
+    waited : (z : Pause) → Waits refused LastStep e z → IsUnanswered refused p rules whole o (onto d e) z
+    waited z w = run_waits refused p rules n o (onto d e) whole rest z refl (record {
+      left = then_turns p rules.limit w.left;
       bound = w.bound;
       comes = last e w.left w.comes;
-      asks = λ S. ap (λ u. go_on u (after_turn (all_turns p limit))) (w.asks S);
-      outside = λ S. out_before (λ u. go_on u (after_turn (all_turns p limit))) (λ (T : State). T) (λ k T. refl) (w.left S) w.bound S z (w.outside S);
+      asks = λ S. ap (λ u. go_on u (after_turn (all_turns p rules.limit))) (w.asks S);
+      outside = λ S. out_before (λ u. go_on u (after_turn (all_turns p rules.limit))) (λ (T : State). T) (λ k T. refl) (w.left S) w.bound S z (w.outside S);
       refusal = w.refusal;
       refuses = w.refuses;
     })
 
     -- what is left wants a line, and none is left
-    ends_dry : (left : State → Answers → Outcome StepResult State) → LastStep e left → ((S : State) (a : Answers) → S.lines ≡ [] → left S a ≡ Done (Over endings.NoInput S) a) → rest ≡ [] → IsFinished refused p limit whole o (onto d e) endings.NoInput
-    ends_dry left s dry none =
-        let x = last e left s in
-        run_ends refused p limit n o (onto d e) whole rest endings.NoInput (then_turns p limit left) x refl
-        (λ a. ap (λ u. go_on u (after_turn (all_turns p limit))) (dry x.leads.state a (x.leads.lines ∙ none)))
+    ends_dry : (left : State → Answers → Outcome StepResult State) (x : LastStep e left) → ((a : Answers) → left (last e left x).leads.state a ≡ Done (Over endings.NoInput (last e left x).leads.state) a) → IsFinished refused p rules whole o (onto d e) endings.NoInput
+    ends_dry left x dry =
+        run_ends refused p rules n o (onto d e) whole rest endings.NoInput (then_turns p rules.limit left) (last e left x) refl
+        (λ a. ap (λ u. go_on u (after_turn (all_turns p rules.limit))) (dry a))
 
-    drained : (w : IsDry refused LastStep e (Over endings.NoInput)) → rest ≡ [] → IsFinished refused p limit (d.given ++ e.given) o (onto d e) endings.NoInput
+    drained : (w : IsDry refused LastStep e (Over endings.NoInput)) → rest ≡ [] → IsFinished refused p rules (d.given ++ e.given) o (onto d e) endings.NoInput
     drained w none =
-        subst (λ (input : List (List ℕ)). IsFinished refused p limit input o (onto d e) endings.NoInput)
+        subst (λ (input : List (List ℕ)). IsFinished refused p rules input o (onto d e) endings.NoInput)
         (ap (λ l. (d.given ++ e.given) ++ l) none ∙ append-nil (d.given ++ e.given))
-        (ends_dry w.left w.comes w.dry none)
+        (ends_dry w.left w.comes (λ a. w.dry (last e w.left w.comes).leads.state a ((last e w.left w.comes).leads.lines ∙ none)))
 
     -- a step up to a screen that showed nothing more, nor failed
     up_to : (middle : ScreenState) (left : State → Answers → Outcome StepResult State) → Shows middle e.screen [] → e.screen.failures ≡ middle.failures → LastStep (with_screen middle e) left → LastStep e left
@@ -242,6 +249,8 @@ module _ (refused : Refusal → Type 0) (p : StoredProgram) (limit : ℕ) (m n :
         shows = shows_then d.screen middle e.screen s.exchange.bytes [] s.exchanges.shows shows;
         unfailed = unfailed ∙ s.exchanges.unfailed;
         given = s.exchanges.given;
+        falls = s.exchanges.falls;
+        same_choose = s.exchanges.same_choose;
       };
       leads = record {
         state = s.leads.state;
@@ -249,49 +258,73 @@ module _ (refused : Refusal → Type 0) (p : StoredProgram) (limit : ℕ) (m n :
         represents = s.leads.represents;
         shown = s.leads.shown ∙ ap (λ l. b.leads.state.shown ++ l) (sym (append-nil s.exchange.bytes));
         lines = s.leads.lines;
+        choose = s.leads.choose;
       };
     }
 
     -- where the input can't be read a line was wanted
-    unread_dry : (w : Breaks refused LastStep e act_state (Over endings.NoInput) errors.Read) → rest ≡ [] → IsFinished refused p limit whole o (onto d e) endings.NoInput
-    unread_dry w none =
-        let shows = subst (λ (bytes : List ℕ). Shows w.middle e.screen bytes) w.wants.0 w.shows in
-        ends_dry w.left (up_to w.middle w.left shows w.broken.1 w.comes) w.wants.1 none
+    module _ (w : Breaks refused LastStep e act_state (Over endings.NoInput) errors.Read) where
+      abbrev run_so : RunsTo p rules n o whole rest (onto d (with_screen w.middle e)) (then_turns p rules.limit w.left)
+      run_so = last (with_screen w.middle e) w.left w.comes
 
-    dry_by : (error : DeviceError) → Breaks refused LastStep e act_state (Over endings.NoInput) error → error ≡ errors.Read → rest ≡ [] → IsFinished refused p limit whole o (onto d e) endings.NoInput
-    dry_by error w is none = unread_dry (subst (λ (x : DeviceError). Breaks refused LastStep e act_state (Over endings.NoInput) x) is w) none
+      unread : LastStep e w.left
+      unread = up_to w.middle w.left (subst (λ (bytes : List ℕ). Shows w.middle e.screen bytes) w.wants.0 w.shows) w.broken.1 w.comes
 
-    broken : (error : DeviceError) → Breaks refused LastStep e act_state (Over endings.NoInput) error → IsUnfinished refused p limit whole o (onto d e) error
+      same_state : (last e w.left unread).leads.state ≡ run_so.leads.state
+      unfolding last run_then unread up_to
+      same_state = refl
+
+      shown_so : run_so.leads.state.shown ≡ run_so.exchange.bytes ++ w.part
+      shown_so = run_so.leads.shown ∙ sym (ap (λ l. run_so.exchange.bytes ++ l) w.wants.0 ∙ append-nil run_so.exchange.bytes)
+
+      lacks : (choose : Option ℤ) → LacksLine choose (Over endings.NoInput) w.left run_so.leads.state → LacksInput refused p rules whole o (onto d e) choose (run_so.exchange.bytes ++ w.part) (playing (then_turns p rules.limit w.left) run_so.leads.state)
+      lacks None dry = ends_dry w.left unread (λ a. subst (λ (T : State). w.left T a ≡ Done (Over endings.NoInput T) a) (sym same_state) (dry a))
+      lacks (Some k) asks = λ h. ap (λ u. told (go_on u (after_turn (all_turns p rules.limit)))) (asks h) ∙ ap (λ (s : List ℕ). Asks k s) shown_so
+
+      unread_dry : rest ≡ [] → LacksInput refused p rules whole o (onto d e) rules.choose (run_so.exchange.bytes ++ w.part) (playing (then_turns p rules.limit w.left) run_so.leads.state)
+      unread_dry none =
+          subst (λ (choose : Option ℤ). LacksInput refused p rules whole o (onto d e) choose (run_so.exchange.bytes ++ w.part) (playing (then_turns p rules.limit w.left) run_so.leads.state))
+          run_so.leads.choose
+          (lacks run_so.leads.state.choose (w.wants.1 run_so.leads.state (run_so.leads.lines ∙ none)))
+
+    dry_by : (error : DeviceError) (w : Breaks refused LastStep e act_state (Over endings.NoInput) error) → error ≡ errors.Read → rest ≡ [] → LacksInput refused p rules whole o (onto d e) rules.choose ((last (with_screen w.middle e) w.left w.comes).exchange.bytes ++ w.part) (playing (then_turns p rules.limit w.left) (last (with_screen w.middle e) w.left w.comes).leads.state)
+    dry_by errors.Read w is none = unread_dry w none
+    dry_by errors.Memory w is none = absurd (let clash : errors.Memory ≡ errors.Read = is in cc)
+    dry_by errors.Write w is none = absurd (let clash : errors.Write ≡ errors.Read = is in cc)
+
+    broken : (error : DeviceError) → Breaks refused LastStep e act_state (Over endings.NoInput) error → IsUnfinished refused p rules whole o (onto d e) error
     broken error w =
         let x = last (with_screen w.middle e) w.left w.comes in
         let shows = shows_then o.screen w.middle e.screen x.exchange.bytes w.part x.exchanges.shows w.shows in
         record {
           exchange = record x.exchange { bytes = x.exchange.bytes ++ w.part };
-          left = playing (then_turns p limit w.left) x.leads.state;
+          left = playing (then_turns p rules.limit w.left) x.leads.state;
           plays = record {
             exchanges = record {
               grown = x.exchanges.grown;
               shows = record { shown = shows.shown; same_borrow = shows.same_borrow; same_memory = shows.same_memory };
               unfailed = refl;
               given = x.exchanges.given;
+              falls = x.exchanges.falls;
+              same_choose = x.exchanges.same_choose;
             };
-            leaves = (plays_to p limit n o (onto d (with_screen w.middle e)) whole rest (then_turns p limit w.left) x).leaves;
+            leaves = (plays_to p rules n o (onto d (with_screen w.middle e)) whole rest (then_turns p rules.limit w.left) x).leaves;
           };
           begins = λ a.
-              subst (Begins (x.exchange.bytes ++ w.part)) (sym (played_shown (then_turns p limit w.left x.leads.state a)))
-              (more_shown p limit (x.exchange.bytes ++ w.part) (w.left x.leads.state a)
+              subst (Begins (x.exchange.bytes ++ w.part)) (sym (played_shown (then_turns p rules.limit w.left x.leads.state a)))
+              (more_shown p rules (x.exchange.bytes ++ w.part) (w.left x.leads.state a)
               (subst (λ (s : List ℕ). Begins (s ++ w.part) (act_state (w.left x.leads.state a)).shown) x.leads.shown (w.begins x.leads.state a)));
           broken = has_broken_from refused refused (λ r y. y) o.screen w.middle e.screen x.exchanges.unfailed x.exchanges.shows.same_memory error w.broken;
           lines = λ a.
               let T : State = x.leads.state in
-              let more = more_taken p limit T.lines (w.left T a) (w.takes T a) in (
+              let more = more_taken p rules T.lines (w.left T a) (w.takes T a) in (
                 more.0,
                 ap (λ l. (d.given ++ e.given) ++ l) (sym x.leads.lines ∙ more.1 ∙ ap (λ u. more.0 ++ (last_state u).lines) (sym (leaves_at x.leads.leaves a))),
               );
           dry = λ is all. dry_by error w is (append_cancel_left (d.given ++ e.given) rest [] (all ∙ sym (append-nil (d.given ++ e.given))));
         }
 
-    comes_ended : (ending : Ending) → StepComes refused LastStep e (Ok (Some ending)) → RunComes refused p limit rest o (onto d e) (Ok ending)
+    comes_ended : (ending : Ending) → StepComes refused LastStep e (Ok (Some ending)) → RunComes refused p rules rest o (onto d e) (Ok ending)
     comes_ended endings.End s = ended endings.End s
     comes_ended endings.Stop s = ended endings.Stop s
     comes_ended endings.What s = ended endings.What s
@@ -302,37 +335,37 @@ module _ (refused : Refusal → Type 0) (p : StoredProgram) (limit : ℕ) (m n :
     comes_ended endings.NoAnswer s = waited pauses.Ended s
     comes_ended endings.BadAnswer s = (s.0, waited (pauses.OutOfRange s.0) s.1)
 
-    comes_broken : (fault : RunFault) → (fault ≡ faults.Spent → ⊥) → StepComes refused LastStep e (Err fault) → RunComes refused p limit rest o (onto d e) (Err fault)
+    comes_broken : (fault : RunFault) → (fault ≡ faults.Spent → ⊥) → StepComes refused LastStep e (Err fault) → RunComes refused p rules rest o (onto d e) (Err fault)
     comes_broken faults.Memory fresh s = inr (broken errors.Memory s)
     comes_broken faults.Read fresh s = broken errors.Read s
     comes_broken faults.Write fresh s = broken errors.Write s
     comes_broken faults.Spent fresh s = absurd (fresh refl)
 
   -- it is over
-  pub run_over : (ending : Ending) → Steps refused p limit m n (record d { given = [] }) e (Ok (Some ending)) → Runs refused p limit o (onto d e) (Ok ending)
-  run_over ending s rest = comes_ended rest ending (s (b rest).leads.state rest (b rest).leads.represents (b rest).leads.lines)
+  pub run_over : (ending : Ending) → Steps refused p rules.limit m n (record d { given = [] }) e (Ok (Some ending)) → Runs refused p rules o (onto d e) (Ok ending)
+  run_over ending s rest f = comes_ended rest f ending (s (b rest f).leads.state rest (b rest f).leads.represents (chosen (b rest f)) f (b rest f).leads.lines)
 
-  pub run_breaks : (fault : RunFault) → (fault ≡ faults.Spent → ⊥) → Steps refused p limit m n (record d { given = [] }) e (Err fault) → Runs refused p limit o (onto d e) (Err fault)
-  run_breaks fault fresh s rest = comes_broken rest fault fresh (s (b rest).leads.state rest (b rest).leads.represents (b rest).leads.lines)
+  pub run_breaks : (fault : RunFault) → (fault ≡ faults.Spent → ⊥) → Steps refused p rules.limit m n (record d { given = [] }) e (Err fault) → Runs refused p rules o (onto d e) (Err fault)
+  run_breaks fault fresh s rest f = comes_broken rest f fault fresh (s (b rest f).leads.state rest (b rest f).leads.represents (chosen (b rest f)) f (b rest f).leads.lines)
 
 -- ---- at the exits of the loop
 
-pub runs_nothing : (refused : Refusal → Type 0) (p : StoredProgram) (limit : ℕ) (o : Devices) (r : Result Ending RunFault) → IsErrAnd r (λ y. y ≡ faults.Memory) → Runs refused p limit o o r
-runs_nothing refused p limit o r k =
+pub runs_nothing : (refused : Refusal → Type 0) (p : StoredProgram) (rules : Rules) (o : Devices) (r : Result Ending RunFault) → IsErrAnd r (λ y. y ≡ faults.Memory) → Runs refused p rules o o r
+runs_nothing refused p rules o r k =
     let q = err_from_is_err_and r k in
-    subst (λ (x : Result Ending RunFault). Runs refused p limit o o x) (sym (q.1 ∙ ap Err q.2)) (λ rest. inl refl)
+    subst (λ (x : Result Ending RunFault). Runs refused p rules o o x) (sym (q.1 ∙ ap Err q.2)) (λ rest _. inl refl)
 
-pub runs_err : (refused : Refusal → Type 0) (p : StoredProgram) (limit : ℕ) (o n : Devices) (r : Result Ending RunFault) (e : RunFault) → IsErrAnd r (λ y. y ≡ e) → Runs refused p limit o n (Err e) → Runs refused p limit o n r
-runs_err refused p limit o n r e k h =
+pub runs_err : (refused : Refusal → Type 0) (p : StoredProgram) (rules : Rules) (o n : Devices) (r : Result Ending RunFault) (e : RunFault) → IsErrAnd r (λ y. y ≡ e) → Runs refused p rules o n (Err e) → Runs refused p rules o n r
+runs_err refused p rules o n r e k h =
     let q = err_from_is_err_and r k in
-    subst (λ (x : Result Ending RunFault). Runs refused p limit o n x) (sym (q.1 ∙ ap Err q.2)) h
+    subst (λ (x : Result Ending RunFault). Runs refused p rules o n x) (sym (q.1 ∙ ap Err q.2)) h
 
-pub steps_at : (refused : Refusal → Type 0) (p : StoredProgram) (limit : ℕ) (m n : Configuration) (o d : Devices) (x y : Option Ending) → x ≡ y → Steps refused p limit m n o d (Ok x) → Steps refused p limit m n o d (Ok y)
-steps_at refused p limit m n o d x y e s = subst (λ (z : Option Ending). Steps refused p limit m n o d (Ok z)) e s
+pub steps_at : (refused : Refusal → Type 0) (p : StoredProgram) (rules : Rules) (m n : Configuration) (o d : Devices) (x y : Option Ending) → x ≡ y → Steps refused p rules.limit m n o d (Ok x) → Steps refused p rules.limit m n o d (Ok y)
+steps_at refused p rules m n o d x y e s = subst (λ (z : Option Ending). Steps refused p rules.limit m n o d (Ok z)) e s
 
 -- what a player of a program runs
-pub runs_of : (refused : Refusal → Type 0) (p q : StoredProgram) (limit : ℕ) (o n : Devices) (r : Result Ending RunFault) → q ≡ p → Runs refused q limit o n r → Runs refused p limit o n r
-runs_of refused p q limit o n r e x = subst (λ (z : StoredProgram). Runs refused z limit o n r) e x
+pub runs_of : (refused : Refusal → Type 0) (p q : StoredProgram) (rules : Rules) (o n : Devices) (r : Result Ending RunFault) → q ≡ p → Runs refused q rules o n r → Runs refused p rules o n r
+runs_of refused p q rules o n r e x = subst (λ (z : StoredProgram). Runs refused z rules o n r) e x
 
 pub not_spent : (b : Bool) (fault : RunFault) → b ≡ false → (fault ≡ faults.Spent → b ≡ true) → fault ≡ faults.Spent → ⊥
 not_spent b fault e h k = false≢true (sym e ∙ h k)

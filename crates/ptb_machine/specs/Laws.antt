@@ -1,7 +1,7 @@
 -- This file states the laws of actions and runs.
 --     EffectLaws       what actions, commands, turns and runs may change
 --     RunLaws          how a run goes on
-use Rattle.std.specs.Prelude.{◌≡◌, ℕ, ◌+◌, ◌-◌, ◌<◌, ◌≤◌, List, ℤ}
+use Rattle.std.specs.Prelude.{◌≡◌, ℕ, ◌+◌, ◌-◌, ◌<◌, ◌≤◌, List, Option, ℤ}
 use Rattle.ptb_text.specs.declared.word.Word.{Word}
 use Rattle.ptb_text.specs.Statements.{Statements, StoredProgram}
 use Rattle.ptb_expr.specs.Tree.{Tree}
@@ -9,6 +9,7 @@ use Rattle.ptb_expr.specs.Outcome.{Answers, Done, go_on, IsReader}
 use Rattle.ptb_command.specs.Commands.{Part, Command}
 use Rattle.ptb_command.specs.State.{State, Place, first_state, nesting, nesting_limit}
 use Rattle.ptb_command.specs.Act.{Next, input_action, parts_action, finish, command_action, with_step, act}
+use Rattle.ptb_machine.specs.declared.rules.Rules.{Rules}
 use Rattle.ptb_machine.specs.Play.{turn, after_turn, turns_within, all_turns, last_state, after_step_result, turns, play}
 use Rattle.ptb_machine.specs.Questions.{most_answers, answers_left}
 use Rattle.ptb_command.specs.Effects.{action_state, act_state, Begins, PartChange, EndChange, CommandChange}
@@ -43,7 +44,7 @@ pub record EffectLaws : Type 0 where
   pub all_turns :
       (p : StoredProgram) (limit : ℕ) (S : State) (a : Answers)
       → TurnChange limit S (last_state (all_turns p limit S a))
-  pub first : (p : StoredProgram) (input : List (List ℕ)) → nesting (first_state p input) ≤ nesting_limit
+  pub first : (p : StoredProgram) (input : List (List ℕ)) (choose : Option ℤ) → nesting (first_state p input choose) ≤ nesting_limit
 
 -- ---- runs
 
@@ -70,6 +71,6 @@ pub record RunLaws : Type 0 where
   -- Answers are taken one by one, each where it is asked for and within its bound, and at most so many of them:
   -- what a run does with the first answers doesn't depend on later ones.
   pub reads :
-      (p : StoredProgram) (input : List (List ℕ)) (limit : ℕ)
-      → IsReader (play p input limit) (most_answers p input limit)
+      (p : StoredProgram) (input : List (List ℕ)) (rules : Rules)
+      → IsReader (play p input rules) (most_answers p input rules.limit)
   pub reads_on : (p : StoredProgram) (limit : ℕ) (S : State) → IsReader (turns p limit S) (answers_left p limit S)

@@ -5,6 +5,7 @@ pub mod Laws
 pub mod EndingLaws
 pub mod Steps
 pub mod Instructions
+pub mod Beginnings
 pub mod Runs
 pub mod Rows
 pub mod RunEffects

@@ -1,12 +1,13 @@
 -- This file defines whole runs.
 --     turn p limit S           the next thing that a run does
 --     all_turns p limit S a    the last state of a run, and its ending there
---     play p input limit a     what a run of the program p comes to with the answers a
---     unasked_lines p input limit a    the lines of the input for which it doesn't ask
---     plain p input limit a    the bytes and the ending of a plain run
+--     play p input rules a     what a run of the program p comes to with the answers a
+--     unasked_lines p input rules a    the lines of the input for which it doesn't ask
+--     plain p input rules a    the bytes and the ending of a plain run
 use Rattle.std.specs.Prelude.{ℕ, zero, suc, ◌-◌, nat_le, Bool, true, false, List, Option, Some, None}
 use Rattle.ptb_text.specs.Statements.{StoredProgram}
 use Rattle.ptb_expr.specs.Outcome.{Answers, Outcome, Done, Asks, Out, go_on, map_outcome}
+use Rattle.ptb_machine.specs.declared.rules.Rules.{Rules}
 use Rattle.ptb_command.specs.declared.ending.Ending.{Ending}
 use Rattle.ptb_command.specs.declared.ending.Ending.TheVariants as endings
 use Rattle.ptb_command.specs.Commands.{Command}
@@ -72,8 +73,8 @@ after_step_result others (Next S) rest = others S rest
 after_step_result others (Over ending S) rest = Done (finish_in ending S) rest
 
 -- beside a question stands what was shown before it
-unfoldable pub play : StoredProgram → List (List ℕ) → ℕ → Answers → Outcome Finish (List ℕ)
-play p input limit a = map_outcome (λ f. f) (λ S. S.shown) (turns p limit (first_state p input) a)
+unfoldable pub play : StoredProgram → List (List ℕ) → Rules → Answers → Outcome Finish (List ℕ)
+play p input rules a = map_outcome (λ f. f) (λ S. S.shown) (turns p rules.limit (first_state p input rules.choose) a)
 
 -- the state in which a run is over, or asks
 abbrev pub last_state : Outcome Last State → State
@@ -82,8 +83,8 @@ last_state (Asks n S) = S
 last_state (Out n S) = S
 
 -- a line that the run didn't ask for is among the lines of its last state
-abbrev pub unasked_lines : StoredProgram → List (List ℕ) → ℕ → Answers → List (List ℕ)
-unasked_lines p input limit a = (last_state (all_turns p limit (first_state p input) a)).lines
+abbrev pub unasked_lines : StoredProgram → List (List ℕ) → Rules → Answers → List (List ℕ)
+unasked_lines p input rules a = (last_state (all_turns p rules.limit (first_state p input rules.choose) a)).lines
 
 -- ---- plain runs
 
@@ -93,8 +94,8 @@ plain_of (Asks n shown) = (shown, endings.NoAnswer)
 plain_of (Out n shown) = (shown, endings.BadAnswer)
 
 -- answers that are left over are not looked at
-abbrev pub plain : StoredProgram → List (List ℕ) → ℕ → Answers → List ℕ × Ending
-plain p input limit a = plain_of (play p input limit a)
+abbrev pub plain : StoredProgram → List (List ℕ) → Rules → Answers → List ℕ × Ending
+plain p input rules a = plain_of (play p input rules a)
 
 -- the number of an ending
 abbrev pub status : Ending → ℕ

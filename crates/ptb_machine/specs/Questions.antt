@@ -8,14 +8,14 @@ use Rattle.ptb_expr.specs.Reading.{item_of, expression}
 use Rattle.ptb_command.specs.Commands.{Part, Assign, Say, Width, Show, NewLine, Take, Letter, Operand, Defect, Command, commands}
 use Rattle.ptb_command.specs.State.{State}
 
--- how many RNDs a part has
+-- how often a part asks at most, but for the lines that it takes: once for each RND, and once for a line that isn't there
 abbrev pub part_questions : Part → ℕ
 part_questions (Assign x y) = questions x + questions y
 part_questions (Say s) = 0
 part_questions (Width x m) = questions x
 part_questions (Show x) = questions x
 part_questions NewLine = 0
-part_questions (Take said x prompt) = questions x
+part_questions (Take said x prompt) = questions x + 1
 part_questions (Letter x) = 0
 part_questions (Operand x) = questions x
 part_questions (Defect kind m) = 0
@@ -32,7 +32,7 @@ line_questions l = questions (item_of (expression l 0))
 abbrev pub program_questions : Statements → ℕ
 program_questions p = sum_by (λ s. text_questions s.1) p
 
--- all RNDs: those of the statements, and those that input lines begin with
+-- all of them: those of the statements, and the RNDs that input lines begin with
 abbrev pub all_questions : Statements → List (List ℕ) → ℕ
 all_questions p input = program_questions p + sum_by line_questions input
 

@@ -10,7 +10,7 @@ use Rattle.ptb_machine.specs.Play.{Finish, play, plain}
 -- what a program text shows on an input, and its ending; none where the text is refused
 abbrev pub shows : ℕ → List ℕ → List ℕ → ℕ → Answers → Option (List ℕ × Ending)
 shows memory b c limit a =
-    elim (program memory b) [ Ok p ↦ Some (plain (record { lines = p; memory = memory }) (input_lines c) limit a) | Err e ↦ None ]
+    elim (program memory b) [ Ok p ↦ Some (plain (record { lines = p; memory = memory }) (input_lines c) (record { limit = limit; choose = None }) a) | Err e ↦ None ]
 
 -- answers to RND
 pub record AnswerRows : Type 0 where
@@ -82,7 +82,7 @@ pub record LoopRows : Type 0 where
   pub subroutine : shows 4096 (codes "10 GOSUB 40;P.1" ++ (10 ∷ []) ++ codes "20 STOP" ++ (10 ∷ []) ++ codes "40 P.2;RETURN" ++ (10 ∷ [])) ([]) 10000 ([]) ≡ Some (codes "     2" ++ (10 ∷ []) ++ codes "     1" ++ (10 ∷ []), Stop)
   pub loop_of_subroutine : shows 4096 (codes "10 GOS.30;N.J" ++ (10 ∷ []) ++ codes "30 F.J=1TO9;R." ++ (10 ∷ [])) ([]) 10000 ([]) ≡ Some (codes "WHAT?" ++ (10 ∷ []) ++ codes "10 GOS.30;N.J?" ++ (10 ∷ []), What)
   pub endless_calls : shows 4096 (codes "10 GOSUB 10" ++ (10 ∷ [])) ([]) 10000 ([]) ≡ Some (codes "SORRY" ++ (10 ∷ []) ++ codes "10 GOSUB 10?" ++ (10 ∷ []), Sorry)
-  pub nested64 : shows 4096 (codes "10 F.I=1TO1;GOS.10" ++ (10 ∷ [])) ([]) 10000 ([]) ≡ Some (codes "SORRY" ++ (10 ∷ []) ++ codes "10 F.I=1TO1?;GOS.10" ++ (10 ∷ []), Sorry)
+  pub nested256 : shows 4096 (codes "10 F.I=1TO1;GOS.10" ++ (10 ∷ [])) ([]) 10000 ([]) ≡ Some (codes "SORRY" ++ (10 ∷ []) ++ codes "10 F.I=1TO1?;GOS.10" ++ (10 ∷ []), Sorry)
   pub no_call : shows 4096 (codes "10 RETURN" ++ (10 ∷ [])) ([]) 10000 ([]) ≡ Some (codes "WHAT?" ++ (10 ∷ []) ++ codes "10 RETURN?" ++ (10 ∷ []), What)
   pub limit : shows 4096 (codes "10 GOTO 10" ++ (10 ∷ [])) ([]) 5 ([]) ≡ Some ([], Limit)
   -- FOR again ends the older loop of its variable, and no other
@@ -162,7 +162,7 @@ steps_of (Asks n shown) = None
 steps_of (Out n shown) = None
 
 abbrev pub steps_and_ending : List ℕ → Option (ℕ × Ending)
-steps_and_ending b = elim (program 4096 b) [ Ok p ↦ steps_of (play (record { lines = p; memory = 4096 }) [] 10000 []) | Err e ↦ None ]
+steps_and_ending b = elim (program 4096 b) [ Ok p ↦ steps_of (play (record { lines = p; memory = 4096 }) [] (record { limit = 10000; choose = None }) []) | Err e ↦ None ]
 
 pub record StepRows : Type 0 where
   pub one_turn : steps_and_ending (codes "10 F.I=5TO1;P.I;N.I") ≡ Some (3, End)
@@ -171,8 +171,8 @@ pub record StepRows : Type 0 where
   pub if_not : steps_and_ending (codes "10 IF 0 NONSENSE" ++ (10 ∷ []) ++ codes "20 P.2/3;") ≡ Some (2, End)
   pub remark : steps_and_ending (codes "10 REM;P.1" ++ (10 ∷ []) ++ codes "20 PRINT") ≡ Some (2, End)
   pub loop : steps_and_ending (codes "10 F.I=1TO3S.2;P.I,;N.I") ≡ Some (5, End)
-  pub endless_calls : steps_and_ending (codes "10 GOSUB 10") ≡ Some (65, Sorry)
-  pub nested : steps_and_ending (codes "10 F.I=1TO1;GOS.10") ≡ Some (65, Sorry)
+  pub endless_calls : steps_and_ending (codes "10 GOSUB 10") ≡ Some (257, Sorry)
+  pub nested : steps_and_ending (codes "10 F.I=1TO1;GOS.10") ≡ Some (257, Sorry)
   pub empty : steps_and_ending ([]) ≡ Some (0, End)
   pub newer_loop_stays : steps_and_ending (codes "10 F.I=1TO1;F.J=1TO1;F.I=1TO1;N.J;P.I") ≡ Some (5, End)
   -- a command that faults is a step, and an empty command is none

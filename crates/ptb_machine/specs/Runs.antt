@@ -1,10 +1,11 @@
 -- This file defines what a whole run comes to: the play of its program.
 --     played_bytes o                  what a run has shown, where it is over or asks
---     Plays p limit input o n x left  with what was exchanged, this is left of the run
+--     Plays p rules input o n x left  with what was exchanged, this is left of the run
 --     refused_answers z later         the answer that is refused as out of range, if one is, and later ones
---     Runs refused p limit o n r      the run comes to the result r
+--     LacksInput ..                   without a line the run ends, or asks for an answer
+--     Runs refused p rules o n r      the run comes to the result r
 --     UnlessRunMissed refused P r     P holds, unless a line was wanted and the source gave none
-use Rattle.std.specs.Prelude.{◌≡◌, ◌⊎◌, ℕ, ◌≤◌, List, [], ◌∷◌, ◌++◌, Result, Ok, Err, ℤ}
+use Rattle.std.specs.Prelude.{◌≡◌, ◌⊎◌, ℕ, ◌≤◌, List, [], ◌∷◌, ◌++◌, Result, Ok, Err, ℤ, Option, Some, None, pos, ◌≤ℤ◌}
 use Rattle.ptb_text.specs.Statements.{StoredProgram}
 use Rattle.ptb_expr.specs.declared.pause.Pause.{Pause}
 use Rattle.ptb_expr.specs.declared.pause.Pause.TheVariants as pauses
@@ -16,9 +17,10 @@ use Rattle.ptb_machine.specs.declared.fault.RunFault.{RunFault}
 use Rattle.ptb_machine.specs.declared.fault.RunFault.TheVariants as faults
 use Rattle.ptb_command.specs.declared.stop.DeviceError.{DeviceError}
 use Rattle.ptb_command.specs.declared.stop.DeviceError.TheVariants as errors
+use Rattle.ptb_machine.specs.declared.rules.Rules.{Rules}
 use Rattle.ptb_machine.specs.Play.{Finish, play, unasked_lines}
 use Rattle.ptb_command.specs.Effects.{Begins}
-use Rattle.ptb_command.specs.Devices.{Devices, with_failures, Exchange, Exchanges, Refusal, Unanswered, NoLine, HasBroken}
+use Rattle.ptb_command.specs.Devices.{Devices, with_failures, Exchange, Exchanges, MayFollow, Refusal, Unanswered, NoLine, HasBroken}
 use Rattle.ptb_command.specs.Traces.{Leaves}
 use Rattle.ptb_devices.specs.declared.fault.ReadFault.{ReadFault}
 use Rattle.ptb_machine.specs.Steps.{UnlessEndingMissed, UnlessFaultMissed}
@@ -29,9 +31,9 @@ played_bytes (Asks n shown) = shown
 played_bytes (Out n shown) = shown
 
 -- the run took the answers that were exchanged, each to a question with its bound
-pub record Plays (p : StoredProgram) (limit : ℕ) (input : List (List ℕ)) (o n : Devices) (x : Exchange) (left : Answers → Outcome Finish (List ℕ)) : Type 0 where
+pub record Plays (p : StoredProgram) (rules : Rules) (input : List (List ℕ)) (o n : Devices) (x : Exchange) (left : Answers → Outcome Finish (List ℕ)) : Type 0 where
   pub exchanges : Exchanges o n x
-  pub leaves : Leaves (play p input limit) x.answers x.bounds left
+  pub leaves : Leaves (play p input rules) x.answers x.bounds left
 
 -- want of memory is no refusal of an answer
 abbrev pub refused_answers : Pause → Answers → Answers
@@ -40,61 +42,66 @@ refused_answers (pauses.OutOfRange k) later = k ∷ later
 refused_answers pauses.Memory later = []
 
 -- from devices that hold o to devices that hold n, where no lines were given before; `refused` is what stands after a refusal
-module _ (refused : Refusal → Type 0) (p : StoredProgram) (limit : ℕ) (input : List (List ℕ)) (o n : Devices) where
+module _ (refused : Refusal → Type 0) (p : StoredProgram) (rules : Rules) (input : List (List ℕ)) (o n : Devices) where
   -- the run is over, with these answers and whatever answers follow them; its bytes were shown
   pub record IsFinished (ending : Ending) : Type 0 where
     pub exchange : Exchange
     pub steps : ℕ
-    pub plays : Plays p limit input o n exchange (λ a. Done (record { ending = ending; steps = steps; shown = exchange.bytes }) a)
-    pub within_limit : steps ≤ limit
+    pub plays : Plays p rules input o n exchange (λ a. Done (record { ending = ending; steps = steps; shown = exchange.bytes }) a)
+    pub within_limit : steps ≤ rules.limit
     -- the source gave the lines for which the run asks, and no others
-    pub lines : (a : Answers) → input ≡ n.given ++ unasked_lines p input limit (exchange.answers ++ a)
+    pub lines : (a : Answers) → input ≡ n.given ++ unasked_lines p input rules (exchange.answers ++ a)
 
   -- the run asks, what it shows before was shown, and the chooser has refused the question
   pub record IsUnanswered (z : Pause) : Type 0 where
     pub exchange : Exchange
     pub bound : ℤ
     pub left : Answers → Outcome Finish (List ℕ)
-    pub plays : Plays p limit input o n exchange left
+    pub plays : Plays p rules input o n exchange left
     pub asks : left [] ≡ Asks bound exchange.bytes
     pub outside : SaysOut left bound exchange.bytes z
     pub refuses : refused (Unanswered z bound)
     -- the source gave the lines for which it asks before, and no others
     pub lines : (later : Answers)
-        → input ≡ n.given ++ unasked_lines p input limit (exchange.answers ++ refused_answers z later)
+        → input ≡ n.given ++ unasked_lines p input rules (exchange.answers ++ refused_answers z later)
+
+  -- without a line the run ends so, or asks with this bound, which is at least 1; these bytes were shown, and this is left of it
+  abbrev pub LacksInput : Option ℤ → List ℕ → (Answers → Outcome Finish (List ℕ)) → Type 0
+  LacksInput None bytes left = IsFinished endings.NoInput
+  LacksInput (Some k) bytes left = pos 1 ≤ℤ k → left [] ≡ Asks k bytes
 
   -- a device has failed, or was refused memory, and no write failed before;
   -- what was shown is a beginning of what the run shows, whatever answers follow
   pub record IsUnfinished (e : DeviceError) : Type 0 where
     pub exchange : Exchange
     pub left : Answers → Outcome Finish (List ℕ)
-    pub plays : Plays p limit input o (with_failures o.screen.failures n) exchange left
+    pub plays : Plays p rules input o (with_failures o.screen.failures n) exchange left
     pub begins : (a : Answers) → Begins exchange.bytes (played_bytes (left a))
     pub broken : HasBroken refused o.screen n.screen e
     -- the source gave no line for which the run doesn't ask; it may ask for more
     pub lines : (a : Answers)
-        → (more : List (List ℕ)) × (input ≡ n.given ++ (more ++ unasked_lines p input limit (exchange.answers ++ a)))
-    -- where the input can't be read the run asks for a line: if these were all lines, it would end so
-    pub dry : e ≡ errors.Read → input ≡ n.given → IsFinished endings.NoInput
+        → (more : List (List ℕ)) × (input ≡ n.given ++ (more ++ unasked_lines p input rules (exchange.answers ++ a)))
+    -- where the input can't be read the run asks for a line: if these were all lines, it would lack one
+    pub dry : e ≡ errors.Read → input ≡ n.given → LacksInput rules.choose exchange.bytes left
 
 -- a run with the lines that were given, and then these
-abbrev pub RunComes : (Refusal → Type 0) → StoredProgram → ℕ → List (List ℕ) → Devices → Devices → Result Ending RunFault → Type 0
-RunComes refused p limit rest o n (Ok endings.NoInput) =
-    refused NoLine × (rest ≡ [] → IsFinished refused p limit n.given o n endings.NoInput)
-RunComes refused p limit rest o n (Ok endings.NoAnswer) = IsUnanswered refused p limit (n.given ++ rest) o n pauses.Ended
-RunComes refused p limit rest o n (Ok endings.BadAnswer) =
-    (k : ℤ) × IsUnanswered refused p limit (n.given ++ rest) o n (pauses.OutOfRange k)
-RunComes refused p limit rest o n (Ok ending) = IsFinished refused p limit (n.given ++ rest) o n ending
+abbrev pub RunComes : (Refusal → Type 0) → StoredProgram → Rules → List (List ℕ) → Devices → Devices → Result Ending RunFault → Type 0
+RunComes refused p rules rest o n (Ok endings.NoInput) =
+    refused NoLine × (rest ≡ [] → IsFinished refused p rules n.given o n endings.NoInput)
+RunComes refused p rules rest o n (Ok endings.NoAnswer) = IsUnanswered refused p rules (n.given ++ rest) o n pauses.Ended
+RunComes refused p rules rest o n (Ok endings.BadAnswer) =
+    (k : ℤ) × IsUnanswered refused p rules (n.given ++ rest) o n (pauses.OutOfRange k)
+RunComes refused p rules rest o n (Ok ending) = IsFinished refused p rules (n.given ++ rest) o n ending
 -- the machine itself takes memory before the run begins
-RunComes refused p limit rest o n (Err faults.Memory) =
-    (n ≡ o) ⊎ IsUnfinished refused p limit (n.given ++ rest) o n errors.Memory
-RunComes refused p limit rest o n (Err faults.Read) = IsUnfinished refused p limit (n.given ++ rest) o n errors.Read
-RunComes refused p limit rest o n (Err faults.Write) = IsUnfinished refused p limit (n.given ++ rest) o n errors.Write
-RunComes refused p limit rest o n (Err faults.Spent) = ⊥
+RunComes refused p rules rest o n (Err faults.Memory) =
+    (n ≡ o) ⊎ IsUnfinished refused p rules (n.given ++ rest) o n errors.Memory
+RunComes refused p rules rest o n (Err faults.Read) = IsUnfinished refused p rules (n.given ++ rest) o n errors.Read
+RunComes refused p rules rest o n (Err faults.Write) = IsUnfinished refused p rules (n.given ++ rest) o n errors.Write
+RunComes refused p rules rest o n (Err faults.Spent) = ⊥
 
--- in every play whose lines begin with those that the source gave; o is to have none given
-abbrev pub Runs : (Refusal → Type 0) → StoredProgram → ℕ → Devices → Devices → Result Ending RunFault → Type 0
-Runs refused p limit o n r = (rest : List (List ℕ)) → RunComes refused p limit rest o n r
+-- in every play whose lines begin with those that the source gave, and have left what may follow them; o is to have none given
+abbrev pub Runs : (Refusal → Type 0) → StoredProgram → Rules → Devices → Devices → Result Ending RunFault → Type 0
+Runs refused p rules o n r = (rest : List (List ℕ)) → MayFollow n rest → RunComes refused p rules rest o n r
 
 -- `refused` is what stands after a fault of the source
 abbrev pub UnlessRunMissed : (ReadFault → Type 0) → Type 0 → Result Ending RunFault → Type 0

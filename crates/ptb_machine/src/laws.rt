@@ -21,7 +21,8 @@ pub fn run_laws()
 }
 
 /// A run that has its answers ends in one of seven ways: behind the last statement, at STOP, with
-/// one of the three faults, at its limit, or for want of a line.
+/// one of the three faults, at its limit, or for want of a line; the last only where no answers are
+/// taken in place of lines.
 #[tactic(auto, using(crate::proofs::Endings::ending_laws))]
 pub fn ending_laws()
     ensures { EndingLaws }

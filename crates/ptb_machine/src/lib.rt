@@ -13,6 +13,7 @@ mod laws;
 mod machine;
 mod report;
 mod rows;
+mod rules;
 mod running;
 mod stop_result;
 
@@ -28,6 +29,7 @@ pub use ptb_devices::{
 pub use rows::{
     answer_rows, array_rows, fault_rows, input_rows, long_rows, loop_rows, print_rows, step_rows,
 };
+pub use rules::Rules;
 pub use running::run;
 
 #[cfg(test)]

@@ -1,18 +1,20 @@
 // This file does whole runs.
 
-ghost use Rattle.std.specs.Prelude.{◌≡◌, ◌≤◌, ℕ, List, []};
+ghost use Rattle.std.specs.Prelude.{◌≡◌, ◌≤◌, ◌≤ℤ◌, ℕ, pos, List, [], IfSome};
 ghost use Rattle.ptb_command.specs.Devices.{devices, screen_state, refused_by};
+ghost use Rattle.ptb_command.specs.Stops.{NotMissed};
 ghost use Rattle.ptb_machine.specs.Runs.{Runs, UnlessRunMissed};
 
 use crate::fault::RunFault;
 use crate::kept::Player;
+use crate::rules::Rules;
 use ptb_command::Ending;
 use ptb_devices::{LineSource, Screen};
 use ptb_expr::Chooser;
 use ptb_text::Program;
 use std::alloc::Global;
 
-/// Runs a program from its beginning to its ending, and begins at most `limit` commands.
+/// Runs a program from its beginning to its ending, by these rules.
 ///
 /// # Errors
 ///
@@ -23,23 +25,26 @@ use std::alloc::Global;
 pub fn run<C: Chooser, S: Screen, L: LineSource>(
     alloc: Global,
     program: &Program,
-    limit: u32,
+    rules: Rules,
     chooser: &mut C,
     screen: &mut S,
     source: &mut L,
 ) -> Result<Ending, RunFault>
+    requires { IfSome rules.choose (λ n. pos 1 ≤ℤ n) }
     ensures runs { (given : List (List ℕ)) × (L.gives source.old given source.new
         × Runs (refused_by (C.refused chooser.new) (L.refused source.new) (L.lines source.new))
-        program.now limit
-        (devices (C.choices chooser.old) (screen_state S.Screen screen.old) [])
-        (devices (C.choices chooser.new) (screen_state S.Screen screen.new) given) result) }
-    ensures missed { UnlessRunMissed (L.refused source.new)
-        (L.missed source.new ≤ L.missed source.old) result }
+        program.now rules
+        (devices (C.choices chooser.old) (screen_state S.Screen screen.old)
+        (L.most source.old) rules.choose [])
+        (devices (C.choices chooser.new) (screen_state S.Screen screen.new)
+        (L.most source.new) rules.choose given) result) }
+    ensures missed { UnlessRunMissed (L.refused source.new) (NotMissed rules.choose
+        (L.missed source.old) (L.missed source.new) (L.most source.new)) result }
 {
     let mut player = Player::new(alloc, program)?;
     let mut machine = player.machine(alloc)?;
     'steps: loop {
-        if let Some(ending) = player.step(&mut machine, limit, chooser, screen, source)? {
+        if let Some(ending) = player.step(&mut machine, rules, chooser, screen, source)? {
             return Ok(ending);
         }
     }

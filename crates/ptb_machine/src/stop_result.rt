@@ -32,8 +32,8 @@ pub(crate) fn result_of<C: Chooser, S: Screen, L: LineSource>(
 ) -> Result<Option<Ending>, RunFault>
     ensures comes { (given : List (List ℕ)) (cells : Cells) (n : ℕ) (text : List ℕ) →
         slice_get program.now.lines statement ≡ Some (n, text) → IsResultOf
-        (io_trace C.choices S.Screen io.old given cells)
-        (io_trace C.choices S.Screen io.new given cells) n text done result }
+        (io_trace C.choices S.Screen L.most io.old given cells)
+        (io_trace C.choices S.Screen L.most io.new given cells) n text done result }
     ensures chooser { io.new.chooser ≡ io.old.chooser }
     ensures same { SameDevices io.old io.new }
 {

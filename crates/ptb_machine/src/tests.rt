@@ -1,6 +1,6 @@
 // This file tests runs and steps: worked rows, and what a run shows of faults.
 
-ghost use Rattle.std.specs.Prelude.{IsTrue};
+ghost use Rattle.std.specs.Prelude.{◌≡◌, None, IsTrue};
 ghost use Rattle.ptb_machine.specs.Steps.{FitsProgram};
 
 use super::*;
@@ -13,6 +13,16 @@ use std::test::Fail;
 
 /// The memory of the programs.
 const MEMORY: u16 = 4096;
+
+// Rules by which a run ends where no line is left.
+pub(crate) fn plain_rules(limit: u32) -> Rules
+    ensures { result ≡ record { limit = limit; choose = None } }
+{
+    Rules {
+        limit,
+        choose: None,
+    }
+}
 
 // The program of two lines, of which the second may be empty.
 fn program(alloc: Global, first: &[u8], second: &[u8]) -> Result<Program, Fail> {
@@ -34,7 +44,14 @@ fn outcome(
     let mut list = Listed::new(answers);
     let mut screen = TextScreen::new(alloc);
     let mut input = Lines::new(&[]);
-    let result = run(alloc, &program, limit, &mut list, &mut screen, &mut input);
+    let result = run(
+        alloc,
+        &program,
+        plain_rules(limit),
+        &mut list,
+        &mut screen,
+        &mut input,
+    );
     Ok((result, screen))
 }
 
@@ -101,7 +118,7 @@ fn runs(rt: HostRuntime) -> Result<(), Fail> {
         ),
         (b"10 INPUT A", b"", Ending::NoInput, b"A:"),
     ] {
-        let (result, screen) = outcome(rt.alloc(), first, second, 200, &[])?;
+        let (result, screen) = outcome(rt.alloc(), first, second, 300, &[])?;
         assert!(rt; result == Ok(want), "{first:?}");
         assert_eq!(rt; screen.bytes(), shown, "{first:?}");
     }
@@ -167,6 +184,122 @@ fn limits_and_answers(rt: HostRuntime) -> Result<(), Fail> {
     Ok(())
 }
 
+// An answer stands in for a line that INPUT doesn't find: it is shown as one, and isn't read.
+#[test]
+fn answers_in_place_of_lines(rt: HostRuntime) -> Result<(), Fail> {
+    let twice = &b"10 INPUT A,B;P.A+B"[..];
+    let element = &b"10 INPUT @(RND(2)-1);P.@(1)"[..];
+    for (line, input, answers, want, shown) in [
+        (
+            &b"10 INPUT A;PRINT A"[..],
+            &b""[..],
+            &[1][..],
+            Ending::End,
+            &b"A:1\n     1\n"[..],
+        ),
+        (
+            b"10 INPUT A;PRINT A",
+            b"",
+            &[2],
+            Ending::End,
+            b"A:2\n     2\n",
+        ),
+        (
+            b"10 INPUT A;PRINT A",
+            b")\n",
+            &[2],
+            Ending::End,
+            b"A:)\nWHAT?\nA:2\n     2\n",
+        ),
+        (
+            b"10 INPUT A;PRINT A",
+            b"7\n",
+            &[],
+            Ending::End,
+            b"A:7\n     7\n",
+        ),
+        (b"10 INPUT A", b"", &[], Ending::NoAnswer, b"A:"),
+        (b"10 INPUT A", b"", &[3], Ending::BadAnswer, b"A:"),
+        (b"10 INPUT A", b"", &[0], Ending::BadAnswer, b"A:"),
+        (b"10 INPUT \"N\"A", b"", &[2], Ending::End, b"N:2\n"),
+        (twice, b"", &[1, 2], Ending::End, b"A:1\nB:2\n     3\n"),
+        (twice, b"5\n", &[2], Ending::End, b"A:5\nB:2\n     7\n"),
+        (
+            twice,
+            b"RND(3)\n",
+            &[3, 2],
+            Ending::End,
+            b"A:RND(3)\nB:2\n     5\n",
+        ),
+        (
+            element,
+            b"",
+            &[2, 1],
+            Ending::End,
+            b"@(RND(2)-1):1\n     1\n",
+        ),
+        (element, b"", &[2], Ending::NoAnswer, b"@(RND(2)-1):"),
+        (
+            element,
+            b"?\n",
+            &[1, 2, 2],
+            Ending::End,
+            b"@(RND(2)-1):?\nWHAT?\n@(RND(2)-1):2\n     2\n",
+        ),
+    ] {
+        let program = program(rt.alloc(), line, b"")?;
+        let mut input = input;
+        let mut reader = Device::new(&mut input);
+        let mut source = ReaderLines::new(&mut reader);
+        let mut list = Listed::new(answers);
+        let mut screen = TextScreen::new(rt.alloc());
+        let rules = Rules {
+            limit: 9,
+            choose: Some(2),
+        };
+        let result = run(
+            rt.alloc(),
+            &program,
+            rules,
+            &mut list,
+            &mut screen,
+            &mut source,
+        );
+        assert!(rt; result == Ok(want), "{answers:?}");
+        assert_eq!(rt; screen.bytes(), shown, "{answers:?}");
+    }
+    Ok(())
+}
+
+// The greatest bound, and commands that ask often.
+#[test]
+fn many_answers_in_place_of_lines(rt: HostRuntime) -> Result<(), Fail> {
+    for (limit, answers, want, shown) in [
+        (9, &[32767, 1][..], Ending::End, &b"A:32767\nA:1\n"[..]),
+        (2, &[2, 2, 2][..], Ending::Limit, &b"A:2\n"[..]),
+    ] {
+        let program = program(rt.alloc(), b"10 INPUT A", b"20 IF A#1 GOTO 10")?;
+        let mut list = Listed::new(answers);
+        let mut screen = TextScreen::new(rt.alloc());
+        let mut input = Lines::new(&[]);
+        let rules = Rules {
+            limit,
+            choose: Some(32767),
+        };
+        let result = run(
+            rt.alloc(),
+            &program,
+            rules,
+            &mut list,
+            &mut screen,
+            &mut input,
+        );
+        assert!(rt; result == Ok(want), "{limit}");
+        assert_eq!(rt; screen.bytes(), shown, "{limit}");
+    }
+    Ok(())
+}
+
 #[test]
 fn steps(rt: HostRuntime) -> Result<(), Fail> {
     let program = program(rt.alloc(), b"10 P.1,;P.2", b"")?;
@@ -175,14 +308,18 @@ fn steps(rt: HostRuntime) -> Result<(), Fail> {
     let mut input = Lines::new(&[]);
     let mut machine = Machine::new(rt.alloc(), &program)?;
     assert_eq!(rt; machine.steps(), 0);
-    assert!(rt; machine.step(&program, 9, &mut list, &mut screen, &mut input) == Ok(None));
+    assert!(rt;
+        machine.step(&program, plain_rules(9), &mut list, &mut screen, &mut input) == Ok(None)
+    );
     assert_eq!(rt; machine.steps(), 1);
     assert_eq!(rt; screen.bytes(), &b"     1"[..]);
-    assert!(rt; machine.step(&program, 9, &mut list, &mut screen, &mut input) == Ok(None));
+    assert!(rt;
+        machine.step(&program, plain_rules(9), &mut list, &mut screen, &mut input) == Ok(None)
+    );
     assert_eq!(rt; machine.steps(), 2);
-    let last = machine.step(&program, 9, &mut list, &mut screen, &mut input);
+    let last = machine.step(&program, plain_rules(9), &mut list, &mut screen, &mut input);
     assert!(rt; last == Ok(Some(Ending::End)));
-    let spent = machine.step(&program, 9, &mut list, &mut screen, &mut input);
+    let spent = machine.step(&program, plain_rules(9), &mut list, &mut screen, &mut input);
     assert!(rt; spent == Err(RunFault::Spent));
     assert_eq!(rt; machine.steps(), 2);
     assert_eq!(rt; screen.bytes(), &b"     1     2\n"[..]);
@@ -203,17 +340,21 @@ fn copies(rt: HostRuntime) -> Result<(), Fail> {
     let Ok(mut copy) = machine.copy(rt.alloc()) else {
         return Ok(());
     };
-    assert!(rt; machine.step(&program, 9, &mut list, &mut screen, &mut input) == Ok(None));
+    assert!(rt;
+        machine.step(&program, plain_rules(9), &mut list, &mut screen, &mut input) == Ok(None)
+    );
     assert_eq!(rt; copy.steps(), 0);
     copy.copy_from(rt.alloc(), &machine)?;
     assert_eq!(rt; copy.steps(), 1);
-    assert!(rt; copy.step(&program, 2, &mut list, &mut screen, &mut input) == Ok(None));
-    let last = copy.step(&program, 2, &mut list, &mut screen, &mut input);
+    assert!(rt;
+        copy.step(&program, plain_rules(2), &mut list, &mut screen, &mut input) == Ok(None)
+    );
+    let last = copy.step(&program, plain_rules(2), &mut list, &mut screen, &mut input);
     assert!(rt; last == Ok(Some(Ending::End)));
     assert_eq!(rt; copy.steps(), 2);
     assert_eq!(rt; machine.steps(), 1);
     machine.copy_from(rt.alloc(), &copy)?;
-    let spent = machine.step(&program, 9, &mut list, &mut screen, &mut input);
+    let spent = machine.step(&program, plain_rules(9), &mut list, &mut screen, &mut input);
     assert!(rt; spent == Err(RunFault::Spent));
     Ok(())
 }
@@ -282,7 +423,7 @@ fn goes_on(machine: &mut Machine, program: &Program, screen: &mut TextScreen) ->
 {
     let mut list = Listed::new(&[]);
     let mut input = Lines::new(&[]);
-    machine.step(program, 100, &mut list, screen, &mut input) == Ok(None)
+    machine.step(program, plain_rules(100), &mut list, screen, &mut input) == Ok(None)
 }
 
 // A machine has nothing of the program whose commands it did: after four turns of a sum and a jump
@@ -321,7 +462,14 @@ fn ending_of(
     let mut list = Listed::new(&[]);
     let mut screen = TextScreen::new(alloc);
     let mut input = Lines::new(&[]);
-    let result = run(alloc, &program, limit, &mut list, &mut screen, &mut input);
+    let result = run(
+        alloc,
+        &program,
+        plain_rules(limit),
+        &mut list,
+        &mut screen,
+        &mut input,
+    );
     Ok((result, screen))
 }
 
@@ -467,13 +615,13 @@ fn calls_done_often(rt: HostRuntime) -> Result<(), Fail> {
     for (text, steps, want, shown) in [
         (
             &b"10 D=D+1;GOSUB 10\n"[..],
-            130,
+            514,
             Ending::Sorry,
             &b"SORRY\n10 D=D+1;GOSUB 10?\n"[..],
         ),
         (
             b"10 GOSUB 10;P.1\n",
-            65,
+            257,
             Ending::Sorry,
             b"SORRY\n10 GOSUB 10?;P.1\n",
         ),

@@ -1,4 +1,4 @@
 -- This file names the files of lemmas.
 pub mod AnswerTexts
-pub mod MemorySize
+pub mod NumberRanges
 pub mod OptionReads

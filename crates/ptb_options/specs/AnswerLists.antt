@@ -1,23 +1,43 @@
--- This file defines how a list of answers is written.
---     IsAnswer k          a number that can stand in a list
---     SpellsAnswer s k    the text s writes the answer k
---     SpellsList s a      the text s writes the list a
---     IsMisspelled s      the text s writes no list
+-- This file defines how lists of answers are written.
+--     IsAnswer k             a number that can stand in a list
+--     IsItem m               an answer that can stand in a list, with its bound or without
+--     SpellsNumber s k       the text s writes the number k
+--     SpellsItem s m         the text s writes the item m
+--     SpellsList s list      the text s writes the list
+--     IsMisspelled s         the text s writes no list
+--     SpellsAnswers s a      the text s writes a list of these answers, without bounds
+--     HasNoAnswers s         the text s writes no list without bounds
 use Rattle.std.specs.Prelude.{◌≡◌, ℕ, List, ℤ, pos, ◌≤ℤ◌, All}
 use Rattle.std.specs.Fmt.{signed_decimal}
-use Rattle.ptb_expr.specs.AnswerText.{spelling}
+use Rattle.std.specs.Option.{ForSome}
+use Rattle.ptb_explore.specs.declared.form.Marked.{Marked}
+use Rattle.ptb_explore.specs.AnswerText.{item_text, spelling, unmarked}
 
--- an answer is from 1 to 32767
+-- an answer is from 1 to 32767, and so is a bound
 abbrev pub IsAnswer : ℤ → Type 0
 IsAnswer k = (pos 1 ≤ℤ k) × (k ≤ℤ pos 32767)
 
--- it is written in decimals, with no zeros in front
-abbrev pub SpellsAnswer : List ℕ → ℤ → Type 0
-SpellsAnswer s k = IsAnswer k × (signed_decimal k ≡ s)
+abbrev pub IsItem : Marked → Type 0
+IsItem m = IsAnswer m.answer × ForSome m.bound IsAnswer
 
--- as reports write it: `none`, or its answers with commas between them
-abbrev pub SpellsList : List ℕ → List ℤ → Type 0
-SpellsList s a = All IsAnswer a × (spelling a ≡ s)
+-- it is written in decimals, with no zeros in front
+abbrev pub SpellsNumber : List ℕ → ℤ → Type 0
+SpellsNumber s k = IsAnswer k × (signed_decimal k ≡ s)
+
+-- as reports write it: an answer alone, or `/` and its bound behind it
+abbrev pub SpellsItem : List ℕ → Marked → Type 0
+SpellsItem s m = IsItem m × (item_text m ≡ s)
+
+-- as reports write it: `none`, or its items with commas between them
+abbrev pub SpellsList : List ℕ → List Marked → Type 0
+SpellsList s list = All IsItem list × (spelling list ≡ s)
 
 abbrev pub IsMisspelled : List ℕ → Type 0
-IsMisspelled s = (a : List ℤ) → SpellsList s a → ⊥
+IsMisspelled s = (list : List Marked) → SpellsList s list → ⊥
+
+-- the answers of a run that is to be played are such a list in which no bound stands
+abbrev pub SpellsAnswers : List ℕ → List ℤ → Type 0
+SpellsAnswers s a = SpellsList s (unmarked a)
+
+abbrev pub HasNoAnswers : List ℕ → Type 0
+HasNoAnswers s = (a : List ℤ) → SpellsAnswers s a → ⊥

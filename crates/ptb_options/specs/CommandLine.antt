@@ -26,11 +26,13 @@ abbrev pub rules : List Rule
 rules =
     number_option (codes "steps") (Signed (pos 1) (pos 1000000000))
     ∷ number_option (codes "memory") (Signed (pos 64) (pos 32767))
+    ∷ number_option (codes "choose") (Signed (pos 1) (pos 32767))
     ∷ text_option (codes "answers")
     ∷ number_option (codes "seed") (Unsigned 0 4294967295)
     ∷ flag (codes "all")
     ∷ text_option (codes "after")
     ∷ number_option (codes "first") (Unsigned 1 1000000000)
+    ∷ number_option (codes "form") (Signed (pos 1) (pos 2))
     ∷ flag (codes "list")
     ∷ operand (codes "program")
     ∷ []

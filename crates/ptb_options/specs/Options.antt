@@ -2,12 +2,15 @@
 --     entries_of m               what clap found, as its entries
 --     Options, options_of e      what the options say by these entries
 --     HasMemorySize o            --memory gives a size that a program can have
+--     HasBound o                 --choose gives a bound that a question can have
+--     rules_of o                 the rules of runs
+--     form_of n                  the form of reports
 --     clash o                    the fault of options that don't go together
 --     default_steps, default_memory     the numbers of a request that gives none
 --     Asks o r                   the options ask for the request r
 --     Refuses o fault            why they ask for none
-use Rattle.std.specs.Prelude.{◌≡◌, ℕ, ◌^◌, nat_lt, Bool, true, false, not, ◌&&◌, ◌||◌, if◌then◌else◌, List, length, Option, Some, None, is_some, IsSome, unwrap_or, option_and_then, find, IsSomeAnd, ℤ, codes}
-use Rattle.std.specs.Option.{ForSome, option_or}
+use Rattle.std.specs.Prelude.{◌≡◌, ◌≤◌, pos, option_map, ℕ, ◌^◌, nat_lt, Bool, true, false, not, ◌&&◌, ◌||◌, ◌⊎◌, ◌==◌, if◌then◌else◌, List, length, Option, Some, None, is_some, IsSome, unwrap_or, option_and_then, find, IsSomeAnd, ℤ, codes}
+use Rattle.std.specs.Option.{ForSome}
 use Rattle.std.specs.Str.{all_ascii_digits, bytes_eq}
 use Rattle.std.specs.Str.Parse.{digits_value, without_leading_plus}
 use Rattle.clap.specs.Words.{Row, first_of, found_of, one_of, rows_of}
@@ -15,14 +18,18 @@ use Rattle.clap.specs.declared.parser.ArgMatches.{ArgMatches}
 use Rattle.clap.specs.declared.parser.ValueSource.{ValueSource}
 use Rattle.clap.specs.declared.parser.ValueSource.TheVariants.{CommandLine}
 use Rattle.ptb_text.specs.Statements.{IsMemorySize}
-use Rattle.ptb_options.specs.AnswerLists.{SpellsList, IsMisspelled}
+use Rattle.ptb_machine.specs.declared.rules.Rules.{Rules}
+use Rattle.ptb_explore.specs.declared.form.Form.{Form}
+use Rattle.ptb_explore.specs.declared.form.Form.TheVariants.{One, Two}
+use Rattle.ptb_explore.specs.declared.form.Marked.{Marked}
+use Rattle.ptb_options.specs.AnswerLists.{SpellsList, SpellsAnswers, IsMisspelled, HasNoAnswers}
 use Rattle.ptb_options.specs.declared.answers.ListFault.{ListFault}
 use Rattle.ptb_options.specs.declared.answers.ListFault.TheVariants as lists
 use Rattle.ptb_options.specs.declared.request.Mode.{Mode}
 use Rattle.ptb_options.specs.declared.request.Mode.TheVariants as modes
 use Rattle.ptb_options.specs.declared.request.Request.{Request}
 use Rattle.ptb_options.specs.declared.usage.UsageFault.{UsageFault}
-use Rattle.ptb_options.specs.declared.usage.UsageFault.TheVariants.{ListWithOther, AfterWithoutAll, FirstWithoutAll, AnswersWithAll, SeedWithAll, SeedWithAnswers, BadList, Memory}
+use Rattle.ptb_options.specs.declared.usage.UsageFault.TheVariants.{ListWithOther, AfterWithoutAll, FirstWithoutAll, FormWithoutAll, AnswersWithAll, SeedWithAll, SeedWithAnswers, BadList, Memory}
 
 -- ---- the options
 
@@ -30,16 +37,18 @@ use Rattle.ptb_options.specs.declared.usage.UsageFault.TheVariants.{ListWithOthe
 pub record Options : Type 0 where
   pub steps : Option ℕ
   pub memory : Option ℕ
+  pub choose : Option ℕ
   pub answers : Option (List ℕ)
   pub seed : Option ℕ
   pub all : Bool
   pub after : Option (List ℕ)
   pub first : Option ℕ
+  pub form : Option ℕ
   pub list : Bool
 
 -- an empty command line
 abbrev pub no_options : Options
-no_options = record { steps = None; memory = None; answers = None; seed = None; all = false; after = None; first = None; list = false }
+no_options = record { steps = None; memory = None; choose = None; answers = None; seed = None; all = false; after = None; first = None; form = None; list = false }
 
 -- what clap found for each option
 abbrev pub entries_of : ArgMatches → List Row
@@ -68,11 +77,13 @@ abbrev pub options_of : List Row → Options
 options_of entries = record {
   steps = number_of 32 (codes "steps") entries;
   memory = number_of 16 (codes "memory") entries;
+  choose = number_of 16 (codes "choose") entries;
   answers = first_of (codes "answers") entries;
   seed = number_of 64 (codes "seed") entries;
   all = is_given (codes "all") entries;
   after = first_of (codes "after") entries;
   first = number_of 64 (codes "first") entries;
+  form = number_of 8 (codes "form") entries;
   list = is_given (codes "list") entries;
 }
 
@@ -80,31 +91,41 @@ options_of entries = record {
 abbrev pub HasMemorySize : Options → Type 0
 HasMemorySize o = ForSome o.memory IsMemorySize
 
+-- the bound that --choose gives, if it stands there, is a number from 1 to 32767
+abbrev pub HasBound : Options → Type 0
+HasBound o = ForSome o.choose (λ n. (1 ≤ n) × (n ≤ 32767))
+
 -- ---- what they ask for
 
 -- the rules are looked at in this order
 abbrev pub clash : Options → Option UsageFault
 clash o =
-    if o.list && (o.all || is_some o.answers || is_some o.seed || is_some o.after || is_some o.first) then Some ListWithOther
+    if o.list && (o.all || is_some o.answers || is_some o.seed || is_some o.after || is_some o.first || is_some o.form || is_some o.choose) then Some ListWithOther
     else (if is_some o.after && not o.all then Some AfterWithoutAll
     else (if is_some o.first && not o.all then Some FirstWithoutAll
+    else (if is_some o.form && not o.all then Some FormWithoutAll
     else (if is_some o.answers && o.all then Some AnswersWithAll
     else (if is_some o.seed && o.all then Some SeedWithAll
     else (if is_some o.seed && is_some o.answers then Some SeedWithAnswers
-    else None)))))
+    else None))))))
 
 -- a list that may be left out
-abbrev pub SpellsIfGiven : Option (List ℕ) → Option (List ℤ) → Type 0
+abbrev pub SpellsIfGiven : Option (List ℕ) → Option (List Marked) → Type 0
 SpellsIfGiven None None = Unit {0}
 SpellsIfGiven None (Some a) = ⊥
 SpellsIfGiven (Some s) None = ⊥
 SpellsIfGiven (Some s) (Some a) = SpellsList s a
 
+-- form 1 where it is asked for, and else form 2
+abbrev pub form_of : Option ℕ → Form
+form_of None = Two
+form_of (Some n) = if n == 1 then One else Two
+
 -- with neither --list nor --all there is one run, by a list of answers or by a seed
 abbrev pub AsksMode : Options → Mode → Type 0
 AsksMode o modes.List = o.list ≡ true
-AsksMode o (modes.All after first) = (o.list ≡ false) × (o.all ≡ true) × SpellsIfGiven o.after after × (first ≡ o.first)
-AsksMode o (modes.Plain a) = (o.list ≡ false) × (o.all ≡ false) × (o.seed ≡ None) × SpellsList (unwrap_or o.answers (codes "none")) a
+AsksMode o (modes.All after first form) = (o.list ≡ false) × (o.all ≡ true) × SpellsIfGiven o.after after × (first ≡ o.first) × (form ≡ form_of o.form)
+AsksMode o (modes.Plain a) = (o.list ≡ false) × (o.all ≡ false) × (o.seed ≡ None) × SpellsAnswers (unwrap_or o.answers (codes "none")) a
 AsksMode o (modes.Seeded seed) = (o.list ≡ false) × (o.all ≡ false) × (o.seed ≡ Some seed)
 
 -- without --steps a run begins at most so many commands
@@ -115,25 +136,29 @@ default_steps = 10000
 abbrev pub default_memory : ℕ
 default_memory = 4096
 
+-- with --choose INPUT asks for an answer where no line is left, and without it the run ends there
+abbrev pub rules_of : Options → Rules
+rules_of o = record { limit = unwrap_or o.steps default_steps; choose = option_map pos o.choose }
+
 pub record Asks (o : Options) (r : Request) : Type 0 where
   pub clash : clash o ≡ None
-  pub steps : r.steps ≡ unwrap_or o.steps default_steps
+  pub rules : r.rules ≡ rules_of o
   pub memory : r.memory ≡ unwrap_or o.memory default_memory
   pub mode : AsksMode o r.mode
 
--- the list among options that don't clash, if there is one
-abbrev pub list_of : Options → Option (List ℕ)
-list_of o = option_or o.after o.answers
+-- why a list is refused, and which are misspelled; memory is wanted for a list alone
+abbrev pub RefusesList : (List ℕ → Type 0) → Option (List ℕ) → ListFault → Type 0
+RefusesList Misspelled text lists.Bad = IsSomeAnd text Misspelled
+RefusesList Misspelled text lists.Memory = IsSome text
 
--- why a list gives no answers; memory is wanted for a list alone
-abbrev pub RefusesList : Option (List ℕ) → ListFault → Type 0
-RefusesList text lists.Bad = IsSomeAnd text IsMisspelled
-RefusesList text lists.Memory = IsSome text
+-- of options that don't clash at most one has a list
+abbrev pub RefusesLists : Options → ListFault → Type 0
+RefusesLists o fault = RefusesList IsMisspelled o.after fault ⊎ RefusesList HasNoAnswers o.answers fault
 
 -- lists are looked at where nothing else is wrong
 abbrev pub Refuses : Options → UsageFault → Type 0
-Refuses o BadList = (clash o ≡ None) × RefusesList (list_of o) lists.Bad
-Refuses o Memory = (clash o ≡ None) × RefusesList (list_of o) lists.Memory
+Refuses o BadList = (clash o ≡ None) × RefusesLists o lists.Bad
+Refuses o Memory = (clash o ≡ None) × RefusesLists o lists.Memory
 Refuses o fault = clash o ≡ Some fault
 
 -- a list's fault as one of the words

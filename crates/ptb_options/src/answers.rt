@@ -1,9 +1,13 @@
 // This file has lists of answers, and how they are read from a word of the command line.
 
 ghost use Rattle.std.specs.Prelude.{◌≡◌, List, ℤ, IfOk, IfSome};
-ghost use Rattle.ptb_options.specs.AnswerLists.{IsMisspelled, SpellsAnswer, SpellsList};
+ghost use Rattle.ptb_explore.specs.AnswerText.{without_bound};
+ghost use Rattle.ptb_explore.specs.declared.form.Marked.{Marked};
+ghost use Rattle.ptb_options.specs.AnswerLists.{HasNoAnswers, IsMisspelled, SpellsAnswers};
+ghost use Rattle.ptb_options.specs.AnswerLists.{SpellsItem, SpellsList, SpellsNumber};
 ghost use Rattle.ptb_options.specs.declared.answers.ListFault.TheVariants.{Memory};
 
+use ptb_explore::Marked;
 use std::alloc::{AllocFailed, Global};
 use std::marker::Model;
 use thiserror::Error;
@@ -47,6 +51,48 @@ impl From<Vec<i16>> for Answers {
     }
 }
 
+/// A list of answers, of which some may have their bounds. One that was read from a word has numbers
+/// from 1 to 32767; the type holds any.
+///
+/// [`From`] makes it of a `Vec`, and [`MarkedAnswers::into_vec`] returns that; neither takes memory.
+#[derive(Debug, Drop)]
+pub struct MarkedAnswers {
+    list: Vec<Marked>,
+}
+
+impl Model for MarkedAnswers {
+    ghost use Rattle.std.specs.Prelude.{List};
+    ghost use Rattle.ptb_explore.specs.declared.form.Marked.{Marked};
+
+    ghost Value = { List Marked };
+
+    ghost view = { λ a. a.list.items };
+}
+
+impl MarkedAnswers {
+    /// The answers with their bounds, in order.
+    pub fn as_slice(&self) -> &[Marked]
+        ensures { result.now ≡ self.now }
+    {
+        &self.list
+    }
+
+    /// The `Vec` that the list was made from.
+    pub fn into_vec(self) -> Vec<Marked>
+        ensures { result.items ≡ self }
+    {
+        self.list
+    }
+}
+
+impl From<Vec<Marked>> for MarkedAnswers {
+    ghost from_gives = { λ v a. a ≡ v.items };
+
+    fn from(list: Vec<Marked>) -> MarkedAnswers {
+        MarkedAnswers { list }
+    }
+}
+
 /// Why a text gives no list of answers.
 #[derive(Clone, Copy, Debug, PartialEq, Eq, Error)]
 pub enum ListFault {
@@ -66,18 +112,42 @@ impl<T: Drop> From<AllocFailed<T>> for ListFault {
     }
 }
 
-/// The list of answers that a text spells: `none`, or the decimals of numbers from 1 to 32767, the
-/// first digit never 0, with one comma between two of them and nothing else.
+/// The list that a text spells: `none`, or items with one comma between two of them and nothing
+/// else. An item is the decimals of an answer, and behind it, or not, `/` and those of its bound. Both
+/// are numbers from 1 to 32767, the first digit never 0.
 ///
 /// # Errors
 ///
 /// [`ListFault::Bad`] where the text spells no list; [`ListFault::Memory`] where a growth was
 /// refused memory.
 #[tactic(auto, using(crate::proofs::AnswerTexts::one_list))]
-pub fn parse_answers(alloc: Global, text: &str) -> Result<Answers, ListFault>
+pub fn parse_list(alloc: Global, text: &str) -> Result<MarkedAnswers, ListFault>
     ensures ok { IfOk result (SpellsList text.now) }
     ensures bad { result ≡ Err ListFault.Bad → IsMisspelled text.now }
-    ensures one { (a b : List ℤ) → SpellsList text.now a → SpellsList text.now b → a ≡ b }
+    ensures one { (a b : List Marked) → SpellsList text.now a → SpellsList text.now b → a ≡ b }
+{
+    let mut items = Vec::new(alloc);
+    if text == "none" {
+        return Ok(items.into());
+    }
+    for word in text.split(',') {
+        let item = parse_item(word).ok_or(ListFault::Bad)?;
+        items.push(item)?;
+    }
+    Ok(items.into())
+}
+
+/// The answers that a text spells: a list as [`parse_list`] reads it, in which no bound stands.
+///
+/// # Errors
+///
+/// [`ListFault::Bad`] where the text spells no such list; [`ListFault::Memory`] where a growth was
+/// refused memory.
+#[tactic(auto, using(crate::proofs::AnswerTexts::one_list_of_answers))]
+pub fn parse_answers(alloc: Global, text: &str) -> Result<Answers, ListFault>
+    ensures ok { IfOk result (SpellsAnswers text.now) }
+    ensures bad { result ≡ Err ListFault.Bad → HasNoAnswers text.now }
+    ensures one { (a b : List ℤ) → SpellsAnswers text.now a → SpellsAnswers text.now b → a ≡ b }
 {
     let mut answers = Vec::new(alloc);
     if text == "none" {
@@ -90,11 +160,40 @@ pub fn parse_answers(alloc: Global, text: &str) -> Result<Answers, ListFault>
     Ok(answers.into())
 }
 
+// The item that a word writes, if it is one.
+fn parse_item(word: &str) -> Option<Marked>
+    ensures some { IfSome result (λ m. SpellsItem word.now m) }
+    ensures only { (m : Marked) → SpellsItem word.now m → result ≡ Some m }
+{
+    let Some((answer, bound)) = word.split_once('/') else {
+        return Some(Marked {
+            answer: parse_number(word)?,
+            bound: None,
+        });
+    };
+    Some(Marked {
+        answer: parse_number(answer)?,
+        bound: Some(parse_number(bound)?),
+    })
+}
+
+// The answer that a word writes, if it is an item without a bound.
+fn parse_answer(word: &str) -> Option<i16>
+    ensures some { IfSome result (λ k. SpellsItem word.now (without_bound k)) }
+    ensures only { (k : ℤ) → SpellsItem word.now (without_bound k) → result ≡ Some k }
+{
+    let item = parse_item(word)?;
+    if item.bound.is_some() {
+        return None;
+    }
+    Some(item.answer)
+}
+
 // The number that a word writes, if it may stand in a list. Signs and zeros in front have no place
 // there, so the first byte is looked at first.
-fn parse_answer(word: &str) -> Option<i16>
-    ensures some { IfSome result (λ k. SpellsAnswer word.now k) }
-    ensures only { (k : ℤ) → SpellsAnswer word.now k → result ≡ Some k }
+fn parse_number(word: &str) -> Option<i16>
+    ensures some { IfSome result (λ k. SpellsNumber word.now k) }
+    ensures only { (k : ℤ) → SpellsNumber word.now k → result ≡ Some k }
 {
     let bytes = word.as_bytes();
     if bytes.is_empty() || bytes[0] < b'1' || bytes[0] > b'9' {

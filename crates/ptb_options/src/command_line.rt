@@ -3,7 +3,7 @@
 ghost use Rattle.std.specs.Prelude.{◌≡◌, IfOk, false, map};
 ghost use Rattle.clap.specs.Words.{FailsBy, app_of, fault_of, matches_of, rule_of};
 ghost use Rattle.ptb_options.specs.CommandLine.{flag, number_option, operand, text_option, tool};
-ghost use Rattle.ptb_options.specs.Options.{HasMemorySize, entries_of, options_of};
+ghost use Rattle.ptb_options.specs.Options.{HasBound, HasMemorySize, entries_of, options_of};
 ghost use Rattle.ptb_options.specs.Statuses.{refusal_status};
 
 use crate::help;
@@ -23,18 +23,22 @@ pub fn command<'a>(alloc: Global) -> Result<Command<'a>, AllocError>
 {
     let steps = value_parser!(u32).range(1..=1_000_000_000);
     let memory = value_parser!(u16).range(64..=32767);
+    let choose = value_parser!(u16).range(1..=32767);
     let seed = value_parser!(u64).range(0..=4_294_967_295);
     let first = value_parser!(u64).range(1..=1_000_000_000);
+    let form = value_parser!(u8).range(1..=2);
     Command::new(alloc, "ptb")
         .about(help::ABOUT)
         .after_help(help::AFTER)
         .arg(number_option(alloc, "steps", steps, help::STEPS))?
         .arg(number_option(alloc, "memory", memory, help::MEMORY))?
+        .arg(number_option(alloc, "choose", choose, help::CHOOSE))?
         .arg(text_option(alloc, "answers", help::ANSWERS))?
         .arg(number_option(alloc, "seed", seed, help::SEED))?
         .arg(flag(alloc, "all", help::ALL))?
         .arg(text_option(alloc, "after", help::ALL_AFTER))?
         .arg(number_option(alloc, "first", first, help::FIRST))?
+        .arg(number_option(alloc, "form", form, help::FORM))?
         .arg(flag(alloc, "list", help::LIST))?
         .arg(operand(alloc, "program", "PROGRAM", help::PROGRAM))
 }
@@ -48,6 +52,7 @@ pub fn parse<'a, S: AsStr>(alloc: Global, words: &'a [S]) -> Result<ArgMatches<'
     ensures entries { IfOk result (λ m.
         entries_of m ≡ matches_of tool (map S.text words.entry.now)) }
     ensures memory { IfOk result (λ m. HasMemorySize (options_of (entries_of m))) }
+    ensures bound { IfOk result (λ m. HasBound (options_of (entries_of m))) }
     ensures kinds { FailsBy (fault_of tool (map S.text words.entry.now)) result }
 {
     command(alloc)?.try_get_matches_from(words)

@@ -1,17 +1,20 @@
 // This file decides what the words of the command line ask for.
 
-ghost use Rattle.std.specs.Prelude.{◌≡◌, None, IfErr, IfOk};
+ghost use Rattle.std.specs.Prelude.{◌≡◌, ◌≤◌, ◌≤ℤ◌, pos, None, IfErr, IfOk, IfSome, option_map, unwrap_or, codes};
 ghost use Rattle.std.specs.Option.{option_copied};
 ghost use Rattle.ptb_text.specs.Statements.{IsMemorySize};
-ghost use Rattle.ptb_options.specs.Options.{Asks, AsksMode, HasMemorySize, Refuses, RefusesList};
-ghost use Rattle.ptb_options.specs.Options.{SpellsIfGiven, clash, entries_of, is_given, list_of};
-ghost use Rattle.ptb_options.specs.Options.{options_of};
+ghost use Rattle.ptb_options.specs.AnswerLists.{HasNoAnswers, IsMisspelled, SpellsAnswers};
+ghost use Rattle.ptb_options.specs.Options.{Asks, AsksMode, HasBound, HasMemorySize, Refuses};
+ghost use Rattle.ptb_options.specs.Options.{RefusesList, RefusesLists, SpellsIfGiven, rules_of};
+ghost use Rattle.ptb_options.specs.Options.{clash, entries_of, form_of, is_given, options_of};
 
-use crate::answers::{Answers, ListFault, parse_answers};
+use crate::answers::{Answers, ListFault, MarkedAnswers, parse_answers, parse_list};
 use crate::request::{DEFAULT_MEMORY, DEFAULT_STEPS, Mode, Request};
 use crate::usage::UsageFault;
 use clap::ArgMatches;
 use clap::parser::ValueSource;
+use ptb_explore::Form;
+use ptb_machine::Rules;
 use std::alloc::Global;
 use std::marker::Model;
 
@@ -21,20 +24,22 @@ use std::marker::Model;
 ///
 /// The first that applies, in this order: [`UsageFault::ListWithOther`],
 /// [`UsageFault::AfterWithoutAll`], [`UsageFault::FirstWithoutAll`],
-/// [`UsageFault::AnswersWithAll`], [`UsageFault::SeedWithAll`], [`UsageFault::SeedWithAnswers`],
-/// [`UsageFault::BadList`]. [`UsageFault::Memory`] comes only while a list is kept.
+/// [`UsageFault::FormWithoutAll`], [`UsageFault::AnswersWithAll`], [`UsageFault::SeedWithAll`],
+/// [`UsageFault::SeedWithAnswers`], [`UsageFault::BadList`]. [`UsageFault::Memory`] comes only while a list is kept.
 pub fn decide(alloc: Global, matches: &ArgMatches<'_>) -> Result<Request, UsageFault>
-    requires { HasMemorySize (options_of (entries_of matches.now)) }
+    requires memory { HasMemorySize (options_of (entries_of matches.now)) }
+    requires bound { HasBound (options_of (entries_of matches.now)) }
     ensures ok { IfOk result (Asks (options_of (entries_of matches.now))) }
     ensures fault { IfErr result (Refuses (options_of (entries_of matches.now))) }
     ensures memory { IfOk result (λ r. IsMemorySize r.memory) }
+    ensures bound { IfOk result (λ r. IfSome r.rules.choose (λ n. pos 1 ≤ℤ n)) }
 {
     let line = GivenOptions::of(matches);
     if let Some(fault) = line.clash() {
         return Err(fault);
     }
     Ok(Request {
-        steps: line.steps.unwrap_or(DEFAULT_STEPS),
+        rules: line.rules(),
         memory: line.memory.unwrap_or(DEFAULT_MEMORY),
         mode: line.mode(alloc)?,
     })
@@ -45,11 +50,13 @@ pub fn decide(alloc: Global, matches: &ArgMatches<'_>) -> Result<Request, UsageF
 struct GivenOptions<'a> {
     steps: Option<u32>,
     memory: Option<u16>,
+    choose: Option<u16>,
     answers: Option<&'a str>,
     seed: Option<u64>,
     all: bool,
     after: Option<&'a str>,
     first: Option<u64>,
+    form: Option<u8>,
     list: bool,
 }
 
@@ -62,11 +69,13 @@ impl<'a> Model for GivenOptions<'a> {
     ghost view = { λ line. record {
       steps = line.steps;
       memory = line.memory;
+      choose = line.choose;
       answers = option_copied line.answers;
       seed = line.seed;
       all = line.all;
       after = option_copied line.after;
       first = line.first;
+      form = line.form;
       list = line.list;
     } };
 }
@@ -79,11 +88,13 @@ impl<'a> GivenOptions<'a> {
         GivenOptions {
             steps: matches.get_one("steps"),
             memory: matches.get_one("memory"),
+            choose: matches.get_one("choose"),
             answers: matches.get_str("answers"),
             seed: matches.get_one("seed"),
             all: is_given(matches, "all"),
             after: matches.get_str("after"),
             first: matches.get_one("first"),
+            form: matches.get_one("form"),
             list: is_given(matches, "list"),
         }
     }
@@ -94,12 +105,15 @@ impl<'a> GivenOptions<'a> {
     {
         let (answers, after) = (self.answers.is_some(), self.after.is_some());
         let (seed, first) = (self.seed.is_some(), self.first.is_some());
-        if self.list && (self.all || answers || seed || after || first) {
+        let (form, choose) = (self.form.is_some(), self.choose.is_some());
+        if self.list && (self.all || answers || seed || after || first || form || choose) {
             Some(UsageFault::ListWithOther)
         } else if after && !self.all {
             Some(UsageFault::AfterWithoutAll)
         } else if first && !self.all {
             Some(UsageFault::FirstWithoutAll)
+        } else if form && !self.all {
+            Some(UsageFault::FormWithoutAll)
         } else if answers && self.all {
             Some(UsageFault::AnswersWithAll)
         } else if seed && self.all {
@@ -111,11 +125,32 @@ impl<'a> GivenOptions<'a> {
         }
     }
 
+    // The rules of runs.
+    fn rules(&self) -> Rules
+        requires { HasBound self.now }
+        ensures { result ≡ rules_of self.now }
+    {
+        Rules {
+            limit: self.steps.unwrap_or(DEFAULT_STEPS),
+            choose: bound(self.choose),
+        }
+    }
+
+    // How reports have the answers.
+    fn form(&self) -> Form
+        ensures { result ≡ form_of self.now.form }
+    {
+        match self.form {
+            Some(1) => Form::One,
+            _ => Form::Two,
+        }
+    }
+
     // What options that don't clash ask to be done with the program.
     fn mode(&self, alloc: Global) -> Result<Mode, ListFault>
         requires { clash self.now ≡ None }
         ensures ok { IfOk result (AsksMode self.now) }
-        ensures fault { IfErr result (RefusesList (list_of self.now)) }
+        ensures fault { IfErr result (RefusesLists self.now) }
     {
         if self.list {
             return Ok(Mode::List);
@@ -124,26 +159,46 @@ impl<'a> GivenOptions<'a> {
             return Ok(Mode::All {
                 after: list(alloc, self.after)?,
                 first: self.first,
+                form: self.form(),
             });
         }
         if let Some(seed) = self.seed {
             return Ok(Mode::Seeded(seed));
         }
-        match list(alloc, self.answers)? {
-            Some(answers) => Ok(Mode::Plain(answers)),
-            None => Ok(Mode::Plain(Vec::new(alloc).into())),
-        }
+        Ok(Mode::Plain(answers(alloc, self.answers)?))
+    }
+}
+
+// A bound as a number of the language, if there is one.
+fn bound(number: Option<u16>) -> Option<i16>
+    requires { IfSome number (λ n. n ≤ 32767) }
+    ensures { result ≡ option_map pos number }
+{
+    match number {
+        Some(number) => i16::try_from(number).ok(),
+        None => None,
     }
 }
 
 // The list that a text spells, if there is a text.
-fn list(alloc: Global, text: Option<&str>) -> Result<Option<Answers>, ListFault>
+fn list(alloc: Global, text: Option<&str>) -> Result<Option<MarkedAnswers>, ListFault>
     ensures ok { IfOk result (SpellsIfGiven (option_copied text.entry)) }
-    ensures fault { IfErr result (RefusesList (option_copied text.entry)) }
+    ensures fault { IfErr result (RefusesList IsMisspelled (option_copied text.entry)) }
 {
     match text {
-        Some(text) => Ok(Some(parse_answers(alloc, text)?)),
+        Some(text) => Ok(Some(parse_list(alloc, text)?)),
         None => Ok(None),
+    }
+}
+
+// The answers that a text spells; none where there is no text.
+fn answers(alloc: Global, text: Option<&str>) -> Result<Answers, ListFault>
+    ensures ok { IfOk result (SpellsAnswers (unwrap_or (option_copied text.entry) (codes "none"))) }
+    ensures fault { IfErr result (RefusesList HasNoAnswers (option_copied text.entry)) }
+{
+    match text {
+        Some(text) => parse_answers(alloc, text),
+        None => Ok(Vec::new(alloc).into()),
     }
 }
 

@@ -9,6 +9,10 @@ pub const STEPS: &str = "Begin at most N commands, 1 to 1000000000 [default: 100
 /// The help of `--memory`.
 pub const MEMORY: &str = "Give the program N bytes of memory, 64 to 32767 [default: 4096]";
 
+/// The help of `--choose`.
+pub const CHOOSE: &str =
+    "Where INPUT finds no line left, ask for an answer from 1 to N instead, N 1 to 32767";
+
 /// The help of `--answers`.
 pub const ANSWERS: &str =
     "Answer the questions of RND with these numbers, in order [default: none]";
@@ -26,6 +30,10 @@ pub const ALL_AFTER: &str = "With --all, begin after the run with these answers"
 /// The help of `--first`.
 pub const FIRST: &str = "With --all, write at most N reports, 1 to 1000000000";
 
+/// The help of `--form`.
+pub const FORM: &str =
+    "With --all, write answers alone (1), or each followed by / and its bound (2) [default: 2]";
+
 /// The help of `--list`.
 pub const LIST: &str = "Write the program's lines in the order of their numbers, and run nothing";
 
@@ -35,7 +43,8 @@ pub const PROGRAM: &str =
 
 /// What stands behind the options: how lists are written, the statuses, and examples.
 pub const AFTER: &str = "\
-A LIST is none, or numbers from 1 to 32767 with commas between them, as 2,1,6.
+A LIST is none, or numbers from 1 to 32767 with commas between them, as 2,1,6. In that of
+--after an answer may have its bound behind it, as 2/2,1/3.
 
 With PROGRAM the lines of standard input answer INPUT.
 
@@ -44,7 +53,7 @@ Status:
    1 2 3  the program ended with WHAT?, HOW? or SORRY
    4      it had begun as many commands as it may
    5      INPUT found no line left
-   6 7    RND found no answer left, or one that is out of its range
+   6 7    a question of RND, or of INPUT with --choose, has no answer, or a wrong one
   64      these words ask for nothing
   65      a line of the program is refused, or the program is too long
   66      the program or the input can't be read, or the input is too long

@@ -1,8 +1,10 @@
 //! What the words of the command line ask for.
 //!
-//! It stands on `ptb_expr` and `ptb_text`, of which it takes definitions alone, and on `clap` and
-//! `thiserror`. The crates above may rely on `parse` (what clap finds in the words, or its error)
-//! and on `decide` (the request that the options make, or the first fault of them).
+//! It stands on `ptb_machine`, of which it takes what the rules of a run are, on `ptb_explore`, of
+//! which it takes the forms of reports and how lists of answers are written, on definitions of
+//! `ptb_expr` and `ptb_text`, and on `clap` and `thiserror`. The crates above may rely on `parse`
+//! (what clap finds in the words, or its error) and on `decide` (the request that the options make,
+//! or the first fault of them).
 #![tactic(auto)]
 
 mod answers;
@@ -12,7 +14,7 @@ mod help;
 mod request;
 mod usage;
 
-pub use answers::{Answers, ListFault, parse_answers};
+pub use answers::{Answers, ListFault, MarkedAnswers, parse_answers, parse_list};
 pub use command_line::{command, parse, refusal_status};
 pub use deciding::decide;
 pub use request::{DEFAULT_MEMORY, DEFAULT_STEPS, Mode, Request};

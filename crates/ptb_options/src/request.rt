@@ -1,6 +1,8 @@
 // This file says what the tool is asked to do.
 
-use crate::answers::Answers;
+use crate::answers::{Answers, MarkedAnswers};
+use ptb_explore::Form;
+use ptb_machine::Rules;
 
 /// The most commands that a run begins, where `--steps` is left out.
 pub const DEFAULT_STEPS: u32 = 10_000;
@@ -17,11 +19,14 @@ pub enum Mode {
     Seeded(u64),
     /// All its runs are listed.
     All {
-        /// The run after which the listing begins; from the first run on where there is none.
-        after: Option<Answers>,
+        /// The run after which the listing begins, of whose answers some may have their bounds; from
+        /// the first run on where there is none.
+        after: Option<MarkedAnswers>,
         /// The number of runs that are listed, if there are that many; all of them where there is
         /// none.
         first: Option<u64>,
+        /// How the reports have the answers.
+        form: Form,
     },
     /// Its text is listed.
     List,
@@ -30,8 +35,9 @@ pub enum Mode {
 /// What the tool is asked to do.
 #[derive(Debug, Drop)]
 pub struct Request {
-    /// The most commands that a run begins, 1 to 1,000,000,000.
-    pub steps: u32,
+    /// By which its runs are played: the most commands that a run begins, 1 to 1,000,000,000, and the
+    /// bound with which INPUT asks for an answer where no line is left, if it does, 1 to 32767.
+    pub rules: Rules,
     /// The memory that the program is given, 64 to 32767.
     pub memory: u16,
     /// What is done with the program.

@@ -1,11 +1,12 @@
 // This file tests the command line, from its words to the request or the line that refuses them.
 
-use crate::answers::{Answers, ListFault, parse_answers};
+use crate::answers::{Answers, ListFault, MarkedAnswers, parse_answers, parse_list};
 use crate::command_line;
 use crate::deciding::decide;
 use crate::request::{Mode, Request};
 use crate::usage::UsageFault;
 use clap::error::ErrorKind;
+use ptb_explore::{Form, Marked};
 use std::alloc::Global;
 use std::test::Fail;
 
@@ -22,7 +23,12 @@ fn asked(alloc: Global, words: &[&str]) -> Result<Result<Request, UsageFault>, c
 
 #[test]
 fn options_that_clash(rt: HostRuntime) -> Result<(), Fail> {
-    let table: [(&[&str], UsageFault, &str); 18] = [
+    let table: [(&[&str], UsageFault, &str); 24] = [
+        (
+            &["--list", "--choose", "2"],
+            UsageFault::ListWithOther,
+            "ptb: --list stands alone",
+        ),
         (
             &["--list", "--after", "1"],
             UsageFault::ListWithOther,
@@ -113,6 +119,31 @@ fn options_that_clash(rt: HostRuntime) -> Result<(), Fail> {
             UsageFault::BadList,
             "ptb: bad list",
         ),
+        (
+            &["--form", "1"],
+            UsageFault::FormWithoutAll,
+            "ptb: --form needs --all",
+        ),
+        (
+            &["--form", "2", "--answers", "x"],
+            UsageFault::FormWithoutAll,
+            "ptb: --form needs --all",
+        ),
+        (
+            &["--form", "2", "--seed", "1", "--answers", "1"],
+            UsageFault::FormWithoutAll,
+            "ptb: --form needs --all",
+        ),
+        (
+            &["--form", "1", "--first", "1"],
+            UsageFault::FirstWithoutAll,
+            "ptb: --first needs --all",
+        ),
+        (
+            &["--list", "--form", "1"],
+            UsageFault::ListWithOther,
+            "ptb: --list stands alone",
+        ),
     ];
     for (words, fault, line) in table {
         let found = asked(rt.alloc(), words)?.err();
@@ -153,6 +184,16 @@ fn lists_that_are_none(rt: HostRuntime) -> Result<(), Fail> {
         "NONE",
         "1;2",
         "0x1",
+        "1/",
+        "/2",
+        "1/0",
+        "1/02",
+        "1/32768",
+        "0/2",
+        "1/2/3",
+        "1/ 2",
+        "2/2,1/",
+        "none/1",
     ];
     for text in texts {
         let word = format!(in rt.alloc(); "--answers={text}")?;
@@ -163,6 +204,19 @@ fn lists_that_are_none(rt: HostRuntime) -> Result<(), Fail> {
             Some(ListFault::Bad),
             "{text:?}"
         );
+        let word = format!(in rt.alloc(); "--after={text}")?;
+        let found = asked(rt.alloc(), &["--all", word.as_str()])?.err();
+        assert_eq!(rt; found, Some(UsageFault::BadList), "{text:?}");
+        assert_eq!(rt;
+            parse_list(rt.alloc(), text).err(),
+            Some(ListFault::Bad),
+            "{text:?}"
+        );
+    }
+    for text in ["1/1", "2,1/3", "2/2,1/3"] {
+        let word = format!(in rt.alloc(); "--answers={text}")?;
+        let found = asked(rt.alloc(), &[word.as_str()])?.err();
+        assert_eq!(rt; found, Some(UsageFault::BadList), "{text:?}");
     }
     let empty = asked(rt.alloc(), &["--answers", ""])?.err();
     assert_eq!(rt; empty, Some(UsageFault::BadList));
@@ -192,6 +246,34 @@ fn lists_of_answers(rt: HostRuntime) -> Result<(), Fail> {
     Ok(())
 }
 
+// An answer, and the bound that is stated of it, if one is.
+fn marked(answer: i16, bound: Option<i16>) -> Marked {
+    Marked { answer, bound }
+}
+
+#[test]
+fn lists_with_bounds(rt: HostRuntime) -> Result<(), Fail> {
+    let table: [(&str, &[Marked]); 5] = [
+        ("none", &[]),
+        ("1", &[marked(1, None)]),
+        ("2/2,1", &[marked(2, Some(2)), marked(1, None)]),
+        ("2,1/3", &[marked(2, None), marked(1, Some(3))]),
+        (
+            "9/7,32767/32767",
+            &[marked(9, Some(7)), marked(32767, Some(32767))],
+        ),
+    ];
+    for (text, want) in table {
+        let list = parse_list(rt.alloc(), text)?;
+        assert_eq!(rt; list.as_slice(), want, "{text}");
+        assert_eq!(rt; list.into_vec().as_slice(), want, "{text}");
+    }
+    let want = [marked(7, Some(-7))];
+    let made = MarkedAnswers::from(Vec::from_slice(rt.alloc(), &want)?);
+    assert_eq!(rt; made.as_slice(), want.as_slice());
+    Ok(())
+}
+
 #[test]
 fn plain_requests(rt: HostRuntime) -> Result<(), Fail> {
     let table: [(&[&str], u32, u16, &[i16]); 4] = [
@@ -208,7 +290,7 @@ fn plain_requests(rt: HostRuntime) -> Result<(), Fail> {
     for (words, steps, memory, want) in table {
         let request = asked(rt.alloc(), words)??;
         assert_eq!(rt;
-            (request.steps, request.memory),
+            (request.rules.limit, request.memory),
             (steps, memory),
             "{words:?}"
         );
@@ -216,6 +298,23 @@ fn plain_requests(rt: HostRuntime) -> Result<(), Fail> {
             panic!(rt; "{words:?} is no plain run");
         };
         assert_eq!(rt; answers.as_slice(), want, "{words:?}");
+    }
+    Ok(())
+}
+
+// With --choose INPUT asks for answers, in one run as in all.
+#[test]
+fn bounds_for_missing_lines(rt: HostRuntime) -> Result<(), Fail> {
+    let table: [(&[&str], u32, Option<i16>); 5] = [
+        (&[], 10000, None),
+        (&["--choose", "1"], 10000, Some(1)),
+        (&["--choose=32767", "--steps", "7"], 7, Some(32767)),
+        (&["--all", "--choose", "8"], 10000, Some(8)),
+        (&["--choose", "2", "--answers", "2"], 10000, Some(2)),
+    ];
+    for (words, limit, choose) in table {
+        let rules = asked(rt.alloc(), words)??.rules;
+        assert_eq!(rt; (rules.limit, rules.choose), (limit, choose), "{words:?}");
     }
     Ok(())
 }
@@ -230,7 +329,11 @@ fn seeded_requests(rt: HostRuntime) -> Result<(), Fail> {
     ];
     for (words, steps, want) in table {
         let request = asked(rt.alloc(), words)??;
-        assert_eq!(rt; (request.steps, request.memory), (steps, 4096), "{words:?}");
+        assert_eq!(rt;
+            (request.rules.limit, request.memory),
+            (steps, 4096),
+            "{words:?}"
+        );
         let Mode::Seeded(seed) = request.mode else {
             panic!(rt; "{words:?} is no run by a seed");
         };
@@ -241,26 +344,30 @@ fn seeded_requests(rt: HostRuntime) -> Result<(), Fail> {
 
 #[test]
 fn requests_for_all_runs(rt: HostRuntime) -> Result<(), Fail> {
-    let table: [(&[&str], Option<&[i16]>, Option<u64>); 4] = [
-        (&["--all"], None, None),
-        (&["--all", "--after", "none"], Some(&[]), None),
+    let table: [(&[&str], Option<&[Marked]>, Option<u64>, Form); 6] = [
+        (&["--all"], None, None, Form::Two),
+        (&["--all", "--after", "none"], Some(&[]), None, Form::Two),
         (
-            &["--all", "--after", "1,1", "--first", "2"],
-            Some(&[1, 1]),
+            &["--all", "--after", "1,1/2", "--first", "2"],
+            Some(&[marked(1, None), marked(1, Some(2))]),
             Some(2),
+            Form::Two,
         ),
         (
             &["--first", "1000000000", "--all"],
             None,
             Some(1_000_000_000),
+            Form::Two,
         ),
+        (&["--all", "--form", "1"], None, None, Form::One),
+        (&["--form=2", "--all"], None, None, Form::Two),
     ];
-    for (words, want, most) in table {
+    for (words, want, most, due) in table {
         let request = asked(rt.alloc(), words)??;
-        let Mode::All { after, first } = request.mode else {
+        let Mode::All { after, first, form } = request.mode else {
             panic!(rt; "{words:?} is no listing of runs");
         };
-        assert_eq!(rt; first, most, "{words:?}");
+        assert_eq!(rt; (first, form), (most, due), "{words:?}");
         match (after, want) {
             (Some(after), Some(want)) => assert_eq!(rt; after.as_slice(), want, "{words:?}"),
             (after, want) => assert!(rt; after.is_none() && want.is_none(), "{words:?}"),
@@ -272,19 +379,22 @@ fn requests_for_all_runs(rt: HostRuntime) -> Result<(), Fail> {
 #[test]
 fn requests_for_a_listing(rt: HostRuntime) -> Result<(), Fail> {
     let request = asked(rt.alloc(), &["--list", "--steps", "5", "--memory", "64"])??;
-    assert_eq!(rt; (request.steps, request.memory), (5, 64));
+    assert_eq!(rt; (request.rules.limit, request.memory), (5, 64));
     assert!(rt; matches!(request.mode, Mode::List));
     Ok(())
 }
 
 #[test]
 fn words_that_clap_refuses(rt: HostRuntime) {
-    let table: [(&[&str], ErrorKind, u8); 17] = [
+    let table: [(&[&str], ErrorKind, u8); 23] = [
         (&["--steps", "0"], ErrorKind::ValueValidation, 64),
         (&["--steps", "1000000001"], ErrorKind::ValueValidation, 64),
         (&["--steps", "1,000"], ErrorKind::ValueValidation, 64),
         (&["--memory", "63"], ErrorKind::ValueValidation, 64),
         (&["--memory", "32768"], ErrorKind::ValueValidation, 64),
+        (&["--choose", "0"], ErrorKind::ValueValidation, 64),
+        (&["--choose", "32768"], ErrorKind::ValueValidation, 64),
+        (&["--choose", "none"], ErrorKind::ValueValidation, 64),
         (&["--first", "0", "--all"], ErrorKind::ValueValidation, 64),
         (
             &["--first", "1000000001", "--all"],
@@ -294,6 +404,9 @@ fn words_that_clap_refuses(rt: HostRuntime) {
         (&["--seed", "4294967296"], ErrorKind::ValueValidation, 64),
         (&["--seed=-1"], ErrorKind::ValueValidation, 64),
         (&["--seed", "x"], ErrorKind::ValueValidation, 64),
+        (&["--form", "0", "--all"], ErrorKind::ValueValidation, 64),
+        (&["--form", "3", "--all"], ErrorKind::ValueValidation, 64),
+        (&["--form", "two", "--all"], ErrorKind::ValueValidation, 64),
         (&["--steps"], ErrorKind::InvalidValue, 64),
         (&["--seed"], ErrorKind::InvalidValue, 64),
         (&["--stops", "1"], ErrorKind::UnknownArgument, 64),
@@ -325,6 +438,8 @@ fn help_names_each_option(rt: HostRuntime) -> Result<(), Fail> {
         "--memory <N>",
         "64 to 32767",
         "4096",
+        "--choose <N>",
+        "1 to 32767",
         "--answers <LIST>",
         "none",
         "--seed <N>",
@@ -332,6 +447,8 @@ fn help_names_each_option(rt: HostRuntime) -> Result<(), Fail> {
         "--all",
         "--after <LIST>",
         "--first <N>",
+        "--form <N>",
+        "default: 2",
         "--list",
         "[PROGRAM]",
         "Status:",

@@ -19,7 +19,7 @@ pub enum UsageFault {
     /// `--answers` stands beside `--all`.
     #[error("ptb: --answers excludes --all")]
     AnswersWithAll,
-    /// `--list` stands beside `--all`, `--answers`, `--seed`, `--after` or `--first`.
+    /// `--list` stands beside `--all`, `--answers`, `--seed`, `--after`, `--first`, `--form` or `--choose`.
     #[error("ptb: --list stands alone")]
     ListWithOther,
     /// A list of answers isn't spelled as one.
@@ -34,6 +34,9 @@ pub enum UsageFault {
     /// `--seed` stands beside `--answers`.
     #[error("ptb: --seed excludes --answers")]
     SeedWithAnswers,
+    /// `--form` stands without `--all`.
+    #[error("ptb: --form needs --all")]
+    FormWithoutAll,
 }
 
 impl UsageFault {

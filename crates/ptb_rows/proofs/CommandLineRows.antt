@@ -13,6 +13,11 @@ clash_rows = record {
   after_alone = refl;
   after_and_first = refl;
   first_alone = refl;
+  form_alone = refl;
+  form_and_first = refl;
+  form_and_seed = refl;
+  form_listing = refl;
+  form_and_all = refl;
   answers_and_all = refl;
   seed_listing = refl;
   seed_and_after = refl;
@@ -20,6 +25,9 @@ clash_rows = record {
   seed_and_all = refl;
   seed_and_answers = refl;
   seed_alone = refl;
+  choice_listing = refl;
+  choice_and_all = refl;
+  choice_alone = refl;
   steps_listing = refl;
 }
 
@@ -31,6 +39,8 @@ option_rows = record {
   numbers = refl;
   lists = refl;
   seed = refl;
+  choice = refl;
+  form = refl;
   switches = refl;
 }
 
@@ -50,6 +60,10 @@ fault_rows = record {
   least_seed = refl;
   most_seed = refl;
   great_seed = refl;
+  no_choice = refl;
+  least_choice = refl;
+  most_choices = refl;
+  many_choices = refl;
   no_number = refl;
   unknown = refl;
   second_operand = refl;

@@ -2,11 +2,13 @@
 pub mod OnPrograms
 pub mod RunRows
 pub mod SeedRows
+pub mod ChoiceRows
 pub mod ProgramRows
 pub mod ExampleRows
 pub mod LongRunRows
 pub mod AllRows
 pub mod AfterRows
+pub mod BoundRows
 pub mod TextRows
 pub mod CommandLineRows
 pub mod ListRows

@@ -1,11 +1,11 @@
 -- This file has worked rows of the whole tool and of its command line.
-use Rattle.std.specs.Prelude.{◌≡◌, ℕ, List, [], ◌∷◌, ◌++◌, Bool, true, Option, Some, None, Ok, Err, ℤ, pos, codes, flat_map, replicate}
+use Rattle.std.specs.Prelude.{◌≡◌, ℕ, List, [], ◌∷◌, ◌++◌, Bool, true, Option, Some, None, Ok, Err, ℤ, pos, codes, flat_map, replicate, option_map}
 use Rattle.ptb_text.specs.declared.fault.LoadFault.TheVariants.{NoNumber, NumberTooBig, TextTooLong, Full, BadByte}
 use Rattle.clap.specs.Words.{fault_of, matches_of}
 use Rattle.clap.specs.declared.error.ErrorKind.{ErrorKind}
 use Rattle.clap.specs.declared.error.ErrorKind.TheVariants.{ArgumentConflict, DisplayHelp, UnknownArgument, ValueValidation}
-use Rattle.ptb_options.specs.declared.usage.UsageFault.TheVariants.{ListWithOther, AfterWithoutAll, FirstWithoutAll, AnswersWithAll, SeedWithAll, SeedWithAnswers}
-use Rattle.ptb_options.specs.AnswerLists.{SpellsList, IsMisspelled}
+use Rattle.ptb_options.specs.declared.usage.UsageFault.TheVariants.{ListWithOther, AfterWithoutAll, FirstWithoutAll, FormWithoutAll, AnswersWithAll, SeedWithAll, SeedWithAnswers}
+use Rattle.ptb_options.specs.AnswerLists.{SpellsList, SpellsAnswers, IsMisspelled, HasNoAnswers}
 use Rattle.ptb_options.specs.CommandLine.{tool}
 use Rattle.ptb_options.specs.Options.{default_memory, default_steps, Options, no_options, options_of, clash}
 use Rattle.ptb_serve.specs.declared.note.Note.TheVariants as notes
@@ -14,7 +14,12 @@ use Rattle.ptb_options.specs.declared.request.Request.{Request}
 use Rattle.ptb_serve.specs.Replies.{Reply, refusal, success, reply_to}
 use Rattle.ptb_text.specs.Statements.{program}
 use Rattle.ptb_expr.specs.Outcome.{is_whole}
+use Rattle.ptb_machine.specs.declared.rules.Rules.{Rules}
 use Rattle.ptb_machine.specs.Play.{play}
+use Rattle.ptb_explore.specs.declared.form.Form.{Form}
+use Rattle.ptb_explore.specs.declared.form.Form.TheVariants.{One, Two}
+use Rattle.ptb_explore.specs.declared.form.Marked.{Marked}
+use Rattle.ptb_explore.specs.AnswerText.{unmarked, with_bound, without_bound}
 use Rattle.ptb_explore.specs.Report.{report}
 
 -- a text of these lines
@@ -24,25 +29,39 @@ text lines = flat_map (λ l. l ++ 10 ∷ []) lines
 abbrev pub one_line : List ℕ → List ℕ
 one_line l = text (l ∷ [])
 
--- requests with the steps and the memory of one that gives none
+-- the rules of a request that gives neither steps nor a bound for answers in place of lines
+abbrev pub default_rules : Rules
+default_rules = record { limit = default_steps; choose = None }
+
+abbrev pub limited : ℕ → Request → Request
+limited steps request = record request { rules = record default_rules { limit = steps } }
+
+abbrev pub choosing : ℤ → Request → Request
+choosing bound request = record request { rules = record default_rules { choose = Some bound } }
+
+-- requests with the rules and the memory of one that gives none
 abbrev pub run : List ℤ → Request
-run answers = record { steps = default_steps; memory = default_memory; mode = modes.Plain answers }
+run answers = record { rules = default_rules; memory = default_memory; mode = modes.Plain answers }
 
 abbrev pub seeded : ℕ → Request
-seeded seed = record { steps = default_steps; memory = default_memory; mode = modes.Seeded seed }
+seeded seed = record { rules = default_rules; memory = default_memory; mode = modes.Seeded seed }
 
 -- all runs, or the first n of those behind a run
-abbrev pub all : Request
-all = record { steps = default_steps; memory = default_memory; mode = modes.All None None }
+abbrev pub all_in : Form → Option (List Marked) → Option ℕ → Request
+all_in form after first = record { rules = default_rules; memory = default_memory; mode = modes.All after first form }
 
+-- in form 1
 abbrev pub all_from : Option (List ℤ) → Option ℕ → Request
-all_from after first = record { steps = default_steps; memory = default_memory; mode = modes.All after first }
+all_from after first = all_in One (option_map unmarked after) first
+
+abbrev pub all : Request
+all = all_from None None
 
 abbrev pub behind : List ℤ → Request
 behind a = all_from (Some a) None
 
 abbrev pub list : Request
-list = record { steps = default_steps; memory = default_memory; mode = modes.List }
+list = record { rules = default_rules; memory = default_memory; mode = modes.List }
 
 -- the report of a run whose answers are 69 times 1 and then these
 abbrev pub long_report : List ℕ → List ℕ
@@ -58,7 +77,7 @@ pub record RunRows : Type 0 where
   pub answers_left : reply_to (run (pos 1 ∷ pos 9 ∷ [])) (codes "10 P.RND(2)") [] ≡ run_end (one_line (codes "     1")) 0
   pub no_answer : reply_to (run []) (codes "10 P.RND(2)") [] ≡ run_end [] 6
   pub bad_answer : reply_to (run (pos 3 ∷ [])) (codes "10 P.RND(2)") [] ≡ run_end [] 7
-  pub limit : reply_to (record (run []) { steps = 5 }) (codes "10 GOTO 10") [] ≡ run_end [] 4
+  pub limit : reply_to (limited 5 (run [])) (codes "10 GOTO 10") [] ≡ run_end [] 4
   pub fault : reply_to (run []) (codes "10 PRINT -(-32767-1)") [] ≡ run_end (text (codes "HOW?" ∷ codes "10 PRINT -(-32767-1)?" ∷ [])) 2
   pub input : reply_to (run []) (codes "10 INPUT A") (text (codes ")" ∷ codes "5" ∷ [])) ≡ run_end (text (codes "A:)" ∷ codes "WHAT?" ∷ codes "A:5" ∷ [])) 0
   pub no_input : reply_to (run []) (codes "10 INPUT A") (one_line (codes ")")) ≡ run_end (text (codes "A:)" ∷ codes "WHAT?" ∷ []) ++ codes "A:") 5
@@ -74,8 +93,32 @@ pub record SeedRows : Type 0 where
   pub rolled_input : reply_to (seeded 7) (codes "10 INPUT A;PRINT A") (one_line (codes "RND(6)")) ≡ run_end (text (codes "A:RND(6)" ∷ codes "     3" ∷ [])) 0
   pub no_input : reply_to (seeded 7) (codes "10 INPUT A") [] ≡ run_end (codes "A:") 5
   pub fault : reply_to (seeded 7) (codes "10 P.RND(0)") [] ≡ run_end (text (codes "HOW?" ∷ codes "10 P.RND(0)?" ∷ [])) 2
-  pub limit : reply_to (record (seeded 7) { steps = 5 }) (codes "10 A=RND(2);GOTO 10") [] ≡ run_end [] 4
+  pub limit : reply_to (limited 5 (seeded 7)) (codes "10 A=RND(2);GOTO 10") [] ≡ run_end [] 4
   pub refused : reply_to (seeded 7) (codes "0 P.") [] ≡ refusal (notes.Load 1 NoNumber)
+
+-- answers that stand in place of missing lines
+pub record ChoiceRows : Type 0 where
+  pub each_answer : reply_to (choosing (pos 2) all) (codes "10 INPUT A;PRINT A") [] ≡ success (codes "RUN 1 END 2 11\nA:1\n     1\n\nRUN 2 END 2 11\nA:2\n     2\n\n")
+  pub behind_faulty_line : reply_to (choosing (pos 2) all) (codes "10 INPUT A;PRINT A") (one_line (codes ")"))
+      ≡ success (codes "RUN 1 END 2 21\nA:)\nWHAT?\nA:1\n     1\n\nRUN 2 END 2 21\nA:)\nWHAT?\nA:2\n     2\n\n")
+  pub index_and_value : reply_to (choosing (pos 2) all) (codes "10 INPUT @(RND(2)-1)") [] ≡ success (
+      codes "RUN 1,1 END 1 14\n@(RND(2)-1):1\n\n" ++ codes "RUN 1,2 END 1 14\n@(RND(2)-1):2\n\n"
+      ++ codes "RUN 2,1 END 1 14\n@(RND(2)-1):1\n\n" ++ codes "RUN 2,2 END 1 14\n@(RND(2)-1):2\n\n")
+  pub no_answer : reply_to (choosing (pos 2) (run [])) (codes "10 INPUT A;PRINT A") [] ≡ run_end (codes "A:") 6
+  pub bad_answer : reply_to (choosing (pos 2) (run (pos 3 ∷ []))) (codes "10 INPUT A;PRINT A") [] ≡ run_end (codes "A:") 7
+  pub answer : reply_to (choosing (pos 2) (run (pos 2 ∷ []))) (codes "10 INPUT A;PRINT A") [] ≡ run_end (codes "A:2\n     2\n") 0
+  -- a line that is left is taken first
+  pub line_first : reply_to (choosing (pos 9) (run (pos 9 ∷ []))) (codes "10 INPUT A,B;PRINT A-B") (codes "5\n") ≡ run_end (codes "A:5\nB:9\n    -4\n") 0
+  pub no_line_asked_for : reply_to (choosing (pos 9) all) (codes "10 PRINT 1") [] ≡ success (codes "RUN none END 1 7\n     1\n\n")
+  pub only_answer : reply_to (choosing (pos 1) all) (codes "10 INPUT A") [] ≡ success (codes "RUN 1 END 1 4\nA:1\n\n")
+  pub greatest : reply_to (choosing (pos 32767) (run (pos 32767 ∷ []))) (codes "10 INPUT A") [] ≡ run_end (codes "A:32767\n") 0
+  -- by a seed they are drawn as for RND
+  pub drawn : reply_to (choosing (pos 6) (seeded 7)) (codes "10 INPUT A;PRINT RND(6)") [] ≡ run_end (codes "A:3\n     5\n") 0
+  -- with the steps of a limit
+  pub limit : reply_to (record all { rules = record { limit = 1; choose = Some (pos 2) } }) (codes "10 INPUT A;PRINT A") [] ≡ success (codes "RUN 1 LIMIT 1 4\nA:1\n\nRUN 2 LIMIT 1 4\nA:2\n\n")
+  pub behind_first : reply_to (choosing (pos 2) (behind (pos 1 ∷ []))) (codes "10 INPUT A;PRINT A") [] ≡ success (codes "RUN 2 END 2 11\nA:2\n     2\n\n")
+  pub first_one : reply_to (choosing (pos 2) (all_from None (Some 1))) (codes "10 INPUT A;PRINT A") [] ≡ success (codes "RUN 1 END 2 11\nA:1\n     1\n\n")
+  pub behind_none : reply_to (choosing (pos 2) (behind (pos 3 ∷ []))) (codes "10 INPUT A;PRINT A") [] ≡ refusal notes.NoRun
 
 -- programs that run once
 pub record ProgramRows : Type 0 where
@@ -91,7 +134,7 @@ pub record ProgramRows : Type 0 where
   pub size : reply_to (run []) (codes "10 PRINT SIZE") [] ≡ run_end (codes "  4083\n") 0
   pub loop_of_subroutine : reply_to (run []) (codes "10 GOS.30;N.J\n30 F.J=1TO9;R.\n") [] ≡ run_end (codes "WHAT?\n10 GOS.30;N.J?\n") 1
   pub stop : reply_to (run []) (codes "10 GOSUB 40;P.1\n20 STOP\n40 P.2;RETURN\n") [] ≡ run_end (codes "     2\n     1\n") 0
-  pub end_at_limit : reply_to (record (run []) { steps = 1 }) (codes "10 P.1") [] ≡ run_end (codes "     1\n") 0
+  pub end_at_limit : reply_to (limited 1 (run [])) (codes "10 P.1") [] ≡ run_end (codes "     1\n") 0
   pub missing_line : reply_to (run []) (codes "10 INPUT A,B") (codes "5\n") ≡ run_end (codes "A:5\nB:") 5
 
 -- the examples of docs/LANGUAGE.md
@@ -110,7 +153,7 @@ pub record ExampleRows : Type 0 where
 abbrev pub run_of : List ℕ → ℕ → List ℤ → Option (Bool × List ℕ)
 run_of b limit a =
     elim (program default_memory b) [
-      | Ok p ↦ (let game = play (record { lines = p; memory = default_memory }) [] limit in Some (is_whole (game a), report game a))
+      | Ok p ↦ (let game = play (record { lines = p; memory = default_memory }) [] (record default_rules { limit = limit }) in Some (is_whole (game a), report One game a))
       | Err fault ↦ None
     ]
 
@@ -130,17 +173,17 @@ pub record AllRows : Type 0 where
   pub two_rolls : reply_to all (codes "10 PRINT RND(2)*RND(2)") [] ≡ success (codes "RUN 1,1 END 1 7\n     1\n\nRUN 1,2 END 1 7\n     2\n\nRUN 2,1 END 1 7\n     2\n\nRUN 2,2 END 1 7\n     4\n\n")
   pub roll_behind_if : reply_to all (codes "10 A=RND(2);IF A=2 B=RND(3);PRINT B") [] ≡ success (codes "RUN 1 END 2 0\n\nRUN 2,1 END 4 7\n     1\n\nRUN 2,2 END 4 7\n     2\n\nRUN 2,3 END 4 7\n     3\n\n")
   pub faulty_run : reply_to all (codes "10 A=RND(2)-1;B=RND(A)") [] ≡ success (codes "RUN 1 HOW 2 29\nHOW?\n10 A=RND(2)-1;B=RND(A)?\n\nRUN 2,1 END 2 0\n\n")
-  pub limit : reply_to (record all { steps = 5 }) (codes "10 GOTO 10") [] ≡ success (codes "RUN none LIMIT 5 0\n\n")
-  pub limit_between : reply_to (record all { steps = 1 }) (codes "10 A=RND(2);B=RND(2)") [] ≡ success (codes "RUN 1 LIMIT 1 0\n\nRUN 2 LIMIT 1 0\n\n")
+  pub limit : reply_to (limited 5 all) (codes "10 GOTO 10") [] ≡ success (codes "RUN none LIMIT 5 0\n\n")
+  pub limit_between : reply_to (limited 1 all) (codes "10 A=RND(2);B=RND(2)") [] ≡ success (codes "RUN 1 LIMIT 1 0\n\nRUN 2 LIMIT 1 0\n\n")
   pub rolled_input : reply_to all (codes "10 INPUT A;PRINT A") (one_line (codes "RND(2)")) ≡ success (codes "RUN 1 END 2 16\nA:RND(2)\n     1\n\nRUN 2 END 2 16\nA:RND(2)\n     2\n\n")
   pub no_input : reply_to all (codes "10 INPUT A") [] ≡ success (codes "RUN none NOINPUT 1 2\nA:\n")
   pub index_asked_again : reply_to all (codes "10 INPUT @(RND(2))") (text (codes ")" ∷ codes "5" ∷ [])) ≡ success (
       codes "RUN 1,1 END 1 30\n@(RND(2)):)\nWHAT?\n@(RND(2)):5\n\n" ++ codes "RUN 1,2 END 1 30\n@(RND(2)):)\nWHAT?\n@(RND(2)):5\n\n"
       ++ codes "RUN 2,1 END 1 30\n@(RND(2)):)\nWHAT?\n@(RND(2)):5\n\n" ++ codes "RUN 2,2 END 1 30\n@(RND(2)):)\nWHAT?\n@(RND(2)):5\n\n")
-  pub endless_calls : reply_to all (codes "10 GOSUB 10") [] ≡ success (codes "RUN none SORRY 65 19\nSORRY\n10 GOSUB 10?\n\n")
+  pub endless_calls : reply_to all (codes "10 GOSUB 10") [] ≡ success (codes "RUN none SORRY 257 19\nSORRY\n10 GOSUB 10?\n\n")
   pub only_answer : reply_to all (codes "10 A=RND(1)") [] ≡ success (codes "RUN 1 END 1 0\n\n")
-  pub end_at_limit : reply_to (record all { steps = 1 }) (codes "10 P.1") [] ≡ success (codes "RUN none END 1 7\n     1\n\n")
-  pub calls_in_loops : reply_to all (codes "10 F.I=1TO1;GOS.10") [] ≡ success (codes "RUN none SORRY 65 26\nSORRY\n10 F.I=1TO1?;GOS.10\n\n")
+  pub end_at_limit : reply_to (limited 1 all) (codes "10 P.1") [] ≡ success (codes "RUN none END 1 7\n     1\n\n")
+  pub calls_in_loops : reply_to all (codes "10 F.I=1TO1;GOS.10") [] ≡ success (codes "RUN none SORRY 257 26\nSORRY\n10 F.I=1TO1?;GOS.10\n\n")
 
 -- the runs behind one of them, and the first of them
 pub record AfterRows : Type 0 where
@@ -156,6 +199,23 @@ pub record AfterRows : Type 0 where
   pub behind_only : reply_to (behind []) [] [] ≡ success []
   pub empty_list : reply_to (behind []) (codes "10 P.RND(2)") [] ≡ refusal notes.NoRun
   pub fewer_left : reply_to (all_from (Some (pos 1 ∷ [])) (Some 5)) (codes "10 P.RND(2)") [] ≡ success (codes "RUN 2 END 1 7\n     2\n\n")
+
+-- all runs of a program, each answer with its bound
+abbrev pub bounds_behind : List Marked → Request
+bounds_behind list = all_in Two (Some list) None
+
+-- reports with bounds, and lists to go on behind in which bounds stand
+pub record BoundRows : Type 0 where
+  pub roll_behind_if : reply_to (all_in Two None None) (codes "10 A=RND(2);IF A=2 B=RND(3);PRINT B") [] ≡ success (
+      codes "RUN 1/2 END 2 0\n\nRUN 2/2,1/3 END 4 7\n     1\n\n" ++ codes "RUN 2/2,2/3 END 4 7\n     2\n\nRUN 2/2,3/3 END 4 7\n     3\n\n")
+  pub behind_bound : reply_to (bounds_behind (with_bound (pos 2) (pos 2) ∷ without_bound (pos 1) ∷ [])) (codes "10 A=RND(2);IF A=2 B=RND(3);PRINT B") [] ≡ success (codes "RUN 2/2,2/3 END 4 7\n     2\n\nRUN 2/2,3/3 END 4 7\n     3\n\n")
+  pub other_bound : reply_to (bounds_behind (with_bound (pos 2) (pos 3) ∷ with_bound (pos 1) (pos 3) ∷ [])) (codes "10 A=RND(2);IF A=2 B=RND(3);PRINT B") [] ≡ refusal notes.NoRun
+  pub bound_of_last : reply_to (bounds_behind (with_bound (pos 2) (pos 2) ∷ with_bound (pos 1) (pos 2) ∷ [])) (codes "10 A=RND(2);IF A=2 B=RND(3);PRINT B") [] ≡ refusal notes.NoRun
+  pub beginning_of_run : reply_to (bounds_behind (with_bound (pos 2) (pos 2) ∷ [])) (codes "10 A=RND(2);IF A=2 B=RND(3);PRINT B") [] ≡ refusal notes.NoRun
+  pub bounds_and_form_1 : reply_to (all_in One (Some (with_bound (pos 1) (pos 2) ∷ [])) None) (codes "10 P.RND(2)") [] ≡ success (codes "RUN 2 END 1 7\n     2\n\n")
+  pub no_answers : reply_to (all_in Two None None) [] [] ≡ success (codes "RUN none END 0 0\n\n")
+  pub only_answer : reply_to (all_in Two None None) (codes "10 A=RND(1)") [] ≡ success (codes "RUN 1/1 END 1 0\n\n")
+  pub behind_none : reply_to (bounds_behind []) [] [] ≡ success []
 
 pub record RefusalRows : Type 0 where
   pub number : reply_to (run []) (codes "32768 P.1") [] ≡ refusal (notes.Load 1 NumberTooBig)
@@ -198,6 +258,11 @@ pub record ClashRows : Type 0 where
   pub after_alone : clash (options (codes "--after" ∷ codes "0" ∷ [])) ≡ Some AfterWithoutAll
   pub after_and_first : clash (options (codes "--first" ∷ codes "3" ∷ codes "--after" ∷ codes "0" ∷ [])) ≡ Some AfterWithoutAll
   pub first_alone : clash (options (codes "--first=3" ∷ [])) ≡ Some FirstWithoutAll
+  pub form_alone : clash (options (codes "--form" ∷ codes "1" ∷ [])) ≡ Some FormWithoutAll
+  pub form_and_first : clash (options (codes "--form" ∷ codes "1" ∷ codes "--first" ∷ codes "3" ∷ [])) ≡ Some FirstWithoutAll
+  pub form_and_seed : clash (options (codes "--form=2" ∷ codes "--seed" ∷ codes "7" ∷ codes "--answers" ∷ codes "1" ∷ [])) ≡ Some FormWithoutAll
+  pub form_listing : clash (options (codes "--form" ∷ codes "2" ∷ codes "--list" ∷ [])) ≡ Some ListWithOther
+  pub form_and_all : clash (options (codes "--form" ∷ codes "1" ∷ codes "--all" ∷ [])) ≡ None
   pub answers_and_all : clash (options (codes "--all" ∷ codes "--answers" ∷ codes "none" ∷ [])) ≡ Some AnswersWithAll
   pub seed_listing : clash (options (codes "--seed" ∷ codes "7" ∷ codes "--list" ∷ [])) ≡ Some ListWithOther
   pub seed_and_after : clash (options (codes "--seed" ∷ codes "7" ∷ codes "--after" ∷ codes "0" ∷ [])) ≡ Some AfterWithoutAll
@@ -205,13 +270,20 @@ pub record ClashRows : Type 0 where
   pub seed_and_all : clash (options (codes "--all" ∷ codes "--seed" ∷ codes "7" ∷ [])) ≡ Some SeedWithAll
   pub seed_and_answers : clash (options (codes "--answers" ∷ codes "none" ∷ codes "--seed" ∷ codes "7" ∷ [])) ≡ Some SeedWithAnswers
   pub seed_alone : clash (options (codes "--seed" ∷ codes "7" ∷ codes "--steps" ∷ codes "5" ∷ [])) ≡ None
+  pub choice_listing : clash (options (codes "--list" ∷ codes "--choose" ∷ codes "2" ∷ [])) ≡ Some ListWithOther
+  pub choice_and_all : clash (options (codes "--choose" ∷ codes "2" ∷ codes "--all" ∷ [])) ≡ None
+  pub choice_alone : clash (options (codes "--choose=2" ∷ [])) ≡ None
   pub steps_listing : clash (options (codes "--list" ∷ codes "--steps" ∷ codes "5" ∷ [])) ≡ None
 
 -- texts that write a list of answers, and texts that write none
 pub record ListRows : Type 0 where
-  pub empty_list : SpellsList (codes "none") []
-  pub greatest : SpellsList (codes "32767") (pos 32767 ∷ [])
-  pub three : SpellsList (codes "2,1,30000") (pos 2 ∷ pos 1 ∷ pos 30000 ∷ [])
+  pub empty_list : SpellsAnswers (codes "none") []
+  pub greatest : SpellsAnswers (codes "32767") (pos 32767 ∷ [])
+  pub three : SpellsAnswers (codes "2,1,30000") (pos 2 ∷ pos 1 ∷ pos 30000 ∷ [])
+  pub one_bound : SpellsList (codes "2/2,1") (with_bound (pos 2) (pos 2) ∷ without_bound (pos 1) ∷ [])
+  pub no_bound_behind : IsMisspelled (codes "2/2,1/")
+  pub bound_of_0 : IsMisspelled (codes "1/0")
+  pub bound_in_answers : HasNoAnswers (codes "2/2")
   pub nothing : IsMisspelled []
   pub zero_in_front : IsMisspelled (codes "01")
   pub no_answer_between : IsMisspelled (codes "1,,2")
@@ -228,6 +300,8 @@ pub record OptionRows : Type 0 where
       ≡ record no_options { steps = Some 5; memory = Some 64; first = Some 1000000000 }
   pub lists : options (codes "--after" ∷ codes "2,1" ∷ codes "--answers" ∷ [] ∷ []) ≡ record no_options { after = Some (codes "2,1"); answers = Some [] }
   pub seed : options (codes "--seed" ∷ codes "4294967295" ∷ []) ≡ record no_options { seed = Some 4294967295 }
+  pub choice : options (codes "--choose" ∷ codes "8" ∷ []) ≡ record no_options { choose = Some 8 }
+  pub form : options (codes "--all" ∷ codes "--form" ∷ codes "1" ∷ []) ≡ record no_options { all = true; form = Some 1 }
   pub switches : options (codes "--all" ∷ codes "--list" ∷ []) ≡ record no_options { all = true; list = true }
 
 -- words that clap refuses
@@ -245,6 +319,10 @@ pub record FaultRows : Type 0 where
   pub least_seed : faults (codes "--seed" ∷ codes "0" ∷ []) ≡ []
   pub most_seed : faults (codes "--seed" ∷ codes "4294967295" ∷ []) ≡ []
   pub great_seed : faults (codes "--seed" ∷ codes "4294967296" ∷ []) ≡ ValueValidation ∷ []
+  pub no_choice : faults (codes "--choose" ∷ codes "0" ∷ []) ≡ ValueValidation ∷ []
+  pub least_choice : faults (codes "--choose" ∷ codes "1" ∷ []) ≡ []
+  pub most_choices : faults (codes "--choose" ∷ codes "32767" ∷ []) ≡ []
+  pub many_choices : faults (codes "--choose" ∷ codes "32768" ∷ []) ≡ ValueValidation ∷ []
   pub no_number : faults (codes "--steps" ∷ codes "many" ∷ []) ≡ ValueValidation ∷ []
   pub unknown : faults (codes "--stops" ∷ []) ≡ UnknownArgument ∷ []
   pub second_operand : faults (codes "a" ∷ codes "b" ∷ []) ≡ UnknownArgument ∷ []

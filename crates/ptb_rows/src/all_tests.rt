@@ -1,50 +1,73 @@
 // This file tests the listing of all runs through `serve`.
 
-ghost use Rattle.std.specs.Prelude.{IfOk};
+ghost use Rattle.std.specs.Prelude.{◌≤ℤ◌, pos, IfOk, IfSome};
 ghost use Rattle.ptb_text.specs.Statements.{IsMemorySize};
 
-use crate::tests::{Endless, Failing, Script, Sink, make_sink};
+use crate::tests::{Endless, Failing, Script, Sink, make_sink, rules_of};
+use ptb_explore::{Form, Marked};
 use ptb_options::{DEFAULT_MEMORY, DEFAULT_STEPS, Mode, Request};
 use ptb_serve::{Note, Outcome, serve};
 use ptb_text::Device;
 use std::alloc::{AllocError, Global};
 use std::test::Fail;
 
-// A program with its input and the most commands of a run, the run behind which its listing begins,
-// and how many reports it has at most.
+// A program with its input and the most commands of a run, the bound for answers in place of lines,
+// the run behind which its listing begins, how many reports it has at most, and their form.
 #[derive(Clone, Copy, Debug)]
 struct Asked<'a> {
     program: &'a [u8],
     input: &'a [u8],
     steps: u32,
-    after: Option<&'a [i16]>,
+    choose: Option<i16>,
+    after: Option<&'a [Marked]>,
     first: Option<u64>,
+    form: Form,
 }
 
-// All runs of a program without input, by a request that gives no steps.
+// An answer alone.
+const fn answer(answer: i16) -> Marked {
+    Marked {
+        answer,
+        bound: None,
+    }
+}
+
+// An answer and its bound.
+const fn bounded(answer: i16, bound: i16) -> Marked {
+    Marked {
+        answer,
+        bound: Some(bound),
+    }
+}
+
+// All runs of a program without input, in form 1, by a request that gives neither steps nor a bound.
 fn all_of(program: &[u8]) -> Asked<'_> {
     Asked {
         program,
         input: b"",
         steps: DEFAULT_STEPS,
+        choose: None,
         after: None,
         first: None,
+        form: Form::One,
     }
 }
 
 fn request_of(alloc: Global, asked: &Asked<'_>) -> Result<Request, AllocError>
-    ensures { IfOk result (λ r. IsMemorySize r.memory) }
+    ensures memory { IfOk result (λ r. IsMemorySize r.memory) }
+    ensures bound { IfOk result (λ r. IfSome r.rules.choose (λ n. pos 1 ≤ℤ n)) }
 {
     let after = match asked.after {
-        Some(answers) => Some(Vec::from_slice(alloc, answers)?.into()),
+        Some(list) => Some(Vec::from_slice(alloc, list)?.into()),
         None => None,
     };
     Ok(Request {
-        steps: asked.steps,
+        rules: rules_of(asked.steps, asked.choose),
         memory: DEFAULT_MEMORY,
         mode: Mode::All {
             after,
             first: asked.first,
+            form: asked.form,
         },
     })
 }
@@ -125,7 +148,11 @@ fn all_runs(rt: HostRuntime) -> Result<(), Fail> {
         (all_of(b"10 INPUT A"), b"RUN none NOINPUT 1 2\nA:\n"),
         (
             all_of(b"10 GOSUB 10"),
-            b"RUN none SORRY 65 19\nSORRY\n10 GOSUB 10?\n\n",
+            b"RUN none SORRY 257 19\nSORRY\n10 GOSUB 10?\n\n",
+        ),
+        (
+            all_of(b"10 F.I=1TO1;GOS.10"),
+            b"RUN none SORRY 257 26\nSORRY\n10 F.I=1TO1?;GOS.10\n\n",
         ),
         (
             Asked {
@@ -140,6 +167,61 @@ fn all_runs(rt: HostRuntime) -> Result<(), Fail> {
                 ..all_of(LIMITED)
             },
             LIMITED_TEXT,
+        ),
+    ];
+    for (asked, text) in table {
+        for piece in [1, 5, 100_000] {
+            let (outcome, bytes) = served(rt.alloc(), &asked, piece)?;
+            assert_eq!(rt; (outcome.status, outcome.note), (0, None), "{asked:?}");
+            assert_eq!(rt; bytes.as_slice(), text, "{asked:?}");
+        }
+    }
+    Ok(())
+}
+
+// Where no line is left each answer up to the bound gives a run.
+#[test]
+fn runs_without_lines(rt: HostRuntime) -> Result<(), Fail> {
+    let two = Asked {
+        choose: Some(2),
+        ..all_of(b"10 INPUT A;PRINT A")
+    };
+    let first = b"RUN 1 END 2 11\nA:1\n     1\n\n";
+    let second = b"RUN 2 END 2 11\nA:2\n     2\n\n";
+    let both = b"RUN 1 END 2 11\nA:1\n     1\n\nRUN 2 END 2 11\nA:2\n     2\n\n";
+    let index = b"RUN 1,1 END 1 14\n@(RND(2)-1):1\n\nRUN 1,2 END 1 14\n@(RND(2)-1):2\n\n\
+RUN 2,1 END 1 14\n@(RND(2)-1):1\n\nRUN 2,2 END 1 14\n@(RND(2)-1):2\n\n";
+    let behind_line = b"RUN 1 END 2 21\nA:)\nWHAT?\nA:1\n     1\n\n\
+RUN 2 END 2 21\nA:)\nWHAT?\nA:2\n     2\n\n";
+    let table = [
+        (two, &both[..]),
+        (
+            Asked {
+                after: Some(&[answer(1)]),
+                ..two
+            },
+            second,
+        ),
+        (
+            Asked {
+                first: Some(1),
+                ..two
+            },
+            first,
+        ),
+        (
+            Asked {
+                input: b")\n",
+                ..two
+            },
+            behind_line,
+        ),
+        (
+            Asked {
+                program: b"10 INPUT @(RND(2)-1)",
+                ..two
+            },
+            index,
         ),
     ];
     for (asked, text) in table {
@@ -176,7 +258,7 @@ fn runs_behind_a_run(rt: HostRuntime) -> Result<(), Fail> {
     let table = [
         (
             TWO_ROLLS,
-            Some(&[1, 1][..]),
+            Some(&[answer(1), answer(1)][..]),
             Some(2),
             &b"RUN 1,2 END 1 7\n     2\n\nRUN 2,1 END 1 7\n     2\n\n"[..],
         ),
@@ -190,13 +272,18 @@ fn runs_behind_a_run(rt: HostRuntime) -> Result<(), Fail> {
         (TWO_ROLLS, None, Some(1_000_000_000), TWO_ROLLS_TEXT),
         (
             ROLL_BEHIND_IF,
-            Some(&[2, 1]),
+            Some(&[answer(2), answer(1)]),
             None,
             b"RUN 2,2 END 4 7\n     2\n\nRUN 2,3 END 4 7\n     3\n\n",
         ),
-        (ROLL_BEHIND_IF, Some(&[2, 3]), None, b""),
+        (ROLL_BEHIND_IF, Some(&[answer(2), answer(3)]), None, b""),
         (b"", Some(&[]), None, b""),
-        (ONE_ROLL, Some(&[1]), Some(5), b"RUN 2 END 1 7\n     2\n\n"),
+        (
+            ONE_ROLL,
+            Some(&[answer(1)]),
+            Some(5),
+            b"RUN 2 END 1 7\n     2\n\n",
+        ),
     ];
     for (program, after, first, text) in table {
         let asked = Asked {
@@ -211,19 +298,76 @@ fn runs_behind_a_run(rt: HostRuntime) -> Result<(), Fail> {
     Ok(())
 }
 
+const ROLL_BEHIND_IF_BOUNDS: &[u8] = b"RUN 1/2 END 2 0\n\nRUN 2/2,1/3 END 4 7\n     1\n\n\
+RUN 2/2,2/3 END 4 7\n     2\n\nRUN 2/2,3/3 END 4 7\n     3\n\n";
+
+// In form 2 each answer is followed by its bound. Lists to go on behind may have bounds in either form.
+#[test]
+fn runs_with_bounds(rt: HostRuntime) -> Result<(), Fail> {
+    let all = Asked {
+        form: Form::Two,
+        ..all_of(ROLL_BEHIND_IF)
+    };
+    let none = b"RUN none END 0 0\n\n";
+    let table = [
+        (all, ROLL_BEHIND_IF_BOUNDS),
+        (
+            Asked {
+                after: Some(&[bounded(2, 2), answer(1)]),
+                ..all
+            },
+            &ROLL_BEHIND_IF_BOUNDS[45..],
+        ),
+        (
+            Asked {
+                first: Some(1),
+                ..all
+            },
+            &ROLL_BEHIND_IF_BOUNDS[..17],
+        ),
+        (
+            Asked {
+                after: Some(&[bounded(2, 2), bounded(2, 3)]),
+                form: Form::One,
+                ..all
+            },
+            b"RUN 2,3 END 4 7\n     3\n\n",
+        ),
+        (
+            Asked {
+                program: b"",
+                ..all
+            },
+            none,
+        ),
+    ];
+    for (asked, text) in table {
+        for piece in [1, 5, 100_000] {
+            let (outcome, bytes) = served(rt.alloc(), &asked, piece)?;
+            assert_eq!(rt; (outcome.status, outcome.note), (0, None), "{asked:?}");
+            assert_eq!(rt; bytes.as_slice(), text, "{asked:?}");
+        }
+    }
+    Ok(())
+}
+
 // Answers that are no run are refused, and nothing is written.
 #[test]
 fn runs_behind_no_run(rt: HostRuntime) -> Result<(), Fail> {
     let table = [
-        (ROLL_BEHIND_IF, &[2][..]),
-        (ROLL_BEHIND_IF, &[2, 4]),
-        (ROLL_BEHIND_IF, &[2, 1, 1]),
+        (ROLL_BEHIND_IF, &[answer(2)][..]),
+        (ROLL_BEHIND_IF, &[answer(2), answer(4)]),
+        (ROLL_BEHIND_IF, &[answer(2), answer(1), answer(1)]),
         (ONE_ROLL, &[]),
-        (ONE_ROLL, &[32767]),
+        (ONE_ROLL, &[answer(32767)]),
+        // a run, and a bound that none of its questions has there
+        (ROLL_BEHIND_IF, &[bounded(2, 3), bounded(1, 3)]),
+        (ROLL_BEHIND_IF, &[bounded(2, 2), bounded(1, 2)]),
+        (ONE_ROLL, &[bounded(1, 1)]),
     ];
-    for (program, answers) in table {
+    for (program, list) in table {
         let asked = Asked {
-            after: Some(answers),
+            after: Some(list),
             ..all_of(program)
         };
         let (outcome, bytes) = served(rt.alloc(), &asked, 100)?;
@@ -241,20 +385,38 @@ fn runs_behind_no_run(rt: HostRuntime) -> Result<(), Fail> {
 #[test]
 fn listings_in_two_parts(rt: HostRuntime) -> Result<(), Fail> {
     let table = [
-        (all_of(ONE_ROLL), ONE_ROLL_TEXT, &[&[1][..], &[2]][..]),
+        (
+            all_of(ONE_ROLL),
+            ONE_ROLL_TEXT,
+            &[&[answer(1)][..], &[bounded(2, 2)]][..],
+        ),
         (
             all_of(ROLL_BEHIND_IF),
             ROLL_BEHIND_IF_TEXT,
-            &[&[1], &[2, 1], &[2, 2], &[2, 3]],
+            &[
+                &[answer(1)],
+                &[answer(2), answer(1)],
+                &[bounded(2, 2), answer(2)],
+                &[bounded(2, 2), bounded(3, 3)],
+            ],
         ),
-        (all_of(FAULTY), FAULTY_TEXT, &[&[1], &[2, 1]]),
+        (
+            all_of(FAULTY),
+            FAULTY_TEXT,
+            &[&[answer(1)], &[answer(2), bounded(1, 1)]],
+        ),
         (
             Asked {
                 input: b")\n5\n",
                 ..all_of(ROLLED_INDEX)
             },
             ROLLED_INDEX_TEXT,
-            &[&[1, 1], &[1, 2], &[2, 1], &[2, 2]],
+            &[
+                &[answer(1), answer(1)],
+                &[answer(1), answer(2)],
+                &[answer(2), answer(1)],
+                &[answer(2), answer(2)],
+            ],
         ),
         (
             Asked {
@@ -262,19 +424,19 @@ fn listings_in_two_parts(rt: HostRuntime) -> Result<(), Fail> {
                 ..all_of(LIMITED)
             },
             LIMITED_TEXT,
-            &[&[1], &[2]],
+            &[&[answer(1)], &[answer(2)]],
         ),
     ];
     for (asked, text, runs) in table {
         let mut first: u64 = 0;
-        for answers in runs {
+        for list in runs {
             first = first.saturating_add(1);
             let front = Asked {
                 first: Some(first),
                 ..asked
             };
             let back = Asked {
-                after: Some(*answers),
+                after: Some(*list),
                 ..asked
             };
             let (_, mut bytes) = served(rt.alloc(), &front, 100)?;

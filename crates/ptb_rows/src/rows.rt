@@ -1,6 +1,7 @@
 // This file states that the worked rows hold of the definitions.
 
-ghost use Rattle.ptb_rows.specs.Rows.{AfterRows, AllRows, ClashRows, ExampleRows, FaultRows};
+ghost use Rattle.ptb_rows.specs.Rows.{AfterRows, AllRows, BoundRows, ChoiceRows, ClashRows};
+ghost use Rattle.ptb_rows.specs.Rows.{ExampleRows, FaultRows};
 ghost use Rattle.ptb_rows.specs.Rows.{ListRows, ListingRows, LongRunRows, OptionRows, ProgramRows};
 ghost use Rattle.ptb_rows.specs.Rows.{RefusalRows, RunRows, SeedRows};
 
@@ -14,6 +15,12 @@ pub fn run_rows()
 #[tactic(auto, using(crate::proofs::SeedRows::seed_rows))]
 pub fn seed_rows()
     ensures { SeedRows }
+{}
+
+/// Worked rows of answers in place of missing lines.
+#[tactic(auto, using(crate::proofs::ChoiceRows::choice_rows))]
+pub fn choice_rows()
+    ensures { ChoiceRows }
 {}
 
 /// Worked rows of programs that run once.
@@ -44,6 +51,12 @@ pub fn all_rows()
 #[tactic(auto, using(crate::proofs::AfterRows::after_rows))]
 pub fn after_rows()
     ensures { AfterRows }
+{}
+
+/// Worked rows of reports with bounds.
+#[tactic(auto, using(crate::proofs::BoundRows::bound_rows))]
+pub fn bound_rows()
+    ensures { BoundRows }
 {}
 
 /// Worked rows of programs that are refused.

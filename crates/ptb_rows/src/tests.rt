@@ -1,8 +1,9 @@
 // This file tests serving, over readers and writers that move few bytes, fail, or never end.
 
-ghost use Rattle.std.specs.Prelude.{IfOk};
+ghost use Rattle.std.specs.Prelude.{◌≤ℤ◌, pos, IfOk, IfSome};
 ghost use Rattle.ptb_text.specs.Statements.{IsMemorySize};
 
+use ptb_machine::Rules;
 use ptb_options::{DEFAULT_MEMORY, DEFAULT_STEPS, Mode, Request};
 use ptb_serve::{Note, Outcome, serve};
 use ptb_text::{Device, LoadFault};
@@ -106,6 +107,7 @@ enum Asked<'a> {
 struct Row<'a> {
     asked: Asked<'a>,
     steps: u32,
+    choose: Option<i16>,
     memory: u16,
     program: &'a [u8],
     input: &'a [u8],
@@ -114,11 +116,13 @@ struct Row<'a> {
     note: Option<Note>,
 }
 
-// A run of a request that gives neither steps nor memory, without answers and input lines.
+// A run of a request that gives neither steps nor memory nor a bound, without answers and input
+// lines.
 fn run_row<'a>(program: &'a [u8], bytes: &'a [u8], status: u8) -> Row<'a> {
     Row {
         asked: Asked::Run(&[]),
         steps: DEFAULT_STEPS,
+        choose: None,
         memory: DEFAULT_MEMORY,
         program,
         input: b"",
@@ -142,8 +146,20 @@ fn refused_row(program: &[u8], status: u8, note: Note) -> Row<'_> {
     }
 }
 
+// These rules. A bound for answers in place of lines is at least 1.
+pub(crate) fn rules_of(limit: u32, choose: Option<i16>) -> Rules
+    ensures { IfSome result.choose (λ n. pos 1 ≤ℤ n) }
+{
+    let choose = match choose {
+        Some(bound) => Some(bound.max(1)),
+        None => None,
+    };
+    Rules { limit, choose }
+}
+
 fn request_of(alloc: Global, row: &Row<'_>) -> Result<Request, AllocError>
-    ensures { IfOk result (λ r. IsMemorySize r.memory) }
+    ensures memory { IfOk result (λ r. IsMemorySize r.memory) }
+    ensures bound { IfOk result (λ r. IfSome r.rules.choose (λ n. pos 1 ≤ℤ n)) }
 {
     let mode = match row.asked {
         Asked::Run(answers) => Mode::Plain(Vec::from_slice(alloc, answers)?.into()),
@@ -151,7 +167,7 @@ fn request_of(alloc: Global, row: &Row<'_>) -> Result<Request, AllocError>
         Asked::List => Mode::List,
     };
     Ok(Request {
-        steps: row.steps,
+        rules: rules_of(row.steps, row.choose),
         memory: row.memory.clamp(64, 32767),
         mode,
     })
@@ -508,8 +524,8 @@ fn runs_without_input(rt: HostRuntime) -> Result<(), Fail> {
         limited_row(5, b"10 F.I=1TO3S.2;P.I,;N.I", b"     1     3", 0),
         limited_row(4, b"10 F.I=1TO3S.2;P.I,;N.I", b"     1     3", 4),
         run_row(b"10 PRINT 'ABC',_,\"X\",#3,7", b"ABC\rX  7\n", 0),
-        limited_row(65, b"10 GOSUB 10", b"SORRY\n10 GOSUB 10?\n", 3),
-        limited_row(64, b"10 GOSUB 10", b"", 4),
+        limited_row(257, b"10 GOSUB 10", b"SORRY\n10 GOSUB 10?\n", 3),
+        limited_row(256, b"10 GOSUB 10", b"", 4),
         run_row(
             b"300 B=200,C=200\n310 LET A=B*C+2",
             b"HOW?\n310 LET A=B*C?+2\n",
@@ -618,7 +634,50 @@ fn runs_with_input(rt: HostRuntime) -> Result<(), Fail> {
     Ok(())
 }
 
-// A line is read only when it is asked for, and what was shown before stays.
+fn choosing_row(bound: i16, row: Row<'_>) -> Row<'_> {
+    Row {
+        choose: Some(bound),
+        ..row
+    }
+}
+
+// Where no line is left an answer stands for it, from 1 to the bound.
+#[test]
+fn answers_in_place_of_lines(rt: HostRuntime) -> Result<(), Fail> {
+    let program = b"10 INPUT A;PRINT A";
+    let rows = [
+        choosing_row(2, run_row(program, b"A:", 6)),
+        choosing_row(2, answered_row(&[3], program, b"A:", 7)),
+        choosing_row(2, answered_row(&[2], program, b"A:2\n     2\n", 0)),
+        choosing_row(
+            9,
+            Row {
+                input: b"5\n",
+                ..answered_row(&[9], b"10 INPUT A,B;PRINT A-B", b"A:5\nB:9\n    -4\n", 0)
+            },
+        ),
+        choosing_row(
+            2,
+            Row {
+                input: b")\n",
+                ..answered_row(&[1], program, b"A:)\nWHAT?\nA:1\n     1\n", 0)
+            },
+        ),
+        choosing_row(
+            6,
+            Row {
+                asked: Asked::Seed(7),
+                ..run_row(b"10 INPUT A;PRINT RND(6)", b"A:3\n     5\n", 0)
+            },
+        ),
+    ];
+    let found = mistake(rt.alloc(), &rows)?;
+    assert!(rt; found.is_none(), "{found:?}");
+    Ok(())
+}
+
+// A line is read only when it is asked for, and what was shown before stays. An answer doesn't
+// stand for a line that can't be read.
 #[test]
 fn unread_inputs(rt: HostRuntime) -> Result<(), Fail> {
     for (program, bytes, status, shown) in [
@@ -629,8 +688,11 @@ fn unread_inputs(rt: HostRuntime) -> Result<(), Fail> {
         (b"10 INPUT A", b"", 66, b"A:"),
         (b"10 INPUT A", b"5", 66, b"A:"),
     ] {
-        for piece in [1, 5000] {
-            let row = run_row(program, shown, status);
+        for (piece, choose) in [(1, None), (5000, None), (1, Some(9)), (5000, Some(9))] {
+            let row = Row {
+                choose,
+                ..answered_row(&[4, 4], program, shown, status)
+            };
             let request = request_of(rt.alloc(), &row)?;
             let mut program = Device::new(row.program);
             let mut input = Device::new(Script {

@@ -7,6 +7,7 @@ use Rattle.ptb_text.specs.Statements.{StoredProgram}
 use Rattle.ptb_expr.specs.declared.pause.Pause.TheVariants as pauses
 use Rattle.ptb_expr.specs.Outcome.{Answers}
 use Rattle.ptb_expr.specs.Choices.{AnswerList, RefusedByList, choices_of, with_answers}
+use Rattle.ptb_machine.specs.declared.rules.Rules.{Rules}
 use Rattle.ptb_serve.specs.PlainRuns.{GoesBy}
 
 front_at : {A : Type 0} (xs : List A) (i : ℕ) (x : A) → slice_get xs i ≡ Some x → drop i xs ≡ x ∷ drop (suc i) xs
@@ -24,9 +25,9 @@ given_first a l answers bounds e =
     sym same ∙ sym (take-append-drop l.given l.answers) ∙ ap (λ t. t ++ drop l.given l.answers) first
 
 -- whatever its lines are
-pub goes_by_list : (a : List ℤ) (s l : AnswerList) (p : StoredProgram) (limit : ℕ) → s ≡ record { answers = a; given = 0 }
-    → GoesBy (RefusedByList l.answers l.given) (choices_of s) (choices_of l) (λ _. a) p limit
-goes_by_list a s l p limit begins lines taken bounds asked e = record {
+pub goes_by_list : (a : List ℤ) (s l : AnswerList) (p : StoredProgram) (rules : Rules) → s ≡ record { answers = a; given = 0 }
+    → GoesBy (RefusedByList l.answers l.given) (choices_of s) (choices_of l) (λ _. a) p rules
+goes_by_list a s l p rules begins lines taken bounds asked e = record {
   rest = drop l.given l.answers;
   whole = given_first a l taken bounds (e ∙ ap (λ x. with_answers taken bounds (choices_of x)) begins);
   ended = λ n h. drop_all l.given l.answers (omega (arith, h));

@@ -11,6 +11,7 @@ use Rattle.ptb_expr.proofs.Readers.{open_is, whole_is}
 use Rattle.ptb_expr.specs.Choices.{Asked, with_answers}
 use Rattle.ptb_expr.specs.Seeds.{SeededAnswers, RefusedForMemory, drawn_answer, drawn_answers, drawn_from, generator_of, seeded_choices}
 use Rattle.ptb_machine.specs.Laws.{RunLaws}
+use Rattle.ptb_machine.specs.declared.rules.Rules.{Rules}
 use Rattle.ptb_machine.specs.Play.{play}
 use Rattle.ptb_machine.specs.Questions.{most_answers}
 use Rattle.ptb_serve.specs.PlainRuns.{GoesBy}
@@ -126,9 +127,9 @@ taken_drawn seed s t taken bounds begins e =
     let same_bounds : t.bounds ≡ bounds = cc in
     sym answers ∙ ap (λ x. drawn_answers x t.bounds) same_seed ∙ ap (drawn_answers seed) same_bounds
 
-pub goes_by_seed : RunLaws → (seed : ℕ) (s t : SeededAnswers) (p : StoredProgram) (limit : ℕ) → s ≡ record { seed = seed; bounds = [] }
-    → GoesBy RefusedForMemory (seeded_choices s) (seeded_choices t) (λ lines. seeded_answers seed p lines limit) p limit
-goes_by_seed laws seed s t p limit begins lines taken bounds asked grown =
-    let few = (laws.reads p lines limit).few in
-    let first = drawn_first (most_answers p lines limit) (generator_of seed) (play p lines limit) taken bounds few asked (taken_drawn seed s t taken bounds begins grown) in
+pub goes_by_seed : RunLaws → (seed : ℕ) (s t : SeededAnswers) (p : StoredProgram) (rules : Rules) → s ≡ record { seed = seed; bounds = [] }
+    → GoesBy RefusedForMemory (seeded_choices s) (seeded_choices t) (λ lines. seeded_answers seed p lines rules) p rules
+goes_by_seed laws seed s t p rules begins lines taken bounds asked grown =
+    let few = (laws.reads p lines rules).few in
+    let first = drawn_first (most_answers p lines rules.limit) (generator_of seed) (play p lines rules) taken bounds few asked (taken_drawn seed s t taken bounds begins grown) in
     record { rest = first.0; whole = first.1; ended = λ n h. absurd h; outside = λ k n h. absurd h }

@@ -9,10 +9,13 @@ use Rattle.ptb_expr.specs.Outcome.{Answers, Outcome}
 use Rattle.ptb_devices.specs.declared.fault.ReadFault.{ReadFault}
 use Rattle.ptb_devices.specs.declared.fault.ReadFault.TheVariants as reads
 use Rattle.ptb_command.specs.Effects.{Begins}
+use Rattle.ptb_machine.specs.declared.rules.Rules.{Rules}
 use Rattle.ptb_machine.specs.Play.{Finish, play}
 use Rattle.ptb_machine.specs.Questions.{most_answers}
 use Rattle.ptb_explore.specs.declared.fault.ExploreFault.{ExploreFault}
 use Rattle.ptb_explore.specs.declared.fault.ExploreFault.TheVariants as explores
+use Rattle.ptb_explore.specs.declared.form.Form.{Form}
+use Rattle.ptb_explore.specs.declared.form.Marked.{Marked}
 use Rattle.ptb_explore.specs.Exploring.{Exploration, play_of, most_of}
 use Rattle.ptb_explore.specs.Listing.{text, WritesRuns}
 use Rattle.ptb_explore.specs.Report.{report}
@@ -76,18 +79,18 @@ reports_note-write (explores.Write m) h n e = h refl
 -- ---- the replies
 
 -- the reply of a program, by the bytes of its input
-abbrev pub runs_due : ℕ → Option Answers → Option ℕ → List ℕ → StoredProgram → Reply
-runs_due limit after first c p = all_reply p (input_lines c) limit after first
+abbrev pub runs_due : Rules → Option (List Marked) → Option ℕ → Form → List ℕ → StoredProgram → Reply
+runs_due rules after first form c p = all_reply p (input_lines c) rules after first form
 
-module _ (p : StoredProgram) (limit : ℕ) (after : Option Answers) (first : Option ℕ) where
+module _ (p : StoredProgram) (rules : Rules) (after : Option (List Marked)) (first : Option ℕ) (form : Form) where
   abbrev game : List (List ℕ) → Answers → Outcome Finish (List ℕ)
-  game input = play p input limit
+  game input = play p input rules
 
   abbrev reply : List (List ℕ) → Reply
-  reply input = all_reply p input limit after first
+  reply input = all_reply p input rules after first form
 
   abbrev due : List (List ℕ) → List ℕ
-  due input = listed_runs (game input) (most_answers p input limit) after first
+  due input = listed_runs (game input) (most_answers p input rules.limit) after first form
 
   pub reply-listed : (input : List (List ℕ)) → is_front (game input) after ≡ true → reply input ≡ success (due input)
   unfolding runs_reply
@@ -115,11 +118,11 @@ module _ (p : StoredProgram) (limit : ℕ) (after : Option Answers) (first : Opt
 
     -- by the bytes of the input, of which the lines are those that were read
     module _ (c : List ℕ) where
-      pub serves_input : (fault : ReadFault) → Serves (runs_due limit after first c p) held held (outcome_of (Err (input_note fault)))
+      pub serves_input : (fault : ReadFault) → Serves (runs_due rules after first form c p) held held (outcome_of (Err (input_note fault)))
       serves_input fault = serves_unread (input_lines c) fault
 
       pub serves_front : (input : List (List ℕ)) → input ≡ input_lines c → (note : Note) → (note ≡ notes.NoRun) ⊎ (note ≡ notes.OutOfMemory)
-          → (note ≡ notes.NoRun → is_front (game input) after ≡ false) → Serves (runs_due limit after first c p) held held (outcome_of (Err note))
+          → (note ≡ notes.NoRun → is_front (game input) after ≡ false) → Serves (runs_due rules after first form c p) held held (outcome_of (Err note))
       serves_front input is note one h = subst (λ i. Serves (reply i) held held (outcome_of (Err note))) is (serves_unbegun input note one h)
 
   -- ---- how it is served, where reports were written
@@ -132,7 +135,7 @@ module _ (p : StoredProgram) (limit : ℕ) (after : Option Answers) (first : Opt
 
     abbrev Writes : List (List ℕ) → Front → Result ℕ ExploreFault → Type 0
     Writes input f result =
-        WritesRuns (game input) (report (game input)) (runs_left (game input) (most_answers p input limit) (first_front after) first) (first_front after) f old new result
+        WritesRuns (game input) (report form (game input)) (runs_left (game input) (most_answers p input rules.limit) (first_front after) first) (first_front after) f old new result
 
     serves_written : (input : List (List ℕ)) (f : Front) (n : ℕ) → is_front (game input) after ≡ true → Writes input f (Ok n)
         → Serves (reply input) old new (outcome_of (Ok 0))
@@ -142,22 +145,22 @@ module _ (p : StoredProgram) (limit : ℕ) (after : Option Answers) (first : Opt
     serves_cut : (input : List (List ℕ)) (f : Front) (fault : ExploreFault) → is_front (game input) after ≡ true → Writes input f (Err fault)
         → Serves (reply input) old new (outcome_of (Err (reports_note fault)))
     serves_cut input f (explores.Memory n) h w =
-        takes_due input _ h w.bytes (text-beginning (report (game input)) _ w.beginning w.rest w.split)
+        takes_due input _ h w.bytes (text-beginning (report form (game input)) _ w.beginning w.rest w.split)
     serves_cut input f (explores.Write n) h w =
-        takes_due input _ h w.bytes (text-into (report (game input)) _ w.beginning w.at w.rest w.part w.remainder w.split w.cut)
+        takes_due input _ h w.bytes (text-into (report form (game input)) _ w.beginning w.at w.rest w.part w.remainder w.split w.cut)
 
     -- by the bytes of the input, of which the lines are those that were read, and an explorer that went on from its front
     module _ (c : List ℕ) (input : List (List ℕ)) (is : input ≡ input_lines c) (e : Exploration) (f : Front)
-        (same : e ≡ record { program = p; input = input; limit = limit; front = first_front after; kept = e.kept; played = e.played }) (h : is_front (game input) after ≡ true) where
+        (same : e ≡ record { program = p; input = input; rules = rules; front = first_front after; kept = e.kept; played = e.played }) (h : is_front (game input) after ≡ true) where
       abbrev WritesFrom : Exploration → Result ℕ ExploreFault → Type 0
-      WritesFrom e result = WritesRuns (play_of e) (report (play_of e)) (runs_left (play_of e) (most_of e) e.front first) e.front f old new result
+      WritesFrom e result = WritesRuns (play_of e) (report form (play_of e)) (runs_left (play_of e) (most_of e) e.front first) e.front f old new result
 
       written_from : (result : Result ℕ ExploreFault) → WritesFrom e result → Writes input f result
       written_from result w = subst (λ x. WritesFrom x result) same w
 
-      pub serves_reports : (n : ℕ) → WritesFrom e (Ok n) → Serves (runs_due limit after first c p) old new (outcome_of (Ok 0))
+      pub serves_reports : (n : ℕ) → WritesFrom e (Ok n) → Serves (runs_due rules after first form c p) old new (outcome_of (Ok 0))
       serves_reports n w = subst (λ i. Serves (reply i) old new (outcome_of (Ok 0))) is (serves_written input f n h (written_from (Ok n) w))
 
-      pub serves_some : (fault : ExploreFault) → WritesFrom e (Err fault) → Serves (runs_due limit after first c p) old new (outcome_of (Err (reports_note fault)))
+      pub serves_some : (fault : ExploreFault) → WritesFrom e (Err fault) → Serves (runs_due rules after first form c p) old new (outcome_of (Err (reports_note fault)))
       serves_some fault w =
           subst (λ i. Serves (reply i) old new (outcome_of (Err (reports_note fault)))) is (serves_cut input f fault h (written_from (Err fault) w))

@@ -1,5 +1,5 @@
 -- This file proves what a run comes to that goes by a list of answers, from a whole run with a chooser, a screen over a writer and a list of lines.
-use Rattle.std.proofs.Common.{◌≡◌, ℕ, ◌+◌, ◌≤◌, ◌⊎◌, inl, inr, true, false, List, [], ◌++◌, length, take, Option, Some, Result, Ok, Err, IfOk, IsErrOf, ℤ, refl, sym, ap, subst, ◌∙◌, arith, append-nil, length-append}
+use Rattle.std.proofs.Common.{◌≡◌, ℕ, ◌+◌, ◌≤◌, ◌⊎◌, inl, inr, true, false, List, [], ◌++◌, length, take, Option, Some, None, Result, Ok, Err, IfOk, IfSome, IsErrOf, ℤ, pos, ◌≤ℤ◌, refl, sym, ap, subst, ◌∙◌, arith, append-nil, length-append}
 use Rattle.std.specs.Borrow.{MutBor}
 use Rattle.std.specs.Io.KnownBytes.{Appends}
 use Rattle.std.proofs.KnownBytes.{Appends-nil}
@@ -14,6 +14,7 @@ use Rattle.ptb_command.specs.declared.ending.Ending.{Ending}
 use Rattle.ptb_command.specs.declared.ending.Ending.TheVariants as endings
 use Rattle.ptb_machine.specs.declared.fault.RunFault.{RunFault}
 use Rattle.ptb_machine.specs.declared.fault.RunFault.TheVariants as runs
+use Rattle.ptb_machine.specs.declared.rules.Rules.{Rules}
 use Rattle.ptb_machine.specs.Play.{Finish, play, unasked_lines, plain, plain_of}
 use Rattle.ptb_command.specs.Effects.{Begins}
 use Rattle.ptb_devices.specs.declared.fault.ReadFault.{ReadFault}
@@ -22,8 +23,9 @@ use Rattle.ptb_devices.specs.Sources.{NoneLeft}
 use Rattle.ptb_command.specs.declared.stop.DeviceError.{DeviceError}
 use Rattle.ptb_command.specs.declared.stop.DeviceError.TheVariants as errors
 use Rattle.ptb_command.specs.Devices.{ScreenState, Devices, devices, with_failures, Exchange, Refusal, refused_by}
-use Rattle.ptb_machine.specs.Runs.{played_bytes, Plays, refused_answers, IsFinished, IsUnanswered, IsUnfinished, RunComes, Runs, UnlessRunMissed}
-use Rattle.ptb_serve.specs.PlainRuns.{ShowsRun, lines_taken, IsLed, GoesBy}
+use Rattle.ptb_machine.specs.Runs.{played_bytes, Plays, refused_answers, IsFinished, IsUnanswered, IsUnfinished, LacksInput, RunComes, Runs, UnlessRunMissed}
+use Rattle.ptb_machine.proofs.Endings.{HasRunEnding, play_ends}
+use Rattle.ptb_serve.specs.PlainRuns.{ShowsRun, ShowsUnread, lines_taken, IsLed, GoesBy}
 
 -- ---- lists
 
@@ -46,18 +48,24 @@ pub takes_all : (old new : Option (List ℕ)) (bytes : List ℕ) → Appends old
 takes_all old new bytes h = takes_beginning old new bytes bytes h ([], sym (append-nil bytes))
 
 -- what is said of a run with these answers and lines, between two states of its screen
-pub record IsPlainRun (p : StoredProgram) (limit : ℕ) (lines : List (List ℕ)) (a : Answers) (refuses : Pause → ℤ → Type 0) (old new : ScreenState) (result : Result Ending RunFault) : Type 0 where
+pub record IsPlainRun (p : StoredProgram) (rules : Rules) (lines : List (List ℕ)) (a : Answers) (refuses : Pause → ℤ → Type 0) (old new : ScreenState) (result : Result Ending RunFault) : Type 0 where
   pub same_borrow : new.borrow ≡ old.borrow
-  pub ok : IfOk result (ShowsRun (plain p lines limit a) old.shown new.shown)
-  pub beginning : TakesSome old.shown new.shown (plain p lines limit a).0
+  pub ok : IfOk result (ShowsRun (plain p lines rules a) old.shown new.shown)
+  pub beginning : TakesSome old.shown new.shown (plain p lines rules a).0
   pub failed : IsErrOf result runs.Write → HasFailed old.failures new.failures
   pub memory : IsErrOf result runs.Memory → Appends old.shown new.shown [] ⊎ ((n : ℤ) × refuses pauses.Memory n)
   pub unfailed : (IsErrOf result runs.Write → ⊥) → new.failures ≡ old.failures
   pub unspent : IsErrOf result runs.Spent → ⊥
 
+-- what is said of a run that asked for a line on which these are all that it was given
+pub record IsUnreadRun (p : StoredProgram) (rules : Rules) (lines : List (List ℕ)) (a : Answers) (old new : ScreenState) : Type 0 where
+  pub same_borrow : new.borrow ≡ old.borrow
+  pub shows : ShowsUnread rules.choose (plain p lines rules) a old.shown new.shown
+  pub unfailed : new.failures ≡ old.failures
+
 -- a source of lines gave some, and these stand behind them; it says what stands after its refusals
-module _ (p : StoredProgram) (limit : ℕ) (a : Answers) (refuses : Pause → ℤ → Type 0) (c d : Choices) (old new : ScreenState) (given behind : List (List ℕ)) (unread : ReadFault → Type 0) (left : Option (List (List ℕ)))
-    (led : (taken : Answers) (bounds : List ℤ) → Asked (play p (given ++ behind) limit) taken bounds → d ≡ with_answers taken bounds c → IsLed refuses taken a) where
+module _ (p : StoredProgram) (rules : Rules) (a : Answers) (refuses : Pause → ℤ → Type 0) (c d : Choices) (old new : ScreenState) (could can : ℕ) (given behind : List (List ℕ)) (unread : ReadFault → Type 0) (left : Option (List (List ℕ)))
+    (led : (taken : Answers) (bounds : List ℤ) → Asked (play p (given ++ behind) rules) taken bounds → d ≡ with_answers taken bounds c → IsLed refuses taken a) where
   abbrev refused : Refusal → Type 0
   refused = refused_by refuses unread left
 
@@ -65,16 +73,16 @@ module _ (p : StoredProgram) (limit : ℕ) (a : Answers) (refuses : Pause → �
   lines = given ++ behind
 
   abbrev before : Devices
-  before = devices c old []
+  before = devices c old could rules.choose []
 
   abbrev later : Devices
-  later = devices d new given
+  later = devices d new can rules.choose given
 
   -- what is left of the answers behind those that were taken, however often the writer has failed
-  left_by : (failures : ℕ) (x : Exchange) (left : Answers → Outcome Finish (List ℕ)) → Plays p limit lines before (with_failures failures later) x left → IsLed refuses x.answers a
+  left_by : (failures : ℕ) (x : Exchange) (left : Answers → Outcome Finish (List ℕ)) → Plays p rules lines before (with_failures failures later) x left → IsLed refuses x.answers a
   left_by failures x left h = led x.answers x.bounds h.leaves.asked h.exchanges.grown
 
-  is_ok : {x : Exchange} {left : Answers → Outcome Finish (List ℕ)} (e : Ending) → Plays p limit lines before later x left → ShowsRun (plain p lines limit a) old.shown new.shown e → IsPlainRun p limit lines a refuses old new (Ok e)
+  is_ok : {x : Exchange} {left : Answers → Outcome Finish (List ℕ)} (e : Ending) → Plays p rules lines before later x left → ShowsRun (plain p lines rules a) old.shown new.shown e → IsPlainRun p rules lines a refuses old new (Ok e)
   is_ok e plays h = record {
     same_borrow = plays.exchanges.shows.same_borrow;
     ok = h;
@@ -86,49 +94,49 @@ module _ (p : StoredProgram) (limit : ℕ) (a : Answers) (refuses : Pause → �
   }
 
   -- the play with all of the answers is what is left of it, with those that are left
-  play_is : (failures : ℕ) (x : Exchange) (left : Answers → Outcome Finish (List ℕ)) (h : Plays p limit lines before (with_failures failures later) x left)
-      → play p lines limit a ≡ left (left_by failures x left h).rest
+  play_is : (failures : ℕ) (x : Exchange) (left : Answers → Outcome Finish (List ℕ)) (h : Plays p rules lines before (with_failures failures later) x left)
+      → play p lines rules a ≡ left (left_by failures x left h).rest
   play_is failures x left h =
       let behind = left_by failures x left h in
-      ap (play p lines limit) behind.whole ∙ ap (λ (f : Answers → Outcome Finish (List ℕ)). f behind.rest) h.leaves.rest
+      ap (play p lines rules) behind.whole ∙ ap (λ (f : Answers → Outcome Finish (List ℕ)). f behind.rest) h.leaves.rest
 
-  shows_run : (x : Exchange) (left : Answers → Outcome Finish (List ℕ)) (e : Ending) (o : Outcome Finish (List ℕ)) (h : Plays p limit lines before later x left)
-      → left (left_by new.failures x left h).rest ≡ o → plain_of o ≡ (x.bytes, e) → ShowsRun (plain p lines limit a) old.shown new.shown e
+  shows_run : (x : Exchange) (left : Answers → Outcome Finish (List ℕ)) (e : Ending) (o : Outcome Finish (List ℕ)) (h : Plays p rules lines before later x left)
+      → left (left_by new.failures x left h).rest ≡ o → plain_of o ≡ (x.bytes, e) → ShowsRun (plain p lines rules a) old.shown new.shown e
   shows_run x left e o h is ends =
-      let all : plain p lines limit a ≡ (x.bytes, e) = ap plain_of (play_is new.failures x left h ∙ is) ∙ ends in
+      let all : plain p lines rules a ≡ (x.bytes, e) = ap plain_of (play_is new.failures x left h ∙ is) ∙ ends in
       record {
         ending = sym (ap (λ r. r.1) all);
         bytes = subst (Appends old.shown new.shown) (sym (ap (λ r. r.0) all)) h.exchanges.shows.shown;
       }
 
-  finished : (e : Ending) → IsFinished refused p limit lines before later e → IsPlainRun p limit lines a refuses old new (Ok e)
+  finished : (e : Ending) → IsFinished refused p rules lines before later e → IsPlainRun p rules lines a refuses old new (Ok e)
   finished e h = is_ok e h.plays (shows_run h.exchange _ e _ h.plays refl refl)
 
   -- INPUT found no line left, so all of them were given
-  dry : (NoneLeft left → behind ≡ []) → RunComes refused p limit behind before later (Ok endings.NoInput) → IsPlainRun p limit lines a refuses old new (Ok endings.NoInput)
+  dry : (NoneLeft left → behind ≡ []) → RunComes refused p rules behind before later (Ok endings.NoInput) → IsPlainRun p rules lines a refuses old new (Ok endings.NoInput)
   dry none h =
       let all : lines ≡ given = ap (λ r. given ++ r) (none h.0) ∙ append-nil given in
-      finished endings.NoInput (subst (λ i. IsFinished refused p limit i before later endings.NoInput) (sym all) (h.1 (none h.0)))
+      finished endings.NoInput (subst (λ i. IsFinished refused p rules i before later endings.NoInput) (sym all) (h.1 (none h.0)))
 
-  unanswered : IsUnanswered refused p limit lines before later pauses.Ended → IsPlainRun p limit lines a refuses old new (Ok endings.NoAnswer)
+  unanswered : IsUnanswered refused p rules lines before later pauses.Ended → IsPlainRun p rules lines a refuses old new (Ok endings.NoAnswer)
   unanswered h =
       let none = (left_by new.failures h.exchange h.left h.plays).ended h.bound h.refuses in
       is_ok endings.NoAnswer h.plays (shows_run h.exchange h.left endings.NoAnswer _ h.plays (ap h.left none ∙ h.asks) refl)
 
-  out_of_range : (k : ℤ) → IsUnanswered refused p limit lines before later (pauses.OutOfRange k) → IsPlainRun p limit lines a refuses old new (Ok endings.BadAnswer)
+  out_of_range : (k : ℤ) → IsUnanswered refused p rules lines before later (pauses.OutOfRange k) → IsPlainRun p rules lines a refuses old new (Ok endings.BadAnswer)
   out_of_range k h =
       let next = (left_by new.failures h.exchange h.left h.plays).outside k h.bound h.refuses in
       is_ok endings.BadAnswer h.plays (shows_run h.exchange h.left endings.BadAnswer _ h.plays (ap h.left next.1 ∙ h.outside next.0) refl)
 
   -- where a device fails, what was shown is a beginning
-  begun : {e : DeviceError} → IsUnfinished refused p limit lines before later e → TakesSome old.shown new.shown (plain p lines limit a).0
+  begun : {e : DeviceError} → IsUnfinished refused p rules lines before later e → TakesSome old.shown new.shown (plain p lines rules a).0
   begun h =
       let begins = h.begins (left_by old.failures h.exchange h.left h.plays).rest in
-      let all : (plain p lines limit a).0 ≡ played_bytes (h.left (left_by old.failures h.exchange h.left h.plays).rest) =
-      plain_bytes (play p lines limit a) ∙ ap played_bytes (play_is old.failures h.exchange h.left h.plays) in
+      let all : (plain p lines rules a).0 ≡ played_bytes (h.left (left_by old.failures h.exchange h.left h.plays).rest) =
+      plain_bytes (play p lines rules a) ∙ ap played_bytes (play_is old.failures h.exchange h.left h.plays) in
       takes_beginning old.shown new.shown h.exchange.bytes _ h.plays.exchanges.shows.shown (begins.0, all ∙ begins.1)
 
-  unwritten : RunComes refused p limit behind before later (Err runs.Write) → IsPlainRun p limit lines a refuses old new (Err runs.Write)
+  unwritten : RunComes refused p rules behind before later (Err runs.Write) → IsPlainRun p rules lines a refuses old new (Err runs.Write)
   unwritten h = record {
     same_borrow = h.plays.exchanges.shows.same_borrow;
     ok = tt;
@@ -139,7 +147,7 @@ module _ (p : StoredProgram) (limit : ℕ) (a : Answers) (refuses : Pause → �
     unspent = λ f. cc;
   }
 
-  not_read : RunComes refused p limit behind before later (Err runs.Read) → IsPlainRun p limit lines a refuses old new (Err runs.Read)
+  not_read : RunComes refused p rules behind before later (Err runs.Read) → IsPlainRun p rules lines a refuses old new (Err runs.Read)
   not_read h = record {
     same_borrow = h.plays.exchanges.shows.same_borrow;
     ok = tt;
@@ -152,16 +160,16 @@ module _ (p : StoredProgram) (limit : ℕ) (a : Answers) (refuses : Pause → �
 
   -- a source without memory and a screen over a writer take none: it was refused to the machine itself, or to the chooser
   abbrev MemoryRefused : Type 0
-  MemoryRefused = (later ≡ before) ⊎ (IsUnfinished refused p limit lines before later errors.Memory × ((n : ℤ) × refuses pauses.Memory n))
+  MemoryRefused = (later ≡ before) ⊎ (IsUnfinished refused p rules lines before later errors.Memory × ((n : ℤ) × refuses pauses.Memory n))
 
-  out_of_memory : old.takes_memory ≡ false → (unread reads.Memory → ⊥) → RunComes refused p limit behind before later (Err runs.Memory) → MemoryRefused
+  out_of_memory : old.takes_memory ≡ false → (unread reads.Memory → ⊥) → RunComes refused p rules behind before later (Err runs.Memory) → MemoryRefused
   out_of_memory e no_memory h =
       elim h [
         | inl same ↦ inl same
         | inr u ↦ elim (u.broken.0.by) [ inl t ↦ absurd (let both : true ≡ false = sym t ∙ e in cc) | inr r ↦ elim r [ inl q ↦ inr (u, q) | inr q ↦ absurd (no_memory q) ] ]
       ]
 
-  no_room : MemoryRefused → IsPlainRun p limit lines a refuses old new (Err runs.Memory)
+  no_room : MemoryRefused → IsPlainRun p rules lines a refuses old new (Err runs.Memory)
   no_room (inl e) =
       let nothing : Appends old.shown new.shown [] = subst (λ held. Appends old.shown held []) (sym (ap (λ (d : Devices). d.screen.shown) e)) (Appends-nil old.shown) in
       record {
@@ -186,37 +194,37 @@ module _ (p : StoredProgram) (limit : ℕ) (a : Answers) (refuses : Pause → �
   -- ---- the lines that it takes
 
   -- the given lines are no more than it takes, with all of the answers
-  fits : (x : Exchange) (rest : Answers) (more : List (List ℕ)) → a ≡ x.answers ++ rest → lines ≡ given ++ (more ++ unasked_lines p lines limit (x.answers ++ rest)) → length given ≤ lines_taken p lines limit a
+  fits : (x : Exchange) (rest : Answers) (more : List (List ℕ)) → a ≡ x.answers ++ rest → lines ≡ given ++ (more ++ unasked_lines p lines rules (x.answers ++ rest)) → length given ≤ lines_taken p lines rules a
   fits x rest more e k =
-      let unasked : unasked_lines p lines limit a ≡ unasked_lines p lines limit (x.answers ++ rest) = ap (unasked_lines p lines limit) e in
-      omega (arith, ap length k, ap length unasked, length-append given (more ++ unasked_lines p lines limit (x.answers ++ rest)), length-append more (unasked_lines p lines limit (x.answers ++ rest)))
+      let unasked : unasked_lines p lines rules a ≡ unasked_lines p lines rules (x.answers ++ rest) = ap (unasked_lines p lines rules) e in
+      omega (arith, ap length k, ap length unasked, length-append given (more ++ unasked_lines p lines rules (x.answers ++ rest)), length-append more (unasked_lines p lines rules (x.answers ++ rest)))
 
-  fits_finished : (e : Ending) → IsFinished refused p limit lines before later e → length given ≤ lines_taken p lines limit a
+  fits_finished : (e : Ending) → IsFinished refused p rules lines before later e → length given ≤ lines_taken p lines rules a
   fits_finished e h = let behind = left_by new.failures h.exchange _ h.plays in fits h.exchange behind.rest [] behind.whole (h.lines behind.rest)
 
-  fits_unanswered : (z : Pause) (later_answers : Answers) (h : IsUnanswered refused p limit lines before later z)
-      → (left_by new.failures h.exchange h.left h.plays).rest ≡ refused_answers z later_answers → length given ≤ lines_taken p lines limit a
+  fits_unanswered : (z : Pause) (later_answers : Answers) (h : IsUnanswered refused p rules lines before later z)
+      → (left_by new.failures h.exchange h.left h.plays).rest ≡ refused_answers z later_answers → length given ≤ lines_taken p lines rules a
   fits_unanswered z later_answers h e =
       let behind = left_by new.failures h.exchange h.left h.plays in
-      fits h.exchange behind.rest [] behind.whole (h.lines later_answers ∙ ap (λ q. given ++ unasked_lines p lines limit (h.exchange.answers ++ q)) (sym e))
+      fits h.exchange behind.rest [] behind.whole (h.lines later_answers ∙ ap (λ q. given ++ unasked_lines p lines rules (h.exchange.answers ++ q)) (sym e))
 
-  fits_unfinished : (e : DeviceError) → IsUnfinished refused p limit lines before later e → length given ≤ lines_taken p lines limit a
+  fits_unfinished : (e : DeviceError) → IsUnfinished refused p rules lines before later e → length given ≤ lines_taken p lines rules a
   fits_unfinished e h =
       let behind = left_by old.failures h.exchange h.left h.plays in
       let taken = h.lines behind.rest in
       fits h.exchange behind.rest taken.0 behind.whole taken.1
 
-  fits_none : MemoryRefused → length given ≤ lines_taken p lines limit a
+  fits_none : MemoryRefused → length given ≤ lines_taken p lines rules a
   fits_none (inl e) = omega (arith, ap (λ (d : Devices). length d.given) e)
   fits_none (inr r) = fits_unfinished errors.Memory r.0
 
-  fits_dry : (NoneLeft left → behind ≡ []) → RunComes refused p limit behind before later (Ok endings.NoInput) → length given ≤ lines_taken p lines limit a
+  fits_dry : (NoneLeft left → behind ≡ []) → RunComes refused p rules behind before later (Ok endings.NoInput) → length given ≤ lines_taken p lines rules a
   fits_dry none h =
       let all : lines ≡ given = ap (λ r. given ++ r) (none h.0) ∙ append-nil given in
-      fits_finished endings.NoInput (subst (λ i. IsFinished refused p limit i before later endings.NoInput) (sym all) (h.1 (none h.0)))
+      fits_finished endings.NoInput (subst (λ i. IsFinished refused p rules i before later endings.NoInput) (sym all) (h.1 (none h.0)))
 
   pub takes_given : old.takes_memory ≡ false → (unread reads.Memory → ⊥) → (NoneLeft left → behind ≡ []) → (result : Result Ending RunFault)
-      → RunComes refused p limit behind before later result → length given ≤ lines_taken p lines limit a
+      → RunComes refused p rules behind before later result → length given ≤ lines_taken p lines rules a
   takes_given e no_memory none (Ok endings.End) h = fits_finished endings.End h
   takes_given e no_memory none (Ok endings.Stop) h = fits_finished endings.Stop h
   takes_given e no_memory none (Ok endings.What) h = fits_finished endings.What h
@@ -234,25 +242,63 @@ module _ (p : StoredProgram) (limit : ℕ) (a : Answers) (refuses : Pause → �
   takes_given e no_memory none (Err runs.Write) h = fits_unfinished errors.Write h
   takes_given e no_memory none (Err runs.Spent) h = absurd h
 
-  -- where it asked for a line that it wasn't given, and these are all lines, it ends NOINPUT
-  pub ends_dry : (P : Type 0) → (P → ⊥) → (unread reads.Memory → ⊥) → behind ≡ [] → (result : Result Ending RunFault) → UnlessRunMissed unread P result
-      → RunComes refused p limit behind before later result → IsPlainRun p limit lines a refuses old new (Ok endings.NoInput)
-  ends_dry P never no_memory none (Ok endings.End) m h = absurd (never m)
-  ends_dry P never no_memory none (Ok endings.Stop) m h = absurd (never m)
-  ends_dry P never no_memory none (Ok endings.What) m h = absurd (never m)
-  ends_dry P never no_memory none (Ok endings.How) m h = absurd (never m)
-  ends_dry P never no_memory none (Ok endings.Sorry) m h = absurd (never m)
-  ends_dry P never no_memory none (Ok endings.Limit) m h = absurd (never m)
-  ends_dry P never no_memory none (Ok endings.NoInput) m h = dry (λ _. none) h
-  ends_dry P never no_memory none (Ok endings.NoAnswer) m h = absurd (never m)
-  ends_dry P never no_memory none (Ok endings.BadAnswer) m h = absurd (never m)
-  ends_dry P never no_memory none (Err runs.Memory) m h = elim m [ inl q ↦ absurd (never q) | inr r ↦ absurd (no_memory r) ]
-  ends_dry P never no_memory none (Err runs.Read) m h = finished endings.NoInput (h.dry refl (ap (λ r. given ++ r) none ∙ append-nil given))
-  ends_dry P never no_memory none (Err runs.Write) m h = absurd (never m)
-  ends_dry P never no_memory none (Err runs.Spent) m h = absurd h
+  -- where it asked for a line that it wasn't given, and these are all lines, it ends for want of it, or would ask for an answer
+  unread_shows : {e : Ending} → IsPlainRun p rules lines a refuses old new (Ok e) → ShowsUnread rules.choose (plain p lines rules) a old.shown new.shown → IsUnreadRun p rules lines a old new
+  unread_shows run shows = record { same_borrow = run.same_borrow; shows = shows; unfailed = run.unfailed (λ f. cc) }
+
+  -- an ending for want of a line
+  lacks_line : (choose : Option ℤ) → rules.choose ≡ choose → IsFinished refused p rules lines before later endings.NoInput
+      → IsPlainRun p rules lines a refuses old new (Ok endings.NoInput) → ShowsUnread choose (plain p lines rules) a old.shown new.shown
+  lacks_line None is h run = run.ok
+  lacks_line (Some n) is h run =
+      let none : rules.choose ≡ None = subst (λ (o : Outcome Finish (List ℕ)). HasRunEnding rules.choose o) (ap (λ (f : Answers → Outcome Finish (List ℕ)). f []) h.plays.leaves.rest) (play_ends p lines rules (h.exchange.answers ++ [])) in
+      absurd (let clash : Some n ≡ None = sym is ∙ none in cc)
+
+  dry_ending : IsFinished refused p rules lines before later endings.NoInput → IsUnreadRun p rules lines a old new
+  dry_ending h = let run = finished endings.NoInput h in unread_shows run (lacks_line rules.choose refl h run)
+
+  -- a line that can't be read
+  asks_instead : (n : ℤ) (h : IsUnfinished refused p rules lines before later errors.Read) → h.left [] ≡ Asks n h.exchange.bytes
+      → ShowsUnread (Some n) (plain p lines rules) a old.shown new.shown
+  asks_instead n h asks = (begun h, (h.exchange.answers, shown)) where
+    all : plain p lines rules h.exchange.answers ≡ (h.exchange.bytes, endings.NoAnswer)
+    all = ap (λ x. plain p lines rules x) (sym (append-nil h.exchange.answers)) ∙ ap plain_of (ap (λ (f : Answers → Outcome Finish (List ℕ)). f []) h.plays.leaves.rest ∙ asks)
+
+    shown : ShowsRun (plain p lines rules h.exchange.answers) old.shown new.shown endings.NoAnswer
+    shown = record {
+      ending = sym (ap (λ r. r.1) all);
+      bytes = subst (Appends old.shown new.shown) (sym (ap (λ r. r.0) all)) h.plays.exchanges.shows.shown;
+    }
+
+  unread_line : (choose : Option ℤ) → rules.choose ≡ choose → IfSome choose (λ n. pos 1 ≤ℤ n) → (h : IsUnfinished refused p rules lines before later errors.Read)
+      → LacksInput refused p rules lines before later choose h.exchange.bytes h.left → IsUnreadRun p rules lines a old new
+  unread_line None is positive h lacks = dry_ending lacks
+  unread_line (Some n) is positive h lacks = record {
+    same_borrow = h.plays.exchanges.shows.same_borrow;
+    shows = subst (λ b. ShowsUnread b (plain p lines rules) a old.shown new.shown) (sym is) (asks_instead n h (lacks positive));
+    unfailed = h.broken.1;
+  }
+
+  pub ends_dry : IfSome rules.choose (λ n. pos 1 ≤ℤ n) → (P : Type 0) → (P → ⊥) → (unread reads.Memory → ⊥) → behind ≡ [] → (result : Result Ending RunFault) → UnlessRunMissed unread P result
+      → RunComes refused p rules behind before later result → IsUnreadRun p rules lines a old new
+  ends_dry positive P never no_memory none (Ok endings.End) m h = absurd (never m)
+  ends_dry positive P never no_memory none (Ok endings.Stop) m h = absurd (never m)
+  ends_dry positive P never no_memory none (Ok endings.What) m h = absurd (never m)
+  ends_dry positive P never no_memory none (Ok endings.How) m h = absurd (never m)
+  ends_dry positive P never no_memory none (Ok endings.Sorry) m h = absurd (never m)
+  ends_dry positive P never no_memory none (Ok endings.Limit) m h = absurd (never m)
+  ends_dry positive P never no_memory none (Ok endings.NoInput) m h =
+      let all : lines ≡ given = ap (λ r. given ++ r) none ∙ append-nil given in
+      dry_ending (subst (λ i. IsFinished refused p rules i before later endings.NoInput) (sym all) (h.1 none))
+  ends_dry positive P never no_memory none (Ok endings.NoAnswer) m h = absurd (never m)
+  ends_dry positive P never no_memory none (Ok endings.BadAnswer) m h = absurd (never m)
+  ends_dry positive P never no_memory none (Err runs.Memory) m h = elim m [ inl q ↦ absurd (never q) | inr r ↦ absurd (no_memory r) ]
+  ends_dry positive P never no_memory none (Err runs.Read) m h = unread_line rules.choose refl positive h (h.dry refl (ap (λ r. given ++ r) none ∙ append-nil given))
+  ends_dry positive P never no_memory none (Err runs.Write) m h = absurd (never m)
+  ends_dry positive P never no_memory none (Err runs.Spent) m h = absurd h
 
   pub run_comes : old.takes_memory ≡ false → (unread reads.Memory → ⊥) → (NoneLeft left → behind ≡ []) → (result : Result Ending RunFault)
-      → RunComes refused p limit behind before later result → IsPlainRun p limit lines a refuses old new result
+      → RunComes refused p rules behind before later result → IsPlainRun p rules lines a refuses old new result
   run_comes e no_memory none (Ok endings.End) h = finished endings.End h
   run_comes e no_memory none (Ok endings.Stop) h = finished endings.Stop h
   run_comes e no_memory none (Ok endings.What) h = finished endings.What h
@@ -268,22 +314,23 @@ module _ (p : StoredProgram) (limit : ℕ) (a : Answers) (refuses : Pause → �
   run_comes e no_memory none (Err runs.Spent) h = absurd h
 
 -- where the chooser goes by these answers on whatever lines
-module _ (p : StoredProgram) (limit : ℕ) (answers : List (List ℕ) → Answers) (refuses : Pause → ℤ → Type 0) (c d : Choices) (old new : ScreenState) (given : List (List ℕ)) (unread : ReadFault → Type 0) (left : Option (List (List ℕ)))
-    (result : Result Ending RunFault) (goes : GoesBy refuses c d answers p limit) (h : Runs (refused_by refuses unread left) p limit (devices c old []) (devices d new given) result) where
+module _ (p : StoredProgram) (rules : Rules) (answers : List (List ℕ) → Answers) (refuses : Pause → ℤ → Type 0) (c d : Choices) (old new : ScreenState) (could can : ℕ) (given : List (List ℕ)) (unread : ReadFault → Type 0) (left : Option (List (List ℕ)))
+    (result : Result Ending RunFault) (goes : GoesBy refuses c d answers p rules)
+    (h : Runs (refused_by refuses unread left) p rules (devices c old could rules.choose []) (devices d new can rules.choose given) result) (over : can ≡ 0 → NoneLeft left) where
   pub led_run : old.takes_memory ≡ false → (unread reads.Memory → ⊥) → (behind : List (List ℕ)) → (NoneLeft left → behind ≡ [])
-      → IsPlainRun p limit (given ++ behind) (answers (given ++ behind)) refuses old new result
+      → IsPlainRun p rules (given ++ behind) (answers (given ++ behind)) refuses old new result
   led_run no_room no_memory behind none =
-      run_comes p limit (answers (given ++ behind)) refuses c d old new given behind unread left (goes (given ++ behind)) no_room no_memory none result (h behind)
+      run_comes p rules (answers (given ++ behind)) refuses c d old new could can given behind unread left (goes (given ++ behind)) no_room no_memory none result (h behind (λ e. none (over e)))
 
   pub led_run_takes : old.takes_memory ≡ false → (unread reads.Memory → ⊥) → (behind : List (List ℕ)) → (NoneLeft left → behind ≡ [])
-      → length given ≤ lines_taken p (given ++ behind) limit (answers (given ++ behind))
+      → length given ≤ lines_taken p (given ++ behind) rules (answers (given ++ behind))
   led_run_takes no_room no_memory behind none =
-      takes_given p limit (answers (given ++ behind)) refuses c d old new given behind unread left (goes (given ++ behind)) no_room no_memory none result (h behind)
+      takes_given p rules (answers (given ++ behind)) refuses c d old new could can given behind unread left (goes (given ++ behind)) no_room no_memory none result (h behind (λ e. none (over e)))
 
-  pub led_run_dry : (unread reads.Memory → ⊥) → (P : Type 0) → (P → ⊥) → UnlessRunMissed unread P result
-      → IsPlainRun p limit (given ++ []) (answers (given ++ [])) refuses old new (Ok endings.NoInput)
-  led_run_dry no_memory P never missed =
-      ends_dry p limit (answers (given ++ [])) refuses c d old new given [] unread left (goes (given ++ [])) P never no_memory refl result missed (h [])
+  pub led_run_dry : IfSome rules.choose (λ n. pos 1 ≤ℤ n) → (unread reads.Memory → ⊥) → (P : Type 0) → (P → ⊥) → UnlessRunMissed unread P result
+      → IsUnreadRun p rules (given ++ []) (answers (given ++ [])) old new
+  led_run_dry positive no_memory P never missed =
+      ends_dry p rules (answers (given ++ [])) refuses c d old new could can given [] unread left (goes (given ++ [])) positive P never no_memory refl result missed (h [] (λ _. refl))
 
 -- ---- the screen of a writer
 
@@ -293,22 +340,37 @@ state_of contents failures screen =
     record { shown = contents screen.now; failures = failures screen.now; borrow = Some screen.ghost_name; takes_memory = false }
 
 -- what is said of a plain run, between two states of its writer
-pub record IsRunBetween {W : Type 0} (contents : W → Option (List ℕ)) (failures : W → ℕ) (p : StoredProgram) (limit : ℕ) (ls : List (List ℕ)) (a : Answers) (refuses : Pause → ℤ → Type 0) (w v : W) (result : Result Ending RunFault) : Type 0 where
-  pub ok : IfOk result (ShowsRun (plain p ls limit a) (contents w) (contents v))
-  pub beginning : TakesSome (contents w) (contents v) (plain p ls limit a).0
+pub record IsRunBetween {W : Type 0} (contents : W → Option (List ℕ)) (failures : W → ℕ) (p : StoredProgram) (rules : Rules) (ls : List (List ℕ)) (a : Answers) (refuses : Pause → ℤ → Type 0) (w v : W) (result : Result Ending RunFault) : Type 0 where
+  pub ok : IfOk result (ShowsRun (plain p ls rules a) (contents w) (contents v))
+  pub beginning : TakesSome (contents w) (contents v) (plain p ls rules a).0
   pub failed : IsErrOf result runs.Write → HasFailed (failures w) (failures v)
   pub memory : IsErrOf result runs.Memory → Appends (contents w) (contents v) [] ⊎ ((n : ℤ) × refuses pauses.Memory n)
   pub unfailed : (IsErrOf result runs.Write → ⊥) → failures v ≡ failures w
   pub unspent : IsErrOf result runs.Spent → ⊥
 
 -- a writer ends as it is under the name of its borrow
-pub run_between : {W : Type 0} (contents : W → Option (List ℕ)) (failures : W → ℕ) (p : StoredProgram) (limit : ℕ) (ls : List (List ℕ)) (a : Answers) (refuses : Pause → ℤ → Type 0)
+pub run_between : {W : Type 0} (contents : W → Option (List ℕ)) (failures : W → ℕ) (p : StoredProgram) (rules : Rules) (ls : List (List ℕ)) (a : Answers) (refuses : Pause → ℤ → Type 0)
     (screen screen_after : MutBor W) (w v : W) (result : Result Ending RunFault)
     → screen.now ≡ w → (screen.ghost_name ≡ screen_after.ghost_name → v ≡ screen_after.now)
-    → IsPlainRun p limit ls a refuses (state_of contents failures screen) (state_of contents failures screen_after) result
-    → IsRunBetween contents failures p limit ls a refuses w v result
-run_between contents failures p limit ls a refuses screen screen_after w v result begins ends h =
+    → IsPlainRun p rules ls a refuses (state_of contents failures screen) (state_of contents failures screen_after) result
+    → IsRunBetween contents failures p rules ls a refuses w v result
+run_between contents failures p rules ls a refuses screen screen_after w v result begins ends h =
     let same : screen.ghost_name ≡ screen_after.ghost_name = let e = h.same_borrow in cc in
-    subst (λ x. IsRunBetween contents failures p limit ls a refuses x v result) begins
-    (subst (λ x. IsRunBetween contents failures p limit ls a refuses screen.now x result) (sym (ends same))
+    subst (λ x. IsRunBetween contents failures p rules ls a refuses x v result) begins
+    (subst (λ x. IsRunBetween contents failures p rules ls a refuses screen.now x result) (sym (ends same))
     (record { ok = h.ok; beginning = h.beginning; failed = h.failed; memory = h.memory; unfailed = h.unfailed; unspent = h.unspent }))
+
+-- what is said of a run that couldn't read a line, between two states of its writer
+pub record IsUnreadBetween {W : Type 0} (contents : W → Option (List ℕ)) (failures : W → ℕ) (p : StoredProgram) (rules : Rules) (ls : List (List ℕ)) (a : Answers) (w v : W) : Type 0 where
+  pub shows : ShowsUnread rules.choose (plain p ls rules) a (contents w) (contents v)
+  pub unfailed : failures v ≡ failures w
+
+pub unread_between : {W : Type 0} (contents : W → Option (List ℕ)) (failures : W → ℕ) (p : StoredProgram) (rules : Rules) (ls : List (List ℕ)) (a : Answers)
+    (screen screen_after : MutBor W) (w v : W)
+    → screen.now ≡ w → (screen.ghost_name ≡ screen_after.ghost_name → v ≡ screen_after.now)
+    → IsUnreadRun p rules ls a (state_of contents failures screen) (state_of contents failures screen_after)
+    → IsUnreadBetween contents failures p rules ls a w v
+unread_between contents failures p rules ls a screen screen_after w v begins ends h =
+    let same : screen.ghost_name ≡ screen_after.ghost_name = let e = h.same_borrow in cc in
+    subst (λ x. IsUnreadBetween contents failures p rules ls a x v) begins
+    (subst (λ x. IsUnreadBetween contents failures p rules ls a screen.now x) (sym (ends same)) (record { shows = h.shows; unfailed = h.unfailed }))

@@ -1,14 +1,19 @@
 -- This file proves the laws of replies.
 use Rattle.std.proofs.Common.{◌≡◌, refl, sym, ap, ◌∙◌, ℕ, ◌<◌, List, length, Bool, true, false, Option, Some, None, Ok, Err, ◌↔◌}
+use Rattle.std.specs.Prelude.{◌&&◌}
 use Rattle.std.proofs.lemmas.Bool.{false_from_ne_true, lt-ltb}
 use Rattle.ptb_text.specs.declared.fault.LoadFault.{LoadFault}
 use Rattle.ptb_text.specs.declared.fault.LoadFault.TheVariants.{TooLong}
 use Rattle.ptb_text.specs.Lines.{input_lines}
 use Rattle.ptb_text.specs.Statements.{Statements, StoredProgram, program, program_limit}
-use Rattle.ptb_expr.specs.Outcome.{Answers, Outcome, IsReader}
+use Rattle.ptb_expr.specs.Outcome.{Answers, Outcome, IsReader, bounds}
 use Rattle.ptb_machine.specs.Laws.{RunLaws}
+use Rattle.ptb_machine.specs.declared.rules.Rules.{Rules}
 use Rattle.ptb_machine.specs.Play.{Finish, play}
 use Rattle.ptb_machine.specs.Questions.{most_answers}
+use Rattle.ptb_explore.specs.declared.form.Form.{Form}
+use Rattle.ptb_explore.specs.declared.form.Marked.{Marked}
+use Rattle.ptb_explore.specs.AnswerText.{answers_of, items_in}
 use Rattle.ptb_explore.specs.Laws.{ListingLaws}
 use Rattle.ptb_explore.specs.Report.{report_of}
 use Rattle.ptb_explore.specs.RunTree.{IsRun, Before, is_after, runs_after}
@@ -34,75 +39,85 @@ refused memory b next e h = ap (reply_or_refusal next memory) h
 
 refused_in_mode : (m : Mode) (r : Request) (b c : List ℕ) (e : ℕ × LoadFault) → program_of_text r.memory b ≡ Err e
     → reply_in_mode m r b c ≡ refusal (notes.Load e.0 e.1)
-refused_in_mode (modes.Plain a) r b c e h = refused r.memory b (plain_reply r.steps a c) e h
-refused_in_mode (modes.Seeded seed) r b c e h = refused r.memory b (seeded_reply r.steps seed c) e h
-refused_in_mode (modes.All after first) r b c e h = refused r.memory b (λ p. all_reply p (input_lines c) r.steps after first) e h
+refused_in_mode (modes.Plain a) r b c e h = refused r.memory b (plain_reply r.rules a c) e h
+refused_in_mode (modes.Seeded seed) r b c e h = refused r.memory b (seeded_reply r.rules seed c) e h
+refused_in_mode (modes.All after first form) r b c e h = refused r.memory b (λ p. all_reply p (input_lines c) r.rules after first form) e h
 refused_in_mode modes.List r b c e h = refused r.memory b listing_reply e h
 
 -- ---- a text that is accepted
+
+both_true : (a b : Bool) → a ≡ true → b ≡ true → (a && b) ≡ true
+both_true a b h g = rw (h, g) refl
+
+both_parts : (a b : Bool) → (a && b) ≡ true → (a ≡ true) × (b ≡ true)
+both_parts true true h = (refl, refl)
+both_parts true false h = absurd (cc)
+both_parts false b h = absurd (cc)
 
 accepted : (memory : ℕ) (b : List ℕ) (next : StoredProgram → Reply) (p : Statements) → program_of_text memory b ≡ Ok p
     → program_reply memory b next ≡ next (record { lines = p; memory = memory })
 accepted memory b next p h = ap (reply_or_refusal next memory) h
 
-module _ (p : StoredProgram) (c : List ℕ) (limit : ℕ) (laws : ListingLaws (play p (input_lines c) limit) (most_answers p (input_lines c) limit))
-    (reads : IsReader (play p (input_lines c) limit) (most_answers p (input_lines c) limit)) where
+module _ (p : StoredProgram) (c : List ℕ) (rules : Rules) (laws : ListingLaws (play p (input_lines c) rules) (most_answers p (input_lines c) rules.limit))
+    (reads : IsReader (play p (input_lines c) rules) (most_answers p (input_lines c) rules.limit)) where
   abbrev game : Answers → Outcome Finish (List ℕ)
-  game = play p (input_lines c) limit
+  game = play p (input_lines c) rules
 
   -- a listing begins with the first run, or behind one that is named; these are the runs that are to be listed
-  lists_runs : (after : Option Answers) → is_front game after ≡ true → (IsListed : Answers → Type 0)
+  lists_runs : (after : Option (List Marked)) → is_front game after ≡ true → (IsListed : Answers → Type 0)
       → ((a : Answers) → (IsRun game a × (is_after (first_front after) a ≡ true)) ↔ IsListed a)
-      → (reply : Option ℕ → Reply) → ((first : Option ℕ) → reply first ≡ all_reply p (input_lines c) limit after first)
+      → (reply : Option ℕ → Form → Reply) → ((first : Option ℕ) (form : Form) → reply first form ≡ all_reply p (input_lines c) rules after first form)
       → ListsRuns game IsListed reply
   lists_runs after front IsListed same reply is = record {
-    runs = runs_after game (most_answers p (input_lines c) limit) (first_front after);
+    runs = runs_after game (most_answers p (input_lines c) rules.limit) (first_front after);
     rising = laws.order (first_front after);
     members = λ a.
         let left = laws.runs (first_front after) a in
         (λ h. (same a).0 (left.0 h), λ h. left.1 ((same a).1 h));
-    all = is None ∙ reply-listed p limit after None (input_lines c) front;
-    first = λ n. is (Some n) ∙ reply-listed p limit after (Some n) (input_lines c) front;
+    all = λ form. is None form ∙ reply-listed p rules after None form (input_lines c) front;
+    first = λ n form. is (Some n) form ∙ reply-listed p rules after (Some n) form (input_lines c) front;
   }
 
   -- where replies to runs of it are those of the definition
   -- where the reply to a seed is that of the definition
-  runs_by_seed : (reply : Mode → Reply) → ((a : Answers) → reply (modes.Plain a) ≡ plain_reply limit a c p)
-      → (seed : ℕ) → reply (modes.Seeded seed) ≡ seeded_reply limit seed c p → RunsBySeed seed game reply
+  runs_by_seed : (reply : Mode → Reply) → ((a : Answers) → reply (modes.Plain a) ≡ plain_reply rules a c p)
+      → (seed : ℕ) → reply (modes.Seeded seed) ≡ seeded_reply rules seed c p → RunsBySeed seed game reply
   runs_by_seed reply plain seed seeded =
-      let one = one_is_drawn seed (most_answers p (input_lines c) limit) game reads in
+      let one = one_is_drawn seed (most_answers p (input_lines c) rules.limit) game reads in
       record {
-        answers = seeded_answers seed p (input_lines c) limit;
+        answers = seeded_answers seed p (input_lines c) rules;
         drawn = one.0;
         only = one.1;
-        same = seeded ∙ sym (plain (seeded_answers seed p (input_lines c) limit));
+        same = seeded ∙ sym (plain (seeded_answers seed p (input_lines c) rules));
       }
 
-  run_replies : (reply : Mode → Reply) → ((a : Answers) → reply (modes.Plain a) ≡ plain_reply limit a c p)
-      → ((seed : ℕ) → reply (modes.Seeded seed) ≡ seeded_reply limit seed c p)
-      → ((after : Option Answers) (first : Option ℕ) → reply (modes.All after first) ≡ all_reply p (input_lines c) limit after first)
+  run_replies : (reply : Mode → Reply) → ((a : Answers) → reply (modes.Plain a) ≡ plain_reply rules a c p)
+      → ((seed : ℕ) → reply (modes.Seeded seed) ≡ seeded_reply rules seed c p)
+      → ((after : Option (List Marked)) (first : Option ℕ) (form : Form) → reply (modes.All after first form) ≡ all_reply p (input_lines c) rules after first form)
       → RunReplies game reply
   run_replies reply plain seeded all = record {
-    all_runs = lists_runs None refl (IsRun game) (λ a. (λ h. h.0, λ h. (h, refl))) (λ first. reply (modes.All None first)) (all None);
-    runs_after = λ r run.
-        lists_runs (Some r) run (λ a. IsRun game a × Before r a) (λ a. (λ h. h, λ h. h)) (λ first. reply (modes.All (Some r) first)) (all (Some r));
-    no_run = λ r first none. all (Some r) first ∙ reply-refused p limit (Some r) first (input_lines c) (false_from_ne_true _ none);
-    run_report = λ a f ends. ap (report_of a) ends;
+    all_runs = lists_runs None refl (IsRun game) (λ a. (λ h. h.0, λ h. (h, refl))) (λ first form. reply (modes.All None first form)) (all None);
+    runs_after = λ list run.
+        lists_runs (Some list) (both_true _ _ run.0 run.1) (λ a. IsRun game a × Before (answers_of list) a) (λ a. (λ h. h, λ h. h))
+        (λ first form. reply (modes.All (Some list) first form)) (all (Some list));
+    no_run = λ list first form none.
+        all (Some list) first form ∙ reply-refused p rules (Some list) first form (input_lines c) (false_from_ne_true _ (λ h. none (both_parts _ _ h)));
+    run_report = λ form a f ends. ap (report_of (items_in form a (bounds game a))) ends;
     plain_run = plain;
     seeded_run = λ seed. runs_by_seed reply plain seed (seeded seed);
   }
 
 -- ---- all of them
 
-pub reply_laws : RunLaws → ((p : StoredProgram) (input : List (List ℕ)) (limit : ℕ) → ListingLaws (play p input limit) (most_answers p input limit)) → ReplyLaws
+pub reply_laws : RunLaws → ((p : StoredProgram) (input : List (List ℕ)) (rules : Rules) → ListingLaws (play p input rules) (most_answers p input rules.limit)) → ReplyLaws
 reply_laws runs laws = record {
   too_long = λ r b c long. refused_in_mode r.mode r b c (0, TooLong) (too_long_text r.memory b long);
   refused = λ r b c e h. refused_in_mode r.mode r b c e h;
-  accepted = λ memory steps b c p h.
-      run_replies (record { lines = p; memory = memory }) c steps (laws (record { lines = p; memory = memory }) (input_lines c) steps)
-      (runs.reads (record { lines = p; memory = memory }) (input_lines c) steps) _
-      (λ a. accepted memory b (plain_reply steps a c) p h)
-      (λ seed. accepted memory b (seeded_reply steps seed c) p h)
-      (λ after first. accepted memory b (λ p. all_reply p (input_lines c) steps after first) p h);
+  accepted = λ memory rules b c p h.
+      run_replies (record { lines = p; memory = memory }) c rules (laws (record { lines = p; memory = memory }) (input_lines c) rules)
+      (runs.reads (record { lines = p; memory = memory }) (input_lines c) rules) _
+      (λ a. accepted memory b (plain_reply rules a c) p h)
+      (λ seed. accepted memory b (seeded_reply rules seed c) p h)
+      (λ after first form. accepted memory b (λ p. all_reply p (input_lines c) rules after first form) p h);
   listed = λ r b c p h mode. ap (λ m. reply_in_mode m r b c) mode ∙ accepted r.memory b listing_reply p h;
 }

@@ -1,5 +1,5 @@
 -- This file proves how a request is served, from how its program was loaded and what was written.
-use Rattle.std.proofs.Common.{◌≡◌, inl, ℕ, ◌+◌, ◌<◌, ◌≤◌, true, false, nat_lt, List, [], length, Option, Some, None, Result, Ok, Err, IfOk, IfSome, IfErr, OnOk, refl, ap, ◌∙◌, sym, arith, IsErrOf, ℤ, subst}
+use Rattle.std.proofs.Common.{◌≡◌, inl, ℕ, ◌+◌, ◌==◌, if◌then◌else◌, ◌<◌, ◌≤◌, true, false, nat_lt, List, [], length, Option, Some, None, Result, Ok, Err, IfOk, IfSome, IfErr, OnOk, refl, ap, ◌∙◌, sym, arith, IsErrOf, ℤ, subst}
 use Rattle.std.specs.Io.KnownBytes.{Appends, Consumes}
 use Rattle.std.proofs.KnownBytes.{Appends-nil, Consumes-nil}
 use Rattle.ptb_text.specs.declared.fault.LoadFault.{LoadFault}
@@ -13,16 +13,21 @@ use Rattle.ptb_command.specs.declared.ending.Ending.{Ending}
 use Rattle.ptb_command.specs.declared.ending.Ending.TheVariants as endings
 use Rattle.ptb_machine.specs.declared.fault.RunFault.{RunFault}
 use Rattle.ptb_machine.specs.declared.fault.RunFault.TheVariants as faults
+use Rattle.ptb_expr.specs.Outcome.{Answers}
+use Rattle.ptb_machine.specs.declared.rules.Rules.{Rules}
 use Rattle.ptb_machine.specs.Play.{status}
 use Rattle.ptb_devices.specs.Sources.{ConsumesAtMost}
 use Rattle.ptb_options.specs.declared.request.Mode.TheVariants as modes
+use Rattle.ptb_options.specs.declared.request.Request.{Request}
+use Rattle.ptb_explore.specs.declared.form.Form.{Form}
+use Rattle.ptb_explore.specs.declared.form.Marked.{Marked}
 use Rattle.ptb_serve.specs.declared.note.Note.{Note}
 use Rattle.ptb_serve.specs.declared.note.Note.TheVariants as notes
 use Rattle.ptb_serve.specs.declared.service.Outcome.{Outcome}
 use Rattle.ptb_serve.specs.Statuses.{note_status}
-use Rattle.ptb_serve.specs.PlainRuns.{ShowsRun, lines_come, lines_taken, lines_wanted, ReadsFor}
+use Rattle.ptb_serve.specs.PlainRuns.{ShowsRun, lines_come, ShowsUnread, ending_wanted, lines_taken, lines_wanted, ReadsFor}
 use Rattle.ptb_serve.specs.Replies.{Reply, refusal, run_reply, program_of_text, reply_or_refusal, program_reply}
-use Rattle.ptb_serve.specs.Serving.{outcome_of, EndsUnread, wanted_by, load_note, IsRunNote, IsUnloaded, Replies, Serves, SilentBy, TellsLength, TellsRefusal}
+use Rattle.ptb_serve.specs.Serving.{outcome_of, EndsUnread, ReadsBy, outcome_wanted, wanted_by, load_note, IsRunNote, IsUnloaded, Replies, Serves, SilentBy, TellsLength, TellsRefusal}
 
 -- ---- the program of a text
 
@@ -261,64 +266,78 @@ silent_seeded seed old new faults.Spent note n = absurd n
 
 -- ---- an input that can't be read
 
--- on the lines that came whole a run ends for want of a line
-pub unread_loaded : (memory : ℕ) (known : Option (List ℕ)) (run : StoredProgram → List (List ℕ) → List ℕ × Ending) (p : StoredProgram) (i j old new : Option (List ℕ)) → IfSome known (λ b. IsLoaded memory b p.lines)
-    → p.memory ≡ memory → (taken : List ℕ) × Consumes i j taken × ShowsRun (run p (lines_come taken)) old new endings.NoInput
-    → IfSome known (λ b. (taken : List ℕ) × Consumes i j taken × EndsUnread (program_reply memory b (λ q. run_reply (run q (lines_come taken)))) old new)
-unread_loaded memory None run p i j old new h e r = tt
-unread_loaded memory (Some b) run p i j old new h e r =
-    let next : StoredProgram → Reply = λ q. run_reply (run q (lines_come r.0)) in
-    let is : program_reply memory b next ≡ next p =
-    program_reply-loaded memory b next p.lines h ∙ ap (λ m. next (record { lines = p.lines; memory = m })) (sym e) in
-    (r.0, r.1, subst (λ (x : Reply). EndsUnread x old new) (sym is) (record { bytes = r.2.bytes; status = sym (ap status r.2.ending) }))
+-- on the lines that came whole a run ends for want of a line, or asks for an answer
+module _ (memory : ℕ) (choose : Option ℤ) (run : StoredProgram → List (List ℕ) → Answers → List ℕ × Ending) (given : StoredProgram → List (List ℕ) → Answers) (p : StoredProgram) (i j old new : Option (List ℕ)) where
+  abbrev unread_run : StoredProgram → List (List ℕ) → Reply
+  unread_run q lines = run_reply (run q lines (given q lines))
+
+  ends_unread : (lines : List (List ℕ)) (c : Option ℤ) → ShowsUnread c (run p lines) (given p lines) old new → EndsUnread c (unread_run p lines) (λ a. run_reply (run p lines a)) old new
+  ends_unread lines None h = record { bytes = h.bytes; status = sym (ap status h.ending) }
+  ends_unread lines (Some n) h = record { begins = h.0; asked = h.1.0; bytes = h.1.1.bytes; status = sym (ap status h.1.1.ending) }
+
+  pub unread_loaded : (known : Option (List ℕ)) → IfSome known (λ b. IsLoaded memory b p.lines) → p.memory ≡ memory
+      → (taken : List ℕ) × Consumes i j taken × ShowsUnread choose (run p (lines_come taken)) (given p (lines_come taken)) old new
+      → IfSome known (λ b. (taken : List ℕ) × Consumes i j taken
+      × EndsUnread choose (program_reply memory b (λ q. unread_run q (lines_come taken))) (λ a. program_reply memory b (λ q. run_reply (run q (lines_come taken) a))) old new)
+  unread_loaded None h e r = tt
+  unread_loaded (Some b) h e r =
+      let lines = lines_come r.0 in
+      let stored : record { lines = p.lines; memory = memory } ≡ p = ap (λ m. record p { memory = m }) (sym e) in
+      rw (program_of_text-ok memory b p.lines h) (
+        r.0,
+        r.1,
+        subst (λ q. EndsUnread choose (unread_run q lines) (λ a. run_reply (run q lines a)) old new) (sym stored) (ends_unread lines choose r.2),
+      )
 
 -- ---- what is taken of the input
 
--- by how many lines a run of a program takes of an input
-abbrev pub ReadsBy : (StoredProgram → List ℕ → ℕ) → ℕ → List ℕ → List ℕ → Option (List ℕ) → Outcome → Type 0
-ReadsBy count memory b c left outcome =
-    IfOk (program_of_text memory b) (λ p. (taken : List ℕ) × Consumes (Some c) left taken
-    × ReadsFor taken (wanted_by (count (record { lines = p; memory = memory }) c) outcome.note outcome.status))
-
 -- where nothing was taken
-reads_nothing : (count : StoredProgram → List ℕ → ℕ) (memory : ℕ) (b : List ℕ) (known : Option (List ℕ)) (outcome : Outcome) → IfSome known (λ c. ReadsBy count memory b c known outcome)
-reads_nothing count memory b None outcome = tt
-reads_nothing count memory b (Some c) outcome = by_text (program_of_text memory b) where
+reads_nothing : (request : Request) (count : StoredProgram → List (List ℕ) → ℕ) (b : List ℕ) (known : Option (List ℕ)) (outcome : Outcome) → IfSome known (λ c. ReadsBy request count b c known outcome)
+reads_nothing request count b None outcome = tt
+reads_nothing request count b (Some c) outcome = by_text (program_of_text request.memory b) where
   by_text : (t : Result Statements (ℕ × LoadFault)) → IfOk t (λ p. (taken : List ℕ) × Consumes (Some c) (Some c) taken
-      × ReadsFor taken (wanted_by (count (record { lines = p; memory = memory }) c) outcome.note outcome.status))
+      × ReadsFor taken (wanted_by request.rules.choose (length (input_lines c)) (count (record { lines = p; memory = request.memory }) (input_lines c)) outcome))
   by_text (Ok p) = ([], refl, inl refl)
   by_text (Err e) = tt
 
-pub reads_nothing_for : (count : StoredProgram → List ℕ → ℕ) (memory : ℕ) (program known : Option (List ℕ)) (outcome : Outcome) → IfSome program (λ b. IfSome known (λ c. ReadsBy count memory b c known outcome))
-reads_nothing_for count memory None known outcome = tt
-reads_nothing_for count memory (Some b) known outcome = reads_nothing count memory b known outcome
+pub reads_nothing_for : (request : Request) (count : StoredProgram → List (List ℕ) → ℕ) (program known : Option (List ℕ)) (outcome : Outcome) → IfSome program (λ b. IfSome known (λ c. ReadsBy request count b c known outcome))
+reads_nothing_for request count None known outcome = tt
+reads_nothing_for request count (Some b) known outcome = reads_nothing request count b known outcome
 
 -- with the same answers
-pub taken_answers : (p : StoredProgram) (steps : ℕ) (known left : Option (List ℕ)) (result : Result Ending RunFault) (x y : List ℤ) → x ≡ y
-    → (taken : List ℕ) × Consumes known left taken × IfSome known (λ c. ReadsFor taken (lines_wanted (lines_taken p (input_lines c) steps x) result))
-    → (taken : List ℕ) × Consumes known left taken × IfSome known (λ c. ReadsFor taken (lines_wanted (lines_taken p (input_lines c) steps y) result))
-taken_answers p steps known left result x y e h =
-    subst (λ (a : List ℤ). (taken : List ℕ) × Consumes known left taken × IfSome known (λ c. ReadsFor taken (lines_wanted (lines_taken p (input_lines c) steps a) result))) e h
+pub taken_answers : (p : StoredProgram) (rules : Rules) (known left : Option (List ℕ)) (result : Result Ending RunFault) (x y : List ℤ) → x ≡ y
+    → (taken : List ℕ) × Consumes known left taken × IfSome known (λ c. ReadsFor taken (lines_wanted rules.choose (length (input_lines c)) (lines_taken p (input_lines c) rules x) result))
+    → (taken : List ℕ) × Consumes known left taken × IfSome known (λ c. ReadsFor taken (lines_wanted rules.choose (length (input_lines c)) (lines_taken p (input_lines c) rules y) result))
+taken_answers p rules known left result x y e h =
+    subst (λ (a : List ℤ). (taken : List ℕ) × Consumes known left taken × IfSome known (λ c. ReadsFor taken (lines_wanted rules.choose (length (input_lines c)) (lines_taken p (input_lines c) rules a) result))) e h
+
+-- by the outcome as by the result
+wanted_same : (result : Result Ending RunFault) (outcome : Outcome) → ((k : ℕ) → ending_wanted k result ≡ outcome_wanted k outcome)
+    → (choose : Option ℤ) (all k : ℕ) → lines_wanted choose all k result ≡ wanted_by choose all k outcome
+wanted_same result outcome same None all k = same k
+wanted_same result outcome same (Some n) all k = ap (λ m. if k == all then k + 1 else m) (same k)
 
 -- a text that was loaded is that program
-pub reads_loaded : (count : StoredProgram → List ℕ → ℕ) (memory : ℕ) (program known left : Option (List ℕ)) (p : StoredProgram) (outcome : Outcome) (result : Result Ending RunFault)
-    → IfSome program (λ b. IsLoaded memory b p.lines) → p.memory ≡ memory
-    → ((k : ℕ) → lines_wanted k result ≡ wanted_by k outcome.note outcome.status)
-    → (taken : List ℕ) × Consumes known left taken × IfSome known (λ c. ReadsFor taken (lines_wanted (count p c) result))
-    → IfSome program (λ b. IfSome known (λ c. ReadsBy count memory b c left outcome))
-reads_loaded count memory None known left p outcome result h e same r = tt
-reads_loaded count memory (Some b) None left p outcome result h e same r = tt
-reads_loaded count memory (Some b) (Some c) left p outcome result h e same r =
-    let stored : record { lines = p.lines; memory = memory } ≡ p = ap (λ m. record p { memory = m }) (sym e) in
-    rw (program_of_text-ok memory b p.lines h) (
+pub reads_loaded : (request : Request) (count : StoredProgram → List (List ℕ) → ℕ) (program known left : Option (List ℕ)) (p : StoredProgram) (outcome : Outcome) (result : Result Ending RunFault)
+    → IfSome program (λ b. IsLoaded request.memory b p.lines) → p.memory ≡ request.memory
+    → ((k : ℕ) → ending_wanted k result ≡ outcome_wanted k outcome)
+    → (taken : List ℕ) × Consumes known left taken × IfSome known (λ c. ReadsFor taken (lines_wanted request.rules.choose (length (input_lines c)) (count p (input_lines c)) result))
+    → IfSome program (λ b. IfSome known (λ c. ReadsBy request count b c left outcome))
+reads_loaded request count None known left p outcome result h e same r = tt
+reads_loaded request count (Some b) None left p outcome result h e same r = tt
+reads_loaded request count (Some b) (Some c) left p outcome result h e same r =
+    let stored : record { lines = p.lines; memory = request.memory } ≡ p = ap (λ m. record p { memory = m }) (sym e) in
+    let all = length (input_lines c) in
+    rw (program_of_text-ok request.memory b p.lines h) (
       r.0,
       r.1,
-      subst (λ q. ReadsFor r.0 (wanted_by (count q c) outcome.note outcome.status)) (sym stored) (subst (ReadsFor r.0) (same (count p c)) r.2),
+      subst (λ q. ReadsFor r.0 (wanted_by request.rules.choose all (count q (input_lines c)) outcome)) (sym stored)
+          (subst (ReadsFor r.0) (wanted_same result outcome same request.rules.choose all (count p (input_lines c))) r.2),
     )
 
-pub wanted_ended : (e : Ending) (n : ℕ) → n ≡ status e → (k : ℕ) → lines_wanted k (Ok e) ≡ wanted_by k (outcome_of (Ok n)).note (outcome_of (Ok n)).status
-wanted_ended e n number k = by_ending e ∙ ap (wanted_by k None) (sym number) where
-  by_ending : (e : Ending) → lines_wanted k (Ok e) ≡ wanted_by k None (status e)
+pub wanted_ended : (e : Ending) (n : ℕ) → n ≡ status e → (k : ℕ) → ending_wanted k (Ok e) ≡ outcome_wanted k (outcome_of (Ok n))
+wanted_ended e n number k = by_ending e ∙ ap (λ s. outcome_wanted k (outcome_of (Ok s))) (sym number) where
+  by_ending : (e : Ending) → ending_wanted k (Ok e) ≡ outcome_wanted k (outcome_of (Ok (status e)))
   by_ending endings.End = refl
   by_ending endings.Stop = refl
   by_ending endings.What = refl
@@ -329,17 +348,17 @@ wanted_ended e n number k = by_ending e ∙ ap (wanted_by k None) (sym number) w
   by_ending endings.NoAnswer = refl
   by_ending endings.BadAnswer = refl
 
-pub wanted_stopped : (f : RunFault) (note : Note) → IsRunNote f note → (k : ℕ) → lines_wanted k (Err f) ≡ wanted_by k (outcome_of (Err note)).note (outcome_of (Err note)).status
-wanted_stopped faults.Memory note n k = ap (λ m. wanted_by k (Some m) (note_status note)) (sym n)
-wanted_stopped faults.Read note n k = ap (λ m. wanted_by k (Some m) (note_status note)) (sym n)
-wanted_stopped faults.Write note n k = ap (λ m. wanted_by k (Some m) (note_status note)) (sym n)
+pub wanted_stopped : (f : RunFault) (note : Note) → IsRunNote f note → (k : ℕ) → ending_wanted k (Err f) ≡ outcome_wanted k (outcome_of (Err note))
+wanted_stopped faults.Memory note n k = ap (λ m. outcome_wanted k (outcome_of (Err m))) (sym n)
+wanted_stopped faults.Read note n k = ap (λ m. outcome_wanted k (outcome_of (Err m))) (sym n)
+wanted_stopped faults.Write note n k = ap (λ m. outcome_wanted k (outcome_of (Err m))) (sym n)
 wanted_stopped faults.Spent note n k = absurd n
 
 -- before a listing nothing was written
-pub unread_listing : (after : Option (List ℤ)) (first : Option ℕ) (known old new : Option (List ℕ)) (note : Option Note) → SilentBy (modes.All after first) note old new
+pub unread_listing : (after : Option (List Marked)) (first : Option ℕ) (form : Form) (known old new : Option (List ℕ)) (note : Option Note) → SilentBy (modes.All after first form) note old new
     → note ≡ Some notes.InputUnread → IfSome known (λ _. Appends old new [])
-unread_listing after first None old new note h is = tt
-unread_listing after first (Some b) old new note h is = subst (λ m. SilentBy (modes.All after first) m old new) is h
+unread_listing after first form None old new note h is = tt
+unread_listing after first form (Some b) old new note h is = subst (λ m. SilentBy (modes.All after first form) m old new) is h
 
 -- a run that is begun was told where to begin
 pub IsRunNote-start : (f : RunFault) (note : Note) → IsRunNote f note → IsErrOf {T = ℕ} (Err note) notes.NoRun → ⊥

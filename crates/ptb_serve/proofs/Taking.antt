@@ -1,7 +1,7 @@
 -- This file proves what a plain run took of its input, from how a source of its lines went on.
-use Rattle.std.proofs.Common.{◌≡◌, ℕ, ◌+◌, ◌-◌, ◌≤◌, ◌<◌, ◌⊎◌, inl, inr, Bool, true, false, nat_lt, List, [], ◌∷◌, ◌++◌, length, take, drop, Option, Some, None, Result, Ok, Err, IfOk, IfSome, IsErrOf, OnOk, ℤ, refl, sym, ap, subst, ◌∙◌, arith, append_assoc, length-append, take_all, take-append-drop}
-use Rattle.std.specs.Prelude.{option_map, OnErr}
-use Rattle.std.proofs.lemmas.Bool.{lt-ltb, le-ltb, ltb-true, ltb-false}
+use Rattle.std.proofs.Common.{◌≡◌, ℕ, ◌+◌, ◌-◌, ◌≤◌, ◌<◌, ◌⊎◌, inl, inr, Bool, true, false, nat_lt, ◌==◌, List, [], ◌∷◌, ◌++◌, length, take, drop, Option, Some, None, Result, Ok, Err, IfOk, IfSome, IsErrOf, OnOk, ℤ, refl, sym, ap, subst, ◌∙◌, arith, append_assoc, length-append, take_all, take-append-drop}
+use Rattle.std.specs.Prelude.{option_map, OnErr, if◌then◌else◌}
+use Rattle.std.proofs.lemmas.Bool.{lt-ltb, le-ltb, ltb-true, ltb-false, eqb-false}
 use Rattle.std.specs.Io.KnownBytes.{Consumes}
 use Rattle.ptb_text.specs.Device.{GivesAtMost, GivesExactly, HasFailed, TakesSome}
 use Rattle.ptb_text.specs.Lines.{input_lines}
@@ -11,8 +11,8 @@ use Rattle.ptb_devices.specs.declared.line_buffer.InputEnd.{InputEnd}
 use Rattle.ptb_devices.specs.declared.line_buffer.InputEnd.TheVariants.{Open, Ended, Failed, Exceeded}
 use Rattle.ptb_devices.specs.Cutting.{kept_bytes, whole_lines, last_piece, last_line}
 use Rattle.ptb_devices.specs.CuttingLaws.{whole_lines-append}
-use Rattle.ptb_devices.specs.Inputs.{InputState, InputNow, fresh_input, open_piece, lines_left, lines_to_end, known_lines, input_now, ReadsOn, Refuses, asked, fault_at, IsReadAhead, asked_at}
-use Rattle.ptb_devices.specs.InputLaws.{take-split}
+use Rattle.ptb_devices.specs.Inputs.{InputState, InputNow, fresh_input, open_piece, lines_left, lines_to_end, known_lines, most_to_come, most_lines, input_now, ReadsOn, Refuses, asked, fault_at, IsReadAhead, asked_at}
+use Rattle.ptb_devices.specs.InputLaws.{take-split, none_known}
 use Rattle.ptb_devices.specs.declared.reader_lines.ReaderLines.{ReaderLines}
 use Rattle.ptb_devices.specs.Readers.{line_input, line_reader, input_of, GivesFrom}
 use Rattle.ptb_devices.specs.Sources.{Loses, NoneLeft, ConsumesAtMost}
@@ -22,13 +22,15 @@ use Rattle.ptb_expr.specs.declared.pause.Pause.{Pause}
 use Rattle.ptb_expr.specs.Outcome.{Answers}
 use Rattle.ptb_command.specs.Devices.{Devices, refused_by}
 use Rattle.ptb_machine.specs.declared.fault.RunFault.TheVariants as runs
+use Rattle.ptb_machine.specs.declared.rules.Rules.{Rules}
+use Rattle.ptb_command.specs.Stops.{NotMissed}
 use Rattle.ptb_machine.specs.Runs.{RunComes, UnlessRunMissed}
 use Rattle.ptb_command.specs.declared.ending.Ending.{Ending}
 use Rattle.ptb_command.specs.declared.ending.Ending.TheVariants as endings
 use Rattle.ptb_machine.specs.declared.fault.RunFault.{RunFault}
 use Rattle.ptb_machine.specs.Play.{plain}
-use Rattle.ptb_serve.specs.PlainRuns.{IsUnreadable, ShowsRun, run_fault, lines_come, lines_taken, lines_wanted, ReadsFor}
-use Rattle.ptb_serve.proofs.Playing.{IsRunBetween}
+use Rattle.ptb_serve.specs.PlainRuns.{IsUnreadable, ShowsRun, ShowsUnread, run_fault, lines_come, lines_taken, ending_wanted, lines_wanted, ReadsFor}
+use Rattle.ptb_serve.proofs.Playing.{IsRunBetween, IsUnreadBetween}
 
 abbrev pub fresh : Option (List ℕ) → ℕ → ℕ → InputNow
 fresh known x f = record { state = fresh_input; bytes = known; given = x; failures = f }
@@ -224,46 +226,102 @@ fault_asked a fault e h = by_end a.end a.is_given e h where
   by_end Failed given e h = omega (arith, h)
   by_end Exceeded given e h = omega (arith, h)
 
--- by how the run has ended
-pub wanted_within : (a : InputState) (result : Result Ending RunFault) → UnlessRunMissed (Refuses a.end) (asked a ≤ 0) result → (k : ℕ) → k + asked a ≤ lines_wanted k result
-wanted_within a (Ok endings.End) m k = omega (arith, m)
-wanted_within a (Ok endings.Stop) m k = omega (arith, m)
-wanted_within a (Ok endings.What) m k = omega (arith, m)
-wanted_within a (Ok endings.How) m k = omega (arith, m)
-wanted_within a (Ok endings.Sorry) m k = omega (arith, m)
-wanted_within a (Ok endings.Limit) m k = omega (arith, m)
-wanted_within a (Ok endings.NoInput) m k = omega (arith, asked_one a)
-wanted_within a (Ok endings.NoAnswer) m k = omega (arith, m)
-wanted_within a (Ok endings.BadAnswer) m k = omega (arith, m)
-wanted_within a (Err runs.Memory) m k = elim m [ inl q ↦ omega (arith, q) | inr r ↦ absurd (fault_without_memory a.end r) ]
-wanted_within a (Err runs.Read) m k = omega (arith, asked_one a)
-wanted_within a (Err runs.Write) m k = omega (arith, m)
-wanted_within a (Err runs.Spent) m k = omega (arith, m)
+-- by how the run has ended, where it missed no line
+missed_within : (a : InputState) (P : Type 0) → (P → asked a ≤ 0) → (result : Result Ending RunFault) → UnlessRunMissed (Refuses a.end) P result → (k : ℕ) → k + asked a ≤ ending_wanted k result
+missed_within a P few (Ok endings.End) m k = omega (arith, few m)
+missed_within a P few (Ok endings.Stop) m k = omega (arith, few m)
+missed_within a P few (Ok endings.What) m k = omega (arith, few m)
+missed_within a P few (Ok endings.How) m k = omega (arith, few m)
+missed_within a P few (Ok endings.Sorry) m k = omega (arith, few m)
+missed_within a P few (Ok endings.Limit) m k = omega (arith, few m)
+missed_within a P few (Ok endings.NoInput) m k = omega (arith, asked_one a)
+missed_within a P few (Ok endings.NoAnswer) m k = omega (arith, few m)
+missed_within a P few (Ok endings.BadAnswer) m k = omega (arith, few m)
+missed_within a P few (Err runs.Memory) m k = elim m [ inl q ↦ omega (arith, few q) | inr r ↦ absurd (fault_without_memory a.end r) ]
+missed_within a P few (Err runs.Read) m k = omega (arith, asked_one a)
+missed_within a P few (Err runs.Write) m k = omega (arith, few m)
+missed_within a P few (Err runs.Spent) m k = omega (arith, few m)
+
+-- where it took k of all lines, of which so many were given; it may have missed one only where these were all
+abbrev pub WantsWithin : Rules → Result Ending RunFault → ℕ → ℕ → Type 0
+WantsWithin rules result wanted most = (given all k : ℕ) → given ≤ k → k ≤ all → (most ≡ 0 → all ≤ given) → given + wanted ≤ lines_wanted rules.choose all k result
+
+wanted_by_choose : (a : InputState) (most : ℕ) (choose : Option ℤ) (result : Result Ending RunFault) → UnlessRunMissed (Refuses a.end) (NotMissed choose 0 (asked a) most) result
+    → (given all k : ℕ) → given ≤ k → k ≤ all → (most ≡ 0 → all ≤ given) → given + asked a ≤ lines_wanted choose all k result
+wanted_by_choose a most None result m given all k fits part over =
+    let within = missed_within a (asked a ≤ 0) (λ q. q) result m k in omega (arith, fits, within)
+wanted_by_choose a most (Some n) result m given all k fits part over = by_all (k == all) refl where
+  wants : Bool → ℕ
+  wants same = if same then k + 1 else ending_wanted k result
+
+  -- fewer lines were taken than there are, so one can still be given
+  few : (k == all) ≡ false → (asked a ≤ 0) ⊎ (most ≡ 0) → asked a ≤ 0
+  few differs (inl q) = q
+  few differs (inr none) = absurd (eqb-false k all differs (omega (arith, over none, fits, part)))
+
+  by_all : (same : Bool) → (k == all) ≡ same → given + asked a ≤ wants same
+  by_all true e = omega (arith, fits, asked_one a)
+  by_all false e = let within = missed_within a ((asked a ≤ 0) ⊎ (most ≡ 0)) (few e) result m k in omega (arith, fits, within)
+
+pub wanted_within : (a : InputState) (most : ℕ) (rules : Rules) (result : Result Ending RunFault) → UnlessRunMissed (Refuses a.end) (NotMissed rules.choose 0 (asked a) most) result
+    → WantsWithin rules result (asked a) most
+wanted_within a most rules result m = wanted_by_choose a most rules.choose result m
 
 -- by the fault that has come
-pub wanted_at_fault : (a : InputState) (fault : ReadFault) → fault_at a.end ≡ Some fault → (k : ℕ) → k + asked a ≤ lines_wanted k (Err (run_fault fault))
-wanted_at_fault a reads.Read e k = omega (arith, asked_one a)
-wanted_at_fault a reads.TooLong e k = omega (arith, asked_one a)
-wanted_at_fault a reads.Memory e k = absurd (fault_without_memory a.end e)
+fault_within : (a : InputState) (fault : ReadFault) → fault_at a.end ≡ Some fault → (k : ℕ) → k + asked a ≤ ending_wanted k (Err (run_fault fault))
+fault_within a reads.Read e k = omega (arith, asked_one a)
+fault_within a reads.TooLong e k = omega (arith, asked_one a)
+fault_within a reads.Memory e k = absurd (fault_without_memory a.end e)
+
+pub wanted_at_fault : (a : InputState) (most : ℕ) (rules : Rules) (fault : ReadFault) → fault_at a.end ≡ Some fault → WantsWithin rules (Err (run_fault fault)) (asked a) most
+wanted_at_fault a most rules fault e = by_choose rules.choose where
+  by_choose : (choose : Option ℤ) (given all k : ℕ) → given ≤ k → k ≤ all → (most ≡ 0 → all ≤ given) → given + asked a ≤ lines_wanted choose all k (Err (run_fault fault))
+  by_choose None given all k fits part over = let within = fault_within a fault e k in omega (arith, fits, within)
+  by_choose (Some n) given all k fits part over = by_all (k == all) where
+    by_all : (same : Bool) → given + asked a ≤ (if same then k + 1 else ending_wanted k (Err (run_fault fault)))
+    by_all true = omega (arith, fits, asked_one a)
+    by_all false = let within = fault_within a fault e k in omega (arith, fits, within)
+
+-- where a fault has come, a line was asked for in vain, though more could have come
+pub fault_missed : (a : InputState) (choose : Option ℤ) (fault : ReadFault) → fault_at a.end ≡ Some fault → NotMissed choose 0 (asked a) (most_lines a) → ⊥
+fault_missed a None fault e m = fault_asked a fault e m
+fault_missed a (Some n) fault e (inl q) = fault_asked a fault e q
+fault_missed a (Some n) fault e (inr none) = by_end a.end e (omega (arith, none)) where
+  by_end : (end : InputEnd) → fault_at end ≡ Some fault → most_to_come end a.left ≡ 0 → ⊥
+  by_end Open e h = absurd (let clash : None ≡ Some fault = e in cc)
+  by_end Ended e h = absurd (let clash : None ≡ Some fault = e in cc)
+  by_end Failed e h = omega (arith, h)
+  by_end Exceeded e h = omega (arith, h)
 
 -- the answers by which a run goes may hang on its lines
-module _ (p : StoredProgram) (limit : ℕ) (a : List (List ℕ) → Answers) (wanted x f : ℕ) (n : InputNow) (given : List (List ℕ))
-    (takes : (behind : List (List ℕ)) → (NoneLeft (known_lines n) → behind ≡ []) → length given ≤ lines_taken p (given ++ behind) limit (a (given ++ behind)))
-    (result : Result Ending RunFault) (within : (k : ℕ) → k + wanted ≤ lines_wanted k result) where
-  pub reads_for : (known : Option (List ℕ)) (on : ReadsOn wanted (fresh known x f) given n) → IfSome known (λ c. ReadsFor on.taken (lines_wanted (lines_taken p (input_lines c) limit (a (input_lines c))) result))
+module _ (p : StoredProgram) (rules : Rules) (a : List (List ℕ) → Answers) (wanted x f : ℕ) (n : InputNow) (given : List (List ℕ))
+    (takes : (behind : List (List ℕ)) → (NoneLeft (known_lines n) → behind ≡ []) → length given ≤ lines_taken p (given ++ behind) rules (a (given ++ behind)))
+    (result : Result Ending RunFault) (within : WantsWithin rules result wanted (most_lines n.state)) where
+  pub reads_for : (known : Option (List ℕ)) (on : ReadsOn wanted (fresh known x f) given n)
+      → IfSome known (λ c. ReadsFor on.taken (lines_wanted rules.choose (length (input_lines c)) (lines_taken p (input_lines c) rules (a (input_lines c))) result))
   reads_for None on = tt
   reads_for (Some c) on = by_ahead on.ahead where
     b : IsBehind c given n
     b = lines_behind wanted c x f n given on
 
-    few : length given ≤ lines_taken p (input_lines c) limit (a (input_lines c))
-    few = subst (λ i. length given ≤ lines_taken p i limit (a i)) (sym b.whole) (takes b.rest b.none)
+    few : length given ≤ lines_taken p (input_lines c) rules (a (input_lines c))
+    few = subst (λ i. length given ≤ lines_taken p i rules (a i)) (sym b.whole) (takes b.rest b.none)
 
-    by_ahead : (on.taken ≡ []) ⊎ IsReadAhead fresh_input on.taken (length given + wanted) → ReadsFor on.taken (lines_wanted (lines_taken p (input_lines c) limit (a (input_lines c))) result)
+    -- where none can come, these were all
+    over : most_lines n.state ≡ 0 → length (input_lines c) ≤ length given
+    over none = omega (arith, ap length b.whole, length-append given b.rest, ap length (b.none (none_known n none)))
+
+    needed : ℕ
+    needed = lines_wanted rules.choose (length (input_lines c)) (lines_taken p (input_lines c) rules (a (input_lines c))) result
+
+    enough : length given + wanted ≤ needed
+    enough = within (length given) (length (input_lines c)) (lines_taken p (input_lines c) rules (a (input_lines c))) few (omega arith) over
+
+    by_ahead : (on.taken ≡ []) ⊎ IsReadAhead fresh_input on.taken (length given + wanted) → ReadsFor on.taken needed
     by_ahead (inl none) = inl none
     by_ahead (inr h) =
-        let needed : length (whole_lines None h.before) < length given + wanted = h.needed in
-        inr (record { before = h.before; piece = h.piece; both = h.both; some = h.some; fits = h.fits; needed = omega (arith, needed, few, within (lines_taken p (input_lines c) limit (a (input_lines c)))) })
+        let fewer : length (whole_lines None h.before) < length given + wanted = h.needed in
+        inr (record { before = h.before; piece = h.piece; both = h.both; some = h.some; fits = h.fits; needed = omega (arith, fewer, enough) })
 
 -- ---- a run on the lines of a reader
 
@@ -275,40 +333,40 @@ taken_by remaining counted failures s t given i state reader gives =
     subst (λ r. ReadsOn (asked (line_input t)) (input_now remaining counted failures fresh_input r) given (input_of remaining counted failures t)) reader
     (subst (λ (a : InputState). ReadsOn (asked (line_input t)) (input_now remaining counted failures a (line_reader s).now) given (input_of remaining counted failures t)) state gives.reads)
 
-module _ {W : Type 0} (contents : W → Option (List ℕ)) (written : W → ℕ) (p : StoredProgram) (limit : ℕ) (a : List (List ℕ) → Answers) (refuses : Pause → ℤ → Type 0) (w v : W) (ended : Result Ending RunFault)
+module _ {W : Type 0} (contents : W → Option (List ℕ)) (written : W → ℕ) (p : StoredProgram) (rules : Rules) (a : List (List ℕ) → Answers) (refuses : Pause → ℤ → Type 0) (w v : W) (ended : Result Ending RunFault)
     (wanted x f : ℕ) (n : InputNow) (given : List (List ℕ))
-    (between : (behind : List (List ℕ)) → (NoneLeft (known_lines n) → behind ≡ []) → IsRunBetween contents written p limit (given ++ behind) (a (given ++ behind)) refuses w v ended) where
+    (between : (behind : List (List ℕ)) → (NoneLeft (known_lines n) → behind ≡ []) → IsRunBetween contents written p rules (given ++ behind) (a (given ++ behind)) refuses w v ended) where
   -- by the bytes of the input, where they are known
   pub shows_input : (known : Option (List ℕ)) → ReadsOn wanted (fresh known x f) given n
-      → IfOk ended (λ e. IfSome known (λ c. ShowsRun (plain p (input_lines c) limit (a (input_lines c))) (contents w) (contents v) e))
+      → IfOk ended (λ e. IfSome known (λ c. ShowsRun (plain p (input_lines c) rules (a (input_lines c))) (contents w) (contents v) e))
   shows_input None on = nothing ended where
-    nothing : (r : Result Ending RunFault) → IfOk r (λ e. IfSome None (λ c. ShowsRun (plain p (input_lines c) limit (a (input_lines c))) (contents w) (contents v) e))
+    nothing : (r : Result Ending RunFault) → IfOk r (λ e. IfSome None (λ c. ShowsRun (plain p (input_lines c) rules (a (input_lines c))) (contents w) (contents v) e))
     nothing (Ok e) = tt
     nothing (Err fault) = tt
   shows_input (Some c) on =
       let b = lines_behind wanted c x f n given on in
-      subst (λ i. IfOk ended (ShowsRun (plain p i limit (a i)) (contents w) (contents v))) (sym b.whole) (between b.rest b.none).ok
+      subst (λ i. IfOk ended (ShowsRun (plain p i rules (a i)) (contents w) (contents v))) (sym b.whole) (between b.rest b.none).ok
 
   pub begins_input : (known : Option (List ℕ)) → ReadsOn wanted (fresh known x f) given n
-      → IfSome known (λ c. TakesSome (contents w) (contents v) (plain p (input_lines c) limit (a (input_lines c))).0)
+      → IfSome known (λ c. TakesSome (contents w) (contents v) (plain p (input_lines c) rules (a (input_lines c))).0)
   begins_input None on = tt
   begins_input (Some c) on =
       let b = lines_behind wanted c x f n given on in
-      subst (λ i. TakesSome (contents w) (contents v) (plain p i limit (a i)).0) (sym b.whole) (between b.rest b.none).beginning
+      subst (λ i. TakesSome (contents w) (contents v) (plain p i rules (a i)).0) (sym b.whole) (between b.rest b.none).beginning
 
--- on the lines that came whole, where a fault has come, it ends for want of a line
-pub shows_come : {W : Type 0} (contents : W → Option (List ℕ)) (written : W → ℕ) (p : StoredProgram) (limit : ℕ) (a : List (List ℕ) → Answers) (refuses : Pause → ℤ → Type 0) (w v : W) (wanted x f : ℕ) (n : InputNow) (given : List (List ℕ)) (known : Option (List ℕ)) (on : ReadsOn wanted (fresh known x f) given n) (fault : ReadFault)
-    → fault_at n.state.end ≡ Some fault → IsRunBetween contents written p limit (given ++ []) (a (given ++ [])) refuses w v (Ok endings.NoInput)
-    → ShowsRun (plain p (lines_come on.taken) limit (a (lines_come on.taken))) (contents w) (contents v) endings.NoInput
-shows_come contents written p limit a refuses w v wanted x f n given known on fault is run =
-    subst (λ i. ShowsRun (plain p i limit (a i)) (contents w) (contents v) endings.NoInput) (sym (came_whole wanted known x f n given on fault is)) run.ok
+-- on the lines that came whole, where a fault has come, it ends for want of a line, or would ask for an answer
+pub shows_come : {W : Type 0} (contents : W → Option (List ℕ)) (written : W → ℕ) (p : StoredProgram) (rules : Rules) (a : List (List ℕ) → Answers) (w v : W) (wanted x f : ℕ) (n : InputNow) (given : List (List ℕ)) (known : Option (List ℕ)) (on : ReadsOn wanted (fresh known x f) given n) (fault : ReadFault)
+    → fault_at n.state.end ≡ Some fault → IsUnreadBetween contents written p rules (given ++ []) (a (given ++ [])) w v
+    → ShowsUnread rules.choose (plain p (lines_come on.taken) rules) (a (lines_come on.taken)) (contents w) (contents v)
+shows_come contents written p rules a w v wanted x f n given known on fault is run =
+    subst (λ i. ShowsUnread rules.choose (plain p i rules) (a i) (contents w) (contents v)) (sym (came_whole wanted known x f n given on fault is)) run.shows
 
 -- ---- how a run has ended
 
 -- where the source has come to no fault, the run doesn't say that a line could not be read
-module _ (p : StoredProgram) (limit : ℕ) (refuses : Pause → ℤ → Type 0) (o n : Devices) (end : InputEnd) (left : Option (List (List ℕ))) where
+module _ (p : StoredProgram) (rules : Rules) (refuses : Pause → ℤ → Type 0) (o n : Devices) (end : InputEnd) (left : Option (List (List ℕ))) where
   pub never_unread : fault_at end ≡ None → (ended : Result Ending RunFault)
-      → RunComes (refused_by refuses (Refuses end) left) p limit [] o n ended → IsErrOf ended runs.Read → ⊥
+      → RunComes (refused_by refuses (Refuses end) left) p rules [] o n ended → IsErrOf ended runs.Read → ⊥
   never_unread none (Ok e) h is = absurd cc
   never_unread none (Err runs.Memory) h is = absurd cc
   never_unread none (Err runs.Write) h is = absurd cc

@@ -4,13 +4,14 @@
 --     lines_come taken           the lines that came whole in these bytes
 --     IsUnreadable known old new the input could not be read, or is too long
 --     IsLed refuses taken all    what a chooser is to answer begins with what it has answered
---     GoesBy refuses c d answers p limit    a chooser goes by these answers on the lines of each input
---     lines_taken p lines limit a    how many of the lines of its input a run takes
---     lines_wanted k result      how many a run wants that takes k lines
+--     GoesBy refuses c d answers p rules    a chooser goes by these answers on the lines of each input
+--     ShowsUnread choose run a old new    what was shown of a run that couldn't read a line
+--     lines_taken p lines rules a    how many of the lines of its input a run takes
+--     lines_wanted choose all k result    how many of all lines a run wants that takes k
 --     ReadsFor taken wanted      these bytes were taken of an input for so many lines
-use Rattle.std.specs.Prelude.{◌≡◌, ◌⊎◌, ◌+◌, ◌-◌, ◌<◌, ◌≤◌, ℕ, List, [], ◌++◌, length, take, ◌∷◌, Option, None, Result, Ok, Err, IfSome, ℤ}
+use Rattle.std.specs.Prelude.{◌≡◌, ◌⊎◌, ◌+◌, ◌-◌, ◌==◌, if◌then◌else◌, ◌<◌, ◌≤◌, ℕ, List, [], ◌++◌, length, take, ◌∷◌, Option, Some, None, Result, Ok, Err, IfSome, ℤ}
 use Rattle.std.specs.Io.KnownBytes.{Appends}
-use Rattle.ptb_text.specs.Device.{HasFailed}
+use Rattle.ptb_text.specs.Device.{HasFailed, TakesSome}
 use Rattle.ptb_text.specs.Statements.{StoredProgram}
 use Rattle.ptb_expr.specs.declared.pause.Pause.{Pause}
 use Rattle.ptb_expr.specs.declared.pause.Pause.TheVariants as pauses
@@ -22,6 +23,7 @@ use Rattle.ptb_devices.specs.Cutting.{whole_lines}
 use Rattle.ptb_devices.specs.declared.fault.ReadFault.{ReadFault}
 use Rattle.ptb_devices.specs.declared.fault.ReadFault.TheVariants as reads
 use Rattle.ptb_devices.specs.declared.whole_input.TheConstants.{INPUT_LIMIT}
+use Rattle.ptb_machine.specs.declared.rules.Rules.{Rules}
 use Rattle.ptb_machine.specs.Play.{play, unasked_lines}
 use Rattle.ptb_machine.specs.declared.fault.RunFault.{RunFault}
 use Rattle.ptb_machine.specs.declared.fault.RunFault.TheVariants as runs
@@ -58,32 +60,46 @@ pub record IsLed (refuses : Pause → ℤ → Type 0) (taken all : Answers) : Ty
   pub outside : (k n : ℤ) → refuses (pauses.OutOfRange k) n → (later : Answers) × (rest ≡ k ∷ later)
 
 -- whatever a run on these lines has asked, between two states of its chooser; the answers may hang on the lines
-abbrev pub GoesBy : (Pause → ℤ → Type 0) → Choices → Choices → (List (List ℕ) → Answers) → StoredProgram → ℕ → Type 0
-GoesBy refuses c d answers p limit =
+abbrev pub GoesBy : (Pause → ℤ → Type 0) → Choices → Choices → (List (List ℕ) → Answers) → StoredProgram → Rules → Type 0
+GoesBy refuses c d answers p rules =
     (lines : List (List ℕ)) (taken : Answers) (bounds : List ℤ)
-    → Asked (play p lines limit) taken bounds → d ≡ with_answers taken bounds c → IsLed refuses taken (answers lines)
+    → Asked (play p lines rules) taken bounds → d ≡ with_answers taken bounds c → IsLed refuses taken (answers lines)
+
+-- ---- a line that can't be read
+
+-- On the lines that came whole, a run ends for want of the next one. Where answers are taken in place of lines it would ask for one:
+-- what was shown is all that it shows before, and so a beginning of what it shows with the answers `a`.
+abbrev pub ShowsUnread : Option ℤ → (Answers → List ℕ × Ending) → Answers → Option (List ℕ) → Option (List ℕ) → Type 0
+ShowsUnread None run a old new = ShowsRun (run a) old new endings.NoInput
+ShowsUnread (Some n) run a old new =
+    TakesSome old new (run a).0 × ((asked : Answers) × ShowsRun (run asked) old new endings.NoAnswer)
 
 -- ---- what a run takes of its input
 
 -- all but those for which it doesn't ask
-abbrev pub lines_taken : StoredProgram → List (List ℕ) → ℕ → Answers → ℕ
-lines_taken p lines limit a = length lines - length (unasked_lines p lines limit a)
+abbrev pub lines_taken : StoredProgram → List (List ℕ) → Rules → Answers → ℕ
+lines_taken p lines rules a = length lines - length (unasked_lines p lines rules a)
 
 -- one more where it ended for want of a line, or the next could not be read
-abbrev pub lines_wanted : ℕ → Result Ending RunFault → ℕ
-lines_wanted k (Ok endings.NoInput) = k + 1
-lines_wanted k (Ok endings.End) = k
-lines_wanted k (Ok endings.Stop) = k
-lines_wanted k (Ok endings.What) = k
-lines_wanted k (Ok endings.How) = k
-lines_wanted k (Ok endings.Sorry) = k
-lines_wanted k (Ok endings.Limit) = k
-lines_wanted k (Ok endings.NoAnswer) = k
-lines_wanted k (Ok endings.BadAnswer) = k
-lines_wanted k (Err runs.Read) = k + 1
-lines_wanted k (Err runs.Memory) = k
-lines_wanted k (Err runs.Write) = k
-lines_wanted k (Err runs.Spent) = k
+abbrev pub ending_wanted : ℕ → Result Ending RunFault → ℕ
+ending_wanted k (Ok endings.NoInput) = k + 1
+ending_wanted k (Ok endings.End) = k
+ending_wanted k (Ok endings.Stop) = k
+ending_wanted k (Ok endings.What) = k
+ending_wanted k (Ok endings.How) = k
+ending_wanted k (Ok endings.Sorry) = k
+ending_wanted k (Ok endings.Limit) = k
+ending_wanted k (Ok endings.NoAnswer) = k
+ending_wanted k (Ok endings.BadAnswer) = k
+ending_wanted k (Err runs.Read) = k + 1
+ending_wanted k (Err runs.Memory) = k
+ending_wanted k (Err runs.Write) = k
+ending_wanted k (Err runs.Spent) = k
+
+-- where answers are taken in place of lines, a run that takes all lines may want one more
+abbrev pub lines_wanted : Option ℤ → ℕ → ℕ → Result Ending RunFault → ℕ
+lines_wanted None all k result = ending_wanted k result
+lines_wanted (Some n) all k result = if k == all then k + 1 else ending_wanted k result
 
 -- the bytes that one read gives at most
 abbrev pub piece_limit : ℕ

@@ -1,15 +1,20 @@
 -- This file defines what the tool answers to a request.
 --     Reply                    what is written, the status, and what goes to standard error
 --     reply_to request b c     the reply for the program text b and the input c
-use Rattle.std.specs.Prelude.{ℕ, nat_lt, Bool, true, false, List, [], length, Option, Some, None, Result, Ok, Err}
+use Rattle.std.specs.Prelude.{ℕ, nat_lt, Bool, true, false, ◌&&◌, List, [], length, Option, Some, None, Result, Ok, Err}
 use Rattle.ptb_text.specs.declared.fault.LoadFault.{LoadFault}
 use Rattle.ptb_text.specs.declared.fault.LoadFault.TheVariants.{TooLong}
 use Rattle.ptb_text.specs.Lines.{input_lines}
 use Rattle.ptb_text.specs.Statements.{Statements, StoredProgram, program, program_limit, listing}
-use Rattle.ptb_expr.specs.Outcome.{Answers, Outcome, is_whole}
+use Rattle.ptb_expr.specs.Outcome.{Answers, Outcome, bounds, is_whole}
 use Rattle.ptb_command.specs.declared.ending.Ending.{Ending}
+use Rattle.ptb_machine.specs.declared.rules.Rules.{Rules}
 use Rattle.ptb_machine.specs.Play.{Finish, play, plain, status}
 use Rattle.ptb_machine.specs.Questions.{most_answers}
+use Rattle.ptb_explore.specs.declared.form.Form.{Form}
+use Rattle.ptb_explore.specs.declared.form.Marked.{Marked}
+use Rattle.ptb_explore.specs.AnswerText.{answers_of}
+use Rattle.ptb_explore.specs.MarkedRuns.{states_bounds}
 use Rattle.ptb_explore.specs.RunTree.{Front, Start, At, runs_left}
 use Rattle.ptb_explore.specs.Listing.{text}
 use Rattle.ptb_explore.specs.Report.{report}
@@ -40,18 +45,18 @@ abbrev pub run_reply : List ℕ × Ending → Reply
 run_reply r = record { bytes = r.0; status = status r.1; note = None }
 
 -- a run of a program on these lines, and on those of an input
-abbrev pub lines_reply : ℕ → Answers → List (List ℕ) → StoredProgram → Reply
-lines_reply steps a lines p = run_reply (plain p lines steps a)
+abbrev pub lines_reply : Rules → Answers → List (List ℕ) → StoredProgram → Reply
+lines_reply rules a lines p = run_reply (plain p lines rules a)
 
-abbrev pub plain_reply : ℕ → Answers → List ℕ → StoredProgram → Reply
-plain_reply steps a c p = lines_reply steps a (input_lines c) p
+abbrev pub plain_reply : Rules → Answers → List ℕ → StoredProgram → Reply
+plain_reply rules a c p = lines_reply rules a (input_lines c) p
 
 -- a run by a seed
-abbrev pub seeded_lines_reply : ℕ → ℕ → List (List ℕ) → StoredProgram → Reply
-seeded_lines_reply steps seed lines p = run_reply (seeded_run seed p lines steps)
+abbrev pub seeded_lines_reply : Rules → ℕ → List (List ℕ) → StoredProgram → Reply
+seeded_lines_reply rules seed lines p = run_reply (seeded_run seed p lines rules)
 
-abbrev pub seeded_reply : ℕ → ℕ → List ℕ → StoredProgram → Reply
-seeded_reply steps seed c p = seeded_lines_reply steps seed (input_lines c) p
+abbrev pub seeded_reply : Rules → ℕ → List ℕ → StoredProgram → Reply
+seeded_reply rules seed c p = seeded_lines_reply rules seed (input_lines c) p
 
 abbrev pub listing_reply : StoredProgram → Reply
 listing_reply p = success (listing p.lines)
@@ -73,33 +78,34 @@ program_reply memory b next = reply_or_refusal next memory (program_of_text memo
 -- ---- all runs
 
 -- a listing begins with the first run, or behind a run that is named
-abbrev pub first_front : Option Answers → Front
+abbrev pub first_front : Option (List Marked) → Front
 first_front None = Start
-first_front (Some a) = At a
+first_front (Some list) = At (answers_of list)
 
-abbrev pub is_front : (Answers → Outcome Finish (List ℕ)) → Option Answers → Bool
+-- each bound that is stated must be that of its question
+abbrev pub is_front : (Answers → Outcome Finish (List ℕ)) → Option (List Marked) → Bool
 is_front game None = true
-is_front game (Some a) = is_whole (game a)
+is_front game (Some list) = is_whole (game (answers_of list)) && states_bounds list (bounds game (answers_of list))
 
 -- the reports of the runs that are left, where none has more answers than `most`
-abbrev pub listed_runs : (Answers → Outcome Finish (List ℕ)) → ℕ → Option Answers → Option ℕ → List ℕ
-listed_runs game most after first = text (report game) (runs_left game most (first_front after) first)
+abbrev pub listed_runs : (Answers → Outcome Finish (List ℕ)) → ℕ → Option (List Marked) → Option ℕ → Form → List ℕ
+listed_runs game most after first form = text (report form game) (runs_left game most (first_front after) first)
 
--- answers to list behind that are no run are refused, before anything is written
-unfoldable pub runs_reply : (Answers → Outcome Finish (List ℕ)) → ℕ → Option Answers → Option ℕ → Reply
-runs_reply game most after first =
-    elim (is_front game after) [ true ↦ success (listed_runs game most after first) | false ↦ refusal notes.NoRun ]
+-- a list to go on behind that is no run, or states another bound, is refused, before anything is written
+unfoldable pub runs_reply : (Answers → Outcome Finish (List ℕ)) → ℕ → Option (List Marked) → Option ℕ → Form → Reply
+runs_reply game most after first form =
+    elim (is_front game after) [ true ↦ success (listed_runs game most after first form) | false ↦ refusal notes.NoRun ]
 
 -- the runs of a program on these input lines
-abbrev pub all_reply : StoredProgram → List (List ℕ) → ℕ → Option Answers → Option ℕ → Reply
-all_reply p input limit after first = runs_reply (play p input limit) (most_answers p input limit) after first
+abbrev pub all_reply : StoredProgram → List (List ℕ) → Rules → Option (List Marked) → Option ℕ → Form → Reply
+all_reply p input rules after first form = runs_reply (play p input rules) (most_answers p input rules.limit) after first form
 
 -- ---- the whole tool
 
 abbrev pub reply_in_mode : Mode → Request → List ℕ → List ℕ → Reply
-reply_in_mode (modes.Plain a) request b c = program_reply request.memory b (plain_reply request.steps a c)
-reply_in_mode (modes.Seeded seed) request b c = program_reply request.memory b (seeded_reply request.steps seed c)
-reply_in_mode (modes.All after first) request b c = program_reply request.memory b (λ p. all_reply p (input_lines c) request.steps after first)
+reply_in_mode (modes.Plain a) request b c = program_reply request.memory b (plain_reply request.rules a c)
+reply_in_mode (modes.Seeded seed) request b c = program_reply request.memory b (seeded_reply request.rules seed c)
+reply_in_mode (modes.All after first form) request b c = program_reply request.memory b (λ p. all_reply p (input_lines c) request.rules after first form)
 reply_in_mode modes.List request b c = program_reply request.memory b listing_reply
 
 abbrev pub reply_to : Request → List ℕ → List ℕ → Reply

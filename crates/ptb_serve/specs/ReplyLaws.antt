@@ -8,9 +8,14 @@ use Rattle.ptb_text.specs.declared.fault.LoadFault.{LoadFault}
 use Rattle.ptb_text.specs.declared.fault.LoadFault.TheVariants.{TooLong}
 use Rattle.ptb_text.specs.Lines.{input_lines}
 use Rattle.ptb_text.specs.Statements.{Statements, program_limit, listing}
-use Rattle.ptb_expr.specs.Outcome.{Answers, Outcome, Done}
+use Rattle.ptb_expr.specs.Outcome.{Answers, Outcome, Done, bounds}
+use Rattle.ptb_machine.specs.declared.rules.Rules.{Rules}
 use Rattle.ptb_machine.specs.Play.{Finish, play, plain_of}
+use Rattle.ptb_explore.specs.declared.form.Form.{Form}
+use Rattle.ptb_explore.specs.declared.form.Marked.{Marked}
+use Rattle.ptb_explore.specs.AnswerText.{answers_of, items_in}
 use Rattle.ptb_explore.specs.Listing.{text}
+use Rattle.ptb_explore.specs.MarkedRuns.{IsMarkedRun}
 use Rattle.ptb_explore.specs.Report.{report, report_text, word_of}
 use Rattle.ptb_explore.specs.RunTree.{IsRun, Before, IsRising}
 use Rattle.ptb_serve.specs.declared.note.Note.TheVariants as notes
@@ -20,17 +25,17 @@ use Rattle.ptb_options.specs.declared.request.Request.{Request}
 use Rattle.ptb_serve.specs.SeededRuns.{IsDrawn}
 use Rattle.ptb_serve.specs.Replies.{Reply, refusal, success, run_reply, program_of_text, reply_to}
 
--- One list of runs stands behind all replies of a listing, whatever number of them is asked for.
-pub record ListsRuns (play : Answers → Outcome Finish (List ℕ)) (IsListed : Answers → Type 0) (reply : Option ℕ → Reply) : Type 0 where
+-- One list of runs stands behind all replies of a listing, whatever number of them is asked for, and in whatever form.
+pub record ListsRuns (play : Answers → Outcome Finish (List ℕ)) (IsListed : Answers → Type 0) (reply : Option ℕ → Form → Reply) : Type 0 where
   pub runs : List Answers
   -- each is before all that stand behind it, so none stands there twice
   pub rising : IsRising runs
   -- a list of answers stands there exactly where it is to be listed
   pub members : (a : Answers) → Contains runs a ↔ IsListed a
   -- where no number is given, the report of each is written, one after the other, and the status is 0
-  pub all : reply None ≡ success (text (report play) runs)
+  pub all : (form : Form) → reply None form ≡ success (text (report form play) runs)
   -- with a number n, the reports of the first n of them, or of all where there are fewer
-  pub first : (n : ℕ) → reply (Some n) ≡ success (text (report play) (take n runs))
+  pub first : (n : ℕ) (form : Form) → reply (Some n) form ≡ success (text (report form play) (take n runs))
 
 -- A seed gives the answers of one run: each is drawn from the seed for the bound of its question. No other list of answers is drawn so.
 pub record RunsBySeed (seed : ℕ) (play : Answers → Outcome Finish (List ℕ)) (reply : Mode → Reply) : Type 0 where
@@ -43,13 +48,15 @@ pub record RunsBySeed (seed : ℕ) (play : Answers → Outcome Finish (List ℕ)
 -- `play` tells what the program comes to on the input, by the list of answers.
 pub record RunReplies (play : Answers → Outcome Finish (List ℕ)) (reply : Mode → Reply) : Type 0 where
   -- all runs are listed, and nothing else
-  pub all_runs : ListsRuns play (IsRun play) (λ first. reply (modes.All None first))
-  -- after a run that is named, exactly the runs that it is before
-  pub runs_after : (r : Answers) → IsRun play r → ListsRuns play (λ a. IsRun play a × Before r a) (λ first. reply (modes.All (Some r) first))
-  -- where what is named is no run, nothing is written, and the note and its status say so
-  pub no_run : (r : Answers) (first : Option ℕ) → (IsRun play r → ⊥) → reply (modes.All (Some r) first) ≡ refusal notes.NoRun
-  -- the report of a run has its answers, and the ending, the steps and the transcript of its play
-  pub run_report : (a : Answers) (f : Finish) → play a ≡ Done f [] → report play a ≡ report_text a (word_of f.ending) f.steps f.shown
+  pub all_runs : ListsRuns play (IsRun play) (λ first form. reply (modes.All None first form))
+  -- after a run that is named, exactly the runs that it is before; bounds that are stated of it are those of its questions
+  pub runs_after : (list : List Marked) → IsMarkedRun play list
+      → ListsRuns play (λ a. IsRun play a × Before (answers_of list) a) (λ first form. reply (modes.All (Some list) first form))
+  -- where what is named is no run, or a bound is another, nothing is written, and the note and its status say so
+  pub no_run : (list : List Marked) (first : Option ℕ) (form : Form) → (IsMarkedRun play list → ⊥) → reply (modes.All (Some list) first form) ≡ refusal notes.NoRun
+  -- the report of a run has its answers, in form 2 with their bounds, and the ending, the steps and the transcript of its play
+  pub run_report : (form : Form) (a : Answers) (f : Finish) → play a ≡ Done f []
+      → report form play a ≡ report_text (items_in form a (bounds play a)) (word_of f.ending) f.steps f.shown
   -- a plain run writes what play shows, and has the status of its ending, also where an answer is missing or outside its bound
   pub plain_run : (a : Answers) → reply (modes.Plain a) ≡ run_reply (plain_of (play a))
   -- a run by a seed is a plain run with the answers that are drawn from the seed
@@ -60,14 +67,15 @@ pub record ReplyLaws : Type 0 where
   pub too_long : (r : Request) (b c : List ℕ) → program_limit < length b → reply_to r b c ≡ refusal (notes.Load 0 TooLong)
   -- where a text is refused nothing is written, whatever is asked for, and the note tells the line that is refused, and why
   pub refused : (r : Request) (b c : List ℕ) (e : ℕ × LoadFault) → program_of_text r.memory b ≡ Err e → reply_to r b c ≡ refusal (notes.Load e.0 e.1)
-  -- For each program text that is accepted, each input, each memory size and each limit of commands, where a run is a list of
-  -- answers that are all taken when play is over: the reply to `--all` is one report for each run and nothing else, in rising order
-  -- of the answers (where two runs first differ, the first of them has the smaller answer), and each report has the ending, the
-  -- steps and the transcript of its play. With `--after` and a run, it is this for the runs behind that run; with `--after` and a
-  -- list that is no run nothing is written, and the status is 67. With `--first n` it is the first n of the same reports. Their
-  -- status is 0. The reply to a plain run is what play shows with its answers, and the status is that of the ending.
+  -- For each program text that is accepted, each input, each memory size, each limit of commands and each bound
+  -- for answers in place of missing lines, or none, where a run is a list of answers that are all taken when play is over: the
+  -- reply to `--all` is one report for each run and nothing else, in rising order of the answers (where two runs first differ, the
+  -- first of them has the smaller answer), and each report has the ending, the steps and the transcript of its play. With `--after`
+  -- and a run, it is this for the runs behind that run; with `--after` and a list that is no run nothing is written, and the status
+  -- is 67. With `--first n` it is the first n of the same reports. Their status is 0. The reply to a plain run is what play shows
+  -- with its answers, and the status is that of the ending.
   pub accepted :
-      (memory steps : ℕ) (b c : List ℕ) (p : Statements) → program_of_text memory b ≡ Ok p
-      → RunReplies (play (record { lines = p; memory = memory }) (input_lines c) steps) (λ mode. reply_to (record { steps = steps; memory = memory; mode = mode }) b c)
+      (memory : ℕ) (rules : Rules) (b c : List ℕ) (p : Statements) → program_of_text memory b ≡ Ok p
+      → RunReplies (play (record { lines = p; memory = memory }) (input_lines c) rules) (λ mode. reply_to (record { rules = rules; memory = memory; mode = mode }) b c)
   -- the reply to a listing of a text that is accepted is the listing of its lines
   pub listed : (r : Request) (b c : List ℕ) (p : Statements) → program_of_text r.memory b ≡ Ok p → r.mode ≡ modes.List → reply_to r b c ≡ success (listing p)

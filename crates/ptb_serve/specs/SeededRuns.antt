@@ -1,7 +1,7 @@
 -- This file defines the run that a seed makes.
 --     answers_by most g f              what a generator draws for the questions of f, one after the other
---     seeded_answers seed p input limit     the answers of the run of a program by a seed
---     seeded_run seed p input limit    the bytes and the ending of this run
+--     seeded_answers seed p input rules     the answers of the run of a program by a seed
+--     seeded_run seed p input rules    the bytes and the ending of this run
 --     IsDrawn seed play a              a is a run, and its answers are drawn from the seed for the bounds of its questions
 use Rattle.std.specs.Prelude.{◌≡◌, ℕ, zero, suc, List, [], ◌∷◌, ℤ}
 use Rattle.rand_pcg.specs.Lcg.{Lcg}
@@ -10,6 +10,7 @@ use Rattle.ptb_text.specs.Statements.{StoredProgram}
 use Rattle.ptb_expr.specs.Outcome.{Answers, Outcome, Done, Asks, Out, bounds}
 use Rattle.ptb_expr.specs.Seeds.{drawn_answer, drawn_answers, generator_of}
 use Rattle.ptb_command.specs.declared.ending.Ending.{Ending}
+use Rattle.ptb_machine.specs.declared.rules.Rules.{Rules}
 use Rattle.ptb_machine.specs.Play.{play, plain}
 use Rattle.ptb_machine.specs.Questions.{most_answers}
 use Rattle.ptb_explore.specs.RunTree.{IsRun}
@@ -27,11 +28,11 @@ answers_by (suc most) g f =
     to_question (λ n. drawn_answer (pcg32 g).0 n ∷ answers_by most (pcg32 g).1 (λ a. f (drawn_answer (pcg32 g).0 n ∷ a))) (f [])
 
 -- no run asks more than `most_answers`
-abbrev pub seeded_answers : ℕ → StoredProgram → List (List ℕ) → ℕ → Answers
-seeded_answers seed p input limit = answers_by (most_answers p input limit) (generator_of seed) (play p input limit)
+abbrev pub seeded_answers : ℕ → StoredProgram → List (List ℕ) → Rules → Answers
+seeded_answers seed p input rules = answers_by (most_answers p input rules.limit) (generator_of seed) (play p input rules)
 
-abbrev pub seeded_run : ℕ → StoredProgram → List (List ℕ) → ℕ → List ℕ × Ending
-seeded_run seed p input limit = plain p input limit (seeded_answers seed p input limit)
+abbrev pub seeded_run : ℕ → StoredProgram → List (List ℕ) → Rules → List ℕ × Ending
+seeded_run seed p input rules = plain p input rules (seeded_answers seed p input rules)
 
 pub record IsDrawn {A W : Type 0} (seed : ℕ) (play : Answers → Outcome A W) (a : Answers) : Type 0 where
   pub run : IsRun play a

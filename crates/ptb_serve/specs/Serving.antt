@@ -10,15 +10,15 @@
 --     TellsRefusal memory known note    a text is noted as refused as it is refused, where it is known
 --     TellsLength old new note          a text is noted as too long where one byte too many was given
 --     SilentBy mode note old new        nothing was written, unless what was due was broken off
---     EndsUnread reply old new          the reply of a run that ends for want of a line was given
+--     EndsUnread choose reply others old new    what was written of the reply to a run that couldn't read a line
 --     ServesUnread mode ..              what was written where the input could not be read
---     wanted_by k note status           how many lines a run wanted that takes k
+--     wanted_by choose all k outcome    how many of all lines a run wanted that takes k
 --     ReadsForRun mode ..               what a plain run takes of its input
 --     IsPlainRun mode                   the program is run once
 --     NeedsInput mode                   the input may be read
 --     NeedsWholeInput mode              the input is read to its end
 --     IsInput mode known c              c is the input, where the mode needs it
-use Rattle.std.specs.Prelude.{◌≡◌, ◌==◌, ℕ, ◌+◌, if◌then◌else◌, IfOk, IfSome, List, [], Option, Some, None, Result, Ok, Err}
+use Rattle.std.specs.Prelude.{◌≡◌, ◌==◌, ℕ, ℤ, ◌+◌, if◌then◌else◌, IfOk, IfSome, List, [], length, Option, Some, None, Result, Ok, Err}
 use Rattle.std.specs.Io.KnownBytes.{Appends, Consumes}
 use Rattle.ptb_text.specs.declared.fault.LoadFault.{LoadFault}
 use Rattle.ptb_text.specs.declared.fault.LoadFault.TheVariants as loads
@@ -28,6 +28,8 @@ use Rattle.ptb_text.specs.Statements.{StoredProgram, program_limit}
 use Rattle.ptb_devices.specs.declared.fault.ReadFault.{ReadFault}
 use Rattle.ptb_devices.specs.declared.fault.ReadFault.TheVariants as reads
 use Rattle.ptb_command.specs.declared.ending.Ending.TheVariants as endings
+use Rattle.ptb_expr.specs.Outcome.{Answers}
+use Rattle.ptb_machine.specs.declared.rules.Rules.{Rules}
 use Rattle.ptb_machine.specs.Play.{status}
 use Rattle.ptb_machine.specs.declared.fault.RunFault.{RunFault}
 use Rattle.ptb_machine.specs.declared.fault.RunFault.TheVariants as faults
@@ -106,7 +108,7 @@ Serves reply old new outcome = ServesBy outcome.note reply old new outcome
 abbrev pub SilentWithoutMemory : Mode → Option (List ℕ) → Option (List ℕ) → Type 0
 SilentWithoutMemory (modes.Plain a) old new = Appends old new []
 SilentWithoutMemory (modes.Seeded seed) old new = Unit {0}
-SilentWithoutMemory (modes.All after first) old new = Unit {0}
+SilentWithoutMemory (modes.All after first form) old new = Unit {0}
 SilentWithoutMemory modes.List old new = Appends old new []
 
 -- nothing was written, unless a note says that a write failed, that no memory was left for the next report,
@@ -120,27 +122,41 @@ SilentBy (modes.Seeded seed) (Some notes.InputUnread) old new = Unit {0}
 SilentBy mode (Some note) old new = Appends old new []
 
 -- its bytes were written, and its status is that of a run which ends for want of a line
-pub record EndsUnread (reply : Reply) (old new : Option (List ℕ)) : Type 0 where
+pub record LacksLine (reply : Reply) (old new : Option (List ℕ)) : Type 0 where
   pub bytes : Appends old new reply.bytes
   pub status : reply.status ≡ status endings.NoInput
 
--- on the lines that came whole in the bytes that were taken of the input a run ends for want of a line, and it has shown what it shows;
+-- a beginning of its bytes was written: all that one of the other replies, of a run that ends for want of an answer, has
+pub record AsksUnread (reply : Reply) (others : Answers → Reply) (old new : Option (List ℕ)) : Type 0 where
+  pub begins : TakesSome old new reply.bytes
+  pub asked : Answers
+  pub bytes : Appends old new (others asked).bytes
+  pub status : (others asked).status ≡ status endings.NoAnswer
+
+-- without a line a run ends so, or asks for an answer; `others` are the replies to runs with other answers
+abbrev pub EndsUnread : Option ℤ → Reply → (Answers → Reply) → Option (List ℕ) → Option (List ℕ) → Type 0
+EndsUnread None reply others old new = LacksLine reply old new
+EndsUnread (Some n) reply others old new = AsksUnread reply others old new
+
+-- the reply to a run of the text b, on the lines that came whole in the bytes that were taken of the input
+abbrev pub RunUnread : Request → Option (List ℕ) → Option (List ℕ) → List ℕ → (List (List ℕ) → StoredProgram → Reply) → Option (List ℕ) → Option (List ℕ) → Type 0
+RunUnread request known left b run old new =
+    (taken : List ℕ) × Consumes known left taken
+    × EndsUnread request.rules.choose (program_reply request.memory b (run (lines_come taken)))
+    (λ a. program_reply request.memory b (lines_reply request.rules a (lines_come taken))) old new
+
 -- a listing begins once the input was read
 abbrev pub ServesUnread : Mode → Request → Option (List ℕ) → Option (List ℕ) → List ℕ → Option (List ℕ) → Option (List ℕ) → Type 0
-ServesUnread (modes.Plain a) request known left b old new =
-    (taken : List ℕ) × Consumes known left taken
-    × EndsUnread (program_reply request.memory b (lines_reply request.steps a (lines_come taken))) old new
-ServesUnread (modes.Seeded seed) request known left b old new =
-    (taken : List ℕ) × Consumes known left taken
-    × EndsUnread (program_reply request.memory b (seeded_lines_reply request.steps seed (lines_come taken))) old new
-ServesUnread (modes.All after first) request known left b old new = Appends old new []
+ServesUnread (modes.Plain a) request known left b old new = RunUnread request known left b (lines_reply request.rules a) old new
+ServesUnread (modes.Seeded seed) request known left b old new = RunUnread request known left b (seeded_lines_reply request.rules seed) old new
+ServesUnread (modes.All after first form) request known left b old new = Appends old new []
 ServesUnread modes.List request known left b old new = Appends old new []
 
 -- the status of such a request alone is that of an ending
 abbrev pub IsPlainRun : Mode → Type 0
 IsPlainRun (modes.Plain a) = Unit {0}
 IsPlainRun (modes.Seeded seed) = Unit {0}
-IsPlainRun (modes.All after first) = ⊥
+IsPlainRun (modes.All after first form) = ⊥
 IsPlainRun modes.List = ⊥
 
 -- ---- a program that isn't loaded
@@ -169,45 +185,52 @@ TellsLength old new None = Unit {0}
 -- ---- the input
 
 -- one more where the run ended for want of a line, or the next could not be read
-abbrev pub wanted_by : ℕ → Option Note → ℕ → ℕ
-wanted_by k None number = if number == status endings.NoInput then k + 1 else k
-wanted_by k (Some notes.InputUnread) number = k + 1
-wanted_by k (Some note) number = k
+abbrev pub note_wanted : ℕ → Option Note → ℕ → ℕ
+note_wanted k None number = if number == status endings.NoInput then k + 1 else k
+note_wanted k (Some notes.InputUnread) number = k + 1
+note_wanted k (Some note) number = k
+
+abbrev pub outcome_wanted : ℕ → Outcome → ℕ
+outcome_wanted k outcome = note_wanted k outcome.note outcome.status
+
+-- where answers are taken in place of lines, a run that takes all lines may want one more
+abbrev pub wanted_by : Option ℤ → ℕ → ℕ → Outcome → ℕ
+wanted_by None all k outcome = outcome_wanted k outcome
+wanted_by (Some n) all k outcome = if k == all then k + 1 else outcome_wanted k outcome
 
 -- how many of the lines of its input a run by a seed takes
-abbrev pub seeded_taken : ℕ → StoredProgram → List (List ℕ) → ℕ → ℕ
-seeded_taken seed p lines steps = lines_taken p lines steps (seeded_answers seed p lines steps)
+abbrev pub seeded_taken : ℕ → StoredProgram → List (List ℕ) → Rules → ℕ
+seeded_taken seed p lines rules = lines_taken p lines rules (seeded_answers seed p lines rules)
 
--- the input c is read only for the lines that the run wants
+-- the input c is read only for the lines that a run wants, of which it takes so many
+abbrev pub ReadsBy : Request → (StoredProgram → List (List ℕ) → ℕ) → List ℕ → List ℕ → Option (List ℕ) → Outcome → Type 0
+ReadsBy request count b c left outcome =
+    IfOk (program_of_text request.memory b) (λ p. (taken : List ℕ) × Consumes (Some c) left taken
+    × ReadsFor taken (wanted_by request.rules.choose (length (input_lines c)) (count (record { lines = p; memory = request.memory }) (input_lines c)) outcome))
+
 abbrev pub ReadsForRun : Mode → Request → List ℕ → List ℕ → Option (List ℕ) → Outcome → Type 0
-ReadsForRun (modes.Plain a) request b c left outcome =
-    IfOk (program_of_text request.memory b) (λ p. (taken : List ℕ) × Consumes (Some c) left taken
-    × ReadsFor taken (wanted_by (lines_taken (record { lines = p; memory = request.memory }) (input_lines c) request.steps a)
-    outcome.note outcome.status))
-ReadsForRun (modes.Seeded seed) request b c left outcome =
-    IfOk (program_of_text request.memory b) (λ p. (taken : List ℕ) × Consumes (Some c) left taken
-    × ReadsFor taken (wanted_by (seeded_taken seed (record { lines = p; memory = request.memory }) (input_lines c) request.steps)
-    outcome.note outcome.status))
-ReadsForRun (modes.All after first) request b c left outcome = Unit {0}
+ReadsForRun (modes.Plain a) request b c left outcome = ReadsBy request (λ p lines. lines_taken p lines request.rules a) b c left outcome
+ReadsForRun (modes.Seeded seed) request b c left outcome = ReadsBy request (λ p lines. seeded_taken seed p lines request.rules) b c left outcome
+ReadsForRun (modes.All after first form) request b c left outcome = Unit {0}
 ReadsForRun modes.List request b c left outcome = Unit {0}
 
 -- a listing of the program's lines alone doesn't read it
 abbrev pub NeedsInput : Mode → Type 0
 NeedsInput (modes.Plain a) = Unit {0}
 NeedsInput (modes.Seeded seed) = Unit {0}
-NeedsInput (modes.All after first) = Unit {0}
+NeedsInput (modes.All after first form) = Unit {0}
 NeedsInput modes.List = ⊥
 
 -- a run reads it only as far as it asks for lines
 abbrev pub NeedsWholeInput : Mode → Type 0
 NeedsWholeInput (modes.Plain a) = ⊥
 NeedsWholeInput (modes.Seeded seed) = ⊥
-NeedsWholeInput (modes.All after first) = Unit {0}
+NeedsWholeInput (modes.All after first form) = Unit {0}
 NeedsWholeInput modes.List = ⊥
 
 -- the input, where it is needed and known; any bytes where it isn't looked at
 abbrev pub IsInput : Mode → Option (List ℕ) → List ℕ → Type 0
 IsInput (modes.Plain a) known c = known ≡ Some c
 IsInput (modes.Seeded seed) known c = known ≡ Some c
-IsInput (modes.All after first) known c = known ≡ Some c
+IsInput (modes.All after first form) known c = known ≡ Some c
 IsInput modes.List known c = Unit {0}

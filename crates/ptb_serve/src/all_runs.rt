@@ -1,6 +1,6 @@
 // This file has the listing of all runs of a program, each with its report.
 
-ghost use Rattle.std.specs.Prelude.{◌≡◌, ◌⊎◌, ◌+◌, ◌≤◌, ℕ, List, length, false, true};
+ghost use Rattle.std.specs.Prelude.{◌≡◌, ◌⊎◌, ◌+◌, ◌≤◌, ◌≤ℤ◌, ℕ, pos, List, length, false, true};
 ghost use Rattle.std.specs.Prelude.{IfErr, IfOk, IfSome, IsErrOf, OnOk};
 ghost use Rattle.ptb_text.specs.Device.{GivesAtMost, GivesExactly, HasFailed};
 ghost use Rattle.ptb_text.specs.Statements.{IsMemorySize, program_limit};
@@ -15,14 +15,14 @@ ghost use Rattle.ptb_serve.specs.Serving.{IsUnloaded, Serves, SilentBy, TellsLen
 ghost use Rattle.ptb_serve.specs.Serving.{outcome_of};
 
 use crate::note::Note;
-use ptb_explore::{Explorer, write_all_runs};
-use ptb_machine::{Line, read_lines};
-use ptb_options::{Answers, Request};
+use ptb_explore::{Explorer, Form, write_all_runs};
+use ptb_machine::{Line, Rules, read_lines};
+use ptb_options::{MarkedAnswers, Request};
 use ptb_text::{Program, Read, Write, load};
 use std::alloc::Global;
 
-/// Loads the program, and writes the reports of its runs: of those behind the run with the answers
-/// `after`, or of all, and no more than `first` of them. The status is 0.
+/// Loads the program, and writes the reports of its runs in this form: of those behind the run with
+/// the answers `after`, or of all, and no more than `first` of them. The status is 0.
 ///
 /// The input is read where the program was loaded. Nothing is written until it was read to its end
 /// and `after` was looked at.
@@ -30,22 +30,25 @@ use std::alloc::Global;
 /// # Errors
 ///
 /// Those of loading; [`Note::InputUnread`] where the input could not be read or has more than
-/// 16,777,216 bytes; [`Note::NoRun`] where `after` is no run: nothing was written with these.
+/// 16,777,216 bytes; [`Note::NoRun`] where `after` is no run, or has another bound than a question of
+/// it: nothing was written with these.
 /// [`Note::OutOfMemory`] where a growth was refused memory, and [`Note::Unwritten`] where the
 /// writer failed: a beginning of the reports was written.
 pub fn list_runs<P: Read, R: Read, W: Write>(
     alloc: Global,
     request: &Request,
-    after: &Option<Answers>,
+    after: &Option<MarkedAnswers>,
     first: Option<u64>,
+    form: Form,
     program: &mut P,
     input: &mut R,
     out: &mut W,
 ) -> Result<u8, Note>
-    requires { IsMemorySize request.now.memory }
+    requires size { IsMemorySize request.now.memory }
+    requires bound { IfSome request.now.rules.choose (λ n. pos 1 ≤ℤ n) }
     ensures served { (c : List ℕ) → R.remaining input.old ≡ Some c
         → IfSome (P.remaining program.old) (λ b.
-        Serves (reply_in_mode (All after.now first) request.now b c)
+        Serves (reply_in_mode (All after.now first form) request.now b c)
         (W.contents out.old) (W.contents out.new) (outcome_of result)) }
     ensures refused { IfSome (P.remaining program.old) (λ b.
         IfErr (program_of_text request.now.memory b) (λ e. Serves (refusal (Load e.0 e.1))
@@ -71,7 +74,7 @@ pub fn list_runs<P: Read, R: Read, W: Write>(
         (P.given program.old) (P.given program.new) (program_limit + 1) }
     ensures input_given { GivesAtMost
         (R.given input.old) (R.given input.new) (input_limit + 1) }
-    ensures silent { SilentBy (All after.now first) (outcome_of result).note
+    ensures silent { SilentBy (All after.now first form) (outcome_of result).note
         (W.contents out.old) (W.contents out.new) }
     ensures program_unread { IsErrOf result Note.ProgramUnread
         → HasFailed (P.failures program.old) (P.failures program.new) }
@@ -91,8 +94,8 @@ pub fn list_runs<P: Read, R: Read, W: Write>(
 {
     let program = load(alloc, request.memory, program)?;
     let lines = read_lines(alloc, input)?;
-    let mut explorer = explorer_behind(alloc, &program, &lines, request.steps, after)?;
-    write_all_runs(&mut explorer, first, out)?;
+    let mut explorer = explorer_behind(alloc, &program, &lines, request.rules, after)?;
+    write_all_runs(&mut explorer, first, form, out)?;
     Ok(0)
 }
 
@@ -101,24 +104,28 @@ fn explorer_behind<'a>(
     alloc: Global,
     program: &'a Program,
     lines: &'a [Line],
-    limit: u32,
-    after: &Option<Answers>,
+    rules: Rules,
+    after: &Option<MarkedAnswers>,
 ) -> Result<Explorer<'a>, Note>
+    requires { IfSome rules.choose (λ n. pos 1 ≤ℤ n) }
     ensures explorer { IfOk result (λ e. e ≡ record {
       program = program.now;
       input = lines.now;
-      limit = limit;
+      rules = rules;
       front = first_front after.now;
       kept = e.kept;
       played = e.played;
     }) }
-    ensures front { OnOk result (is_front (play program.now lines.now limit) after.now ≡ true) }
+    ensures front { OnOk result (is_front (play program.now lines.now rules) after.now ≡ true) }
     ensures no_run { IsErrOf result Note.NoRun
-        → is_front (play program.now lines.now limit) after.now ≡ false }
+        → is_front (play program.now lines.now rules) after.now ≡ false }
     ensures faults { IfErr result (λ note. (note ≡ Note.NoRun) ⊎ (note ≡ Note.OutOfMemory)) }
 {
     match after {
-        None => Ok(Explorer::start(alloc, program, lines, limit)?),
-        Some(answers) => Ok(Explorer::after(alloc, program, lines, limit, answers.as_slice())?),
+        None => Ok(Explorer::start(alloc, program, lines, rules)?),
+        Some(list) => {
+            let list = list.as_slice();
+            Ok(Explorer::after_marked(alloc, program, lines, rules, list)?)
+        }
     }
 }

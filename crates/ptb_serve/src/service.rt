@@ -1,6 +1,6 @@
 // This file serves a request: it loads the program, and runs it, reports all its runs, or lists it.
 
-ghost use Rattle.std.specs.Prelude.{◌≡◌, ◌≢◌, ◌⊎◌, ◌+◌, ◌≤◌, ℕ, List, [], length};
+ghost use Rattle.std.specs.Prelude.{◌≡◌, ◌≢◌, ◌⊎◌, ◌+◌, ◌≤◌, ◌≤ℤ◌, ℕ, pos, List, [], length};
 ghost use Rattle.std.specs.Prelude.{IfErr, IfOk, IfSome, IsErrOf, MatchOption, OnOk};
 ghost use Rattle.ptb_text.specs.Device.{GivesAtMost, GivesExactly, HasFailed};
 ghost use Rattle.ptb_text.specs.Statements.{IsMemorySize, program_limit};
@@ -52,13 +52,15 @@ impl Outcome {
 /// all its runs are reported, or it is listed. What it shows, the reports or the listing go to the
 /// writer.
 ///
-/// The memory that is asked for is 64 to 32767. The program is loaded before the input is read: a
-/// text that is refused or can't be read leaves the input alone. So does a listing of a program's
-/// text. A program's reader gives at most 1,048,577 bytes, and an input's at most 16,777,217, also
-/// one that never ends.
+/// The memory that is asked for is 64 to 32767, and a bound for answers in place of lines, where
+/// there is one, at least 1. The program is loaded before the input is read: a text that is refused
+/// or can't be read leaves the input alone. So does a listing of a program's text. A program's
+/// reader gives at most 1,048,577 bytes, and an input's at most 16,777,217, also one that never
+/// ends.
 ///
 /// A run reads its input only as far as it asks for lines: while fewer lines are whole than it
-/// wants, 4096 bytes at most. A report of all runs reads it whole.
+/// wants, 4096 bytes at most. Where answers are taken in place of lines, one that took all lines may
+/// have looked for another. A report of all runs reads it whole.
 ///
 /// A note says why a request isn't served, or not to its end. With [`Note::Unwritten`] a beginning
 /// of what was due was written. So it was with [`Note::OutOfMemory`] where all runs are reported,
@@ -71,7 +73,8 @@ pub fn serve<P: Read, R: Read, W: Write>(
     input: &mut R,
     out: &mut W,
 ) -> Outcome
-    requires { IsMemorySize request.now.memory }
+    requires size { IsMemorySize request.now.memory }
+    requires bound { IfSome request.now.rules.choose (λ n. pos 1 ≤ℤ n) }
     ensures served { (c : List ℕ) → IsInput request.now.mode (R.remaining input.old) c
         → IfSome (P.remaining program.old) (λ b.
         Serves (reply_to request.now b c) (W.contents out.old) (W.contents out.new) result) }
@@ -135,9 +138,9 @@ pub fn serve<P: Read, R: Read, W: Write>(
         Mode::Seeded(seed) => {
             Outcome::of(run_by_seed(alloc, request, *seed, program, input, out))
         }
-        Mode::All { after, first } => {
-            Outcome::of(list_runs(alloc, request, after, *first, program, input, out))
-        }
+        Mode::All { after, first, form } => Outcome::of(list_runs(
+            alloc, request, after, *first, *form, program, input, out,
+        )),
         Mode::List => Outcome::of(list_program(alloc, request, program, out)),
     }
 }
@@ -151,7 +154,8 @@ fn run_program<P: Read, R: Read, W: Write>(
     input: &mut R,
     out: &mut W,
 ) -> Result<u8, Note>
-    requires { IsMemorySize request.now.memory }
+    requires size { IsMemorySize request.now.memory }
+    requires bound { IfSome request.now.rules.choose (λ n. pos 1 ≤ℤ n) }
     ensures served { (c : List ℕ) → R.remaining input.old ≡ Some c
         → IfSome (P.remaining program.old) (λ b.
         Serves (reply_in_mode (Plain answers.now) request.now b c)
@@ -205,7 +209,7 @@ fn run_program<P: Read, R: Read, W: Write>(
 {
     let program = load(alloc, request.memory, program)?;
     let answers = answers.as_slice();
-    match run_plain(alloc, &program, answers, request.steps, input, out) {
+    match run_plain(alloc, &program, answers, request.rules, input, out) {
         Ok(ending) => Ok(ending_status(ending)),
         Err(fault) => Err(run_note(fault)),
     }
@@ -220,7 +224,8 @@ fn run_by_seed<P: Read, R: Read, W: Write>(
     input: &mut R,
     out: &mut W,
 ) -> Result<u8, Note>
-    requires { IsMemorySize request.now.memory }
+    requires size { IsMemorySize request.now.memory }
+    requires bound { IfSome request.now.rules.choose (λ n. pos 1 ≤ℤ n) }
     ensures served { (c : List ℕ) → R.remaining input.old ≡ Some c
         → IfSome (P.remaining program.old) (λ b.
         Serves (reply_in_mode (Seeded seed) request.now b c)
@@ -273,7 +278,7 @@ fn run_by_seed<P: Read, R: Read, W: Write>(
         → W.failures out.new ≡ W.failures out.old }
 {
     let program = load(alloc, request.memory, program)?;
-    match run_seeded(alloc, &program, seed, request.steps, input, out) {
+    match run_seeded(alloc, &program, seed, request.rules, input, out) {
         Ok(ending) => Ok(ending_status(ending)),
         Err(broken) => Err(run_note(broken)),
     }
@@ -286,7 +291,8 @@ fn list_program<P: Read, W: Write>(
     program: &mut P,
     out: &mut W,
 ) -> Result<u8, Note>
-    requires { IsMemorySize request.now.memory }
+    requires size { IsMemorySize request.now.memory }
+    requires bound { IfSome request.now.rules.choose (λ n. pos 1 ≤ℤ n) }
     ensures served { IfSome (P.remaining program.old) (λ b.
         Serves (reply_in_mode Listing request.now b [])
         (W.contents out.old) (W.contents out.new) (outcome_of result)) }

@@ -55,8 +55,8 @@ fn show_value<C: Chooser, S: Screen, L: LineSource>(
     value: i16,
 ) -> Result<(), Stop>
     ensures comes { (given : List (List ℕ)) (cells : Cells) → Comes nothing_refused
-        (io_trace C.choices S.Screen io.old given cells)
-        (io_trace C.choices S.Screen io.new given cells)
+        (io_trace C.choices S.Screen L.most io.old given cells)
+        (io_trace C.choices S.Screen L.most io.new given cells)
         (show (padded_decimal width value)) goes_on result }
     ensures same { SameDevices io.old io.new }
 {
@@ -79,8 +79,8 @@ fn print_item<C: Chooser, S: Screen, L: LineSource>(
     ensures text { cursor.new.text ≡ cursor.old.text }
     ensures comes { (given : List (List ℕ)) (rest : List Part) (operands : List ℤ) →
         Comes (refused_answers (C.refused io.new.chooser.now))
-        (io_trace C.choices S.Screen io.old given store.now)
-        (io_trace C.choices S.Screen io.new given store.now)
+        (io_trace C.choices S.Screen L.most io.old given store.now)
+        (io_trace C.choices S.Screen L.most io.new given store.now)
         (parts_action (item_of (print_item cursor.old.text cursor.old.place) ∷ rest)
         width.old operands) (λ _. parts_action rest width.new operands) result }
     ensures read { IfOk result (λ _. IsRead cursor.old.text cursor.old.place
@@ -113,8 +113,8 @@ pub(crate) fn print<C: Chooser, S: Screen, L: LineSource>(
     ensures text { cursor.new.text ≡ cursor.old.text }
     ensures comes { (given : List (List ℕ)) →
         Comes (refused_answers (C.refused io.new.chooser.now))
-        (io_trace C.choices S.Screen io.old given store.now)
-        (io_trace C.choices S.Screen io.new given store.now)
+        (io_trace C.choices S.Screen L.most io.old given store.now)
+        (io_trace C.choices S.Screen L.most io.new given store.now)
         (action_of (item_of (print_parts cursor.old.text cursor.old.place)))
         (λ _. goes_on []) result }
     ensures closed { IfOk result (λ _. IsClosed cursor.old.text cursor.old.place
@@ -162,7 +162,7 @@ impl Registers {
             Acts (refused_answers (C.refused io.new.chooser.now)) p
             (configuration self.old steps io.old.fresh spent)
             (configuration self.new steps io.new.fresh spent)
-            (io_devices C.choices S.Screen io.old given) (io_devices C.choices S.Screen io.new given)
+            (io_devices C.choices S.Screen L.most io.old given) (io_devices C.choices S.Screen L.most io.new given)
             (command_action p q (command_of PrintKw
             (parts_of PrintKw cursor.old.text cursor.old.place))) result }
         ensures same { SameDevices io.old io.new }

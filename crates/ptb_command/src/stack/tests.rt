@@ -84,11 +84,11 @@ fn changes(rt: HostRuntime) -> Result<(), Fail> {
     Ok(())
 }
 
-// There is room for 64: loops and calls count alike, and a loop that is opened again counts once.
+// There is room for 256: loops and calls count alike, and a loop that is opened again counts once.
 #[test]
 fn room(rt: HostRuntime) -> Result<(), Fail> {
     let mut stack = Stack::new();
-    for _ in 0..63 {
+    for _ in 0..255 {
         assert!(rt; change(&mut stack, b'('));
     }
     for (byte, done) in [

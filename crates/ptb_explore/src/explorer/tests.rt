@@ -1,6 +1,7 @@
 // This file tests an explorer's copies: how many are kept, and how many commands are played.
 
 use super::*;
+use crate::tests::plain_rules;
 use ptb_machine::{Ending, read_lines};
 use ptb_text::{Device, load};
 use std::test::Fail;
@@ -39,7 +40,7 @@ fn one_question_at_the_end(rt: HostRuntime) -> Result<(), Fail> {
     let Some((program, lines)) = loaded(rt.alloc(), text, "") else {
         return Err(Fail::from("no program"));
     };
-    let mut explorer = Explorer::start(rt.alloc(), &program, &lines, 10000)?;
+    let mut explorer = Explorer::start(rt.alloc(), &program, &lines, plain_rules(10000))?;
     assert_eq!(rt; (explorer.kept(), explorer.played()), (0, 0));
     for (answer, played) in [(1, 402), (2, 804), (3, 1206)] {
         let Some((answers, steps, kept, now)) = next_run(&mut explorer, 1)? else {
@@ -61,13 +62,37 @@ fn more_questions_than_copies(rt: HostRuntime) -> Result<(), Fail> {
     let Some((program, lines)) = loaded(rt.alloc(), text, "") else {
         return Err(Fail::from("no program"));
     };
-    let mut explorer = Explorer::start(rt.alloc(), &program, &lines, 10000)?;
+    let mut explorer = Explorer::start(rt.alloc(), &program, &lines, plain_rules(10000))?;
     for (last, played) in [([1, 1], 140), ([1, 2], 142), ([2, 1], 144), ([2, 2], 146)] {
         let Some((answers, steps, kept, now)) = next_run(&mut explorer, 2)? else {
             return Err(Fail::from("no run"));
         };
         assert_eq!(rt; answers.as_slice(), &last[..]);
         assert_eq!(rt; (steps, kept, now), (140, 64, played));
+    }
+    assert!(rt; next_run(&mut explorer, 2)?.is_none());
+    Ok(())
+}
+
+// An answer that stands in for a missing line is kept as any other: only what comes behind it is
+// played again.
+#[test]
+fn answers_in_place_of_lines(rt: HostRuntime) -> Result<(), Fail> {
+    let text = "10 F.I=1TO100;A=I;N.I\n20 INPUT A\n30 INPUT B";
+    let Some((program, lines)) = loaded(rt.alloc(), text, "") else {
+        return Err(Fail::from("no program"));
+    };
+    let rules = Rules {
+        limit: 10000,
+        choose: Some(2),
+    };
+    let mut explorer = Explorer::start(rt.alloc(), &program, &lines, rules)?;
+    for (last, played) in [([1, 1], 203), ([1, 2], 204), ([2, 1], 407), ([2, 2], 408)] {
+        let Some((answers, steps, kept, now)) = next_run(&mut explorer, 2)? else {
+            return Err(Fail::from("no run"));
+        };
+        assert_eq!(rt; answers.as_slice(), &last[..]);
+        assert_eq!(rt; (steps, kept, now), (203, 2, played));
     }
     assert!(rt; next_run(&mut explorer, 2)?.is_none());
     Ok(())
@@ -80,7 +105,7 @@ fn lines_and_bytes_of_a_copy(rt: HostRuntime) -> Result<(), Fail> {
     let Some((program, lines)) = loaded(rt.alloc(), text, "3\n4\n5\n") else {
         return Err(Fail::from("no program"));
     };
-    let mut explorer = Explorer::start(rt.alloc(), &program, &lines, 10000)?;
+    let mut explorer = Explorer::start(rt.alloc(), &program, &lines, plain_rules(10000))?;
     for (shown, played) in [
         ("A:3\nB:4\n     1\nC:5\n     5\n", 4),
         ("A:3\nB:4\n     1\nC:5\n    10\n", 6),
@@ -128,7 +153,7 @@ fn has_runs(alloc: Global, text: &str, taken: usize, steps: u32, runs: &[&[i16]]
     let Some((program, lines)) = loaded(alloc, text, "") else {
         return true;
     };
-    let Ok(mut explorer) = Explorer::start(alloc, &program, &lines, 10000) else {
+    let Ok(mut explorer) = Explorer::start(alloc, &program, &lines, plain_rules(10000)) else {
         return true;
     };
     for last in runs {
@@ -165,7 +190,13 @@ fn behind_a_run(rt: HostRuntime) -> Result<(), Fail> {
     };
     let mut answers = [1; 71];
     answers[70] = 2;
-    let Ok(mut explorer) = Explorer::after(rt.alloc(), &program, &lines, 10000, &answers) else {
+    let Ok(mut explorer) = Explorer::after(
+        rt.alloc(),
+        &program,
+        &lines,
+        plain_rules(10000),
+        &answers,
+    ) else {
         return Err(Fail::from("no run"));
     };
     assert_eq!(rt; (explorer.kept(), explorer.played()), (64, 140));
@@ -175,4 +206,27 @@ fn behind_a_run(rt: HostRuntime) -> Result<(), Fail> {
     assert_eq!(rt; answers.as_slice(), &[2, 1][..]);
     assert_eq!(rt; (steps, kept, now), (140, 64, 142));
     Ok(())
+}
+
+// Passes whichever of its allocations is refused: the list is a run with its bounds, so that nothing
+// but memory can be wanting.
+#[test]
+fn refused_behind_a_run(rt: HostRuntime) {
+    let Some((program, lines)) = loaded(rt.alloc(), "10 A=RND(2);B=RND(3)", "") else {
+        return;
+    };
+    let list = [
+        Marked {
+            answer: 2,
+            bound: Some(2),
+        },
+        Marked {
+            answer: 1,
+            bound: None,
+        },
+    ];
+    match Explorer::after_marked(rt.alloc(), &program, &lines, plain_rules(10000), &list) {
+        Ok(explorer) => assert_eq!(rt; explorer.played(), 2),
+        Err(fault) => assert_eq!(rt; fault, AfterFault::Memory),
+    }
 }

@@ -5,7 +5,9 @@ ghost use Rattle.std.specs.Prelude.{◌≤◌};
 
 use super::*;
 use crate::fault::AfterFault;
-use ptb_machine::{Ending, Line, read_lines};
+use crate::form::Marked;
+use crate::tests::plain_rules;
+use ptb_machine::{Ending, Line, Rules, read_lines};
 use ptb_text::{Device, Program, load};
 use std::alloc::Global;
 use std::io;
@@ -21,6 +23,10 @@ const BRANCHES: &str = "10 A=RND(2);IF A=2 B=RND(3);PRINT B";
 
 const BRANCH_REPORTS: &str = "RUN 1 END 2 0\n\nRUN 2,1 END 4 7\n     1\n\n\
 RUN 2,2 END 4 7\n     2\n\nRUN 2,3 END 4 7\n     3\n\n";
+
+// The same, each answer with its bound.
+const BRANCH_REPORTS_WITH_BOUNDS: &str = "RUN 1/2 END 2 0\n\nRUN 2/2,1/3 END 4 7\n     1\n\n\
+RUN 2/2,2/3 END 4 7\n     2\n\nRUN 2/2,3/3 END 4 7\n     3\n\n";
 
 // The program of a text, and the lines of an input.
 fn loaded(alloc: Global, text: &str, input: &str) -> Result<(Program, Vec<Line>), Fail> {
@@ -43,10 +49,16 @@ fn listed_behind(
 ) -> Result<(u64, Vec<u8>), Fail> {
     let (program, lines) = loaded(alloc, text, "")?;
     let mut bytes = Vec::new(alloc);
-    let Ok(mut explorer) = Explorer::after(alloc, &program, &lines, 10000, answers) else {
+    let Ok(mut explorer) = Explorer::after(alloc, &program, &lines, plain_rules(10000), answers)
+    else {
         return Err(Fail::from("no run"));
     };
-    match write_all_runs(&mut explorer, first, &mut Device::new(&mut bytes)) {
+    match write_all_runs(
+        &mut explorer,
+        first,
+        Form::One,
+        &mut Device::new(&mut bytes),
+    ) {
         Ok(count) => Ok((count, bytes)),
         Err(_) => Err(Fail::from("not written")),
     }
@@ -77,10 +89,47 @@ fn writes_all(rt: HostRuntime) -> Result<(), Fail> {
     for i in 0..7 {
         let (program, lines) = loaded(rt.alloc(), programs[i], inputs[i])?;
         let mut bytes = Vec::new(rt.alloc());
-        let mut explorer = Explorer::start(rt.alloc(), &program, &lines, limits[i])?;
-        let result = write_all_runs(&mut explorer, None, &mut Device::new(&mut bytes));
+        let mut explorer = Explorer::start(rt.alloc(), &program, &lines, plain_rules(limits[i]))?;
+        let result = write_all_runs(&mut explorer, None, Form::One, &mut Device::new(&mut bytes));
         assert!(rt; result.is_ok(), "listing {i}");
         assert_eq!(rt; bytes.as_slice(), texts[i].as_bytes(), "listing {i}");
+    }
+    Ok(())
+}
+
+// Each answer that INPUT takes in place of a line gives a run, as each of RND's does.
+#[test]
+fn writes_runs_without_lines(rt: HostRuntime) -> Result<(), Fail> {
+    let (asked, element) = ("10 INPUT A;PRINT A", "10 INPUT @(RND(2)-1)");
+    for (text, input, want) in [
+        (
+            asked,
+            "",
+            "RUN 1 END 2 11\nA:1\n     1\n\nRUN 2 END 2 11\nA:2\n     2\n\n",
+        ),
+        (
+            asked,
+            ")",
+            "RUN 1 END 2 21\nA:)\nWHAT?\nA:1\n     1\n\nRUN 2 END 2 21\nA:)\nWHAT?\nA:2\n     2\n\n",
+        ),
+        (asked, "7", "RUN none END 2 11\nA:7\n     7\n\n"),
+        (
+            element,
+            "",
+            "RUN 1,1 END 1 14\n@(RND(2)-1):1\n\nRUN 1,2 END 1 14\n@(RND(2)-1):2\n\n\
+RUN 2,1 END 1 14\n@(RND(2)-1):1\n\nRUN 2,2 END 1 14\n@(RND(2)-1):2\n\n",
+        ),
+    ] {
+        let (program, lines) = loaded(rt.alloc(), text, input)?;
+        let rules = Rules {
+            limit: 10000,
+            choose: Some(2),
+        };
+        let mut bytes = Vec::new(rt.alloc());
+        let mut explorer = Explorer::start(rt.alloc(), &program, &lines, rules)?;
+        let result = write_all_runs(&mut explorer, None, Form::One, &mut Device::new(&mut bytes));
+        assert!(rt; result.is_ok(), "{text}");
+        assert_eq!(rt; bytes.as_slice(), want.as_bytes(), "{text}");
     }
     Ok(())
 }
@@ -102,7 +151,7 @@ fn writes_those_behind(rt: HostRuntime) -> Result<(), Fail> {
 #[test]
 fn lends_each_report(rt: HostRuntime) -> Result<(), Fail> {
     let (program, lines) = loaded(rt.alloc(), "10 A=RND(1);P.RND(2)", "")?;
-    let mut explorer = Explorer::start(rt.alloc(), &program, &lines, 10000)?;
+    let mut explorer = Explorer::start(rt.alloc(), &program, &lines, plain_rules(10000))?;
     for k in 1..=2 {
         let Some(report) = explorer.next()? else {
             return Err(Fail::from("no report"));
@@ -123,7 +172,95 @@ fn refuses_what_is_no_run(rt: HostRuntime) -> Result<(), Fail> {
     let (program, lines) = loaded(rt.alloc(), BRANCHES, "")?;
     let lists: [&[i16]; 5] = [&[], &[2], &[2, 4], &[2, 1, 1], &[0]];
     for answers in lists {
-        let refusal = Explorer::after(rt.alloc(), &program, &lines, 10000, answers).err();
+        let refusal = Explorer::after(
+            rt.alloc(),
+            &program,
+            &lines,
+            plain_rules(10000),
+            answers,
+        ).err();
+        assert_eq!(rt; refusal, Some(AfterFault::NotARun));
+    }
+    Ok(())
+}
+
+// An answer, and the bound that is stated of it, if one is.
+fn marked(answer: i16, bound: Option<i16>) -> Marked {
+    Marked { answer, bound }
+}
+
+#[test]
+fn writes_bounds(rt: HostRuntime) -> Result<(), Fail> {
+    let (program, lines) = loaded(rt.alloc(), BRANCHES, "")?;
+    let mut explorer = Explorer::start(rt.alloc(), &program, &lines, plain_rules(10000))?;
+    let mut bytes = Vec::new(rt.alloc());
+    let mut out = Device::new(&mut bytes);
+    assert_eq!(rt;
+        write_all_runs(&mut explorer, None, Form::Two, &mut out),
+        Ok(4)
+    );
+    assert_eq!(rt; bytes.as_slice(), BRANCH_REPORTS_WITH_BOUNDS.as_bytes());
+    Ok(())
+}
+
+// Each bound may be stated or not.
+#[test]
+fn goes_on_behind_stated_bounds(rt: HostRuntime) -> Result<(), Fail> {
+    let (program, lines) = loaded(rt.alloc(), BRANCHES, "")?;
+    let lists: [[Marked; 2]; 4] = [
+        [marked(2, None), marked(1, None)],
+        [marked(2, Some(2)), marked(1, None)],
+        [marked(2, None), marked(1, Some(3))],
+        [marked(2, Some(2)), marked(1, Some(3))],
+    ];
+    for list in lists {
+        let Ok(mut explorer) = Explorer::after_marked(
+            rt.alloc(),
+            &program,
+            &lines,
+            plain_rules(10000),
+            &list,
+        ) else {
+            return Err(Fail::from("no run"));
+        };
+        let mut bytes = Vec::new(rt.alloc());
+        let mut out = Device::new(&mut bytes);
+        assert_eq!(rt;
+            write_all_runs(&mut explorer, None, Form::Two, &mut out),
+            Ok(2)
+        );
+        assert_eq!(rt;
+            bytes.as_slice(),
+            &BRANCH_REPORTS_WITH_BOUNDS.as_bytes()[45..]
+        );
+    }
+    Ok(())
+}
+
+#[test]
+fn refuses_other_bounds(rt: HostRuntime) -> Result<(), Fail> {
+    let (program, lines) = loaded(rt.alloc(), BRANCHES, "")?;
+    let lists: [&[Marked]; 9] = [
+        // the bound of another question
+        &[marked(2, Some(3)), marked(1, Some(3))],
+        &[marked(2, Some(2)), marked(1, Some(2))],
+        &[marked(2, None), marked(1, Some(4))],
+        &[marked(1, Some(1))],
+        // beginnings, a run and more, an answer out of range
+        &[],
+        &[marked(2, Some(2))],
+        &[marked(2, Some(2)), marked(1, Some(3)), marked(1, None)],
+        &[marked(2, Some(2)), marked(4, Some(3))],
+        &[marked(2, Some(2)), marked(4, Some(4))],
+    ];
+    for list in lists {
+        let refusal = Explorer::after_marked(
+            rt.alloc(),
+            &program,
+            &lines,
+            plain_rules(10000),
+            list,
+        ).err();
         assert_eq!(rt; refusal, Some(AfterFault::NotARun));
     }
     Ok(())
@@ -133,9 +270,14 @@ fn refuses_what_is_no_run(rt: HostRuntime) -> Result<(), Fail> {
 fn writes_a_beginning(rt: HostRuntime) -> Result<(), Fail> {
     let (program, lines) = loaded(rt.alloc(), PRODUCTS, "")?;
     for size in 0..96 {
-        let mut explorer = Explorer::start(rt.alloc(), &program, &lines, 10000)?;
+        let mut explorer = Explorer::start(rt.alloc(), &program, &lines, plain_rules(10000))?;
         let mut room = [b'.'; 96];
-        let result = write_all_runs(&mut explorer, None, &mut Device::new(&mut room[..size]));
+        let result = write_all_runs(
+            &mut explorer,
+            None,
+            Form::One,
+            &mut Device::new(&mut room[..size]),
+        );
         assert_eq!(rt; result, Err(ExploreFault::Write(size as u64 / 24)));
         assert_eq!(rt; &room[..size], &PRODUCT_REPORTS.as_bytes()[..size]);
     }
@@ -188,13 +330,18 @@ fn counts_reports_of_a_failing_writer(rt: HostRuntime) -> Result<(), Fail> {
         Failing::TakesNothing,
     ] {
         for calls in 0..=20 {
-            let mut explorer = Explorer::start(rt.alloc(), &program, &lines, 10000)?;
+            let mut explorer = Explorer::start(rt.alloc(), &program, &lines, plain_rules(10000))?;
             let mut sink = Sink {
                 taken: Vec::new(rt.alloc()),
                 calls_left: calls,
                 failing,
             };
-            let result = write_all_runs(&mut explorer, None, &mut Device::new(&mut sink));
+            let result = write_all_runs(
+                &mut explorer,
+                None,
+                Form::One,
+                &mut Device::new(&mut sink),
+            );
             let due = if sink.taken.len() == 96 {
                 Ok(4)
             } else {
@@ -241,11 +388,16 @@ fn refused_listings_go_on(rt: HostRuntime) -> Result<(), Fail> {
     let Ok(program) = load(rt.alloc(), 4096, &mut Device::new(&mut text)) else {
         return Ok(());
     };
-    let Ok(mut explorer) = Explorer::start(rt.alloc(), &program, &[], 10000) else {
+    let Ok(mut explorer) = Explorer::start(rt.alloc(), &program, &[], plain_rules(10000)) else {
         return Ok(());
     };
     let mut room = [b'.'; 100];
-    let first = match write_all_runs(&mut explorer, None, &mut Device::new(&mut room[..])) {
+    let first = match write_all_runs(
+        &mut explorer,
+        None,
+        Form::One,
+        &mut Device::new(&mut room[..]),
+    ) {
         Ok(count) => count,
         Err(ExploreFault::Memory(count)) => {
             println!(rt; "refused behind {count}")?;
@@ -256,7 +408,12 @@ fn refused_listings_go_on(rt: HostRuntime) -> Result<(), Fail> {
     let (front, back) = BRANCH_REPORTS.as_bytes().split_at(branch_bytes(first));
     assert!(rt; holds(&room, front), "behind {first}");
     let mut room = [b'.'; 100];
-    let second = write_all_runs(&mut explorer, None, &mut Device::new(&mut room[..]));
+    let second = write_all_runs(
+        &mut explorer,
+        None,
+        Form::One,
+        &mut Device::new(&mut room[..]),
+    );
     assert_eq!(rt; second, Ok(4_u64.saturating_sub(first)));
     assert!(rt; holds(&room, back), "behind {first}");
     Ok(())

@@ -1,5 +1,7 @@
 // This file tests runs that end, and that can't be read or written.
 
+ghost use Rattle.std.specs.Prelude.{◌≡◌, None};
+
 use super::*;
 use ptb_text::{Device, LoadFault};
 use std::io;
@@ -33,6 +35,16 @@ fn one_line(alloc: Global, line: &[u8]) -> Result<Program, LoadFault> {
     Ok(program)
 }
 
+// The rules of a run that ends for want of a line.
+fn lines_alone(limit: u32) -> Rules
+    ensures { result.choose ≡ None }
+{
+    Rules {
+        limit,
+        choose: None,
+    }
+}
+
 #[test]
 fn endings(rt: HostRuntime) -> Result<(), Fail> {
     for (answers, ending, shown) in [
@@ -45,7 +57,14 @@ fn endings(rt: HostRuntime) -> Result<(), Fail> {
         let mut input = Device::new(&b""[..]);
         let mut shown_bytes = Vec::new(rt.alloc());
         let mut out = Device::new(&mut shown_bytes);
-        let result = run_plain(rt.alloc(), &program, answers, 10, &mut input, &mut out);
+        let result = run_plain(
+            rt.alloc(),
+            &program,
+            answers,
+            lines_alone(10),
+            &mut input,
+            &mut out,
+        );
         assert_eq!(rt; result, Ok(ending));
         assert_eq!(rt; shown_bytes.as_slice(), shown);
     }
@@ -73,7 +92,37 @@ fn seeded_endings(rt: HostRuntime) -> Result<(), Fail> {
         let mut input = Device::new(&b""[..]);
         let mut shown_bytes = Vec::new(rt.alloc());
         let mut out = Device::new(&mut shown_bytes);
-        let result = run_seeded(rt.alloc(), &program, seed, 10, &mut input, &mut out);
+        let result = run_seeded(
+            rt.alloc(),
+            &program,
+            seed,
+            lines_alone(10),
+            &mut input,
+            &mut out,
+        );
+        assert_eq!(rt; result, Ok(ending));
+        assert_eq!(rt; shown_bytes.as_slice(), shown);
+    }
+    Ok(())
+}
+
+// Without a line a run asks for an answer, if it has a bound for that.
+#[test]
+fn endings_without_lines(rt: HostRuntime) -> Result<(), Fail> {
+    let rules = Rules {
+        limit: 10,
+        choose: Some(2),
+    };
+    for (answers, ending, shown) in [
+        (&[][..], Ending::NoAnswer, &b"A:"[..]),
+        (&[2], Ending::End, b"A:2\n     2\n"),
+        (&[3], Ending::BadAnswer, b"A:"),
+    ] {
+        let program = one_line(rt.alloc(), b"10 INPUT A;PRINT A")?;
+        let mut input = Device::new(&b""[..]);
+        let mut shown_bytes = Vec::new(rt.alloc());
+        let mut out = Device::new(&mut shown_bytes);
+        let result = run_plain(rt.alloc(), &program, answers, rules, &mut input, &mut out);
         assert_eq!(rt; result, Ok(ending));
         assert_eq!(rt; shown_bytes.as_slice(), shown);
     }
@@ -89,7 +138,14 @@ fn refused_seeded_runs(rt: HostRuntime) {
     let mut input = Device::new(&b""[..]);
     let mut shown = [0; 80];
     let mut out = Device::new(&mut shown[..]);
-    match run_seeded(rt.alloc(), &program, 7, 200, &mut input, &mut out) {
+    match run_seeded(
+        rt.alloc(),
+        &program,
+        7,
+        lines_alone(200),
+        &mut input,
+        &mut out,
+    ) {
         Ok(ending) => assert_eq!(rt; ending, Ending::End),
         Err(fault) => assert_eq!(rt; fault, RunFault::Memory),
     }
@@ -109,7 +165,7 @@ fn broken_devices(rt: HostRuntime) -> Result<(), Fail> {
         rt.alloc(),
         &program,
         &[],
-        10,
+        lines_alone(10),
         &mut Device::new(Broken),
         &mut out,
     );
@@ -118,16 +174,37 @@ fn broken_devices(rt: HostRuntime) -> Result<(), Fail> {
 
     let mut input = Device::new(&b""[..]);
     let mut broken = Device::new(Broken);
-    let unwritten = run_plain(rt.alloc(), &program, &[], 10, &mut input, &mut broken);
+    let unwritten = run_plain(
+        rt.alloc(),
+        &program,
+        &[],
+        lines_alone(10),
+        &mut input,
+        &mut broken,
+    );
     assert_eq!(rt; unwritten, Err(RunFault::Write));
 
     let mut unread_input = Device::new(Broken);
     let mut shown = Vec::new(rt.alloc());
     let mut out = Device::new(&mut shown);
-    let unread = run_seeded(rt.alloc(), &program, 7, 10, &mut unread_input, &mut out);
+    let unread = run_seeded(
+        rt.alloc(),
+        &program,
+        7,
+        lines_alone(10),
+        &mut unread_input,
+        &mut out,
+    );
     assert_eq!(rt; unread, Err(RunFault::Read));
     assert_eq!(rt; shown.as_slice(), b"\nA:".as_slice());
-    let unwritten = run_seeded(rt.alloc(), &program, 7, 10, &mut input, &mut broken);
+    let unwritten = run_seeded(
+        rt.alloc(),
+        &program,
+        7,
+        lines_alone(10),
+        &mut input,
+        &mut broken,
+    );
     assert_eq!(rt; unwritten, Err(RunFault::Write));
     Ok(())
 }

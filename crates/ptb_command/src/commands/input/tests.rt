@@ -3,7 +3,7 @@
 use super::*;
 use crate::tests::letter;
 use ptb_devices::{Line, Lines, TextScreen};
-use ptb_expr::Listed;
+use ptb_expr::{Listed, Pause};
 use std::test::Fail;
 
 #[test]
@@ -59,13 +59,37 @@ fn items(rt: HostRuntime) -> Result<(), Fail> {
         let mut chooser = Listed::new(&[1, 2]);
         let mut screen = TextScreen::new(rt.alloc());
         let mut cursor = Cursor::new(text, 0);
-        let mut io = Io::new(&mut chooser, &mut screen, &mut source, true);
+        let mut io = Io::new(&mut chooser, &mut screen, &mut source, true, None);
         let result = super::input(&mut cursor, &mut store, &mut io).map(|()| cursor.place());
         let fresh = io.fresh;
         assert_eq!(rt; result, want);
         assert_eq!(rt; screen.bytes(), shown);
         assert_eq!(rt; store.get(letter(b'A')), a);
         assert_eq!(rt; fresh, shown.last() == Some(&b'\n'));
+    }
+    Ok(())
+}
+
+// Where no line is left: an answer is asked for with a bound of 2, if there is one.
+#[test]
+fn answers_where_no_line_is_left(rt: HostRuntime) -> Result<(), Fail> {
+    for (text, answers, want, shown, a) in [
+        (&b"A"[..], &[2][..], Ok(1), &b"A:2\n"[..], 2),
+        (b"'N'A", &[1], Ok(4), b"N:1\n", 1),
+        (b"A,A", &[1, 2], Ok(3), b"A:1\nA:2\n", 2),
+        (b"A", &[], Err(Stop::Pause(Pause::Ended)), b"A:", 0),
+        (b"A", &[3], Err(Stop::Pause(Pause::OutOfRange(3))), b"A:", 0),
+    ] {
+        let mut source = Lines::new(&[]);
+        let mut store = Store::new(rt.alloc(), 54)?;
+        let mut chooser = Listed::new(answers);
+        let mut screen = TextScreen::new(rt.alloc());
+        let mut cursor = Cursor::new(text, 0);
+        let mut io = Io::new(&mut chooser, &mut screen, &mut source, true, Some(2));
+        let result = super::input(&mut cursor, &mut store, &mut io).map(|()| cursor.place());
+        assert_eq!(rt; result, want);
+        assert_eq!(rt; screen.bytes(), shown);
+        assert_eq!(rt; store.get(letter(b'A')), a);
     }
     Ok(())
 }

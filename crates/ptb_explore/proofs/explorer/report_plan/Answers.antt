@@ -16,32 +16,32 @@ pub returns-clause-ends : goal.returns-clause-ends
 returns-clause-ends c =
     let p = c.args.player.now in
     let input = c.args.lines.now in
-    let limit = c.args.limit in
+    let rules = c.args.rules in
     let trial = c.play_on-ending.new.trial in
     let steps = c.play_on-ending.new.machine.steps in
     let shown = c.play_on-ending.new.screen in
     let planned = c.in_ok-report.ensures.plan ∙ c.in_ok-machine.ensures.plan in
     let lines : c.go_back-machine.new.source.lines ≡ input = c.go_back-machine.ensures.same_lines ∙ ap (λ (s : LineList). s.lines) c.new-source.ensures in
-    let ends = subst (λ (P : StoredProgram). PlayEnds (play P input limit) (choices_of trial) steps shown c.in_ok-report.field-0) c.go_back-machine.ensures.program
-    (subst (λ (ls : List (List ℕ)). PlayEnds (play c.go_back-machine.new.player ls limit) (choices_of trial) steps shown c.in_ok-report.field-0) lines c.in_ok-report.ensures.ends) in
-    let run = open_ends (play p input limit) trial steps shown (most_answers p input limit) (c.run_laws.ensures.reads p input limit) c.args.trial.now.answers.items planned c.requires.opens c.in_ok-report.field-0 ends in
+    let ends = subst (λ (P : StoredProgram). PlayEnds (play P input rules) (choices_of trial) steps shown c.in_ok-report.field-0) c.go_back-machine.ensures.program
+    (subst (λ (ls : List (List ℕ)). PlayEnds (play c.go_back-machine.new.player ls rules) (choices_of trial) steps shown c.in_ok-report.field-0) lines c.in_ok-report.ensures.ends) in
+    let run = open_ends (play p input rules) trial steps shown (most_answers p input rules.limit) (c.run_laws.ensures.reads p input rules) c.args.trial.now.answers.items planned c.requires.opens c.in_ok-report.field-0 ends in
     rw (c.hand_over.ensures.answers, c.hand_over.ensures.bounds, c.into_vec.ensures, c.steps-steps.ensures, c.deref-2.ensures) run
 
 pub returns-clause-copies : goal.returns-clause-copies
 returns-clause-copies c =
     let p = c.args.player.now in
     let input = c.args.lines.now in
-    let limit = c.args.limit in
+    let rules = c.args.rules in
     let trial = c.play_on-ending.new.trial in
     let steps = c.play_on-ending.new.machine.steps in
     let shown = c.play_on-ending.new.screen in
     let planned = c.in_ok-report.ensures.plan ∙ c.in_ok-machine.ensures.plan in
     let lines : c.go_back-machine.new.source.lines ≡ input = c.go_back-machine.ensures.same_lines ∙ ap (λ (s : LineList). s.lines) c.new-source.ensures in
-    let ends = subst (λ (P : StoredProgram). PlayEnds (play P input limit) (choices_of trial) steps shown c.in_ok-report.field-0) c.go_back-machine.ensures.program
-    (subst (λ (ls : List (List ℕ)). PlayEnds (play c.go_back-machine.new.player ls limit) (choices_of trial) steps shown c.in_ok-report.field-0) lines c.in_ok-report.ensures.ends) in
-    let run = open_ends (play p input limit) trial steps shown (most_answers p input limit) (c.run_laws.ensures.reads p input limit) c.args.trial.now.answers.items planned c.requires.opens c.in_ok-report.field-0 ends in
-    kept_same c.go_back-machine.new.player p c.go_back-machine.new.source.lines input limit (choices_of trial).taken _ shown _ c.play_on-ending.new.copies.kept.items _
-    (sym c.go_back-machine.ensures.program) (sym lines) (c.hand_over.ensures.answers ∙ sym (all_given (play p input limit) trial run.bounds_are)) c.into_vec.ensures (ap (λ k. k.items) c.give_back.ensures) c.in_ok-report.ensures.copies
+    let ends = subst (λ (P : StoredProgram). PlayEnds (play P input rules) (choices_of trial) steps shown c.in_ok-report.field-0) c.go_back-machine.ensures.program
+    (subst (λ (ls : List (List ℕ)). PlayEnds (play c.go_back-machine.new.player ls rules) (choices_of trial) steps shown c.in_ok-report.field-0) lines c.in_ok-report.ensures.ends) in
+    let run = open_ends (play p input rules) trial steps shown (most_answers p input rules.limit) (c.run_laws.ensures.reads p input rules) c.args.trial.now.answers.items planned c.requires.opens c.in_ok-report.field-0 ends in
+    kept_same c.go_back-machine.new.player p c.go_back-machine.new.source.lines input rules (choices_of trial).taken _ shown _ c.play_on-ending.new.copies.kept.items _
+    (sym c.go_back-machine.ensures.program) (sym lines) (c.hand_over.ensures.answers ∙ sym (all_given (play p input rules) trial run.bounds_are)) c.into_vec.ensures (ap (λ k. k.items) c.give_back.ensures) c.in_ok-report.ensures.copies
 
 pub returns-clause-played : goal.returns-clause-played
 returns-clause-played c =

@@ -6,7 +6,7 @@ use Rattle.ptb_explore.proofs.Tree.{tree_laws}
 use Rattle.ptb_explore.proofs.laws.program_laws.Goals as goal
 
 pub returns-clause-tree : goal.returns-clause-tree
-returns-clause-tree c = λ p input limit. tree_laws (play p input limit) (most_answers p input limit) (c.run_laws.ensures.reads p input limit)
+returns-clause-tree c = λ p input rules. tree_laws (play p input rules) (most_answers p input rules.limit) (c.run_laws.ensures.reads p input rules)
 
 pub returns-clause-listing : goal.returns-clause-listing
-returns-clause-listing c = λ p input limit. listing_laws (play p input limit) (most_answers p input limit) (c.run_laws.ensures.reads p input limit)
+returns-clause-listing c = λ p input rules. listing_laws (play p input rules) (most_answers p input rules.limit) (c.run_laws.ensures.reads p input rules)

@@ -6,15 +6,15 @@ use Rattle.ptb_explore.specs.Exploring.{play_of, most_of}
 use Rattle.ptb_explore.proofs.Progress.{Progress}
 use Rattle.ptb_explore.proofs.listing.write_all_runs.Given as goal
 
-abbrev pub invariant-loop-remaining : goal.invariant-loop-remaining
-invariant-loop-remaining g l =
+abbrev pub invariant-loop-form : goal.invariant-loop-form
+invariant-loop-form g l =
     let play = play_of l.fn.explorer in
     record {
       same : l.explorer ≡ record l.fn.explorer { front = l.explorer.front; kept = l.explorer.kept; played = l.explorer.played };
       unfailed : g.W.Write.failures l.writer ≡ g.W.Write.failures l.fn.writer;
-      progress : Progress play (most_of l.fn.explorer) (report play) (runs_left play (most_of l.fn.explorer) l.fn.explorer.front l.fn.first) l.fn.explorer.front l.explorer.front l.remaining (g.W.Write.contents l.fn.writer) (g.W.Write.contents l.writer) l.written;
+      progress : Progress play (most_of l.fn.explorer) (report l.fn.form play) (runs_left play (most_of l.fn.explorer) l.fn.explorer.front l.fn.first) l.fn.explorer.front l.explorer.front l.remaining (g.W.Write.contents l.fn.writer) (g.W.Write.contents l.writer) l.written;
     }
 
 -- fewer runs are left after each report
-abbrev pub decreases-loop-remaining : goal.decreases-loop-remaining
-decreases-loop-remaining g l = length (runs_after (play_of l.fn.explorer) (most_of l.fn.explorer) l.explorer.front)
+abbrev pub decreases-loop-form : goal.decreases-loop-form
+decreases-loop-form g l = length (runs_after (play_of l.fn.explorer) (most_of l.fn.explorer) l.explorer.front)

@@ -7,7 +7,7 @@ use Rattle.ptb_explore.specs.Copies.{StandsAt, taken_choices}
 use Rattle.ptb_explore.specs.Recording.{choices_of}
 use Rattle.ptb_explore.specs.declared.recorder.Recorder.{Recorder}
 use Rattle.ptb_explore.proofs.Keep.{kept_longer, kept_more, kept_same}
-use Rattle.ptb_explore.proofs.RunPrefix.{step_goes, step_ends, step_extends, prefix_to, taken_within, never_unread, never_unwritten}
+use Rattle.ptb_explore.proofs.RunPrefix.{step_goes, step_ends, step_extends, prefix_to, taken_within, none_follow, never_unread, never_unwritten}
 use Rattle.ptb_explore.proofs.playing.play_on.Goals as goal
 
 -- as many answers were taken as there are bounds
@@ -23,19 +23,19 @@ loop-ending-preserved c =
     let steps = c.step.ensures.steps in
     let old = choices_of l.trial in
     let new = choices_of c.step.new.chooser in
-    let x = step_goes c.run_laws.ensures l.player input c.args.limit _ _ _ _ _ _ steps.0 _ _ _ _ is i.run_prefix steps.1.0.first steps.1.1 in
-    let more = step_extends l.player input c.args.limit _ _ old new _ _ steps.0 _ _ _ i.run_prefix None _ is steps.1.0.first steps.1.1 in
+    let x = step_goes c.run_laws.ensures l.player input c.args.rules _ _ _ _ _ _ steps.0 _ _ _ _ _ _ is i.run_prefix steps.1.0.first (none_follow c.step.new.source) steps.1.1 in
+    let more = step_extends l.player input c.args.rules _ _ old new _ _ steps.0 _ _ _ _ _ i.run_prefix None _ is steps.1.0.first (none_follow c.step.new.source) steps.1.1 in
     let same_lines = steps.1.0.same_lines ∙ i.same_lines in
     let within : c.step.new.source.taken ≤ length input = rw (← i.same_lines) (taken_within l.source c.step.new.source steps.0 steps.1.0 (rw i.same_lines i.within)) in
-    let stands : (k : _) → _ → StandsAt l.player input c.args.limit k (old.taken ++ more.answers) (l.screen ++ more.bytes) = (λ k copy. record {
+    let stands : (k : _) → _ → StandsAt l.player input c.args.rules k (old.taken ++ more.answers) (l.screen ++ more.bytes) = (λ k copy. record {
       machine = c.step.new.machine;
       machine_is = copy.machine;
       unspent = c.step.ensures.spends.0 is;
       within = omega (arith, within, copy.lines_is, c.taken-lines.ensures);
-      run_prefix = prefix_to l.player input c.args.limit new (taken_choices (play l.player input c.args.limit) (old.taken ++ more.answers)) _ _ _ _ _ x.1 more.taken refl more.shown
+      run_prefix = prefix_to l.player input c.args.rules new (taken_choices (play l.player input c.args.rules) (old.taken ++ more.answers)) _ _ _ _ _ x.1 more.taken refl more.shown
           (ap (λ n. drop n c.step.new.source.lines) (sym (copy.lines_is ∙ c.taken-lines.ensures)) ∙ ap (drop k.lines) same_lines);
     }) in
-    let copies = kept_more l.player input c.args.limit old.taken more.answers l.screen more.bytes _ _ _ _ _ l.copies.kept.items c.keep.new.self.kept.items i.copies
+    let copies = kept_more l.player input c.args.rules old.taken more.answers l.screen more.bytes _ _ _ _ _ l.copies.kept.items c.keep.new.self.kept.items i.copies
     (c.len-before.ensures ∙ l.trial.bounds.ok.0 ∙ sym (taken_length l.trial))
     (c.len-taken.ensures ∙ c.step.new.chooser.bounds.ok.0 ∙ sym (taken_length c.step.new.chooser) ∙ ap length more.taken)
     (c.len-shown.ensures ∙ ap length more.shown) stands c.keep.ensures in
@@ -47,14 +47,21 @@ loop-ending-preserved c =
       unspent = c.step.ensures.spends.0 is;
       fits = rw (← c.step.ensures.program) at c.step.ensures.fits;
       run_prefix = rw c.step.ensures.program x.1;
-      copies = kept_same l.player c.step.new.self input input c.args.limit (old.taken ++ more.answers) new.taken (l.screen ++ more.bytes) c.step.new.screen _ _ c.step.ensures.program refl more.taken more.shown refl copies;
+      copies = kept_same l.player c.step.new.self input input c.args.rules (old.taken ++ more.answers) new.taken (l.screen ++ more.bytes) c.step.new.screen _ _ c.step.ensures.program refl more.taken more.shown refl copies;
     }
+
+pub returns-in-Ok-Some-clause-plan : goal.returns-in-Ok-Some-clause-plan
+returns-in-Ok-Some-clause-plan c =
+    let i = c.loop-ending.invariant in
+    let steps = c.step.ensures.steps in
+    let x = step_ends c.run_laws.ensures c.loop-ending.player c.args.source.now.lines c.args.rules _ _ _ _ _ _ steps.0 _ _ _ _ c.in-Ok-Some.ending _ (c.in-Ok-Some.is ∙ ap Ok (c.in-Ok-Some.field-0-is ∙ ap Some c.in-Ok-Some.ending-is)) i.run_prefix steps.1.0.first (none_follow c.step.new.source) steps.1.1 in
+    x.0 ∙ i.plan
 
 pub returns-in-Ok-Some-clause-ends : goal.returns-in-Ok-Some-clause-ends
 returns-in-Ok-Some-clause-ends c =
     let i = c.loop-ending.invariant in
     let steps = c.step.ensures.steps in
-    let x = step_ends c.run_laws.ensures c.loop-ending.player c.args.source.now.lines c.args.limit _ _ _ _ _ _ steps.0 _ _ c.in-Ok-Some.ending _ (c.in-Ok-Some.is ∙ ap Ok (c.in-Ok-Some.field-0-is ∙ ap Some c.in-Ok-Some.ending-is)) i.run_prefix steps.1.0.first steps.1.1 in
+    let x = step_ends c.run_laws.ensures c.loop-ending.player c.args.source.now.lines c.args.rules _ _ _ _ _ _ steps.0 _ _ _ _ c.in-Ok-Some.ending _ (c.in-Ok-Some.is ∙ ap Ok (c.in-Ok-Some.field-0-is ∙ ap Some c.in-Ok-Some.ending-is)) i.run_prefix steps.1.0.first (none_follow c.step.new.source) steps.1.1 in
     rw (← i.program) x.1
 
 pub returns-in-Ok-Some-clause-copies : goal.returns-in-Ok-Some-clause-copies
@@ -65,19 +72,19 @@ returns-in-Ok-Some-clause-copies c =
     let steps = c.step.ensures.steps in
     let old = choices_of l.trial in
     let new = choices_of c.step.new.chooser in
-    let more = step_extends l.player input c.args.limit _ _ old new _ _ steps.0 _ _ _ i.run_prefix (Some c.in-Ok-Some.ending) _ (c.in-Ok-Some.is ∙ ap Ok (c.in-Ok-Some.field-0-is ∙ ap Some c.in-Ok-Some.ending-is)) steps.1.0.first steps.1.1 in
-    let all = kept_longer l.player input c.args.limit old.taken more.answers l.screen more.bytes 0 0 l.copies.kept.items i.copies in
-    kept_same l.player c.args.player.now input input c.args.limit (old.taken ++ more.answers) new.taken (l.screen ++ more.bytes) c.step.new.screen _ _ (sym i.program) refl more.taken more.shown refl all
+    let more = step_extends l.player input c.args.rules _ _ old new _ _ steps.0 _ _ _ _ _ i.run_prefix (Some c.in-Ok-Some.ending) _ (c.in-Ok-Some.is ∙ ap Ok (c.in-Ok-Some.field-0-is ∙ ap Some c.in-Ok-Some.ending-is)) steps.1.0.first (none_follow c.step.new.source) steps.1.1 in
+    let all = kept_longer l.player input c.args.rules old.taken more.answers l.screen more.bytes 0 0 l.copies.kept.items i.copies in
+    kept_same l.player c.args.player.now input input c.args.rules (old.taken ++ more.answers) new.taken (l.screen ++ more.bytes) c.step.new.screen _ _ (sym i.program) refl more.taken more.shown refl all
 
 pub unreachable-requires : goal.unreachable-requires
 unreachable-requires c =
     let steps = c.step.ensures.steps in
-    never_unread c.run_laws.ensures c.loop-ending.player c.args.source.now.lines c.args.limit _ _ _ _ _ _ steps.0 _ _ _ c.loop-ending.invariant.run_prefix steps.1.0.first steps.1.1 (c.in-Err-Read.is ∙ ap Err c.in-Err-Read.field-0-is)
+    never_unread c.run_laws.ensures c.loop-ending.player c.args.source.now.lines c.args.rules _ _ _ _ _ _ steps.0 _ _ _ _ _ c.loop-ending.invariant.run_prefix steps.1.0.first (none_follow c.step.new.source) steps.1.1 (c.in-Err-Read.is ∙ ap Err c.in-Err-Read.field-0-is)
 
 pub unreachable-requires-in-Err-Write : goal.unreachable-requires-in-Err-Write
 unreachable-requires-in-Err-Write c =
     let steps = c.step.ensures.steps in
-    never_unwritten c.run_laws.ensures c.loop-ending.player c.args.source.now.lines c.args.limit _ _ _ _ _ _ steps.0 _ _ _ c.loop-ending.invariant.run_prefix steps.1.0.first steps.1.1 (c.in-Err-Write.is ∙ ap Err c.in-Err-Write.field-0-is)
+    never_unwritten c.run_laws.ensures c.loop-ending.player c.args.source.now.lines c.args.rules _ _ _ _ _ _ steps.0 _ _ _ _ _ c.loop-ending.invariant.run_prefix steps.1.0.first (none_follow c.step.new.source) steps.1.1 (c.in-Err-Write.is ∙ ap Err c.in-Err-Write.field-0-is)
 
 pub unreachable-requires-in-Err-Spent : goal.unreachable-requires-in-Err-Spent
 unreachable-requires-in-Err-Spent c =

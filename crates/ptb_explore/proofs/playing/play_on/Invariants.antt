@@ -14,10 +14,10 @@ invariant-loop-ending l = record {
   within : l.source.taken ≤ length l.fn.source.lines;
   unspent : l.machine.spent ≡ false;
   fits : FitsProgram l.player l.machine;
-  run_prefix : IsRunPrefix l.player l.fn.source.lines l.limit (choices_of l.trial) l.screen (drop l.source.taken l.source.lines) l.machine;
-  copies : AreCopies l.player l.fn.source.lines l.limit (choices_of l.trial).taken l.screen l.copies.kept.items;
+  run_prefix : IsRunPrefix l.player l.fn.source.lines l.rules (choices_of l.trial) l.screen (drop l.source.taken l.source.lines) l.machine;
+  copies : AreCopies l.player l.fn.source.lines l.rules (choices_of l.trial).taken l.screen l.copies.kept.items;
 }
 
--- each step is below the limit
+-- each step is below the rules
 abbrev pub decreases-loop-ending : goal.decreases-loop-ending
-decreases-loop-ending l = l.limit - l.machine.steps
+decreases-loop-ending l = l.rules.limit - l.machine.steps

@@ -1,11 +1,14 @@
--- This file says what is gathered after some of the answers behind the first.
+-- This file says what is gathered after some of the answers.
 use Rattle.std.proofs.Common.{◌≡◌, ◌++◌, take}
-use Rattle.ptb_expr.specs.AnswerText.{more_spelling}
+use Rattle.std.specs.List.{flat_map}
+use Rattle.ptb_explore.specs.AnswerText.{items_in}
 use Rattle.ptb_explore.specs.Report.{Gathers}
+use Rattle.ptb_explore.proofs.ReportText.{pieces_of, whole_piece}
 use Rattle.ptb_explore.proofs.report.put_answers.Given as goal
 
-abbrev pub invariant-loop-answer : goal.invariant-loop-answer
-invariant-loop-answer g l = record {
+abbrev pub invariant-loop-k : goal.invariant-loop-k
+invariant-loop-k g l = record {
   unfailed : g.W.Write.failures l.out ≡ g.W.Write.failures l.initial.out;
-  gathered : Gathers (g.W.Write.contents l.initial.out) (g.W.Write.contents l.out) (l.initial.pending.items ++ more_spelling (take l.answer-index l.others)) l.pending.items;
+  gathered : Gathers (g.W.Write.contents l.initial.out) (g.W.Write.contents l.out)
+      (l.initial.pending.items ++ flat_map whole_piece (take l.k (pieces_of (items_in l.form l.answers l.bounds)))) l.pending.items;
 }

@@ -1,31 +1,28 @@
--- This file answers what is left to prove of `parse_answer`.
-use Rattle.std.proofs.Common.{ap, ◌∙◌, ℤ, Result, Ok, Err, IfOk, IfSome, ◌≤◌, get_or, arith}
-use Rattle.std.specs.Result.{result_ok}
-use Rattle.ptb_options.specs.AnswerLists.{SpellsAnswer}
-use Rattle.ptb_options.proofs.AnswerTexts.{SpellsAnswer-first, SpellsAnswer-from_parse, parse-SpellsAnswer}
+-- This file answers that an answer is an item without a bound.
+use Rattle.std.proofs.Common.{rules, ◌≡◌, ◌∙◌, ap, sym, ℤ, Option, Some, None, true, false, FitsSigned, w16, to_z-of_z}
+use Rattle.std.specs.Prelude.{is_some}
+use Rattle.std.proofs.lemmas.Bool.{false≢true}
+use Rattle.ptb_explore.specs.declared.form.Marked.{Marked}
+use Rattle.ptb_explore.specs.AnswerText.{without_bound}
 use Rattle.ptb_options.proofs.answers.parse_answer.Goals as goal
-use Rattle.ptb_options.proofs.answers.parse_answer.Goals.{then-is_empty-via-then-is_empty, then-is_empty-via-else-is_empty+then-bytes-lt49, then-is_empty-via-else-is_empty+else-bytes-lt49+then-bytes-gt57}
 
-IfSome-result_ok : (E : Type 0) (P : ℤ → Type 0) (r : Result ℤ E) → IfOk r P → IfSome (result_ok r) P
-IfSome-result_ok E P (Ok k) h = h
-IfSome-result_ok E P (Err e) h = tt
+none_is_some : (m : Marked) → ◌≡◌ {A = Option Marked} None (Some m) → ⊥
+none_is_some m e = cc
 
-pub returns-then-is_empty-clause-only : goal.returns-then-is_empty-clause-only
-returns-then-is_empty-clause-only c k h =
-    let first = rw (← c.as_bytes-bytes.ensures.value) at (SpellsAnswer-first c.args.word.now k h) in
-    elim c.then-is_empty.branch [
-      | then-is_empty-via-then-is_empty w ↦ absurd (grind (arith, w.if-is_empty.ensures))
-      | then-is_empty-via-else-is_empty+then-bytes-lt49 w ↦ absurd (omega arith)
-      | then-is_empty-via-else-is_empty+else-bytes-lt49+then-bytes-gt57 w ↦ absurd (omega arith)
-    ]
+some_item : (m j : Marked) → Some m ≡ Some j → m ≡ j
+some_item m j e = cc
 
-pub returns-clause-some : goal.returns-clause-some
-returns-clause-some c =
-    let low : 49 ≤ get_or c.args.word.now 0 0 = rw (← c.as_bytes-bytes.ensures.value) (omega arith) in
-    let high : get_or c.args.word.now 0 0 ≤ 57 = rw (← c.as_bytes-bytes.ensures.value) (omega arith) in
-    let spelled = SpellsAnswer-from_parse _ c.args.word.now c.parse.result low high c.parse.ensures.value.0 in
-    rw c.ok.ensures.value (IfSome-result_ok _ (SpellsAnswer c.args.word.now) c.parse.result spelled)
+pub returns-in_err-item-clause-only : goal.returns-in_err-item-clause-only
+returns-in_err-item-clause-only c k h = absurd (none_is_some (without_bound k) (c.in_err-item.ensures.only (without_bound k) h))
+
+pub returns-then-is_some-clause-only : goal.returns-then-is_some-clause-only
+returns-then-is_some-clause-only c k h =
+    let same : c.in_ok-item.item ≡ without_bound k = some_item _ _ (c.in_ok-item.ensures.only (without_bound k) h) in
+    absurd (false≢true (sym (c.if-is_some.ensures ∙ ap (λ (m : Marked). is_some m.bound) same)))
 
 pub returns-clause-only : goal.returns-clause-only
 returns-clause-only c k h =
-    c.ok.ensures.value ∙ ap result_ok (parse-SpellsAnswer _ c.args.word.now k c.parse.result h c.parse.ensures.value.0)
+    let answer = c.in_ok-item.item.answer in
+    let fits : FitsSigned w16 answer = search rules in
+    let same : c.in_ok-item.item ≡ without_bound k = some_item _ _ (c.in_ok-item.ensures.only (without_bound k) h) in
+    ap Some (to_z-of_z fits ∙ ap (λ (m : Marked). m.answer) same)

@@ -11,8 +11,9 @@ use Rattle.std.specs.Str.Iter.{split_text, split_has_more, split_pattern}
 use Rattle.std.proofs.lemmas.List.Elements.{All-push}
 use Rattle.std.proofs.lemmas.Iterator.Splits.{YieldsList-from_str_split}
 use Rattle.std.proofs.lemmas.Iterator.Consumers.{YieldsList-turn, YieldsList-end}
-use Rattle.ptb_options.specs.AnswerLists.{IsAnswer, SpellsAnswer}
-use Rattle.ptb_options.proofs.AnswerTexts.{list_of_words, word_of_list, more_words}
+use Rattle.ptb_explore.specs.AnswerText.{unmarked, without_bound}
+use Rattle.ptb_options.specs.AnswerLists.{IsItem, SpellsItem}
+use Rattle.ptb_options.proofs.AnswerTexts.{list_of_words, word_of_answers, more_words, unmarked-push}
 use Rattle.ptb_options.proofs.answers.parse_answers.Goals as goal
 
 none_is_some : (k : ℤ) → ◌≡◌ {A = Option ℤ} None (Some k) → ⊥
@@ -28,7 +29,7 @@ returns-in_err-answer-clause-bad c bad a spells =
     let some : text ≢ codes "none" = λ e.
     false≢true (sym c.if-eq.false ∙ c.eq.ensures ∙ ap (λ (t : List ℕ). pointwise nat_eq t (codes "none")) e)
     in
-    let spelled = word_of_list text a _ c.in-Some.word.now some spells turn.0 turn.1 in
+    let spelled = word_of_answers text a _ c.in-Some.word.now some spells turn.0 turn.1 in
     let read = c.parse_answer.ensures.only spelled.0 spelled.1 in
     none_is_some spelled.0 (sym (c.ok_or.ensures.ok_part ∙ ap result_ok c.in_err-answer.was) ∙ read)
 
@@ -37,10 +38,10 @@ loop-word-preserved c =
     let answer = c.in_ok-answer.answer in
     let pushed : c.push.new.self.items ≡ c.loop-word.answers.items ++ answer ∷ [] = let fits : SFits w16 answer = search rules in simp to_z-of_z at c.in_ok-push.ensures.items in
     let read : c.parse_answer.result ≡ Some answer = c.ok_or.ensures.ok_part ∙ ap result_ok c.in_ok-answer.was in
-    let spells : SpellsAnswer c.in-Some.word.now answer = rw read at c.parse_answer.ensures.some in
+    let spells : SpellsItem c.in-Some.word.now (without_bound answer) = rw read at c.parse_answer.ensures.some in
     record {
-      words = rw pushed (more_words c.loop-word.yielded c.loop-word.answers.items c.in-Some.word answer c.loop-word.invariant.words spells.1);
-      each = rw pushed (All-push IsAnswer c.loop-word.answers.items answer c.loop-word.invariant.each spells.0);
+      words = rw (pushed, unmarked-push) (more_words c.loop-word.yielded (unmarked c.loop-word.answers.items) c.in-Some.word (without_bound answer) c.loop-word.invariant.words spells.1);
+      each = rw (pushed, unmarked-push) (All-push IsItem (unmarked c.loop-word.answers.items) (without_bound answer) c.loop-word.invariant.each spells.0);
     }
 
 pub returns-clause-ok : goal.returns-clause-ok
@@ -50,4 +51,4 @@ returns-clause-ok c =
     let split = c.split-word-items.ensures in
     let words = YieldsList-from_str_split 44 text (lit< tt) (ap split_text same ∙ split.text) (ap split_has_more same ∙ split.has_more) (ap split_pattern same ∙ split.pattern) in
     let all = YieldsList-end words c.loop-word.yielded _ c.loop-word.yielded_by _ _ c.in-None.is c.next.ensures.steps in
-    rw c.into-2.ensures (list_of_words text c.loop-word.answers.items c.loop-word.invariant.each (sym all.0 ∙ c.loop-word.invariant.words))
+    rw c.into-2.ensures (list_of_words text (unmarked c.loop-word.answers.items) c.loop-word.invariant.each (sym all.0 ∙ c.loop-word.invariant.words))

@@ -24,21 +24,27 @@ narrows r {p} {q} {s} {e} {low} {high} is_q is_low is_high h =
 pub returns : goal.returns
 returns c =
     let start : app_of c.after_help.result ≡ new_app (codes "ptb") =
-    ap app_of_fields c.after_help.ensures ∙ (ap app_of_fields c.about.ensures ∙ c.new-5.ensures.app) in
+    ap app_of_fields c.after_help.ensures ∙ (ap app_of_fields c.about.ensures ∙ c.new-7.ensures.app) in
     let steps : c.range-steps.result ≡ Signed (pos 1) (pos 1000000000) =
     narrows c.range-steps.result c.value_parser.ensures c.new.ensures.start c.new.ensures.end c.range-steps.ensures in
     let memory : c.range-memory.result ≡ Signed (pos 64) (pos 32767) =
     narrows c.range-memory.result c.value_parser-2.ensures c.new-2.ensures.start c.new-2.ensures.end c.range-memory.ensures in
+    let choose : c.range-choose.result ≡ Signed (pos 1) (pos 32767) =
+    narrows c.range-choose.result c.value_parser-3.ensures c.new-3.ensures.start c.new-3.ensures.end c.range-choose.ensures in
     let seed : c.range-seed.result ≡ Unsigned 0 4294967295 =
-    narrows c.range-seed.result c.value_parser-3.ensures c.new-3.ensures.start c.new-3.ensures.end c.range-seed.ensures in
+    narrows c.range-seed.result c.value_parser-4.ensures c.new-4.ensures.start c.new-4.ensures.end c.range-seed.ensures in
     let first : c.range-first.result ≡ Unsigned 1 1000000000 =
-    narrows c.range-first.result c.value_parser-4.ensures c.new-4.ensures.start c.new-4.ensures.end c.range-first.ensures in
+    narrows c.range-first.result c.value_parser-5.ensures c.new-5.ensures.start c.new-5.ensures.end c.range-first.ensures in
+    let form : c.range-form.result ≡ Signed (pos 1) (pos 2) =
+    narrows c.range-form.result c.value_parser-6.ensures c.new-6.ensures.start c.new-6.ensures.end c.range-form.ensures in
     let one = with_arg _ c.in_ok-arg.field-0 _ _ _ c.in_ok-arg.ensures c.number_option.ensures.local start (c.number_option.ensures.rule ∙ ap (number_option (codes "steps")) steps) in
     let two = with_arg _ c.in_ok-arg-2.field-0 _ _ _ c.in_ok-arg-2.ensures c.number_option-2.ensures.local one (c.number_option-2.ensures.rule ∙ ap (number_option (codes "memory")) memory) in
-    let three = with_arg _ c.in_ok-arg-3.field-0 _ _ _ c.in_ok-arg-3.ensures c.text_option.ensures.local two c.text_option.ensures.rule in
-    let four = with_arg _ c.in_ok-arg-4.field-0 _ _ _ c.in_ok-arg-4.ensures c.number_option-3.ensures.local three (c.number_option-3.ensures.rule ∙ ap (number_option (codes "seed")) seed) in
-    let five = with_arg _ c.in_ok-arg-5.field-0 _ _ _ c.in_ok-arg-5.ensures c.flag.ensures.local four c.flag.ensures.rule in
-    let six = with_arg _ c.in_ok-arg-6.field-0 _ _ _ c.in_ok-arg-6.ensures c.text_option-2.ensures.local five c.text_option-2.ensures.rule in
-    let seven = with_arg _ c.in_ok-arg-7.field-0 _ _ _ c.in_ok-arg-7.ensures c.number_option-4.ensures.local six (c.number_option-4.ensures.rule ∙ ap (number_option (codes "first")) first) in
-    let eight = with_arg _ c.in_ok-arg-8.field-0 _ _ _ c.in_ok-arg-8.ensures c.flag-2.ensures.local seven c.flag-2.ensures.rule in
-    IfOk-weaker c.arg-9.result _ _ (λ whole added. with_arg _ whole _ _ _ added c.operand.ensures.local eight c.operand.ensures.rule) c.arg-9.ensures
+    let three = with_arg _ c.in_ok-arg-3.field-0 _ _ _ c.in_ok-arg-3.ensures c.number_option-3.ensures.local two (c.number_option-3.ensures.rule ∙ ap (number_option (codes "choose")) choose) in
+    let four = with_arg _ c.in_ok-arg-4.field-0 _ _ _ c.in_ok-arg-4.ensures c.text_option.ensures.local three c.text_option.ensures.rule in
+    let five = with_arg _ c.in_ok-arg-5.field-0 _ _ _ c.in_ok-arg-5.ensures c.number_option-4.ensures.local four (c.number_option-4.ensures.rule ∙ ap (number_option (codes "seed")) seed) in
+    let six = with_arg _ c.in_ok-arg-6.field-0 _ _ _ c.in_ok-arg-6.ensures c.flag.ensures.local five c.flag.ensures.rule in
+    let seven = with_arg _ c.in_ok-arg-7.field-0 _ _ _ c.in_ok-arg-7.ensures c.text_option-2.ensures.local six c.text_option-2.ensures.rule in
+    let eight = with_arg _ c.in_ok-arg-8.field-0 _ _ _ c.in_ok-arg-8.ensures c.number_option-5.ensures.local seven (c.number_option-5.ensures.rule ∙ ap (number_option (codes "first")) first) in
+    let nine = with_arg _ c.in_ok-arg-9.field-0 _ _ _ c.in_ok-arg-9.ensures c.number_option-6.ensures.local eight (c.number_option-6.ensures.rule ∙ ap (number_option (codes "form")) form) in
+    let ten = with_arg _ c.in_ok-arg-10.field-0 _ _ _ c.in_ok-arg-10.ensures c.flag-2.ensures.local nine c.flag-2.ensures.rule in
+    IfOk-weaker c.arg-11.result _ _ (λ whole added. with_arg _ whole _ _ _ added c.operand.ensures.local ten c.operand.ensures.rule) c.arg-11.ensures

@@ -1,11 +1,12 @@
 -- This file answers what is left to prove of `parse`.
-use Rattle.std.proofs.Common.{◌≡◌, ◌∙◌, ap, refl, true, List, map}
+use Rattle.std.proofs.Common.{◌≡◌, ◌∙◌, ap, refl, subst, true, List, map, Result}
+use Rattle.clap.specs.declared.error.Error.{Error}
 use Rattle.std.proofs.lemmas.Result.{IfOk-weaker}
-use Rattle.clap.specs.Words.{App, HasMatchesOf, Text, is_simple, matches_of}
+use Rattle.clap.specs.Words.{App, FailsBy, HasMatchesOf, Text, fault_of, is_simple, is_simple_and_free, matches_of}
 use Rattle.clap.specs.declared.parser.ArgMatches.{ArgMatches}
 use Rattle.ptb_options.specs.CommandLine.{tool}
 use Rattle.ptb_options.specs.Options.{entries_of}
-use Rattle.ptb_options.proofs.MemorySize.{memory_in_range}
+use Rattle.ptb_options.proofs.NumberRanges.{memory_in_range, choose_in_range}
 use Rattle.ptb_options.proofs.command_line.parse.Goals as goal
 
 is_simple-tool : is_simple tool ≡ true
@@ -24,3 +25,19 @@ pub returns-clause-memory : goal.returns-clause-memory
 returns-clause-memory g c =
     IfOk-weaker c.try_get_matches_from.result _ _ (λ m parsed. memory_in_range c.in_ok-command.field-0 m c.in_ok-command.ensures parsed)
     c.try_get_matches_from.ensures.parsed
+
+pub returns-clause-bound : goal.returns-clause-bound
+returns-clause-bound g c =
+    IfOk-weaker c.try_get_matches_from.result _ _ (λ m parsed. choose_in_range c.in_ok-command.field-0 m c.in_ok-command.ensures parsed)
+    c.try_get_matches_from.ensures.parsed
+
+-- tool has only what clap's rules of faults are told of
+is_free-tool : is_simple_and_free tool ≡ true
+is_free-tool = refl
+
+fails_by_app : (a t : App) (words : List Text) (r : Result ArgMatches Error) → (is_simple_and_free a ≡ true → FailsBy (fault_of a words) r) → a ≡ t → is_simple_and_free t ≡ true → FailsBy (fault_of t words) r
+fails_by_app a t words r fails e free = subst (λ (x : App). FailsBy (fault_of x words) r) e (fails (ap is_simple_and_free e ∙ free))
+
+pub returns-clause-kinds : goal.returns-clause-kinds
+returns-clause-kinds g c =
+    fails_by_app _ tool (map g.S.AsStr.text c.args.words.now) _ c.try_get_matches_from.ensures.kinds c.in_ok-command.ensures is_free-tool

@@ -12,25 +12,25 @@ pub returns-in_err-program-clause-served : goal.returns-in_err-program-clause-se
 returns-in_err-program-clause-served g c = λ i is.
     let p = err_from_is_err_and c.from_residual.result c.from_residual.ensures.1 in
     rw (p.1, p.2)
-    (serves_unloaded _ _ (runs_due c.args.request.now.steps c.args.after.now c.args.first i) (g.W.Write.contents c.args.out.now) c.in_err-program.field-0.0
+    (serves_unloaded _ _ (runs_due c.args.request.now.rules c.args.after.now c.args.first c.args.form i) (g.W.Write.contents c.args.out.now) c.in_err-program.field-0.0
     c.in_err-program.ensures.refused c.in_err-program.ensures.too_long)
 
 pub returns-in_err-lines-clause-served : goal.returns-in_err-lines-clause-served
 returns-in_err-lines-clause-served g c = λ i is.
     let p = err_from_is_err_and c.from_residual-in_err-lines.result c.from_residual-in_err-lines.ensures.1 in
     rw (p.1, p.2)
-    (serves_loaded _ _ (runs_due c.args.request.now.steps c.args.after.now c.args.first i) c.in_ok-program.program (g.W.Write.contents c.args.out.now) (g.W.Write.contents c.args.out.now)
+    (serves_loaded _ _ (runs_due c.args.request.now.rules c.args.after.now c.args.first c.args.form i) c.in_ok-program.program (g.W.Write.contents c.args.out.now) (g.W.Write.contents c.args.out.now)
     (Err (input_note c.in_err-lines.field-0.0)) c.in_ok-program.ensures.ok c.in_ok-program.ensures.memory
-    (serves_input c.in_ok-program.program c.args.request.now.steps c.args.after.now c.args.first (g.W.Write.contents c.args.out.now) i c.in_err-lines.field-0.0))
+    (serves_input c.in_ok-program.program c.args.request.now.rules c.args.after.now c.args.first c.args.form (g.W.Write.contents c.args.out.now) i c.in_err-lines.field-0.0))
 
 pub returns-in_err-explorer-clause-served : goal.returns-in_err-explorer-clause-served
 returns-in_err-explorer-clause-served g c = λ i is.
     let p = err_from_is_err_and c.from_residual-in_err-explorer.result c.from_residual-in_err-explorer.ensures.1 in
     let input = c.deref.ensures.value ∙ at_known (λ b. c.in_ok-lines.lines.items ≡ input_lines b) i is c.in_ok-lines.ensures.lines in
     rw (p.1, p.2)
-    (serves_loaded _ _ (runs_due c.args.request.now.steps c.args.after.now c.args.first i) c.in_ok-program.program (g.W.Write.contents c.args.out.now) (g.W.Write.contents c.args.out.now)
+    (serves_loaded _ _ (runs_due c.args.request.now.rules c.args.after.now c.args.first c.args.form i) c.in_ok-program.program (g.W.Write.contents c.args.out.now) (g.W.Write.contents c.args.out.now)
     (Err c.in_err-explorer.field-0.0) c.in_ok-program.ensures.ok c.in_ok-program.ensures.memory
-    (serves_front c.in_ok-program.program c.args.request.now.steps c.args.after.now c.args.first (g.W.Write.contents c.args.out.now) i c.deref.result.now input
+    (serves_front c.in_ok-program.program c.args.request.now.rules c.args.after.now c.args.first c.args.form (g.W.Write.contents c.args.out.now) i c.deref.result.now input
     c.in_err-explorer.field-0.0 c.in_err-explorer.ensures.faults (λ e. c.in_err-explorer.ensures.no_run (ap Err e))))
 
 pub returns-in_err-write_all_runs-clause-served : goal.returns-in_err-write_all_runs-clause-served
@@ -38,18 +38,18 @@ returns-in_err-write_all_runs-clause-served g c = λ i is.
     let p = err_from_is_err_and c.from_residual-in_err-write_all_runs.result c.from_residual-in_err-write_all_runs.ensures.1 in
     let input = c.deref.ensures.value ∙ at_known (λ b. c.in_ok-lines.lines.items ≡ input_lines b) i is c.in_ok-lines.ensures.lines in
     rw (p.1, p.2)
-    (serves_loaded _ _ (runs_due c.args.request.now.steps c.args.after.now c.args.first i) c.in_ok-program.program (g.W.Write.contents c.args.out.now) (g.W.Write.contents c.write_all_runs.new.writer)
+    (serves_loaded _ _ (runs_due c.args.request.now.rules c.args.after.now c.args.first c.args.form i) c.in_ok-program.program (g.W.Write.contents c.args.out.now) (g.W.Write.contents c.write_all_runs.new.writer)
     (Err (reports_note c.in_err-write_all_runs.field-0.0)) c.in_ok-program.ensures.ok c.in_ok-program.ensures.memory
-    (serves_some c.in_ok-program.program c.args.request.now.steps c.args.after.now c.args.first (g.W.Write.contents c.args.out.now) (g.W.Write.contents c.write_all_runs.new.writer) i c.deref.result.now input
+    (serves_some c.in_ok-program.program c.args.request.now.rules c.args.after.now c.args.first c.args.form (g.W.Write.contents c.args.out.now) (g.W.Write.contents c.write_all_runs.new.writer) i c.deref.result.now input
     c.in_ok-explorer.explorer c.write_all_runs.new.explorer.front c.in_ok-explorer.ensures.explorer c.in_ok-explorer.ensures.front
     c.in_err-write_all_runs.field-0.0 c.in_err-write_all_runs.ensures.writes))
 
 pub returns-clause-served : goal.returns-clause-served
 returns-clause-served g c = λ i is.
     let input = c.deref.ensures.value ∙ at_known (λ b. c.in_ok-lines.lines.items ≡ input_lines b) i is c.in_ok-lines.ensures.lines in
-    serves_loaded _ _ (runs_due c.args.request.now.steps c.args.after.now c.args.first i) c.in_ok-program.program (g.W.Write.contents c.args.out.now) (g.W.Write.contents c.write_all_runs.new.writer) (Ok 0)
+    serves_loaded _ _ (runs_due c.args.request.now.rules c.args.after.now c.args.first c.args.form i) c.in_ok-program.program (g.W.Write.contents c.args.out.now) (g.W.Write.contents c.write_all_runs.new.writer) (Ok 0)
     c.in_ok-program.ensures.ok c.in_ok-program.ensures.memory
-    (serves_reports c.in_ok-program.program c.args.request.now.steps c.args.after.now c.args.first (g.W.Write.contents c.args.out.now) (g.W.Write.contents c.write_all_runs.new.writer) i c.deref.result.now input
+    (serves_reports c.in_ok-program.program c.args.request.now.rules c.args.after.now c.args.first c.args.form (g.W.Write.contents c.args.out.now) (g.W.Write.contents c.write_all_runs.new.writer) i c.deref.result.now input
     c.in_ok-explorer.explorer c.write_all_runs.new.explorer.front c.in_ok-explorer.ensures.explorer c.in_ok-explorer.ensures.front
     c.in_ok-write_all_runs.field-0 c.in_ok-write_all_runs.ensures.writes)
 

@@ -3,7 +3,8 @@ use Rattle.std.proofs.Common.{Ok, Err, refl}
 use Rattle.std.proofs.lemmas.Result.{err_from_is_err_and}
 use Rattle.ptb_serve.specs.Replies.{listing_reply, seeded_reply}
 use Rattle.ptb_text.specs.Lines.{input_lines}
-use Rattle.ptb_serve.specs.SeededRuns.{seeded_run}
+use Rattle.ptb_serve.specs.SeededRuns.{seeded_answers, seeded_run}
+use Rattle.ptb_machine.specs.Play.{plain}
 use Rattle.ptb_serve.specs.Serving.{load_note, outcome_of, seeded_taken}
 use Rattle.ptb_serve.proofs.Served.{IsRunNote-loaded, IsRunNote-read, IsRunNote-start, IsRunNote-unread, IsRunNote-write, consumes_nothing, consumes_some, load_note-input, load_note-length, load_note-refusal, load_note-start, loaded_unrefused, serves_unloaded, serves_loaded, serves_refusal, serves_ended, serves_stopped, silent_seeded, unread_loaded, reads_nothing_for, reads_loaded, wanted_ended, wanted_stopped, when_refused}
 use Rattle.ptb_serve.proofs.service.run_by_seed.Goals as goal
@@ -12,20 +13,20 @@ pub returns-in_err-program-clause-served : goal.returns-in_err-program-clause-se
 returns-in_err-program-clause-served g c = λ i is.
     let p = err_from_is_err_and c.from_residual.result c.from_residual.ensures.1 in
     rw (p.1, p.2)
-    (serves_unloaded _ _ (seeded_reply c.args.request.now.steps c.args.seed i) (g.W.Write.contents c.args.out.now) c.in_err-program.field-0.0
+    (serves_unloaded _ _ (seeded_reply c.args.request.now.rules c.args.seed i) (g.W.Write.contents c.args.out.now) c.in_err-program.field-0.0
     c.in_err-program.ensures.refused c.in_err-program.ensures.too_long)
 
 pub returns-in-Ok-clause-served : goal.returns-in-Ok-clause-served
 returns-in-Ok-clause-served g c = λ i is.
-    serves_loaded _ _ (seeded_reply c.args.request.now.steps c.args.seed i) c.in_ok-program.program _ _ (Ok c.ending_status.result)
+    serves_loaded _ _ (seeded_reply c.args.request.now.rules c.args.seed i) c.in_ok-program.program _ _ (Ok c.ending_status.result)
     c.in_ok-program.ensures.ok c.in_ok-program.ensures.memory
-    (serves_ended (λ lines. seeded_run c.args.seed c.in_ok-program.program lines c.args.request.now.steps) _ i _ _ c.in-Ok.ending c.ending_status.result c.ending_status.ensures is c.in-Ok.ensures.ok)
+    (serves_ended (λ lines. seeded_run c.args.seed c.in_ok-program.program lines c.args.request.now.rules) _ i _ _ c.in-Ok.ending c.ending_status.result c.ending_status.ensures is c.in-Ok.ensures.ok)
 
 pub returns-clause-served : goal.returns-clause-served
 returns-clause-served g c = λ i is.
-    serves_loaded _ _ (seeded_reply c.args.request.now.steps c.args.seed i) c.in_ok-program.program _ _ (Err c.run_note.result)
+    serves_loaded _ _ (seeded_reply c.args.request.now.rules c.args.seed i) c.in_ok-program.program _ _ (Err c.run_note.result)
     c.in_ok-program.ensures.ok c.in_ok-program.ensures.memory
-    (serves_stopped (λ lines. seeded_run c.args.seed c.in_ok-program.program lines c.args.request.now.steps) _ i _ _ c.in-Err.broken c.run_note.result is c.run_note.ensures c.in-Err.ensures.beginning)
+    (serves_stopped (λ lines. seeded_run c.args.seed c.in_ok-program.program lines c.args.request.now.rules) _ i _ _ c.in-Err.broken c.run_note.result is c.run_note.ensures c.in-Err.ensures.beginning)
 
 -- ---- an input that can't be read
 
@@ -40,7 +41,7 @@ returns-in-Ok-clause-unread g c = λ h. absurd cc
 pub returns-clause-unread : goal.returns-clause-unread
 returns-clause-unread g c = λ h.
     let shown = c.in-Err.ensures.read (IsRunNote-unread c.in-Err.broken c.run_note.result c.run_note.ensures h) in
-    unread_loaded _ _ (λ p lines. seeded_run c.args.seed p lines c.args.request.now.steps) c.in_ok-program.program _ _ _ _ c.in_ok-program.ensures.ok c.in_ok-program.ensures.memory shown
+    unread_loaded c.args.request.now.memory c.args.request.now.rules.choose (λ p lines. plain p lines c.args.request.now.rules) (λ p lines. seeded_answers c.args.seed p lines c.args.request.now.rules) c.in_ok-program.program _ _ _ _ _ c.in_ok-program.ensures.ok c.in_ok-program.ensures.memory shown
 
 pub returns-clause-silent : goal.returns-clause-silent
 returns-clause-silent g c = silent_seeded c.args.seed _ _ c.in-Err.broken c.run_note.result c.run_note.ensures
@@ -128,14 +129,14 @@ returns-clause-unloaded g c = λ h. absurd (IsRunNote-loaded c.in-Err.broken c.r
 -- ---- what is taken of the input
 
 pub returns-in_err-program-clause-taken : goal.returns-in_err-program-clause-taken
-returns-in_err-program-clause-taken g c = reads_nothing_for (λ p b. seeded_taken c.args.seed p (input_lines b) c.args.request.now.steps) c.args.request.now.memory _ _ (outcome_of c.from_residual.result)
+returns-in_err-program-clause-taken g c = reads_nothing_for c.args.request.now (λ p lines. seeded_taken c.args.seed p lines c.args.request.now.rules) _ _ (outcome_of c.from_residual.result)
 
 pub returns-in-Ok-clause-taken : goal.returns-in-Ok-clause-taken
 returns-in-Ok-clause-taken g c =
-    reads_loaded (λ p b. seeded_taken c.args.seed p (input_lines b) c.args.request.now.steps) c.args.request.now.memory _ _ _ c.in_ok-program.program (outcome_of (Ok c.ending_status.result)) (Ok c.in-Ok.ending) c.in_ok-program.ensures.ok c.in_ok-program.ensures.memory
+    reads_loaded c.args.request.now (λ p lines. seeded_taken c.args.seed p lines c.args.request.now.rules) _ _ _ c.in_ok-program.program (outcome_of (Ok c.ending_status.result)) (Ok c.in-Ok.ending) c.in_ok-program.ensures.ok c.in_ok-program.ensures.memory
     (wanted_ended c.in-Ok.ending c.ending_status.result c.ending_status.ensures) c.in-Ok.ensures.taken
 
 pub returns-clause-taken : goal.returns-clause-taken
 returns-clause-taken g c =
-    reads_loaded (λ p b. seeded_taken c.args.seed p (input_lines b) c.args.request.now.steps) c.args.request.now.memory _ _ _ c.in_ok-program.program (outcome_of (Err c.run_note.result)) (Err c.in-Err.broken) c.in_ok-program.ensures.ok c.in_ok-program.ensures.memory
+    reads_loaded c.args.request.now (λ p lines. seeded_taken c.args.seed p lines c.args.request.now.rules) _ _ _ c.in_ok-program.program (outcome_of (Err c.run_note.result)) (Err c.in-Err.broken) c.in_ok-program.ensures.ok c.in_ok-program.ensures.memory
     (wanted_stopped c.in-Err.broken c.run_note.result c.run_note.ensures) c.in-Err.ensures.taken

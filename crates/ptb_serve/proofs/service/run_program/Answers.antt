@@ -13,22 +13,22 @@ pub returns-in_err-program-clause-served : goal.returns-in_err-program-clause-se
 returns-in_err-program-clause-served g c = λ i is.
     let p = err_from_is_err_and c.from_residual.result c.from_residual.ensures.1 in
     rw (p.1, p.2)
-    (serves_unloaded _ _ (plain_reply c.args.request.now.steps c.args.answers.now i) (g.W.Write.contents c.args.out.now) c.in_err-program.field-0.0
+    (serves_unloaded _ _ (plain_reply c.args.request.now.rules c.args.answers.now i) (g.W.Write.contents c.args.out.now) c.in_err-program.field-0.0
     c.in_err-program.ensures.refused c.in_err-program.ensures.too_long)
 
 pub returns-in-Ok-clause-served : goal.returns-in-Ok-clause-served
 returns-in-Ok-clause-served g c = λ i is.
     let h = rw c.as_slice-answers.ensures at c.in-Ok.ensures.ok in
-    serves_loaded _ _ (plain_reply c.args.request.now.steps c.args.answers.now i) c.in_ok-program.program _ _ (Ok c.ending_status.result)
+    serves_loaded _ _ (plain_reply c.args.request.now.rules c.args.answers.now i) c.in_ok-program.program _ _ (Ok c.ending_status.result)
     c.in_ok-program.ensures.ok c.in_ok-program.ensures.memory
-    (serves_ended (λ lines. plain c.in_ok-program.program lines c.args.request.now.steps c.args.answers.now) _ i _ _ c.in-Ok.ending c.ending_status.result c.ending_status.ensures is h)
+    (serves_ended (λ lines. plain c.in_ok-program.program lines c.args.request.now.rules c.args.answers.now) _ i _ _ c.in-Ok.ending c.ending_status.result c.ending_status.ensures is h)
 
 pub returns-clause-served : goal.returns-clause-served
 returns-clause-served g c = λ i is.
     let begins = rw c.as_slice-answers.ensures at c.in-Err.ensures.beginning in
-    serves_loaded _ _ (plain_reply c.args.request.now.steps c.args.answers.now i) c.in_ok-program.program _ _ (Err c.run_note.result)
+    serves_loaded _ _ (plain_reply c.args.request.now.rules c.args.answers.now i) c.in_ok-program.program _ _ (Err c.run_note.result)
     c.in_ok-program.ensures.ok c.in_ok-program.ensures.memory
-    (serves_stopped (λ lines. plain c.in_ok-program.program lines c.args.request.now.steps c.args.answers.now) _ i _ _ c.in-Err.fault c.run_note.result is c.run_note.ensures begins)
+    (serves_stopped (λ lines. plain c.in_ok-program.program lines c.args.request.now.rules c.args.answers.now) _ i _ _ c.in-Err.fault c.run_note.result is c.run_note.ensures begins)
 
 -- ---- an input that can't be read
 
@@ -43,7 +43,7 @@ returns-in-Ok-clause-unread g c = λ h. absurd cc
 pub returns-clause-unread : goal.returns-clause-unread
 returns-clause-unread g c = λ h.
     let shown = rw c.as_slice-answers.ensures at (c.in-Err.ensures.read (IsRunNote-unread c.in-Err.fault c.run_note.result c.run_note.ensures h)) in
-    unread_loaded _ _ (λ p lines. plain p lines c.args.request.now.steps c.args.answers.now) c.in_ok-program.program _ _ _ _ c.in_ok-program.ensures.ok c.in_ok-program.ensures.memory shown
+    unread_loaded c.args.request.now.memory c.args.request.now.rules.choose (λ p lines. plain p lines c.args.request.now.rules) (λ _ _. c.args.answers.now) c.in_ok-program.program _ _ _ _ _ c.in_ok-program.ensures.ok c.in_ok-program.ensures.memory shown
 
 pub returns-clause-silent : goal.returns-clause-silent
 returns-clause-silent g c = silent_stopped c.args.answers.now _ _ c.in-Err.fault c.run_note.result c.run_note.ensures c.in-Err.ensures.memory
@@ -131,14 +131,14 @@ returns-clause-unloaded g c = λ h. absurd (IsRunNote-loaded c.in-Err.fault c.ru
 -- ---- what is taken of the input
 
 pub returns-in_err-program-clause-taken : goal.returns-in_err-program-clause-taken
-returns-in_err-program-clause-taken g c = reads_nothing_for (λ p b. lines_taken p (input_lines b) c.args.request.now.steps c.args.answers.now) c.args.request.now.memory _ _ (outcome_of c.from_residual.result)
+returns-in_err-program-clause-taken g c = reads_nothing_for c.args.request.now (λ p lines. lines_taken p lines c.args.request.now.rules c.args.answers.now) _ _ (outcome_of c.from_residual.result)
 
 pub returns-in-Ok-clause-taken : goal.returns-in-Ok-clause-taken
 returns-in-Ok-clause-taken g c =
-    reads_loaded (λ p b. lines_taken p (input_lines b) c.args.request.now.steps c.args.answers.now) c.args.request.now.memory _ _ _ c.in_ok-program.program (outcome_of (Ok c.ending_status.result)) (Ok c.in-Ok.ending) c.in_ok-program.ensures.ok c.in_ok-program.ensures.memory
-    (wanted_ended c.in-Ok.ending c.ending_status.result c.ending_status.ensures) (taken_answers c.in_ok-program.program c.args.request.now.steps _ _ (Ok c.in-Ok.ending) _ _ c.as_slice-answers.ensures c.in-Ok.ensures.taken)
+    reads_loaded c.args.request.now (λ p lines. lines_taken p lines c.args.request.now.rules c.args.answers.now) _ _ _ c.in_ok-program.program (outcome_of (Ok c.ending_status.result)) (Ok c.in-Ok.ending) c.in_ok-program.ensures.ok c.in_ok-program.ensures.memory
+    (wanted_ended c.in-Ok.ending c.ending_status.result c.ending_status.ensures) (taken_answers c.in_ok-program.program c.args.request.now.rules _ _ (Ok c.in-Ok.ending) _ _ c.as_slice-answers.ensures c.in-Ok.ensures.taken)
 
 pub returns-clause-taken : goal.returns-clause-taken
 returns-clause-taken g c =
-    reads_loaded (λ p b. lines_taken p (input_lines b) c.args.request.now.steps c.args.answers.now) c.args.request.now.memory _ _ _ c.in_ok-program.program (outcome_of (Err c.run_note.result)) (Err c.in-Err.fault) c.in_ok-program.ensures.ok c.in_ok-program.ensures.memory
-    (wanted_stopped c.in-Err.fault c.run_note.result c.run_note.ensures) (taken_answers c.in_ok-program.program c.args.request.now.steps _ _ (Err c.in-Err.fault) _ _ c.as_slice-answers.ensures c.in-Err.ensures.taken)
+    reads_loaded c.args.request.now (λ p lines. lines_taken p lines c.args.request.now.rules c.args.answers.now) _ _ _ c.in_ok-program.program (outcome_of (Err c.run_note.result)) (Err c.in-Err.fault) c.in_ok-program.ensures.ok c.in_ok-program.ensures.memory
+    (wanted_stopped c.in-Err.fault c.run_note.result c.run_note.ensures) (taken_answers c.in_ok-program.program c.args.request.now.rules _ _ (Err c.in-Err.fault) _ _ c.as_slice-answers.ensures c.in-Err.ensures.taken)

@@ -48,7 +48,7 @@ pub returns-in-Plain-clause-unread : goal.returns-in-Plain-clause-unread
 returns-in-Plain-clause-unread g c = rw (c.of.ensures, c.in-Plain.is) (λ is. c.run_program.ensures.unread (outcome_of-note c.run_program.result notes.InputUnread is))
 
 pub returns-in-All-clause-unread : goal.returns-in-All-clause-unread
-returns-in-All-clause-unread g c = rw (c.of-in-All.ensures, c.in-All.is) (λ is. unread_listing c.in-All.after c.in-All.first _ _ _ _ c.list_runs.ensures.silent is)
+returns-in-All-clause-unread g c = rw (c.of-in-All.ensures, c.in-All.is) (λ is. unread_listing c.in-All.after c.in-All.first c.in-All.form _ _ _ _ c.list_runs.ensures.silent is)
 
 pub returns-in-All-clause-within : goal.returns-in-All-clause-within
 returns-in-All-clause-within g c = λ _. rw c.of-in-All.ensures (outcome_of-none c.list_runs.result _ c.list_runs.ensures.within)

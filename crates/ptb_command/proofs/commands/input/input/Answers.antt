@@ -4,11 +4,12 @@ use Rattle.ptb_expr.specs.Reading.{item_of}
 use Rattle.ptb_command.specs.Act.{first_width}
 use Rattle.ptb_command.specs.Commands.{input_item, end_check, parts_of}
 use Rattle.ptb_command.specs.Io.{io_trace}
+use Rattle.ptb_command.specs.Stops.{NotMissed}
 use Rattle.ptb_command.proofs.Comings.{if_ok_both, comes_unrefused}
 use Rattle.ptb_command.proofs.Commas.{comma_closed, comma_ended, comma_on, comma_first}
 use Rattle.ptb_command.proofs.Going.{item_in_front, going_start, going_last, last_closes, going_on, going_first}
 use Rattle.ptb_command.proofs.Inputting.{none_given, refines_part_joined, stops_joined}
-use Rattle.ptb_command.proofs.Missed.{unmissed, missed_err, stop_missed_from}
+use Rattle.ptb_command.proofs.Missed.{unmissed, missed_err, stop_missed_from, not_missed, not_missed_then, fewer_lines}
 use Rattle.ptb_command.proofs.PartRefinement.{refines_part_then}
 use Rattle.ptb_command.proofs.Parts.{refines_part_parts}
 use Rattle.ptb_command.proofs.Stops.{comes_err, comes_after, stops_after}
@@ -18,11 +19,11 @@ pub items-init : goal.items-init
 unfolding parts_of
 items-init g c = record {
   text = refl;
-  same = record { chooser = refl; screen = refl; source = refl };
+  same = record { chooser = refl; screen = refl; source = refl; choose = refl };
   given = [];
   gives = g.met.L.LineSource.gives_none _;
-  missed = omega arith;
-  going = going_start _ _ _ _ _ _ _ refl c.requires (λ before. none_given _ _);
+  missed = not_missed _ _ _ _ (omega arith);
+  going = going_start _ _ _ _ _ _ _ refl c.requires.place (λ before. none_given _ _);
 }
 
 pub returns-in_err-input_item-clause-comes : goal.returns-in_err-input_item-clause-comes
@@ -36,7 +37,7 @@ returns-in_err-input_item-clause-comes g c =
         g.met.L.LineSource.gives_more _ _ _ _ _ was.gives one.1.0,
         λ before. comes_err _ _ _ _ _ _ _ c.from_residual.ensures.1
             (stops_after _ _ (first.1 before) _
-            (stops_joined g.C.Chooser.choices g.S.Screen c.input_item.new.io c.input_item.new.store before was.given one.0 _ _ _ _
+            (stops_joined g.C.Chooser.choices g.S.Screen g.L.LineSource.most c.input_item.new.io c.input_item.new.store before was.given one.0 _ _ _ _
             (rw was.text at (one.1.1 (before ++ was.given) first.0 first_width [])))),
       ),
     )
@@ -53,15 +54,15 @@ items-preserved g c =
     let ahead = c.finding_laws.ensures.token _ _ _ _ comma in
     record {
       text = c.token.ensures.text ∙ text;
-      same = record { chooser = same.chooser ∙ was.same.chooser; screen = same.screen ∙ was.same.screen; source = same.source ∙ was.same.source };
+      same = record { chooser = same.chooser ∙ was.same.chooser; screen = same.screen ∙ was.same.screen; source = same.source ∙ was.same.source; choose = same.choose ∙ was.same.choose };
       given = was.given ++ one.0;
       gives = g.met.L.LineSource.gives_more _ _ _ _ _ was.gives one.1.0;
-      missed = omega (arith, c.in_ok-input_item.ensures.missed, was.missed);
+      missed = not_missed_then _ _ _ _ _ _ (fewer_lines g.L.LineSource.gives g.L.LineSource.most g.met.L.LineSource.falls _ _ _ one.1.0) was.missed (rw was.same.choose at c.in_ok-input_item.ensures.missed);
       going = going_on _ _ _ _ _ _ _ _ was.going _ _ _ _
           (comma_on t (input_item t c.items.cursor.place) _ _ item.whole comma)
           (omega (arith, item.ahead.after, ahead.after)) ahead.within
           (λ rest p before. refines_part_then (p before)
-          (refines_part_joined g.C.Chooser.choices g.S.Screen c.input_item.new.io c.input_item.new.store before was.given one.0 (rw was.text at (one.1.1 (before ++ was.given) rest first_width []))));
+          (refines_part_joined g.C.Chooser.choices g.S.Screen g.L.LineSource.most c.input_item.new.io c.input_item.new.store before was.given one.0 (rw was.text at (one.1.1 (before ++ was.given) rest first_width []))));
     }
 
 pub returns-then-not-token-clause-comes : goal.returns-then-not-token-clause-comes
@@ -78,11 +79,11 @@ returns-then-not-token-clause-comes g c =
       (
         g.met.L.LineSource.gives_more _ _ _ _ _ was.gives one.1.0,
         λ before.
-            let n = io_trace g.C.Chooser.choices g.S.Screen c.input_item.new.io (before ++ (was.given ++ one.0)) c.input_item.new.store in
+            let n = io_trace g.C.Chooser.choices g.S.Screen g.L.LineSource.most c.input_item.new.io (before ++ (was.given ++ one.0)) c.input_item.new.store in
             comes_after _ n _
             (refines_part_then (last before)
             (refines_part_parts first_width [] _ _ (item_in_front _ rest)
-            (refines_part_joined g.C.Chooser.choices g.S.Screen c.input_item.new.io c.input_item.new.store before was.given one.0 (rw was.text at (one.1.1 (before ++ was.given) (item_of rest) first_width [])))))
+            (refines_part_joined g.C.Chooser.choices g.S.Screen g.L.LineSource.most c.input_item.new.io c.input_item.new.store before was.given one.0 (rw was.text at (one.1.1 (before ++ was.given) (item_of rest) first_width [])))))
             _ (comes_unrefused _ _ _ _ _ _ (rw (c.token.ensures.text ∙ text) at (rw (c.if-not-token.ensures.absent refl) at (c.check_end.ensures.comes n first_width [])))),
       ),
     )
@@ -108,7 +109,10 @@ returns-then-not-token-clause-closed g c =
 
 pub returns-in_err-input_item-clause-missed : goal.returns-in_err-input_item-clause-missed
 returns-in_err-input_item-clause-missed g c =
-    missed_err (g.L.LineSource.refused c.input_item.new.io.source.now) _ _ _ c.from_residual.ensures.1 (stop_missed_from (g.L.LineSource.refused c.input_item.new.io.source.now) (g.L.LineSource.missed c.input_item.new.io.source.now ≤ g.L.LineSource.missed c.items.io.source.now) (g.L.LineSource.missed c.input_item.new.io.source.now ≤ g.L.LineSource.missed c.args.io.now.source.now) (λ h. omega (arith, h, c.items.invariant.missed)) _ c.in_err-input_item.ensures.missed)
+    missed_err (g.L.LineSource.refused c.input_item.new.io.source.now) _ _ _ c.from_residual.ensures.1 (stop_missed_from (g.L.LineSource.refused c.input_item.new.io.source.now)
+    (NotMissed c.args.io.now.choose (g.L.LineSource.missed c.items.io.source.now) (g.L.LineSource.missed c.input_item.new.io.source.now) (g.L.LineSource.most c.input_item.new.io.source.now))
+    (NotMissed c.args.io.now.choose (g.L.LineSource.missed c.args.io.now.source.now) (g.L.LineSource.missed c.input_item.new.io.source.now) (g.L.LineSource.most c.input_item.new.io.source.now))
+    (λ h. not_missed_then c.args.io.now.choose _ _ _ (g.L.LineSource.most c.items.io.source.now) _ (fewer_lines g.L.LineSource.gives g.L.LineSource.most g.met.L.LineSource.falls _ _ _ c.in_err-input_item.ensures.comes.1.0) c.items.invariant.missed h) _ (rw c.items.invariant.same.choose at c.in_err-input_item.ensures.missed))
 
 pub returns-then-not-token-clause-missed : goal.returns-then-not-token-clause-missed
-returns-then-not-token-clause-missed g c = unmissed (g.L.LineSource.refused c.input_item.new.io.source.now) _ (omega (arith, c.in_ok-input_item.ensures.missed, c.items.invariant.missed)) c.check_end.result
+returns-then-not-token-clause-missed g c = unmissed (g.L.LineSource.refused c.input_item.new.io.source.now) _ (not_missed_then _ _ _ _ _ _ (fewer_lines g.L.LineSource.gives g.L.LineSource.most g.met.L.LineSource.falls _ _ _ c.in_ok-input_item.ensures.comes.1.0) c.items.invariant.missed (rw c.items.invariant.same.choose at c.in_ok-input_item.ensures.missed)) c.check_end.result

@@ -5,6 +5,7 @@ use Rattle.ptb_expr.specs.Reading.{item_of}
 use Rattle.ptb_command.specs.Act.{action_of, first_width}
 use Rattle.ptb_command.specs.Commands.{input_item, comma_round, parts_of}
 use Rattle.ptb_command.specs.Io.{io_trace, SameBorrows}
+use Rattle.ptb_command.specs.Stops.{NotMissed}
 use Rattle.ptb_command.specs.Traces.{RefinesPart}
 use Rattle.ptb_command.proofs.Going.{Going}
 use Rattle.ptb_command.proofs.commands.input.input.Given as goal
@@ -19,11 +20,11 @@ invariant-items g l =
       same : SameBorrows l.fn.io l.io;
       given : List (List ℕ);
       gives : g.L.LineSource.gives l.fn.io.source.now given l.io.source.now;
-      missed : g.L.LineSource.missed l.io.source.now ≤ g.L.LineSource.missed l.fn.io.source.now;
+      missed : NotMissed l.fn.io.choose (g.L.LineSource.missed l.fn.io.source.now) (g.L.LineSource.missed l.io.source.now) (g.L.LineSource.most l.io.source.now);
       going : Going t (λ j. comma_round t (input_item t j)) (parts_of InputKw t i) i l.cursor.place first_width []
           (λ k. (before : List (List ℕ)) → RefinesPart
-          (io_trace g.C.Chooser.choices g.S.Screen l.fn.io before l.fn.store)
-          (io_trace g.C.Chooser.choices g.S.Screen l.io (before ++ given) l.store)
+          (io_trace g.C.Chooser.choices g.S.Screen g.L.LineSource.most l.fn.io before l.fn.store)
+          (io_trace g.C.Chooser.choices g.S.Screen g.L.LineSource.most l.io (before ++ given) l.store)
           (action_of (item_of (parts_of InputKw t i))) k);
     }
 

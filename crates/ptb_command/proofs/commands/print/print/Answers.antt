@@ -30,7 +30,7 @@ returns-then-at_end-clause-closed g c =
 pub items-init : goal.items-init
 items-init g c = record {
   text = refl;
-  same = record { chooser = refl; screen = refl; source = refl };
+  same = record { chooser = refl; screen = refl; source = refl; choose = refl };
   going = going_start _ _ _ _ _ _ _ (print_something c.args.cursor.now.text c.args.cursor.now.place (sym c.at_end.ensures ∙ c.if-at_end.false)) c.requires (λ given. refines_part_refl _ _);
 }
 
@@ -50,7 +50,7 @@ items-preserved g c =
     let same = c.print_item.ensures.same in
     record {
       text = c.token.ensures.text ∙ text;
-      same = record { chooser = same.chooser ∙ was.chooser; screen = same.screen ∙ was.screen; source = same.source ∙ was.source };
+      same = record { chooser = same.chooser ∙ was.chooser; screen = same.screen ∙ was.screen; source = same.source ∙ was.source; choose = same.choose ∙ was.choose };
       going = going_on _ _ _ _ _ _ _ _ c.items.invariant.going _ _ _ _
           (round_on c.args.cursor.now.text c.items.cursor.place _ _ item.whole comma (rw (c.token.ensures.text ∙ text) at (sym c.at_end-in-items.ensures ∙ c.if-at_end-2.false)))
           (omega (arith, item.ahead.after, ahead.after)) ahead.within
@@ -78,7 +78,7 @@ returns-then-not-token-clause-comes g c given =
     let rest = item_of (end_check c.args.cursor.now.text c.print_item.new.cursor.place) in
     let item = rw c.items.invariant.text at c.in_ok-print_item.ensures.read in
     let last = going_last _ _ _ _ _ _ _ _ c.items.invariant.going _ (round_closed c.args.cursor.now.text c.items.cursor.place _ item.whole (rw text at c.if-not-token.ensures.value)) in
-    let n = io_trace g.C.Chooser.choices g.S.Screen c.show-then-not-token.new.self given c.args.store.now in
+    let n = io_trace g.C.Chooser.choices g.S.Screen g.L.LineSource.most c.show-then-not-token.new.self given c.args.store.now in
     comes_after _ n _
     (refines_part_then (last given)
     (refines_part_parts _ [] _ _ (closed_list _ _)

@@ -18,8 +18,8 @@ invariant-items g l =
       same : SameDevices l.fn.io l.io;
       going : Going t (λ j. item_round t (print_item t j)) (print_parts t i) i l.cursor.place l.width []
           (λ k. (given : List (List ℕ)) → RefinesPart
-          (io_trace g.C.Chooser.choices g.S.Screen l.fn.io given l.store)
-          (io_trace g.C.Chooser.choices g.S.Screen l.io given l.store)
+          (io_trace g.C.Chooser.choices g.S.Screen g.L.LineSource.most l.fn.io given l.store)
+          (io_trace g.C.Chooser.choices g.S.Screen g.L.LineSource.most l.io given l.store)
           (parts_action (item_of (print_parts t i)) first_width []) k);
     }
 

@@ -26,7 +26,7 @@ returns-in_err-width-clause-comes g c given rest operands =
     comes_err _ _ _ _ _ _ _ c.from_residual-in_err-width.ensures.1
     (stops_part rest _ operands _ _ _ _ _ width _ (width_stops rest _ operands _ _ _ _ _ _ same _
     (rw c.token.ensures.text at (c.in_ok-value.ensures.comes given))
-    (stops_unrefused _ _ _ _ _ (rw c.place.ensures at (c.in_err-width.ensures (io_trace g.C.Chooser.choices g.S.Screen c.value.new.self given c.args.store.now))))))
+    (stops_unrefused _ _ _ _ _ (rw c.place.ensures at (c.in_err-width.ensures (io_trace g.C.Chooser.choices g.S.Screen g.L.LineSource.most c.value.new.self given c.args.store.now))))))
 
 pub returns-then-token-clause-comes : goal.returns-then-token-clause-comes
 returns-then-token-clause-comes g c given rest operands =
@@ -34,7 +34,7 @@ returns-then-token-clause-comes g c given rest operands =
     let width = ap item_of (item_whole_width c.args.cursor.now.text c.args.cursor.now.place c.token.new.self.place c.value.new.cursor.place c.if-token.ensures.value (rw c.token.ensures.text at c.in_ok-value.ensures.read.whole)) in
     refines_part_part rest _ operands _ _ width (width_refines_part rest _ operands _ _ _ _ same _
     (rw c.token.ensures.text at (c.in_ok-value.ensures.comes given))
-    (rw c.place.ensures at (c.in_ok-width.ensures (io_trace g.C.Chooser.choices g.S.Screen c.value.new.self given c.args.store.now))))
+    (rw c.place.ensures at (c.in_ok-width.ensures (io_trace g.C.Chooser.choices g.S.Screen g.L.LineSource.most c.value.new.self given c.args.store.now))))
 
 pub returns-then-token-clause-read : goal.returns-then-token-clause-read
 returns-then-token-clause-read g c =

@@ -3,7 +3,7 @@ use Rattle.std.proofs.Common.{◌∙◌, refl, ap}
 use Rattle.ptb_devices.specs.Inputs.{InputState, fault_at}
 use Rattle.ptb_devices.specs.Readers.{input_of, line_input}
 use Rattle.std.proofs.lemmas.Result.{err_from_is_err_and}
-use Rattle.ptb_devices.proofs.Giving.{cut_asked, last_asked, line_given, all_cut, read_on, last_given, none_given, none_left_before, fault_reads, drained, true_or_false}
+use Rattle.ptb_devices.proofs.Giving.{cut_asked, last_asked, line_given, all_cut, read_on, last_given, none_given, none_more, none_left_before, fault_reads, drained, true_or_false}
 use Rattle.ptb_devices.proofs.ReadingOn.{ReadsOn_forget}
 use Rattle.ptb_devices.proofs.reader_lines.ReaderLinesLineSource.next.Goals as goal
 
@@ -31,6 +31,7 @@ returns-in_err-fill g c =
           c.in_err-fill.ensures.fault,
           tt,
           tt,
+          tt,
         ),
       ),
       record { after = tt; end = tt },
@@ -55,6 +56,7 @@ returns-then-give_last g c =
           tt,
           tt,
           last_asked _ _ (read_on _ _ cut _ on) given none ended _ c.give_last.result c.give_last.ensures.given c.if-give_last.true _,
+          tt,
         ),
       ),
       record { after = tt; end = tt },
@@ -68,11 +70,13 @@ returns-then-not-branch g c =
     let ended = c.in_ok-fill.ensures.end c.if-not-branch.true in
     let none = drained _ _ on (ap (λ s. s.waiting) c.loop-self-test.ensures.rest) ended in
     let last = none_given _ _ (read_on _ _ cut _ on) given none ended _ c.give_last.result c.give_last.ensures.given c.if-give_last.false
+    (λ h. true_or_false c.if-give_last.false (c.give_last.ensures.begun.1 h)) in
+    let more = none_more _ _ (read_on _ _ cut _ on) given none ended _ c.give_last.result c.give_last.ensures.given c.if-give_last.false
     (λ h. true_or_false c.if-give_last.false (c.give_last.ensures.begun.1 h)) in (
       (
         refl,
         λ _. tt,
-        (record { same_borrow = c.loop-self.invariant.same_borrow; reads = last.0 }, tt, last.1, tt),
+        (record { same_borrow = c.loop-self.invariant.same_borrow; reads = last.0 }, tt, last.1, tt, more),
       ),
       record { after = tt; end = none_left_before _ _ last.0.loses last.1 },
     )
@@ -98,6 +102,7 @@ returns g c =
           tt,
           tt,
           cut_asked _ _ (line_input c.args.self.now) c.loop-self-test.ensures c.loop-self.invariant.same_fault,
+          tt,
         ),
       ),
       record { after = tt; end = tt },

@@ -7,4 +7,4 @@ use Rattle.ptb_explore.proofs.explorer.Explorer.kept.Goals as goal
 pub returns-clause-front : goal.returns-clause-front
 returns-clause-front c =
     let e = c.self.inside in
-    subst (λ (x : Exploration). AreKeptAt x.front x.kept) c.self.view_is (kept_at e.player e.lines.now e.limit e.position e.report e.copies.kept.items c.self.invariant.1)
+    subst (λ (x : Exploration). AreKeptAt x.front x.kept) c.self.view_is (kept_at e.player e.lines.now e.rules e.position e.report e.copies.kept.items c.self.invariant.1)

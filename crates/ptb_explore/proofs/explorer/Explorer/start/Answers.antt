@@ -3,7 +3,7 @@ use Rattle.ptb_explore.proofs.RunPrefix.{program_laws}
 use Rattle.ptb_explore.proofs.explorer.Explorer.start.Goals as goal
 
 pub returns-clause-laws : goal.returns-clause-laws
-returns-clause-laws c = program_laws c.run_laws.ensures c.args.program.now c.args.lines.now c.args.limit
+returns-clause-laws c = program_laws c.run_laws.ensures c.args.program.now c.args.lines.now c.args.rules
 
 pub returns-in_err-player-clause-laws : goal.returns-in_err-player-clause-laws
-returns-in_err-player-clause-laws c = program_laws c.run_laws.ensures c.args.program.now c.args.lines.now c.args.limit
+returns-in_err-player-clause-laws c = program_laws c.run_laws.ensures c.args.program.now c.args.lines.now c.args.rules

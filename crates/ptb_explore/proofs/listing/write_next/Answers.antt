@@ -1,0 +1,14 @@
+-- This file answers that a run has as many bounds as answers.
+use Rattle.std.proofs.Common.{◌≡◌, ◌∙◌, ap, sym, length, []}
+use Rattle.ptb_expr.specs.Outcome.{bounds}
+use Rattle.ptb_explore.proofs.Bounds.{length-bounds}
+use Rattle.ptb_explore.specs.Exploring.{Reports, play_of}
+use Rattle.ptb_explore.proofs.listing.write_next.Goals as goal
+
+pub write_report-requires : goal.write_report-requires
+write_report-requires g c =
+    let run = c.in-Ok-Some.run'.now in
+    let reports : Reports (play_of c.args.explorer.now) run = rw c.in-Ok-Some.field-0-is at c.in-Ok-Some.ensures.report in
+    let their : run.bounds.items ≡ bounds (play_of c.args.explorer.now) run.answers.items = reports.bounds_are in
+    ap length c.deref.ensures.value ∙ sym (length-bounds (play_of c.args.explorer.now) [] run.answers.items) ∙ ap length (sym their)
+    ∙ ap length (sym c.deref-in-Ok-Some.ensures.value)

@@ -1,0 +1,54 @@
+-- This file answers what is left to prove of `parse_list`.
+use Rattle.std.proofs.Common.{rules, ◌≡◌, ◌≢◌, ◌∙◌, ap, sym, List, ℤ, ℕ, Option, Some, None, lit<, [], ◌∷◌, ◌++◌}
+use Rattle.std.specs.Prelude.{codes, nat_eq}
+use lib.Pointwise.{pointwise}
+use mir.Val.{SFits}
+use mir.Syntax.{w16}
+use Rattle.std.proofs.Common.{to_z-of_z}
+use Rattle.std.specs.Result.{result_ok}
+use Rattle.std.proofs.lemmas.Bool.{false≢true}
+use Rattle.std.specs.Str.Iter.{split_text, split_has_more, split_pattern}
+use Rattle.std.proofs.lemmas.List.Elements.{All-push}
+use Rattle.std.proofs.lemmas.Iterator.Splits.{YieldsList-from_str_split}
+use Rattle.std.proofs.lemmas.Iterator.Consumers.{YieldsList-turn, YieldsList-end}
+use Rattle.ptb_explore.specs.declared.form.Marked.{Marked}
+use Rattle.ptb_options.specs.AnswerLists.{IsItem, SpellsItem}
+use Rattle.ptb_options.proofs.AnswerTexts.{list_of_words, word_of_list, more_words}
+use Rattle.ptb_options.proofs.answers.parse_list.Goals as goal
+
+none_is_some : (m : Marked) → ◌≡◌ {A = Option Marked} None (Some m) → ⊥
+none_is_some m e = cc
+
+pub returns-in_err-item-clause-bad : goal.returns-in_err-item-clause-bad
+returns-in_err-item-clause-bad c bad a spells =
+    let text = c.args.text.now in
+    let same = c.into_iter-word-iterator.ensures.into_iter_gives in
+    let split = c.split-word-items.ensures in
+    let words = YieldsList-from_str_split 44 text (lit< tt) (ap split_text same ∙ split.text) (ap split_has_more same ∙ split.has_more) (ap split_pattern same ∙ split.pattern) in
+    let turn = YieldsList-turn words c.loop-word.yielded _ c.loop-word.yielded_by _ _ c.in-Some.word c.in-Some.is c.next.ensures.steps in
+    let some : text ≢ codes "none" = λ e.
+    false≢true (sym c.if-eq.false ∙ c.eq.ensures ∙ ap (λ (t : List ℕ). pointwise nat_eq t (codes "none")) e)
+    in
+    let spelled = word_of_list text a _ c.in-Some.word.now some spells turn.0 turn.1 in
+    let read = c.parse_item.ensures.only spelled.0 spelled.1 in
+    none_is_some spelled.0 (sym (c.ok_or.ensures.ok_part ∙ ap result_ok c.in_err-item.was) ∙ read)
+
+pub loop-word-preserved : goal.loop-word-preserved
+loop-word-preserved c =
+    let item = c.in_ok-item.item in
+    let pushed : c.push.new.self.items ≡ c.loop-word.items.items ++ item ∷ [] = c.in_ok-push.ensures.items in
+    let read : c.parse_item.result ≡ Some item = c.ok_or.ensures.ok_part ∙ ap result_ok c.in_ok-item.was in
+    let spells : SpellsItem c.in-Some.word.now item = rw read at c.parse_item.ensures.some in
+    record {
+      words = rw pushed (more_words c.loop-word.yielded c.loop-word.items.items c.in-Some.word item c.loop-word.invariant.words spells.1);
+      each = rw pushed (All-push IsItem c.loop-word.items.items item c.loop-word.invariant.each spells.0);
+    }
+
+pub returns-clause-ok : goal.returns-clause-ok
+returns-clause-ok c =
+    let text = c.args.text.now in
+    let same = c.into_iter-word-iterator.ensures.into_iter_gives in
+    let split = c.split-word-items.ensures in
+    let words = YieldsList-from_str_split 44 text (lit< tt) (ap split_text same ∙ split.text) (ap split_has_more same ∙ split.has_more) (ap split_pattern same ∙ split.pattern) in
+    let all = YieldsList-end words c.loop-word.yielded _ c.loop-word.yielded_by _ _ c.in-None.is c.next.ensures.steps in
+    rw c.into-2.ensures (list_of_words text c.loop-word.items.items c.loop-word.invariant.each (sym all.0 ∙ c.loop-word.invariant.words))

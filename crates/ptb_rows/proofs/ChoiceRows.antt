@@ -1,0 +1,24 @@
+-- This file proves the worked rows of answers in place of missing lines by computation.
+use Rattle.std.specs.Prelude.{refl}
+use Rattle.ptb_rows.specs.Rows.{ChoiceRows}
+use Rattle.ptb_rows.proofs.OnPrograms.{on_programs}
+
+pub choice_rows : ChoiceRows
+unfolding on_programs
+choice_rows = record {
+  each_answer = refl;
+  behind_faulty_line = refl;
+  index_and_value = refl;
+  no_answer = refl;
+  bad_answer = refl;
+  answer = refl;
+  line_first = refl;
+  no_line_asked_for = refl;
+  only_answer = refl;
+  greatest = refl;
+  drawn = refl;
+  limit = refl;
+  behind_first = refl;
+  first_one = refl;
+  behind_none = refl;
+}
