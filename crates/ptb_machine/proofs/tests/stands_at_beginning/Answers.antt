@@ -1,5 +1,5 @@
 -- This file answers what is left to prove of `stands_at_beginning`.
-use Rattle.std.proofs.Common.{◌≡◌, ◌∙◌, ℕ, true, List, [], Some, refl, sym, ap, subst}
+use Rattle.std.proofs.Common.{◌≡◌, ◌∙◌, ℕ, true, List, [], None, Some, refl, sym, ap, subst}
 use Rattle.ptb_text.specs.Statements.{StoredProgram}
 use Rattle.ptb_command.specs.declared.location.Location.{Location}
 use Rattle.ptb_command.specs.declared.stack.Open.{Open}
@@ -16,7 +16,7 @@ same_location a b s t =
 -- where the program begins, with nothing open and a fresh line, a machine represents a state of the program
 fits_at_first : (p : StoredProgram) (m : Configuration) → PlacesAre p.lines (first_place p.lines) m.place → m.stack ≡ [] → m.fresh ≡ true → FitsProgram p m
 fits_at_first p m places empty fresh = record {
-  state = record { place = first_place p.lines; cells = m.cells; loops = []; calls = []; lines = []; shown = []; steps = m.steps };
+  state = record { place = first_place p.lines; cells = m.cells; loops = []; calls = []; lines = []; shown = []; steps = m.steps; choose = None };
   represents = record {
     place = places;
     cells = refl;
