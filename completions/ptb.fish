@@ -2,6 +2,7 @@
 
 complete -c ptb -l steps -x -d 'Begin at most N commands'
 complete -c ptb -l memory -x -d 'Give the program N bytes of memory'
+complete -c ptb -l choose -x -d 'Where INPUT finds no line, ask for an answer from 1 to N'
 complete -c ptb -l answers -x -a none -d 'Answer the questions of RND with these numbers'
 complete -c ptb -l seed -x -d 'Answer them with numbers drawn from the seed N'
 complete -c ptb -l all -d 'Write a report of every run'
@@ -10,4 +11,5 @@ complete -c ptb -l first -x -d 'Of all reports, write at most N'
 complete -c ptb -l form -x -a '1 2' -d 'Of all reports, write answers alone, or with their bounds'
 complete -c ptb -l list -d 'Write the lines of the program, and run nothing'
 complete -c ptb -s h -l help -d 'Print help'
+complete -c ptb -s V -l version -d 'Print version'
 complete -c ptb -k -a '(__fish_complete_suffix .bas)'

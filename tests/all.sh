@@ -27,6 +27,8 @@ tried binary.sh
 tried listings.sh
 tried installing.sh
 tried resuming.sh
+tried outcomes.py
+tried chances.py
 tried terminal.py
 tried documents.py
 tried refusals.sh

@@ -75,6 +75,34 @@ plain 'NOANSWER' '10 PRINT RND(6)\n' 6 ''
 plain 'BADANSWER' '10 PRINT RND(6)\n' 7 '' --answers 7
 plain 'answers' '10 PRINT RND(6),RND(6)\n' 0 '     2     6\n' --answers 2,6,1
 
+# ---- answers in place of lines
+
+plain 'no answer in place of a line' '10 INPUT A;PRINT A\n' 6 'A:' --choose 2
+plain 'a bad answer in place of a line' '10 INPUT A;PRINT A\n' 7 'A:' --choose 2 --answers 3
+plain 'an answer in place of a line' '10 INPUT A;PRINT A\n' 0 'A:2\n     2\n' --choose 2 --answers 2
+plain 'a drawn answer in place of a line' '10 INPUT A;PRINT A\n' 0 'A:1\n     1\n' --choose 1 --seed 7
+plain 'all answers in place of a line' '10 INPUT A;PRINT A\n' 0 \
+    'RUN 1/2 END 2 11\nA:1\n     1\n\nRUN 2/2 END 2 11\nA:2\n     2\n\n' --choose 2 --all
+plain 'the runs behind one with an answer in place of a line' '10 INPUT A;PRINT A\n' 0 \
+    'RUN 2/2 END 2 11\nA:2\n     2\n\n' --choose 2 --all --after 1/2 --first 1
+refused 'an answer in place of a line that is above its bound' '10 INPUT A\n' 67 'ptb: not a run' \
+    --choose 2 --all --after 3
+refused 'answers in place of lines beside a listing of the text' '10 P.\n' 64 'ptb: --list stands alone' \
+    --choose 2 --list
+complains 'no answers in place of lines' --choose 0
+complains 'too many answers in place of lines' --choose 32768
+complains 'answers in place of lines twice' --choose 2 --choose 2
+
+printf '10 INPUT A,B;PRINT A+B\n' >"$folder/two.bas"
+printf ')\n4\n' >"$folder/one.txt"
+run --choose 5 --answers 3 "$folder/two.bas" <"$folder/one.txt"
+count 'an answer where the lines are over' "$(is_as_due 0 'A:)\nWHAT?\nA:4\nB:3\n     7\n' '')"
+
+# every game of the example: 8 numbers, and three guesses of 1 to 8 or fewer; 1 + 7 + 49 of the games with each number are won
+run --all --choose 8 "$root/examples/eight.bas" </dev/null
+games=$(grep -c '^RUN ' "$folder/output")/$(grep -c '^RUN .* STOP ' "$folder/output")
+count 'every game of an example' "$([ "$games" = 3200/456 ] && echo yes || echo no)"
+
 # ---- listings and refused programs
 
 plain 'a listing' '10 P.1\n20 P.2\n010\tP.3\r\n20' 0 '10 P.3\n' --list

@@ -15,7 +15,7 @@ FAR_LIMIT = 1_000_000
 ODD_WORDS = [
     *["", "0", "1", "-1", "+1", "01", "1,2", "1,,2", "none", "32768", "1000000001", "1e3"],
     *["x", "5 ", "\t", "١", b"\xff"],
-    *["--steps", "--memory", "--answers", "--after", "--first", "--all", "--list", "--lists", "-a", "-h", "--", "-"],
+    *["--steps", "--memory", "--choose", "--choose=0", "--choose=2", "--answers", "--after", "--first", "--all", "--list", "--lists", "-a", "-h", "--", "-"],
     *["--steps=7", "--memory=64", "--after=none", "--first=2", "--form", "--form=1", "--form=3", "1/2", "no such file", "."],
 ]
 FAULTS = {"WHAT": b"WHAT?", "HOW": b"HOW?", "SORRY": b"SORRY"}
@@ -88,12 +88,16 @@ class Trial:
 
     def plain(self, answers, steps=None, **files):
         """A plain run with these answers."""
-        options = [("answers", spelled(answers)), ("steps", str(steps or self.case.steps))]
+        options = [("answers", spelled(answers)), ("steps", str(steps or self.case.steps)), *self.choose()]
         return self.call(options, **files)
+
+    def choose(self):
+        """The option for answers in place of lines, where the case has them."""
+        return [("choose", str(self.case.choose))] if self.case.choose else []
 
     def runs(self, after=None, first=REPORTS, bounds=None, form=None, **files):
         """A listing of runs: those behind this one, with these bounds of its answers, at most so many."""
-        options = [("all", ""), ("steps", str(self.case.steps))]
+        options = [("all", ""), ("steps", str(self.case.steps)), *self.choose()]
         options += [] if after is None else [("after", spelled(after) if bounds is None else marked(after, bounds))]
         options += [] if first is None else [("first", str(first))]
         options += [("form", form)] if form else self.chance.choice([[], [("form", "2")]])
@@ -408,13 +412,26 @@ def check_input(trial, write, report):
     whole = trial.ask(trial.runs())
     write("clean.txt", cleaned(trial.case.input))
     trial.expect("the input cleaned", trial.runs(stdin="clean.txt"), whole.status, whole.output)
-    if report.ending != "NOINPUT":
+    if trial.case.choose:
+        check_lines_of_answers(trial, write, report)
+    elif report.ending != "NOINPUT":
         text = trial.case.input
         write("more.txt", text + (b"" if text.endswith(b"\n") or not text else b"\n") + b"7\n(\n")
         trial.expect("more lines than are asked for", trial.plain(report.answers, stdin="more.txt"), *due_of(report))
     without = trial.plain(report.answers, stdin="/dev/null")
     inside = trial.plain(report.answers, program=None, stdin=PROGRAM)
     trial.same("a program on standard input has no input lines", without, inside)
+
+
+def check_lines_of_answers(trial, write, report):
+    """No run ends for want of a line. Where RND isn't asked, answers are as lines with the same digits."""
+    trial.hold("no line is missing", report.ending != "NOINPUT", (trial.runs(), "the first report"))
+    lines = b"".join(b"%d\n" % answer for answer in report.answers)
+    write("lines.txt", cleaned(trial.case.input) + lines)
+    call = trial.call([("steps", str(trial.case.steps))], stdin="lines.txt")
+    reply = trial.ask(call)
+    is_as_due = reply.status == calls.NO_ANSWER or (reply.status, reply.output) == due_of(report)
+    trial.hold("answers are as lines", is_as_due, (call, reply), ("due", report.transcript))
 
 
 def cleaned(text):

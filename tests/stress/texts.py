@@ -25,6 +25,7 @@ class Case:
     input: bytes
     steps: int
     memory: int
+    choose: int  # the bound of answers in place of lines; 0 where none come
 
 
 def case_of(seed, number):
@@ -39,6 +40,7 @@ def case_of(seed, number):
         input_of(maker),
         chance.choice([1, 3, 10, 50, 200, 200, 1000]),
         chance.choice([4096, 4096, 4096, 4096, 4096, 1200, 600, 300, 32767]),
+        chance.choice([0, 0, 0, 1, 2, 2, 3, 32767]),
     )
 
 

@@ -65,7 +65,7 @@ fn unread_words<R: Runtime>(rt: &R, error: &io::Error) -> u8
     64
 }
 
-// Says what clap has to say: a mistake in the words, or the help that they ask for.
+// Says what clap has to say: a mistake in the words, or the help or version that they ask for.
 fn refuse<R: Runtime>(rt: &R, error: &clap::Error) -> u8
     ensures { IsRefusedStatus (kind_of error.now) result }
 {

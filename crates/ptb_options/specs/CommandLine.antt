@@ -1,6 +1,6 @@
 -- This file defines the command line as clap reads it.
 --     tool         the command with its options, in the order in which help shows them
-use Rattle.std.specs.Prelude.{List, [], ◌∷◌, Some, pos, codes, ℕ}
+use Rattle.std.specs.Prelude.{List, [], ◌∷◌, Some, pos, codes, true, ℕ}
 use Rattle.clap.specs.Words.{App, Rule, new_app, new_rule}
 use Rattle.clap.specs.declared.builder.ArgAction.TheVariants.{SetTrue}
 use Rattle.clap.specs.declared.builder.ValueParser.{ValueParser}
@@ -37,5 +37,6 @@ rules =
     ∷ operand (codes "program")
     ∷ []
 
+-- it has a version to show
 abbrev pub tool : App
-tool = record (new_app (codes "ptb")) { top = record (new_app (codes "ptb")).top { rules = rules } }
+tool = record (new_app (codes "ptb")) { top = record (new_app (codes "ptb")).top { rules = rules; has_version = true } }

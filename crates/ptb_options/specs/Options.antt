@@ -9,7 +9,7 @@
 --     default_steps, default_memory     the numbers of a request that gives none
 --     Asks o r                   the options ask for the request r
 --     Refuses o fault            why they ask for none
-use Rattle.std.specs.Prelude.{◌≡◌, ◌≤◌, pos, option_map, ℕ, ◌^◌, nat_lt, Bool, true, false, not, ◌&&◌, ◌||◌, ◌⊎◌, ◌==◌, if◌then◌else◌, List, length, Option, Some, None, is_some, IsSome, unwrap_or, option_and_then, find, IsSomeAnd, ℤ, codes}
+use Rattle.std.specs.Prelude.{◌≡◌, ◌≤◌, pos, option_map, ℕ, ◌^◌, nat_lt, Bool, true, false, not, ◌&&◌, ◌||◌, ◌⊎◌, ◌==◌, if◌then◌else◌, List, length, Option, Some, None, is_some, IsSome, unwrap_or, option_and_then, find, IsSomeAnd, codes}
 use Rattle.std.specs.Option.{ForSome}
 use Rattle.std.specs.Str.{all_ascii_digits, bytes_eq}
 use Rattle.std.specs.Str.Parse.{digits_value, without_leading_plus}

@@ -1,9 +1,9 @@
 -- This file defines the status that the program exits with where its words ask for nothing that it serves.
 --     usage_status fault         where the options don't go together
---     refusal_status kind        where clap refuses the words, or shows its help
+--     refusal_status kind        where clap refuses the words, or shows its help or the version
 use Rattle.std.specs.Prelude.{ℕ}
 use Rattle.clap.specs.declared.error.ErrorKind.{ErrorKind}
-use Rattle.clap.specs.declared.error.ErrorKind.TheVariants.{DisplayHelp, OutOfMemory}
+use Rattle.clap.specs.declared.error.ErrorKind.TheVariants.{DisplayHelp, DisplayVersion, OutOfMemory}
 use Rattle.ptb_options.specs.declared.usage.UsageFault.{UsageFault}
 use Rattle.ptb_options.specs.declared.usage.UsageFault.TheVariants as usage
 
@@ -13,5 +13,6 @@ usage_status _ = 64
 
 abbrev pub refusal_status : ErrorKind → ℕ
 refusal_status DisplayHelp = 0
+refusal_status DisplayVersion = 0
 refusal_status OutOfMemory = 71
 refusal_status _ = 64

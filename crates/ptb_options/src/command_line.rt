@@ -29,6 +29,7 @@ pub fn command<'a>(alloc: Global) -> Result<Command<'a>, AllocError>
     let form = value_parser!(u8).range(1..=2);
     Command::new(alloc, "ptb")
         .about(help::ABOUT)
+        .version(help::VERSION)
         .after_help(help::AFTER)
         .arg(number_option(alloc, "steps", steps, help::STEPS))?
         .arg(number_option(alloc, "memory", memory, help::MEMORY))?
@@ -64,6 +65,7 @@ pub fn refusal_status(kind: ErrorKind) -> u8
 {
     match kind {
         ErrorKind::DisplayHelp => 0,
+        ErrorKind::DisplayVersion => 0,
         ErrorKind::OutOfMemory => 71,
         _ => 64,
     }

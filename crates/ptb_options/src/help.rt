@@ -1,7 +1,10 @@
-// This file has the texts of `--help`.
+// This file has the texts of `--help`, and the version.
 
 /// What the program is for: the first line.
 pub const ABOUT: &str = "Runs a program of Palo Alto Tiny BASIC, version 1, or lists it.";
+
+/// The version of the program, as `--version` shows it behind the name.
+pub const VERSION: &str = "1.0.0";
 
 /// The help of `--steps`.
 pub const STEPS: &str = "Begin at most N commands, 1 to 1000000000 [default: 10000]";

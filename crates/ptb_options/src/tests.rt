@@ -386,7 +386,7 @@ fn requests_for_a_listing(rt: HostRuntime) -> Result<(), Fail> {
 
 #[test]
 fn words_that_clap_refuses(rt: HostRuntime) {
-    let table: [(&[&str], ErrorKind, u8); 23] = [
+    let table: [(&[&str], ErrorKind, u8); 31] = [
         (&["--steps", "0"], ErrorKind::ValueValidation, 64),
         (&["--steps", "1000000001"], ErrorKind::ValueValidation, 64),
         (&["--steps", "1,000"], ErrorKind::ValueValidation, 64),
@@ -414,6 +414,18 @@ fn words_that_clap_refuses(rt: HostRuntime) {
         (&["--all", "--all"], ErrorKind::ArgumentConflict, 64),
         (&["--help"], ErrorKind::DisplayHelp, 0),
         (&["-h"], ErrorKind::DisplayHelp, 0),
+        (&["--version"], ErrorKind::DisplayVersion, 0),
+        (&["-V"], ErrorKind::DisplayVersion, 0),
+        (&["--version", "--help"], ErrorKind::DisplayVersion, 0),
+        (&["--help", "--version"], ErrorKind::DisplayHelp, 0),
+        (&["--version", "--first", "0"], ErrorKind::DisplayVersion, 0),
+        (
+            &["--first", "0", "--version"],
+            ErrorKind::ValueValidation,
+            64,
+        ),
+        (&["--version", "--version"], ErrorKind::DisplayVersion, 0),
+        (&["--version=1"], ErrorKind::TooManyValues, 64),
     ];
     for (words, kind, status) in table {
         match asked(rt.alloc(), words) {
@@ -423,6 +435,22 @@ fn words_that_clap_refuses(rt: HostRuntime) {
         assert_eq!(rt; command_line::refusal_status(kind), status, "{words:?}");
     }
     assert_eq!(rt; command_line::refusal_status(ErrorKind::OutOfMemory), 71);
+}
+
+#[test]
+fn the_version_is_a_line(rt: HostRuntime) -> Result<(), Fail> {
+    for word in ["--version", "-V"] {
+        let Err(error) = command_line::parse(rt.alloc(), &["ptb", word]) else {
+            panic!(rt; "no version");
+        };
+        assert_eq!(rt;
+            error.to_string(rt.alloc())?.as_str(),
+            "ptb 1.0.0\n",
+            "{word}"
+        );
+        assert!(rt; !error.use_stderr(), "{word}");
+    }
+    Ok(())
 }
 
 #[test]
@@ -450,6 +478,7 @@ fn help_names_each_option(rt: HostRuntime) -> Result<(), Fail> {
         "--form <N>",
         "default: 2",
         "--list",
+        "-V, --version",
         "[PROGRAM]",
         "Status:",
         "Examples:",

@@ -1,5 +1,5 @@
 -- This file answers that an answer is an item without a bound.
-use Rattle.std.proofs.Common.{rules, ◌≡◌, ◌∙◌, ap, sym, ℤ, Option, Some, None, true, false, FitsSigned, w16, to_z-of_z}
+use Rattle.std.proofs.Common.{rules, ◌≡◌, ◌∙◌, ap, sym, Option, Some, None, FitsSigned, w16, to_z-of_z}
 use Rattle.std.specs.Prelude.{is_some}
 use Rattle.std.proofs.lemmas.Bool.{false≢true}
 use Rattle.ptb_explore.specs.declared.form.Marked.{Marked}

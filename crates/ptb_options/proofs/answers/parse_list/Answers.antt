@@ -1,10 +1,7 @@
 -- This file answers what is left to prove of `parse_list`.
-use Rattle.std.proofs.Common.{rules, ◌≡◌, ◌≢◌, ◌∙◌, ap, sym, List, ℤ, ℕ, Option, Some, None, lit<, [], ◌∷◌, ◌++◌}
+use Rattle.std.proofs.Common.{◌≡◌, ◌≢◌, ◌∙◌, ap, sym, List, ℕ, Option, Some, None, lit<, [], ◌∷◌, ◌++◌}
 use Rattle.std.specs.Prelude.{codes, nat_eq}
 use lib.Pointwise.{pointwise}
-use mir.Val.{SFits}
-use mir.Syntax.{w16}
-use Rattle.std.proofs.Common.{to_z-of_z}
 use Rattle.std.specs.Result.{result_ok}
 use Rattle.std.proofs.lemmas.Bool.{false≢true}
 use Rattle.std.specs.Str.Iter.{split_text, split_has_more, split_pattern}

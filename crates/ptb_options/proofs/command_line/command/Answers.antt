@@ -1,5 +1,5 @@
 -- This file answers what is left to prove of `command`.
-use Rattle.std.proofs.Common.{◌≡◌, ◌∙◌, ap, ap₂, false, ℤ, Some, subst}
+use Rattle.std.proofs.Common.{◌≡◌, ◌∙◌, ap, ap₂, false, true, ℤ, Some, subst}
 use Rattle.std.specs.Prelude.{codes, pos}
 use Rattle.std.proofs.lemmas.Result.{IfOk-weaker}
 use Rattle.clap.specs.Words.{AddsArg, App, NarrowsTo, Rule, app_of, new_app, rule_of, with_rule}
@@ -21,10 +21,13 @@ narrows r {p} {q} {s} {e} {low} {high} is_q is_low is_high h =
     subst (λ (x : ValueParser). NarrowsTo x (Some low) (Some high) r) is_q
     (subst (λ (x : ℤ). NarrowsTo p (Some x) (Some high) r) is_low (subst (λ (x : ℤ). NarrowsTo p (Some s) (Some x) r) is_high h))
 
+abbrev with_version : App → App
+with_version a = record a { top = record a.top { has_version = true } }
+
 pub returns : goal.returns
 returns c =
-    let start : app_of c.after_help.result ≡ new_app (codes "ptb") =
-    ap app_of_fields c.after_help.ensures ∙ (ap app_of_fields c.about.ensures ∙ c.new-7.ensures.app) in
+    let start : app_of c.after_help.result ≡ with_version (new_app (codes "ptb")) =
+    ap app_of_fields c.after_help.ensures ∙ (ap app_of_fields c.version.ensures ∙ ap with_version (ap app_of_fields c.about.ensures ∙ c.new-7.ensures.app)) in
     let steps : c.range-steps.result ≡ Signed (pos 1) (pos 1000000000) =
     narrows c.range-steps.result c.value_parser.ensures c.new.ensures.start c.new.ensures.end c.range-steps.ensures in
     let memory : c.range-memory.result ≡ Signed (pos 64) (pos 32767) =

@@ -1,0 +1,212 @@
+#!/usr/bin/env python3
+"""Works the chances of runs out from their reports, and compares them with what the documents and tools/outcomes say.
+
+The programs are those of the chapter on chances in docs/TOOL.md, of README.md, and examples; the chances of some are
+counted by hand, too. PTB names another program than the one that ./ptb builds.
+"""
+
+import csv
+import io
+import os
+import re
+import subprocess
+import sys
+from collections import Counter
+from fractions import Fraction
+from itertools import product
+
+ROOT = os.path.dirname(os.path.dirname(os.path.realpath(__file__)))
+PTB = os.path.realpath(os.environ.get("PTB", f"{ROOT}/ptb"))
+passed = failed = 0
+
+
+def same(name, said, due):
+    """A check that holds where both are the same."""
+    global passed, failed
+    if said == due:
+        passed += 1
+    else:
+        failed += 1
+        print(f"failed: {name}\n    said: {said!r}\n    due:  {due!r}"[:4000])
+
+
+# ---- listings
+
+
+def listing(program, *words, lines=b""):
+    """The bytes of all runs of the program with this path."""
+    return subprocess.run([PTB, "--all", *words, program], input=lines, stdout=subprocess.PIPE, check=True).stdout
+
+
+def listing_of_text(text):
+    """The bytes of all runs of a program's text."""
+    return subprocess.run([PTB, "--all"], input=text.encode(), stdout=subprocess.PIPE, check=True).stdout
+
+
+def example(name, *words):
+    """The bytes of all runs of an example on its lines."""
+    with open(f"{ROOT}/examples/{name}.input", "rb") as lines:
+        return listing(f"{ROOT}/examples/{name}.bas", *words, lines=lines.read())
+
+
+def runs_in(text):
+    """Of each run in a listing: its answers as they are spelled, its ending, what it showed, and its chance."""
+    runs = []
+    while text:
+        header, _, rest = text.decode().partition("\n")
+        _, spelled, ending, _, size = header.split()
+        chance = Fraction(1)
+        for bound in re.findall("/([0-9]+)", spelled):
+            chance *= Fraction(1, int(bound))
+        runs.append((spelled, ending, rest[: int(size)], chance))
+        text = rest[int(size) + 1 :].encode()
+    return runs
+
+
+def last_line(shown):
+    """The last line of a transcript that isn't empty."""
+    return next((line for line in reversed(shown.split("\n")) if line), "")
+
+
+def added_up(runs, key):
+    """The chance and the number of the runs that have the same key, for each key."""
+    chances, numbers = Counter(), Counter()
+    for run in runs:
+        chances[key(run)] += run[3]
+        numbers[key(run)] += 1
+    return {it: (chances[it], numbers[it]) for it in chances}
+
+
+KEYS = {
+    "outcome": lambda run: (run[1], run[2]),
+    "ending": lambda run: run[1],
+    "last-line": lambda run: last_line(run[2]),
+}
+
+
+def told(text, kind):
+    """What the tool says of a listing in its table for programs: chance and number of runs by the same keys."""
+    words = [f"{ROOT}/tools/outcomes", "--csv", "--by", kind]
+    done = subprocess.run(words, input=text, stdout=subprocess.PIPE, check=True)
+    rows = csv.DictReader(io.StringIO(done.stdout.decode(), newline=""))
+    keys = {"outcome": ("ending", "transcript"), "ending": ("ending",), "last-line": ("last line",)}[kind]
+    return {
+        tuple(row[key] for key in keys) if len(keys) > 1 else row[keys[0]]: (Fraction(row["chance"]), int(row["runs"]))
+        for row in rows
+    }
+
+
+# ---- the documents
+
+
+def chapter(page, title):
+    """The lines of a page's chapter, up to the next title."""
+    with open(f"{ROOT}/{page}", encoding="utf-8") as file:
+        text = file.read()
+    same(f"{page} has the chapter {title} once", len(re.findall(f"^#+ {title}$", text, re.M)), 1)
+    return re.split("^#+ ", re.split(f"^#+ {title}$", text, flags=re.M)[-1], flags=re.M)[0]
+
+
+def whole(chance):
+    """A fraction as it is written, in lowest terms or not."""
+    return Fraction(*map(int, chance.split("/")))
+
+
+def check_page_of_the_tool():
+    """The chapter's table, its numbers, and the runs that it prints."""
+    text = chapter("docs/TOOL.md", "Chances")
+    program = re.search(r"\$ echo '(.*)' \| ./ptb --all", text)[1]
+    runs = runs_in(listing_of_text(program + "\n"))
+    rows = re.findall(r"^\| `(.*)` \| (.*) \| ([0-9/]+) \|$", text, re.M)
+    same("the table's runs", [row[0] for row in rows], [run[0] for run in runs])
+    bounds = [re.findall("/([0-9]+)", run[0]) for run in runs]
+    same("the table's bounds", [row[1].split(" and ") for row in rows], bounds)
+    same("the table's chances", [whole(row[2]) for row in rows], [run[3] for run in runs])
+    same("the runs that are printed", re.findall("^    RUN (\\S+)", text, re.M), [run[0] for run in runs])
+    showing = [run for run in runs if run[2]]
+    said = r"shows a number in (\w+) of its (\w+) runs, and with the chance ([0-9]+/[0-9]+), which is ([0-9/]+)\."
+    numbers = re.search(said.replace(" ", r"\s+"), text)
+    words = {"one": 1, "two": 2, "three": 3, "four": 4}
+    same("how many runs show a number", (words[numbers[1]], words[numbers[2]]), (len(showing), len(runs)))
+    same("their chance", {whole(numbers[3]), whole(numbers[4])}, {sum(run[3] for run in showing)})
+    return program
+
+
+def rows_shown(text, command):
+    """The rows of a table that a page prints below this command: percent, chance, title and runs of each."""
+    table = text[text.index(command) :].split("\n\n")[0]
+    rows = re.findall(r"^    +([<>0-9.]+) %  +([0-9/]+)  #+ +(.*), ([0-9,]+) runs?$", table, re.M)
+    return [(title, whole(chance), int(runs.replace(",", "")), percent) for percent, chance, title, runs in rows]
+
+
+def check_tables(page, least):
+    """Each table by endings or last lines that a page prints for an example has the chances that its runs have."""
+    with open(f"{ROOT}/{page}", encoding="utf-8") as file:
+        text = file.read()
+    commands = re.findall(
+        r"(\$ \./ptb --all (.*?)examples/(\w+)\.bas < (\S+) \| tools/outcomes --by (ending|last-line))$", text, re.M
+    )
+    same(f"{page} has so many tables or more", len(commands) >= least, True)
+    for command, words, name, lines, kind in commands:
+        path = lines if lines.startswith("/") else f"{ROOT}/{lines}"
+        with open(path, "rb") as file:
+            runs = runs_in(listing(f"{ROOT}/examples/{name}.bas", *words.split(), lines=file.read()))
+        due = added_up(runs, KEYS[kind])
+        rows = rows_shown(text, command)
+        same(f"{page}: {command}", {row[0].strip(): row[1:3] for row in rows}, {it.strip(): due[it] for it in due})
+        same(f"{page}: percents: {command}", [row[3] for row in rows], [f"{float(100 * row[1]):.2f}" for row in rows])
+        falling = sorted((row[1] for row in rows), reverse=True)
+        same(f"{page}: order: {command}", [row[1] for row in rows], falling)
+
+
+def check_readme(program):
+    """The program of README is that of the chapter, so its chances are those of the chapter's table."""
+    with open(f"{ROOT}/README.md", encoding="utf-8") as file:
+        text = file.read()
+    same("README's example", re.findall(r"\$ echo '(.*)' \| ./ptb --all$", text, re.M), [program])
+    text = text[text.index(f"echo '{program}' | ./ptb --all") :]
+    runs = runs_in(listing_of_text(program + "\n"))
+    same("README's runs", re.findall("^    RUN (\\S+)", text, re.M)[: len(runs)], [run[0] for run in runs])
+
+
+# ---- the tool
+
+
+def check_tool(name, text):
+    """The tool has the chances that are worked out here, and those of a whole tree add up to 1."""
+    runs = runs_in(text)
+    same(f"all runs of {name}", sum(run[3] for run in runs), 1)
+    for kind, key in KEYS.items():
+        same(f"{name} by {kind}", told(text, kind), added_up(runs, key))
+
+
+def check_by_hand():
+    """Chances that nobody needs a listing for."""
+    dice = Counter(map(sum, product(range(1, 7), repeat=3)))
+    due = {f"{total:6}": (Fraction(number, 216), number) for total, number in dice.items()}
+    same("the sums of three dice", told(example("throw"), "last-line"), due)
+    won = told(example("doors"), "last-line")["THE PRIZE IS YOURS!"]
+    same("the prize behind one of three doors, for who changes", won[0], Fraction(2, 3))
+    # in each of the 8 games, what is won is 1 + 7 + 49 of 512 equally likely rows of guesses, in which games end early
+    won = told(listing(f"{ROOT}/examples/eight.bas", "--choose", "8"), "last-line")["RIGHT!"]
+    same("three guesses of eight numbers", won, (1 - Fraction(7, 8) ** 3, 8 * (1 + 7 + 49)))
+    heads = told(listing_of_text("10 A=A+1;IF RND(2)=1 IF A<5 GOTO 10\n20 PRINT A\n"), "last-line")
+    due = {f"{k:6}": (Fraction(1, 2 ** min(k, 4)), 2 if k == 5 else 1) for k in range(1, 6)}
+    same("heads in a row", heads, due)
+
+
+def main():
+    program = check_page_of_the_tool()
+    check_readme(program)
+    check_tables("README.md", 1)
+    check_tables("docs/TOOL.md", 1)
+    check_tool("the example of the documents", listing_of_text(program + "\n"))
+    for name in ["beast", "doors", "eight", "guess", "hanoi", "hello", "letters", "matches", "throw"]:
+        check_tool(name, example(name))
+    check_tool("eight with answers in place of lines", listing(f"{ROOT}/examples/eight.bas", "--choose", "8"))
+    check_by_hand()
+    print(f"{passed} passed, {failed} failed")
+    return 1 if failed else 0
+
+
+sys.exit(main())
