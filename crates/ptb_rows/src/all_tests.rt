@@ -384,11 +384,11 @@ fn runs_behind_no_run(rt: HostRuntime) -> Result<(), Fail> {
 // What is listed up to a run, and what is listed behind it, is the whole listing.
 #[test]
 fn listings_in_two_parts(rt: HostRuntime) -> Result<(), Fail> {
-    let table = [
+    let table: [(Asked<'_>, &[u8], &[&[Marked]]); 5] = [
         (
             all_of(ONE_ROLL),
             ONE_ROLL_TEXT,
-            &[&[answer(1)][..], &[bounded(2, 2)]][..],
+            &[&[answer(1)], &[bounded(2, 2)]],
         ),
         (
             all_of(ROLL_BEHIND_IF),
