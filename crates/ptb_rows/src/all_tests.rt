@@ -40,6 +40,32 @@ const fn bounded(answer: i16, bound: i16) -> Marked {
     }
 }
 
+// Answers with and without their bounds, for lists that are constants.
+const ONE: Marked = Marked {
+    answer: 1,
+    bound: None,
+};
+const TWO: Marked = Marked {
+    answer: 2,
+    bound: None,
+};
+const ONE_OF_1: Marked = Marked {
+    answer: 1,
+    bound: Some(1),
+};
+const TWO_OF_2: Marked = Marked {
+    answer: 2,
+    bound: Some(2),
+};
+const TWO_OF_3: Marked = Marked {
+    answer: 2,
+    bound: Some(3),
+};
+const THREE_OF_3: Marked = Marked {
+    answer: 3,
+    bound: Some(3),
+};
+
 // All runs of a program without input, in form 1, by a request that gives neither steps nor a bound.
 fn all_of(program: &[u8]) -> Asked<'_> {
     Asked {
@@ -301,6 +327,9 @@ fn runs_behind_a_run(rt: HostRuntime) -> Result<(), Fail> {
 const ROLL_BEHIND_IF_BOUNDS: &[u8] = b"RUN 1/2 END 2 0\n\nRUN 2/2,1/3 END 4 7\n     1\n\n\
 RUN 2/2,2/3 END 4 7\n     2\n\nRUN 2/2,3/3 END 4 7\n     3\n\n";
 
+const SECOND_WITH_A_BOUND: &[Marked] = &[TWO_OF_2, ONE];
+const THIRD_WITH_BOUNDS: &[Marked] = &[TWO_OF_2, TWO_OF_3];
+
 // In form 2 each answer is followed by its bound. Lists to go on behind may have bounds in either form.
 #[test]
 fn runs_with_bounds(rt: HostRuntime) -> Result<(), Fail> {
@@ -313,7 +342,7 @@ fn runs_with_bounds(rt: HostRuntime) -> Result<(), Fail> {
         (all, ROLL_BEHIND_IF_BOUNDS),
         (
             Asked {
-                after: Some(&[bounded(2, 2), answer(1)]),
+                after: Some(SECOND_WITH_A_BOUND),
                 ..all
             },
             &ROLL_BEHIND_IF_BOUNDS[45..],
@@ -327,7 +356,7 @@ fn runs_with_bounds(rt: HostRuntime) -> Result<(), Fail> {
         ),
         (
             Asked {
-                after: Some(&[bounded(2, 2), bounded(2, 3)]),
+                after: Some(THIRD_WITH_BOUNDS),
                 form: Form::One,
                 ..all
             },
@@ -381,42 +410,41 @@ fn runs_behind_no_run(rt: HostRuntime) -> Result<(), Fail> {
     Ok(())
 }
 
+// The runs of these programs, in order, with their bounds here and there.
+const ONE_ROLL_RUNS: &[&[Marked]] = &[&[ONE], &[TWO_OF_2]];
+const ROLL_BEHIND_IF_RUNS: &[&[Marked]] = &[
+    &[ONE],
+    &[TWO, ONE],
+    &[TWO_OF_2, TWO],
+    &[TWO_OF_2, THREE_OF_3],
+];
+const FAULTY_RUNS: &[&[Marked]] = &[&[ONE], &[TWO, ONE_OF_1]];
+const ROLLED_INDEX_RUNS: &[&[Marked]] = &[
+    &[ONE, ONE],
+    &[ONE, TWO],
+    &[TWO, ONE],
+    &[TWO, TWO],
+];
+const LIMITED_RUNS: &[&[Marked]] = &[&[ONE], &[TWO]];
+
 // What is listed up to a run, and what is listed behind it, is the whole listing.
 #[test]
 fn listings_in_two_parts(rt: HostRuntime) -> Result<(), Fail> {
-    let table: [(Asked<'_>, &[u8], &[&[Marked]]); 5] = [
-        (
-            all_of(ONE_ROLL),
-            ONE_ROLL_TEXT,
-            &[&[answer(1)], &[bounded(2, 2)]],
-        ),
+    let table = [
+        (all_of(ONE_ROLL), ONE_ROLL_TEXT, ONE_ROLL_RUNS),
         (
             all_of(ROLL_BEHIND_IF),
             ROLL_BEHIND_IF_TEXT,
-            &[
-                &[answer(1)],
-                &[answer(2), answer(1)],
-                &[bounded(2, 2), answer(2)],
-                &[bounded(2, 2), bounded(3, 3)],
-            ],
+            ROLL_BEHIND_IF_RUNS,
         ),
-        (
-            all_of(FAULTY),
-            FAULTY_TEXT,
-            &[&[answer(1)], &[answer(2), bounded(1, 1)]],
-        ),
+        (all_of(FAULTY), FAULTY_TEXT, FAULTY_RUNS),
         (
             Asked {
                 input: b")\n5\n",
                 ..all_of(ROLLED_INDEX)
             },
             ROLLED_INDEX_TEXT,
-            &[
-                &[answer(1), answer(1)],
-                &[answer(1), answer(2)],
-                &[answer(2), answer(1)],
-                &[answer(2), answer(2)],
-            ],
+            ROLLED_INDEX_RUNS,
         ),
         (
             Asked {
@@ -424,7 +452,7 @@ fn listings_in_two_parts(rt: HostRuntime) -> Result<(), Fail> {
                 ..all_of(LIMITED)
             },
             LIMITED_TEXT,
-            &[&[answer(1)], &[answer(2)]],
+            LIMITED_RUNS,
         ),
     ];
     for (asked, text, runs) in table {
