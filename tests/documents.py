@@ -2,8 +2,9 @@
 """Runs each command that README.md and docs/ print behind a `$`, and compares what it shows with what is printed below it.
 
 A line that goes on begins with `>`. The commands of one block are run by one bash, in a folder of its own in which ptb, tools and
-examples stand as at the root; so they can leave files for one another. A command alone, with no `<` and no `|`, is one at a terminal:
-what is typed there stands behind the colons of what is shown.
+examples stand as at the root; so they can leave files and statuses for one another. A command alone, with no `<` and no `|`, is
+one at a terminal: what is typed there stands behind the colons of what is shown. A line that looks like a command and has no `$`
+is a failure.
 PTB names another program than the one that ./ptb builds.
 """
 
@@ -14,9 +15,12 @@ import sys
 import tempfile
 
 ROOT = os.path.dirname(os.path.dirname(os.path.realpath(__file__)))
+# Each of these pages has commands; one that loses them all is a failure.
 PAGES = ["README.md", "docs/TOOL.md", "docs/LANGUAGE.md", "examples/README.md"]
-# the pages that have commands with their output today; a page that loses them all is a failure
-HAVE_COMMANDS = {"README.md", "docs/TOOL.md", "examples/README.md"}
+WIDTH_OF_README = 100
+LOOKS_LIKE_COMMAND = re.compile(r"    (\./|rt |tests/|tools/|ptb-|cd |cat |diff |printf |echo |sed |tr |q=)")
+# What is tried elsewhere: the first in a copy of the repository, by tests/installing.sh; the second has this script as a part.
+TRIED_ELSEWHERE = {"./install ~/.local", "rt ci && tests/all.sh"}
 
 
 class Command:
@@ -28,12 +32,16 @@ class Command:
         self.shown = []
 
 
+def lines_of(page):
+    """The lines of a page, without their ends."""
+    with open(f"{ROOT}/{page}", encoding="utf-8") as file:
+        return file.read().split("\n")
+
+
 def blocks(page):
     """The blocks of a page that have commands: lists of commands, in order."""
     found, block = [], []
-    with open(f"{ROOT}/{page}", encoding="utf-8") as file:
-        lines = file.read().split("\n")
-    for number, line in enumerate([*lines, "."], 1):
+    for number, line in enumerate([*lines_of(page), "."], 1):
         if line.strip() and not line.startswith("    "):
             found += [block] if block else []
             block = []
@@ -47,16 +55,16 @@ def blocks(page):
 
 
 def typed(block):
-    """The lines that are typed where a block is one command at a terminal."""
+    """The lines that are typed where a block is one command at a terminal; behind other colons there is a blank."""
     if len(block) > 1 or re.search("[<|]", block[0].text):
         return ""
-    return "".join(f"{line.partition(':')[2]}\n" for line in block[0].shown if ":" in line)
+    return "".join(f"{line.partition(':')[2]}\n" for line in block[0].shown if re.search(r"^[^:]*:\S", line))
 
 
 def run(block, folder):
-    """What each command of a block shows, on both of its streams."""
+    """What each command of a block shows, on both of its streams; the next one finds its status in `$?`."""
     mark = "end of a command of the documents"
-    script = "".join(f"{{ {it.text}\n}} 2>&1\necho '{mark}'\n" for it in block)
+    script = "".join(f"{{ {it.text}\n}} 2>&1\n{{ status=$?; echo '{mark}'; (exit $status); }}\n" for it in block)
     lines = typed(block).encode()
     ran = subprocess.run(["bash", "-c", script], cwd=folder, input=lines, stdout=subprocess.PIPE, timeout=600)
     said = ran.stdout.decode("utf-8", "replace").split(f"{mark}\n")
@@ -70,25 +78,46 @@ def stage(folder):
     os.symlink(os.path.realpath(os.environ.get("PTB", f"{ROOT}/ptb")), f"{folder}/ptb")
 
 
+def check_commands(page):
+    """Whether each command of a page shows what is printed below it, and what to say where it doesn't."""
+    for block in blocks(page):
+        with tempfile.TemporaryDirectory() as folder:
+            stage(folder)
+            said = run(block, folder)
+        for command, text in zip(block, said):
+            due = re.sub(r"\n*\Z", "", "\n".join(command.shown))
+            yield re.sub(r"\n*\Z", "", text) == due, f"{command.place}: {command.text}\n{text}"
+
+
+def check_marks(page):
+    """Whether each command of a page is marked as one, so that it is run here."""
+    for number, line in enumerate(lines_of(page), 1):
+        if LOOKS_LIKE_COMMAND.match(line):
+            yield line.strip() in TRIED_ELSEWHERE, f"{page}:{number}: a command without a $: {line}"
+
+
+def check_widths():
+    """Whether the lines of README.md are short."""
+    for number, line in enumerate(lines_of("README.md"), 1):
+        yield len(line) <= WIDTH_OF_README, f"README.md:{number}: a line of {len(line)} columns"
+
+
+def checks():
+    """All checks, each with what to say where it fails."""
+    for page in PAGES:
+        yield len(blocks(page)) > 0, f"{page} has no command with its output"
+        yield from check_commands(page)
+        yield from check_marks(page)
+    yield from check_widths()
+
+
 def main():
     passed = failed = 0
-    for page in PAGES:
-        commands = 0
-        for block in blocks(page):
-            with tempfile.TemporaryDirectory() as folder:
-                stage(folder)
-                said = run(block, folder)
-            for command, text in zip(block, said):
-                commands += 1
-                due = re.sub(r"\n*\Z", "", "\n".join(command.shown))
-                if re.sub(r"\n*\Z", "", text) == due:
-                    passed += 1
-                else:
-                    failed += 1
-                    print(f"failed: {command.place}: {command.text}\n{text}")
-        if page in HAVE_COMMANDS and not commands:
-            failed += 1
-            print(f"failed: {page} has no command with its output")
+    for holds, words in checks():
+        passed += holds
+        failed += not holds
+        if not holds:
+            print(f"failed: {words}")
     print(f"{passed} passed, {failed} failed")
     return 1 if failed else 0
 

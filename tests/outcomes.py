@@ -38,7 +38,10 @@ DICE_TABLE = b"""4 runs, 4 outcomes
 
  16.67 %  1/6  ##########                      END, 1 run
     |      3
+
+Answers count as equally likely, also those that --choose gives in place of lines.
 """
+EVEN_ANSWERS = DICE_TABLE[DICE_TABLE.index(b"\nAnswers") :]
 HEAD = ["chance", "percent", "runs", "ending", "last line", "first run", "transcript"]
 # two runs that show the same, one of which stops; a fault; and a run without a line
 MIXED = (
@@ -138,15 +141,15 @@ def check_hand_written(counting):
         b" 25.00 %  1/4  ###############                 STOP, 1 run\n"
         b" 25.00 %  1/4  ###############                 HOW, 1 run\n"
     )
-    counting.same("by ending", tool(MIXED, "--by", "ending"), (0, by_ending, b""))
+    counting.same("by ending", tool(MIXED, "--by", "ending"), (0, by_ending + EVEN_ANSWERS, b""))
     by_line = (
         b"5 runs, 3 last lines\n"
         b" 62.50 %  5/8  ##############################  HI, 3 runs\n"
         b" 25.00 %  1/4  ############                    10 P.1/?0, 1 run\n"
         b" 12.50 %  1/8  ######                          (nothing is shown), 1 run\n"
     )
-    counting.same("by the last line", tool(MIXED, "--by", "last-line"), (0, by_line, b""))
-    top = by_line.splitlines(True)[:2] + [b"\nand 2 more\n"]
+    counting.same("by the last line", tool(MIXED, "--by", "last-line"), (0, by_line + EVEN_ANSWERS, b""))
+    top = by_line.splitlines(True)[:2] + [b"\nand 2 more\n", EVEN_ANSWERS]
     counting.same("the likeliest", tool(MIXED, "--by=last-line", "--top", "1"), (0, b"".join(top), b""))
     part = tool(MIXED[: MIXED.index(b"RUN 3/4")], "--by", "ending")[1]
     due = b"2 runs, 2 endings; a part of the tree: the chances add up to 1/2\n"
@@ -157,7 +160,7 @@ def check_hand_written(counting):
         b">99.99 %  32766/32767  ##############################  END, 32,766 runs\n"
         b" <0.01 %      1/32767  #                               STOP, 1 run\n"
     )
-    counting.same("chances that are nearly 1 and 0", tool(rare, "--by", "ending"), (0, by_ending, b""))
+    counting.same("chances that are nearly 1 and 0", tool(rare, "--by", "ending"), (0, by_ending + EVEN_ANSWERS, b""))
     twice = tool(b"RUN none END 1 0\n\n" * 2)[1].splitlines()[0]
     counting.same("the same run twice", twice, b"2 runs, 1 outcome; no tree has these runs: the chances add up to 2")
 
