@@ -12,9 +12,11 @@ import os
 import re
 import subprocess
 import sys
-import tempfile
 
-ROOT = os.path.dirname(os.path.dirname(os.path.realpath(__file__)))
+sys.dont_write_bytecode = True
+sys.path.insert(0, f"{os.path.dirname(os.path.realpath(__file__))}/shared")
+from stage import ROOT, staged
+
 # Each of these pages has commands; one that loses them all is a failure.
 PAGES = ["README.md", "docs/TOOL.md", "docs/LANGUAGE.md", "examples/README.md"]
 WIDTH_OF_README = 100
@@ -71,35 +73,27 @@ def run(block, folder):
     return said[: len(block)] + [""] * (len(block) - len(said))
 
 
-def stage(folder):
-    """Puts what the root has into the folder."""
-    for name in ["examples", "tools", "docs"]:
-        os.symlink(f"{ROOT}/{name}", f"{folder}/{name}")
-    os.symlink(os.path.realpath(os.environ.get("PTB", f"{ROOT}/ptb")), f"{folder}/ptb")
-
-
 def check_commands(page):
     """Whether each command of a page shows what is printed below it, and what to say where it doesn't."""
     for block in blocks(page):
-        with tempfile.TemporaryDirectory() as folder:
-            stage(folder)
+        with staged() as folder:
             said = run(block, folder)
         for command, text in zip(block, said):
             due = re.sub(r"\n*\Z", "", "\n".join(command.shown))
             yield re.sub(r"\n*\Z", "", text) == due, f"{command.place}: {command.text}\n{text}"
 
 
-def check_marks(page):
-    """Whether each command of a page is marked as one, so that it is run here."""
-    for number, line in enumerate(lines_of(page), 1):
-        if LOOKS_LIKE_COMMAND.match(line):
-            yield line.strip() in TRIED_ELSEWHERE, f"{page}:{number}: a command without a $: {line}"
+def all_marked(page):
+    """Whether all commands of a page are marked as such, so that they are run here."""
+    lines = [line.strip() for line in lines_of(page) if LOOKS_LIKE_COMMAND.match(line)]
+    wrong = [line for line in lines if line not in TRIED_ELSEWHERE]
+    return not wrong, f"{page}: commands without a $: {wrong}"
 
 
-def check_widths():
+def short_lines():
     """Whether the lines of README.md are short."""
-    for number, line in enumerate(lines_of("README.md"), 1):
-        yield len(line) <= WIDTH_OF_README, f"README.md:{number}: a line of {len(line)} columns"
+    wrong = [line for line in lines_of("README.md") if len(line) > WIDTH_OF_README]
+    return not wrong, f"README.md: lines of more than {WIDTH_OF_README} columns: {wrong}"
 
 
 def checks():
@@ -107,8 +101,8 @@ def checks():
     for page in PAGES:
         yield len(blocks(page)) > 0, f"{page} has no command with its output"
         yield from check_commands(page)
-        yield from check_marks(page)
-    yield from check_widths()
+        yield all_marked(page)
+    yield short_lines()
 
 
 def main():
