@@ -33,9 +33,12 @@ short=$(sed -n 's/^ \{2,\}-\([a-zA-Z]\)\(, .*\)\{0,1\}$/\1/p' "$folder/help" | i
 count_if '--help has the options that were there first' \
     [ "$(printf '%s\n' steps memory answers all after first list help | grep -cxF -f <(tr ' ' '\n' <<<"$long"))" = 8 ]
 
-# The options of two dashes in a text, and those of one dash and a letter that stand alone in it.
+# The options of two dashes in a text, those in a man page, and those of one dash and a letter that stand alone in a text.
 long_in() {
     grep -oE -- '--[a-z][a-z-]*' | sed 's/^--//' | in_one_line
+}
+long_in_page() {
+    sed 's/\\-/-/g; s/\\f[A-Z]/ /g' "$root/docs/$1.1" | long_in
 }
 short_in() {
     grep -oE -- "(^|[^a-zA-Z-])-[a-zA-Z]($|[^a-zA-Z-])" | grep -oE '[a-zA-Z]' | in_one_line
@@ -59,13 +62,12 @@ count_same 'short options in the fish completions' \
 man_words=$(sed -n '/^\.SH OPTIONS/,/^\.PP/p' "$root/docs/ptb.1" | grep -A1 '^\.TP' | grep '^\.B' | sed 's/\\-/-/g; s/[",]/ /g')
 count_same 'options in the man page' "$(long_in <<<"$man_words")" "$long"
 count_same 'short options in the man page' "$(short_in <<<"$man_words")" "$short"
-count_same 'options that the man page names at all' "$(sed 's/\\-/-/g; s/\\f[A-Z]/ /g' "$root/docs/ptb.1" | long_in)" "$long"
+count_same 'options that the man page names at all' "$(long_in_page ptb)" "$long"
 
 # the pages of the tools have the options of their help; --all and --choose are those of ptb
-page=$(sed 's/\\-/-/g; s/\\f[A-Z]/ /g' "$root/docs/ptb-outcomes.1" | long_in)
-count_same 'options that the man page of outcomes names' "$page" "$({ echo --all --choose; "$root/tools/outcomes" --help; } | long_in)"
-page=$(sed 's/\\-/-/g; s/\\f[A-Z]/ /g' "$root/docs/ptb-resume.1" | long_in)
-count_same 'options that the man page of resume names' "$page" "$("$root/tools/resume" --help | long_in)"
+count_same 'options that the man page of outcomes names' "$(long_in_page ptb-outcomes)" \
+    "$({ echo --all --choose; "$root/tools/outcomes" --help; } | long_in)"
+count_same 'options that the man page of resume names' "$(long_in_page ptb-resume)" "$("$root/tools/resume" --help | long_in)"
 
 # ---- bash is asked
 
@@ -195,7 +197,8 @@ count_same 'a listing that was killed is gone on with' \
     "$(PATH=$place/bin:$PATH ptb-resume "$folder/killed" -- ptb --all "$folder/coin.bas" </dev/null 2>&1; echo $?)" 0
 count_if 'and is whole' cmp "$folder/runs" "$folder/killed"
 for tool in outcomes resume; do
-    count_if "ptb-$tool helps by its name" grep -q "ptb-$tool" <("$place/bin/ptb-$tool" --help)
+    "$place/bin/ptb-$tool" --help >"$folder/output"
+    count_if "ptb-$tool helps by its name" grep -q "ptb-$tool" "$folder/output"
     "$place/bin/ptb-$tool" --unknown </dev/null >"$folder/output" 2>"$folder/errors"
     count_same "ptb-$tool refuses words" "$? $(grep -c "ptb-$tool" "$folder/errors")" '64 1'
 done
