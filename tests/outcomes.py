@@ -161,6 +161,8 @@ def check_hand_written(counting):
         b" <0.01 %      1/32767  #                               STOP, 1 run\n"
     )
     counting.same("chances that are nearly 1 and 0", tool(rare, "--by", "ending"), (0, by_ending + EVEN_ANSWERS, b""))
+    moved = b"1 run, 1 outcome\n\n100.00 %  1  " + b"#" * 30 + b"  END, 1 run\n    | A\\rB\n"
+    counting.same("byte 13 is spelled out", tool(b"RUN none END 1 4\nA\rB\n\n"), (0, moved, b""))
     twice = tool(b"RUN none END 1 0\n\n" * 2)[1].splitlines()[0]
     counting.same("the same run twice", twice, b"2 runs, 1 outcome; no tree has these runs: the chances add up to 2")
 
@@ -189,6 +191,7 @@ def check_counted(counting):
         "long transcripts": listing(b"10 FOR I=1 TO 9000;P.RND(1);N.I;P.RND(2)\n", "--steps", "99999"),
         "many products": listing(b"10 FOR I=1 TO 80;IF RND(I+1)=1 STOP\n20 NEXT I;PRINT I\n", "--first", "500"),
         "limits and faults": listing(b"10 A=RND(4);GOTO A*10\n20 GOTO 20\n30 P.A/0\n40 P.@(A*9999)\n", "--steps", "9"),
+        "byte 13": listing(b'10 PRINT "A",_,RND(3),_,\n'),
         "by hand": MIXED,
     }
     for name, text in listings.items():
@@ -331,7 +334,7 @@ def check_long(counting):
     status, said, errors = tool(text)
     counting.hold("a long fraction", (status, errors) == (0, b"") and f"  {due}  " in said.decode(), errors)
     status, said, errors = tool(text, "--csv")
-    counting.hold("a long fraction for programs", (status, errors) == (0, b"") and f"\n{due},0.0000" in said.decode())
+    counting.hold("a long fraction for programs", (status, errors) == (0, b"") and f'\n"{due}","0.0000' in said.decode())
 
 
 def check_streams(counting):
