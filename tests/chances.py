@@ -15,8 +15,10 @@ from collections import Counter
 from fractions import Fraction
 from itertools import product
 
-ROOT = os.path.dirname(os.path.dirname(os.path.realpath(__file__)))
-PTB = os.path.realpath(os.environ.get("PTB", f"{ROOT}/ptb"))
+sys.dont_write_bytecode = True
+sys.path.insert(0, f"{os.path.dirname(os.path.realpath(__file__))}/shared")
+from stage import PTB, ROOT, staged
+
 passed = failed = 0
 
 
@@ -139,18 +141,20 @@ def rows_shown(text, command):
     return [(title, whole(chance), int(runs.replace(",", "")), percent) for percent, chance, title, runs in rows]
 
 
+def listing_by(command):
+    """The bytes of a listing of runs by a command that a page prints."""
+    with staged() as folder:
+        return subprocess.run(["bash", "-c", command], cwd=folder, stdout=subprocess.PIPE, check=True).stdout
+
+
 def check_tables(page, least):
-    """Each table by endings or last lines that a page prints for an example has the chances that its runs have."""
+    """Each table by endings or last lines that a page prints has the chances that the listed runs have."""
     with open(f"{ROOT}/{page}", encoding="utf-8") as file:
         text = file.read()
-    commands = re.findall(
-        r"(\$ \./ptb --all (.*?)examples/(\w+)\.bas < (\S+) \| tools/outcomes --by (ending|last-line))$", text, re.M
-    )
+    commands = re.findall(r"^    (\$ (.*) \| tools/outcomes --by (ending|last-line))$", text, re.M)
     same(f"{page} has so many tables or more", len(commands) >= least, True)
-    for command, words, name, lines, kind in commands:
-        path = lines if lines.startswith("/") else f"{ROOT}/{lines}"
-        with open(path, "rb") as file:
-            runs = runs_in(listing(f"{ROOT}/examples/{name}.bas", *words.split(), lines=file.read()))
+    for command, listing_command, kind in commands:
+        runs = runs_in(listing_by(listing_command))
         due = added_up(runs, KEYS[kind])
         rows = rows_shown(text, command)
         same(f"{page}: {command}", {row[0].strip(): row[1:3] for row in rows}, {it.strip(): due[it] for it in due})
@@ -198,8 +202,9 @@ def check_by_hand():
 def main():
     program = check_page_of_the_tool()
     check_readme(program)
-    check_tables("README.md", 1)
-    check_tables("docs/TOOL.md", 1)
+    check_tables("README.md", 2)
+    check_tables("docs/TOOL.md", 2)
+    check_tables("examples/README.md", 1)
     check_tool("the example of the documents", listing_of_text(program + "\n"))
     for name in ["beast", "doors", "eight", "guess", "hanoi", "hello", "letters", "matches", "throw"]:
         check_tool(name, example(name))

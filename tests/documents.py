@@ -2,8 +2,9 @@
 """Runs each command that README.md and docs/ print behind a `$`, and compares what it shows with what is printed below it.
 
 A line that goes on begins with `>`. The commands of one block are run by one bash, in a folder of its own in which ptb, tools and
-examples stand as at the root; so they can leave files for one another. A command alone, with no `<` and no `|`, is one at a terminal:
-what is typed there stands behind the colons of what is shown.
+examples stand as at the root; so they can leave files and statuses for one another. A command alone, with no `<` and no `|`, is
+one at a terminal: what is typed there stands behind the colons of what is shown. A line that looks like a command and has no `$`
+is a failure.
 PTB names another program than the one that ./ptb builds.
 """
 
@@ -11,12 +12,17 @@ import os
 import re
 import subprocess
 import sys
-import tempfile
 
-ROOT = os.path.dirname(os.path.dirname(os.path.realpath(__file__)))
+sys.dont_write_bytecode = True
+sys.path.insert(0, f"{os.path.dirname(os.path.realpath(__file__))}/shared")
+from stage import ROOT, staged
+
+# Each of these pages has commands; one that loses them all is a failure.
 PAGES = ["README.md", "docs/TOOL.md", "docs/LANGUAGE.md", "examples/README.md"]
-# the pages that have commands with their output today; a page that loses them all is a failure
-HAVE_COMMANDS = {"README.md", "docs/TOOL.md", "examples/README.md"}
+WIDTH_OF_README = 100
+LOOKS_LIKE_COMMAND = re.compile(r"    (\./|rt |tests/|tools/|ptb-|cd |cat |diff |printf |echo |sed |tr |q=)")
+# What is tried elsewhere: the first in a copy of the repository, by tests/installing.sh; the second has this script as a part.
+TRIED_ELSEWHERE = {"./install ~/.local", "rt ci && tests/all.sh"}
 
 
 class Command:
@@ -28,12 +34,16 @@ class Command:
         self.shown = []
 
 
+def lines_of(page):
+    """The lines of a page, without their ends."""
+    with open(f"{ROOT}/{page}", encoding="utf-8") as file:
+        return file.read().split("\n")
+
+
 def blocks(page):
     """The blocks of a page that have commands: lists of commands, in order."""
     found, block = [], []
-    with open(f"{ROOT}/{page}", encoding="utf-8") as file:
-        lines = file.read().split("\n")
-    for number, line in enumerate([*lines, "."], 1):
+    for number, line in enumerate([*lines_of(page), "."], 1):
         if line.strip() and not line.startswith("    "):
             found += [block] if block else []
             block = []
@@ -47,48 +57,61 @@ def blocks(page):
 
 
 def typed(block):
-    """The lines that are typed where a block is one command at a terminal."""
+    """The lines that are typed where a block is one command at a terminal; behind other colons there is a blank."""
     if len(block) > 1 or re.search("[<|]", block[0].text):
         return ""
-    return "".join(f"{line.partition(':')[2]}\n" for line in block[0].shown if ":" in line)
+    return "".join(f"{line.partition(':')[2]}\n" for line in block[0].shown if re.search(r"^[^:]*:\S", line))
 
 
 def run(block, folder):
-    """What each command of a block shows, on both of its streams."""
+    """What each command of a block shows, on both of its streams; the next one finds its status in `$?`."""
     mark = "end of a command of the documents"
-    script = "".join(f"{{ {it.text}\n}} 2>&1\necho '{mark}'\n" for it in block)
+    script = "".join(f"{{ {it.text}\n}} 2>&1\n{{ status=$?; echo '{mark}'; (exit $status); }}\n" for it in block)
     lines = typed(block).encode()
     ran = subprocess.run(["bash", "-c", script], cwd=folder, input=lines, stdout=subprocess.PIPE, timeout=600)
     said = ran.stdout.decode("utf-8", "replace").split(f"{mark}\n")
     return said[: len(block)] + [""] * (len(block) - len(said))
 
 
-def stage(folder):
-    """Puts what the root has into the folder."""
-    for name in ["examples", "tools", "docs"]:
-        os.symlink(f"{ROOT}/{name}", f"{folder}/{name}")
-    os.symlink(os.path.realpath(os.environ.get("PTB", f"{ROOT}/ptb")), f"{folder}/ptb")
+def check_commands(page):
+    """Whether each command of a page shows what is printed below it, and what to say where it doesn't."""
+    for block in blocks(page):
+        with staged() as folder:
+            said = run(block, folder)
+        for command, text in zip(block, said):
+            due = re.sub(r"\n*\Z", "", "\n".join(command.shown))
+            yield re.sub(r"\n*\Z", "", text) == due, f"{command.place}: {command.text}\n{text}"
+
+
+def all_marked(page):
+    """Whether all commands of a page are marked as such, so that they are run here."""
+    lines = [line.strip() for line in lines_of(page) if LOOKS_LIKE_COMMAND.match(line)]
+    wrong = [line for line in lines if line not in TRIED_ELSEWHERE]
+    return not wrong, f"{page}: commands without a $: {wrong}"
+
+
+def short_lines():
+    """Whether the lines of README.md are short."""
+    wrong = [line for line in lines_of("README.md") if len(line) > WIDTH_OF_README]
+    return not wrong, f"README.md: lines of more than {WIDTH_OF_README} columns: {wrong}"
+
+
+def checks():
+    """All checks, each with what to say where it fails."""
+    for page in PAGES:
+        yield len(blocks(page)) > 0, f"{page} has no command with its output"
+        yield from check_commands(page)
+        yield all_marked(page)
+    yield short_lines()
 
 
 def main():
     passed = failed = 0
-    for page in PAGES:
-        commands = 0
-        for block in blocks(page):
-            with tempfile.TemporaryDirectory() as folder:
-                stage(folder)
-                said = run(block, folder)
-            for command, text in zip(block, said):
-                commands += 1
-                due = re.sub(r"\n*\Z", "", "\n".join(command.shown))
-                if re.sub(r"\n*\Z", "", text) == due:
-                    passed += 1
-                else:
-                    failed += 1
-                    print(f"failed: {command.place}: {command.text}\n{text}")
-        if page in HAVE_COMMANDS and not commands:
-            failed += 1
-            print(f"failed: {page} has no command with its output")
+    for holds, words in checks():
+        passed += holds
+        failed += not holds
+        if not holds:
+            print(f"failed: {words}")
     print(f"{passed} passed, {failed} failed")
     return 1 if failed else 0
 

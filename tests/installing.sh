@@ -33,9 +33,12 @@ short=$(sed -n 's/^ \{2,\}-\([a-zA-Z]\)\(, .*\)\{0,1\}$/\1/p' "$folder/help" | i
 count_if '--help has the options that were there first' \
     [ "$(printf '%s\n' steps memory answers all after first list help | grep -cxF -f <(tr ' ' '\n' <<<"$long"))" = 8 ]
 
-# The options of two dashes in a text, and those of one dash and a letter that stand alone in it.
+# The options of two dashes in a text, those in a man page, and those of one dash and a letter that stand alone in a text.
 long_in() {
     grep -oE -- '--[a-z][a-z-]*' | sed 's/^--//' | in_one_line
+}
+long_in_page() {
+    sed 's/\\-/-/g; s/\\f[A-Z]/ /g' "$root/docs/$1.1" | long_in
 }
 short_in() {
     grep -oE -- "(^|[^a-zA-Z-])-[a-zA-Z]($|[^a-zA-Z-])" | grep -oE '[a-zA-Z]' | in_one_line
@@ -59,7 +62,12 @@ count_same 'short options in the fish completions' \
 man_words=$(sed -n '/^\.SH OPTIONS/,/^\.PP/p' "$root/docs/ptb.1" | grep -A1 '^\.TP' | grep '^\.B' | sed 's/\\-/-/g; s/[",]/ /g')
 count_same 'options in the man page' "$(long_in <<<"$man_words")" "$long"
 count_same 'short options in the man page' "$(short_in <<<"$man_words")" "$short"
-count_same 'options that the man page names at all' "$(sed 's/\\-/-/g; s/\\f[A-Z]/ /g' "$root/docs/ptb.1" | long_in)" "$long"
+count_same 'options that the man page names at all' "$(long_in_page ptb)" "$long"
+
+# the pages of the tools have the options of their help; --all and --choose are those of ptb
+count_same 'options that the man page of outcomes names' "$(long_in_page ptb-outcomes)" \
+    "$({ echo --all --choose; "$root/tools/outcomes" --help; } | long_in)"
+count_same 'options that the man page of resume names' "$(long_in_page ptb-resume)" "$("$root/tools/resume" --help | long_in)"
 
 # ---- bash is asked
 
@@ -108,10 +116,10 @@ fi
 make_copy() {
     local crate
     rm -rf "$folder/copy"
-    mkdir -p "$folder/copy/docs" "$folder/copy/crates/ptb/out"
+    mkdir -p "$folder/copy/crates/ptb/out"
     while read -r crate; do mkdir -p "$folder/copy/crates/$crate/src"; done < <(sed -n 's/^\([a-z_]*\):.*/\1/p' "$root/crates.txt")
-    cp -R "$root/ptb" "$root/crates.txt" "$root/install" "$root/LICENSE" "$root/completions" "$folder/copy/"
-    cp "$root/docs/ptb.1" "$folder/copy/docs/"
+    cp -R "$root/ptb" "$root/crates.txt" "$root/install" "$root/LICENSE" "$root/completions" "$root/docs" "$root/tools" \
+        "$folder/copy/"
     case $ptb in
     "$root/ptb") cp "$root/crates/ptb/out/ptb" "$folder/copy/crates/ptb/out/ptb" ;;
     *) cp "$ptb" "$folder/copy/crates/ptb/out/ptb" ;;
@@ -137,20 +145,30 @@ count_same 'install' "$status $(cat "$folder/errors")" '0 '
 count_same 'install says each file, and that PATH lacks the program' "$(sort "$folder/output")" \
     "$(echo "The shell finds ptb once $place/bin is in PATH."; files_below "$place" | sed 's/^/installed /')"
 count_same 'it puts these files there' "$(cd "$place" && files_below .)" "./bin/ptb
+./bin/ptb-outcomes
+./bin/ptb-resume
 ./share/bash-completion/completions/ptb
 ./share/doc/ptb/LICENSE
 ./share/fish/vendor_completions.d/ptb.fish
+./share/man/man1/ptb-outcomes.1
+./share/man/man1/ptb-resume.1
 ./share/man/man1/ptb.1
 ./share/zsh/site-functions/_ptb"
 count_if 'the program' cmp "$folder/copy/crates/ptb/out/ptb" "$place/bin/ptb"
-count_if 'the man page' cmp "$root/docs/ptb.1" "$place/share/man/man1/ptb.1"
+for tool in outcomes resume; do count_if "the tool $tool" cmp "$root/tools/$tool" "$place/bin/ptb-$tool"; done
+for page in ptb ptb-outcomes ptb-resume; do
+    count_if "the man page of $page" cmp "$root/docs/$page.1" "$place/share/man/man1/$page.1"
+done
 count_if 'the completions for bash' cmp "$root/completions/ptb.bash" "$place/share/bash-completion/completions/ptb"
 count_if 'the completions for zsh' cmp "$root/completions/_ptb" "$place/share/zsh/site-functions/_ptb"
 count_if 'the completions for fish' cmp "$root/completions/ptb.fish" "$place/share/fish/vendor_completions.d/ptb.fish"
 count_if 'the licence' cmp "$root/LICENSE" "$place/share/doc/ptb/LICENSE"
-count_same 'who may do what' "$(cd "$place" && find . -type f -exec stat -c '%a' {} + | sort | uniq -c | tr -s ' \n' ' ')" ' 5 644 1 755 '
+count_same 'who may do what' "$(cd "$place" && find . -type f -exec stat -c '%a' {} + | sort | uniq -c | tr -s ' \n' ' ')" ' 7 644 3 755 '
 if command -v man >/dev/null && man -w ls >/dev/null 2>&1; then
-    count_same 'man finds the page' "$(MANPATH=$place/share/man man -w ptb)" "$place/share/man/man1/ptb.1"
+    for page in ptb ptb-outcomes ptb-resume; do
+        count_same "man finds the page of $page" "$(MANPATH=$place/share/man man -w $page)" "$place/share/man/man1/$page.1"
+        count_same "and has nothing to say against $page" "$(man --warnings -l -E UTF-8 "$place/share/man/man1/$page.1" 2>&1 >/dev/null)" ''
+    done
 fi
 installed "$place"
 count_same 'install once more' "$status $(cat "$folder/errors")" '0 '
@@ -161,12 +179,29 @@ count_same 'nothing to say of PATH' "$status $(grep -c PATH "$folder/output")" '
 DESTDIR=$folder/stage installed /usr/local
 count_same 'install below DESTDIR' "$status $(cat "$folder/errors")" '0 '
 count_same 'all of it is there, and no word on PATH' "$(sort "$folder/output")" "$(files_below "$folder/stage/usr/local" | sed 's/^/installed /')"
-count_same 'and nothing else' "$(files_below "$folder/stage" | wc -l)" 6
+count_same 'and nothing else' "$(files_below "$folder/stage" | wc -l)" 10
 
 # without the repository
 rm -rf "$folder/copy"
 count_same 'what is installed runs without the repository' "$(cd / && env -i "$place/bin/ptb" <"$root/examples/hello.bas")" HI
 count_same 'and helps' "$(cd / && env -i "$place/bin/ptb" --help)" "$(cat "$folder/help")"
+printf '10 PRINT RND(2)\n' >"$folder/coin.bas"
+(cd / && env -i "$place/bin/ptb" --all "$folder/coin.bas") </dev/null >"$folder/runs"
+count_same 'the outcomes are told without it' "$(cd / && env -i "PATH=$PATH" "$place/bin/ptb-outcomes" --by ending <"$folder/runs")" \
+    '2 runs, 1 ending
+100.00 %  1  ##############################  END, 2 runs
+
+Answers count as equally likely, also those that --choose gives in place of lines.'
+head -c 40 "$folder/runs" >"$folder/killed"
+count_same 'a listing that was killed is gone on with' \
+    "$(PATH=$place/bin:$PATH ptb-resume "$folder/killed" -- ptb --all "$folder/coin.bas" </dev/null 2>&1; echo $?)" 0
+count_if 'and is whole' cmp "$folder/runs" "$folder/killed"
+for tool in outcomes resume; do
+    "$place/bin/ptb-$tool" --help >"$folder/output"
+    count_if "ptb-$tool helps by its name" grep -q "ptb-$tool" "$folder/output"
+    "$place/bin/ptb-$tool" --unknown </dev/null >"$folder/output" 2>"$folder/errors"
+    count_same "ptb-$tool refuses words" "$? $(grep -c "ptb-$tool" "$folder/errors")" '64 1'
+done
 count_same 'what bash would load is installed' "$(bash -c '. "$1" && complete -p ptb | grep -o "_ptb ptb"' bash \
     "$place/share/bash-completion/completions/ptb")" '_ptb ptb'
 

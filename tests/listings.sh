@@ -15,7 +15,7 @@ trap 'rm -rf "$folder"' EXIT
 
 chapter=$folder/chapter
 sed -n '/^## If your listing has/,$p' "$root/docs/LANGUAGE.md" >"$chapter"
-before_all=$(sed -n "s/^    \\(q=.*\\)/\\1/p" "$chapter")
+before_all=$(sed -n 's/^    \$ \(q=.*\)/\1/p' "$chapter")
 grep '^| ' "$chapter" | grep -v '^| Your listing has' >"$folder/rows"
 : >"$folder/tried"
 mkdir "$folder/found" "$folder/made"
@@ -1357,7 +1357,7 @@ END
 printf '10 print "hi"\n\032\032' >"$folder/old.bas"
 (
     cd "$folder" || exit
-    sh -c "$(grep '^    tr .*old\.bas' "$chapter")"
+    sh -c "$(sed -n 's/^    \$ \(tr .*old\.bas.*\)/\1/p' "$chapter")"
 )
 printf '10 PRINT "HI"\n' >"$folder/due"
 count_if 'two lines joined' cmp "$folder/new.bas" "$folder/due"

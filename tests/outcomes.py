@@ -38,7 +38,10 @@ DICE_TABLE = b"""4 runs, 4 outcomes
 
  16.67 %  1/6  ##########                      END, 1 run
     |      3
+
+Answers count as equally likely, also those that --choose gives in place of lines.
 """
+EVEN_ANSWERS = DICE_TABLE[DICE_TABLE.index(b"\nAnswers") :]
 HEAD = ["chance", "percent", "runs", "ending", "last line", "first run", "transcript"]
 # two runs that show the same, one of which stops; a fault; and a run without a line
 MIXED = (
@@ -138,15 +141,15 @@ def check_hand_written(counting):
         b" 25.00 %  1/4  ###############                 STOP, 1 run\n"
         b" 25.00 %  1/4  ###############                 HOW, 1 run\n"
     )
-    counting.same("by ending", tool(MIXED, "--by", "ending"), (0, by_ending, b""))
+    counting.same("by ending", tool(MIXED, "--by", "ending"), (0, by_ending + EVEN_ANSWERS, b""))
     by_line = (
         b"5 runs, 3 last lines\n"
         b" 62.50 %  5/8  ##############################  HI, 3 runs\n"
         b" 25.00 %  1/4  ############                    10 P.1/?0, 1 run\n"
         b" 12.50 %  1/8  ######                          (nothing is shown), 1 run\n"
     )
-    counting.same("by the last line", tool(MIXED, "--by", "last-line"), (0, by_line, b""))
-    top = by_line.splitlines(True)[:2] + [b"\nand 2 more\n"]
+    counting.same("by the last line", tool(MIXED, "--by", "last-line"), (0, by_line + EVEN_ANSWERS, b""))
+    top = by_line.splitlines(True)[:2] + [b"\nand 2 more\n", EVEN_ANSWERS]
     counting.same("the likeliest", tool(MIXED, "--by=last-line", "--top", "1"), (0, b"".join(top), b""))
     part = tool(MIXED[: MIXED.index(b"RUN 3/4")], "--by", "ending")[1]
     due = b"2 runs, 2 endings; a part of the tree: the chances add up to 1/2\n"
@@ -157,12 +160,14 @@ def check_hand_written(counting):
         b">99.99 %  32766/32767  ##############################  END, 32,766 runs\n"
         b" <0.01 %      1/32767  #                               STOP, 1 run\n"
     )
-    counting.same("chances that are nearly 1 and 0", tool(rare, "--by", "ending"), (0, by_ending, b""))
+    counting.same("chances that are nearly 1 and 0", tool(rare, "--by", "ending"), (0, by_ending + EVEN_ANSWERS, b""))
+    moved = b"1 run, 1 outcome\n\n100.00 %  1  " + b"#" * 30 + b"  END, 1 run\n    | A\\rB\n"
+    counting.same("byte 13 is spelled out", tool(b"RUN none END 1 4\nA\rB\n\n"), (0, moved, b""))
     twice = tool(b"RUN none END 1 0\n\n" * 2)[1].splitlines()[0]
     counting.same("the same run twice", twice, b"2 runs, 1 outcome; no tree has these runs: the chances add up to 2")
 
 
-TABLES = ["doors", "hanoi", "hello", "letters", "matches"]
+TABLES = ["doors", "eight", "hanoi", "hello", "letters", "matches", "throw"]
 
 
 def check_examples(counting):
@@ -186,6 +191,7 @@ def check_counted(counting):
         "long transcripts": listing(b"10 FOR I=1 TO 9000;P.RND(1);N.I;P.RND(2)\n", "--steps", "99999"),
         "many products": listing(b"10 FOR I=1 TO 80;IF RND(I+1)=1 STOP\n20 NEXT I;PRINT I\n", "--first", "500"),
         "limits and faults": listing(b"10 A=RND(4);GOTO A*10\n20 GOTO 20\n30 P.A/0\n40 P.@(A*9999)\n", "--steps", "9"),
+        "byte 13": listing(b'10 PRINT "A",_,RND(3),_,\n'),
         "by hand": MIXED,
     }
     for name, text in listings.items():
@@ -328,7 +334,7 @@ def check_long(counting):
     status, said, errors = tool(text)
     counting.hold("a long fraction", (status, errors) == (0, b"") and f"  {due}  " in said.decode(), errors)
     status, said, errors = tool(text, "--csv")
-    counting.hold("a long fraction for programs", (status, errors) == (0, b"") and f"\n{due},0.0000" in said.decode())
+    counting.hold("a long fraction for programs", (status, errors) == (0, b"") and f'\n"{due}","0.0000' in said.decode())
 
 
 def check_streams(counting):
@@ -400,17 +406,21 @@ def check_progress(counting):
     words = [TOOL, "--by", "ending"]
     with subprocess.Popen(words, stdin=subprocess.PIPE, stdout=subprocess.PIPE, stderr=slave) as told:
         os.close(slave)
-        for k in range(1, 5):
-            told.stdin.write(b"RUN %d/4 END 1 0\n\n" % k)
+        for k in range(1, 9):
+            told.stdin.write(b"RUN %d/8 END 1 0\n\n" % k)
             told.stdin.flush()
-            time.sleep(0.7)
+            time.sleep(0.6)
         table, _ = told.communicate()
         said = os.read(master, 1 << 16)
     os.close(master)
-    lines = re.findall(rb"\r\x1b\[K *([0-9.]+)% done, ([0-9,]+) runs, [0-9]+ s, [0-9]+ s left", said)
-    counting.same("progress", lines, [(b"50.00", b"2"), (b"75.00", b"3"), (b"100.00", b"4")])
+    lines = re.findall(rb"\r\x1b\[K *([0-9.]+)% done, ([0-9,]+) runs?, [0-9]+ s, [0-9]+ s left", said)
+    counts = [int(runs) for _, runs in lines]
+    # a busy machine may begin late, and tell less often
+    counting.hold("progress is told", len(lines) >= 3 and counts == sorted(set(counts)), said)
+    counting.same("progress", lines, [(b"%.2f" % (12.5 * count), b"%d" % count) for count in counts])
+    counting.same("no other words while reports come", said.count(b"\r\x1b[K"), len(lines) + 1)
     counting.hold("and its end", said.endswith(b"\r\033[K"), said)
-    counting.hold("and its table", table.startswith(b"4 runs, 1 ending\n"), table)
+    counting.hold("and its table", table.startswith(b"8 runs, 1 ending\n"), table)
     silent = subprocess.run(words, input=MIXED, capture_output=True, check=False)
     counting.same("no progress without a terminal", silent.stderr, b"")
 

@@ -1,23 +1,37 @@
 #!/usr/bin/env python3
 """Plays programs at a terminal of its own, and compares what the screen then shows with the transcripts.
 
-PTB names another program to start than ./ptb. The last line is 'N passed, M failed'.
+PTB names another program than the one that ./ptb builds. The last line is 'N passed, M failed'.
 """
 
 import os
 import pty
+import re
 import select
+import shutil
 import signal
 import struct
 import sys
+import tempfile
 import termios
 import time
 from fcntl import ioctl
 from pathlib import Path
 
 ROOT = Path(__file__).resolve().parent.parent
-START = os.environ.get("PTB", str(ROOT / "ptb"))
 PATIENCE = 10.0
+
+
+def start_script(folder):
+    """The start script; where PTB names a program, a copy in this folder that starts this one."""
+    if "PTB" not in os.environ:
+        return str(ROOT / "ptb")
+    for crate in re.findall("^([a-z_]+):", (ROOT / "crates.txt").read_text(), re.M):
+        (folder / "crates" / crate / "out").mkdir(parents=True)
+    for name in ("ptb", "crates.txt"):
+        shutil.copy(ROOT / name, folder)
+    shutil.copy(os.environ["PTB"], folder / "crates/ptb/out/ptb")
+    return str(folder / "ptb")
 
 
 class Screen:
@@ -163,9 +177,9 @@ def shown(transcript, columns=80):
     return screen.text()
 
 
-def play(words, lines, transcript, **size):
+def play(start, words, lines, transcript, **size):
     """Types each line when its question is on the screen, with slips that are taken back; answers the screen and the status."""
-    session = Session([START, *words], **size)
+    session = Session([start, *words], **size)
     due = shown(transcript, size.get("columns", 80))
     asked = 0
     for line in lines:
@@ -180,22 +194,22 @@ def play(words, lines, transcript, **size):
     return session.screen.text(), status
 
 
-def check_examples(checks):
+def check_examples(checks, start):
     for name, answers in (("guess", "63"), ("calendar", "none")):
         example = ROOT / "examples" / name
         lines = example.with_suffix(".input").read_text().splitlines()
         transcript = example.with_suffix(".transcript").read_text()
         words = ["--answers", answers, str(example.with_suffix(".bas"))]
         for size in ({}, {"rows": 8}, {"rows": 30, "columns": 20}):
-            screen, status = play(words, lines, transcript, **size)
+            screen, status = play(start, words, lines, transcript, **size)
             due = shown(transcript, size.get("columns", 80))
             checks.same(f"{name} at a terminal {size}", (screen, status), (due, 0))
 
 
-def check_keys(checks):
+def check_keys(checks, start):
     """A key that ends the input, and one that ends the program: the terminal is then as it was."""
     for key, status in (("\x04", 5), ("\x03", 130)):
-        session = Session([START, "--answers", "63", str(ROOT / "examples" / "guess.bas")])
+        session = Session([start, "--answers", "63", str(ROOT / "examples" / "guess.bas")])
         session.wait_until(lambda text: text.endswith(":"))
         session.type("5" + key if status == 130 else key)
         checks.same(f"the status after {key!r}", session.end(), status)
@@ -204,8 +218,10 @@ def check_keys(checks):
 
 def main():
     checks = Checks()
-    check_examples(checks)
-    check_keys(checks)
+    with tempfile.TemporaryDirectory() as folder:
+        start = start_script(Path(folder))
+        check_examples(checks, start)
+        check_keys(checks, start)
     print(f"{checks.passed} passed, {checks.failed} failed")
     return 1 if checks.failed else 0
 

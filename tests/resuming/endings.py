@@ -5,7 +5,7 @@ import subprocess
 
 from trials import DICE, LISTING, PROGRAM, Case, read, write
 
-USAGE = "usage: tools/resume FILE -- ptb --all [WORD..]\n"
+USAGE = "usage: resume FILE -- ptb --all [WORD..]\n"
 
 
 def check(trials):
@@ -41,7 +41,7 @@ def words(trials):
     given = [LISTING, "--", ptb, "--all", PROGRAM, "--after"]
     says(trials, "--after without a value", given, 64, f"{line}--after needs another value than ''\n")
     done = subprocess.run([trials.tool, "--help"], capture_output=True)
-    helps = b"tools/resume FILE -- ptb --all" in done.stdout
+    helps = b"resume FILE -- ptb --all" in done.stdout
     trials.count("--help", helps and (done.returncode, done.stderr) == (0, b""), done)
 
 
