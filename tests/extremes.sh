@@ -1,7 +1,7 @@
 #!/bin/bash
-# Runs the built program at the ends of its ranges, each time under a stack of 256 KiB: the deepest parentheses and loops,
-# the longest numbers, texts, inputs and lists of answers, and the most steps. Two of the runs begin 1,000,000,000 commands,
-# so it takes as long as these do.
+# Runs the built program at the ends of its ranges, each time under a stack of 256 KiB beside its words: the deepest
+# parentheses and loops, the longest numbers, texts, inputs and lists of answers, and the most steps. Two of the runs begin
+# 1,000,000,000 commands, so it takes as long as these do.
 # PTB names another program than the one that ./ptb builds.
 set -u
 root=$(dirname "$(dirname "$(readlink -f "$0")")")

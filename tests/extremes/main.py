@@ -1,5 +1,6 @@
 """This file runs the program at the ends of its ranges, under a small stack, and compares its replies with those that are due."""
 
+import functools
 import multiprocessing
 import os
 import resource
@@ -18,13 +19,16 @@ SHOWN = 120
 CASES = cases()
 
 
-def limit_stack():
-    resource.setrlimit(resource.RLIMIT_STACK, (STACK, STACK))
+def stack_beside(words):
+    """The small stack, and as much more as the words take of it, which the system puts there."""
+    return STACK + sum(len(os.fsencode(word)) + 1 for word in words)
 
 
 def replied_in_small_stack(words, stdin):
     """Runs these words under the small stack, with this file as standard input."""
-    how = {"env": VARIABLES, "preexec_fn": limit_stack, "capture_output": True}
+    size = stack_beside(words)
+    limit = functools.partial(resource.setrlimit, resource.RLIMIT_STACK, (size, size))
+    how = {"env": VARIABLES, "preexec_fn": limit, "capture_output": True}
     try:
         return replied(words, SECONDS_OF_A_RUN, stdin=stdin, **how)
     except OSError as error:

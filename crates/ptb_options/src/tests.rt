@@ -21,8 +21,40 @@ fn asked(alloc: Global, words: &[&str]) -> Result<Result<Request, UsageFault>, c
     Ok(decide(alloc, &matches))
 }
 
+// The request of the words, where they ask for one.
+fn requested(alloc: Global, words: &[&str]) -> Option<Request> {
+    match asked(alloc, words) {
+        Ok(Ok(request)) => Some(request),
+        _ => None,
+    }
+}
+
+// What is said against the words, where clap takes them.
+fn refused(alloc: Global, words: &[&str]) -> Option<UsageFault> {
+    match asked(alloc, words) {
+        Ok(Err(fault)) => Some(fault),
+        _ => None,
+    }
+}
+
+// What clap says against the words.
+fn refused_by_clap(alloc: Global, words: &[&str]) -> Option<ErrorKind> {
+    match asked(alloc, words) {
+        Err(error) => Some(error.kind()),
+        Ok(_) => None,
+    }
+}
+
+// Whether the line of a fault is this one.
+fn has_line(alloc: Global, fault: UsageFault, line: &str) -> bool {
+    match fault.to_string(alloc) {
+        Ok(text) => text.as_str() == line,
+        Err(_) => false,
+    }
+}
+
 #[test]
-fn options_that_clash(rt: HostRuntime) -> Result<(), Fail> {
+fn options_that_clash(rt: HostRuntime) {
     let table: [(&[&str], UsageFault, &str); 24] = [
         (
             &["--list", "--choose", "2"],
@@ -146,85 +178,110 @@ fn options_that_clash(rt: HostRuntime) -> Result<(), Fail> {
         ),
     ];
     for (words, fault, line) in table {
-        let found = asked(rt.alloc(), words)?.err();
-        assert_eq!(rt; found, Some(fault), "{words:?}");
-        assert_eq!(rt; fault.to_string(rt.alloc())?.as_str(), line);
+        assert_eq!(rt; refused(rt.alloc(), words), Some(fault), "{words:?}");
+        assert!(rt; has_line(rt.alloc(), fault, line), "{line}");
         assert_eq!(rt; fault.status(), 64);
     }
+}
+
+#[test]
+fn words_without_memory(rt: HostRuntime) {
     let memory = UsageFault::Memory;
-    assert_eq!(rt;
-        memory.to_string(rt.alloc())?.as_str(),
-        "ptb: out of memory"
-    );
+    assert!(rt; has_line(rt.alloc(), memory, "ptb: out of memory"));
     assert_eq!(rt; memory.status(), 71);
+}
+
+// No lists of answers, with bounds or without.
+const NO_LISTS: [&str; 31] = [
+    "",
+    "01",
+    "1,,2",
+    "0",
+    "32768",
+    "1, 2",
+    "None",
+    ",",
+    "1,",
+    ",1",
+    "+1",
+    "-1",
+    "1,x",
+    "none,1",
+    "1,none",
+    " 1",
+    "1 ",
+    "99999999999999999999",
+    "NONE",
+    "1;2",
+    "0x1",
+    "1/",
+    "/2",
+    "1/0",
+    "1/02",
+    "1/32768",
+    "0/2",
+    "1/2/3",
+    "1/ 2",
+    "2/2,1/",
+    "none/1",
+];
+
+// What is said against --answers with this text.
+fn answers_refused(alloc: Global, text: &str) -> Result<Option<UsageFault>, Fail> {
+    let word = format!(in alloc; "--answers={text}")?;
+    Ok(refused(alloc, &[word.as_str()]))
+}
+
+// What is said against --all --after with this text.
+fn after_refused(alloc: Global, text: &str) -> Result<Option<UsageFault>, Fail> {
+    let word = format!(in alloc; "--after={text}")?;
+    Ok(refused(alloc, &["--all", word.as_str()]))
+}
+
+#[test]
+fn lists_that_are_none(rt: HostRuntime) {
+    for text in NO_LISTS {
+        let answers = parse_answers(rt.alloc(), text).err();
+        assert_eq!(rt; answers, Some(ListFault::Bad), "{text:?}");
+        let list = parse_list(rt.alloc(), text).err();
+        assert_eq!(rt; list, Some(ListFault::Bad), "{text:?}");
+    }
+}
+
+#[test]
+fn options_with_no_list(rt: HostRuntime) -> Result<(), Fail> {
+    for text in NO_LISTS {
+        let answers = answers_refused(rt.alloc(), text)?;
+        assert_eq!(rt; answers, Some(UsageFault::BadList), "{text:?}");
+        let after = after_refused(rt.alloc(), text)?;
+        assert_eq!(rt; after, Some(UsageFault::BadList), "{text:?}");
+    }
     Ok(())
 }
 
 #[test]
-fn lists_that_are_none(rt: HostRuntime) -> Result<(), Fail> {
-    let texts = [
-        "",
-        "01",
-        "1,,2",
-        "0",
-        "32768",
-        "1, 2",
-        "None",
-        ",",
-        "1,",
-        ",1",
-        "+1",
-        "-1",
-        "1,x",
-        "none,1",
-        "1,none",
-        " 1",
-        "1 ",
-        "99999999999999999999",
-        "NONE",
-        "1;2",
-        "0x1",
-        "1/",
-        "/2",
-        "1/0",
-        "1/02",
-        "1/32768",
-        "0/2",
-        "1/2/3",
-        "1/ 2",
-        "2/2,1/",
-        "none/1",
-    ];
-    for text in texts {
-        let word = format!(in rt.alloc(); "--answers={text}")?;
-        let found = asked(rt.alloc(), &[word.as_str()])?.err();
-        assert_eq!(rt; found, Some(UsageFault::BadList), "{text:?}");
-        assert_eq!(rt;
-            parse_answers(rt.alloc(), text).err(),
-            Some(ListFault::Bad),
-            "{text:?}"
-        );
-        let word = format!(in rt.alloc(); "--after={text}")?;
-        let found = asked(rt.alloc(), &["--all", word.as_str()])?.err();
-        assert_eq!(rt; found, Some(UsageFault::BadList), "{text:?}");
-        assert_eq!(rt;
-            parse_list(rt.alloc(), text).err(),
-            Some(ListFault::Bad),
-            "{text:?}"
-        );
-    }
+fn answers_with_bounds(rt: HostRuntime) -> Result<(), Fail> {
     for text in ["1/1", "2,1/3", "2/2,1/3"] {
-        let word = format!(in rt.alloc(); "--answers={text}")?;
-        let found = asked(rt.alloc(), &[word.as_str()])?.err();
+        let found = answers_refused(rt.alloc(), text)?;
         assert_eq!(rt; found, Some(UsageFault::BadList), "{text:?}");
     }
-    let empty = asked(rt.alloc(), &["--answers", ""])?.err();
-    assert_eq!(rt; empty, Some(UsageFault::BadList));
-    assert_eq!(rt; ListFault::Bad.to_string(rt.alloc())?.as_str(), "bad list");
-    assert_eq!(rt;
-        ListFault::Memory.to_string(rt.alloc())?.as_str(),
-        "out of memory"
-    );
+    Ok(())
+}
+
+#[test]
+fn an_empty_word(rt: HostRuntime) {
+    let found = refused(rt.alloc(), &["--answers", ""]);
+    assert_eq!(rt; found, Some(UsageFault::BadList));
+}
+
+#[test]
+fn texts_of_list_faults(rt: HostRuntime) -> Result<(), Fail> {
+    for (fault, text) in [
+        (ListFault::Bad, "bad list"),
+        (ListFault::Memory, "out of memory"),
+    ] {
+        assert_eq!(rt; fault.to_string(rt.alloc())?.as_str(), text);
+    }
     Ok(())
 }
 
@@ -241,6 +298,11 @@ fn lists_of_answers(rt: HostRuntime) -> Result<(), Fail> {
         assert_eq!(rt; list.as_slice(), want, "{text}");
         assert_eq!(rt; list.into_vec().as_slice(), want, "{text}");
     }
+    Ok(())
+}
+
+#[test]
+fn made_answers(rt: HostRuntime) -> Result<(), Fail> {
     let made = Answers::from(Vec::from_slice(rt.alloc(), &[7, -7])?);
     assert_eq!(rt; made.as_slice(), [7, -7].as_slice());
     Ok(())
@@ -268,14 +330,62 @@ fn lists_with_bounds(rt: HostRuntime) -> Result<(), Fail> {
         assert_eq!(rt; list.as_slice(), want, "{text}");
         assert_eq!(rt; list.into_vec().as_slice(), want, "{text}");
     }
+    Ok(())
+}
+
+#[test]
+fn made_answers_with_bounds(rt: HostRuntime) -> Result<(), Fail> {
     let want = [marked(7, Some(-7))];
     let made = MarkedAnswers::from(Vec::from_slice(rt.alloc(), &want)?);
     assert_eq!(rt; made.as_slice(), want.as_slice());
     Ok(())
 }
 
+// The limit, the memory and the answers of a request for a plain run.
+fn plain_run(alloc: Global, words: &[&str]) -> Option<(u32, u16, Answers)> {
+    let request = requested(alloc, words)?;
+    let (limit, memory) = (request.rules.limit, request.memory);
+    match request.mode {
+        Mode::Plain(answers) => Some((limit, memory, answers)),
+        _ => None,
+    }
+}
+
+// The limit, the memory and the seed of a request for a run by a seed.
+fn seeded_run(alloc: Global, words: &[&str]) -> Option<(u32, u16, u64)> {
+    let request = requested(alloc, words)?;
+    let (limit, memory) = (request.rules.limit, request.memory);
+    match request.mode {
+        Mode::Seeded(seed) => Some((limit, memory, seed)),
+        _ => None,
+    }
+}
+
+// The limit and the bound of a request.
+fn rules_of(alloc: Global, words: &[&str]) -> Option<(u32, Option<i16>)> {
+    let rules = requested(alloc, words)?.rules;
+    Some((rules.limit, rules.choose))
+}
+
+// What a request for a listing of runs asks for.
+fn listing(alloc: Global, words: &[&str]) -> Option<(Option<MarkedAnswers>, Option<u64>, Form)> {
+    match requested(alloc, words)?.mode {
+        Mode::All { after, first, form } => Some((after, first, form)),
+        _ => None,
+    }
+}
+
+// Whether a list is there with these items, or is missing as it should.
+fn is_list(found: &Option<MarkedAnswers>, want: Option<&[Marked]>) -> bool {
+    match (found, want) {
+        (Some(found), Some(want)) => found.as_slice() == want,
+        (None, None) => true,
+        _ => false,
+    }
+}
+
 #[test]
-fn plain_requests(rt: HostRuntime) -> Result<(), Fail> {
+fn plain_requests(rt: HostRuntime) {
     let table: [(&[&str], u32, u16, &[i16]); 4] = [
         (&[], 10000, 4096, &[]),
         (&["game.bas", "--answers", "none"], 10000, 4096, &[]),
@@ -288,23 +398,17 @@ fn plain_requests(rt: HostRuntime) -> Result<(), Fail> {
         ),
     ];
     for (words, steps, memory, want) in table {
-        let request = asked(rt.alloc(), words)??;
-        assert_eq!(rt;
-            (request.rules.limit, request.memory),
-            (steps, memory),
-            "{words:?}"
-        );
-        let Mode::Plain(answers) = request.mode else {
+        let Some((limit, size, answers)) = plain_run(rt.alloc(), words) else {
             panic!(rt; "{words:?} is no plain run");
         };
+        assert_eq!(rt; (limit, size), (steps, memory), "{words:?}");
         assert_eq!(rt; answers.as_slice(), want, "{words:?}");
     }
-    Ok(())
 }
 
 // With --choose INPUT asks for answers, in one run as in all.
 #[test]
-fn bounds_for_missing_lines(rt: HostRuntime) -> Result<(), Fail> {
+fn bounds_for_missing_lines(rt: HostRuntime) {
     let table: [(&[&str], u32, Option<i16>); 5] = [
         (&[], 10000, None),
         (&["--choose", "1"], 10000, Some(1)),
@@ -313,14 +417,16 @@ fn bounds_for_missing_lines(rt: HostRuntime) -> Result<(), Fail> {
         (&["--choose", "2", "--answers", "2"], 10000, Some(2)),
     ];
     for (words, limit, choose) in table {
-        let rules = asked(rt.alloc(), words)??.rules;
-        assert_eq!(rt; (rules.limit, rules.choose), (limit, choose), "{words:?}");
+        assert_eq!(rt;
+            rules_of(rt.alloc(), words),
+            Some((limit, choose)),
+            "{words:?}"
+        );
     }
-    Ok(())
 }
 
 #[test]
-fn seeded_requests(rt: HostRuntime) -> Result<(), Fail> {
+fn seeded_requests(rt: HostRuntime) {
     let table: [(&[&str], u32, u64); 4] = [
         (&["--seed", "0"], 10000, 0),
         (&["--seed=65543", "game.bas"], 10000, 65543),
@@ -328,22 +434,13 @@ fn seeded_requests(rt: HostRuntime) -> Result<(), Fail> {
         (&["--seed", "007"], 10000, 7),
     ];
     for (words, steps, want) in table {
-        let request = asked(rt.alloc(), words)??;
-        assert_eq!(rt;
-            (request.rules.limit, request.memory),
-            (steps, 4096),
-            "{words:?}"
-        );
-        let Mode::Seeded(seed) = request.mode else {
-            panic!(rt; "{words:?} is no run by a seed");
-        };
-        assert_eq!(rt; seed, want, "{words:?}");
+        let found = seeded_run(rt.alloc(), words);
+        assert_eq!(rt; found, Some((steps, 4096, want)), "{words:?}");
     }
-    Ok(())
 }
 
 #[test]
-fn requests_for_all_runs(rt: HostRuntime) -> Result<(), Fail> {
+fn requests_for_all_runs(rt: HostRuntime) {
     let table: [(&[&str], Option<&[Marked]>, Option<u64>, Form); 6] = [
         (&["--all"], None, None, Form::Two),
         (&["--all", "--after", "none"], Some(&[]), None, Form::Two),
@@ -363,25 +460,22 @@ fn requests_for_all_runs(rt: HostRuntime) -> Result<(), Fail> {
         (&["--form=2", "--all"], None, None, Form::Two),
     ];
     for (words, want, most, due) in table {
-        let request = asked(rt.alloc(), words)??;
-        let Mode::All { after, first, form } = request.mode else {
+        let Some((after, first, form)) = listing(rt.alloc(), words) else {
             panic!(rt; "{words:?} is no listing of runs");
         };
         assert_eq!(rt; (first, form), (most, due), "{words:?}");
-        match (after, want) {
-            (Some(after), Some(want)) => assert_eq!(rt; after.as_slice(), want, "{words:?}"),
-            (after, want) => assert!(rt; after.is_none() && want.is_none(), "{words:?}"),
-        }
+        assert!(rt; is_list(&after, want), "{words:?}");
     }
-    Ok(())
 }
 
 #[test]
-fn requests_for_a_listing(rt: HostRuntime) -> Result<(), Fail> {
-    let request = asked(rt.alloc(), &["--list", "--steps", "5", "--memory", "64"])??;
+fn requests_for_a_listing(rt: HostRuntime) {
+    let words = ["--list", "--steps", "5", "--memory", "64"];
+    let Some(request) = requested(rt.alloc(), &words) else {
+        panic!(rt; "no request");
+    };
     assert_eq!(rt; (request.rules.limit, request.memory), (5, 64));
     assert!(rt; matches!(request.mode, Mode::List));
-    Ok(())
 }
 
 #[test]
@@ -428,37 +522,44 @@ fn words_that_clap_refuses(rt: HostRuntime) {
         (&["--version=1"], ErrorKind::TooManyValues, 64),
     ];
     for (words, kind, status) in table {
-        match asked(rt.alloc(), words) {
-            Ok(_) => panic!(rt; "{words:?} are right"),
-            Err(error) => assert_eq!(rt; error.kind(), kind, "{words:?}"),
-        }
+        assert_eq!(rt; refused_by_clap(rt.alloc(), words), Some(kind), "{words:?}");
         assert_eq!(rt; command_line::refusal_status(kind), status, "{words:?}");
     }
+}
+
+#[test]
+fn memory_that_clap_lacks(rt: HostRuntime) {
     assert_eq!(rt; command_line::refusal_status(ErrorKind::OutOfMemory), 71);
 }
 
-#[test]
-fn the_version_is_a_line(rt: HostRuntime) -> Result<(), Fail> {
-    for word in ["--version", "-V"] {
-        let Err(error) = command_line::parse(rt.alloc(), &["ptb", word]) else {
-            panic!(rt; "no version");
-        };
-        assert_eq!(rt;
-            error.to_string(rt.alloc())?.as_str(),
-            "ptb 1.0.0\n",
-            "{word}"
-        );
-        assert!(rt; !error.use_stderr(), "{word}");
+// The text that clap has for a word, and whether it belongs on standard error.
+fn told(alloc: Global, word: &str) -> Option<(String, bool)> {
+    match command_line::parse(alloc, &["ptb", word]) {
+        Ok(_) => None,
+        Err(error) => match error.to_string(alloc) {
+            Ok(text) => Some((text, error.use_stderr())),
+            Err(_) => None,
+        },
     }
-    Ok(())
 }
 
 #[test]
-fn help_names_each_option(rt: HostRuntime) -> Result<(), Fail> {
-    let Err(error) = command_line::parse(rt.alloc(), &["ptb", "--help"]) else {
+fn the_version_is_a_line(rt: HostRuntime) {
+    for word in ["--version", "-V"] {
+        let Some((text, on_standard_error)) = told(rt.alloc(), word) else {
+            panic!(rt; "no version");
+        };
+        assert_eq!(rt; text.as_str(), "ptb 1.0.0\n", "{word}");
+        assert!(rt; !on_standard_error, "{word}");
+    }
+}
+
+#[test]
+fn help_names_each_option(rt: HostRuntime) {
+    let Some((text, on_standard_error)) = told(rt.alloc(), "--help") else {
         panic!(rt; "no help");
     };
-    let text = error.to_string(rt.alloc())?;
+    assert!(rt; !on_standard_error);
     let parts = [
         "--steps <N>",
         "1 to 1000000000",
@@ -486,5 +587,4 @@ fn help_names_each_option(rt: HostRuntime) -> Result<(), Fail> {
     for part in parts {
         assert!(rt; text.as_str().contains(part), "{part}");
     }
-    Ok(())
 }

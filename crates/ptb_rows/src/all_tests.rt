@@ -45,22 +45,27 @@ const ONE: Marked = Marked {
     answer: 1,
     bound: None,
 };
+
 const TWO: Marked = Marked {
     answer: 2,
     bound: None,
 };
+
 const ONE_OF_1: Marked = Marked {
     answer: 1,
     bound: Some(1),
 };
+
 const TWO_OF_2: Marked = Marked {
     answer: 2,
     bound: Some(2),
 };
+
 const TWO_OF_3: Marked = Marked {
     answer: 2,
     bound: Some(3),
 };
+
 const THREE_OF_3: Marked = Marked {
     answer: 3,
     bound: Some(3),
@@ -328,6 +333,7 @@ const ROLL_BEHIND_IF_BOUNDS: &[u8] = b"RUN 1/2 END 2 0\n\nRUN 2/2,1/3 END 4 7\n 
 RUN 2/2,2/3 END 4 7\n     2\n\nRUN 2/2,3/3 END 4 7\n     3\n\n";
 
 const SECOND_WITH_A_BOUND: &[Marked] = &[TWO_OF_2, ONE];
+
 const THIRD_WITH_BOUNDS: &[Marked] = &[TWO_OF_2, TWO_OF_3];
 
 // In form 2 each answer is followed by its bound. Lists to go on behind may have bounds in either form.
@@ -412,19 +418,18 @@ fn runs_behind_no_run(rt: HostRuntime) -> Result<(), Fail> {
 
 // The runs of these programs, in order, with their bounds here and there.
 const ONE_ROLL_RUNS: &[&[Marked]] = &[&[ONE], &[TWO_OF_2]];
+
 const ROLL_BEHIND_IF_RUNS: &[&[Marked]] = &[
     &[ONE],
     &[TWO, ONE],
     &[TWO_OF_2, TWO],
     &[TWO_OF_2, THREE_OF_3],
 ];
+
 const FAULTY_RUNS: &[&[Marked]] = &[&[ONE], &[TWO, ONE_OF_1]];
-const ROLLED_INDEX_RUNS: &[&[Marked]] = &[
-    &[ONE, ONE],
-    &[ONE, TWO],
-    &[TWO, ONE],
-    &[TWO, TWO],
-];
+
+const ROLLED_INDEX_RUNS: &[&[Marked]] = &[&[ONE, ONE], &[ONE, TWO], &[TWO, ONE], &[TWO, TWO]];
+
 const LIMITED_RUNS: &[&[Marked]] = &[&[ONE], &[TWO]];
 
 // What is listed up to a run, and what is listed behind it, is the whole listing.
