@@ -52,7 +52,8 @@ A LIST is none, or numbers from 1 to 32767 with commas between them, as 2,1,6. I
 With PROGRAM the lines of standard input answer INPUT.
 
 Status:
-   0      the program ended, or the listing or the reports are written
+   0      the program ended; or what was asked for is written: the listing,
+          the reports, this help, the version
    1 2 3  the program ended with WHAT?, HOW? or SORRY
    4      it had begun as many commands as it may
    5      INPUT found no line left
@@ -60,7 +61,7 @@ Status:
   64      these words ask for nothing
   65      a line of the program is refused, or the program is too long
   66      the program or the input can't be read, or the input is too long
-  67      --after names no run
+  67      --after names no run, or a bound that its question hasn't
   71      out of memory
   74      what was written could not be written
 

@@ -67,13 +67,14 @@ pub record ReplyLaws : Type 0 where
   pub too_long : (r : Request) (b c : List ℕ) → program_limit < length b → reply_to r b c ≡ refusal (notes.Load 0 TooLong)
   -- where a text is refused nothing is written, whatever is asked for, and the note tells the line that is refused, and why
   pub refused : (r : Request) (b c : List ℕ) (e : ℕ × LoadFault) → program_of_text r.memory b ≡ Err e → reply_to r b c ≡ refusal (notes.Load e.0 e.1)
-  -- For each program text that is accepted, each input, each memory size, each limit of commands and each bound
-  -- for answers in place of missing lines, or none, where a run is a list of answers that are all taken when play is over: the
-  -- reply to `--all` is one report for each run and nothing else, in rising order of the answers (where two runs first differ, the
-  -- first of them has the smaller answer), and each report has the ending, the steps and the transcript of its play. With `--after`
-  -- and a run, it is this for the runs behind that run; with `--after` and a list that is no run nothing is written, and the status
-  -- is 67. With `--first n` it is the first n of the same reports. Their status is 0. The reply to a plain run is what play shows
-  -- with its answers, and the status is that of the ending.
+  -- For each program text that is accepted, each input, each memory size, each limit of commands, and each bound for answers in
+  -- place of lines or none, where a run is a list of answers that are all taken when play is over: the reply to `--all` is one
+  -- report for each run and nothing else, in rising order of the answers (where two runs first differ, the first of them has the
+  -- smaller answer), and each report has the answers, in form 2 with their bounds, and the ending, the steps and the transcript of
+  -- its play. With `--after` and a run, the reply is this for the runs behind that run; with `--after` and a list that is no run, or
+  -- that has a bound which isn't that of its question, nothing is written, and the status is 67. With `--first n` it is the first n
+  -- of the same reports. The status of all these replies is 0, but for that 67. The reply to a plain run is what play shows with its
+  -- answers, and the status is that of the ending. A run by a seed is a plain run with the answers that are drawn from the seed.
   pub accepted :
       (memory : ℕ) (rules : Rules) (b c : List ℕ) (p : Statements) → program_of_text memory b ≡ Ok p
       → RunReplies (play (record { lines = p; memory = memory }) (input_lines c) rules) (λ mode. reply_to (record { rules = rules; memory = memory; mode = mode }) b c)
