@@ -9,6 +9,8 @@ use ptb_expr::{Chooser, Pause};
 use ptb_machine::Rules;
 use ptb_text::{Device, DeviceFault};
 use std::alloc::Global;
+use std::fmt::Debug;
+use std::process::Abort;
 use std::test::Fail;
 
 /// Rules by which a run ends where no line is left.
@@ -19,6 +21,16 @@ pub(crate) fn plain_rules(limit: u32) -> Rules
         limit,
         choose: None,
     }
+}
+
+/// Two values that must be the same; `what` says of what they are.
+pub(crate) fn expect_same<T: Copy + PartialEq + Debug>(
+    rt: &impl Abort,
+    what: &str,
+    found: T,
+    wanted: T,
+) {
+    assert_eq!(rt; found, wanted, "{what}");
 }
 
 /// Asks any chooser.
@@ -33,10 +45,15 @@ fn records_a_plan_and_ones(rt: HostRuntime) -> Result<(), Fail> {
     let mut recorder = Recorder::new(rt.alloc());
     recorder.restart(&[2], 3)?;
     for (bound, answer) in [(2, Ok(2)), (3, Ok(3)), (7, Ok(1)), (1, Ok(1))] {
-        assert_eq!(rt; ask(&mut recorder, bound), answer, "at {bound}");
+        expect_same(
+            &rt,
+            "answer",
+            (bound, ask(&mut recorder, bound)),
+            (bound, answer),
+        );
     }
-    assert_eq!(rt; recorder.answers.as_slice(), [2, 3, 1, 1].as_slice());
-    assert_eq!(rt; recorder.bounds.as_slice(), [2, 3, 7, 1].as_slice());
+    expect_same(&rt, "answers", recorder.answers.as_slice(), &[2, 3, 1, 1]);
+    expect_same(&rt, "bounds", recorder.bounds.as_slice(), &[2, 3, 7, 1]);
     Ok(())
 }
 
@@ -44,11 +61,20 @@ fn records_a_plan_and_ones(rt: HostRuntime) -> Result<(), Fail> {
 fn refuses_what_is_out_of_range(rt: HostRuntime) -> Result<(), Fail> {
     let mut recorder = Recorder::new(rt.alloc());
     recorder.replay(&[1, 3, 0])?;
-    assert_eq!(rt; ask(&mut recorder, 6), Ok(1));
-    assert_eq!(rt; ask(&mut recorder, 2), Err(Pause::OutOfRange(3)));
-    assert_eq!(rt; ask(&mut recorder, 3), Ok(3));
-    assert_eq!(rt; ask(&mut recorder, 9), Err(Pause::OutOfRange(0)));
-    assert_eq!(rt; recorder.bounds.as_slice(), [6, 3].as_slice());
+    for (bound, answer) in [
+        (6, Ok(1)),
+        (2, Err(Pause::OutOfRange(3))),
+        (3, Ok(3)),
+        (9, Err(Pause::OutOfRange(0))),
+    ] {
+        expect_same(
+            &rt,
+            "answer",
+            (bound, ask(&mut recorder, bound)),
+            (bound, answer),
+        );
+    }
+    expect_same(&rt, "bounds", recorder.bounds.as_slice(), &[6, 3]);
     Ok(())
 }
 
@@ -73,38 +99,83 @@ fn written(
     }
 }
 
+// A report, and its text in both forms.
+#[derive(Clone, Copy)]
+struct ExpectedReport<'a> {
+    answers: &'a [i16],
+    bounds: &'a [i16],
+    word: &'a [u8],
+    steps: u32,
+    shown: &'a [u8],
+    texts: [&'a str; 2],
+}
+
+// A report has this text in this form.
+fn expect_text(
+    rt: &impl Abort,
+    alloc: Global,
+    report: &ExpectedReport,
+    form: Form,
+    text: &str,
+) -> Result<(), Fail> {
+    let bytes = written(
+        alloc,
+        form,
+        report.answers,
+        report.bounds,
+        report.word,
+        report.steps,
+        report.shown,
+    )?;
+    expect_same(rt, text, bytes.as_slice(), text.as_bytes());
+    Ok(())
+}
+
 #[test]
 fn writes_reports(rt: HostRuntime) -> Result<(), Fail> {
-    let answers: [&[i16]; 4] = [&[], &[2, 1], &[32767], &[]];
-    let bounds: [&[i16]; 4] = [&[], &[2, 3], &[32767], &[]];
-    let words: [&[u8]; 4] = [b"END", b"HOW", b"STOP", b"NOINPUT"];
-    let steps = [0, 2, 1000000000, 1];
-    let shown: [&[u8]; 4] = [b"", b"     1\n", b"x", b"A:"];
-    let texts: [[&str; 2]; 4] = [
-        ["RUN none END 0 0\n\n", "RUN none END 0 0\n\n"],
-        [
-            "RUN 2,1 HOW 2 7\n     1\n\n",
-            "RUN 2/2,1/3 HOW 2 7\n     1\n\n",
-        ],
-        [
-            "RUN 32767 STOP 1000000000 1\nx\n",
-            "RUN 32767/32767 STOP 1000000000 1\nx\n",
-        ],
-        ["RUN none NOINPUT 1 2\nA:\n", "RUN none NOINPUT 1 2\nA:\n"],
+    let reports = [
+        ExpectedReport {
+            answers: &[],
+            bounds: &[],
+            word: b"END",
+            steps: 0,
+            shown: b"",
+            texts: ["RUN none END 0 0\n\n", "RUN none END 0 0\n\n"],
+        },
+        ExpectedReport {
+            answers: &[2, 1],
+            bounds: &[2, 3],
+            word: b"HOW",
+            steps: 2,
+            shown: b"     1\n",
+            texts: [
+                "RUN 2,1 HOW 2 7\n     1\n\n",
+                "RUN 2/2,1/3 HOW 2 7\n     1\n\n",
+            ],
+        },
+        ExpectedReport {
+            answers: &[32767],
+            bounds: &[32767],
+            word: b"STOP",
+            steps: 1000000000,
+            shown: b"x",
+            texts: [
+                "RUN 32767 STOP 1000000000 1\nx\n",
+                "RUN 32767/32767 STOP 1000000000 1\nx\n",
+            ],
+        },
+        ExpectedReport {
+            answers: &[],
+            bounds: &[],
+            word: b"NOINPUT",
+            steps: 1,
+            shown: b"A:",
+            texts: ["RUN none NOINPUT 1 2\nA:\n", "RUN none NOINPUT 1 2\nA:\n"],
+        },
     ];
-    for i in 0..4 {
-        for (form, text) in [(Form::One, texts[i][0]), (Form::Two, texts[i][1])] {
-            let bytes = written(
-                rt.alloc(),
-                form,
-                answers[i],
-                bounds[i],
-                words[i],
-                steps[i],
-                shown[i],
-            )?;
-            assert_eq!(rt; bytes.as_slice(), text.as_bytes(), "report {i}");
-        }
+    for report in reports {
+        expect_text(&rt, rt.alloc(), &report, Form::One, report.texts[0])?;
+        expect_text(&rt, rt.alloc(), &report, Form::Two, report.texts[1])?;
     }
     Ok(())
 }
@@ -128,7 +199,7 @@ fn writes_a_long_report(rt: HostRuntime) -> Result<(), Fail> {
         5,
         &shown,
     )?;
-    assert_eq!(rt; bytes.as_slice(), text.as_slice());
+    expect_same(&rt, "report", bytes.as_slice(), text.as_slice());
     Ok(())
 }
 

@@ -1,17 +1,19 @@
 // This file tests listings of runs: all reports, the first of them, those behind a run, writers that
 // fail, and memory that is refused.
 
-ghost use Rattle.std.specs.Prelude.{◌≤◌};
+ghost use Rattle.std.specs.Prelude.{◌≤◌, ◌≤ℤ◌, pos, IfSome};
 
 use super::*;
 use crate::fault::AfterFault;
 use crate::form::Marked;
-use crate::tests::plain_rules;
+use crate::report::Report;
+use crate::tests::{expect_same, plain_rules};
 use ptb_machine::{Ending, Line, Rules, read_lines};
-use ptb_text::{Device, Program, load};
-use std::alloc::Global;
+use ptb_text::{Device, Program, Write, load};
+use std::alloc::{AllocError, Global};
 use std::io;
-use std::io::ErrorKind;
+use std::io::{ErrorKind, Print};
+use std::process::Abort;
 use std::test::Fail;
 
 const PRODUCTS: &str = "10 PRINT RND(2)*RND(2)";
@@ -40,6 +42,62 @@ fn loaded(alloc: Global, text: &str, input: &str) -> Result<(Program, Vec<Line>)
     Ok((program, lines))
 }
 
+// What an explorer's listing writes, and how many reports.
+fn written(
+    alloc: Global,
+    explorer: &mut Explorer,
+    first: Option<u64>,
+    form: Form,
+) -> Result<(u64, Vec<u8>), Fail> {
+    let mut bytes = Vec::new(alloc);
+    match write_all_runs(explorer, first, form, &mut Device::new(&mut bytes)) {
+        Ok(count) => Ok((count, bytes)),
+        Err(_) => Err(Fail::from("not written")),
+    }
+}
+
+// What the listing of all runs writes, and how many reports.
+fn listed_from(
+    alloc: Global,
+    program: &Program,
+    lines: &[Line],
+    rules: Rules,
+    form: Form,
+) -> Result<(u64, Vec<u8>), Fail>
+    requires { IfSome rules.choose (λ n. pos 1 ≤ℤ n) }
+{
+    let mut explorer = Explorer::start(alloc, program, lines, rules)?;
+    written(alloc, &mut explorer, None, form)
+}
+
+// What the listing of a program's text on an input writes, and how many reports.
+fn listed(
+    alloc: Global,
+    text: &str,
+    input: &str,
+    rules: Rules,
+    form: Form,
+) -> Result<(u64, Vec<u8>), Fail>
+    requires { IfSome rules.choose (λ n. pos 1 ≤ℤ n) }
+{
+    let (program, lines) = loaded(alloc, text, input)?;
+    listed_from(alloc, &program, &lines, rules, form)
+}
+
+// What the listing of a program behind a run writes, and how many reports.
+fn listed_from_behind(
+    alloc: Global,
+    program: &Program,
+    lines: &[Line],
+    answers: &[i16],
+    first: Option<u64>,
+) -> Result<(u64, Vec<u8>), Fail> {
+    match Explorer::after(alloc, program, lines, plain_rules(10000), answers) {
+        Ok(mut explorer) => written(alloc, &mut explorer, first, Form::One),
+        Err(_) => Err(Fail::from("no run")),
+    }
+}
+
 // What the listing of a program without input writes behind a run, and how many reports.
 fn listed_behind(
     alloc: Global,
@@ -48,20 +106,7 @@ fn listed_behind(
     first: Option<u64>,
 ) -> Result<(u64, Vec<u8>), Fail> {
     let (program, lines) = loaded(alloc, text, "")?;
-    let mut bytes = Vec::new(alloc);
-    let Ok(mut explorer) = Explorer::after(alloc, &program, &lines, plain_rules(10000), answers)
-    else {
-        return Err(Fail::from("no run"));
-    };
-    match write_all_runs(
-        &mut explorer,
-        first,
-        Form::One,
-        &mut Device::new(&mut bytes),
-    ) {
-        Ok(count) => Ok((count, bytes)),
-        Err(_) => Err(Fail::from("not written")),
-    }
+    listed_from_behind(alloc, &program, &lines, answers, first)
 }
 
 #[test]
@@ -87,12 +132,9 @@ fn writes_all(rt: HostRuntime) -> Result<(), Fail> {
         "RUN 1 LIMIT 1 0\n\nRUN 2 LIMIT 1 0\n\n",
     ];
     for i in 0..7 {
-        let (program, lines) = loaded(rt.alloc(), programs[i], inputs[i])?;
-        let mut bytes = Vec::new(rt.alloc());
-        let mut explorer = Explorer::start(rt.alloc(), &program, &lines, plain_rules(limits[i]))?;
-        let result = write_all_runs(&mut explorer, None, Form::One, &mut Device::new(&mut bytes));
-        assert!(rt; result.is_ok(), "listing {i}");
-        assert_eq!(rt; bytes.as_slice(), texts[i].as_bytes(), "listing {i}");
+        let rules = plain_rules(limits[i]);
+        let (_, bytes) = listed(rt.alloc(), programs[i], inputs[i], rules, Form::One)?;
+        expect_same(&rt, programs[i], bytes.as_slice(), texts[i].as_bytes());
     }
     Ok(())
 }
@@ -101,6 +143,10 @@ fn writes_all(rt: HostRuntime) -> Result<(), Fail> {
 #[test]
 fn writes_runs_without_lines(rt: HostRuntime) -> Result<(), Fail> {
     let (asked, element) = ("10 INPUT A;PRINT A", "10 INPUT @(RND(2)-1)");
+    let rules = Rules {
+        limit: 10000,
+        choose: Some(2),
+    };
     for (text, input, want) in [
         (
             asked,
@@ -120,51 +166,92 @@ fn writes_runs_without_lines(rt: HostRuntime) -> Result<(), Fail> {
 RUN 2,1 END 1 14\n@(RND(2)-1):1\n\nRUN 2,2 END 1 14\n@(RND(2)-1):2\n\n",
         ),
     ] {
-        let (program, lines) = loaded(rt.alloc(), text, input)?;
-        let rules = Rules {
-            limit: 10000,
-            choose: Some(2),
-        };
-        let mut bytes = Vec::new(rt.alloc());
-        let mut explorer = Explorer::start(rt.alloc(), &program, &lines, rules)?;
-        let result = write_all_runs(&mut explorer, None, Form::One, &mut Device::new(&mut bytes));
-        assert!(rt; result.is_ok(), "{text}");
-        assert_eq!(rt; bytes.as_slice(), want.as_bytes(), "{text}");
+        let (_, bytes) = listed(rt.alloc(), text, input, rules, Form::One)?;
+        expect_same(&rt, text, bytes.as_slice(), want.as_bytes());
     }
     Ok(())
 }
 
+// A listing of so many reports, which are this text.
+fn expect_listing(rt: &impl Abort, listing: (u64, Vec<u8>), count: u64, text: &[u8]) {
+    expect_same(rt, "reports", listing.0, count);
+    expect_same(rt, "listing", listing.1.as_slice(), text);
+}
+
 #[test]
 fn writes_those_behind(rt: HostRuntime) -> Result<(), Fail> {
-    let (count, bytes) = listed_behind(rt.alloc(), PRODUCTS, &[1, 1], Some(2))?;
-    assert_eq!(rt; count, 2);
-    assert_eq!(rt; bytes.as_slice(), &PRODUCT_REPORTS.as_bytes()[24..72]);
-    let (count, bytes) = listed_behind(rt.alloc(), BRANCHES, &[2, 3], None)?;
-    assert_eq!(rt; count, 0);
-    assert!(rt; bytes.is_empty());
-    let (count, bytes) = listed_behind(rt.alloc(), "", &[], None)?;
-    assert_eq!(rt; count, 0);
-    assert!(rt; bytes.is_empty());
+    let middle = &PRODUCT_REPORTS.as_bytes()[24..72];
+    expect_listing(
+        &rt,
+        listed_behind(rt.alloc(), PRODUCTS, &[1, 1], Some(2))?,
+        2,
+        middle,
+    );
+    expect_listing(
+        &rt,
+        listed_behind(rt.alloc(), BRANCHES, &[2, 3], None)?,
+        0,
+        b"",
+    );
+    expect_listing(&rt, listed_behind(rt.alloc(), "", &[], None)?, 0, b"");
     Ok(())
+}
+
+// A run of two steps that shows a number, and whose questions have the bounds 1 and 2.
+fn expect_report(rt: &impl Abort, report: &Report, answers: &[i16]) {
+    expect_same(rt, "answers", report.answers.as_slice(), answers);
+    expect_same(rt, "bounds", report.bounds.as_slice(), &[1, 2]);
+    expect_same(rt, "ending", report.ending, Ending::End);
+    expect_same(rt, "steps", report.steps, 2);
+    expect_same(rt, "bytes", report.transcript.len(), 7);
+}
+
+// Goes to the next run, whose second answer is this.
+fn expect_next(rt: &impl Abort, explorer: &mut Explorer, second: i16) -> Result<(), Fail> {
+    match explorer.next()? {
+        Some(report) => expect_report(rt, report, &[1, second]),
+        None => return Err(Fail::from("no report")),
+    }
+    Ok(())
+}
+
+// No run is left.
+fn expect_no_next(rt: &impl Abort, explorer: &mut Explorer) -> Result<(), Fail> {
+    let is_none = explorer.next()?.is_none();
+    expect_same(rt, "no run is left", is_none, true);
+    Ok(())
+}
+
+// Goes to both runs of a program, and past them.
+fn expect_both(
+    rt: &impl Abort,
+    alloc: Global,
+    program: &Program,
+    lines: &[Line],
+) -> Result<(), Fail> {
+    let mut explorer = Explorer::start(alloc, program, lines, plain_rules(10000))?;
+    expect_next(rt, &mut explorer, 1)?;
+    expect_next(rt, &mut explorer, 2)?;
+    expect_no_next(rt, &mut explorer)?;
+    expect_no_next(rt, &mut explorer)
 }
 
 #[test]
 fn lends_each_report(rt: HostRuntime) -> Result<(), Fail> {
     let (program, lines) = loaded(rt.alloc(), "10 A=RND(1);P.RND(2)", "")?;
-    let mut explorer = Explorer::start(rt.alloc(), &program, &lines, plain_rules(10000))?;
-    for k in 1..=2 {
-        let Some(report) = explorer.next()? else {
-            return Err(Fail::from("no report"));
-        };
-        assert_eq!(rt; report.answers.as_slice(), [1, k].as_slice());
-        assert_eq!(rt; report.bounds.as_slice(), [1, 2].as_slice());
-        assert_eq!(rt; report.ending, Ending::End);
-        assert_eq!(rt; report.steps, 2);
-        assert_eq!(rt; report.transcript.len(), 7);
-    }
-    assert!(rt; explorer.next()?.is_none());
-    assert!(rt; explorer.next()?.is_none());
-    Ok(())
+    expect_both(&rt, rt.alloc(), &program, &lines)
+}
+
+// Answers behind which no listing goes on.
+fn expect_not_a_run(
+    rt: &impl Abort,
+    alloc: Global,
+    program: &Program,
+    lines: &[Line],
+    answers: &[i16],
+) {
+    let refusal = Explorer::after(alloc, program, lines, plain_rules(10000), answers).err();
+    expect_same(rt, "refusal", refusal, Some(AfterFault::NotARun));
 }
 
 #[test]
@@ -172,14 +259,7 @@ fn refuses_what_is_no_run(rt: HostRuntime) -> Result<(), Fail> {
     let (program, lines) = loaded(rt.alloc(), BRANCHES, "")?;
     let lists: [&[i16]; 5] = [&[], &[2], &[2, 4], &[2, 1, 1], &[0]];
     for answers in lists {
-        let refusal = Explorer::after(
-            rt.alloc(),
-            &program,
-            &lines,
-            plain_rules(10000),
-            answers,
-        ).err();
-        assert_eq!(rt; refusal, Some(AfterFault::NotARun));
+        expect_not_a_run(&rt, rt.alloc(), &program, &lines, answers);
     }
     Ok(())
 }
@@ -191,50 +271,53 @@ fn marked(answer: i16, bound: Option<i16>) -> Marked {
 
 #[test]
 fn writes_bounds(rt: HostRuntime) -> Result<(), Fail> {
-    let (program, lines) = loaded(rt.alloc(), BRANCHES, "")?;
-    let mut explorer = Explorer::start(rt.alloc(), &program, &lines, plain_rules(10000))?;
-    let mut bytes = Vec::new(rt.alloc());
-    let mut out = Device::new(&mut bytes);
-    assert_eq!(rt;
-        write_all_runs(&mut explorer, None, Form::Two, &mut out),
-        Ok(4)
-    );
-    assert_eq!(rt; bytes.as_slice(), BRANCH_REPORTS_WITH_BOUNDS.as_bytes());
+    let listing = listed(rt.alloc(), BRANCHES, "", plain_rules(10000), Form::Two)?;
+    expect_listing(&rt, listing, 4, BRANCH_REPORTS_WITH_BOUNDS.as_bytes());
     Ok(())
+}
+
+// What the listing writes behind the run of a list of answers with their bounds.
+fn written_behind(
+    alloc: Global,
+    program: &Program,
+    lines: &[Line],
+    list: &[Marked],
+) -> Result<(u64, Vec<u8>), Fail> {
+    match Explorer::after_marked(alloc, program, lines, plain_rules(10000), list) {
+        Ok(mut explorer) => written(alloc, &mut explorer, None, Form::Two),
+        Err(_) => Err(Fail::from("no run")),
+    }
 }
 
 // Each bound may be stated or not.
 #[test]
 fn goes_on_behind_stated_bounds(rt: HostRuntime) -> Result<(), Fail> {
     let (program, lines) = loaded(rt.alloc(), BRANCHES, "")?;
-    let lists: [[Marked; 2]; 4] = [
-        [marked(2, None), marked(1, None)],
-        [marked(2, Some(2)), marked(1, None)],
-        [marked(2, None), marked(1, Some(3))],
-        [marked(2, Some(2)), marked(1, Some(3))],
-    ];
-    for list in lists {
-        let Ok(mut explorer) = Explorer::after_marked(
-            rt.alloc(),
-            &program,
-            &lines,
-            plain_rules(10000),
-            &list,
-        ) else {
-            return Err(Fail::from("no run"));
-        };
-        let mut bytes = Vec::new(rt.alloc());
-        let mut out = Device::new(&mut bytes);
-        assert_eq!(rt;
-            write_all_runs(&mut explorer, None, Form::Two, &mut out),
-            Ok(2)
-        );
-        assert_eq!(rt;
-            bytes.as_slice(),
-            &BRANCH_REPORTS_WITH_BOUNDS.as_bytes()[45..]
-        );
+    for first in [None, Some(2)] {
+        for second in [None, Some(3)] {
+            let list = [marked(2, first), marked(1, second)];
+            let listing = written_behind(rt.alloc(), &program, &lines, &list)?;
+            expect_listing(
+                &rt,
+                listing,
+                2,
+                &BRANCH_REPORTS_WITH_BOUNDS.as_bytes()[45..],
+            );
+        }
     }
     Ok(())
+}
+
+// What is no run, or has another bound.
+fn expect_no_run(
+    rt: &impl Abort,
+    alloc: Global,
+    program: &Program,
+    lines: &[Line],
+    list: &[Marked],
+) {
+    let refusal = Explorer::after_marked(alloc, program, lines, plain_rules(10000), list).err();
+    expect_same(rt, "refusal", refusal, Some(AfterFault::NotARun));
 }
 
 #[test]
@@ -254,15 +337,35 @@ fn refuses_other_bounds(rt: HostRuntime) -> Result<(), Fail> {
         &[marked(2, Some(2)), marked(4, Some(4))],
     ];
     for list in lists {
-        let refusal = Explorer::after_marked(
-            rt.alloc(),
-            &program,
-            &lines,
-            plain_rules(10000),
-            list,
-        ).err();
-        assert_eq!(rt; refusal, Some(AfterFault::NotARun));
+        expect_no_run(&rt, rt.alloc(), &program, &lines, list);
     }
+    Ok(())
+}
+
+// What the listing of all runs to this writer comes to.
+fn listed_to<W: Write>(
+    alloc: Global,
+    program: &Program,
+    lines: &[Line],
+    out: &mut W,
+) -> Result<Result<u64, ExploreFault>, Fail> {
+    let mut explorer = Explorer::start(alloc, program, lines, plain_rules(10000))?;
+    Ok(write_all_runs(&mut explorer, None, Form::One, out))
+}
+
+// A listing into a room of so many bytes.
+fn expect_beginning(
+    rt: &impl Abort,
+    alloc: Global,
+    program: &Program,
+    lines: &[Line],
+    room: &mut [u8],
+) -> Result<(), Fail> {
+    let count = listed_to(alloc, program, lines, &mut Device::new(&mut *room))?;
+    let due = Err(ExploreFault::Write(room.len() as u64 / 24));
+    expect_same(rt, "reports", count, due);
+    let begins = PRODUCT_REPORTS.as_bytes().starts_with(room);
+    expect_same(rt, "a beginning", (room.len(), begins), (room.len(), true));
     Ok(())
 }
 
@@ -270,22 +373,14 @@ fn refuses_other_bounds(rt: HostRuntime) -> Result<(), Fail> {
 fn writes_a_beginning(rt: HostRuntime) -> Result<(), Fail> {
     let (program, lines) = loaded(rt.alloc(), PRODUCTS, "")?;
     for size in 0..96 {
-        let mut explorer = Explorer::start(rt.alloc(), &program, &lines, plain_rules(10000))?;
         let mut room = [b'.'; 96];
-        let result = write_all_runs(
-            &mut explorer,
-            None,
-            Form::One,
-            &mut Device::new(&mut room[..size]),
-        );
-        assert_eq!(rt; result, Err(ExploreFault::Write(size as u64 / 24)));
-        assert_eq!(rt; &room[..size], &PRODUCT_REPORTS.as_bytes()[..size]);
+        expect_beginning(&rt, rt.alloc(), &program, &lines, &mut room[..size])?;
     }
     Ok(())
 }
 
 // How a writer fails: by an error, by one that says that it was interrupted, or by taking nothing.
-#[derive(Clone, Copy, Debug)]
+#[derive(Clone, Copy)]
 enum Failing {
     Breaks,
     IsInterrupted,
@@ -320,41 +415,61 @@ impl io::Write for &mut Sink {
     }
 }
 
+// What a listing comes to whose writer fails at its call behind so many, and what the writer has taken.
+fn expect_count(
+    rt: &impl Abort,
+    name: &str,
+    calls: usize,
+    count: Result<u64, ExploreFault>,
+    taken: &[u8],
+) {
+    let due = if taken.len() == 96 {
+        Ok(4)
+    } else {
+        Err(ExploreFault::Write(taken.len() as u64 / 24))
+    };
+    expect_same(rt, name, (calls, count), (calls, due));
+    let begins = PRODUCT_REPORTS.as_bytes().starts_with(taken);
+    // a report of 24 bytes takes five calls
+    expect_same(
+        rt,
+        name,
+        (calls, begins, count.is_err()),
+        (calls, true, calls < 20),
+    );
+}
+
 // The writer fails at its first call, at its second, and so on until none fails.
+fn expect_counts(
+    rt: &impl Abort,
+    alloc: Global,
+    program: &Program,
+    lines: &[Line],
+    name: &str,
+    failing: Failing,
+) -> Result<(), Fail> {
+    for calls in 0..=20 {
+        let mut sink = Sink {
+            taken: Vec::new(alloc),
+            calls_left: calls,
+            failing,
+        };
+        let count = listed_to(alloc, program, lines, &mut Device::new(&mut sink))?;
+        expect_count(rt, name, calls, count, &sink.taken);
+    }
+    Ok(())
+}
+
+// However the writer fails.
 #[test]
 fn counts_reports_of_a_failing_writer(rt: HostRuntime) -> Result<(), Fail> {
     let (program, lines) = loaded(rt.alloc(), PRODUCTS, "")?;
-    for failing in [
-        Failing::Breaks,
-        Failing::IsInterrupted,
-        Failing::TakesNothing,
+    for (name, failing) in [
+        ("breaks", Failing::Breaks),
+        ("is interrupted", Failing::IsInterrupted),
+        ("takes nothing", Failing::TakesNothing),
     ] {
-        for calls in 0..=20 {
-            let mut explorer = Explorer::start(rt.alloc(), &program, &lines, plain_rules(10000))?;
-            let mut sink = Sink {
-                taken: Vec::new(rt.alloc()),
-                calls_left: calls,
-                failing,
-            };
-            let result = write_all_runs(
-                &mut explorer,
-                None,
-                Form::One,
-                &mut Device::new(&mut sink),
-            );
-            let due = if sink.taken.len() == 96 {
-                Ok(4)
-            } else {
-                Err(ExploreFault::Write(sink.taken.len() as u64 / 24))
-            };
-            assert_eq!(rt; result, due, "{failing:?} {calls}");
-            assert!(rt;
-                PRODUCT_REPORTS.as_bytes().starts_with(&sink.taken),
-                "{failing:?} {calls}"
-            );
-            // a report of 24 bytes takes five calls
-            assert_eq!(rt; result.is_err(), calls < 20, "{failing:?} {calls}");
-        }
+        expect_counts(&rt, rt.alloc(), &program, &lines, name, failing)?;
     }
     Ok(())
 }
@@ -380,6 +495,40 @@ fn holds(room: &[u8], text: &[u8]) -> bool {
     }
 }
 
+// How many reports a listing writes until memory is refused it, which is told.
+fn begun<R: Abort + Print>(rt: &R, explorer: &mut Explorer) -> Result<u64, Fail> {
+    let mut room = [b'.'; 100];
+    let mut out = Device::new(&mut room[..]);
+    let count = match write_all_runs(explorer, None, Form::One, &mut out) {
+        Ok(count) => count,
+        Err(ExploreFault::Memory(count)) => {
+            println!(rt; "refused behind {count}")?;
+            count
+        }
+        Err(ExploreFault::Write(_)) => return Err(Fail::from("not written")),
+    };
+    let front = &BRANCH_REPORTS.as_bytes()[..branch_bytes(count)];
+    assert!(rt; holds(&room, front), "behind {count}");
+    Ok(count)
+}
+
+// The listing of the reports behind so many.
+fn expect_rest(rt: &impl Abort, explorer: &mut Explorer, first: u64) {
+    let mut room = [b'.'; 100];
+    let mut out = Device::new(&mut room[..]);
+    let second = write_all_runs(explorer, None, Form::One, &mut out);
+    expect_same(rt, "reports", second, Ok(4_u64.saturating_sub(first)));
+    let back = &BRANCH_REPORTS.as_bytes()[branch_bytes(first)..];
+    assert!(rt; holds(&room, back), "behind {first}");
+}
+
+// Two listings, one behind the other, have all reports.
+fn expect_two_parts<R: Abort + Print>(rt: &R, explorer: &mut Explorer) -> Result<(), Fail> {
+    let first = begun(rt, explorer)?;
+    expect_rest(rt, explorer, first);
+    Ok(())
+}
+
 // Passes whichever of its allocations is refused: the listing that ends there has just the reports
 // that it counts, and a second one by the same explorer has the others.
 #[test]
@@ -388,33 +537,8 @@ fn refused_listings_go_on(rt: HostRuntime) -> Result<(), Fail> {
     let Ok(program) = load(rt.alloc(), 4096, &mut Device::new(&mut text)) else {
         return Ok(());
     };
-    let Ok(mut explorer) = Explorer::start(rt.alloc(), &program, &[], plain_rules(10000)) else {
-        return Ok(());
-    };
-    let mut room = [b'.'; 100];
-    let first = match write_all_runs(
-        &mut explorer,
-        None,
-        Form::One,
-        &mut Device::new(&mut room[..]),
-    ) {
-        Ok(count) => count,
-        Err(ExploreFault::Memory(count)) => {
-            println!(rt; "refused behind {count}")?;
-            count
-        }
-        Err(ExploreFault::Write(_)) => return Err(Fail::from("not written")),
-    };
-    let (front, back) = BRANCH_REPORTS.as_bytes().split_at(branch_bytes(first));
-    assert!(rt; holds(&room, front), "behind {first}");
-    let mut room = [b'.'; 100];
-    let second = write_all_runs(
-        &mut explorer,
-        None,
-        Form::One,
-        &mut Device::new(&mut room[..]),
-    );
-    assert_eq!(rt; second, Ok(4_u64.saturating_sub(first)));
-    assert!(rt; holds(&room, back), "behind {first}");
-    Ok(())
+    match Explorer::start(rt.alloc(), &program, &[], plain_rules(10000)) {
+        Ok(mut explorer) => expect_two_parts(&rt, &mut explorer),
+        Err(AllocError) => Ok(()),
+    }
 }
