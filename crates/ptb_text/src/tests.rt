@@ -127,48 +127,51 @@ fn around(
     Ok(text)
 }
 
+const ELEVEN_LINES: &[u8] =
+    b"1 P.1\n2 P.1\n3 P.1\n4 P.1\n5 P.1\n6 P.1\n7 P.1\n8 P.1\n9 P.1\n10 P.1\n11 P.1\n";
+
+const TEXTS: &[(&[u8], u16, Result<&[u8], Refusal>)] = &[
+    (b"", 4096, Ok(b"")),
+    (b"10 PRINT \"HI\"", 4096, Ok(b"10 PRINT \"HI\"\n")),
+    (b"10 P.1\n20 P.2\n010\tP.3\r\n20", 4096, Ok(b"10 P.3\n")),
+    (
+        b"20 P.\"B\"\n10 P.'A',;P.\n",
+        4096,
+        Ok(b"10 P.'A',;P.\n20 P.\"B\"\n"),
+    ),
+    (b"10P.\t1 \r", 4096, Ok(b"10 P. 1 \n")),
+    (b"\r\n   \n\t\r\n1 A=1\n\r", 4096, Ok(b"1 A=1\n")),
+    (b"10 A=1\n 10", 4096, Ok(b"")),
+    (b"10", 4096, Ok(b"")),
+    (b"32767 STOP", 4096, Ok(b"32767 STOP\n")),
+    (b"32768 P.1", 4096, Err((1, LoadFault::NumberTooBig))),
+    (b"10 P.\x7f", 4096, Err((1, LoadFault::BadByte(6)))),
+    (b"10 P.\r1", 4096, Err((1, LoadFault::BadByte(6)))),
+    (b"10 P.1\r\r\n", 4096, Err((1, LoadFault::BadByte(7)))),
+    (b"0 P.", 4096, Err((1, LoadFault::NoNumber))),
+    (b"10 P.1\n\n\nP.2\n0", 4096, Err((4, LoadFault::NoNumber))),
+    (b"P\x01", 4096, Err((1, LoadFault::BadByte(2)))),
+    (ELEVEN_LINES, 64, Err((11, LoadFault::Full))),
+    (ELEVEN_LINES, 65, Err((11, LoadFault::Full))),
+    (ELEVEN_LINES, 66, Ok(ELEVEN_LINES)),
+    (b"0 P.\x7f", 4096, Err((1, LoadFault::BadByte(5)))),
+    (b"32768 P.\n0 P.", 4096, Err((1, LoadFault::NumberTooBig))),
+    (
+        b"1 P.1\n2 P.2\n1\n3 P.3\n1 P.4",
+        4096,
+        Ok(b"1 P.4\n2 P.2\n3 P.3\n"),
+    ),
+    (b"1 ~\n2 !", 4096, Ok(b"1 ~\n2 !\n")),
+    (
+        b"1 A=123456789\n1 A=1234567890",
+        64,
+        Ok(b"1 A=1234567890\n"),
+    ),
+];
+
 #[test]
 fn texts_load_and_list(rt: HostRuntime) -> Result<(), Fail> {
-    let eleven = b"1 P.1\n2 P.1\n3 P.1\n4 P.1\n5 P.1\n6 P.1\n7 P.1\n8 P.1\n9 P.1\n10 P.1\n11 P.1\n";
-    let rows: [(&[u8], u16, Result<&[u8], Refusal>); 24] = [
-        (b"", 4096, Ok(b"")),
-        (b"10 PRINT \"HI\"", 4096, Ok(b"10 PRINT \"HI\"\n")),
-        (b"10 P.1\n20 P.2\n010\tP.3\r\n20", 4096, Ok(b"10 P.3\n")),
-        (
-            b"20 P.\"B\"\n10 P.'A',;P.\n",
-            4096,
-            Ok(b"10 P.'A',;P.\n20 P.\"B\"\n"),
-        ),
-        (b"10P.\t1 \r", 4096, Ok(b"10 P. 1 \n")),
-        (b"\r\n   \n\t\r\n1 A=1\n\r", 4096, Ok(b"1 A=1\n")),
-        (b"10 A=1\n 10", 4096, Ok(b"")),
-        (b"10", 4096, Ok(b"")),
-        (b"32767 STOP", 4096, Ok(b"32767 STOP\n")),
-        (b"32768 P.1", 4096, Err((1, LoadFault::NumberTooBig))),
-        (b"10 P.\x7f", 4096, Err((1, LoadFault::BadByte(6)))),
-        (b"10 P.\r1", 4096, Err((1, LoadFault::BadByte(6)))),
-        (b"10 P.1\r\r\n", 4096, Err((1, LoadFault::BadByte(7)))),
-        (b"0 P.", 4096, Err((1, LoadFault::NoNumber))),
-        (b"10 P.1\n\n\nP.2\n0", 4096, Err((4, LoadFault::NoNumber))),
-        (b"P\x01", 4096, Err((1, LoadFault::BadByte(2)))),
-        (eleven, 64, Err((11, LoadFault::Full))),
-        (eleven, 65, Err((11, LoadFault::Full))),
-        (eleven, 66, Ok(eleven)),
-        (b"0 P.\x7f", 4096, Err((1, LoadFault::BadByte(5)))),
-        (b"32768 P.\n0 P.", 4096, Err((1, LoadFault::NumberTooBig))),
-        (
-            b"1 P.1\n2 P.2\n1\n3 P.3\n1 P.4",
-            4096,
-            Ok(b"1 P.4\n2 P.2\n3 P.3\n"),
-        ),
-        (b"1 ~\n2 !", 4096, Ok(b"1 ~\n2 !\n")),
-        (
-            b"1 A=123456789\n1 A=1234567890",
-            64,
-            Ok(b"1 A=1234567890\n"),
-        ),
-    ];
-    for (text, memory, expected) in rows {
+    for &(text, memory, expected) in TEXTS {
         for piece in [1, 5, 100_000] {
             let found = listed(rt.alloc(), text, piece, memory)?;
             let found = found.as_ref().map(|bytes| bytes.as_slice()).map_err(|e| *e);
@@ -208,84 +211,80 @@ fn refused_lines_are_entered_again(rt: HostRuntime) -> Result<(), Fail> {
     Ok(())
 }
 
+// Some bytes between two texts, the memory, and the refusal, if the text is refused.
+const LONG_TEXTS: &[(&[u8], u8, usize, &[u8], u16, Option<Refusal>)] = &[
+    (
+        b"",
+        b'9',
+        200,
+        b" P.",
+        4096,
+        Some((1, LoadFault::NumberTooBig)),
+    ),
+    (
+        b"10 A=",
+        b'9',
+        254,
+        b"",
+        4096,
+        Some((1, LoadFault::TextTooLong)),
+    ),
+    (b"10 A=", b'9', 253, b"\n", 4096, None),
+    (b"", b'0', 200, b"5 P.\n", 4096, None),
+    (b"10", b' ', 300, b"P.\n", 4096, None),
+    (b"1 P.1\n2 P.1\n1 A=", b'1', 53, b"", 64, None),
+    (
+        b"1 P.1\n2 P.1\n1 A=",
+        b'1',
+        54,
+        b"",
+        64,
+        Some((3, LoadFault::Full)),
+    ),
+    (b"1 A=", b'1', 59, b"\n1 A=1\n2 A=1", 64, None),
+    (b"1 A=", b'1', 59, b"\n2 A", 64, Some((2, LoadFault::Full))),
+    (b"1 ", b'A', 255, b"", 64, Some((1, LoadFault::Full))),
+    (b"1 ", b'A', 256, b"", 64, Some((1, LoadFault::TextTooLong))),
+    (
+        b"32768 ",
+        b'A',
+        256,
+        b"",
+        64,
+        Some((1, LoadFault::NumberTooBig)),
+    ),
+    (b"0 ", b'A', 256, b"", 64, Some((1, LoadFault::NoNumber))),
+    (
+        b"0 ",
+        b'A',
+        256,
+        b"\x1f",
+        64,
+        Some((1, LoadFault::BadByte(259))),
+    ),
+    (b"", b'\n', 1_048_576, b"", 4096, None),
+    (
+        b"",
+        b'\n',
+        1_048_577,
+        b"",
+        4096,
+        Some((0, LoadFault::TooLong)),
+    ),
+];
+
 #[test]
 fn long_lines(rt: HostRuntime) -> Result<(), Fail> {
-    let alloc = rt.alloc();
-    let rows = [
-        (
-            around(alloc, b"", b'9', 200, b" P.")?,
-            4096,
-            Some((1, LoadFault::NumberTooBig)),
-        ),
-        (
-            around(alloc, b"10 A=", b'9', 254, b"")?,
-            4096,
-            Some((1, LoadFault::TextTooLong)),
-        ),
-        (around(alloc, b"10 A=", b'9', 253, b"\n")?, 4096, None),
-        (around(alloc, b"", b'0', 200, b"5 P.\n")?, 4096, None),
-        (around(alloc, b"10", b' ', 300, b"P.\n")?, 4096, None),
-        (
-            around(alloc, b"1 P.1\n2 P.1\n1 A=", b'1', 53, b"")?,
-            64,
-            None,
-        ),
-        (
-            around(alloc, b"1 P.1\n2 P.1\n1 A=", b'1', 54, b"")?,
-            64,
-            Some((3, LoadFault::Full)),
-        ),
-        (
-            around(alloc, b"1 A=", b'1', 59, b"\n1 A=1\n2 A=1")?,
-            64,
-            None,
-        ),
-        (
-            around(alloc, b"1 A=", b'1', 59, b"\n2 A")?,
-            64,
-            Some((2, LoadFault::Full)),
-        ),
-        (
-            around(alloc, b"1 ", b'A', 255, b"")?,
-            64,
-            Some((1, LoadFault::Full)),
-        ),
-        (
-            around(alloc, b"1 ", b'A', 256, b"")?,
-            64,
-            Some((1, LoadFault::TextTooLong)),
-        ),
-        (
-            around(alloc, b"32768 ", b'A', 256, b"")?,
-            64,
-            Some((1, LoadFault::NumberTooBig)),
-        ),
-        (
-            around(alloc, b"0 ", b'A', 256, b"")?,
-            64,
-            Some((1, LoadFault::NoNumber)),
-        ),
-        (
-            around(alloc, b"0 ", b'A', 256, b"\x1f")?,
-            64,
-            Some((1, LoadFault::BadByte(259))),
-        ),
-        (around(alloc, b"", b'\n', 1_048_576, b"")?, 4096, None),
-        (
-            around(alloc, b"", b'\n', 1_048_577, b"")?,
-            4096,
-            Some((0, LoadFault::TooLong)),
-        ),
-    ];
-    for (text, memory, refusal) in &rows {
-        let found = listed(alloc, text, 4000, *memory)?;
-        assert_eq!(rt; found.err(), *refusal);
+    for &(before, byte, count, behind, memory, refusal) in LONG_TEXTS {
+        let text = around(rt.alloc(), before, byte, count, behind)?;
+        let found = listed(rt.alloc(), text.as_slice(), 4000, memory)?;
+        assert_eq!(rt; found.err(), refusal, "{before:?} and {count}");
     }
     Ok(())
 }
 
 #[test]
-fn devices_that_fail(rt: HostRuntime) -> Result<(), Fail> {
+fn readers_that_fail(rt: HostRuntime) {
     let mut broken = Device::new(Pieces {
         bytes: b"10 P.",
         piece: 4,
@@ -293,7 +292,10 @@ fn devices_that_fail(rt: HostRuntime) -> Result<(), Fail> {
     });
     let refusal = load(rt.alloc(), 4096, &mut broken).err();
     assert_eq!(rt; refusal, Some((0, LoadFault::Read)));
+}
 
+#[test]
+fn readers_that_never_end(rt: HostRuntime) {
     let mut endless = Endless {
         byte: b'A',
         given: 0,
@@ -302,7 +304,6 @@ fn devices_that_fail(rt: HostRuntime) -> Result<(), Fail> {
     let refusal = load(rt.alloc(), 4096, &mut Device::new(&mut endless)).err();
     assert_eq!(rt; refusal, Some((0, LoadFault::TooLong)));
     assert!(rt; endless.given <= 1_048_577);
-    Ok(())
 }
 
 // A program of two lines, which list as 16 bytes.
@@ -337,7 +338,12 @@ fn writers_that_fail(rt: HostRuntime) -> Result<(), Fail> {
             "at call {fails_at}"
         );
     }
+    Ok(())
+}
 
+#[test]
+fn writers_that_take_nothing(rt: HostRuntime) -> Result<(), Fail> {
+    let program = two_lines(rt.alloc())?;
     let mut takes_nothing = make_sink(rt.alloc(), 0, 0);
     let result = list(&program, &mut Device::new(&mut takes_nothing));
     assert_eq!(rt; result, Err(WriteFault));
@@ -345,80 +351,113 @@ fn writers_that_fail(rt: HostRuntime) -> Result<(), Fail> {
 }
 
 #[test]
-fn devices_move_bytes(rt: HostRuntime) -> Result<(), Fail> {
+fn writers_take_pieces(rt: HostRuntime) {
     let mut sink = make_sink(rt.alloc(), 3, 3);
     let mut writer = Device::new(&mut sink);
     assert_eq!(rt; writer.write(b"ABCDE"), Ok(3));
     assert_eq!(rt; writer.write_all(b"DEFGH"), Err(DeviceFault));
     assert_eq!(rt; writer.write_all(b"G"), Ok(()));
     assert_eq!(rt; sink.taken.as_slice(), b"ABCDEFG".as_slice());
+}
 
+#[test]
+fn writers_are_flushed(rt: HostRuntime) {
     let mut sink = make_sink(rt.alloc(), 3, 2);
     let mut writer = Device::new(&mut sink);
     assert_eq!(rt; writer.write(b"ABC"), Ok(3));
     assert_eq!(rt; writer.flush(), Err(DeviceFault));
     assert_eq!(rt; writer.flush(), Ok(()));
     assert_eq!(rt; sink.taken.as_slice(), b"ABC".as_slice());
+}
 
+#[test]
+fn readers_give_bytes(rt: HostRuntime) {
     let mut reader = Device::new(&b"HI"[..]);
     let mut buf = [0; 4];
     assert_eq!(rt; reader.read(&mut buf), Ok(2));
     assert_eq!(rt; buf, [b'H', b'I', 0, 0]);
     assert_eq!(rt; reader.read(&mut buf), Ok(0));
-    Ok(())
 }
 
+// Lines, and what is said of each.
+const LINES: &[(&[u8], Result<(), LoadFault>)] = &[
+    (b"20 P.2", Ok(())),
+    (b" 010A=1", Ok(())),
+    (b"10\tP.", Err(LoadFault::BadByte(3))),
+    (b"10 P.\r", Err(LoadFault::BadByte(6))),
+    (b"P.", Err(LoadFault::NoNumber)),
+    (b"  ", Ok(())),
+    (b"30", Ok(())),
+    (b"20   P.345", Ok(())),
+    (b"40 P.", Ok(())),
+    (b"00040  ", Ok(())),
+];
+
 #[test]
-fn lines_are_entered(rt: HostRuntime) -> Result<(), Fail> {
+fn lines_are_entered(rt: HostRuntime) {
     let mut program = Program::new(rt.alloc(), 64);
-    assert!(rt; program.is_empty());
-    assert_eq!(rt; program.first(), None);
-    let lines: [(&[u8], Result<(), LoadFault>); 10] = [
-        (b"20 P.2", Ok(())),
-        (b" 010A=1", Ok(())),
-        (b"10\tP.", Err(LoadFault::BadByte(3))),
-        (b"10 P.\r", Err(LoadFault::BadByte(6))),
-        (b"P.", Err(LoadFault::NoNumber)),
-        (b"  ", Ok(())),
-        (b"30", Ok(())),
-        (b"20   P.345", Ok(())),
-        (b"40 P.", Ok(())),
-        (b"00040  ", Ok(())),
-    ];
-    for (line, expected) in lines {
+    assert!(rt; program.is_empty() && program.first() == None);
+    for &(line, expected) in LINES {
         assert_eq!(rt; program.enter(line), expected, "{line:?}");
     }
-    assert_eq!(rt; program.memory(), 64);
-    assert_eq!(rt; program.size(), 50);
-    assert_eq!(rt; program.len(), 2);
     assert!(rt; !program.is_empty());
-    let texts: [(i16, Option<&[u8]>); 5] = [
-        (10, Some(b"A=1")),
-        (20, Some(b"P.345")),
-        (40, None),
-        (0, None),
-        (-10, None),
-    ];
-    for (number, expected) in texts {
-        assert!(rt; program.line(number) == expected, "line {number}");
+    assert_eq!(rt;
+        (program.memory(), program.size(), program.len()),
+        (64, 50, 2)
+    );
+}
+
+// The program of these lines.
+fn entered(alloc: Global) -> Program {
+    let mut program = Program::new(alloc, 64);
+    for &(line, _) in LINES {
+        let _ = program.enter(line);
     }
-    for (number, index) in [(10, Some(0)), (20, Some(1)), (15, None), (-10, None)] {
-        assert_eq!(rt; program.index_of(number), index, "index of {number}");
+    program
+}
+
+const TEXTS_BY_NUMBER: &[(i16, Option<&[u8]>, Option<usize>)] = &[
+    (10, Some(b"A=1"), Some(0)),
+    (15, None, None),
+    (20, Some(b"P.345"), Some(1)),
+    (40, None, None),
+    (0, None, None),
+    (-10, None, None),
+];
+
+#[test]
+fn lines_are_found_by_number(rt: HostRuntime) {
+    let program = entered(rt.alloc());
+    for &(number, text, index) in TEXTS_BY_NUMBER {
+        assert!(rt; program.line(number) == text, "line {number}");
+        assert!(rt; program.index_of(number) == index, "index of {number}");
     }
-    assert!(rt; program.get(0) == Some((10, b"A=1".as_slice())));
-    assert!(rt; program.get(1) == Some((20, b"P.345".as_slice())));
-    assert!(rt; program.get(2) == None);
-    assert_eq!(rt; program.first(), Some(10));
-    for (number, next) in [
-        (-5, Some(10)),
-        (0, Some(10)),
-        (10, Some(20)),
-        (15, Some(20)),
-        (20, None),
-    ] {
-        assert_eq!(rt; program.after(number), next, "after {number}");
+}
+
+const TEXTS_BY_INDEX: &[(usize, Option<(i16, &[u8])>)] = &[
+    (0, Some((10, b"A=1"))),
+    (1, Some((20, b"P.345"))),
+    (2, None),
+];
+
+const NUMBERS_BEHIND: &[(i16, Option<i16>)] = &[
+    (-5, Some(10)),
+    (0, Some(10)),
+    (10, Some(20)),
+    (15, Some(20)),
+    (20, None),
+];
+
+#[test]
+fn lines_are_found_in_order(rt: HostRuntime) {
+    let program = entered(rt.alloc());
+    for &(index, expected) in TEXTS_BY_INDEX {
+        assert!(rt; program.get(index) == expected, "at {index}");
     }
-    Ok(())
+    assert!(rt; program.first() == Some(10));
+    for &(number, next) in NUMBERS_BEHIND {
+        assert!(rt; program.after(number) == next, "after {number}");
+    }
 }
 
 // Whether a program has the texts of a map under its numbers, and no others.
@@ -434,6 +473,28 @@ fn has_texts(program: &Program, texts: &BTreeMap<i16, Vec<u8>>) -> bool {
     index == program.len()
 }
 
+// Changes a program and a map alike by a random number: a line is entered or deleted.
+fn change(
+    alloc: Global,
+    program: &mut Program,
+    texts: &mut BTreeMap<i16, Vec<u8>>,
+    random: u32,
+    count: u32,
+) -> Result<Result<(), LoadFault>, Fail> {
+    let number = ((random >> 16) % 128) as i16 + 128;
+    let mut line = Vec::from_slice(alloc, format!(in alloc; "{number} ")?.as_bytes())?;
+    if random >> 31 == 0 {
+        let stamp = format!(in alloc; "A{count}")?;
+        let dots = (random >> 24) as usize;
+        let text = around(alloc, stamp.as_bytes(), b'.', dots, b"")?;
+        line.extend_from_slice(&text)?;
+        texts.insert(number, text)?;
+    } else {
+        drop(texts.remove(&number));
+    }
+    Ok(program.enter(&line))
+}
+
 // Half of the numbers are in use at most times, so that lines are new, replaced and deleted alike.
 #[test]
 fn entered_lines_are_those_of_a_map(rt: HostRuntime) -> Result<(), Fail> {
@@ -443,39 +504,35 @@ fn entered_lines_are_those_of_a_map(rt: HostRuntime) -> Result<(), Fail> {
     let mut random: u32 = 1;
     for count in 0..2000 {
         random = random.wrapping_mul(1_664_525).wrapping_add(1_013_904_223);
-        let number = ((random >> 16) % 128) as i16 + 128;
-        let mut line = Vec::from_slice(alloc, format!(in alloc; "{number} ")?.as_bytes())?;
-        if random >> 31 == 0 {
-            let stamp = format!(in alloc; "A{count}")?;
-            let dots = (random >> 24) as usize;
-            let text = around(alloc, stamp.as_bytes(), b'.', dots, b"")?;
-            line.extend_from_slice(&text)?;
-            texts.insert(number, text)?;
-        } else {
-            drop(texts.remove(&number));
-        }
-        assert_eq!(rt; program.enter(&line), Ok(()), "line {count}");
+        let entered = change(alloc, &mut program, &mut texts, random, count)?;
+        assert_eq!(rt; entered, Ok(()), "line {count}");
         assert!(rt; has_texts(&program, &texts), "after line {count}");
     }
     assert!(rt; program.len() > 50);
     Ok(())
 }
 
+const FAULTS: &[(LoadFault, &str)] = &[
+    (LoadFault::NoNumber, "no statement number"),
+    (LoadFault::NumberTooBig, "number too big"),
+    (LoadFault::TextTooLong, "text too long"),
+    (LoadFault::BadByte(6), "bad byte at 6"),
+    (LoadFault::Full, "program full"),
+    (LoadFault::Memory, "out of memory"),
+    (LoadFault::Read, "cannot read the program"),
+    (LoadFault::TooLong, "program too long"),
+];
+
 #[test]
 fn faults_print(rt: HostRuntime) -> Result<(), Fail> {
-    let texts = [
-        (LoadFault::NoNumber, "no statement number"),
-        (LoadFault::NumberTooBig, "number too big"),
-        (LoadFault::TextTooLong, "text too long"),
-        (LoadFault::BadByte(6), "bad byte at 6"),
-        (LoadFault::Full, "program full"),
-        (LoadFault::Memory, "out of memory"),
-        (LoadFault::Read, "cannot read the program"),
-        (LoadFault::TooLong, "program too long"),
-    ];
-    for (fault, text) in texts {
+    for &(fault, text) in FAULTS {
         assert_eq!(rt; fault.to_string(rt.alloc())?.as_str(), text);
     }
+    Ok(())
+}
+
+#[test]
+fn faults_of_devices_print(rt: HostRuntime) -> Result<(), Fail> {
     assert_eq!(rt; WriteFault.to_string(rt.alloc())?.as_str(), "cannot write");
     assert_eq!(rt;
         DeviceFault.to_string(rt.alloc())?.as_str(),
