@@ -1,6 +1,6 @@
 // This file tests runs and steps: worked rows, and what a run shows of faults.
 
-ghost use Rattle.std.specs.Prelude.{◌≡◌, None, IsTrue};
+ghost use Rattle.std.specs.Prelude.{◌≡◌, ◌≤ℤ◌, None, pos, IfSome, IsTrue};
 ghost use Rattle.ptb_machine.specs.Steps.{FitsProgram};
 
 use super::*;
@@ -55,274 +55,306 @@ fn outcome(
     Ok((result, screen))
 }
 
+// Whether a run of two lines ends so and shows this.
+fn comes_to(
+    alloc: Global,
+    lines: (&[u8], &[u8]),
+    limit: u32,
+    answers: &[i16],
+    want: Ending,
+    shown: &[u8],
+) -> Result<bool, Fail> {
+    let (result, screen) = outcome(alloc, lines.0, lines.1, limit, answers)?;
+    Ok(result == Ok(want) && screen.bytes() == shown)
+}
+
+const RUNS: &[(&[u8], &[u8], Ending, &[u8])] = &[
+    (b"", b"", Ending::End, b""),
+    (b"10 PRINT \"HI\"", b"", Ending::End, b"HI\n"),
+    (
+        b"10 PRINT 'ABC',_,\"X\",#3,7",
+        b"",
+        Ending::End,
+        b"ABC\rX  7\n",
+    ),
+    (b"10 PRINT -32767-1", b"", Ending::End, b"-32768\n"),
+    (b"10 PRINT SIZE", b"", Ending::End, b"  4083\n"),
+    (
+        b"20 P.2",
+        b"10 P.1,;REM P.3",
+        Ending::End,
+        b"     1     2\n",
+    ),
+    (b"10 P.1;STOP", b"20 P.2", Ending::Stop, b"     1\n"),
+    (
+        b"10 P.1,;GOTO 30",
+        b"30 P.3",
+        Ending::End,
+        b"     1     3\n",
+    ),
+    (b"10 IF 0 P.1;P.2", b"20 P.3", Ending::End, b"     3\n"),
+    (
+        b"10 IF 2 P.1;P.2",
+        b"20 P.3",
+        Ending::End,
+        b"     1\n     2\n     3\n",
+    ),
+    (b"10 IF 1=2 P.1", b"", Ending::End, b""),
+    (b"10 REM", b"", Ending::End, b""),
+    (
+        b"10 F.I=1TO3S.2;P.I,;N.I",
+        b"",
+        Ending::End,
+        b"     1     3",
+    ),
+    (b"10 @(3)=4;P.@(3)", b"", Ending::End, b"     4\n"),
+    (
+        b"10 GOS.30;P.2;S.",
+        b"30 P.1;R.",
+        Ending::Stop,
+        b"     1\n     2\n",
+    ),
+    (b"10 GOSUB 10", b"", Ending::Sorry, b"SORRY\n10 GOSUB 10?\n"),
+    (
+        b"10 GOS.30;N.J",
+        b"30 F.J=1TO9;R.",
+        Ending::What,
+        b"WHAT?\n10 GOS.30;N.J?\n",
+    ),
+    (
+        b"300 B=200,C=200",
+        b"310 LET A=B*C+2",
+        Ending::How,
+        b"HOW?\n310 LET A=B*C?+2\n",
+    ),
+    (b"10 INPUT A", b"", Ending::NoInput, b"A:"),
+];
+
 #[test]
 fn runs(rt: HostRuntime) -> Result<(), Fail> {
-    for (first, second, want, shown) in [
-        (&b""[..], &b""[..], Ending::End, &b""[..]),
-        (b"10 PRINT \"HI\"", b"", Ending::End, b"HI\n"),
-        (
-            b"10 PRINT 'ABC',_,\"X\",#3,7",
-            b"",
-            Ending::End,
-            b"ABC\rX  7\n",
-        ),
-        (b"10 PRINT -32767-1", b"", Ending::End, b"-32768\n"),
-        (b"10 PRINT SIZE", b"", Ending::End, b"  4083\n"),
-        (
-            b"20 P.2",
-            b"10 P.1,;REM P.3",
-            Ending::End,
-            b"     1     2\n",
-        ),
-        (b"10 P.1;STOP", b"20 P.2", Ending::Stop, b"     1\n"),
-        (
-            b"10 P.1,;GOTO 30",
-            b"30 P.3",
-            Ending::End,
-            b"     1     3\n",
-        ),
-        (b"10 IF 0 P.1;P.2", b"20 P.3", Ending::End, b"     3\n"),
-        (
-            b"10 IF 2 P.1;P.2",
-            b"20 P.3",
-            Ending::End,
-            b"     1\n     2\n     3\n",
-        ),
-        (b"10 IF 1=2 P.1", b"", Ending::End, b""),
-        (b"10 REM", b"", Ending::End, b""),
-        (
-            b"10 F.I=1TO3S.2;P.I,;N.I",
-            b"",
-            Ending::End,
-            b"     1     3",
-        ),
-        (b"10 @(3)=4;P.@(3)", b"", Ending::End, b"     4\n"),
-        (
-            b"10 GOS.30;P.2;S.",
-            b"30 P.1;R.",
-            Ending::Stop,
-            b"     1\n     2\n",
-        ),
-        (b"10 GOSUB 10", b"", Ending::Sorry, b"SORRY\n10 GOSUB 10?\n"),
-        (
-            b"10 GOS.30;N.J",
-            b"30 F.J=1TO9;R.",
-            Ending::What,
-            b"WHAT?\n10 GOS.30;N.J?\n",
-        ),
-        (
-            b"300 B=200,C=200",
-            b"310 LET A=B*C+2",
-            Ending::How,
-            b"HOW?\n310 LET A=B*C?+2\n",
-        ),
-        (b"10 INPUT A", b"", Ending::NoInput, b"A:"),
-    ] {
-        let (result, screen) = outcome(rt.alloc(), first, second, 300, &[])?;
-        assert!(rt; result == Ok(want), "{first:?}");
-        assert_eq!(rt; screen.bytes(), shown, "{first:?}");
+    for &(first, second, want, shown) in RUNS {
+        let found = comes_to(rt.alloc(), (first, second), 300, &[], want, shown)?;
+        assert!(rt; found, "{first:?}");
     }
     Ok(())
 }
+
+const FAULTS: &[(&[u8], Ending, &[u8])] = &[
+    (
+        b"10 PRINT -(-32767-1)",
+        Ending::How,
+        b"HOW?\n10 PRINT -(-32767-1)?\n",
+    ),
+    (
+        b"10 P.1,;P.1/0",
+        Ending::How,
+        b"     1\nHOW?\n10 P.1,;P.1/0?\n",
+    ),
+    (
+        b"10 P.1;P.1/0",
+        Ending::How,
+        b"     1\nHOW?\n10 P.1;P.1/0?\n",
+    ),
+    (
+        b"10 P._,;GOTO 9",
+        Ending::How,
+        b"\r\nHOW?\n10 P._,;GOTO 9?\n",
+    ),
+    (b"10 GOTO 20 P.1", Ending::What, b"WHAT?\n10 GOTO 20 ?P.1\n"),
+    (b"10 STOP 1", Ending::What, b"WHAT?\n10 STOP ?1\n"),
+    (b"10 P.@(30000)", Ending::Sorry, b"SORRY\n10 P.@(30000)?\n"),
+    (b"10 IF 0 P.(", Ending::End, b""),
+    (b"10 IF ;P.1", Ending::What, b"WHAT?\n10 IF ?;P.1\n"),
+];
 
 // A report begins on a fresh line, and shows the statement with the mark.
 #[test]
 fn faults(rt: HostRuntime) -> Result<(), Fail> {
-    for (line, want, shown) in [
-        (
-            &b"10 PRINT -(-32767-1)"[..],
-            Ending::How,
-            &b"HOW?\n10 PRINT -(-32767-1)?\n"[..],
-        ),
-        (
-            b"10 P.1,;P.1/0",
-            Ending::How,
-            b"     1\nHOW?\n10 P.1,;P.1/0?\n",
-        ),
-        (
-            b"10 P.1;P.1/0",
-            Ending::How,
-            b"     1\nHOW?\n10 P.1;P.1/0?\n",
-        ),
-        (
-            b"10 P._,;GOTO 9",
-            Ending::How,
-            b"\r\nHOW?\n10 P._,;GOTO 9?\n",
-        ),
-        (b"10 GOTO 20 P.1", Ending::What, b"WHAT?\n10 GOTO 20 ?P.1\n"),
-        (b"10 STOP 1", Ending::What, b"WHAT?\n10 STOP ?1\n"),
-        (b"10 P.@(30000)", Ending::Sorry, b"SORRY\n10 P.@(30000)?\n"),
-        (b"10 IF 0 P.(", Ending::End, b""),
-        (b"10 IF ;P.1", Ending::What, b"WHAT?\n10 IF ?;P.1\n"),
-    ] {
-        let (result, screen) = outcome(rt.alloc(), line, b"", 100, &[])?;
-        assert!(rt; result == Ok(want), "{line:?}");
-        assert_eq!(rt; screen.bytes(), shown, "{line:?}");
+    for &(line, want, shown) in FAULTS {
+        let found = comes_to(rt.alloc(), (line, b""), 100, &[], want, shown)?;
+        assert!(rt; found, "{line:?}");
     }
     Ok(())
 }
+
+const TWO_QUESTIONS: &[(u32, &[i16], Ending, &[u8])] = &[
+    (2, &[1, 2], Ending::End, b"     1     2\n"),
+    (2, &[1, 2, 9], Ending::End, b"     1     2\n"),
+    (1, &[1], Ending::Limit, b"     1"),
+    (0, &[], Ending::Limit, b""),
+    (9, &[1], Ending::NoAnswer, b"     1"),
+    (9, &[1, 3], Ending::BadAnswer, b"     1"),
+    (9, &[0], Ending::BadAnswer, b""),
+];
 
 // Answers to RND, and the limit on commands.
 #[test]
 fn limits_and_answers(rt: HostRuntime) -> Result<(), Fail> {
-    let again = &b"10 GOTO 10"[..];
-    let twice = &b"10 P.RND(2),;P.RND(2)"[..];
-    for (line, limit, answers, want, shown) in [
-        (again, 5, &[][..], Ending::Limit, &b""[..]),
-        (twice, 2, &[1, 2], Ending::End, b"     1     2\n"),
-        (twice, 2, &[1, 2, 9], Ending::End, b"     1     2\n"),
-        (twice, 1, &[1], Ending::Limit, b"     1"),
-        (twice, 0, &[], Ending::Limit, b""),
-        (twice, 9, &[1], Ending::NoAnswer, b"     1"),
-        (twice, 9, &[1, 3], Ending::BadAnswer, b"     1"),
-        (twice, 9, &[0], Ending::BadAnswer, b""),
-    ] {
-        let (result, screen) = outcome(rt.alloc(), line, b"", limit, answers)?;
-        assert!(rt; result == Ok(want), "{limit} {answers:?}");
-        assert_eq!(rt; screen.bytes(), shown, "{limit} {answers:?}");
+    for &(limit, answers, want, shown) in TWO_QUESTIONS {
+        let lines = (&b"10 P.RND(2),;P.RND(2)"[..], &b""[..]);
+        let found = comes_to(rt.alloc(), lines, limit, answers, want, shown)?;
+        assert!(rt; found, "{limit} {answers:?}");
     }
     Ok(())
 }
+
+#[test]
+fn an_endless_run(rt: HostRuntime) -> Result<(), Fail> {
+    let lines = (&b"10 GOTO 10"[..], &b""[..]);
+    assert!(rt; comes_to(rt.alloc(), lines, 5, &[], Ending::Limit, b"")?);
+    Ok(())
+}
+
+// Whether a run with this bound for missing lines ends so and shows this.
+fn takes_answers(
+    alloc: Global,
+    lines: (&[u8], &[u8]),
+    input: &[u8],
+    rules: Rules,
+    answers: &[i16],
+    want: Ending,
+    shown: &[u8],
+) -> Result<bool, Fail>
+    requires { IfSome rules.choose (λ n. pos 1 ≤ℤ n) }
+{
+    let program = program(alloc, lines.0, lines.1)?;
+    let mut input = input;
+    let mut reader = Device::new(&mut input);
+    let mut source = ReaderLines::new(&mut reader);
+    let mut list = Listed::new(answers);
+    let mut screen = TextScreen::new(alloc);
+    let result = run(alloc, &program, rules, &mut list, &mut screen, &mut source);
+    Ok(result == Ok(want) && screen.bytes() == shown)
+}
+
+const TWO_INPUTS: &[u8] = b"10 INPUT A,B;P.A+B";
+
+const ELEMENT: &[u8] = b"10 INPUT @(RND(2)-1);P.@(1)";
+
+const MISSING_LINES: &[(&[u8], &[u8], &[i16], Ending, &[u8])] = &[
+    (
+        b"10 INPUT A;PRINT A",
+        b"",
+        &[1],
+        Ending::End,
+        b"A:1\n     1\n",
+    ),
+    (
+        b"10 INPUT A;PRINT A",
+        b"",
+        &[2],
+        Ending::End,
+        b"A:2\n     2\n",
+    ),
+    (
+        b"10 INPUT A;PRINT A",
+        b")\n",
+        &[2],
+        Ending::End,
+        b"A:)\nWHAT?\nA:2\n     2\n",
+    ),
+    (
+        b"10 INPUT A;PRINT A",
+        b"7\n",
+        &[],
+        Ending::End,
+        b"A:7\n     7\n",
+    ),
+    (b"10 INPUT A", b"", &[], Ending::NoAnswer, b"A:"),
+    (b"10 INPUT A", b"", &[3], Ending::BadAnswer, b"A:"),
+    (b"10 INPUT A", b"", &[0], Ending::BadAnswer, b"A:"),
+    (b"10 INPUT \"N\"A", b"", &[2], Ending::End, b"N:2\n"),
+    (TWO_INPUTS, b"", &[1, 2], Ending::End, b"A:1\nB:2\n     3\n"),
+    (TWO_INPUTS, b"5\n", &[2], Ending::End, b"A:5\nB:2\n     7\n"),
+    (
+        TWO_INPUTS,
+        b"RND(3)\n",
+        &[3, 2],
+        Ending::End,
+        b"A:RND(3)\nB:2\n     5\n",
+    ),
+    (
+        ELEMENT,
+        b"",
+        &[2, 1],
+        Ending::End,
+        b"@(RND(2)-1):1\n     1\n",
+    ),
+    (ELEMENT, b"", &[2], Ending::NoAnswer, b"@(RND(2)-1):"),
+    (
+        ELEMENT,
+        b"?\n",
+        &[1, 2, 2],
+        Ending::End,
+        b"@(RND(2)-1):?\nWHAT?\n@(RND(2)-1):2\n     2\n",
+    ),
+];
 
 // An answer stands in for a line that INPUT doesn't find: it is shown as one, and isn't read.
 #[test]
 fn answers_in_place_of_lines(rt: HostRuntime) -> Result<(), Fail> {
-    let twice = &b"10 INPUT A,B;P.A+B"[..];
-    let element = &b"10 INPUT @(RND(2)-1);P.@(1)"[..];
-    for (line, input, answers, want, shown) in [
-        (
-            &b"10 INPUT A;PRINT A"[..],
-            &b""[..],
-            &[1][..],
-            Ending::End,
-            &b"A:1\n     1\n"[..],
-        ),
-        (
-            b"10 INPUT A;PRINT A",
-            b"",
-            &[2],
-            Ending::End,
-            b"A:2\n     2\n",
-        ),
-        (
-            b"10 INPUT A;PRINT A",
-            b")\n",
-            &[2],
-            Ending::End,
-            b"A:)\nWHAT?\nA:2\n     2\n",
-        ),
-        (
-            b"10 INPUT A;PRINT A",
-            b"7\n",
-            &[],
-            Ending::End,
-            b"A:7\n     7\n",
-        ),
-        (b"10 INPUT A", b"", &[], Ending::NoAnswer, b"A:"),
-        (b"10 INPUT A", b"", &[3], Ending::BadAnswer, b"A:"),
-        (b"10 INPUT A", b"", &[0], Ending::BadAnswer, b"A:"),
-        (b"10 INPUT \"N\"A", b"", &[2], Ending::End, b"N:2\n"),
-        (twice, b"", &[1, 2], Ending::End, b"A:1\nB:2\n     3\n"),
-        (twice, b"5\n", &[2], Ending::End, b"A:5\nB:2\n     7\n"),
-        (
-            twice,
-            b"RND(3)\n",
-            &[3, 2],
-            Ending::End,
-            b"A:RND(3)\nB:2\n     5\n",
-        ),
-        (
-            element,
-            b"",
-            &[2, 1],
-            Ending::End,
-            b"@(RND(2)-1):1\n     1\n",
-        ),
-        (element, b"", &[2], Ending::NoAnswer, b"@(RND(2)-1):"),
-        (
-            element,
-            b"?\n",
-            &[1, 2, 2],
-            Ending::End,
-            b"@(RND(2)-1):?\nWHAT?\n@(RND(2)-1):2\n     2\n",
-        ),
-    ] {
-        let program = program(rt.alloc(), line, b"")?;
-        let mut input = input;
-        let mut reader = Device::new(&mut input);
-        let mut source = ReaderLines::new(&mut reader);
-        let mut list = Listed::new(answers);
-        let mut screen = TextScreen::new(rt.alloc());
-        let rules = Rules {
-            limit: 9,
-            choose: Some(2),
-        };
-        let result = run(
-            rt.alloc(),
-            &program,
-            rules,
-            &mut list,
-            &mut screen,
-            &mut source,
-        );
-        assert!(rt; result == Ok(want), "{answers:?}");
-        assert_eq!(rt; screen.bytes(), shown, "{answers:?}");
+    let rules = Rules {
+        limit: 9,
+        choose: Some(2),
+    };
+    for &(line, input, answers, want, shown) in MISSING_LINES {
+        let lines = (line, &b""[..]);
+        let found = takes_answers(rt.alloc(), lines, input, rules, answers, want, shown)?;
+        assert!(rt; found, "{line:?} {answers:?}");
     }
     Ok(())
 }
 
+const GREAT_ANSWERS: &[(u32, &[i16], Ending, &[u8])] = &[
+    (9, &[32767, 1], Ending::End, b"A:32767\nA:1\n"),
+    (2, &[2, 2, 2], Ending::Limit, b"A:2\n"),
+];
+
 // The greatest bound, and commands that ask often.
 #[test]
 fn many_answers_in_place_of_lines(rt: HostRuntime) -> Result<(), Fail> {
-    for (limit, answers, want, shown) in [
-        (9, &[32767, 1][..], Ending::End, &b"A:32767\nA:1\n"[..]),
-        (2, &[2, 2, 2][..], Ending::Limit, &b"A:2\n"[..]),
-    ] {
-        let program = program(rt.alloc(), b"10 INPUT A", b"20 IF A#1 GOTO 10")?;
-        let mut list = Listed::new(answers);
-        let mut screen = TextScreen::new(rt.alloc());
-        let mut input = Lines::new(&[]);
+    for &(limit, answers, want, shown) in GREAT_ANSWERS {
+        let lines = (&b"10 INPUT A"[..], &b"20 IF A#1 GOTO 10"[..]);
         let rules = Rules {
             limit,
             choose: Some(32767),
         };
-        let result = run(
-            rt.alloc(),
-            &program,
-            rules,
-            &mut list,
-            &mut screen,
-            &mut input,
-        );
-        assert!(rt; result == Ok(want), "{limit}");
-        assert_eq!(rt; screen.bytes(), shown, "{limit}");
+        let found = takes_answers(rt.alloc(), lines, b"", rules, answers, want, shown)?;
+        assert!(rt; found, "{limit}");
     }
     Ok(())
+}
+
+// A step without answers and input.
+fn step_of(
+    machine: &mut Machine,
+    program: &Program,
+    limit: u32,
+    screen: &mut TextScreen,
+) -> Result<Option<Ending>, RunFault>
+    requires { FitsProgram program.now machine.old }
+    ensures { FitsProgram program.now machine.new }
+{
+    let mut list = Listed::new(&[]);
+    let mut input = Lines::new(&[]);
+    machine.step(program, plain_rules(limit), &mut list, screen, &mut input)
 }
 
 #[test]
 fn steps(rt: HostRuntime) -> Result<(), Fail> {
     let program = program(rt.alloc(), b"10 P.1,;P.2", b"")?;
-    let mut list = Listed::new(&[]);
     let mut screen = TextScreen::new(rt.alloc());
-    let mut input = Lines::new(&[]);
     let mut machine = Machine::new(rt.alloc(), &program)?;
-    assert_eq!(rt; machine.steps(), 0);
-    assert!(rt;
-        machine.step(&program, plain_rules(9), &mut list, &mut screen, &mut input) == Ok(None)
-    );
-    assert_eq!(rt; machine.steps(), 1);
-    assert_eq!(rt; screen.bytes(), &b"     1"[..]);
-    assert!(rt;
-        machine.step(&program, plain_rules(9), &mut list, &mut screen, &mut input) == Ok(None)
-    );
-    assert_eq!(rt; machine.steps(), 2);
-    let last = machine.step(&program, plain_rules(9), &mut list, &mut screen, &mut input);
+    assert!(rt; machine.steps() == 0);
+    assert!(rt; step_of(&mut machine, &program, 9, &mut screen) == Ok(None));
+    assert!(rt; machine.steps() == 1 && screen.bytes() == b"     1".as_slice());
+    assert!(rt; step_of(&mut machine, &program, 9, &mut screen) == Ok(None));
+    assert!(rt; machine.steps() == 2);
+    let last = step_of(&mut machine, &program, 9, &mut screen);
     assert!(rt; last == Ok(Some(Ending::End)));
-    let spent = machine.step(&program, plain_rules(9), &mut list, &mut screen, &mut input);
+    let spent = step_of(&mut machine, &program, 9, &mut screen);
     assert!(rt; spent == Err(RunFault::Spent));
-    assert_eq!(rt; machine.steps(), 2);
-    assert_eq!(rt; screen.bytes(), &b"     1     2\n"[..]);
+    assert!(rt; machine.steps() == 2 && screen.bytes() == b"     1     2\n".as_slice());
     Ok(())
 }
 
@@ -331,67 +363,71 @@ fn steps(rt: HostRuntime) -> Result<(), Fail> {
 #[test]
 fn copies(rt: HostRuntime) -> Result<(), Fail> {
     let program = program(rt.alloc(), b"10 A=A+1,B=SIZE", b"20 P.A")?;
-    let mut list = Listed::new(&[]);
     let mut screen = TextScreen::new(rt.alloc());
-    let mut input = Lines::new(&[]);
     let Ok(mut machine) = Machine::new(rt.alloc(), &program) else {
         return Ok(());
     };
     let Ok(mut copy) = machine.copy(rt.alloc()) else {
         return Ok(());
     };
-    assert!(rt;
-        machine.step(&program, plain_rules(9), &mut list, &mut screen, &mut input) == Ok(None)
-    );
-    assert_eq!(rt; copy.steps(), 0);
+    assert!(rt; step_of(&mut machine, &program, 9, &mut screen) == Ok(None));
+    assert!(rt; copy.steps() == 0);
     copy.copy_from(rt.alloc(), &machine)?;
-    assert_eq!(rt; copy.steps(), 1);
-    assert!(rt;
-        copy.step(&program, plain_rules(2), &mut list, &mut screen, &mut input) == Ok(None)
-    );
-    let last = copy.step(&program, plain_rules(2), &mut list, &mut screen, &mut input);
+    assert!(rt; copy.steps() == 1);
+    assert!(rt; step_of(&mut copy, &program, 2, &mut screen) == Ok(None));
+    let last = step_of(&mut copy, &program, 2, &mut screen);
     assert!(rt; last == Ok(Some(Ending::End)));
-    assert_eq!(rt; copy.steps(), 2);
-    assert_eq!(rt; machine.steps(), 1);
+    assert!(rt; copy.steps() == 2 && machine.steps() == 1);
     machine.copy_from(rt.alloc(), &copy)?;
-    let spent = machine.step(&program, plain_rules(9), &mut list, &mut screen, &mut input);
+    let spent = step_of(&mut machine, &program, 9, &mut screen);
     assert!(rt; spent == Err(RunFault::Spent));
     Ok(())
 }
 
+// The bytes of a report of HOW? on a text of this length.
+fn report_of(alloc: Global, fresh: bool, length: usize, mark: usize) -> Option<TextScreen> {
+    let kind = FaultKind::How;
+    let text = [b'A'; 400];
+    let mut screen = TextScreen::new(alloc);
+    let mut fresh = fresh;
+    let fault = Fault { kind, mark };
+    match report(&mut screen, &mut fresh, 10, text.get(..length)?, fault) {
+        Ok(()) if fresh => Some(screen),
+        _ => None,
+    }
+}
+
+// What the report is: its front, the text with the mark, and a newline.
+fn report_due(alloc: Global, fresh: bool, length: usize, mark: usize) -> Result<Vec<u8>, Fail> {
+    let front = if fresh { "HOW?\n10 " } else { "\nHOW?\n10 " };
+    let mut due = Vec::from_slice(alloc, front.as_bytes())?;
+    due.resize(front.len().saturating_add(mark), b'A')?;
+    due.push(b'?')?;
+    let whole = due.len().saturating_add(length.saturating_sub(mark));
+    due.resize(whole, b'A')?;
+    due.push(b'\n')?;
+    Ok(due)
+}
+
+const REPORTS: &[(bool, usize, usize)] = &[
+    (true, 0, 0),
+    (false, 0, 0),
+    (true, 255, 0),
+    (false, 255, 255),
+    (true, 400, 0),
+    (true, 400, 200),
+    (false, 400, 400),
+];
+
 // A report is whole, and has its mark, also where the text is longer than that of a statement.
 #[test]
 fn reports(rt: HostRuntime) -> Result<(), Fail> {
-    let kind = FaultKind::How;
-    let text = [b'A'; 400];
-    for (fresh, length, mark, from) in [
-        (true, 0, 0, 8),
-        (false, 0, 0, 9),
-        (true, 255, 0, 8),
-        (false, 255, 255, 9),
-        (true, 400, 0, 8),
-        (true, 400, 200, 8),
-        (false, 400, 400, 9),
-    ] {
-        let mut screen = TextScreen::new(rt.alloc());
-        let mut fresh = fresh;
-        let shown = report(
-            &mut screen,
-            &mut fresh,
-            10,
-            &text[..length],
-            Fault { kind, mark },
-        );
-        assert!(rt; shown == Ok(()) && fresh, "{length} {mark}");
-        let bytes = screen.bytes();
-        assert_eq!(rt; bytes.len(), from + length + 2, "{length} {mark}");
-        assert_eq!(rt;
-            &bytes[from - 8..from],
-            &b"HOW?\n10 "[..],
-            "{length} {mark}"
-        );
-        assert_eq!(rt; bytes[from + mark], b'?', "{length} {mark}");
-        assert_eq!(rt; bytes[from + length + 1], b'\n', "{length} {mark}");
+    for &(fresh, length, mark) in REPORTS {
+        let Some(screen) = report_of(rt.alloc(), fresh, length, mark) else {
+            panic!(rt; "no report of {length} bytes");
+        };
+        let due = report_due(rt.alloc(), fresh, length, mark)?;
+        assert!(rt; screen.bytes() == due.as_slice(), "{fresh} {length} {mark}");
     }
     Ok(())
 }
@@ -421,9 +457,19 @@ fn goes_on(machine: &mut Machine, program: &Program, screen: &mut TextScreen) ->
     requires { FitsProgram program.now machine.old }
     ensures { FitsProgram program.now machine.new }
 {
-    let mut list = Listed::new(&[]);
-    let mut input = Lines::new(&[]);
-    machine.step(program, plain_rules(100), &mut list, screen, &mut input) == Ok(None)
+    step_of(machine, program, 100, screen) == Ok(None)
+}
+
+// Does four of them.
+fn four_go_on(machine: &mut Machine, program: &Program, screen: &mut TextScreen) -> bool
+    requires { FitsProgram program.now machine.old }
+    ensures { FitsProgram program.now machine.new }
+{
+    let first = goes_on(machine, program, screen);
+    let second = goes_on(machine, program, screen);
+    let third = goes_on(machine, program, screen);
+    let fourth = goes_on(machine, program, screen);
+    first && second && third && fourth
 }
 
 // A machine has nothing of the program whose commands it did: after four turns of a sum and a jump
@@ -435,19 +481,12 @@ fn programs_with_the_same_places(rt: HostRuntime) -> Result<(), Fail> {
     let prints = program(alloc, b"10 PRINT", b"20 GOTO 10")?;
     let mut screen = TextScreen::new(alloc);
     let mut machine = Machine::new(alloc, &counts)?;
-    assert!(rt; goes_on(&mut machine, &counts, &mut screen));
-    assert!(rt; goes_on(&mut machine, &counts, &mut screen));
-    assert!(rt; goes_on(&mut machine, &counts, &mut screen));
-    assert!(rt; goes_on(&mut machine, &counts, &mut screen));
-    assert!(rt; goes_on(&mut machine, &counts, &mut screen));
-    assert!(rt; goes_on(&mut machine, &counts, &mut screen));
-    assert!(rt; goes_on(&mut machine, &counts, &mut screen));
-    assert!(rt; goes_on(&mut machine, &counts, &mut screen));
-    assert_eq!(rt; screen.bytes(), &b""[..]);
+    assert!(rt; four_go_on(&mut machine, &counts, &mut screen));
+    assert!(rt; four_go_on(&mut machine, &counts, &mut screen));
+    assert!(rt; screen.bytes().is_empty());
     assert!(rt; stands_at_beginning(&machine, &prints));
     assert!(rt; goes_on(&mut machine, &prints, &mut screen));
-    assert_eq!(rt; screen.bytes(), &b"\n"[..]);
-    assert_eq!(rt; machine.steps(), 9);
+    assert!(rt; screen.bytes() == b"\n".as_slice() && machine.steps() == 9);
     Ok(())
 }
 
@@ -473,293 +512,295 @@ fn ending_of(
     Ok((result, screen))
 }
 
+// Whether the run of a text ends so and shows this after so many steps, and stops at its limit with
+// one fewer.
+fn ends_so(
+    alloc: Global,
+    text: &[u8],
+    steps: u32,
+    want: Ending,
+    shown: &[u8],
+) -> Result<bool, Fail> {
+    let (result, screen) = ending_of(alloc, text, steps)?;
+    let (early, _) = ending_of(alloc, text, steps.saturating_sub(1))?;
+    Ok(result == Ok(want) && screen.bytes() == shown && early == Ok(Ending::Limit))
+}
+
+const FORMULAS_WITHOUT_A_VALUE: &[(&[u8], u32, Ending, &[u8])] = &[
+    (
+        b"10 A=32760\n20 A=A+1;GOTO 20\n",
+        16,
+        Ending::How,
+        b"HOW?\n20 A=A+1?;GOTO 20\n",
+    ),
+    (
+        b"10 A=A-8192;GOTO 10\n",
+        9,
+        Ending::How,
+        b"HOW?\n10 A=A-8192?;GOTO 10\n",
+    ),
+    (
+        b"10 A=-1\n20 A=A*2;GOTO 20\n",
+        30,
+        Ending::How,
+        b"HOW?\n20 A=A*2?;GOTO 20\n",
+    ),
+    (
+        b"10 A=3\n20 B=6/A\n30 A=A-1;GOTO 20\n",
+        11,
+        Ending::How,
+        b"HOW?\n20 B=6/A?\n",
+    ),
+];
+
 // Commands that are done often, up to one whose expression has no value. The run takes as many
 // steps as it is given, and one fewer are too few.
 #[test]
 fn formulas_without_a_value(rt: HostRuntime) -> Result<(), Fail> {
-    for (text, steps, want, shown) in [
-        (
-            &b"10 A=32760\n20 A=A+1;GOTO 20\n"[..],
-            16,
-            Ending::How,
-            &b"HOW?\n20 A=A+1?;GOTO 20\n"[..],
-        ),
-        (
-            b"10 A=A-8192;GOTO 10\n",
-            9,
-            Ending::How,
-            b"HOW?\n10 A=A-8192?;GOTO 10\n",
-        ),
-        (
-            b"10 A=-1\n20 A=A*2;GOTO 20\n",
-            30,
-            Ending::How,
-            b"HOW?\n20 A=A*2?;GOTO 20\n",
-        ),
-        (
-            b"10 A=3\n20 B=6/A\n30 A=A-1;GOTO 20\n",
-            11,
-            Ending::How,
-            b"HOW?\n20 B=6/A?\n",
-        ),
-    ] {
-        let (result, screen) = ending_of(rt.alloc(), text, steps)?;
-        assert!(rt; result == Ok(want), "{text:?}");
-        assert_eq!(rt; screen.bytes(), shown, "{text:?}");
-        let (result, _) = ending_of(rt.alloc(), text, steps.saturating_sub(1))?;
-        assert!(rt; result == Ok(Ending::Limit), "{text:?}");
+    for &(text, steps, want, shown) in FORMULAS_WITHOUT_A_VALUE {
+        assert!(rt; ends_so(rt.alloc(), text, steps, want, shown)?, "{text:?}");
     }
     Ok(())
 }
+
+const JUMPS: &[(&[u8], u32, Ending, &[u8])] = &[(
+    b"10 A=40\n20 B=B+1;A=90-A;GOTO A\n40 IF B=6 STOP\n45 GOTO 20\n50 P.B,;GOTO 20\n",
+    31,
+    Ending::Stop,
+    b"     1     3     5",
+)];
 
 // Jumps to a number beside jumps to the value of a variable.
 #[test]
 fn jumps_done_often(rt: HostRuntime) -> Result<(), Fail> {
-    for (text, steps, want, shown) in [(
-        &b"10 A=40\n20 B=B+1;A=90-A;GOTO A\n40 IF B=6 STOP\n45 GOTO 20\n50 P.B,;GOTO 20\n"[..],
-        31,
-        Ending::Stop,
-        &b"     1     3     5"[..],
-    )] {
-        let (result, screen) = ending_of(rt.alloc(), text, steps)?;
-        assert!(rt; result == Ok(want), "{text:?}");
-        assert_eq!(rt; screen.bytes(), shown, "{text:?}");
-        let (result, _) = ending_of(rt.alloc(), text, steps.saturating_sub(1))?;
-        assert!(rt; result == Ok(Ending::Limit), "{text:?}");
+    for &(text, steps, want, shown) in JUMPS {
+        assert!(rt; ends_so(rt.alloc(), text, steps, want, shown)?, "{text:?}");
     }
     Ok(())
 }
 
+const CONDITIONS: &[(&[u8], u32, Ending, &[u8])] = &[
+    (
+        b"10 A=A+1;IF A<5 GOTO 10\n20 P.A\n",
+        15,
+        Ending::End,
+        b"     5\n",
+    ),
+    (b"10 A=A+1;IF A>4 STOP\n20 GOTO 10\n", 15, Ending::Stop, b""),
+    (b"10 A=A+1;IF A<4 GOTO 10\n", 11, Ending::End, b""),
+    (
+        b"10 A=A+3000;IF A+A>0 GOTO 10\n",
+        17,
+        Ending::How,
+        b"HOW?\n10 A=A+3000;IF A+A?>0 GOTO 10\n",
+    ),
+    (
+        b"10 A=A+1;IF A<6\n20 IF A<7 GOTO 10\n30 P.A\n",
+        28,
+        Ending::End,
+        b"     7\n",
+    ),
+    (
+        b"10 IF A;P.1\n20 B=B+1;IF B<4 GOTO 10\n30 A=1;GOTO 10\n",
+        19,
+        Ending::What,
+        b"WHAT?\n10 IF A?;P.1\n",
+    ),
+];
+
 // Conditions that change, one behind which the text is over, and one that has no value at last.
 #[test]
 fn conditions_done_often(rt: HostRuntime) -> Result<(), Fail> {
-    for (text, steps, want, shown) in [
-        (
-            &b"10 A=A+1;IF A<5 GOTO 10\n20 P.A\n"[..],
-            15,
-            Ending::End,
-            &b"     5\n"[..],
-        ),
-        (b"10 A=A+1;IF A>4 STOP\n20 GOTO 10\n", 15, Ending::Stop, b""),
-        (b"10 A=A+1;IF A<4 GOTO 10\n", 11, Ending::End, b""),
-        (
-            b"10 A=A+3000;IF A+A>0 GOTO 10\n",
-            17,
-            Ending::How,
-            b"HOW?\n10 A=A+3000;IF A+A?>0 GOTO 10\n",
-        ),
-        (
-            b"10 A=A+1;IF A<6\n20 IF A<7 GOTO 10\n30 P.A\n",
-            28,
-            Ending::End,
-            b"     7\n",
-        ),
-        (
-            b"10 IF A;P.1\n20 B=B+1;IF B<4 GOTO 10\n30 A=1;GOTO 10\n",
-            19,
-            Ending::What,
-            b"WHAT?\n10 IF A?;P.1\n",
-        ),
-    ] {
-        let (result, screen) = ending_of(rt.alloc(), text, steps)?;
-        assert!(rt; result == Ok(want), "{text:?}");
-        assert_eq!(rt; screen.bytes(), shown, "{text:?}");
-        let (result, _) = ending_of(rt.alloc(), text, steps.saturating_sub(1))?;
-        assert!(rt; result == Ok(Ending::Limit), "{text:?}");
+    for &(text, steps, want, shown) in CONDITIONS {
+        assert!(rt; ends_so(rt.alloc(), text, steps, want, shown)?, "{text:?}");
     }
     Ok(())
 }
+
+const PLACES: &[(&[u8], u32, Ending, &[u8])] = &[
+    (
+        b"10 A=A+1\n20 B=B+A;C=C+1\n30 IF C<5 GOTO 10\n40 P.A,B,C\n",
+        25,
+        Ending::End,
+        b"     5    15     5\n",
+    ),
+    (
+        b"10 A=A+1  \n20 B=B+A ;  \n30 IF B<15 GOTO 10  \n40 P.A,B\n",
+        20,
+        Ending::End,
+        b"     5    15\n",
+    ),
+    (
+        b"10 A=A+1,B=B+A\n20 IF A<5 GOTO 10\n30 P.A,B\n",
+        15,
+        Ending::End,
+        b"     5    15\n",
+    ),
+    (
+        b"10 A=A+1;@(A)=A*A;B=B+@(A)\n20 IF A<5 GOTO 10\n30 P.B,@(4)\n",
+        25,
+        Ending::End,
+        b"    55    16\n",
+    ),
+];
 
 // Commands behind one another, at the end of a text and behind blanks, and assignments of more
 // than one value.
 #[test]
 fn places_of_commands_done_often(rt: HostRuntime) -> Result<(), Fail> {
-    for (text, steps, want, shown) in [
-        (
-            &b"10 A=A+1\n20 B=B+A;C=C+1\n30 IF C<5 GOTO 10\n40 P.A,B,C\n"[..],
-            25,
-            Ending::End,
-            &b"     5    15     5\n"[..],
-        ),
-        (
-            b"10 A=A+1  \n20 B=B+A ;  \n30 IF B<15 GOTO 10  \n40 P.A,B\n",
-            20,
-            Ending::End,
-            b"     5    15\n",
-        ),
-        (
-            b"10 A=A+1,B=B+A\n20 IF A<5 GOTO 10\n30 P.A,B\n",
-            15,
-            Ending::End,
-            b"     5    15\n",
-        ),
-        (
-            b"10 A=A+1;@(A)=A*A;B=B+@(A)\n20 IF A<5 GOTO 10\n30 P.B,@(4)\n",
-            25,
-            Ending::End,
-            b"    55    16\n",
-        ),
-    ] {
-        let (result, screen) = ending_of(rt.alloc(), text, steps)?;
-        assert!(rt; result == Ok(want), "{text:?}");
-        assert_eq!(rt; screen.bytes(), shown, "{text:?}");
-        let (result, _) = ending_of(rt.alloc(), text, steps.saturating_sub(1))?;
-        assert!(rt; result == Ok(Ending::Limit), "{text:?}");
+    for &(text, steps, want, shown) in PLACES {
+        assert!(rt; ends_so(rt.alloc(), text, steps, want, shown)?, "{text:?}");
     }
     Ok(())
 }
 
+const CALLS: &[(&[u8], u32, Ending, &[u8])] = &[
+    (
+        b"10 D=D+1;GOSUB 10\n",
+        514,
+        Ending::Sorry,
+        b"SORRY\n10 D=D+1;GOSUB 10?\n",
+    ),
+    (
+        b"10 GOSUB 10;P.1\n",
+        257,
+        Ending::Sorry,
+        b"SORRY\n10 GOSUB 10?;P.1\n",
+    ),
+    (
+        b"10 I=I+1;GOSUB 40\n20 IF I<5 GOTO 10\n40 RETURN\n",
+        25,
+        Ending::What,
+        b"WHAT?\n40 RETURN?\n",
+    ),
+    (
+        b"10 I=I+1;GOSUB 40;P.I,\n20 IF I<4 GOTO 10\n30 STOP\n40 RETURN\n",
+        24,
+        Ending::Stop,
+        b"     1     2     3     4",
+    ),
+];
+
 // Calls until no room is left, and RETURN where no call is open any more.
 #[test]
 fn calls_done_often(rt: HostRuntime) -> Result<(), Fail> {
-    for (text, steps, want, shown) in [
-        (
-            &b"10 D=D+1;GOSUB 10\n"[..],
-            514,
-            Ending::Sorry,
-            &b"SORRY\n10 D=D+1;GOSUB 10?\n"[..],
-        ),
-        (
-            b"10 GOSUB 10;P.1\n",
-            257,
-            Ending::Sorry,
-            b"SORRY\n10 GOSUB 10?;P.1\n",
-        ),
-        (
-            b"10 I=I+1;GOSUB 40\n20 IF I<5 GOTO 10\n40 RETURN\n",
-            25,
-            Ending::What,
-            b"WHAT?\n40 RETURN?\n",
-        ),
-        (
-            b"10 I=I+1;GOSUB 40;P.I,\n20 IF I<4 GOTO 10\n30 STOP\n40 RETURN\n",
-            24,
-            Ending::Stop,
-            b"     1     2     3     4",
-        ),
-    ] {
-        let (result, screen) = ending_of(rt.alloc(), text, steps)?;
-        assert!(rt; result == Ok(want), "{text:?}");
-        assert_eq!(rt; screen.bytes(), shown, "{text:?}");
-        let (result, _) = ending_of(rt.alloc(), text, steps.saturating_sub(1))?;
-        assert!(rt; result == Ok(Ending::Limit), "{text:?}");
+    for &(text, steps, want, shown) in CALLS {
+        assert!(rt; ends_so(rt.alloc(), text, steps, want, shown)?, "{text:?}");
     }
     Ok(())
 }
+
+const LOOPS: &[(&[u8], u32, Ending, &[u8])] = &[
+    (
+        b"10 A=A+1;IF A=4 GOTO 30\n20 FOR I=1 TO 2;GOTO 30\n30 NEXT I\n40 GOTO 10\n",
+        28,
+        Ending::What,
+        b"WHAT?\n30 NEXT I?\n",
+    ),
+    (
+        b"10 A=A+1;GOSUB 40\n20 IF A<4 GOTO 10\n30 NEXT I\n40 FOR I=1 TO 9;RETURN\n",
+        24,
+        Ending::What,
+        b"WHAT?\n30 NEXT I?\n",
+    ),
+    (
+        b"10 FOR I=9 TO 1 STEP -2\n20 P.I,;NEXT I\n30 P.I\n",
+        12,
+        Ending::End,
+        b"     9     7     5     3     1    -1\n",
+    ),
+    (
+        b"10 FOR I=1 TO 3\n20 FOR J=1 TO 3\n30 A=A+1;NEXT I\n40 P.A,I,J;NEXT J\n",
+        12,
+        Ending::What,
+        b"     3     4     1\nWHAT?\n40 P.A,I,J;NEXT J?\n",
+    ),
+];
 
 // A downward loop, loops closed by an outer one and by RETURN, and NEXT where none is open any
 // more.
 #[test]
 fn loops_done_often(rt: HostRuntime) -> Result<(), Fail> {
-    for (text, steps, want, shown) in [
-        (
-            &b"10 A=A+1;IF A=4 GOTO 30\n20 FOR I=1 TO 2;GOTO 30\n30 NEXT I\n40 GOTO 10\n"[..],
-            28,
-            Ending::What,
-            &b"WHAT?\n30 NEXT I?\n"[..],
-        ),
-        (
-            b"10 A=A+1;GOSUB 40\n20 IF A<4 GOTO 10\n30 NEXT I\n40 FOR I=1 TO 9;RETURN\n",
-            24,
-            Ending::What,
-            b"WHAT?\n30 NEXT I?\n",
-        ),
-        (
-            b"10 FOR I=9 TO 1 STEP -2\n20 P.I,;NEXT I\n30 P.I\n",
-            12,
-            Ending::End,
-            b"     9     7     5     3     1    -1\n",
-        ),
-        (
-            b"10 FOR I=1 TO 3\n20 FOR J=1 TO 3\n30 A=A+1;NEXT I\n40 P.A,I,J;NEXT J\n",
-            12,
-            Ending::What,
-            b"     3     4     1\nWHAT?\n40 P.A,I,J;NEXT J?\n",
-        ),
-    ] {
-        let (result, screen) = ending_of(rt.alloc(), text, steps)?;
-        assert!(rt; result == Ok(want), "{text:?}");
-        assert_eq!(rt; screen.bytes(), shown, "{text:?}");
-        let (result, _) = ending_of(rt.alloc(), text, steps.saturating_sub(1))?;
-        assert!(rt; result == Ok(Ending::Limit), "{text:?}");
+    for &(text, steps, want, shown) in LOOPS {
+        assert!(rt; ends_so(rt.alloc(), text, steps, want, shown)?, "{text:?}");
     }
     Ok(())
 }
 
+const LOOPS_TO_THE_ENDS: &[(&[u8], u32, Ending, &[u8])] = &[
+    (
+        b"10 FOR I=32760 TO 32767\n20 NEXT I\n30 P.I\n",
+        10,
+        Ending::End,
+        b" 32767\n",
+    ),
+    (
+        b"10 FOR I=32760 TO 32767\n20 NEXT I\n30 P.I;NEXT I\n",
+        11,
+        Ending::What,
+        b" 32767\nWHAT?\n30 P.I;NEXT I?\n",
+    ),
+    (
+        b"10 FOR I=-32760 TO -32767-1 STEP -2\n20 NEXT I\n30 P.I\n",
+        7,
+        Ending::End,
+        b"-32768\n",
+    ),
+];
+
 // A loop ends where its next value is out of range, and its variable keeps the value before.
 #[test]
 fn loops_to_the_ends_of_the_range(rt: HostRuntime) -> Result<(), Fail> {
-    for (text, steps, want, shown) in [
-        (
-            &b"10 FOR I=32760 TO 32767\n20 NEXT I\n30 P.I\n"[..],
-            10,
-            Ending::End,
-            &b" 32767\n"[..],
-        ),
-        (
-            b"10 FOR I=32760 TO 32767\n20 NEXT I\n30 P.I;NEXT I\n",
-            11,
-            Ending::What,
-            b" 32767\nWHAT?\n30 P.I;NEXT I?\n",
-        ),
-        (
-            b"10 FOR I=-32760 TO -32767-1 STEP -2\n20 NEXT I\n30 P.I\n",
-            7,
-            Ending::End,
-            b"-32768\n",
-        ),
-    ] {
-        let (result, screen) = ending_of(rt.alloc(), text, steps)?;
-        assert!(rt; result == Ok(want), "{text:?}");
-        assert_eq!(rt; screen.bytes(), shown, "{text:?}");
-        let (result, _) = ending_of(rt.alloc(), text, steps.saturating_sub(1))?;
-        assert!(rt; result == Ok(Ending::Limit), "{text:?}");
+    for &(text, steps, want, shown) in LOOPS_TO_THE_ENDS {
+        assert!(rt; ends_so(rt.alloc(), text, steps, want, shown)?, "{text:?}");
     }
     Ok(())
 }
+
+const SHARED_ENTRIES: &[(&[u8], u32, Ending, &[u8])] = &[
+    (
+        b"10 A=A+10;B=B+1;C=C+1;D=2;E=A-B;IF B<G GOTO 10\n20 G=G+5;IF G<20 GOTO 10\n30 P.A,B,C,D,E,G\n",
+        113,
+        Ending::End,
+        b"   150    15    15     2   135    20\n",
+    ),
+    (
+        b"10 A=A+10;B=B+1;C=C+1;D=2;E=A-B;IF B=4 STOP\n20 F=F+E;P.F,;GOTO 10\n",
+        34,
+        Ending::Stop,
+        b"     9    27    54",
+    ),
+];
 
 // The place 29 of the first statement and the beginning of the second share the room that is kept
 // for what was read of a command.
 #[test]
 fn places_that_share_an_entry(rt: HostRuntime) -> Result<(), Fail> {
-    for (text, steps, want, shown) in [
-        (
-            &b"10 A=A+10;B=B+1;C=C+1;D=2;E=A-B;IF B<G GOTO 10\n20 G=G+5;IF G<20 GOTO 10\n30 P.A,B,C,D,E,G\n"[..],
-            113,
-            Ending::End,
-            &b"   150    15    15     2   135    20\n"[..],
-        ),
-        (
-            b"10 A=A+10;B=B+1;C=C+1;D=2;E=A-B;IF B=4 STOP\n20 F=F+E;P.F,;GOTO 10\n",
-            34,
-            Ending::Stop,
-            b"     9    27    54",
-        ),
-    ] {
-        let (result, screen) = ending_of(rt.alloc(), text, steps)?;
-        assert!(rt; result == Ok(want), "{text:?}");
-        assert_eq!(rt; screen.bytes(), shown, "{text:?}");
-        let (result, _) = ending_of(rt.alloc(), text, steps.saturating_sub(1))?;
-        assert!(rt; result == Ok(Ending::Limit), "{text:?}");
+    for &(text, steps, want, shown) in SHARED_ENTRIES {
+        assert!(rt; ends_so(rt.alloc(), text, steps, want, shown)?, "{text:?}");
     }
     Ok(())
 }
 
+const LIMITS: &[(u32, &[u8])] = &[
+    (7, b"     1     2"),
+    (8, b"     1     2     3"),
+    (9, b"     1     2     3"),
+    (10, b"     1     2     3"),
+    (11, b"     1     2     3     4"),
+    (12, b"     1     2     3     4"),
+    (20, b"     1     2     3     4     5     6     7"),
+];
+
 // Each command counts as one step, however it is done: only every third one is shown.
 #[test]
 fn limits_on_commands_done_often(rt: HostRuntime) -> Result<(), Fail> {
-    for (limit, shown) in [
-        (7, &b"     1     2"[..]),
-        (8, b"     1     2     3"),
-        (9, b"     1     2     3"),
-        (10, b"     1     2     3"),
-        (11, b"     1     2     3     4"),
-        (12, b"     1     2     3     4"),
-        (20, b"     1     2     3     4     5     6     7"),
-    ] {
+    for &(limit, shown) in LIMITS {
         let (result, screen) = ending_of(rt.alloc(), b"10 A=A+1;P.A,;GOTO 10", limit)?;
-        assert!(rt; result == Ok(Ending::Limit), "{limit}");
-        assert_eq!(rt; screen.bytes(), shown, "{limit}");
+        assert!(rt;
+            result == Ok(Ending::Limit) && screen.bytes() == shown,
+            "{limit}"
+        );
     }
     Ok(())
 }
@@ -770,18 +811,12 @@ fn places_of_one_statement_that_share_an_entry(rt: HostRuntime) -> Result<(), Fa
     let mut text = Vec::from_slice(rt.alloc(), b"10 A=A+1")?;
     text.resize(3 + 127, b' ')?;
     text.extend_from_slice(b";IF A<5 GOTO 10\n20 P.A\n")?;
-    let (result, screen) = ending_of(rt.alloc(), text.as_slice(), 15)?;
-    assert!(rt; result == Ok(Ending::End));
-    assert_eq!(rt; screen.bytes(), &b"     5\n"[..]);
-    let (result, _) = ending_of(rt.alloc(), text.as_slice(), 14)?;
-    assert!(rt; result == Ok(Ending::Limit));
+    assert!(rt; ends_so(rt.alloc(), text.as_slice(), 15, Ending::End, b"     5\n")?);
     Ok(())
 }
 
-// So do the beginnings of the first statement and of the 129th.
-#[test]
-fn statements_that_share_an_entry(rt: HostRuntime) -> Result<(), Fail> {
-    let mut text = Vec::from_slice(rt.alloc(), b"10 A=A+1;GOTO 5000\n")?;
+// 127 lines of comments, numbered from 1000 on.
+fn comments(text: &mut Vec<u8>) -> Result<(), Fail> {
     for n in 0..127_u8 {
         text.push(b'1')?;
         text.push((n / 100).wrapping_add(b'0'))?;
@@ -789,11 +824,15 @@ fn statements_that_share_an_entry(rt: HostRuntime) -> Result<(), Fail> {
         text.push((n % 10).wrapping_add(b'0'))?;
         text.extend_from_slice(b" REM\n")?;
     }
+    Ok(())
+}
+
+// So do the beginnings of the first statement and of the 129th.
+#[test]
+fn statements_that_share_an_entry(rt: HostRuntime) -> Result<(), Fail> {
+    let mut text = Vec::from_slice(rt.alloc(), b"10 A=A+1;GOTO 5000\n")?;
+    comments(&mut text)?;
     text.extend_from_slice(b"5000 IF A<5 GOTO 10\n5010 P.A\n")?;
-    let (result, screen) = ending_of(rt.alloc(), text.as_slice(), 20)?;
-    assert!(rt; result == Ok(Ending::End));
-    assert_eq!(rt; screen.bytes(), &b"     5\n"[..]);
-    let (result, _) = ending_of(rt.alloc(), text.as_slice(), 19)?;
-    assert!(rt; result == Ok(Ending::Limit));
+    assert!(rt; ends_so(rt.alloc(), text.as_slice(), 20, Ending::End, b"     5\n")?);
     Ok(())
 }
