@@ -1,11 +1,13 @@
 // This file tests runs that end, and that can't be read or written.
 
-ghost use Rattle.std.specs.Prelude.{◌≡◌, None};
+ghost use Rattle.std.specs.Prelude.{◌≡◌, ◌≤ℤ◌, pos, None, IfSome};
 
 use super::*;
 use ptb_text::{Device, LoadFault};
+use std::fmt::Debug;
 use std::io;
 use std::io::ErrorKind;
+use std::process::Abort;
 use std::test::Fail;
 
 // A reader and a writer that fail at once.
@@ -45,6 +47,52 @@ fn lines_alone(limit: u32) -> Rules
     }
 }
 
+// Two values that must be the same.
+fn expect_same<T: Copy + PartialEq + Debug>(rt: &impl Abort, found: T, wanted: T) {
+    assert_eq!(rt; found, wanted);
+}
+
+// How a run without input ends, and what it shows.
+fn ended(
+    alloc: Global,
+    line: &[u8],
+    answers: &[i16],
+    rules: Rules,
+) -> Result<(Result<Ending, RunFault>, Vec<u8>), Fail>
+    requires { IfSome rules.choose (λ n. pos 1 ≤ℤ n) }
+{
+    let program = one_line(alloc, line)?;
+    let mut input = Device::new(&b""[..]);
+    let mut shown = Vec::new(alloc);
+    let mut out = Device::new(&mut shown);
+    let ending = run_plain(alloc, &program, answers, rules, &mut input, &mut out);
+    Ok((ending, shown))
+}
+
+// How a run of 10 commands at most ends by a seed and without input, and what it shows.
+fn ended_by_seed(
+    alloc: Global,
+    line: &[u8],
+    seed: u64,
+) -> Result<(Result<Ending, RunFault>, Vec<u8>), Fail> {
+    let program = one_line(alloc, line)?;
+    let mut input = Device::new(&b""[..]);
+    let mut shown = Vec::new(alloc);
+    let mut out = Device::new(&mut shown);
+    let ending = run_seeded(alloc, &program, seed, lines_alone(10), &mut input, &mut out);
+    Ok((ending, shown))
+}
+
+// How a run ended, and all that it showed.
+fn expect_ending(
+    rt: &impl Abort,
+    run: (Result<Ending, RunFault>, Vec<u8>),
+    ending: Ending,
+    shown: &[u8],
+) {
+    expect_same(rt, (run.0, run.1.as_slice()), (Ok(ending), shown));
+}
+
 #[test]
 fn endings(rt: HostRuntime) -> Result<(), Fail> {
     for (answers, ending, shown) in [
@@ -53,20 +101,8 @@ fn endings(rt: HostRuntime) -> Result<(), Fail> {
         (&[2, 9], Ending::End, b"     2\n"),
         (&[3], Ending::BadAnswer, b""),
     ] {
-        let program = one_line(rt.alloc(), b"10 P.RND(2)")?;
-        let mut input = Device::new(&b""[..]);
-        let mut shown_bytes = Vec::new(rt.alloc());
-        let mut out = Device::new(&mut shown_bytes);
-        let result = run_plain(
-            rt.alloc(),
-            &program,
-            answers,
-            lines_alone(10),
-            &mut input,
-            &mut out,
-        );
-        assert_eq!(rt; result, Ok(ending));
-        assert_eq!(rt; shown_bytes.as_slice(), shown);
+        let run = ended(rt.alloc(), b"10 P.RND(2)", answers, lines_alone(10))?;
+        expect_ending(&rt, run, ending, shown);
     }
     Ok(())
 }
@@ -88,20 +124,8 @@ fn seeded_endings(rt: HostRuntime) -> Result<(), Fail> {
         (7, b"10 A=RND(2);GOTO 10", Ending::Limit, b""),
         (7, b"10 A=RND(0)", Ending::How, b"HOW?\n10 A=RND(0)?\n"),
     ] {
-        let program = one_line(rt.alloc(), line)?;
-        let mut input = Device::new(&b""[..]);
-        let mut shown_bytes = Vec::new(rt.alloc());
-        let mut out = Device::new(&mut shown_bytes);
-        let result = run_seeded(
-            rt.alloc(),
-            &program,
-            seed,
-            lines_alone(10),
-            &mut input,
-            &mut out,
-        );
-        assert_eq!(rt; result, Ok(ending));
-        assert_eq!(rt; shown_bytes.as_slice(), shown);
+        let run = ended_by_seed(rt.alloc(), line, seed)?;
+        expect_ending(&rt, run, ending, shown);
     }
     Ok(())
 }
@@ -118,13 +142,8 @@ fn endings_without_lines(rt: HostRuntime) -> Result<(), Fail> {
         (&[2], Ending::End, b"A:2\n     2\n"),
         (&[3], Ending::BadAnswer, b"A:"),
     ] {
-        let program = one_line(rt.alloc(), b"10 INPUT A;PRINT A")?;
-        let mut input = Device::new(&b""[..]);
-        let mut shown_bytes = Vec::new(rt.alloc());
-        let mut out = Device::new(&mut shown_bytes);
-        let result = run_plain(rt.alloc(), &program, answers, rules, &mut input, &mut out);
-        assert_eq!(rt; result, Ok(ending));
-        assert_eq!(rt; shown_bytes.as_slice(), shown);
+        let run = ended(rt.alloc(), b"10 INPUT A;PRINT A", answers, rules)?;
+        expect_ending(&rt, run, ending, shown);
     }
     Ok(())
 }
@@ -146,8 +165,8 @@ fn refused_seeded_runs(rt: HostRuntime) {
         &mut input,
         &mut out,
     ) {
-        Ok(ending) => assert_eq!(rt; ending, Ending::End),
-        Err(fault) => assert_eq!(rt; fault, RunFault::Memory),
+        Ok(ending) => expect_same(&rt, ending, Ending::End),
+        Err(fault) => expect_same(&rt, fault, RunFault::Memory),
     }
     let mut ended = false;
     for pair in shown.as_chunks::<2>().0 {
@@ -156,55 +175,49 @@ fn refused_seeded_runs(rt: HostRuntime) {
     }
 }
 
+// What a run comes to whose input can't be read, and what it shows.
+fn unread(alloc: Global, program: &Program) -> (Result<Ending, RunFault>, Vec<u8>) {
+    let mut shown = Vec::new(alloc);
+    let mut input = Device::new(Broken);
+    let mut out = Device::new(&mut shown);
+    let ending = run_plain(alloc, program, &[], lines_alone(10), &mut input, &mut out);
+    (ending, shown)
+}
+
+// The same of a run by a seed.
+fn unread_by_seed(alloc: Global, program: &Program) -> (Result<Ending, RunFault>, Vec<u8>) {
+    let mut shown = Vec::new(alloc);
+    let mut input = Device::new(Broken);
+    let mut out = Device::new(&mut shown);
+    let ending = run_seeded(alloc, program, 7, lines_alone(10), &mut input, &mut out);
+    (ending, shown)
+}
+
+// The input could not be read when a line was asked for.
+fn expect_unread(rt: &impl Abort, run: (Result<Ending, RunFault>, Vec<u8>)) {
+    expect_same(
+        rt,
+        (run.0, run.1.as_slice()),
+        (Err(RunFault::Read), b"\nA:"),
+    );
+}
+
+// A run, and one by a seed, can't be written to the same writer.
+fn expect_unwritten(rt: &impl Abort, alloc: Global, program: &Program) {
+    let mut input = Device::new(&b""[..]);
+    let mut broken = Device::new(Broken);
+    let rules = lines_alone(10);
+    let plain = run_plain(alloc, program, &[], rules, &mut input, &mut broken);
+    expect_same(rt, plain, Err(RunFault::Write));
+    let seeded = run_seeded(alloc, program, 7, rules, &mut input, &mut broken);
+    expect_same(rt, seeded, Err(RunFault::Write));
+}
+
 #[test]
 fn broken_devices(rt: HostRuntime) -> Result<(), Fail> {
     let program = one_line(rt.alloc(), b"10 P.;INPUT A")?;
-    let mut shown = Vec::new(rt.alloc());
-    let mut out = Device::new(&mut shown);
-    let unread = run_plain(
-        rt.alloc(),
-        &program,
-        &[],
-        lines_alone(10),
-        &mut Device::new(Broken),
-        &mut out,
-    );
-    assert_eq!(rt; unread, Err(RunFault::Read));
-    assert_eq!(rt; shown.as_slice(), b"\nA:".as_slice());
-
-    let mut input = Device::new(&b""[..]);
-    let mut broken = Device::new(Broken);
-    let unwritten = run_plain(
-        rt.alloc(),
-        &program,
-        &[],
-        lines_alone(10),
-        &mut input,
-        &mut broken,
-    );
-    assert_eq!(rt; unwritten, Err(RunFault::Write));
-
-    let mut unread_input = Device::new(Broken);
-    let mut shown = Vec::new(rt.alloc());
-    let mut out = Device::new(&mut shown);
-    let unread = run_seeded(
-        rt.alloc(),
-        &program,
-        7,
-        lines_alone(10),
-        &mut unread_input,
-        &mut out,
-    );
-    assert_eq!(rt; unread, Err(RunFault::Read));
-    assert_eq!(rt; shown.as_slice(), b"\nA:".as_slice());
-    let unwritten = run_seeded(
-        rt.alloc(),
-        &program,
-        7,
-        lines_alone(10),
-        &mut input,
-        &mut broken,
-    );
-    assert_eq!(rt; unwritten, Err(RunFault::Write));
+    expect_unread(&rt, unread(rt.alloc(), &program));
+    expect_unread(&rt, unread_by_seed(rt.alloc(), &program));
+    expect_unwritten(&rt, rt.alloc(), &program);
     Ok(())
 }
