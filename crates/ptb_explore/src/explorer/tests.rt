@@ -199,7 +199,7 @@ fn lines_and_bytes_of_a_copy(rt: HostRuntime) -> Result<(), Fail> {
     }
 }
 
-// Whether a run took so many answers, the last of them these, began so many commands, and shows nothing.
+// Whether a run took so many answers, these last, began so many commands, and shows nothing.
 fn is_report(report: &Report, taken: usize, last: &[i16], steps: u32) -> bool {
     report.answers.len() == taken
         && report.bounds.len() == taken

@@ -415,7 +415,7 @@ impl io::Write for &mut Sink {
     }
 }
 
-// What a listing comes to whose writer fails at its call behind so many, and what the writer has taken.
+// What a listing comes to whose writer fails behind so many calls, and what the writer has taken.
 fn expect_count(
     rt: &impl Abort,
     name: &str,
