@@ -3,7 +3,9 @@
 ghost use Rattle.std.specs.Prelude.{◌≤ℤ◌, pos, IfOk, IfSome};
 ghost use Rattle.ptb_text.specs.Statements.{IsMemorySize};
 
-use crate::tests::{Endless, Failing, Script, Sink, make_sink, rules_of};
+use crate::tests::{
+    Failing, Script, Sink, expect_reply, make_sink, reply_on_endless_input, reply_to, rules_of,
+};
 use ptb_explore::{Form, Marked};
 use ptb_options::{DEFAULT_MEMORY, DEFAULT_STEPS, Mode, Request};
 use ptb_serve::{Note, Outcome, serve};
@@ -202,9 +204,8 @@ fn all_runs(rt: HostRuntime) -> Result<(), Fail> {
     ];
     for (asked, text) in table {
         for piece in [1, 5, 100_000] {
-            let (outcome, bytes) = served(rt.alloc(), &asked, piece)?;
-            assert_eq!(rt; (outcome.status, outcome.note), (0, None), "{asked:?}");
-            assert_eq!(rt; bytes.as_slice(), text, "{asked:?}");
+            let reply = served(rt.alloc(), &asked, piece)?;
+            expect_reply(&rt, reply, (0, None), text);
         }
     }
     Ok(())
@@ -257,9 +258,8 @@ RUN 2 END 2 21\nA:)\nWHAT?\nA:2\n     2\n\n";
     ];
     for (asked, text) in table {
         for piece in [1, 5, 100_000] {
-            let (outcome, bytes) = served(rt.alloc(), &asked, piece)?;
-            assert_eq!(rt; (outcome.status, outcome.note), (0, None), "{asked:?}");
-            assert_eq!(rt; bytes.as_slice(), text, "{asked:?}");
+            let reply = served(rt.alloc(), &asked, piece)?;
+            expect_reply(&rt, reply, (0, None), text);
         }
     }
     Ok(())
@@ -277,9 +277,8 @@ fn most_answers(rt: HostRuntime) -> Result<(), Fail> {
         text.extend_from_slice(b",1")?;
     }
     text.extend_from_slice(b" END 10001 0\n\n")?;
-    let (outcome, bytes) = served(rt.alloc(), &asked, 100_000)?;
-    assert_eq!(rt; (outcome.status, outcome.note), (0, None));
-    assert_eq!(rt; bytes.as_slice(), text.as_slice());
+    let reply = served(rt.alloc(), &asked, 100_000)?;
+    expect_reply(&rt, reply, (0, None), &text);
     Ok(())
 }
 
@@ -322,9 +321,8 @@ fn runs_behind_a_run(rt: HostRuntime) -> Result<(), Fail> {
             first,
             ..all_of(program)
         };
-        let (outcome, bytes) = served(rt.alloc(), &asked, 100)?;
-        assert_eq!(rt; (outcome.status, outcome.note), (0, None), "{asked:?}");
-        assert_eq!(rt; bytes.as_slice(), text, "{asked:?}");
+        let reply = served(rt.alloc(), &asked, 100)?;
+        expect_reply(&rt, reply, (0, None), text);
     }
     Ok(())
 }
@@ -378,9 +376,8 @@ fn runs_with_bounds(rt: HostRuntime) -> Result<(), Fail> {
     ];
     for (asked, text) in table {
         for piece in [1, 5, 100_000] {
-            let (outcome, bytes) = served(rt.alloc(), &asked, piece)?;
-            assert_eq!(rt; (outcome.status, outcome.note), (0, None), "{asked:?}");
-            assert_eq!(rt; bytes.as_slice(), text, "{asked:?}");
+            let reply = served(rt.alloc(), &asked, piece)?;
+            expect_reply(&rt, reply, (0, None), text);
         }
     }
     Ok(())
@@ -405,13 +402,8 @@ fn runs_behind_no_run(rt: HostRuntime) -> Result<(), Fail> {
             after: Some(list),
             ..all_of(program)
         };
-        let (outcome, bytes) = served(rt.alloc(), &asked, 100)?;
-        assert_eq!(rt;
-            (outcome.status, outcome.note),
-            (67, Some(Note::NoRun)),
-            "{asked:?}"
-        );
-        assert!(rt; bytes.is_empty());
+        let reply = served(rt.alloc(), &asked, 100)?;
+        expect_reply(&rt, reply, (67, Some(Note::NoRun)), b"");
     }
     Ok(())
 }
@@ -498,13 +490,8 @@ fn listings_that_break_off(rt: HostRuntime) -> Result<(), Fail> {
             } else {
                 (74, Some(Note::Unwritten))
             };
-            assert_eq!(rt; (outcome.status, outcome.note), due, "{failing:?} {calls}");
             let length = 24 * (calls / 5) + 5 * (calls % 5);
-            assert_eq!(rt;
-                sink.taken.as_slice(),
-                &TWO_ROLLS_TEXT[..length],
-                "{failing:?} {calls}"
-            );
+            expect_reply(&rt, (outcome, sink.taken), due, &TWO_ROLLS_TEXT[..length]);
         }
     }
     Ok(())
@@ -522,14 +509,8 @@ fn unread_inputs(rt: HostRuntime) -> Result<(), Fail> {
                 piece: 1,
                 fails: true,
             });
-            let mut sink = make_sink(rt.alloc(), 1, usize::MAX, Failing::Breaks);
-            let mut out = Device::new(&mut sink);
-            let outcome = serve(rt.alloc(), &request, &mut text, &mut input, &mut out);
-            assert_eq!(rt;
-                (outcome.status, outcome.note),
-                (66, Some(Note::InputUnread))
-            );
-            assert!(rt; sink.taken.is_empty());
+            let reply = reply_to(rt.alloc(), &request, &mut text, &mut input, 1);
+            expect_reply(&rt, reply, (66, Some(Note::InputUnread)), b"");
         }
     }
     Ok(())
@@ -538,17 +519,8 @@ fn unread_inputs(rt: HostRuntime) -> Result<(), Fail> {
 #[test]
 fn endless_inputs(rt: HostRuntime) -> Result<(), Fail> {
     let request = request_of(rt.alloc(), &all_of(b"10 INPUT A"))?;
-    let mut program = Device::new(&b"10 INPUT A"[..]);
-    let mut endless = Endless { given: 0 };
-    let mut input = Device::new(&mut endless);
-    let mut sink = make_sink(rt.alloc(), 1, usize::MAX, Failing::Breaks);
-    let mut out = Device::new(&mut sink);
-    let outcome = serve(rt.alloc(), &request, &mut program, &mut input, &mut out);
-    assert_eq!(rt;
-        (outcome.status, outcome.note),
-        (66, Some(Note::InputUnread))
-    );
-    assert!(rt; endless.given <= 16_777_217);
-    assert!(rt; sink.taken.is_empty());
+    let (reply, given) = reply_on_endless_input(rt.alloc(), &request, b"10 INPUT A", 1);
+    expect_reply(&rt, reply, (66, Some(Note::InputUnread)), b"");
+    assert!(rt; given <= 16_777_217);
     Ok(())
 }

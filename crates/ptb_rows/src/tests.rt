@@ -6,12 +6,14 @@ ghost use Rattle.ptb_text.specs.Statements.{IsMemorySize};
 use ptb_machine::Rules;
 use ptb_options::{DEFAULT_MEMORY, DEFAULT_STEPS, Mode, Request};
 use ptb_serve::{Note, Outcome, serve};
-use ptb_text::{Device, LoadFault};
+use ptb_text::{Device, LoadFault, Read};
 use rand_core::utils::NextWord;
 use rand_pcg::Lcg64Xsh32;
 use std::alloc::{AllocError, Global};
+use std::fmt::Debug;
 use std::io;
 use std::io::ErrorKind;
+use std::process::Abort;
 use std::test::Fail;
 
 // Gives some bytes a call, and then its end or a fault.
@@ -92,6 +94,57 @@ pub(crate) fn make_sink(alloc: Global, piece: usize, calls_left: usize, failing:
         calls_left,
         failing,
     }
+}
+
+// Two values that must be the same.
+pub(crate) fn expect_same<T: Copy + PartialEq + Debug>(rt: &impl Abort, found: T, wanted: T) {
+    assert_eq!(rt; found, wanted);
+}
+
+// What a request came to and what was written: this status with this note, and these bytes.
+pub(crate) fn expect_reply(
+    rt: &impl Abort,
+    reply: (Outcome, Vec<u8>),
+    due: (u8, Option<Note>),
+    bytes: &[u8],
+) {
+    let (outcome, written) = reply;
+    let found = (outcome.status, outcome.note, written.as_slice());
+    expect_same(rt, found, (due.0, due.1, bytes));
+}
+
+// What a request comes to with a writer that takes some bytes a call, and what is written.
+pub(crate) fn reply_to<P: Read, R: Read>(
+    alloc: Global,
+    request: &Request,
+    program: &mut P,
+    input: &mut R,
+    piece: usize,
+) -> (Outcome, Vec<u8>)
+    requires memory { IsMemorySize request.now.memory }
+    requires bound { IfSome request.now.rules.choose (λ n. pos 1 ≤ℤ n) }
+{
+    let mut sink = make_sink(alloc, piece, usize::MAX, Failing::Breaks);
+    let mut out = Device::new(&mut sink);
+    let outcome = serve(alloc, request, program, input, &mut out);
+    (outcome, sink.taken)
+}
+
+// What a request comes to whose input is endless, what is written, and how much was read.
+pub(crate) fn reply_on_endless_input(
+    alloc: Global,
+    request: &Request,
+    program: &[u8],
+    piece: usize,
+) -> ((Outcome, Vec<u8>), usize)
+    requires memory { IsMemorySize request.now.memory }
+    requires bound { IfSome request.now.rules.choose (λ n. pos 1 ≤ℤ n) }
+{
+    let mut endless = Endless { given: 0 };
+    let mut program = Device::new(program);
+    let mut input = Device::new(&mut endless);
+    let reply = reply_to(alloc, request, &mut program, &mut input, piece);
+    (reply, endless.given)
 }
 
 // What a row asks for.
@@ -195,10 +248,7 @@ fn served(alloc: Global, row: &Row<'_>, piece: usize) -> Result<(Outcome, Vec<u8
         piece,
         fails: false,
     });
-    let mut sink = make_sink(alloc, piece, usize::MAX, Failing::Breaks);
-    let mut out = Device::new(&mut sink);
-    let outcome = serve(alloc, &request, &mut program, &mut input, &mut out);
-    Ok((outcome, sink.taken))
+    Ok(reply_to(alloc, &request, &mut program, &mut input, piece))
 }
 
 // Each row is served as it is due, however the bytes are cut; or memory was refused.
@@ -298,11 +348,13 @@ fn seeds_and_lists(rt: HostRuntime) -> Result<(), Fail> {
     for seed in [0, 1, 4294967295] {
         let list = drawn_list(rt.alloc(), seed)?;
         let (by_list, want) = twenty_rolls(rt.alloc(), Asked::Run(&list))?;
-        let (by_seed, bytes) = twenty_rolls(rt.alloc(), Asked::Seed(seed))?;
-        assert_eq!(rt; (by_list.status, by_list.note), (0, None));
-        assert_eq!(rt; (by_seed.status, by_seed.note), (0, None));
-        assert_eq!(rt; bytes.len(), 120);
-        assert_eq!(rt; bytes.as_slice(), want.as_slice(), "{seed}");
+        let by_seed = twenty_rolls(rt.alloc(), Asked::Seed(seed))?;
+        expect_same(
+            &rt,
+            (by_list.status, by_list.note, want.len()),
+            (0, None, 120),
+        );
+        expect_reply(&rt, by_seed, (0, None), &want);
     }
     Ok(())
 }
@@ -335,6 +387,22 @@ fn refused_programs(rt: HostRuntime) -> Result<(), Fail> {
     Ok(())
 }
 
+// A byte so often, with text before it and behind it.
+fn long_text(
+    alloc: Global,
+    before: &[u8],
+    byte: u8,
+    count: usize,
+    behind: &[u8],
+) -> Result<Vec<u8>, AllocError> {
+    let mut text = Vec::from_slice(alloc, before)?;
+    for _ in 0..count {
+        text.push(byte)?;
+    }
+    text.extend_from_slice(behind)?;
+    Ok(text)
+}
+
 #[test]
 fn refused_long_programs(rt: HostRuntime) -> Result<(), Fail> {
     let rows = [
@@ -361,22 +429,29 @@ fn refused_long_programs(rt: HostRuntime) -> Result<(), Fail> {
         ),
     ];
     for (before, byte, count, behind, note) in rows {
-        let mut text = Vec::from_slice(rt.alloc(), before)?;
-        for _ in 0..count {
-            text.push(byte)?;
-        }
-        text.extend_from_slice(behind)?;
+        let text = long_text(rt.alloc(), before, byte, count, behind)?;
         for asked in [Asked::Run(&[]), Asked::Seed(7), Asked::List] {
             let row = Row {
                 asked,
                 ..refused_row(&text, 65, note)
             };
-            let (outcome, bytes) = served(rt.alloc(), &row, 4000)?;
-            assert_eq!(rt; (outcome.status, outcome.note), (65, Some(note)));
-            assert!(rt; bytes.is_empty());
+            let reply = served(rt.alloc(), &row, 4000)?;
+            expect_reply(&rt, reply, (65, Some(note)), b"");
         }
     }
     Ok(())
+}
+
+// What a row comes to whose program can't be read behind its bytes.
+fn reply_to_unread(alloc: Global, row: &Row<'_>) -> Result<(Outcome, Vec<u8>), AllocError> {
+    let request = request_of(alloc, row)?;
+    let mut program = Device::new(Script {
+        bytes: row.program,
+        piece: 1,
+        fails: true,
+    });
+    let mut input = Device::new(&b""[..]);
+    Ok(reply_to(alloc, &request, &mut program, &mut input, 1))
 }
 
 // A reader of the program that fails, at once or behind its first bytes.
@@ -388,22 +463,24 @@ fn unread_programs(rt: HostRuntime) -> Result<(), Fail> {
                 asked,
                 ..run_row(bytes, b"", 66)
             };
-            let request = request_of(rt.alloc(), &row)?;
-            let mut program = Device::new(Script {
-                bytes,
-                piece: 1,
-                fails: true,
-            });
-            let mut input = Device::new(&b""[..]);
-            let mut sink = make_sink(rt.alloc(), 1, usize::MAX, Failing::Breaks);
-            let mut out = Device::new(&mut sink);
-            let outcome = serve(rt.alloc(), &request, &mut program, &mut input, &mut out);
-            let note = Some(Note::ProgramUnread);
-            assert_eq!(rt; (outcome.status, outcome.note), (66, note));
-            assert!(rt; sink.taken.is_empty());
+            let reply = reply_to_unread(rt.alloc(), &row)?;
+            expect_reply(&rt, reply, (66, Some(Note::ProgramUnread)), b"");
         }
     }
     Ok(())
+}
+
+// What a request comes to whose program is endless, what is written, and how much was read.
+fn reply_on_endless_program(
+    alloc: Global,
+    row: &Row<'_>,
+) -> Result<((Outcome, Vec<u8>), usize), AllocError> {
+    let request = request_of(alloc, row)?;
+    let mut endless = Endless { given: 0 };
+    let mut program = Device::new(&mut endless);
+    let mut input = Device::new(&b""[..]);
+    let reply = reply_to(alloc, &request, &mut program, &mut input, 1);
+    Ok((reply, endless.given))
 }
 
 #[test]
@@ -413,17 +490,10 @@ fn endless_programs(rt: HostRuntime) -> Result<(), Fail> {
             asked,
             ..run_row(b"", b"", 65)
         };
-        let request = request_of(rt.alloc(), &row)?;
-        let mut endless = Endless { given: 0 };
-        let mut program = Device::new(&mut endless);
-        let mut input = Device::new(&b""[..]);
-        let mut sink = make_sink(rt.alloc(), 1, usize::MAX, Failing::Breaks);
-        let mut out = Device::new(&mut sink);
-        let outcome = serve(rt.alloc(), &request, &mut program, &mut input, &mut out);
+        let (reply, given) = reply_on_endless_program(rt.alloc(), &row)?;
         let note = Some(Note::Load(0, LoadFault::TooLong));
-        assert_eq!(rt; (outcome.status, outcome.note), (65, note));
-        assert!(rt; endless.given <= 1_048_577);
-        assert!(rt; sink.taken.is_empty());
+        expect_reply(&rt, reply, (65, note), b"");
+        assert!(rt; given <= 1_048_577);
     }
     Ok(())
 }
@@ -433,15 +503,9 @@ fn endless_programs(rt: HostRuntime) -> Result<(), Fail> {
 fn inputs_left_alone(rt: HostRuntime) -> Result<(), Fail> {
     let row = list_row(b"10 INPUT A\n", b"10 INPUT A\n");
     let request = request_of(rt.alloc(), &row)?;
-    let mut program = Device::new(row.program);
-    let mut endless = Endless { given: 0 };
-    let mut input = Device::new(&mut endless);
-    let mut sink = make_sink(rt.alloc(), 3, usize::MAX, Failing::Breaks);
-    let mut out = Device::new(&mut sink);
-    let outcome = serve(rt.alloc(), &request, &mut program, &mut input, &mut out);
-    assert_eq!(rt; (outcome.status, outcome.note), (0, None));
-    assert_eq!(rt; endless.given, 0);
-    assert_eq!(rt; sink.taken.as_slice(), row.bytes);
+    let (reply, given) = reply_on_endless_input(rt.alloc(), &request, row.program, 3);
+    expect_reply(&rt, reply, (0, None), row.bytes);
+    expect_same(&rt, given, 0);
     Ok(())
 }
 
@@ -458,22 +522,12 @@ fn listings_that_cannot_be_written(rt: HostRuntime) -> Result<(), Fail> {
         for calls in 0..=8 {
             let mut sink = make_sink(rt.alloc(), 2, calls, failing);
             let outcome = served_to(rt.alloc(), &row, &mut sink)?;
-            let note = if calls == 8 {
-                None
+            let due = if calls == 8 {
+                (0, None)
             } else {
-                Some(Note::Unwritten)
+                (74, Some(Note::Unwritten))
             };
-            let status = if calls == 8 { 0 } else { 74 };
-            assert_eq!(rt;
-                (outcome.status, outcome.note),
-                (status, note),
-                "{failing:?} {calls}"
-            );
-            assert_eq!(rt;
-                sink.taken.as_slice(),
-                &listing[..2 * calls],
-                "{failing:?} {calls}"
-            );
+            expect_reply(&rt, (outcome, sink.taken), due, &listing[..2 * calls]);
         }
     }
     Ok(())
@@ -676,6 +730,23 @@ fn answers_in_place_of_lines(rt: HostRuntime) -> Result<(), Fail> {
     Ok(())
 }
 
+// What a row comes to whose input gives some bytes a call, and fails behind these.
+fn reply_on_unread_input(
+    alloc: Global,
+    row: &Row<'_>,
+    bytes: &[u8],
+    piece: usize,
+) -> Result<(Outcome, Vec<u8>), AllocError> {
+    let request = request_of(alloc, row)?;
+    let mut program = Device::new(row.program);
+    let mut input = Device::new(Script {
+        bytes,
+        piece,
+        fails: true,
+    });
+    Ok(reply_to(alloc, &request, &mut program, &mut input, 1))
+}
+
 // A line is read only when it is asked for, and what was shown before stays. An answer doesn't
 // stand for a line that can't be read.
 #[test]
@@ -693,19 +764,9 @@ fn unread_inputs(rt: HostRuntime) -> Result<(), Fail> {
                 choose,
                 ..answered_row(&[4, 4], program, shown, status)
             };
-            let request = request_of(rt.alloc(), &row)?;
-            let mut program = Device::new(row.program);
-            let mut input = Device::new(Script {
-                bytes,
-                piece,
-                fails: true,
-            });
-            let mut sink = make_sink(rt.alloc(), 1, usize::MAX, Failing::Breaks);
-            let mut out = Device::new(&mut sink);
-            let outcome = serve(rt.alloc(), &request, &mut program, &mut input, &mut out);
+            let reply = reply_on_unread_input(rt.alloc(), &row, bytes, piece)?;
             let note = (status == 66).then_some(Note::InputUnread);
-            assert_eq!(rt; (outcome.status, outcome.note), (status, note));
-            assert_eq!(rt; sink.taken.as_slice(), shown);
+            expect_reply(&rt, reply, (status, note), shown);
         }
     }
     Ok(())
@@ -715,18 +776,9 @@ fn unread_inputs(rt: HostRuntime) -> Result<(), Fail> {
 fn endless_inputs(rt: HostRuntime) -> Result<(), Fail> {
     let row = run_row(b"10 INPUT A\n", b"A:", 66);
     let request = request_of(rt.alloc(), &row)?;
-    let mut program = Device::new(row.program);
-    let mut endless = Endless { given: 0 };
-    let mut input = Device::new(&mut endless);
-    let mut sink = make_sink(rt.alloc(), 1, usize::MAX, Failing::Breaks);
-    let mut out = Device::new(&mut sink);
-    let outcome = serve(rt.alloc(), &request, &mut program, &mut input, &mut out);
-    assert_eq!(rt;
-        (outcome.status, outcome.note),
-        (66, Some(Note::InputUnread))
-    );
-    assert!(rt; endless.given <= 16_777_217);
-    assert_eq!(rt; sink.taken.as_slice(), b"A:".as_slice());
+    let (reply, given) = reply_on_endless_input(rt.alloc(), &request, row.program, 1);
+    expect_reply(&rt, reply, (66, Some(Note::InputUnread)), b"A:");
+    assert!(rt; given <= 16_777_217);
     Ok(())
 }
 
@@ -735,15 +787,9 @@ fn endless_inputs(rt: HostRuntime) -> Result<(), Fail> {
 fn inputs_not_asked_for(rt: HostRuntime) -> Result<(), Fail> {
     let row = run_row(b"10 PRINT \"HI\"\n", b"HI\n", 0);
     let request = request_of(rt.alloc(), &row)?;
-    let mut program = Device::new(row.program);
-    let mut endless = Endless { given: 0 };
-    let mut input = Device::new(&mut endless);
-    let mut sink = make_sink(rt.alloc(), 1, usize::MAX, Failing::Breaks);
-    let mut out = Device::new(&mut sink);
-    let outcome = serve(rt.alloc(), &request, &mut program, &mut input, &mut out);
-    assert_eq!(rt; (outcome.status, outcome.note), (0, None));
-    assert_eq!(rt; endless.given, 0);
-    assert_eq!(rt; sink.taken.as_slice(), b"HI\n".as_slice());
+    let (reply, given) = reply_on_endless_input(rt.alloc(), &request, row.program, 1);
+    expect_reply(&rt, reply, (0, None), b"HI\n");
+    expect_same(&rt, given, 0);
     Ok(())
 }
 
@@ -772,13 +818,7 @@ fn runs_that_cannot_be_written(rt: HostRuntime) -> Result<(), Fail> {
                 } else {
                     (74, Some(Note::Unwritten))
                 };
-                let seen = (outcome.status, outcome.note);
-                assert_eq!(rt; seen, due, "{failing:?} {piece} {calls}");
-                assert_eq!(rt;
-                    sink.taken.as_slice(),
-                    &transcript[..*length],
-                    "{failing:?} {piece} {calls}"
-                );
+                expect_reply(&rt, (outcome, sink.taken), due, &transcript[..*length]);
             }
         }
     }
