@@ -4,7 +4,8 @@
 # Prints the microseconds that a run takes in listings of 10,000 runs of 4, 25, 110 and 790 commands: the middle and the least of ten
 # rounds, and beside them those of another build of ptb where one is named, in turn with it. Then the seconds of a tree whose first thousand
 # commands are the same in all of its 100,000 runs, and the runs a second and the memory of trees of 1,000, 100,000 and 1,000,000 runs, also
-# of a program that has all the memory there can be and fills the array.
+# of a program that has all the memory there can be and fills the array. At last a tree of 1,000,000 runs by one process, and by shares on
+# all cores.
 set -eu
 root=$(dirname "$(readlink -f "$0")")/..
 program=$root/crates/ptb/out/ptb
@@ -74,3 +75,25 @@ for runs in 1000 100000 1000000; do
     tree '' "$room/six.bas" "$runs"
 done
 tree ' with a full array' "$room/full.bas" 10000 --memory 32767 --steps 100000
+
+# 1,000,000 runs by one process, and by as many as there are cores, one share for each of their first two answers
+cores=$(nproc)
+PTB=$program "$root/tools/shares" "$room/six.bas" 2 </dev/null >"$room/lists"
+share_seconds() {
+    local start
+    start=$(date +%s%N)
+    # what xargs starts has an empty input
+    xargs -P "$1" -I{} "$program" --all --under {} "$room/six.bas" <"$room/lists" >/dev/null
+    echo $((($(date +%s%N) - start) / 1000000))
+}
+for _ in 1 2 3; do
+    start=$(date +%s%N)
+    "$program" --all "$room/six.bas" </dev/null >/dev/null
+    echo $((($(date +%s%N) - start) / 1000000)) >>"$room/one"
+    share_seconds "$cores" >>"$room/many"
+done
+one=$(sort -n "$room/one" | sed -n 2p)
+many=$(sort -n "$room/many" | sed -n 2p)
+awk -v one="$one" -v many="$many" -v cores="$cores" 'BEGIN {
+    printf "1000000 runs: %.2f s by one process, %.2f s by shares on %d cores: %.2f of their number\n", one / 1000, many / 1000, cores, one / many / cores
+}'

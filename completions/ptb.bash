@@ -4,7 +4,7 @@ _ptb() {
     local current=${COMP_WORDS[COMP_CWORD]} previous=${COMP_WORDS[COMP_CWORD - 1]}
     COMPREPLY=()
     case $previous in
-    --answers | --after)
+    --answers | --under | --after)
         mapfile -t COMPREPLY < <(compgen -W 'none' -- "$current")
         return
         ;;
@@ -21,7 +21,7 @@ _ptb() {
     case $current in
     -*)
         mapfile -t COMPREPLY < <(compgen -W \
-            '--steps --memory --choose --answers --seed --all --after --first --form --list --help -h --version -V' -- "$current")
+            '--steps --memory --choose --answers --seed --all --under --after --first --form --list --help -h --version -V' -- "$current")
         ;;
     *)
         mapfile -t COMPREPLY < <(compgen -f -X '!*.bas' -- "$current"; compgen -d -- "$current")

@@ -6,6 +6,7 @@ complete -c ptb -l choose -x -d 'Where INPUT finds no line, ask for an answer fr
 complete -c ptb -l answers -x -a none -d 'Answer the questions of RND with these numbers'
 complete -c ptb -l seed -x -d 'Answer them with numbers drawn from the seed N'
 complete -c ptb -l all -d 'Write a report of every run'
+complete -c ptb -l under -x -a none -d 'Of all runs, only those that begin with these answers'
 complete -c ptb -l after -x -a none -d 'Of all runs, only those after the one with these answers'
 complete -c ptb -l first -x -d 'Of all reports, write at most N'
 complete -c ptb -l form -x -a '1 2' -d 'Of all reports, write answers alone, or with their bounds'

@@ -27,6 +27,7 @@ tried binary.sh
 tried listings.sh
 tried installing.sh
 tried resuming.sh
+tried shares.sh
 tried outcomes.py
 tried chances.py
 tried terminal.py

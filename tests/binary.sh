@@ -120,6 +120,16 @@ plain 'the runs behind one' '10 P.RND(2)\n' 0 'RUN 2/2 END 1 7\n     2\n\n' --al
 plain 'the runs behind one with its bound' '10 P.RND(2)\n' 0 'RUN 2/2 END 1 7\n     2\n\n' --all --after 1/2
 refused 'answers that are no run' '10 P.RND(2)\n' 67 'ptb: not a run' --all --after 3
 refused 'a bound that is another' '10 P.RND(2)\n' 67 'ptb: not a run' --all --after 1/3
+plain 'a share' '10 P.RND(2)\n' 0 'RUN 2/2 END 1 7\n     2\n\n' --all --under 2
+plain 'a share with its bound' '10 P.RND(2)\n' 0 'RUN 1/2 END 1 7\n     1\n\n' --all --under 1/2 --first 1
+plain 'a share that is the whole' '10 P.RND(1)\n' 0 'RUN 1/1 END 1 7\n     1\n\n' --all --under none
+plain 'the runs of a share behind one' '10 P.RND(2),RND(2)\n' 0 'RUN 2/2,2/2 END 1 13\n     2     2\n\n' --all --under 2 --after 2,1
+refused 'a share that no run begins' '10 P.RND(2)\n' 67 'ptb: no run begins so' --all --under 3
+refused 'a share with a bound that is another' '10 P.RND(2)\n' 67 'ptb: no run begins so' --all --under 1/3 --after 9
+refused 'a run of another share' '10 P.RND(2)\n' 67 'ptb: not a run' --all --under 2 --after 1
+refused 'a share without all runs' '10 P.RND(2)\n' 64 'ptb: --under needs --all' --under 2
+refused 'a share beside a listing of the text' '10 P.RND(2)\n' 64 'ptb: --list stands alone' --under 2 --list
+refused 'a share that is spelled wrong' '10 P.RND(2)\n' 64 'ptb: bad list' --all --under 01
 
 # ---- files
 

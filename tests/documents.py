@@ -1,8 +1,9 @@
 #!/usr/bin/env python3
 """Runs each command that README.md and docs/ print behind a `$`, and compares what it shows with what is printed below it.
 
-A line that goes on begins with `>`. The commands of one block are run by one bash, in a folder of its own in which ptb, tools and
-examples stand as at the root; so they can leave files and statuses for one another. A command alone, with no `<` and no `|`, is
+A line that goes on begins with `>`. The commands of one block are run by one bash, so they can leave statuses for one another, and those of
+one page in a folder of its own in which ptb, tools and examples stand as at the root; so a block can use the files of those before it. A block
+with a program that is not installed is passed over where it is one of OPTIONAL. A command alone, with no `<` and no `|`, is
 one at a terminal: what is typed there stands behind the colons of what is shown. A line that looks like a command and has no `$`
 is a failure.
 PTB names another program than the one that ./ptb builds.
@@ -10,6 +11,7 @@ PTB names another program than the one that ./ptb builds.
 
 import os
 import re
+import shutil
 import subprocess
 import sys
 
@@ -18,9 +20,11 @@ sys.path.insert(0, f"{os.path.dirname(os.path.realpath(__file__))}/shared")
 from stage import ROOT, staged
 
 # Each of these pages has commands; one that loses them all is a failure.
-PAGES = ["README.md", "docs/TOOL.md", "docs/LANGUAGE.md", "examples/README.md"]
+PAGES = ["README.md", "docs/TOOL.md", "docs/LARGE-TREES.md", "docs/LANGUAGE.md", "examples/README.md"]
 WIDTH_OF_README = 100
 LOOKS_LIKE_COMMAND = re.compile(r"    (\./|rt |tests/|tools/|ptb-|cd |cat |diff |printf |echo |sed |tr |q=)")
+# Programs that a reader may do without.
+OPTIONAL = ["parallel"]
 # What is tried elsewhere: the first in a copy of the repository, by tests/installing.sh; the second has this script as a part.
 TRIED_ELSEWHERE = {"./install ~/.local", "rt ci && tests/all.sh"}
 
@@ -75,12 +79,19 @@ def run(block, folder):
 
 def check_commands(page):
     """Whether each command of a page shows what is printed below it, and what to say where it doesn't."""
-    for block in blocks(page):
-        with staged() as folder:
-            said = run(block, folder)
-        for command, text in zip(block, said):
-            due = re.sub(r"\n*\Z", "", "\n".join(command.shown))
-            yield re.sub(r"\n*\Z", "", text) == due, f"{command.place}: {command.text}\n{text}"
+    with staged() as folder:
+        for block in filter(is_tried, blocks(page)):
+            for command, text in zip(block, run(block, folder)):
+                due = re.sub(r"\n*\Z", "", "\n".join(command.shown))
+                yield re.sub(r"\n*\Z", "", text) == due, f"{command.place}: {command.text}\n{text}"
+
+
+def is_tried(block):
+    """Whether all programs of a block are installed; what isn't tried is told."""
+    missing = [it for it in OPTIONAL if not shutil.which(it) and any(it in command.text.split() for command in block)]
+    if missing:
+        print(f"{block[0].place}: not tried without {' and '.join(missing)}")
+    return not missing
 
 
 def all_marked(page):

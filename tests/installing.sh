@@ -68,6 +68,7 @@ count_same 'options that the man page names at all' "$(long_in_page ptb)" "$long
 count_same 'options that the man page of outcomes names' "$(long_in_page ptb-outcomes)" \
     "$({ echo --all --choose; "$root/tools/outcomes" --help; } | long_in)"
 count_same 'options that the man page of resume names' "$(long_in_page ptb-resume)" "$("$root/tools/resume" --help | long_in)"
+count_same 'options that the man page of shares names' "$(long_in_page ptb-shares)" "$("$root/tools/shares" --help | long_in)"
 
 # ---- bash is asked
 
@@ -147,25 +148,27 @@ count_same 'install says each file, and that PATH lacks the program' "$(sort "$f
 count_same 'it puts these files there' "$(cd "$place" && files_below .)" "./bin/ptb
 ./bin/ptb-outcomes
 ./bin/ptb-resume
+./bin/ptb-shares
 ./share/bash-completion/completions/ptb
 ./share/doc/ptb/LICENSE
 ./share/fish/vendor_completions.d/ptb.fish
 ./share/man/man1/ptb-outcomes.1
 ./share/man/man1/ptb-resume.1
+./share/man/man1/ptb-shares.1
 ./share/man/man1/ptb.1
 ./share/zsh/site-functions/_ptb"
 count_if 'the program' cmp "$folder/copy/crates/ptb/out/ptb" "$place/bin/ptb"
-for tool in outcomes resume; do count_if "the tool $tool" cmp "$root/tools/$tool" "$place/bin/ptb-$tool"; done
-for page in ptb ptb-outcomes ptb-resume; do
+for tool in outcomes resume shares; do count_if "the tool $tool" cmp "$root/tools/$tool" "$place/bin/ptb-$tool"; done
+for page in ptb ptb-outcomes ptb-resume ptb-shares; do
     count_if "the man page of $page" cmp "$root/docs/$page.1" "$place/share/man/man1/$page.1"
 done
 count_if 'the completions for bash' cmp "$root/completions/ptb.bash" "$place/share/bash-completion/completions/ptb"
 count_if 'the completions for zsh' cmp "$root/completions/_ptb" "$place/share/zsh/site-functions/_ptb"
 count_if 'the completions for fish' cmp "$root/completions/ptb.fish" "$place/share/fish/vendor_completions.d/ptb.fish"
 count_if 'the licence' cmp "$root/LICENSE" "$place/share/doc/ptb/LICENSE"
-count_same 'who may do what' "$(cd "$place" && find . -type f -exec stat -c '%a' {} + | sort | uniq -c | tr -s ' \n' ' ')" ' 7 644 3 755 '
+count_same 'who may do what' "$(cd "$place" && find . -type f -exec stat -c '%a' {} + | sort | uniq -c | tr -s ' \n' ' ')" ' 8 644 4 755 '
 if command -v man >/dev/null && man -w ls >/dev/null 2>&1; then
-    for page in ptb ptb-outcomes ptb-resume; do
+    for page in ptb ptb-outcomes ptb-resume ptb-shares; do
         count_same "man finds the page of $page" "$(MANPATH=$place/share/man man -w $page)" "$place/share/man/man1/$page.1"
         count_same "and has nothing to say against $page" "$(man --warnings -l -E UTF-8 "$place/share/man/man1/$page.1" 2>&1 >/dev/null)" ''
     done
@@ -179,7 +182,7 @@ count_same 'nothing to say of PATH' "$status $(grep -c PATH "$folder/output")" '
 DESTDIR=$folder/stage installed /usr/local
 count_same 'install below DESTDIR' "$status $(cat "$folder/errors")" '0 '
 count_same 'all of it is there, and no word on PATH' "$(sort "$folder/output")" "$(files_below "$folder/stage/usr/local" | sed 's/^/installed /')"
-count_same 'and nothing else' "$(files_below "$folder/stage" | wc -l)" 10
+count_same 'and nothing else' "$(files_below "$folder/stage" | wc -l)" 12
 
 # without the repository
 rm -rf "$folder/copy"
@@ -196,7 +199,23 @@ head -c 40 "$folder/runs" >"$folder/killed"
 count_same 'a listing that was killed is gone on with' \
     "$(PATH=$place/bin:$PATH ptb-resume "$folder/killed" -- ptb --all "$folder/coin.bas" </dev/null 2>&1; echo $?)" 0
 count_if 'and is whole' cmp "$folder/runs" "$folder/killed"
-for tool in outcomes resume; do
+# the lists that docs/LARGE-TREES.md shows for three dice, a run that is over sooner, and the program that PTB names
+shares=$place/bin/ptb-shares
+count_same 'shares are listed without it' \
+    "$(cd / && env -i "PATH=$PATH" "$shares" "$root/examples/throw.bas" 1 </dev/null | tr '\n' ' ')" '1/6 2/6 3/6 4/6 5/6 6/6 '
+printf '10 A=RND(2);IF A=2 B=RND(3);PRINT B\n' >"$folder/fewer.bas"
+ln -s "$shares" "$folder/link"
+count_same 'also by a link from elsewhere' \
+    "$(cd / && env -i "PATH=$PATH" "$folder/link" "$folder/fewer.bas" 2 </dev/null | tr '\n' ' ')" '1/2 2/2,1/3 2/2,2/3 2/2,3/3 '
+env -i "PATH=$PATH" PTB=/bin/false "$shares" "$folder/fewer.bas" 2 </dev/null >"$folder/output" 2>&1
+count_same 'by the program that PTB names' "$? $(cat "$folder/output")" '1 '
+env -i "PATH=$PATH" "$shares" "$folder/nothing.bas" 2 </dev/null >"$folder/output" 2>"$folder/errors"
+count_same 'ptb-shares without a program' "$? $(cat "$folder/output")" '66 '
+if [ -w /dev/full ]; then
+    env -i "PATH=$PATH" "$shares" "$folder/fewer.bas" 2 </dev/null >/dev/full 2>"$folder/errors"
+    count_same 'lists of ptb-shares that cannot be written' $? 74
+fi
+for tool in outcomes resume shares; do
     "$place/bin/ptb-$tool" --help >"$folder/output"
     count_if "ptb-$tool helps by its name" grep -q "ptb-$tool" "$folder/output"
     "$place/bin/ptb-$tool" --unknown </dev/null >"$folder/output" 2>"$folder/errors"

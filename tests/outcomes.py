@@ -209,6 +209,17 @@ def check_counted(counting):
             counting.same(f"chances of {name}", sum(chance for chance, *_ in found), 1)
 
 
+def check_shares(counting):
+    """Of shares that are joined, in whatever order, the table is that of the whole, and of one alone that of a part."""
+    whole = listing(DICE)
+    shares = [listing(DICE, "--under", under) for under in ("1", "2/2,1", "2,2/3", "2,3")]
+    counting.same("joined shares", tool(b"".join(shares)), (0, DICE_TABLE, b""))
+    turned = tool(b"".join(reversed(shares)), "--by", "ending")
+    counting.same("shares in another order", turned, tool(whole, "--by", "ending"))
+    head = tool(listing(DICE, "--under", "2,1"))[1].splitlines()[0]
+    counting.same("a share alone", head, b"1 run, 1 outcome; a part of the tree: the chances add up to 1/6")
+
+
 # ---- pages
 
 
@@ -428,6 +439,7 @@ def main():
         check_hand_written(counting)
         check_examples(counting)
         check_counted(counting)
+        check_shares(counting)
         check_pages(counting, folder)
         check_torn(counting)
         check_spoiled(counting)

@@ -1,5 +1,5 @@
 #!/bin/bash
-# Runs the built program over some 20 requests, again and again, each time with one of its calls to the system struck:
+# Runs the built program over some 35 requests, again and again, each time with one of its calls to the system struck:
 #
 # - an allocation is refused, or it and all behind it are: status 71 with its note, and a beginning of what was due is
 #   written (the run may be whole where one alone is refused, as room for the words is asked for twice; and in a listing,

@@ -216,6 +216,9 @@ def long_lists():
     def after(answers):
         return f"{listed} --after {','.join(map(str, answers))}"
 
+    def under(answers):
+        return f"{listed} --under {','.join(map(str, answers))}"
+
     rolled = program + "30 P.RND(2)\n"
     last = report([*ones, 2], "END", steps + 1, "     2\n")
     yield run("a run of 60,000 answers", program, report(ones, "END", steps, ""), words=listed)
@@ -225,6 +228,13 @@ def long_lists():
     yield refusal("one answer short", program, 67, "not a run", after(ones[1:]))
     yield refusal("one answer too many", program, 67, "not a run", after([*ones, 1]))
     yield refusal("the last answer too great", program, 67, "not a run", after([*ones[1:], 2]))
+    yield run("a run under 60,000 answers", program, report(ones, "END", steps, ""), words=under(ones))
+    yield run("a run under all but one of them", program, report(ones, "END", steps, ""), words=under(ones[1:]))
+    yield run("the last of two runs, under 60,001 answers", rolled, last, words=under([*ones, 2]))
+    both = f"{after([*ones, 1])} --under {','.join(['1'] * 100)}"
+    yield run("it behind the other, under the first 100 of them", rolled, last, words=both)
+    yield refusal("a run begins with no more answers", program, 67, "no run begins so", under([*ones, 1]))
+    yield refusal("nor with one that is too great", program, 67, "no run begins so", under([*ones[1:], 2]))
 
 
 def cases():

@@ -16,6 +16,7 @@ TESTS = [
     ("ptb_command", "tests::copied_registers", set()),
     ("ptb_explore", "explorer::tests::refused_copies", set()),
     ("ptb_explore", "explorer::tests::refused_behind_a_run", set()),
+    ("ptb_explore", "explorer::tests::refused_shares", set()),
     ("ptb_explore", "listing::tests::refused_listings_go_on", {"0", "1"}),
 ]
 MOST_CALLS = 1000

@@ -34,7 +34,9 @@ def words(trials):
     says(trials, "--all as a program", [LISTING, "--", ptb, "--", "--all"], 64, f"{line}the command has no --all\n")
     twice = [LISTING, "--", ptb, "--all", "--first", "1", "--first=2", PROGRAM]
     says(trials, "--first twice", twice, 64, f"{line}--first stands there twice\n")
-    values = ("--first", "two"), ("--first", ""), ("--after", "01"), ("--after", "1,,2"), ("--after", "None")
+    twice = [LISTING, "--", ptb, "--all", "--under=1", "--under", "2", PROGRAM]
+    says(trials, "--under twice", twice, 64, f"{line}--under stands there twice\n")
+    values = ("--first", "two"), ("--first", ""), ("--after", "01"), ("--after", "1,,2"), ("--after", "None"), ("--under", "2/")
     for option, value in values:
         given = [LISTING, "--", ptb, "--all", PROGRAM, option, value]
         says(trials, f"{option} {value}", given, 64, f"{line}{option} needs another value than {value!r}\n")

@@ -9,7 +9,7 @@ from trials import LISTING, Case, read, write
 
 # 1024 runs of some milliseconds, each with a transcript of 1,200 bytes
 LARGE = Case(
-    "10 LET A=RND(4)*RND(4)*RND(4)*RND(4)*RND(4)\n20 FOR I=1 TO 30;FOR J=1 TO 3000;NEXT J;PRINT #20,A,I;NEXT I\n",
+    "10 LET A=RND(4)*RND(4)*RND(4)*RND(4)*RND(4)\n20 FOR I=1 TO 30;FOR J=1 TO 9000;NEXT J;PRINT #20,A,I;NEXT I\n",
     words=("--steps", "500000"),
 )
 GROWTHS = (0, 1, 1000, 100_000, 200_000)  # for how many bytes a kill waits; for 0 it is an early one

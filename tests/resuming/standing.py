@@ -6,6 +6,8 @@ import subprocess
 from trials import DICE, ENDINGS, HEADERS, LISTING, PROGRAM, Case, no_listing, read, reports_of, write
 
 PORTION = Case(DICE.program, words=("--after", "1", "--first", "2"))
+SHARE = Case(HEADERS.program, words=("--under", "2/2"))
+RUN_ALONE = Case(HEADERS.program, words=("--under=2,1",))
 ALONE = Case(DICE.program, words=("--form", "1"))
 TWO_QUESTIONS = "10 PRINT RND(2)*RND(2)\n"
 
@@ -25,10 +27,13 @@ def check(trials):
     cuts(trials, "endings of all kinds", ENDINGS, [b"WHAT", b"HOW", b"SORRY", b"LIMIT", b"NOINPUT", b"STOP", b" 0\n\n"])
     cuts(trials, "transcripts like reports", HEADERS, [b"\nRUN 1 END 2 0\n\nRUN 2,1 END 4 7\n", b"RUN 3\n"])
     cuts(trials, "a portion", PORTION, [b"RUN 2/4 ", b"RUN 3/4 "])
+    cuts(trials, "a share", SHARE, [b"RUN 2/2,1/2 ", b"RUN 2/2,2/2 "])
+    cuts(trials, "a share of one run", RUN_ALONE, [b"RUN 2/2,1/2 "])
     cuts(trials, "answers alone", ALONE, [b"RUN 2 ", b"RUN 3 "])
     cuts(trials, "an empty program", Case(""), [b"RUN none END 0 0\n\n"])
     whole_and_nothing(trials)
     portions(trials)
+    shares(trials)
     bounds(trials)
     inputs(trials)
     names(trials)
@@ -93,6 +98,25 @@ def portions(trials):
     write(LISTING, b"")
     reply = trials.resume(LISTING, "--", trials.ptb, "--all", "--after", "3,1", PROGRAM)
     trials.count("--after no run", (reply.status, reply.errors, reply.file) == (67, "ptb: not a run\n", b""), reply)
+
+
+def shares(trials):
+    """Words with --under: reports of other shares are none of this one's."""
+    reports = reports_of(trials.text(Case(TWO_QUESTIONS)))
+    words = [trials.ptb, "--all", "--under=2", PROGRAM]
+    for standing in range(3):
+        trials.completed(f"a share with {standing} reports", b"".join(reports[2 : 2 + standing]), words, b"".join(reports[2:]))
+    behind = [trials.ptb, "--under", "2/2", "--first", "1", "--all", "--after", "2,1", PROGRAM]
+    trials.completed("a share behind a run", reports[3][:9], behind, reports[3])
+    cause = "this run doesn't come next"
+    trials.refused("reports before the share", b"".join(reports), words, 65, no_listing(1, cause))
+    trials.refused("a share without its first run", reports[3], words, 65, no_listing(1, cause))
+    first = [trials.ptb, "--all", "--under", "1", PROGRAM]
+    trials.refused("reports behind the share", b"".join(reports), first, 65, no_listing(len(b"".join(reports[:2])) + 1, cause))
+    write(LISTING, b"")
+    reply = trials.resume(LISTING, "--", trials.ptb, "--all", "--under", "3", PROGRAM)
+    due = (67, "ptb: no run begins so\n", b"")
+    trials.count("--under no run", (reply.status, reply.errors, reply.file) == due, reply)
 
 
 def bounds(trials):

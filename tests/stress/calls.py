@@ -19,7 +19,7 @@ NOTES = {
     REFUSED_PROGRAM: rb"ptb: (?:program too long|line [1-9]\d*: "
     rb"(?:no statement number|number too big|text too long|bad byte at [1-9]\d*|program full))\n",
     UNREAD: rb"ptb: cannot read the (?:program|input)\n",
-    NO_RUN: rb"ptb: not a run\n",
+    NO_RUN: rb"ptb: (?:not a run|no run begins so)\n",
     UNWRITTEN: rb"ptb: cannot write\n",
 }
 SILENT = {BAD_WORDS, REFUSED_PROGRAM, NO_RUN}

@@ -15,8 +15,8 @@ FAR_LIMIT = 1_000_000
 ODD_WORDS = [
     *["", "0", "1", "-1", "+1", "01", "1,2", "1,,2", "none", "32768", "1000000001", "1e3"],
     *["x", "5 ", "\t", "١", b"\xff"],
-    *["--steps", "--memory", "--choose", "--choose=0", "--choose=2", "--answers", "--after", "--first", "--all", "--list", "--lists", "-a", "-h", "--", "-"],
-    *["--steps=7", "--memory=64", "--after=none", "--first=2", "--form", "--form=1", "--form=3", "1/2", "no such file", "."],
+    *["--steps", "--memory", "--choose", "--choose=0", "--choose=2", "--answers", "--after", "--under", "--first", "--all", "--list", "--lists", "-a", "-h", "--", "-"],
+    *["--steps=7", "--memory=64", "--after=none", "--under=none", "--under=1", "--first=2", "--form", "--form=1", "--form=3", "1/2", "no such file", "."],
 ]
 FAULTS = {"WHAT": b"WHAT?", "HOW": b"HOW?", "SORRY": b"SORRY"}
 
@@ -95,9 +95,10 @@ class Trial:
         """The option for answers in place of lines, where the case has them."""
         return [("choose", str(self.case.choose))] if self.case.choose else []
 
-    def runs(self, after=None, first=REPORTS, bounds=None, form=None, **files):
-        """A listing of runs: those behind this one, with these bounds of its answers, at most so many."""
+    def runs(self, after=None, first=REPORTS, bounds=None, form=None, under=None, **files):
+        """A listing of runs: those that begin so, behind this one, with these bounds of its answers, at most so many."""
         options = [("all", ""), ("steps", str(self.case.steps)), *self.choose()]
+        options += [] if under is None else [("under", under)]
         options += [] if after is None else [("after", spelled(after) if bounds is None else marked(after, bounds))]
         options += [] if first is None else [("first", str(first))]
         options += [("form", form)] if form else self.chance.choice([[], [("form", "2")]])
@@ -121,6 +122,7 @@ def check(trial, write):
     check_bounds(trial, reports)
     check_gaps(trial, reports, is_whole)
     check_portions(trial, reports, is_whole)
+    check_shares(trial, reports, is_whole)
     for report in reports:
         check_plain(trial, report, listing)
     for report in trial.chance.sample(reports, min(RUNS_LOOKED_AT, len(reports))):
@@ -297,6 +299,35 @@ def check_joined(trial, reports):
         after = reports[begin + count - 1].answers
     whole = b"".join(report.text for report in reports)
     trial.hold("portions joined are the whole", taken == whole, (call, reply), ("due", whole), ("joined", taken))
+
+
+def check_shares(trial, reports, is_whole):
+    """Of the runs that begin as one does, the listing has their reports; no run begins so with one answer more than that one has."""
+    for report in trial.chance.sample(reports, min(RUNS_LOOKED_AT, len(reports))):
+        check_share(trial, reports, is_whole, report)
+        more = [*report.answers, trial.chance.randint(1, 32767)]
+        trial.expect("a run begins with no more answers", trial.runs(under=spelled(more)), calls.NO_RUN, b"")
+
+
+def check_share(trial, reports, is_whole, report):
+    """The share of some of a report's answers, from its first run on, and behind that report."""
+    count = trial.chance.randint(0, len(report.answers))
+    some = [trial.chance.choice([0, bound]) for bound in report.bounds[:count]]
+    under = marked(report.answers[:count], some)
+    share = [it for it in reports if it.answers[:count] == report.answers[:count]]
+    # the runs of a share stand one behind the other, so where others are behind them there are no more; but a listing that
+    # isn't as whole as it looks could go on for ever
+    is_all = (is_whole or share[-1] is not reports[-1]) and not trial.failures
+    first = None if is_all else len(share)
+    trial.expect("a share", trial.runs(under=under, first=first, form="2"), 0, b"".join(it.text for it in share))
+    rest = share[share.index(report) + 1 :]
+    if is_all or rest:
+        call = trial.runs(report.answers, None if is_all else len(rest), form="2", under=under)
+        trial.expect("a share behind one of its runs", call, 0, b"".join(it.text for it in rest))
+    others = [it for it in reports if it not in share]
+    if others:
+        call = trial.runs(trial.chance.choice(others).answers, under=under)
+        trial.expect("a share behind a run of another", call, calls.NO_RUN, b"")
 
 
 # ---- runs

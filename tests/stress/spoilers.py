@@ -1,5 +1,6 @@
 """This file has wrong programs: each spoils some replies of the right one. The checks must find every one of them."""
 
+import os
 from dataclasses import replace
 
 from reports import Malformed, read_reports
@@ -14,6 +15,21 @@ def in_reports(spoil):
         except Malformed:
             return reply
         return replace(reply, output=b"".join(spoil(reports))) if len(reports) > 1 else reply
+
+    return spoiled
+
+
+def in_shares(spoil):
+    """Spoils replies that are the reports of a share."""
+
+    def spoiled(call, reply):
+        if not any(os.fsencode(word).startswith(b"--under") for word in call.words):
+            return reply
+        try:
+            reports = [report.text for report in read_reports(reply.output)]
+        except Malformed:
+            return reply
+        return replace(reply, output=b"".join(spoil(reports)))
 
     return spoiled
 
@@ -37,6 +53,10 @@ SPOILERS = {
     "drops a report in the midst": in_reports(lambda reports: reports[:1] + reports[2:]),
     "repeats a report": in_reports(lambda reports: reports + reports[-1:]),
     "has two reports in each other's place": in_reports(lambda reports: [reports[1], reports[0], *reports[2:]]),
+    "leaves out the first report of a share": in_shares(lambda reports: reports[1:]),
+    "takes no run for one of a share": lambda call, reply: (
+        replace(reply, status=0, errors=b"") if reply.errors == b"ptb: no run begins so\n" else reply
+    ),
     "counts one command more": in_reports(lambda reports: [one_step_more(report) for report in reports]),
     "changes a byte of a transcript": in_reports(lambda reports: [one_byte_changed(report) for report in reports]),
     "changes a byte of a plain run": in_plain_runs(lambda reply: replace(reply, output=b"~" + reply.output[1:])),

@@ -7,7 +7,7 @@ use Rattle.ptb_command.specs.Act.{value_action, padded_decimal, newline, parts_a
 use Rattle.ptb_command.specs.Commands.{Part, Say, Show, NewLine}
 use Rattle.ptb_command.specs.Actions.{Action, goes_on, show}
 use Rattle.ptb_command.specs.Devices.{Refusal, nothing_refused}
-use Rattle.ptb_command.specs.Traces.{Trace, RefinesPart}
+use Rattle.ptb_command.specs.Traces.{Trace, with_due, still_due, RefinesPart}
 use Rattle.ptb_command.specs.Stops.{Comes}
 use Rattle.ptb_command.proofs.Actions.{stops_unrefused}
 use Rattle.ptb_command.proofs.Parts.{say_refines_part, say_stops, show_refines_part, show_stops, newline_refines_part, newline_stops, refines_part_part, stops_part, refines_part_parts, stops_parts, refines_part_end}
@@ -25,24 +25,30 @@ if_ok_both (Err e) f a b = tt
 -- where nothing is refused, nothing is refused by anybody
 pub comes_unrefused : {A X : Type 0} (refused : Refusal → Type 0) (o n : Trace) (f : Action A) (ok : X → Action A) (r : Result X Stop) → Comes nothing_refused o n f ok r → Comes refused o n f ok r
 comes_unrefused refused o n f ok (Ok x) h = h
-comes_unrefused refused o n f ok (Err e) h = stops_unrefused refused o n f e h
+comes_unrefused refused o n f ok (Err e) h = stops_unrefused refused o (with_due (still_due n.due e) n) f e h
 
 -- ---- before these parts, with this width and these operands so far
 
 module _ (refused : Refusal → Type 0) (o n : Trace) (rest : List Part) (w : ℕ) (operands : List ℤ) (p : Part) where
   pub say_comes : (s : List ℕ) → p ≡ Say s → (r : Result (Unit {0}) Stop) → Comes nothing_refused o n (show s) goes_on r → Comes refused o n (parts_action (p ∷ rest) w operands) (λ u. parts_action rest w operands) r
   say_comes s e (Ok x) h = refines_part_part rest w operands p _ e (say_refines_part rest w operands s h)
-  say_comes s e (Err x) h = stops_part rest w operands refused o n p _ e x (say_stops rest w operands refused o n s x (stops_unrefused refused o n _ x h))
+  say_comes s e (Err x) h =
+      let k = with_due (still_due n.due x) n in
+      stops_part rest w operands refused o k p _ e x (say_stops rest w operands refused o k s x (stops_unrefused refused o k _ x h))
 
   pub show_comes : (m : Trace) (x : Tree) (v u : ℤ) → p ≡ Show x → u ≡ v → RefinesPart o m (value_action x) (goes_on v) → (r : Result (Unit {0}) Stop) → Comes nothing_refused m n (show (padded_decimal w u)) goes_on r → Comes refused o n (parts_action (p ∷ rest) w operands) (λ u. parts_action rest w operands) r
   show_comes m x v u e k a (Ok y) h = refines_part_part rest w operands p _ e (show_refines_part rest w operands x v u k a h)
-  show_comes m x v u e k a (Err y) h = stops_part rest w operands refused o n p _ e y (show_stops rest w operands refused n x v u k y a (stops_unrefused refused m n _ y h))
+  show_comes m x v u e k a (Err y) h =
+      let l = with_due (still_due n.due y) n in
+      stops_part rest w operands refused o l p _ e y (show_stops rest w operands refused l x v u k y a (stops_unrefused refused m l _ y h))
 
 -- ---- a newline alone
 
 pub newline_comes : (refused : Refusal → Type 0) (o n : Trace) (ps : List Part) (w : ℕ) → ps ≡ NewLine ∷ [] → (r : Result (Unit {0}) Stop) → Comes nothing_refused o n (show newline) goes_on r → Comes refused o n (parts_action ps w []) (λ u. goes_on []) r
 newline_comes refused o n ps w e (Ok x) h = refines_part_parts w [] ps _ e (refines_part_end w [] (newline_refines_part [] w [] h))
-newline_comes refused o n ps w e (Err x) h = stops_parts refused o n w [] ps _ e x (newline_stops [] w [] refused o n x (stops_unrefused refused o n _ x h))
+newline_comes refused o n ps w e (Err x) h =
+    let k = with_due (still_due n.due x) n in
+    stops_parts refused o k w [] ps _ e x (newline_stops [] w [] refused o k x (stops_unrefused refused o k _ x h))
 
 -- what holds of what a chooser and a screen were left as
 pub at_ends : {C S : Type 0} (P : C → S → Type 0) {x : C} {y : S} (c : C) (s : S) → x ≡ c → y ≡ s → P c s → P x y

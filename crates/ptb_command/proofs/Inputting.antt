@@ -36,55 +36,39 @@ use Rattle.ptb_command.specs.Reads.{IsRead}
 use Rattle.ptb_command.specs.Effects.{action_state}
 use Rattle.ptb_devices.specs.Sources.{given_lines}
 use Rattle.ptb_command.specs.Devices.{Devices, Exchanges, no_exchange, with_choices, Refusal, Unanswered, Unread, NoLine, refused_answers, refused_by, HasBroken}
-use Rattle.ptb_command.specs.Io.{io_devices, io_trace}
-use Rattle.ptb_command.specs.Traces.{Trace, trace, after, RefinesPart}
+use Rattle.ptb_command.specs.Io.{io_devices, due_trace}
+use Rattle.ptb_command.specs.Traces.{Trace, trace, with_due, still_due, after, once_shown, RefinesPart}
 use Rattle.ptb_command.specs.Stops.{stop_of, stop_of_read, LacksLine, WantsLine, Stops, RefinesPartTo, Comes}
 use Rattle.ptb_command.proofs.Effects.{takes_joined, ask_lines, input_part, input_takes}
 use Rattle.ptb_command.proofs.Exchanges.{shows_nothing, with_answers_nil}
-use Rattle.ptb_command.proofs.PartRefinement.{leaves_to, leaves_itself, after_nothing, freshens_nothing, refines_part_refl, refines_part_then}
+use Rattle.ptb_command.proofs.PartRefinement.{leaves_to, leaves_itself, after_nothing, once_nothing, freshens_nothing, refines_part_refl, refines_part_then}
 use Rattle.ptb_command.proofs.Stops.{GoesForward, forward_itself, Adds, parts_add, attempt_adds, stops_after}
 use Rattle.ptb_command.proofs.Actions.{goes_adds, show_adds, then_adds, work_action_adds, refines_part_on, stops_first}
 use Rattle.ptb_command.proofs.Letting.{store_adds}
 use Rattle.ptb_command.proofs.Parts.{refines_part_part, stops_part}
+use Rattle.ptb_command.proofs.Pieces.{both_move, first_stops, second_stops}
 use Rattle.ptb_command.proofs.Working.{has_result, has_paused, has_value, has_no_value}
-
--- ---- bytes in two pieces
-
-shown_twice : (xs ys : List ℕ) → show (xs ++ ys) ≡ and_then (show xs) (λ u. show ys)
-shown_twice xs ys = fun_ext (λ S. ap (λ (s : List ℕ). goes_on tt (record S { shown = s })) (sym (append_assoc S.shown xs ys)))
-
-module _ (xs ys : List ℕ) where
-  pub both_move : {o m n : Trace} → RefinesPart o m (show xs) (goes_on tt) → RefinesPart m n (show ys) (goes_on tt) → RefinesPart o n (show (xs ++ ys)) (goes_on tt)
-  both_move {o = o} {n = n} a b = subst (λ (f : Action (Unit {0})). RefinesPart o n f (goes_on tt)) (sym (shown_twice xs ys)) (refines_part_then (refines_part_on (λ u. show ys) a) b)
-
-  pub first_stops : (refused : Refusal → Type 0) (o n : Trace) (e : Stop) → Stops refused (RefinesPartTo o n (show xs)) n.devices e → Stops refused (RefinesPartTo o n (show (xs ++ ys))) n.devices e
-  first_stops refused o n e h =
-      subst (λ (f : Action (Unit {0})). Stops refused (RefinesPartTo o n f) n.devices e) (sym (shown_twice xs ys)) (stops_first refused o n (show xs) (λ u. show ys) (λ u. show_adds ys) e h)
-
-  pub second_stops : (refused : Refusal → Type 0) {o m : Trace} (n : Trace) (e : Stop) → RefinesPart o m (show xs) (goes_on tt) → Stops refused (RefinesPartTo m n (show ys)) n.devices e → Stops refused (RefinesPartTo o n (show (xs ++ ys))) n.devices e
-  second_stops refused {o = o} n e a h =
-      subst (λ (f : Action (Unit {0})). Stops refused (RefinesPartTo o n f) n.devices e) (sym (shown_twice xs ys)) (stops_after refused n (refines_part_on (λ u. show ys) a) e h)
 
 -- ---- a line is worth a value, or has a fault
 
 abbrev pub line_value : List ℕ → Action (Result ℤ Fault)
 line_value l = attempt (λ c. value c (item_of (expression l 0)))
 
-module _ (refused : Pause → ℤ → Type 0) (l : List ℕ) (c e : Choices) (d : Devices) (fresh : Bool) (cells : Cells) where
-  pub line_values : (v u : ℤ) → u ≡ v → WorkComes refused (value cells (item_of (expression l 0))) c e (Ok v) → RefinesPart (trace (with_choices c d) fresh cells) (trace (with_choices e d) fresh cells) (line_value l) (goes_on (Ok u))
+module _ (refused : Pause → ℤ → Type 0) (l : List ℕ) (c e : Choices) (d : Devices) (fresh : Bool) (due : List ℕ) (cells : Cells) where
+  pub line_values : (v u : ℤ) → u ≡ v → WorkComes refused (value cells (item_of (expression l 0))) c e (Ok v) → RefinesPart (with_due due (trace (with_choices c d) fresh cells)) (with_due due (trace (with_choices e d) fresh cells)) (line_value l) (goes_on (Ok u))
   line_values v u k h =
-      subst (λ (z : ℤ). RefinesPart (trace (with_choices c d) fresh cells) (trace (with_choices e d) fresh cells) (line_value l) (goes_on (Ok z))) (sym k)
-      (has_result (λ c. value c (item_of (expression l 0))) c e d fresh cells (Ok v) h)
+      subst (λ (z : ℤ). RefinesPart (with_due due (trace (with_choices c d) fresh cells)) (with_due due (trace (with_choices e d) fresh cells)) (line_value l) (goes_on (Ok z))) (sym k)
+      (has_result (λ c. value c (item_of (expression l 0))) c e d fresh due cells (Ok v) h)
 
-  pub line_faults : (s : NoValue) (f : Fault) → s ≡ values.Fault f → WorkComes refused (value cells (item_of (expression l 0))) c e (Err s) → RefinesPart (trace (with_choices c d) fresh cells) (trace (with_choices e d) fresh cells) (line_value l) (goes_on (Err f))
+  pub line_faults : (s : NoValue) (f : Fault) → s ≡ values.Fault f → WorkComes refused (value cells (item_of (expression l 0))) c e (Err s) → RefinesPart (with_due due (trace (with_choices c d) fresh cells)) (with_due due (trace (with_choices e d) fresh cells)) (line_value l) (goes_on (Err f))
   line_faults s f k h =
-      has_result (λ c. value c (item_of (expression l 0))) c e d fresh cells (Err f)
+      has_result (λ c. value c (item_of (expression l 0))) c e d fresh due cells (Err f)
       (subst (λ (x : NoValue). WorkComes refused (value cells (item_of (expression l 0))) c e (Err x)) k h)
 
-  pub line_pauses : (s : NoValue) (z : Pause) → s ≡ values.Pause z → WorkComes refused (value cells (item_of (expression l 0))) c e (Err s) → (k : Stop) → k ≡ stop_of (values.Pause z) → Stops (refused_answers refused) (RefinesPartTo (trace (with_choices c d) fresh cells) (trace (with_choices e d) fresh cells) (line_value l)) (with_choices e d) k
+  pub line_pauses : (s : NoValue) (z : Pause) → s ≡ values.Pause z → WorkComes refused (value cells (item_of (expression l 0))) c e (Err s) → (k : Stop) → k ≡ stop_of (values.Pause z) → Stops (refused_answers refused) (RefinesPartTo (with_due due (trace (with_choices c d) fresh cells)) (with_due (still_due due k) (trace (with_choices e d) fresh cells)) (line_value l)) (with_choices e d) k
   line_pauses s z p h k q =
-      subst (λ (x : Stop). Stops (refused_answers refused) (RefinesPartTo (trace (with_choices c d) fresh cells) (trace (with_choices e d) fresh cells) (line_value l)) (with_choices e d) x) (sym q)
-      (has_paused (λ c. value c (item_of (expression l 0))) c e d fresh cells refused z
+      subst (λ (x : Stop). Stops (refused_answers refused) (RefinesPartTo (with_due due (trace (with_choices c d) fresh cells)) (with_due (still_due due x) (trace (with_choices e d) fresh cells)) (line_value l)) (with_choices e d) x) (sym q)
+      (has_paused (λ c. value c (item_of (expression l 0))) c e d fresh due cells refused z
       (subst (λ (x : NoValue). WorkComes refused (value cells (item_of (expression l 0))) c e (Err x)) p h))
 
 line_adds : (l : List ℕ) → Adds (line_value l)
@@ -122,7 +106,7 @@ fewer_left m most fewer f = record {
   exchange = no_exchange;
   exchanges = exchanges_most m.devices most fewer;
   fresh = freshens_nothing m.fresh;
-  leaves = λ S rest _ w. leaves_to (f (after m [] rest S)) (ap f (after_nothing m rest S w)) (leaves_itself (f S));
+  leaves = λ S rest _ w. leaves_to (f (once_shown m.due (after m [] rest S))) (ap f (once_nothing m m.due rest S w)) (leaves_itself (f (once_shown m.due S)));
 }
 
 -- ---- an answer instead of a line
@@ -180,16 +164,16 @@ module _ (n : ℤ) (at : Target) where
       refines_part_then (value_then v u is a) (refines_part_then (refines_part_on (λ u. store at v) (both_move (signed_decimal v) newline b c)) d)
 
 -- what the chooser comes to, as the value
-module _ (refused : Pause → ℤ → Type 0) (n : ℤ) (c e : Choices) (d : Devices) (fresh : Bool) (cells : Cells) (high : pos 1 ≤ℤ n) where
-  pub chosen_value : (at : Target) (v : ℤ) → WorkComes refused (chosen n) c e (Ok v) → RefinesPart (trace (with_choices c d) fresh cells) (trace (with_choices e d) fresh cells) (instead_value n at) (goes_on v)
+module _ (refused : Pause → ℤ → Type 0) (n : ℤ) (c e : Choices) (d : Devices) (fresh : Bool) (due : List ℕ) (cells : Cells) (high : pos 1 ≤ℤ n) where
+  pub chosen_value : (at : Target) (v : ℤ) → WorkComes refused (chosen n) c e (Ok v) → RefinesPart (with_due due (trace (with_choices c d) fresh cells)) (with_due due (trace (with_choices e d) fresh cells)) (instead_value n at) (goes_on v)
   unfolding instead_value
   chosen_value at v h =
-      has_value (λ c. random_number n 0) c e d fresh cells v v refl (subst (λ (f : Work ℤ). WorkComes refused f c e (Ok v)) (random_chosen n 0 high) h)
+      has_value (λ c. random_number n 0) c e d fresh due cells v v refl (subst (λ (f : Work ℤ). WorkComes refused f c e (Ok v)) (random_chosen n 0 high) h)
 
-  pub chosen_stops : (at : Target) (s : NoValue) → WorkComes refused (chosen n) c e (Err s) → Stops (refused_answers refused) (RefinesPartTo (trace (with_choices c d) fresh cells) (trace (with_choices e d) fresh cells) (instead_value n at)) (with_choices e d) (stop_of s)
+  pub chosen_stops : (at : Target) (s : NoValue) → WorkComes refused (chosen n) c e (Err s) → Stops (refused_answers refused) (RefinesPartTo (with_due due (trace (with_choices c d) fresh cells)) (with_due (still_due due (stop_of s)) (trace (with_choices e d) fresh cells)) (instead_value n at)) (with_choices e d) (stop_of s)
   unfolding instead_value
   chosen_stops at s h =
-      has_no_value (λ c. random_number n 0) c e d fresh cells refused s (subst (λ (f : Work ℤ). WorkComes refused f c e (Err s)) (random_chosen n 0 high) h)
+      has_no_value (λ c. random_number n 0) c e d fresh due cells refused s (subst (λ (f : Work ℤ). WorkComes refused f c e (Err s)) (random_chosen n 0 high) h)
 
 -- ---- before a line is taken
 
@@ -350,11 +334,11 @@ module _ (said : List ℕ) (x : Tree) (prompt : List ℕ) where
     fresh = freshens_nothing m.fresh;
     leaves = λ S rest f w.
         let lines : S.lines ≡ [] = w.lines ∙ f none in
-        leaves_to (without_line m.devices.choose at (after m [] rest S))
-        (ap (λ ls. answer_by at ls S) lines
-        ∙ ap (λ c. without_line c at S) w.choose
-        ∙ ap (without_line m.devices.choose at) (after_nothing m rest S w))
-        (leaves_itself (wants at S));
+        leaves_to (without_line m.devices.choose at (once_shown m.due (after m [] rest S)))
+        (ap (λ ls. answer_by at ls (once_shown m.due S)) lines
+        ∙ ap (λ c. without_line c at (once_shown m.due S)) w.choose
+        ∙ ap (without_line m.devices.choose at) (once_nothing m m.due rest S w))
+        (leaves_itself (wants at (once_shown m.due S)));
   }
 
   pub take_none : {o m : Trace} (most : ℕ) (at : Target) → most ≡ 0 → RefinesPart o m (ask_for said x prompt) (goes_on at) → RefinesPart o (with_most most m) (item_action said x prompt) (without_line m.devices.choose at)
@@ -413,9 +397,9 @@ module _ (said : List ℕ) (x : Tree) (prompt : List ℕ) where
     leaves = λ S rest f w.
         let taken : record S { lines = rest } ≡ after m [] rest S =
         after_nothing m rest (record S { lines = rest }) (record { fresh = w.fresh; cells = w.cells; lines = refl; choose = w.choose }) in
-        leaves_to (line_next at l (after m [] rest S))
-        (ap (λ ls. answer_by at ls S) w.lines ∙ given_same at l rest S ∙ ap (line_next at l) taken)
-        (leaves_itself (wants at S));
+        leaves_to (line_next at l (once_shown m.due (after m [] rest S)))
+        (ap (λ ls. answer_by at ls (once_shown m.due S)) w.lines ∙ given_same at l rest (once_shown m.due S) ∙ ap (λ T. line_next at l (once_shown m.due T)) taken)
+        (leaves_itself (wants at (once_shown m.due S)));
   }
 
   pub take_given : {o m : Trace} (most : ℕ) (at : Target) (l : List ℕ) (k : List (List ℕ)) → most + 1 ≤ m.devices.most → k ≡ m.devices.given ++ l ∷ [] → RefinesPart o m (ask_for said x prompt) (goes_on at) → RefinesPart o (with_given k (with_most most m)) (item_action said x prompt) (line_next at l)
@@ -470,7 +454,9 @@ module _ (rest : List Part) (w : ℕ) (operands : List ℤ) where
   -- all that it comes to
   pub take_comes : {X : Type 0} (refused : Refusal → Type 0) (o n : Trace) (said : List ℕ) (x : Tree) (prompt : List ℕ) (p : Part) → p ≡ Take said x prompt → (r : Result X Stop) → Comes refused o n (item_action said x prompt) (λ u. goes_on tt) r → Comes refused o n (parts_action (p ∷ rest) w operands) (λ u. parts_action rest w operands) r
   take_comes refused o n said x prompt p k (Ok y) h = refines_part_part rest w operands p (Take said x prompt) k (take_refines_part said x prompt h)
-  take_comes refused o n said x prompt p k (Err e) h = stops_part rest w operands refused o n p (Take said x prompt) k e (take_stops refused o n said x prompt e h)
+  take_comes refused o n said x prompt p k (Err e) h =
+      let m = with_due (still_due n.due e) n in
+      stops_part rest w operands refused o m p (Take said x prompt) k e (take_stops refused o m said x prompt e h)
 
 -- what was read of an item that asks, is its variable at the end
 pub take_read : {X E : Type 0} (t : List ℕ) (i : ℕ) (a : Asking) (k j : ℕ) (r : Result X E) → IsAsked t i a k → IfOk r (λ x. IsRead t k (variable_tree t k) j) → IfOk r (λ x. IsRead t i (input_item t i) j)
@@ -497,13 +483,13 @@ none_given o f =
     subst (λ (ks : List (List ℕ)). RefinesPart o (record o { devices = record o.devices { given = ks } }) f f) (sym (append-nil o.devices.given)) (refines_part_refl o f)
 
 -- lines that are given after others
-module _ {C S L : Type 0} (choices : C → Choices) (screen : Ghosts S) (most : L → ℕ) (io : Io C S L) (cells : Cells) (before xs ys : List (List ℕ)) where
-  pub refines_part_joined : {A : Type 0} {m : Trace} {f g : Action A} → RefinesPart m (io_trace choices screen most io ((before ++ xs) ++ ys) cells) f g → RefinesPart m (io_trace choices screen most io (before ++ (xs ++ ys)) cells) f g
-  refines_part_joined {m = m} {f = f} {g = g} h = subst (λ (ks : List (List ℕ)). RefinesPart m (io_trace choices screen most io ks cells) f g) (append_assoc before xs ys) h
+module _ {C S L : Type 0} (choices : C → Choices) (screen : Ghosts S) (most : L → ℕ) (io : Io C S L) (cells : Cells) (due : List ℕ) (before xs ys : List (List ℕ)) where
+  pub refines_part_joined : {A : Type 0} {m : Trace} {f g : Action A} → RefinesPart m (due_trace choices screen most io ((before ++ xs) ++ ys) cells due) f g → RefinesPart m (due_trace choices screen most io (before ++ (xs ++ ys)) cells due) f g
+  refines_part_joined {m = m} {f = f} {g = g} h = subst (λ (ks : List (List ℕ)). RefinesPart m (due_trace choices screen most io ks cells due) f g) (append_assoc before xs ys) h
 
-  pub stops_joined : {A : Type 0} (refused : Refusal → Type 0) (m : Trace) (f : Action A) (e : Stop) → Stops refused (RefinesPartTo m (io_trace choices screen most io ((before ++ xs) ++ ys) cells) f) (io_devices choices screen most io ((before ++ xs) ++ ys)) e → Stops refused (RefinesPartTo m (io_trace choices screen most io (before ++ (xs ++ ys)) cells) f) (io_devices choices screen most io (before ++ (xs ++ ys))) e
+  pub stops_joined : {A : Type 0} (refused : Refusal → Type 0) (m : Trace) (f : Action A) (e : Stop) → Stops refused (RefinesPartTo m (due_trace choices screen most io ((before ++ xs) ++ ys) cells due) f) (io_devices choices screen most io ((before ++ xs) ++ ys)) e → Stops refused (RefinesPartTo m (due_trace choices screen most io (before ++ (xs ++ ys)) cells due) f) (io_devices choices screen most io (before ++ (xs ++ ys))) e
   stops_joined refused m f e h =
-      subst (λ (ks : List (List ℕ)). Stops refused (RefinesPartTo m (io_trace choices screen most io ks cells) f) (io_devices choices screen most io ks) e) (append_assoc before xs ys) h
+      subst (λ (ks : List (List ℕ)). Stops refused (RefinesPartTo m (due_trace choices screen most io ks cells due) f) (io_devices choices screen most io ks) e) (append_assoc before xs ys) h
 
 -- what a line is worth
 pub line_known : {o n : Trace} (l : List ℕ) (r s : Result ℤ Fault) → r ≡ s → RefinesPart o n (line_value l) (goes_on r) → RefinesPart o n (line_value l) (goes_on s)

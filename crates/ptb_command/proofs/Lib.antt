@@ -7,6 +7,8 @@ pub mod Actions
 pub mod Dispatch
 pub mod Doing
 pub mod Effects
+pub mod Due
+pub mod Gathered
 pub mod Exchanges
 pub mod Finding
 pub mod Following
@@ -20,6 +22,7 @@ pub mod Nexts
 pub mod Parts
 pub mod Prompts
 pub mod Placed
+pub mod Pieces
 pub mod Places
 pub mod Reporting
 pub mod Sequences

@@ -1,5 +1,5 @@
 -- This file proves what is known of lines that were asked for in vain.
-use Rattle.std.proofs.Common.{◌≡◌, ◌≤◌, ◌+◌, length, inl, inr, ℕ, List, Option, Some, None, ℤ, Result, Ok, Err, IfOk, IfSome, IfNone, [], ◌∷◌, sym, ap, subst, ◌∙◌, arith, Bor}
+use Rattle.std.proofs.Common.{◌≡◌, true, ◌≤◌, ◌+◌, length, inl, inr, ℕ, List, Option, Some, None, ℤ, Result, Ok, Err, IfOk, IfSome, IfNone, [], ◌∷◌, sym, ap, subst, ◌∙◌, arith, Bor}
 use Rattle.std.specs.Result.{IsErrAnd}
 use Rattle.std.proofs.lemmas.Result.{err_from_is_err_and}
 use Rattle.ptb_devices.specs.declared.fault.ReadFault.{ReadFault}
@@ -8,7 +8,7 @@ use Rattle.ptb_devices.specs.Sources.{given_lines}
 use Rattle.ptb_command.specs.declared.stop.DeviceError.TheVariants as errors
 use Rattle.ptb_command.specs.declared.stop.Stop.{Stop}
 use Rattle.ptb_command.specs.declared.stop.Stop.TheVariants as stops
-use Rattle.ptb_command.specs.Stops.{stop_of_read, UnlessStopMissed, UnlessMissed, NotMissed}
+use Rattle.ptb_command.specs.Stops.{stop_of_read, still_shows, UnlessStopMissed, UnlessMissed, NotMissed}
 
 module _ (refused : ReadFault → Type 0) (P : Type 0) where
   -- what holds in any case
@@ -24,6 +24,15 @@ module _ (refused : ReadFault → Type 0) (P : Type 0) where
   pub unmissed : {X : Type 0} → P → (r : Result X Stop) → UnlessMissed refused P r
   unmissed p (Ok x) = p
   unmissed p (Err e) = stop_unmissed p e
+
+  -- where what is gathered is still shown
+  pub missed_none : {X : Type 0} (r : Result X Stop) → still_shows r ≡ true → UnlessMissed refused P r → P
+  missed_none (Ok x) k h = h
+  missed_none (Err (stops.Fault f)) k h = h
+  missed_none (Err stops.Ended) k h = h
+  missed_none (Err stops.NoInput) k h = cc
+  missed_none (Err (stops.Pause z)) k h = h
+  missed_none (Err (stops.Broke e)) k h = cc
 
   -- at the exit of a `?`
   pub missed_err : {X : Type 0} (r : Result X Stop) (e : Stop) → IsErrAnd r (λ y. y ≡ e) → UnlessStopMissed refused P e → UnlessMissed refused P r

@@ -1,6 +1,6 @@
 -- This file proves how the loops and calls of a state lie beside what is open in a machine.
 use Rattle.std.proofs.Common.{◌≡◌, ℕ, ◌+◌, Bool, true, false, cond, List, [], ◌∷◌, ◌++◌, length, reverse, refl, sym, ap, subst, ◌∙◌, Option, Some, None, arith}
-use Rattle.std.specs.Prelude.{◌==◌, not, filter, nat_le, sum_by}
+use Rattle.std.specs.Prelude.{◌==◌, ◌≤◌, if◌then◌else◌, not, filter, nat_le, sum_by}
 use Rattle.std.proofs.lemmas.List.{reverse-append}
 use Rattle.std.proofs.lemmas.List.Sums.{sum_by-cons}
 use Rattle.std.proofs.lemmas.Bool.{eqb-true}
@@ -158,3 +158,30 @@ found_letter x (opens.Loop m ∷ os) m' below e =
       | false ↦ λ k. found_letter x os m' below (sym (ap (λ (b : Bool). cond b (Some (m, os)) (loop_of x os)) k) ∙ e)
     ] refl
 found_letter x (opens.Call b ∷ os) m' below e = absurd (some_none (sym e))
+
+-- ---- without room
+
+shorter : (b : Bool) (o : Open) (ws os : List Open) → length ws ≤ length os → length (if b then ws else o ∷ ws) ≤ length (o ∷ os)
+shorter true o ws os h = omega (arith, h)
+shorter false o ws os h = omega (arith, h)
+
+no_longer : (x : ℕ) (os : List Open) → length (without x os) ≤ length os
+no_longer x [] = omega arith
+no_longer x (opens.Call back ∷ os) = omega arith
+no_longer x (opens.Loop m ∷ os) = shorter (m.letter == x) (opens.Loop m) (without x os) os (no_longer x os)
+
+as_long : (b : Bool) (o : Open) (ws os : List Open) → length ws ≤ length os → (length os ≤ length ws → ws ≡ os) → length (o ∷ os) ≤ length (if b then ws else o ∷ ws) → (if b then ws else o ∷ ws) ≡ o ∷ os
+as_long true o ws os h same k = absurd (omega (arith, h, k))
+as_long false o ws os h same k = ap (λ (xs : List Open). o ∷ xs) (same (omega (arith, k)))
+
+-- where no less is open, nothing was removed
+none_removed : (x : ℕ) (os : List Open) → length os ≤ length (without x os) → without x os ≡ os
+none_removed x [] h = refl
+none_removed x (opens.Call back ∷ os) h = refl
+none_removed x (opens.Loop m ∷ os) h = as_long (m.letter == x) (opens.Loop m) (without x os) os (no_longer x os) (none_removed x os) h
+
+pub unchanged_full : (x n : ℕ) (old mid new : List Open) → mid ≡ without x old → length old ≤ n → (new ≡ mid) × (n ≤ length mid) → new ≡ old
+unchanged_full x n old mid new e few full =
+    let same : length mid ≡ length (without x old) = ap (λ (xs : List Open). length xs) e in
+    let more = full.1 in
+    full.0 ∙ e ∙ none_removed x old (omega (arith, few, more, same))

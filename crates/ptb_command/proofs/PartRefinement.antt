@@ -8,7 +8,7 @@ use Rattle.ptb_command.specs.State.{State}
 use Rattle.ptb_command.specs.Actions.{Action, on_progress, and_then}
 use Rattle.ptb_command.specs.Act.{is_fresh}
 use Rattle.ptb_command.specs.Devices.{Exchange, no_exchange, both_exchanges}
-use Rattle.ptb_command.specs.Traces.{Trace, Freshens, Fits, after, Leaves, RefinesPart}
+use Rattle.ptb_command.specs.Traces.{Trace, Freshens, Fits, after, once_shown, Leaves, RefinesPart}
 use Rattle.ptb_command.proofs.Exchanges.{exchanges_none, exchanges_then, follows_before}
 
 -- ---- questions that are answered
@@ -65,6 +65,10 @@ after_nothing o rest S w =
     ∙ ap (λ (l : List (List ℕ)). record S { cells = o.cells; lines = l }) w.lines
     ∙ ap (λ (h : List ℕ). record S { cells = o.cells; lines = rest; shown = h }) (sym (append-nil S.shown))
 
+-- the same once what is due is shown
+pub once_nothing : (o : Trace) (due : List ℕ) (rest : List (List ℕ)) (S : State) → Fits o rest S → once_shown due S ≡ once_shown due (after o [] rest S)
+once_nothing o due rest S w = ap (once_shown due) (after_nothing o rest S w)
+
 after_twice : (m n : Trace) (a b : List ℕ) (ls rest : List (List ℕ)) (S : State) → after n b rest (after m a ls S) ≡ after n (a ++ b) rest S
 after_twice m n a b ls rest S = ap (λ (h : List ℕ). record S { cells = n.cells; lines = rest; shown = h }) (append_assoc S.shown a b)
 
@@ -76,17 +80,18 @@ freshens_nothing a = λ shown e. ap is_fresh (append-nil shown) ∙ e
 
 -- ---- moves
 
--- what is the same in each state that fits
-pub refines_part_same : {A : Type 0} (o : Trace) (f g : State → Answers → Outcome A State) → ((S : State) (rest : List (List ℕ)) → Fits o rest S → f S ≡ g S) → RefinesPart o o f g
+-- what is the same in each state that has these cells
+pub refines_part_same : {A : Type 0} (o : Trace) (f g : State → Answers → Outcome A State) → ((S : State) → S.cells ≡ o.cells → f S ≡ g S) → RefinesPart o o f g
 refines_part_same o f g e = record {
   exchange = no_exchange;
   exchanges = exchanges_none o.devices;
   fresh = freshens_nothing o.fresh;
-  leaves = λ S rest _ w. leaves_to (g (after o [] rest S)) (e S rest w ∙ ap g (after_nothing o rest S w)) (leaves_itself (f S));
+  leaves = λ S rest _ w.
+      leaves_to (g (once_shown o.due (after o [] rest S))) (e (once_shown o.due S) w.cells ∙ ap g (once_nothing o o.due rest S w)) (leaves_itself (f (once_shown o.due S)));
 }
 
 pub refines_part_refl : {A : Type 0} (o : Trace) (f : State → Answers → Outcome A State) → RefinesPart o o f f
-refines_part_refl o f = refines_part_same o f f (λ S rest w. refl)
+refines_part_refl o f = refines_part_same o f f (λ S w. refl)
 
 pub refines_part_then : {A : Type 0} {o m n : Trace} {f g h : State → Answers → Outcome A State} → RefinesPart o m f g → RefinesPart m n g h → RefinesPart o n f h
 refines_part_then {o = o} {m = m} {n = n} {f = f} {g = g} {h = h} a b = record {
@@ -96,8 +101,8 @@ refines_part_then {o = o} {m = m} {n = n} {f = f} {g = g} {h = h} a b = record {
   leaves = λ S rest f w.
       let lines = b.exchange.given ++ rest in
       let fits = fits_assoc o a.exchange.given b.exchange.given rest S w in
-      leaves_to (h (after n (a.exchange.bytes ++ b.exchange.bytes) rest S))
-      (ap h (after_twice m n a.exchange.bytes b.exchange.bytes lines rest S))
+      leaves_to (h (once_shown n.due (after n (a.exchange.bytes ++ b.exchange.bytes) rest S)))
+      (ap (λ T. h (once_shown n.due T)) (after_twice m n a.exchange.bytes b.exchange.bytes lines rest S))
       (leaves_then (a.leaves S lines (follows_before b.exchanges rest f) fits)
       (b.leaves (after m a.exchange.bytes lines S) rest f (fits_after o m a.exchange lines S a.fresh a.exchanges.same_choose fits)));
 }

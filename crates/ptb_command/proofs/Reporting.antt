@@ -24,7 +24,7 @@ shown_err o n bytes r e k s =
 -- ---- two pieces
 
 show_twice : (o : Trace) (xs ys : List ℕ) → RefinesPart o o (show (xs ++ ys)) (and_then (show xs) (λ u. show ys))
-show_twice o xs ys = refines_part_same o _ _ (λ S rest w. ap (λ (l : List ℕ). λ (a : Answers). goes_on tt (record S { shown = l }) a) (sym (append_assoc S.shown xs ys)))
+show_twice o xs ys = refines_part_same o _ _ (λ S w. ap (λ (l : List ℕ). λ (a : Answers). goes_on tt (record S { shown = l }) a) (sym (append_assoc S.shown xs ys)))
 
 -- once the first is shown the second is left
 shown_first : {o n : Trace} (xs ys : List ℕ) → RefinesPart o n (show xs) (goes_on tt) → RefinesPart o n (show (xs ++ ys)) (show ys)

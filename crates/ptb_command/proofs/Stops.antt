@@ -20,7 +20,7 @@ use Rattle.ptb_command.specs.Actions.{Ends, Progress, Goes, Halts, Action, on_pr
 use Rattle.ptb_command.specs.Act.{parts_action}
 use Rattle.ptb_command.specs.Effects.{action_state, Begins, TakesLines}
 use Rattle.ptb_command.specs.Devices.{Devices, with_screen, Refusal, Unanswered, NoLine}
-use Rattle.ptb_command.specs.Traces.{Trace, RefinesPart}
+use Rattle.ptb_command.specs.Traces.{Trace, with_due, still_due, RefinesPart}
 use Rattle.ptb_command.specs.Stops.{LacksLine, WantsLine, Stops, RefinesPartTo, Comes}
 use Rattle.ptb_command.proofs.Effects.{Preserves, begins_itself, begins_joined, takes_itself, takes_joined, attempt_state, parts_part, parts_take}
 use Rattle.ptb_command.proofs.Exchanges.{has_broken_from}
@@ -101,6 +101,8 @@ module _ {A B : Type 0} (refused : Refusal → Type 0) (R : Devices → Action A
     bound = h.bound;
     comes = under n h.left h.comes;
     asks = λ S. ap (λ o. go_on o (on_progress next)) (h.asks S);
+    begins = λ S a. begins_before next adds S.shown (h.left S a) (h.begins S a);
+    takes = λ S a. takes_before next adds S.lines (h.left S a) (h.takes S a);
     outside = λ S. out_before (λ o. go_on o (on_progress next)) (λ T. T) (λ k T. refl) (h.left S) h.bound S z (h.outside S);
     refusal = h.refusal;
     refuses = h.refuses;
@@ -128,6 +130,8 @@ module _ {A : Type 0} (refused others : Refusal → Type 0) (more : (r : Refusal
     bound = h.bound;
     comes = along n h.left h.comes;
     asks = h.asks;
+    begins = h.begins;
+    takes = h.takes;
     outside = h.outside;
     refusal = h.refusal;
     refuses = more (Unanswered z h.bound) h.refuses;
@@ -159,14 +163,14 @@ stops_more refused others more o n f e h = stops_along refused others more (Refi
 
 pub comes_after : {A X : Type 0} (refused : Refusal → Type 0) {o m : Trace} (n : Trace) {f g : Action A} (ok : X → Action A) → RefinesPart o m f g → (r : Result X Stop) → Comes refused m n g ok r → Comes refused o n f ok r
 comes_after refused n ok a (Ok x) h = refines_part_then a h
-comes_after refused n ok a (Err e) h = stops_after refused n a e h
+comes_after refused n ok a (Err e) h = stops_after refused (with_due (still_due n.due e) n) a e h
 
 pub comes_more : {A X : Type 0} (refused others : Refusal → Type 0) → ((r : Refusal) → refused r → others r) → (o n : Trace) (f : Action A) (ok : X → Action A) (r : Result X Stop) → Comes refused o n f ok r → Comes others o n f ok r
 comes_more refused others more o n f ok (Ok x) h = h
-comes_more refused others more o n f ok (Err e) h = stops_more refused others more o n f e h
+comes_more refused others more o n f ok (Err e) h = stops_more refused others more o (with_due (still_due n.due e) n) f e h
 
 -- at the exit of a `?`
-pub comes_err : {A X : Type 0} (refused : Refusal → Type 0) (o n : Trace) (f : Action A) (ok : X → Action A) (r : Result X Stop) (e : Stop) → IsErrAnd r (λ y. y ≡ e) → Stops refused (RefinesPartTo o n f) n.devices e → Comes refused o n f ok r
+pub comes_err : {A X : Type 0} (refused : Refusal → Type 0) (o n : Trace) (f : Action A) (ok : X → Action A) (r : Result X Stop) (e : Stop) → IsErrAnd r (λ y. y ≡ e) → Stops refused (RefinesPartTo o (with_due (still_due n.due e) n) f) n.devices e → Comes refused o n f ok r
 comes_err {A = A} {X = X} refused o n f ok r e k s =
     let p = err_from_is_err_and r k in
     subst (λ (x : Result X Stop). Comes refused o n f ok x) (sym (p.1 ∙ ap Err p.2)) s

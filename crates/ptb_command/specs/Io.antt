@@ -1,6 +1,7 @@
 -- This file defines what the devices of a command hold.
 --     io_devices choices screen most io given         what they hold, beside the lines that the source gave
 --     io_trace choices screen most io given cells     the trace at which the devices stand
+--     due_trace choices screen most io given cells due     the same, with bytes that are gathered
 --     SameBorrows old new                             the borrows are the same, and the bound
 --     SameDevices old new                             so is the source, which gave nothing
 use Rattle.std.specs.Prelude.{◌≡◌, ℕ, List}
@@ -9,7 +10,7 @@ use Rattle.ptb_expr.specs.Store.{Cells}
 use Rattle.ptb_command.specs.declared.io.Io.{Io}
 use Rattle.ptb_devices.specs.declared.screen.Screen.{Ghosts}
 use Rattle.ptb_command.specs.Devices.{Devices, devices, screen_state}
-use Rattle.ptb_command.specs.Traces.{Trace, trace}
+use Rattle.ptb_command.specs.Traces.{Trace, trace, with_due}
 
 abbrev pub io_devices : {C S L : Type 0} → (C → Choices) → Ghosts S → (L → ℕ) → Io C S L → List (List ℕ) → Devices
 io_devices choices screen most io given =
@@ -17,6 +18,9 @@ io_devices choices screen most io given =
 
 abbrev pub io_trace : {C S L : Type 0} → (C → Choices) → Ghosts S → (L → ℕ) → Io C S L → List (List ℕ) → Cells → Trace
 io_trace choices screen most io given cells = trace (io_devices choices screen most io given) io.fresh cells
+
+abbrev pub due_trace : {C S L : Type 0} → (C → Choices) → Ghosts S → (L → ℕ) → Io C S L → List (List ℕ) → Cells → List ℕ → Trace
+due_trace choices screen most io given cells due = with_due due (io_trace choices screen most io given cells)
 
 pub record SameBorrows {C S L : Type 0} (old new : Io C S L) : Type 0 where
   pub chooser : new.chooser.ghost_name ≡ old.chooser.ghost_name

@@ -4,10 +4,11 @@
 --     WantsLine e ends part left           where the input can't be read, a line is wanted
 --     Waits, IsDry, Breaks                 it stops at a question, at an input line, at a device
 --     Stops refused R n e                  it stops for the reason e
+--     still_shows result                   once it comes to this, what is gathered is shown
 --     UnlessMissed refused P result        P holds, unless a line was wanted and the source gave none
 --     NotMissed choose old new most        no line was asked for in vain, unless an answer was asked for instead
 --     Comes refused o n f ok result        from trace o to trace n, f comes to the result
-use Rattle.std.specs.Prelude.{◌≡◌, ◌≤◌, ◌⊎◌, ℕ, List, [], ◌++◌, Option, Some, None, Result, Ok, Err, ℤ, pos, ◌≤ℤ◌}
+use Rattle.std.specs.Prelude.{◌≡◌, ◌≤◌, ◌⊎◌, ℕ, Bool, true, false, List, [], ◌++◌, Option, Some, None, Result, Ok, Err, ℤ, pos, ◌≤ℤ◌}
 use Rattle.ptb_expr.specs.declared.fault.Stop.{Stop as NoValue}
 use Rattle.ptb_expr.specs.declared.fault.Stop.TheVariants as values
 use Rattle.ptb_expr.specs.declared.pause.Pause.{Pause}
@@ -27,7 +28,7 @@ use Rattle.ptb_command.specs.State.{State}
 use Rattle.ptb_command.specs.Actions.{Faults, Ends, Halts, Action, halt}
 use Rattle.ptb_command.specs.Effects.{action_state, Begins, TakesLines}
 use Rattle.ptb_command.specs.Devices.{ScreenState, Devices, with_screen, Shows, Refusal, Unanswered, NoLine, HasBroken}
-use Rattle.ptb_command.specs.Traces.{Trace, trace, RefinesPart}
+use Rattle.ptb_command.specs.Traces.{Trace, with_due, still_due, RefinesPart}
 
 abbrev pub stop_of_screen : ScreenFault → Stop
 stop_of_screen screens.Write = stops.Broke errors.Write
@@ -70,12 +71,14 @@ WantsLine errors.Write ends part left = Unit {0}
 
 -- R d g says that it has come to g, with devices that hold d; `refused` is what stands after a refusal
 module _ {A : Type 0} (refused : Refusal → Type 0) (R : Devices → (State → Answers → Outcome A State) → Type 0) (n : Devices) where
-  -- what is left asks, and the chooser has refused the question
-  pub record Waits (z : Pause) : Type 0 where
+  -- what is left asks, and the chooser has refused the question; it takes back nothing that was shown, and gives back no line
+  pub record Waits (state : Outcome A State → State) (z : Pause) : Type 0 where
     pub left : State → Answers → Outcome A State
     pub bound : ℤ
     pub comes : R n left
     pub asks : (S : State) → left S [] ≡ Asks bound S
+    pub begins : (S : State) (a : Answers) → Begins S.shown (state (left S a)).shown
+    pub takes : (S : State) (a : Answers) → TakesLines S.lines (state (left S a)).lines
     pub outside : (S : State) → SaysOut (left S) bound S z
     pub refusal : IsRefusal z
     pub refuses : refused (Unanswered z bound)
@@ -104,8 +107,17 @@ abbrev pub Stops : {A : Type 0} → (Refusal → Type 0) → (Devices → Action
 Stops refused R n (stops.Fault f) = R n (halt (Faults f))
 Stops refused R n stops.Ended = R n (halt (Ends endings.Stop))
 Stops refused R n stops.NoInput = IsDry refused R n (Halts (Ends endings.NoInput))
-Stops refused R n (stops.Pause z) = Waits refused R n z
+Stops refused R n (stops.Pause z) = Waits refused R n action_state z
 Stops refused R n (stops.Broke e) = Breaks refused R n action_state (Halts (Ends endings.NoInput)) e
+
+-- what is gathered is shown unless a device broke, or no line was left, before which it was shown
+abbrev pub still_shows : {X : Type 0} → Result X Stop → Bool
+still_shows (Ok x) = true
+still_shows (Err (stops.Fault f)) = true
+still_shows (Err stops.Ended) = true
+still_shows (Err stops.NoInput) = false
+still_shows (Err (stops.Pause z)) = true
+still_shows (Err (stops.Broke e)) = false
 
 -- ---- lines that the source didn't give
 
@@ -132,9 +144,9 @@ NotMissed (Some n) old new most = (new ≤ old) ⊎ (most ≡ 0)
 
 -- from trace o, f has come to an action; the trace is then n, with these devices
 abbrev pub RefinesPartTo : {A : Type 0} → Trace → Trace → Action A → Devices → Action A → Type 0
-RefinesPartTo o n f d g = RefinesPart o (trace d n.fresh n.cells) f g
+RefinesPartTo o n f d g = RefinesPart o (record n { devices = d }) f g
 
--- at Ok, to what is left to do with its value
+-- at Ok, to what is left to do with its value; at a stop, with what is still due then
 abbrev pub Comes : {A X : Type 0} → (Refusal → Type 0) → Trace → Trace → Action A → (X → Action A) → Result X Stop → Type 0
 Comes refused o n f ok (Ok x) = RefinesPart o n f (ok x)
-Comes refused o n f ok (Err e) = Stops refused (RefinesPartTo o n f) n.devices e
+Comes refused o n f ok (Err e) = Stops refused (RefinesPartTo o (with_due (still_due n.due e) n) f) n.devices e

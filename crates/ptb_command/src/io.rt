@@ -1,6 +1,6 @@
 // This file has the devices of a command, taken together.
 
-ghost use Rattle.std.specs.Prelude.{◌≡◌, ◌≤◌, List, ℕ, length, IfOk};
+ghost use Rattle.std.specs.Prelude.{◌≡◌, ◌≤◌, List, ℕ, [], length, IfOk};
 ghost use Rattle.ptb_expr.specs.Reading.{item_of, expression};
 ghost use Rattle.ptb_expr.specs.Store.{Cells};
 ghost use Rattle.ptb_command.specs.Act.{value_action};
@@ -9,8 +9,8 @@ ghost use Rattle.ptb_command.specs.Devices.{nothing_refused, refused_answers};
 ghost use Rattle.ptb_command.specs.Reads.{IsRead};
 ghost use Rattle.ptb_command.specs.Stops.{Comes};
 
+use crate::gathering::Gathering;
 use crate::reads::value;
-use crate::showing::show;
 use crate::stop::Stop;
 use ptb_devices::{LineSource, Screen};
 use ptb_expr::{Chooser, Store};
@@ -32,7 +32,7 @@ pub struct Io<'a, C, S, L> {
 }
 
 impl<'a, C: Chooser, S: Screen, L: LineSource> Io<'a, C, S, L> {
-    ghost use Rattle.ptb_command.specs.Io.{io_trace, SameDevices};
+    ghost use Rattle.ptb_command.specs.Io.{io_trace, due_trace, SameDevices};
 
     /// These devices, taken together.
     pub fn new(
@@ -60,24 +60,38 @@ impl<'a, C: Chooser, S: Screen, L: LineSource> Io<'a, C, S, L> {
         }
     }
 
-    /// Shows bytes as a part of a command.
-    pub(crate) fn show(&mut self, bytes: &[u8]) -> Result<(), Stop>
+    /// Shows bytes as a part of a command: later, with others, if there is room for them.
+    #[inline(always)]
+    pub(crate) fn show(&mut self, gathering: &mut Gathering, bytes: &[u8]) -> Result<(), Stop>
         ensures comes { (given : List (List ℕ)) (cells : Cells) → Comes nothing_refused
-            (io_trace C.choices S.Screen L.most self.old given cells)
-            (io_trace C.choices S.Screen L.most self.new given cells)
+            (due_trace C.choices S.Screen L.most self.old given cells gathering.old)
+            (due_trace C.choices S.Screen L.most self.new given cells gathering.new)
             (show_action bytes.now) goes_on result }
         ensures same { SameDevices self.old self.new }
     {
-        show(self.screen, &mut self.fresh, bytes)
+        gathering.show(self.screen, &mut self.fresh, bytes)
+    }
+
+    /// Shows what was gathered. Nothing is gathered then, also where the screen fails.
+    pub(crate) fn flush(&mut self, gathering: &mut Gathering) -> Result<(), Stop>
+        ensures comes { (given : List (List ℕ)) (cells : Cells) → Comes nothing_refused
+            (due_trace C.choices S.Screen L.most self.old given cells gathering.old)
+            (io_trace C.choices S.Screen L.most self.new given cells)
+            (goes_on tt) goes_on result }
+        ensures empty { gathering.new ≡ [] }
+        ensures chooser { self.new.chooser ≡ self.old.chooser }
+        ensures same { SameDevices self.old self.new }
+    {
+        gathering.flush(self.screen, &mut self.fresh)
     }
 
     /// The value of the expression at the cursor.
     pub(crate) fn value(&mut self, cursor: &mut Cursor, store: &Store) -> Result<i16, Stop>
         ensures text { cursor.new.text ≡ cursor.old.text }
-        ensures comes { (given : List (List ℕ)) → Comes
+        ensures comes { (given : List (List ℕ)) (due : List ℕ) → Comes
             (refused_answers (C.refused self.new.chooser.now))
-            (io_trace C.choices S.Screen L.most self.old given store.now)
-            (io_trace C.choices S.Screen L.most self.new given store.now)
+            (due_trace C.choices S.Screen L.most self.old given store.now due)
+            (due_trace C.choices S.Screen L.most self.new given store.now due)
             (value_action (item_of (expression cursor.old.text cursor.old.place))) goes_on result }
         ensures read { IfOk result (λ _. IsRead cursor.old.text cursor.old.place
             (expression cursor.old.text cursor.old.place) cursor.new.place) }

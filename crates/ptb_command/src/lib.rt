@@ -9,6 +9,7 @@
 
 mod commands;
 mod ending;
+mod gathering;
 mod io;
 mod laws;
 mod location;
@@ -20,6 +21,7 @@ mod stack;
 mod statements;
 mod stop;
 
+pub use commands::let_command::store_value;
 pub use commands::loops::end_turn;
 pub use ending::Ending;
 pub use io::Io;

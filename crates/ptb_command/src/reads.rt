@@ -11,7 +11,7 @@ ghost use Rattle.ptb_command.specs.Commands.{at_end, end_check, string_at};
 ghost use Rattle.ptb_command.specs.Actions.{goes_on};
 ghost use Rattle.ptb_command.specs.Devices.{Devices, with_choices, nothing_refused, refused_answers};
 ghost use Rattle.ptb_command.specs.Reads.{IsRead, IsFirstWord, Follows};
-ghost use Rattle.ptb_command.specs.Traces.{Trace, trace};
+ghost use Rattle.ptb_command.specs.Traces.{Trace, trace, with_due};
 ghost use Rattle.ptb_command.specs.Stops.{Comes};
 
 use crate::stop::{Stop, fault};
@@ -89,9 +89,10 @@ pub(crate) fn value<C: Chooser>(
     chooser: &mut C,
 ) -> Result<i16, Stop>
     ensures text { cursor.new.text ≡ cursor.old.text }
-    ensures comes { (d : Devices) (fresh : Bool) → Comes (refused_answers (C.refused chooser.new))
-        (trace (with_choices (C.choices chooser.old) d) fresh store.now)
-        (trace (with_choices (C.choices chooser.new) d) fresh store.now)
+    ensures comes { (d : Devices) (fresh : Bool) (due : List ℕ) → Comes
+        (refused_answers (C.refused chooser.new))
+        (with_due due (trace (with_choices (C.choices chooser.old) d) fresh store.now))
+        (with_due due (trace (with_choices (C.choices chooser.new) d) fresh store.now))
         (value_action (item_of (expression cursor.old.text cursor.old.place))) goes_on result }
     ensures read { IfOk result (λ _. IsRead cursor.old.text cursor.old.place
         (expression cursor.old.text cursor.old.place) cursor.new.place) }
@@ -108,9 +109,10 @@ pub(crate) fn variable<C: Chooser>(
     chooser: &mut C,
 ) -> Result<Target, Stop>
     ensures text { cursor.new.text ≡ cursor.old.text }
-    ensures comes { (d : Devices) (fresh : Bool) → Comes (refused_answers (C.refused chooser.new))
-        (trace (with_choices (C.choices chooser.old) d) fresh store.now)
-        (trace (with_choices (C.choices chooser.new) d) fresh store.now)
+    ensures comes { (d : Devices) (fresh : Bool) (due : List ℕ) → Comes
+        (refused_answers (C.refused chooser.new))
+        (with_due due (trace (with_choices (C.choices chooser.old) d) fresh store.now))
+        (with_due due (trace (with_choices (C.choices chooser.new) d) fresh store.now))
         (target_action (item_of (variable_tree cursor.old.text cursor.old.place))) goes_on result }
     ensures read { IfOk result (λ _. IsRead cursor.old.text cursor.old.place
         (variable_tree cursor.old.text cursor.old.place) cursor.new.place) }

@@ -1,7 +1,7 @@
 // This file has the control stack: the loops and calls that are open.
 
 ghost use Rattle.std.specs.Prelude.{◌≡◌, ◌+◌, ◌<◌, ◌≤◌, ◌↔◌, [], ◌∷◌, ◌++◌, length, reverse, take};
-ghost use Rattle.std.specs.Prelude.{IfSome, IsTrue, MatchBool, option_map};
+ghost use Rattle.std.specs.Prelude.{IfSome, IsTrue, IsFalse, MatchBool, option_map};
 ghost use Rattle.ptb_command.specs.Stacks.{call_of, loop_of, without};
 ghost use Rattle.ptb_command.specs.Stacks.{ClosesCall, ClosesNewer, ClosesNewest};
 ghost use Rattle.ptb_command.specs.State.{nesting_limit};
@@ -111,13 +111,15 @@ impl Stack {
     }
 
     /// Opens a loop, where there is room for one more; whether there is. The loop of its variable in
-    /// the newest level is removed first, also where there is no room then.
+    /// the newest level is removed first; where one was, there is room, so that without room nothing is
+    /// changed.
     pub fn open_loop(&mut self, item: OpenLoop) -> bool
-        ensures { MatchBool result
+        ensures opens { MatchBool result
             ((self.new ≡ Open.Loop item ∷ without item.letter self.old)
             × (length (without item.letter self.old) < nesting_limit))
             ((self.new ≡ without item.letter self.old)
             × (nesting_limit ≤ length (without item.letter self.old))) }
+        ensures full { IsFalse result → self.new ≡ self.old }
     {
         self.remove_loops(item.letter);
         self.add(Open::Loop(item))
@@ -165,7 +167,8 @@ impl Stack {
 
     // Removes the loops of a variable in the newest level.
     fn remove_loops(&mut self, letter: Letter)
-        ensures { self.new ≡ without letter self.old }
+        ensures removed { self.new ≡ without letter self.old }
+        ensures few { length self.old ≤ nesting_limit }
     {
         let mut k = self.opens.len();
         'levels: while k > 0 {

@@ -2,6 +2,7 @@
 
 ghost use Rattle.std.specs.Prelude.{◌≡◌};
 ghost use Rattle.ptb_expr.specs.Value.{fault};
+ghost use Rattle.ptb_command.specs.Stops.{still_shows};
 
 use ptb_devices::{ReadFault, ScreenFault};
 use ptb_expr::{Fault, FaultKind, Pause};
@@ -37,6 +38,13 @@ pub(crate) fn fault(kind: FaultKind, mark: usize) -> Stop
     ensures { result ≡ Stop.Fault (fault kind mark) }
 {
     Stop::Fault(Fault { kind, mark })
+}
+
+/// Whether what a command has gathered is shown once it comes to this.
+pub(crate) fn still_shows(done: Result<(), Stop>) -> bool
+    ensures { result ≡ still_shows done }
+{
+    !matches!(done, Err(Stop::NoInput | Stop::Broke(_)))
 }
 
 impl From<ScreenFault> for Stop {

@@ -9,6 +9,8 @@ use ptb_devices::{Line, Lines, TextScreen};
 use ptb_expr::{Fault, FaultKind, Listed, Pause, Store};
 use ptb_text::{Cursor, Letter, LoadFault, Program, Word};
 use std::alloc::{AllocError, Global};
+use std::io;
+use std::io::ErrorKind;
 use std::test::Fail;
 
 /// The memory of the programs.
@@ -20,6 +22,28 @@ pub(crate) fn letter(byte: u8) -> Letter
     ensures { result ≡ byte }
 {
     Letter::new(byte).unwrap()
+}
+
+// Takes all bytes of a write, until it fails.
+#[derive(Drop)]
+pub(crate) struct Counted<'a> {
+    pub(crate) taken: &'a mut Vec<u8>,
+    pub(crate) writes_left: &'a mut usize,
+}
+
+impl<'a> io::Write for Counted<'a> {
+    fn write(&mut self, buf: &[u8]) -> io::Result<usize> {
+        if *self.writes_left == 0 {
+            return Err(io::Error::from(ErrorKind::BrokenPipe));
+        }
+        *self.writes_left -= 1;
+        self.taken.extend_from_slice(buf)?;
+        Ok(buf.len())
+    }
+
+    fn flush(&mut self) -> io::Result<()> {
+        Ok(())
+    }
 }
 
 // A fault with its mark.

@@ -6,7 +6,7 @@ use Rattle.std.proofs.lemmas.Bool.{false_from_ne_true}
 use Rattle.ptb_expr.specs.Outcome.{Answers, Outcome, IsReader}
 use Rattle.ptb_explore.specs.Laws.{ListingLaws}
 use Rattle.ptb_explore.specs.Listing.{text}
-use Rattle.ptb_explore.specs.RunTree.{Front, At, IsRun, IsRising, tree, is_after, is_before, Before, runs_after}
+use Rattle.ptb_explore.specs.RunTree.{Front, At, IsRun, IsRising, tree, is_left, is_before, Before, runs_after}
 use Rattle.ptb_explore.proofs.Lists.{all_at, contained_in, filter_in, in_contained, in_filter, in_right, rising_filter}
 use Rattle.ptb_explore.proofs.Order.{before_self, before_not_back}
 use Rattle.ptb_explore.proofs.Tree.{tree_rises, tree_runs}
@@ -30,19 +30,19 @@ text-append report [] ys = refl
 text-append report (x ∷ xs) ys = ap (λ s. report x ++ s) (text-append report xs ys) ∙ sym (append_assoc (report x) (text report xs) (text report ys))
 
 module _ {A W : Type 0} (play : Answers → Outcome A W) (most : ℕ) (reads : IsReader play most) where
-  behind : (front back : List Answers) (r : Answers) → tree play most ≡ front ++ r ∷ back → runs_after play most (At r) ≡ back
+  behind : (front back : List Answers) (r : Answers) → tree play most ≡ front ++ r ∷ back → runs_after play most [] (At r) ≡ back
   behind front back r e = ap (filter (is_before r)) e ∙ filter-behind front back r (rw e at (tree_rises play most reads))
 
-  left : (f : Front) (a : Answers) → Contains (runs_after play most f) a ↔ (IsRun play a × (is_after f a ≡ true))
-  left f a =
+  left : (under : Answers) (f : Front) (a : Answers) → Contains (runs_after play most under f) a ↔ (IsRun play a × (is_left under f a ≡ true))
+  left under f a =
       let all = tree play most in
-      let listed = runs_after play most f in (
-        λ c. let i = filter_in (is_after f) a all (contained_in a listed c) in ((tree_runs play most reads a).0 i.0, i.1),
-        λ h. in_contained a listed (in_filter (is_after f) a all ((tree_runs play most reads a).1 h.0) h.1),
+      let listed = runs_after play most under f in (
+        λ c. let i = filter_in (is_left under f) a all (contained_in a listed c) in ((tree_runs play most reads a).0 i.0, i.1),
+        λ h. in_contained a listed (in_filter (is_left under f) a all ((tree_runs play most reads a).1 h.0) h.1),
       )
 
-  left_rises : (f : Front) → IsRising (runs_after play most f)
-  left_rises f = rising_filter (is_after f) (tree play most) (tree_rises play most reads)
+  left_rises : (under : Answers) (f : Front) → IsRising (runs_after play most under f)
+  left_rises under f = rising_filter (is_left under f) (tree play most) (tree_rises play most reads)
 
   pub listing_laws : ListingLaws play most
   listing_laws = record {

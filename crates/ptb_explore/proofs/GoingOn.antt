@@ -22,12 +22,12 @@ use Rattle.ptb_explore.proofs.Raising.{plan_begins}
 use Rattle.ptb_explore.proofs.RunPrefix.{prefix_to}
 
 -- the plan begins as the run does at which the listing stands
-pub next_agrees : {A W : Type 0} (play : Answers → Outcome A W) (position : Position) (answers plan : Answers) (bounded : List ℤ) (i : ℕ) → IsPosition play position answers bounded → PlansNext position answers bounded plan (Some i) → Agrees play i plan answers bounded
-next_agrees play AtStart answers plan bounded i s n = rw n.0 (omega arith, refl, refl)
-next_agrees play AtRun answers plan bounded i s n =
-    let b = plan_begins answers plan bounded i n in
+pub next_agrees : {A W : Type 0} (play : Answers → Outcome A W) (under : Answers) (position : Position) (answers plan : Answers) (bounded : List ℤ) (i : ℕ) → IsPosition play under position answers bounded → PlansNext under position answers bounded plan (Some i) → Agrees play i plan answers bounded
+next_agrees play under AtStart answers plan bounded i s n = rw n.0 (omega arith, refl, refl)
+next_agrees play under AtRun answers plan bounded i s n =
+    let b = plan_begins under answers plan bounded i n in
     (b.0, b.1, ap (take i) s.1)
-next_agrees play AtEnd answers plan bounded i s n = absurd n
+next_agrees play under AtEnd answers plan bounded i s n = absurd n
 
 front_none : {X : Type 0} (xs ys : List X) → [] ≡ xs ++ ys → xs ≡ []
 front_none [] ys e = refl
@@ -51,23 +51,23 @@ module _ (p : StoredProgram) (input : List (List ℕ)) (rules : Rules) where
   kept_at AtEnd r ks h = ap (kept_runs r.answers.items) h
 
   -- what is left of the copies ends with the newest that the next answers begin with
-  next_steps : (position : Position) (r : Report) (plan ones answers : Answers) (i : ℕ) (old left : List KeptCopy) → PlansNext position r.answers.items r.bounds.items plan (Some i) → AreCopiesAt p input rules position r old → answers ≡ plan ++ ones → WentBack i old left
+  next_steps : (under : Answers) (position : Position) (r : Report) (plan ones answers : Answers) (i : ℕ) (old left : List KeptCopy) → PlansNext under position r.answers.items r.bounds.items plan (Some i) → AreCopiesAt p input rules position r old → answers ≡ plan ++ ones → WentBack i old left
       → kept_steps answers (kept_runs r.answers.items old) ≡ last_steps left
-  next_steps AtStart r plan ones answers i old left n h e back =
+  next_steps under AtStart r plan ones answers i old left n h e back =
       let none : left ≡ [] = front_none left back.0.dropped (sym h ∙ back.0.split) in
       rw (h, none) refl
-  next_steps AtRun r plan ones answers i old left n h e back =
+  next_steps under AtRun r plan ones answers i old left n h e back =
       let a = r.answers.items in
       let y = slice_index_or a i (pos 0) +ℤ pos 1 in
       let is : answers ≡ take i a ++ y ∷ ones = e ∙ ap (λ s. s ++ ones) n.1 ∙ append_assoc (take i a) (y ∷ []) ones in
       rw is (steps_behind p input rules i a ones y n.0.within (omega (arith, ints)) r.transcript.items old left h back)
-  next_steps AtEnd r plan ones answers i old left n h e back = absurd n
+  next_steps under AtEnd r plan ones answers i old left n h e back = absurd n
 
   -- so many steps are played
-  pub next_played : (position : Position) (r : Report) (plan ones answers : Answers) (i : ℕ) (old : List KeptCopy) (played steps new : ℕ) → PlansNext position r.answers.items r.bounds.items plan (Some i) → AreCopiesAt p input rules position r old → answers ≡ plan ++ ones → PlaysOn i old played steps new
+  pub next_played : (under : Answers) (position : Position) (r : Report) (plan ones answers : Answers) (i : ℕ) (old : List KeptCopy) (played steps new : ℕ) → PlansNext under position r.answers.items r.bounds.items plan (Some i) → AreCopiesAt p input rules position r old → answers ≡ plan ++ ones → PlaysOn i old played steps new
       → new ≡ more_played played (steps - kept_steps answers (kept_runs r.answers.items old))
-  next_played position r plan ones answers i old played steps new n h e plays =
-      plays.2 ∙ ap (λ k. more_played played (steps - k)) (sym (next_steps position r plan ones answers i old plays.0 n h e plays.1))
+  next_played under position r plan ones answers i old played steps new n h e plays =
+      plays.2 ∙ ap (λ k. more_played played (steps - k)) (sym (next_steps under position r plan ones answers i old plays.0 n h e plays.1))
 
 -- ---- where the run goes on from a copy
 

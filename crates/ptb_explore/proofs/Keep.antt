@@ -1,5 +1,5 @@
 -- This file proves that copies that are kept stay sound, and which of them a run goes on from.
-use Rattle.std.proofs.Common.{◌≡◌, ℕ, zero, suc, ◌+◌, ◌-◌, ◌<◌, ◌≤◌, List, [], ◌∷◌, ◌++◌, length, take, drop, true, false, Some, inl, inr, refl, ap, sym, subst, ◌∙◌, arith, length-append, length-take}
+use Rattle.std.proofs.Common.{◌≡◌, ℕ, zero, suc, ◌<◌, ◌≤◌, List, [], ◌∷◌, ◌++◌, length, take, drop, true, false, Some, inl, inr, refl, ap, sym, subst, ◌∙◌, arith, length-append, length-take}
 use Rattle.std.specs.Prelude.{ℤ, pos, ◌<ℤ◌, slice_index_or, if◌then◌else◌}
 use Rattle.std.specs.Ordering.{int_eq}
 use Rattle.std.specs.List.{AllByRecursion}
@@ -11,7 +11,8 @@ use Rattle.ptb_text.specs.Statements.{StoredProgram}
 use Rattle.ptb_expr.specs.Outcome.{Answers, Outcome, bound_of, bounds, bounds_after}
 use Rattle.ptb_command.specs.Configuration.{Configuration}
 use Rattle.ptb_explore.specs.declared.copies.KeptCopy.{KeptCopy}
-use Rattle.ptb_explore.specs.Copies.{machine_of, steps_of, steps_or_none, IsCopyOf, IsSameCopy, Adds, GoesBackTo, StandsAt, KeptFrom, AreCopies, Agrees, kept_runs, begins_with, newest_steps, kept_steps, WentBack, last_steps_of, last_steps, AreBeginnings}
+use Rattle.ptb_explore.specs.Copies.{machine_of, steps_of, steps_or_none, IsCopyOf, IsSameCopy, Adds, GoesBackTo, StandsAt, KeptFrom, AreCopies, Agrees, kept_runs, newest_steps, kept_steps, WentBack, last_steps_of, last_steps, AreBeginnings}
+use Rattle.ptb_explore.specs.RunTree.{begins_with}
 use Rattle.std.proofs.lemmas.Bool.{false_from_ne_true, and_parts, and_from}
 use Rattle.ptb_explore.proofs.Bounds.{length-bounds}
 use Rattle.ptb_explore.proofs.Order.{same_is, same_from}

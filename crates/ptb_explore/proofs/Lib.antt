@@ -4,6 +4,7 @@ pub mod Lists
 pub mod Tree
 pub mod Next
 pub mod Behind
+pub mod Shares
 pub mod Bounds
 pub mod Raising
 pub mod Attempt

@@ -1,11 +1,11 @@
 -- This file proves what is left of a listing after its next run, and that no run is between the front and a raised plan.
-use Rattle.std.proofs.Common.{◌≡◌, ℕ, List, [], ◌∷◌, ◌++◌, Bool, true, false, inl, inr, refl, ap, arith, append_assoc, append-nil}
+use Rattle.std.proofs.Common.{◌≡◌, ℕ, List, [], ◌∷◌, ◌++◌, Bool, true, false, ◌&&◌, inl, inr, refl, ap, sym, ◌∙◌, arith, append_assoc, append-nil}
 use Rattle.std.specs.Prelude.{ℤ, pos, ◌+ℤ◌, ◌≤ℤ◌, int_le}
-use Rattle.std.proofs.lemmas.Bool.{false_from_ne_true, and_parts}
+use Rattle.std.proofs.lemmas.Bool.{false_from_ne_true, and_parts, and_from}
 use Rattle.std.proofs.lemmas.Int.{ints}
 use Rattle.std.specs.List.{filter}
 use Rattle.ptb_expr.specs.Outcome.{Answers, Outcome, IsReader, bound_of, is_answer}
-use Rattle.ptb_explore.specs.RunTree.{IsRun, IsRising, tree, is_before, Before, Front, Start, At, End, is_after, runs_after, IsNextRun, IsLast}
+use Rattle.ptb_explore.specs.RunTree.{IsRun, IsRising, tree, is_before, Before, Front, Start, At, End, is_after, is_left, begins_with, runs_after, IsNextRun, IsLast}
 use Rattle.ptb_explore.specs.Plans.{AllOnes}
 use Rattle.ptb_explore.proofs.Lists.{IsIn, all_at}
 use Rattle.ptb_explore.proofs.Order.{before_step, before_self, before_then, before_not_back}
@@ -13,13 +13,24 @@ use Rattle.ptb_explore.proofs.Tree.{run_asks, tree_rises, tree_runs}
 
 -- ---- what is left
 
-filter_keeps : (p : Answers → Bool) (xs : List Answers) → ((b : Answers) → IsIn b xs → p b ≡ true) → filter p xs ≡ xs
-filter_keeps p [] h = refl
-filter_keeps p (x ∷ xs) h = rw (h x (inl refl)) (ap (λ s. x ∷ s) (filter_keeps p xs (λ b i. h b (inr i))))
+-- tests that agree on the members keep the same ones
+filter_same : (p q : Answers → Bool) (xs : List Answers) → ((b : Answers) → IsIn b xs → p b ≡ q b) → filter p xs ≡ filter q xs
+filter_same p q [] h = refl
+filter_same p q (x ∷ xs) h = rw (h x (inl refl), filter_same p q xs (λ b i. h b (inr i))) refl
 
 filter_drops : (p : Answers → Bool) (xs : List Answers) → ((b : Answers) → IsIn b xs → p b ≡ false) → filter p xs ≡ []
 filter_drops p [] h = refl
 filter_drops p (x ∷ xs) h = rw (h x (inl refl)) (filter_drops p xs (λ b i. h b (inr i)))
+
+-- what is left is after the front, and begins with the answers under which the listing is
+pub left_after : (under : Answers) (front : Front) (a : Answers) → is_left under front a ≡ true → is_after front a ≡ true
+left_after under front a h = let p = and_parts (begins_with a under) (is_after front a) h in p.1
+
+pub left_begins : (under : Answers) (front : Front) (a : Answers) → is_left under front a ≡ true → begins_with a under ≡ true
+left_begins under front a h = let p = and_parts (begins_with a under) (is_after front a) h in p.0
+
+pub left_from : (under : Answers) (front : Front) (a : Answers) → begins_with a under ≡ true → is_after front a ≡ true → is_left under front a ≡ true
+left_from under front a b h = and_from (begins_with a under) (is_after front a) b h
 
 -- what comes after what is after the front is after the front
 after_then : (front : Front) (a b : Answers) → is_after front a ≡ true → Before a b → is_after front b ≡ true
@@ -27,30 +38,40 @@ after_then Start a b h k = refl
 after_then (At f) a b h k = before_then f a b h k
 after_then End a b h k = h
 
--- in a rising list, what is after the front begins with the first that is, and goes on with what is after that
-filter_next : (front : Front) (r : Answers) (xs : List Answers) → IsRising xs → IsIn r xs → is_after front r ≡ true → ((b : Answers) → IsIn b xs → is_after front b ≡ true → Before b r → ⊥) → filter (is_after front) xs ≡ r ∷ filter (is_after (At r)) xs
-filter_next front r [] up i h none = absurd i
-filter_next front r (x ∷ xs) up (inl e) h none =
-    let hx : is_after front x ≡ true = rw (← e) h in
-    let self : is_before r x ≡ false = false_from_ne_true _ (λ t. before_self x (rw e at t)) in
-    let all : filter (is_after front) xs ≡ xs = filter_keeps _ xs (λ b i. after_then front x b hx (all_at (Before x) xs b up.0 i)) in
-    let rest : filter (is_before r) xs ≡ xs = filter_keeps _ xs (λ b i. rw e (all_at (Before x) xs b up.0 i)) in
-    rw (hx, self, all, rest, e) refl
-filter_next front r (x ∷ xs) up (inr i) h none =
+-- in a rising list, what is left begins with the first that is, and goes on with what is left behind that
+filter_next : (under : Answers) (front : Front) (r : Answers) (xs : List Answers) → IsRising xs → IsIn r xs → is_left under front r ≡ true → ((b : Answers) → IsIn b xs → is_left under front b ≡ true → Before b r → ⊥) → filter (is_left under front) xs ≡ r ∷ filter (is_left under (At r)) xs
+filter_next under front r [] up i h none = absurd i
+filter_next under front r (x ∷ xs) up (inl e) h none =
+    let hx : is_left under front x ≡ true = rw (← e) h in
+    let self : is_left under (At r) x ≡ false = false_from_ne_true _ (λ t. before_self x (rw e at (left_after under (At r) x t))) in
+    let rest : filter (is_left under front) xs ≡ filter (is_left under (At r)) xs = filter_same _ _ xs (λ b i.
+    let later : Before x b = all_at (Before x) xs b up.0 i in
+    let since : is_after front b ≡ true = after_then front x b (left_after under front x hx) later in
+    let behind : is_before r b ≡ true = rw e later in
+    ap (λ t. begins_with b under && t) (since ∙ sym behind)) in
+    rw (hx, self) (ap (λ s. x ∷ s) rest ∙ ap (λ z. z ∷ filter (is_left under (At r)) xs) (sym e))
+filter_next under front r (x ∷ xs) up (inr i) h none =
     let below : Before x r = all_at (Before x) xs r up.0 i in
-    let no : is_after front x ≡ false = false_from_ne_true _ (λ t. none x (inl refl) t below) in
-    let back : is_before r x ≡ false = false_from_ne_true _ (λ t. before_not_back x r below t) in
-    rw (no, back) (filter_next front r xs up.1 i h (λ b j. none b (inr j)))
+    let no : is_left under front x ≡ false = false_from_ne_true _ (λ t. none x (inl refl) t below) in
+    let back : is_left under (At r) x ≡ false = false_from_ne_true _ (λ t. before_not_back x r below (left_after under (At r) x t)) in
+    rw (no, back) (filter_next under front r xs up.1 i h (λ b j. none b (inr j)))
+
+same_head : (a b : Answers) (xs ys : List Answers) → a ∷ xs ≡ b ∷ ys → a ≡ b
+same_head a b xs ys e = cc
 
 module _ {A W : Type 0} (play : Answers → Outcome A W) (most : ℕ) (reads : IsReader play most) where
   -- what is left after the front is the next run, and what is left after that
-  pub left_next : (front : Front) (r : Answers) → IsNextRun play front r → runs_after play most front ≡ r ∷ runs_after play most (At r)
-  left_next front r n =
-      filter_next front r (tree play most) (tree_rises play most reads) ((tree_runs play most reads r).1 n.run) n.after
+  pub left_next : (under : Answers) (front : Front) (r : Answers) → IsNextRun play under front r → runs_after play most under front ≡ r ∷ runs_after play most under (At r)
+  left_next under front r n =
+      filter_next under front r (tree play most) (tree_rises play most reads) ((tree_runs play most reads r).1 n.run) n.left
       (λ b i h k. n.first b ((tree_runs play most reads b).0 i) h k)
 
-  pub left_none : (front : Front) → IsLast play front → runs_after play most front ≡ []
-  left_none front none = filter_drops _ (tree play most) (λ b i. false_from_ne_true _ (λ t. none b ((tree_runs play most reads b).0 i) t))
+  -- there is one next run
+  pub next_same : (under : Answers) (front : Front) (a b : Answers) → IsNextRun play under front a → IsNextRun play under front b → a ≡ b
+  next_same under front a b h k = same_head a b (runs_after play most under (At a)) (runs_after play most under (At b)) (sym (left_next under front a h) ∙ left_next under front b k)
+
+  pub left_none : (under : Answers) (front : Front) → IsLast play under front → runs_after play most under front ≡ []
+  left_none under front none = filter_drops _ (tree play most) (λ b i. false_from_ne_true _ (λ t. none b ((tree_runs play most reads b).0 i) t))
 
 -- ---- no run between
 

@@ -1,12 +1,13 @@
 -- This file proves laws of the order of lists, by the first place at which two of them differ.
-use Rattle.std.proofs.Common.{◌≡◌, ◌++◌, [], ◌∷◌, true, ◌&&◌, ◌⊎◌, inl, inr, refl, ap, sym, ◌∙◌, arith}
+use Rattle.std.proofs.Common.{◌≡◌, ◌++◌, [], ◌∷◌, true, ◌&&◌, false, length, take, ◌⊎◌, inl, inr, refl, ap, sym, ◌∙◌, arith}
 use Rattle.std.specs.Prelude.{ℤ, ◌<ℤ◌, int_lt}
 use Rattle.std.specs.Ordering.{int_eq}
-use Rattle.std.proofs.lemmas.Bool.{or_cases, and_parts, and_from, or_left, or_right}
+use Rattle.std.specs.Cmp.Lexicographic.{pointwise}
+use Rattle.std.proofs.lemmas.Bool.{cases_Bool, false_from_ne_true, or_cases, and_parts, and_from, or_left, or_right}
 use Rattle.std.proofs.lemmas.Bool.Decides.{Decides-int_eq}
 use Rattle.std.proofs.lemmas.Int.{ints, by_lt_z}
 use Rattle.ptb_expr.specs.Outcome.{Answers}
-use Rattle.ptb_explore.specs.RunTree.{is_before, Before}
+use Rattle.ptb_explore.specs.RunTree.{is_before, Before, begins_with}
 
 -- ---- tests of numbers
 
@@ -116,3 +117,38 @@ compared (x ∷ a) (y ∷ b) = elim (cases_number x y) [
   | inl e ↦ rw (← e) (compared_under x a b (compared a b))
   | inr o ↦ elim o [ inl l ↦ Less (before_from_less x y a b l) | inr l ↦ More (before_from_less y x b a l) ]
 ]
+
+-- ---- beginnings
+
+pub begins_is : (a u : Answers) → begins_with a u ≡ true → (s : Answers) × (a ≡ u ++ s)
+begins_is a [] h = (a, refl)
+begins_is [] (y ∷ u) h = absurd cc
+begins_is (x ∷ a) (y ∷ u) h =
+    let p = and_parts (int_eq x y) (begins_with a u) h in
+    let r = begins_is a u p.1 in
+    (r.0, ap (λ z. z ∷ a) (same_is x y p.0) ∙ ap (λ s. y ∷ s) r.1)
+
+pub begins_from : (u s : Answers) → begins_with (u ++ s) u ≡ true
+begins_from [] s = refl
+begins_from (x ∷ u) s = and_from (int_eq x x) (begins_with (u ++ s) u) (same_from x) (begins_from u s)
+
+-- what goes on after one list that is before another is before what goes on after that
+pub before_more : (u v s t : Answers) → Before u v → Before (u ++ s) (v ++ t)
+before_more [] v s t h = absurd cc
+before_more (x ∷ u) [] s t h = absurd cc
+before_more (x ∷ u) (y ∷ v) s t h = elim (before_step x y u v h) [
+  | inl l ↦ before_from_less x y (u ++ s) (v ++ t) l
+  | inr p ↦ let e = p.0 in rw (← e) (before_from_same x (u ++ s) (v ++ t) (before_more u v s t p.1))
+]
+
+same_back : (x y : ℤ) → int_eq x y ≡ int_eq y x
+same_back x y = elim (cases_Bool (int_eq y x)) [
+  | inl t ↦ let e : y ≡ x = same_is y x t in rw e refl
+  | inr f ↦ false_from_ne_true _ (λ t. let e : x ≡ y = same_is x y t in let g : int_eq y y ≡ false = rw e at f in let h = same_from y in cc) ∙ sym f
+]
+
+-- a list begins with another where it does so number by number
+pub begins_by_each : (a u : Answers) → pointwise int_eq u (take (length u) a) ≡ begins_with a u
+begins_by_each a [] = refl
+begins_by_each [] (y ∷ u) = refl
+begins_by_each (x ∷ a) (y ∷ u) = ap (λ t. t && pointwise int_eq u (take (length u) a)) (same_back y x) ∙ ap (λ t. int_eq x y && t) (begins_by_each a u)

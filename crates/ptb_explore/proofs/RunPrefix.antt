@@ -16,6 +16,7 @@ use Rattle.ptb_machine.specs.Play.{Finish, turn, after_step_result, turns, play}
 use Rattle.ptb_machine.specs.Laws.{RunLaws}
 use Rattle.ptb_command.specs.Devices.{ScreenState, devices, Refusal, refused_by}
 use Rattle.ptb_command.specs.Configuration.{Configuration}
+use Rattle.ptb_command.specs.Effects.{act_state}
 use Rattle.ptb_command.specs.Representation.{Represents}
 use Rattle.ptb_command.specs.Stops.{Waits, IsDry}
 use Rattle.ptb_machine.specs.Steps.{StepsTo, goes, ends, StepComes, Steps}
@@ -123,7 +124,7 @@ module _ (laws : RunLaws) (p : StoredProgram) (input : List (List ℕ)) (rules :
         (h.0, holds_to (play p input rules) d _ _ (λ a. ap (from_turn p rules) (w.dry T a none) ∙ over_is endings.NoInput T x.leads.represents (shown_there m new c d s t given left rest most few u w.left x) a) h.1)
 
     -- the plan's next answer is outside its bound
-    ends_outside : (k : ℤ) → Waits (refused_by (RefusedByPlan d) (λ _. ⊥) (Some rest)) (StepsTo p.lines new (devices c (text_state s) most rules.choose []) u.state rest (turn p rules.limit u.state)) (devices d (text_state t) few rules.choose given) (pauses.OutOfRange k) → (d.plan ≡ c.plan) × NextIsOutside (play p input rules) d
+    ends_outside : (k : ℤ) → Waits (refused_by (RefusedByPlan d) (λ _. ⊥) (Some rest)) (StepsTo p.lines new (devices c (text_state s) most rules.choose []) u.state rest (turn p rules.limit u.state)) (devices d (text_state t) few rules.choose given) act_state (pauses.OutOfRange k) → (d.plan ≡ c.plan) × NextIsOutside (play p input rules) d
     ends_outside k w =
         let x = w.comes in
         let T : State = x.leads.state in

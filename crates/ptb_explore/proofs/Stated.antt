@@ -1,7 +1,10 @@
 -- This file proves how the bounds that are stated of a list are looked at, one after the other.
-use Rattle.std.proofs.Common.{◌≡◌, ◌∙◌, ap, sym, ℕ, zero, suc, ◌+◌, ◌<◌, ◌≤◌, List, [], ◌∷◌, length, drop, get_or, true, false, refl, arith}
-use Rattle.std.specs.Prelude.{ℤ, Bool, ◌&&◌}
+use Rattle.std.proofs.Common.{◌≡◌, ◌∙◌, ap, sym, ℕ, zero, suc, ◌+◌, ◌<◌, ◌≤◌, List, [], ◌∷◌, length, take, drop, get_or, true, false, refl, arith}
+use Rattle.std.proofs.lemmas.List.{length-map}
+use Rattle.std.specs.Prelude.{ℤ, ◌&&◌}
 use Rattle.ptb_explore.specs.declared.form.Marked.{Marked}
+use Rattle.ptb_expr.specs.Outcome.{Answers}
+use Rattle.ptb_explore.specs.AnswerText.{answers_of}
 use Rattle.ptb_explore.specs.MarkedRuns.{is_bound, states_bounds}
 
 -- the one at a place, and then those behind it
@@ -22,3 +25,15 @@ module _ (list : List Marked) (bounds : List ℤ) (k : ℕ) (m : Marked) (n : �
 
   pub wrong_bound : is_bound (get_or list k m).bound (get_or bounds k n) ≡ false → states_bounds (drop k list) (drop k bounds) ≡ false
   wrong_bound wrong = from_place list bounds k m n lt le ∙ ap (λ b. b && states_bounds (drop (suc k) list) (drop (suc k) bounds)) wrong
+
+-- bounds behind those of the list are not looked at
+pub states_front : (list : List Marked) (bounds : List ℤ) (n : ℕ) → length list ≤ n → states_bounds list (take n bounds) ≡ states_bounds list bounds
+states_front [] bounds n l = refl
+states_front (m ∷ list) bounds zero l = absurd (omega arith)
+states_front (m ∷ list) [] (suc n) l = refl
+states_front (m ∷ list) (b ∷ bounds) (suc n) l = ap (λ t. is_bound m.bound b && t) (states_front list bounds n (omega arith))
+
+pub states_begun : (list : List Marked) (plan : Answers) (given bounds : List ℤ) → plan ≡ answers_of list → take (length plan) given ≡ bounds → states_bounds list given ≡ states_bounds list bounds
+states_begun list plan given bounds is front =
+    let n : length plan ≡ length list = ap length is ∙ length-map list (λ (m : Marked). m.answer) in
+    sym (states_front list given (length plan) (omega arith)) ∙ ap (states_bounds list) front

@@ -1,10 +1,10 @@
 -- This file proves what a recorder holds once its plan was played.
-use Rattle.std.proofs.Common.{◌≡◌, ℕ, ◌-◌, ◌≤◌, List, [], ◌∷◌, ◌++◌, length, take, replicate, true, false, refl, ap, sym, ◌∙◌, arith, append-nil, length-append}
-use Rattle.std.proofs.lemmas.List.{length-take-le}
+use Rattle.std.proofs.Common.{◌≡◌, ℕ, zero, suc, ◌-◌, ◌≤◌, List, [], ◌∷◌, ◌++◌, length, take, drop, replicate, true, false, refl, ap, sym, ◌∙◌, arith, append-nil, length-append}
+use Rattle.std.proofs.lemmas.List.{length-take-le, take-append-drop, take-append-le}
 use Rattle.std.proofs.Math.Seq.{take-length}
 use Rattle.std.specs.Prelude.{ℤ, pos}
 use Rattle.ptb_expr.specs.declared.pause.Pause.TheVariants.{OutOfRange}
-use Rattle.ptb_expr.specs.Outcome.{Answers, Outcome, Done, Asks, IsReader, is_open, is_whole, bounds}
+use Rattle.ptb_expr.specs.Outcome.{Answers, Outcome, Done, Asks, IsReader, is_open, is_whole, bounds, bounds_after}
 use Rattle.ptb_expr.specs.Choices.{Choices, Pauses}
 use Rattle.ptb_explore.specs.declared.recorder.Recorder.{Recorder}
 use Rattle.ptb_explore.specs.RunTree.{IsRun}
@@ -14,8 +14,15 @@ use Rattle.ptb_command.specs.declared.ending.Ending.{Ending}
 use Rattle.ptb_command.specs.declared.ending.Ending.TheVariants as endings
 use Rattle.ptb_machine.specs.Play.{Finish}
 use Rattle.ptb_explore.specs.Playing.{Holds, PlayEnds}
-use Rattle.ptb_explore.proofs.Bounds.{holds_on, length-bounds}
+use Rattle.ptb_explore.proofs.Bounds.{bounds-append, holds_on, length-bounds}
+use Rattle.ptb_explore.proofs.Tree.{run_open}
 use Rattle.ptb_explore.proofs.Attempt.{Took, out_closes, ends_at, not_whole}
+
+take_twice : {X : Type 0} (m n : ℕ) (xs : List X) → m ≤ n → take m (take n xs) ≡ take m xs
+take_twice zero n xs l = refl
+take_twice (suc m) zero xs l = absurd (omega arith)
+take_twice (suc m) (suc n) [] l = refl
+take_twice (suc m) (suc n) (x ∷ xs) l = ap (λ r. x ∷ r) (take_twice m n xs (omega arith))
 
 module _ {A W : Type 0} (play : Answers → Outcome A W) (r : Recorder) (result : A) (h : Holds play (choices_of r) (λ later. Done result later)) where
   taken_bounds : r.bounds.items ≡ bounds play (take (length r.bounds.items) r.answers.items)
@@ -129,3 +136,44 @@ module _ (play : Answers → Outcome Finish (List ℕ)) (r : Recorder) (steps : 
     other_plan endings.BadAnswer h =
         let none : is_whole (play plan) ≡ false = ap is_whole (ap play (sym planned) ∙ h.out) in
         cc
+
+  -- a plan of which all answers are taken is open, and the first of the bounds are its own
+  module _ (all : length plan ≤ length r.bounds.items) where
+    begun_plan : plan ≡ take (length plan) r.answers.items
+    begun_plan =
+        let n : length (take r.planned r.answers.items) ≡ r.planned = length-take-le r.planned r.answers.items (omega (arith, r.within, r.answers.ok.0)) in
+        sym planned ∙ ap (λ k. take k r.answers.items) (sym n ∙ ap length planned)
+
+    begun_so : (result : Finish) → Holds play (choices_of r) (λ later. Done result later) → (is_open (play plan) ≡ true) × (take (length plan) r.bounds.items ≡ bounds play plan)
+    begun_so result h =
+        let taken = take (length r.bounds.items) r.answers.items in
+        let s = drop (length plan) taken in
+        let front : take (length plan) taken ≡ plan = take_twice (length plan) (length r.bounds.items) r.answers.items all ∙ sym begun_plan in
+        let is : taken ≡ plan ++ s = sym (take-append-drop (length plan) taken) ∙ ap (λ p. p ++ s) front in
+        let came : play taken ≡ Done result [] = ap play (sym (append-nil taken)) ∙ h.rest [] in
+        let run : IsRun play (plan ++ s) = ap is_whole (ap play (sym is) ∙ came) in
+        let bs : r.bounds.items ≡ bounds play plan ++ bounds_after play plan s = taken_bounds play r result h ∙ ap (bounds play) is ∙ bounds-append play [] plan s in
+        let n : length (bounds play plan) ≡ length plan = length-bounds play [] plan in (
+          run_open play most reads plan s run,
+          ap (take (length plan)) bs ∙ ap (λ k. take k (bounds play plan ++ bounds_after play plan s)) (sym n)
+              ∙ take-append-le (length (bounds play plan)) (bounds play plan) (bounds_after play plan s) (omega arith) ∙ take-length (bounds play plan),
+        )
+
+    pub begun_opens : (e : Ending) → PlayEnds play (choices_of r) steps shown e → (is_open (play plan) ≡ true) × (take (length plan) r.bounds.items ≡ bounds play plan)
+    begun_opens endings.End h = begun_so _ h
+    begun_opens endings.Stop h = begun_so _ h
+    begun_opens endings.What h = begun_so _ h
+    begun_opens endings.How h = begun_so _ h
+    begun_opens endings.Sorry h = begun_so _ h
+    begun_opens endings.Limit h = begun_so _ h
+    begun_opens endings.NoInput h = begun_so _ h
+    begun_opens endings.NoAnswer h = absurd h
+    begun_opens endings.BadAnswer h =
+        let within : length r.bounds.items ≤ length r.answers.items = omega (arith, r.bounded, r.answers.ok.0, r.bounds.ok.0) in
+        absurd (omega (arith, ap length (sym planned ∙ h.plan_is), length-append (take (length r.bounds.items) r.answers.items) (h.next ∷ h.later), length-take-le (length r.bounds.items) r.answers.items within, all))
+
+  -- of one that is open all answers are taken
+  pub open_begun : is_open (play plan) ≡ true → (e : Ending) → PlayEnds play (choices_of r) steps shown e → length plan ≤ length r.bounds.items
+  open_begun opens e h =
+      let x = open_ends opens e h in
+      omega (arith, ap length x.bounds_are, length-bounds play [] r.answers.items, ap length x.answers_are, length-append plan x.ones)

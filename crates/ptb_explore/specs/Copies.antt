@@ -11,9 +11,8 @@
 --     kept_steps answers runs                the steps of the newest that these answers begin with
 --     AreBeginnings m answers runs           each took a beginning of the answers, longer than that of the one before it
 --     PlaysOn common old played steps new    so many steps are played after a run that goes on from what is left of the copies
-use Rattle.std.specs.Prelude.{◌≡◌, ℕ, ◌+◌, ◌-◌, ◌^◌, min, ◌<◌, ◌≤◌, List, [], ◌∷◌, ◌++◌, length, take, drop, map, Bool, true, false, ◌&&◌, if◌then◌else◌, ◌⊎◌, Option, Some, None, option_map, ℤ}
+use Rattle.std.specs.Prelude.{◌≡◌, ℕ, ◌+◌, ◌-◌, ◌^◌, min, ◌<◌, ◌≤◌, List, [], ◌∷◌, ◌++◌, length, take, drop, map, false, if◌then◌else◌, ◌⊎◌, Option, Some, None, option_map, ℤ}
 use Rattle.std.specs.List.{AllByRecursion}
-use Rattle.std.specs.Ordering.{int_eq}
 use Rattle.ptb_machine.specs.declared.rules.Rules.{Rules}
 use Rattle.ptb_text.specs.Statements.{StoredProgram}
 use Rattle.ptb_expr.specs.Outcome.{Answers, Outcome, bounds}
@@ -22,6 +21,7 @@ use Rattle.ptb_command.specs.Configuration.{Configuration}
 use Rattle.ptb_machine.specs.Play.{play}
 use Rattle.ptb_explore.specs.declared.copies.KeptCopy.{KeptCopy}
 use Rattle.ptb_explore.specs.Playing.{IsRunPrefix}
+use Rattle.ptb_explore.specs.RunTree.{begins_with}
 
 -- ---- copies
 
@@ -112,12 +112,6 @@ pub record KeptRun : Type 0 where
 
 abbrev pub kept_runs : Answers → List KeptCopy → List KeptRun
 kept_runs answers ks = map (λ k. record { answers = take k.taken answers; steps = steps_of k }) ks
-
--- whether a list begins with another
-abbrev pub begins_with : Answers → Answers → Bool
-begins_with a [] = true
-begins_with [] (y ∷ b) = false
-begins_with (x ∷ a) (y ∷ b) = int_eq x y && begins_with a b
 
 abbrev pub newest_steps : ℕ → Answers → List KeptRun → ℕ
 newest_steps n answers [] = n

@@ -3,7 +3,7 @@
 --     play_of e, most_of e         what is played, and how many answers a run can have
 --     finish_of r                  how the run of a report ended
 --     Reports play r               r is the report of the run of its answers
---     NextReports play f r found   it is that of the next run, or there is none
+--     NextReports play u f r found it is that of the next run, or there is none
 --     NextLeaves old result new    what the search for the next run leaves
 --     AreCopiesAt ..               the copies are of the run at which an explorer stands
 --     AreKeptAt f runs             the same, of what contracts see of them
@@ -30,6 +30,8 @@ pub record Exploration : Type 0 where
   pub program : StoredProgram
   pub input : List (List ℕ)
   pub rules : Rules
+  -- each of its runs begins with these answers
+  pub under : Answers
   pub front : Front
   -- the copies that are kept of the run at which it stands, the one with the fewest answers first
   pub kept : List KeptRun
@@ -51,9 +53,9 @@ pub record Reports (play : Answers → Outcome Finish (List ℕ)) (r : Report) :
   pub outcome : play r.answers.items ≡ Done (finish_of r) []
   pub bounds_are : r.bounds.items ≡ bounds play r.answers.items
 
-abbrev pub NextReports : (Answers → Outcome Finish (List ℕ)) → Front → Report → Bool → Type 0
-NextReports play f r true = Reports play r × IsNextRun play f r.answers.items
-NextReports play f r false = IsLast play f
+abbrev pub NextReports : (Answers → Outcome Finish (List ℕ)) → Answers → Front → Report → Bool → Type 0
+NextReports play under f r true = Reports play r × IsNextRun play under f r.answers.items
+NextReports play under f r false = IsLast play under f
 
 -- ---- what is left behind
 

@@ -1,10 +1,12 @@
 -- This file states the laws of runs.
 --     TreeLaws        the tree has the runs, each once, in order
 --     ListingLaws     what a listing has left, and that one behind a run goes on where one that ended with it stopped
+--     ShareLaws       the runs that begin with some answers are those of its shares, one behind the other
 use Rattle.std.specs.Prelude.{◌≡◌, ℕ, ◌<◌, List, [], ◌∷◌, ◌++◌, length, true, ℤ, ◌↔◌, Contains}
-use Rattle.ptb_expr.specs.Outcome.{Answers, Outcome, Asks}
+use Rattle.std.specs.List.{filter, flat_map}
+use Rattle.ptb_expr.specs.Outcome.{Answers, Outcome, Asks, is_open}
 use Rattle.ptb_explore.specs.Listing.{text}
-use Rattle.ptb_explore.specs.RunTree.{Front, At, IsRun, IsRising, is_after, runs_after, tree}
+use Rattle.ptb_explore.specs.RunTree.{Front, Start, At, Before, IsRun, IsRising, answers_to, begins_with, is_after, is_left, runs_after, tree}
 
 pub record TreeLaws {A W : Type 0} (play : Answers → Outcome A W) (most : ℕ) : Type 0 where
   -- the tree has the runs and nothing else, in rising order
@@ -18,11 +20,27 @@ pub record TreeLaws {A W : Type 0} (play : Answers → Outcome A W) (most : ℕ)
 pub record ListingLaws {A W : Type 0} (play : Answers → Outcome A W) (most : ℕ) : Type 0 where
   -- behind a run stand those that the tree has behind it
   pub behind :
-      (front back : List Answers) (r : Answers) → tree play most ≡ front ++ r ∷ back → runs_after play most (At r) ≡ back
+      (front back : List Answers) (r : Answers) → tree play most ≡ front ++ r ∷ back → runs_after play most [] (At r) ≡ back
   -- so the reports up to a run, and those behind it, are all reports
   pub whole_text :
       (report : Answers → List ℕ) (front back : List Answers) (r : Answers) → tree play most ≡ front ++ r ∷ back
-      → text report (front ++ r ∷ []) ++ text report (runs_after play most (At r)) ≡ text report (tree play most)
+      → text report (front ++ r ∷ []) ++ text report (runs_after play most [] (At r)) ≡ text report (tree play most)
   -- what a listing has left are the runs after the place where it stands and nothing else, in rising order
-  pub runs : (f : Front) (a : Answers) → Contains (runs_after play most f) a ↔ (IsRun play a × (is_after f a ≡ true))
-  pub order : (f : Front) → IsRising (runs_after play most f)
+  pub runs : (under : Answers) (f : Front) (a : Answers) → Contains (runs_after play most under f) a ↔ (IsRun play a × (is_left under f a ≡ true))
+  pub order : (under : Answers) (f : Front) → IsRising (runs_after play most under f)
+
+-- a share has the runs that begin with some answers
+pub record ShareLaws {A W : Type 0} (play : Answers → Outcome A W) (most : ℕ) : Type 0 where
+  -- the share of no answers is the whole
+  pub whole : (f : Front) → runs_after play most [] f ≡ filter (is_after f) (tree play most)
+  -- where a question comes behind the answers, the reports of its shares, in the order of their answers, are all reports
+  pub question :
+      (report : Answers → List ℕ) (under : Answers) (n : ℤ) (w : W) (f : Front) → play under ≡ Asks n w
+      → text report (runs_after play most under f) ≡ flat_map (λ k. text report (runs_after play most (under ++ k ∷ []) f)) (answers_to n)
+  -- some run begins with answers where they are one, or where a question comes behind them, and nowhere else
+  pub beginning : (under : Answers) → (is_open (play under) ≡ true) ↔ ((a : Answers) × IsRun play a × (begins_with a under ≡ true))
+  -- the share of a run is that run
+  pub run : (a : Answers) → IsRun play a → runs_after play most a Start ≡ a ∷ []
+  -- where one list is before another, their shares have no run in common
+  pub apart :
+      (u v a : Answers) (f g : Front) → Before u v → Contains (runs_after play most u f) a → Contains (runs_after play most v g) a → ⊥

@@ -1,4 +1,4 @@
--- This file defines what a listing of runs leaves behind it. `report` gives the text of the report of a run.
+-- This file defines what a listing of the runs that begin with `under` leaves behind it. `report` gives the text of the report of a run.
 --     text report list                  the reports of a list of runs, one after the other
 --     behind f list                     where a listing stands after a list of runs
 --     less_one n                        how many may still be written after one more
@@ -31,19 +31,19 @@ less_one (Some n) = Some (n - 1)
 abbrev pub count_of : List Answers → ℕ
 count_of list = min (length list) (2 ^ 64 - 1)
 
-module _ {A W : Type 0} (play : Answers → Outcome A W) (report : Answers → List ℕ) where
+module _ {A W : Type 0} (play : Answers → Outcome A W) (under : Answers) (report : Answers → List ℕ) where
   -- whether there is a next run; its report was written, or there is none, or nothing was written, or a beginning of it
   abbrev pub NextWrites : Front → Front → Option (List ℕ) → Option (List ℕ) → Result Bool NextFault → Type 0
-  NextWrites f f' old new (Ok true) = (a : Answers) × IsNextRun play f a × (f' ≡ At a) × Appends old new (report a)
-  NextWrites f f' old new (Ok false) = IsLast play f × (f' ≡ End) × (new ≡ old)
+  NextWrites f f' old new (Ok true) = (a : Answers) × IsNextRun play under f a × (f' ≡ At a) × Appends old new (report a)
+  NextWrites f f' old new (Ok false) = IsLast play under f × (f' ≡ End) × (new ≡ old)
   NextWrites f f' old new (Err next.Memory) = (f' ≡ f) × (new ≡ old)
-  NextWrites f f' old new (Err next.Write) = (a : Answers) × IsNextRun play f a × (f' ≡ At a) × TakesSome old new (report a)
+  NextWrites f f' old new (Err next.Write) = (a : Answers) × IsNextRun play under f a × (f' ≡ At a) × TakesSome old new (report a)
 
   -- the reports of the whole list were written; it stands behind the list, or past the last run
   pub record WritesList (list : List Answers) (f f' : Front) (old new : Option (List ℕ)) (n : ℕ) : Type 0 where
     pub bytes : Appends old new (text report list)
     pub count : n ≡ count_of list
-    pub front : (f' ≡ behind f list) ⊎ ((f' ≡ End) × IsLast play (behind f list))
+    pub front : (f' ≡ behind f list) ⊎ ((f' ≡ End) × IsLast play under (behind f list))
 
   -- the reports of a beginning of the list were written, and nothing else; it stands behind them
   pub record WritesSome (list : List Answers) (f f' : Front) (old new : Option (List ℕ)) (n : ℕ) : Type 0 where

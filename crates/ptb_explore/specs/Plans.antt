@@ -1,47 +1,49 @@
 -- This file defines plans: the first answers of the next run, which goes on with the least answers.
---     IsPlan play front plan                      what goes on from the plan with ones and is a run is the next run after the front
---     IsLastBelow answers bounds i                the last answer that can be raised is the one at i
---     PlansNext position answers bounds plan o    the plan raises that answer by one and drops those behind it
---     IsPosition play position answers bounds     where it stands at a run, it is that of the answers, with these bounds
+--     IsPlan play under front plan                what goes on from the plan with ones and is a run is the next run that is left
+--     IsLastBelow floor answers bounds i          the last answer from a place on that can be raised is the one at i
+--     PlansNext under position answers bounds plan o    the plan raises that answer by one and drops those behind it; `under` stays
+--     IsPosition play under position answers bounds     where it stands at a run, it is that of the answers, with these bounds
 --     IsFresh recorder                            all that a recorder holds is a plan
 --     EndsAt play plan answers bounds result      the plan and then ones are a run, with these bounds and this result
-use Rattle.std.specs.Prelude.{◌≡◌, ℕ, ◌<◌, List, [], ◌∷◌, ◌++◌, length, take, true, Option, Some, None, ℤ, pos, ◌+ℤ◌, ◌<ℤ◌, ◌≤ℤ◌, slice_index_or, vec_len}
+use Rattle.std.specs.Prelude.{◌≡◌, ℕ, ◌<◌, ◌≤◌, List, [], ◌∷◌, ◌++◌, length, take, true, Option, Some, None, ℤ, pos, ◌+ℤ◌, ◌<ℤ◌, ◌≤ℤ◌, slice_index_or, vec_len}
 use Rattle.std.specs.List.{AllByRecursion}
 use Rattle.ptb_expr.specs.Outcome.{Answers, Outcome, Done, is_open, bounds}
 use Rattle.ptb_explore.specs.declared.plan.Position.{Position}
 use Rattle.ptb_explore.specs.declared.plan.Position.TheVariants.{AtStart, AtRun, AtEnd}
 use Rattle.ptb_explore.specs.declared.recorder.Recorder.{Recorder}
-use Rattle.ptb_explore.specs.RunTree.{Front, Start, At, End, IsRun, IsNextRun}
+use Rattle.ptb_explore.specs.RunTree.{Front, Start, At, End, IsRun, IsNextRun, begins_with}
 
 -- each answer is 1
 abbrev pub AllOnes : Answers → Type 0
 AllOnes answers = AllByRecursion (λ k. k ≡ pos 1) answers
 
-pub record IsPlan {A W : Type 0} (play : Answers → Outcome A W) (front : Front) (plan : Answers) : Type 0 where
+pub record IsPlan {A W : Type 0} (play : Answers → Outcome A W) (under : Answers) (front : Front) (plan : Answers) : Type 0 where
   pub opens : is_open (play plan) ≡ true
-  pub next : (ones : Answers) → AllOnes ones → IsRun play (plan ++ ones) → IsNextRun play front (plan ++ ones)
+  pub next : (ones : Answers) → AllOnes ones → IsRun play (plan ++ ones) → IsNextRun play under front (plan ++ ones)
 
 -- ---- which plan comes next
 
 abbrev pub IsAtBound : Answers → List ℤ → ℕ → Type 0
 IsAtBound answers bounds k = slice_index_or bounds k (pos 0) ≤ℤ slice_index_or answers k (pos 0)
 
-pub record IsLastBelow (answers : Answers) (bounds : List ℤ) (i : ℕ) : Type 0 where
+-- those in front of the floor stay as they are
+pub record IsLastBelow (floor : ℕ) (answers : Answers) (bounds : List ℤ) (i : ℕ) : Type 0 where
+  pub behind : floor ≤ i
   pub within : i < length answers
   pub below : slice_index_or answers i (pos 0) <ℤ slice_index_or bounds i (pos 0)
   pub last : (k : ℕ) → i < k → k < length answers → IsAtBound answers bounds k
 
-abbrev pub AreAtBounds : Answers → List ℤ → Type 0
-AreAtBounds answers bounds = (k : ℕ) → k < length answers → IsAtBound answers bounds k
+abbrev pub AreAtBounds : ℕ → Answers → List ℤ → Type 0
+AreAtBounds floor answers bounds = (k : ℕ) → floor ≤ k → k < length answers → IsAtBound answers bounds k
 
 -- with how many answers of the run the plan begins; none where no run is left
-abbrev pub PlansNext : Position → Answers → List ℤ → Answers → Option ℕ → Type 0
-PlansNext AtStart answers bounds plan None = ⊥
-PlansNext AtStart answers bounds plan (Some i) = (i ≡ 0) × (plan ≡ [])
-PlansNext AtRun answers bounds plan None = AreAtBounds answers bounds
-PlansNext AtRun answers bounds plan (Some i) = IsLastBelow answers bounds i × (plan ≡ take i answers ++ (slice_index_or answers i (pos 0) +ℤ pos 1) ∷ [])
-PlansNext AtEnd answers bounds plan None = Unit {0}
-PlansNext AtEnd answers bounds plan (Some i) = ⊥
+abbrev pub PlansNext : Answers → Position → Answers → List ℤ → Answers → Option ℕ → Type 0
+PlansNext under AtStart answers bounds plan None = ⊥
+PlansNext under AtStart answers bounds plan (Some i) = (i ≡ 0) × (plan ≡ under)
+PlansNext under AtRun answers bounds plan None = AreAtBounds (length under) answers bounds
+PlansNext under AtRun answers bounds plan (Some i) = IsLastBelow (length under) answers bounds i × (plan ≡ take i answers ++ (slice_index_or answers i (pos 0) +ℤ pos 1) ∷ [])
+PlansNext under AtEnd answers bounds plan None = Unit {0}
+PlansNext under AtEnd answers bounds plan (Some i) = ⊥
 
 -- ---- where a listing stands
 
@@ -50,10 +52,11 @@ front_at AtStart answers = Start
 front_at AtRun answers = At answers
 front_at AtEnd answers = End
 
-abbrev pub IsPosition : {A W : Type 0} → (Answers → Outcome A W) → Position → Answers → List ℤ → Type 0
-IsPosition play AtStart answers their_bounds = Unit {0}
-IsPosition play AtRun answers their_bounds = IsRun play answers × (their_bounds ≡ bounds play answers)
-IsPosition play AtEnd answers their_bounds = Unit {0}
+-- each run of the listing begins with `under`
+abbrev pub IsPosition : {A W : Type 0} → (Answers → Outcome A W) → Answers → Position → Answers → List ℤ → Type 0
+IsPosition play under AtStart answers their_bounds = is_open (play under) ≡ true
+IsPosition play under AtRun answers their_bounds = IsRun play answers × (their_bounds ≡ bounds play answers) × (begins_with answers under ≡ true)
+IsPosition play under AtEnd answers their_bounds = Unit {0}
 
 -- ---- a plan that is played
 

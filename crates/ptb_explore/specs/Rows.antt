@@ -21,9 +21,9 @@ pub record RunRows : Type 0 where
   pub nested_roll : tree (worth (codes "RND(RND(2))")) 2 ≡ two 1 1 ∷ two 2 1 ∷ two 2 2 ∷ []
   pub with_fault : tree (worth (codes "RND(RND(2)-1)")) 2 ≡ one 1 ∷ two 2 1 ∷ []
   -- what is left of them
-  pub after_first : runs_left (worth (codes "RND(2)*RND(2)")) 2 (At (two 1 1)) (Some 2) ≡ two 1 2 ∷ two 2 1 ∷ []
-  pub after_last : runs_left (worth (codes "RND(2)*RND(2)")) 2 (At (two 2 2)) None ≡ []
-  pub past_end : runs_left (worth (codes "RND(2)*RND(2)")) 2 End None ≡ []
+  pub after_first : runs_left (worth (codes "RND(2)*RND(2)")) 2 [] (At (two 1 1)) (Some 2) ≡ two 1 2 ∷ two 2 1 ∷ []
+  pub after_last : runs_left (worth (codes "RND(2)*RND(2)")) 2 [] (At (two 2 2)) None ≡ []
+  pub past_end : runs_left (worth (codes "RND(2)*RND(2)")) 2 [] End None ≡ []
   -- lists that are runs, and that are none
   pub whole : is_whole (worth (codes "RND(RND(2))") (two 2 1)) ≡ true
   pub beginning : is_whole (worth (codes "RND(RND(2))") (one 2)) ≡ false
@@ -37,7 +37,7 @@ pub record RunRows : Type 0 where
   pub greater : is_before (two 2 1) (one 1) ≡ false
   -- answers are numbers, and not texts
   pub numbers : is_before (one 9) (one 10) ≡ true
-  pub ten_behind_nine : runs_left (worth (codes "RND(10)")) 1 (At (one 9)) None ≡ one 10 ∷ []
+  pub ten_behind_nine : runs_left (worth (codes "RND(10)")) 1 [] (At (one 9)) None ≡ one 10 ∷ []
   -- a list is before none that it begins, nor behind it
   pub beginning_before : is_before (one 1) (two 1 1) ≡ false
   pub beginning_behind : is_before (two 1 1) (one 1) ≡ false

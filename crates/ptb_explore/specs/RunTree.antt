@@ -3,10 +3,12 @@
 --     is_before a b, Before a b        where a and b first differ, a's answer is the smaller
 --     tree play most                   all runs, where none has more answers than this
 --     Front                            where a listing stands
---     runs_after play most front       the runs that a listing has left
---     runs_left play most front n      the first n of them, or all
---     IsNextRun play front a           a is a run after the front, and none is between
---     IsLast play front                no run is after the front
+--     begins_with a under              whether a begins with these answers
+--     is_left under front a            whether a begins with these answers and is after the front
+--     runs_after play most under front     the runs that a listing of those that begin with these answers has left
+--     runs_left play most under front n    the first n of them, or all
+--     IsNextRun play under front a     a is a run that is left, and none that is left is before it
+--     IsLast play under front          no run is left
 use Rattle.std.specs.Prelude.{◌≡◌, ℕ, zero, suc, List, [], ◌∷◌, ◌++◌, take, map, Bool, true, false, ◌&&◌, ◌||◌, Option, Some, None, ℤ, pos, negsuc, int_lt}
 use Rattle.std.specs.Ordering.{int_eq}
 use Rattle.std.specs.List.{filter, flat_map, range_with_len, AllByRecursion}
@@ -67,23 +69,33 @@ is_after Start a = true
 is_after (At f) a = is_before f a
 is_after End a = false
 
-abbrev pub runs_after : {A W : Type 0} → (Answers → Outcome A W) → ℕ → Front → List Answers
-runs_after play most front = filter (is_after front) (tree play most)
+-- whether a list begins with another
+abbrev pub begins_with : Answers → Answers → Bool
+begins_with a [] = true
+begins_with [] (y ∷ b) = false
+begins_with (x ∷ a) (y ∷ b) = int_eq x y && begins_with a b
+
+-- of all runs, a listing may have those alone that begin with some answers
+abbrev pub is_left : Answers → Front → Answers → Bool
+is_left under front a = begins_with a under && is_after front a
+
+abbrev pub runs_after : {A W : Type 0} → (Answers → Outcome A W) → ℕ → Answers → Front → List Answers
+runs_after play most under front = filter (is_left under front) (tree play most)
 
 -- the first n of a list, or all of it
 abbrev pub first_of : {X : Type 0} → Option ℕ → List X → List X
 first_of None list = list
 first_of (Some n) list = take n list
 
-abbrev pub runs_left : {A W : Type 0} → (Answers → Outcome A W) → ℕ → Front → Option ℕ → List Answers
-runs_left play most front first = first_of first (runs_after play most front)
+abbrev pub runs_left : {A W : Type 0} → (Answers → Outcome A W) → ℕ → Answers → Front → Option ℕ → List Answers
+runs_left play most under front first = first_of first (runs_after play most under front)
 
 -- ---- the next run
 
-pub record IsNextRun {A W : Type 0} (play : Answers → Outcome A W) (front : Front) (a : Answers) : Type 0 where
+pub record IsNextRun {A W : Type 0} (play : Answers → Outcome A W) (under : Answers) (front : Front) (a : Answers) : Type 0 where
   pub run : IsRun play a
-  pub after : is_after front a ≡ true
-  pub first : (b : Answers) → IsRun play b → is_after front b ≡ true → Before b a → ⊥
+  pub left : is_left under front a ≡ true
+  pub first : (b : Answers) → IsRun play b → is_left under front b ≡ true → Before b a → ⊥
 
-abbrev pub IsLast : {A W : Type 0} → (Answers → Outcome A W) → Front → Type 0
-IsLast play front = (b : Answers) → IsRun play b → is_after front b ≡ true → ⊥
+abbrev pub IsLast : {A W : Type 0} → (Answers → Outcome A W) → Answers → Front → Type 0
+IsLast play under front = (b : Answers) → IsRun play b → is_left under front b ≡ true → ⊥

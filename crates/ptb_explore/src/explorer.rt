@@ -1,8 +1,8 @@
 // This file has the explorer, which finds all runs of a program.
 
-ghost use Rattle.std.specs.Prelude.{◌≡◌, ◌≤◌, ◌≤ℤ◌, pos, true, false, Ok, None, [], length, drop};
+ghost use Rattle.std.specs.Prelude.{◌≡◌, ◌≤◌, ◌≤ℤ◌, pos, true, false, Ok, None, [], length, take, drop};
 ghost use Rattle.std.specs.Prelude.{IfOk, OnOk, OnErr, IfSome, IfNone, IsErrOf, IsTrue};
-ghost use Rattle.ptb_expr.specs.Outcome.{is_open, bounds as bounds_of};
+ghost use Rattle.ptb_expr.specs.Outcome.{Answers, is_open, bounds as bounds_of};
 ghost use Rattle.ptb_machine.specs.Play.{play};
 ghost use Rattle.ptb_machine.specs.Questions.{most_answers};
 ghost use Rattle.ptb_explore.specs.AnswerText.{answers_of};
@@ -10,16 +10,16 @@ ghost use Rattle.ptb_explore.specs.Copies.{Agrees, AreBeginnings, AreCopies, Pla
 ghost use Rattle.ptb_explore.specs.Copies.{kept_runs, last_steps};
 ghost use Rattle.ptb_explore.specs.Exploring.{play_of, most_of, finish_of, Reports, NextReports};
 ghost use Rattle.ptb_explore.specs.Exploring.{AreCopiesAt, IsPlayed, NextPlays};
-ghost use Rattle.ptb_explore.specs.MarkedRuns.{IsMarkedRun, states_bounds};
+ghost use Rattle.ptb_explore.specs.MarkedRuns.{IsMarkedRun, IsMarkedBeginning, states_bounds};
 ghost use Rattle.ptb_explore.specs.Playing.{IsRunPrefix};
 ghost use Rattle.ptb_explore.specs.Recording.{choices_of};
 ghost use Rattle.ptb_explore.specs.Laws.{TreeLaws};
 ghost use Rattle.ptb_explore.specs.Plans.{front_at, IsPosition, IsFresh, EndsAt};
-ghost use Rattle.ptb_explore.specs.RunTree.{Start, At, End, IsRun, IsNextRun, IsLast};
+ghost use Rattle.ptb_explore.specs.RunTree.{Start, At, End, IsRun, IsNextRun, IsLast, begins_with};
 
 use crate::copies::Copies;
-use crate::fault::AfterFault;
-use crate::form::{Marked, answers_of, states_bounds};
+use crate::fault::{AfterFault, UnderFault};
+use crate::form::{Marked, answers_of, begins_with, states_bounds};
 use crate::plan::{Position, plan_next};
 use crate::playing::play_on;
 use crate::recorder::Recorder;
@@ -151,18 +151,19 @@ fn report_next(
     lines: &[Line],
     rules: Rules,
     position: Position,
+    under: &[i16],
     trial: &mut Recorder,
     report: &mut Report,
     copies: &mut Copies,
     played: &mut u64,
 ) -> Result<bool, AllocError>
     requires choose { IfSome rules.choose (λ n. pos 1 ≤ℤ n) }
-    requires position { IsPosition (play player.old lines.now rules) position
+    requires position { IsPosition (play player.old lines.now rules) under.now position
         report.old.answers.items report.old.bounds.items }
     requires copies { AreCopiesAt player.old lines.now rules position report.old
         copies.old.kept.items }
     ensures program { player.new ≡ player.old }
-    ensures next { IfOk result (NextReports (play player.old lines.now rules)
+    ensures next { IfOk result (NextReports (play player.old lines.now rules) under.now
         (front_at position report.old.answers.items) report.new) }
     ensures answers { OnErr result (report.new.answers.items ≡ report.old.answers.items) }
     ensures bounds { OnErr result (report.new.bounds.items ≡ report.old.bounds.items) }
@@ -173,7 +174,7 @@ fn report_next(
         (kept_runs report.old.answers.items copies.old.kept.items) played.old report.new played.new) }
 {
     run_laws();
-    match plan_next(position, &report.answers, &report.bounds, trial)? {
+    match plan_next(position, under, &report.answers, &report.bounds, trial)? {
         None => Ok(false),
         Some(common) => {
             report_plan(
@@ -234,6 +235,53 @@ fn check_run(
     }
 }
 
+// Plays the answers of a trial and then ones, and gives the number of steps if all of them are taken:
+// a run begins with them then.
+fn check_beginning(
+    alloc: Global,
+    player: &mut Player,
+    lines: &[Line],
+    rules: Rules,
+    trial: &mut Recorder,
+) -> Result<u64, UnderFault>
+    requires choose { IfSome rules.choose (λ n. pos 1 ≤ℤ n) }
+    requires fresh { IsFresh trial.old }
+    ensures program { player.new ≡ player.old }
+    ensures opens { OnOk result
+        (is_open (play player.old lines.now rules trial.old.answers.items) ≡ true) }
+    ensures few { OnOk result (length trial.old.answers.items ≤ length trial.new.bounds.items) }
+    ensures bounds { OnOk result
+        (take (length trial.old.answers.items) trial.new.bounds.items
+        ≡ bounds_of (play player.old lines.now rules) trial.old.answers.items) }
+    ensures played { IfOk result (λ n. (a : Answers)
+        → IsNextRun (play player.old lines.now rules) trial.old.answers.items Start a
+        → IsPlayed (play player.old lines.now rules) a n) }
+    ensures no_beginning { IsErrOf result UnderFault.NoBeginning
+        → is_open (play player.old lines.now rules trial.old.answers.items) ≡ true → ⊥ }
+{
+    run_laws();
+    let planned = trial.answers.len();
+    let mut machine = player.machine(alloc)?;
+    let mut screen = TextScreen::new(alloc);
+    let mut source = Lines::new(lines);
+    let mut copies = Copies::new();
+    play_on(
+        alloc,
+        player,
+        rules,
+        &mut machine,
+        trial,
+        &mut screen,
+        &mut source,
+        &mut copies,
+    )?;
+    if trial.bounds.len() >= planned {
+        Ok(u64::from(machine.steps()))
+    } else {
+        Err(UnderFault::NoBeginning)
+    }
+}
+
 /// Finds the runs of a program, one after the other, in the order of their answers.
 ///
 /// It holds the report of one run and one list of answers more, however many runs there are. One
@@ -250,6 +298,8 @@ pub struct Explorer<'a> {
     rules: Rules,
     /// Where the listing of the runs stands.
     position: Position,
+    /// The answers with which each of the runs begins.
+    under: Vec<i16>,
     /// Its answers and bounds are those of the run at which the explorer stands.
     report: Report,
     /// Plans the next run, and answers its questions.
@@ -275,12 +325,13 @@ impl<'a> Model for Explorer<'a> {
       program = e.player;
       input = e.lines.now;
       rules = e.rules;
+      under = e.under.items;
       front = front_at e.position e.report.answers.items;
       kept = kept_runs e.report.answers.items e.copies.kept.items;
       played = e.played;
     } };
 
-    ghost invariant = { λ e. IsPosition (play e.player e.lines.now e.rules) e.position
+    ghost invariant = { λ e. IsPosition (play e.player e.lines.now e.rules) e.under.items e.position
         e.report.answers.items e.report.bounds.items
         × AreCopiesAt e.player e.lines.now e.rules e.position e.report e.copies.kept.items
         × IfSome e.rules.choose (λ n. pos 1 ≤ℤ n) };
@@ -308,6 +359,7 @@ impl<'a> Explorer<'a> {
           program = program.now;
           input = lines.now;
           rules = rules;
+          under = [];
           front = Start;
           kept = [];
           played = 0;
@@ -319,17 +371,44 @@ impl<'a> Explorer<'a> {
     {
         run_laws();
         let player = Player::new(alloc, program)?;
-        Ok(Explorer {
+        let (under, trial) = (Vec::new(alloc), Recorder::new(alloc));
+        Ok(Explorer::at_start(alloc, player, lines, rules, under, trial, 0))
+    }
+
+    // An explorer before the first of the runs that begin with some answers.
+    fn at_start(
+        alloc: Global,
+        player: Player<'a>,
+        lines: &'a [Line],
+        rules: Rules,
+        under: Vec<i16>,
+        trial: Recorder,
+        played: u64,
+    ) -> Explorer<'a>
+        requires choose { IfSome rules.choose (λ n. pos 1 ≤ℤ n) }
+        requires opens { is_open (play player lines.now rules under.items) ≡ true }
+        ensures { result ≡ record {
+          program = player.entry;
+          input = lines.now;
+          rules = rules;
+          under = under.items;
+          front = Start;
+          kept = [];
+          played = played;
+        } }
+    {
+        Explorer {
             player,
             lines,
             rules,
             position: Position::AtStart,
+            under,
             report: Report::new(alloc),
-            trial: Recorder::new(alloc),
+            trial,
             copies: Copies::new(),
-            played: 0,
+            played,
             alloc,
-        })
+        }
     }
 
     /// An explorer that stands at the run of these answers.
@@ -350,6 +429,7 @@ impl<'a> Explorer<'a> {
           program = program.now;
           input = lines.now;
           rules = rules;
+          under = [];
           front = At answers.now;
           kept = e.kept;
           played = e.played;
@@ -368,7 +448,7 @@ impl<'a> Explorer<'a> {
         run_laws();
         let mut trial = Recorder::new(alloc);
         trial.replay(answers)?;
-        Explorer::at_plan(alloc, program, lines, rules, trial, &[])
+        Explorer::at_plan(alloc, program, lines, rules, Vec::new(alloc), trial, &[])
     }
 
     /// An explorer that stands at the run of the answers of a list, of which some may have their
@@ -390,6 +470,7 @@ impl<'a> Explorer<'a> {
           program = program.now;
           input = lines.now;
           rules = rules;
+          under = [];
           front = At (answers_of list.now);
           kept = e.kept;
           played = e.played;
@@ -405,17 +486,112 @@ impl<'a> Explorer<'a> {
         ensures laws { TreeLaws (play program.now lines.now rules)
             (most_answers program.now lines.now rules.limit) }
     {
-        run_laws();
-        let trial = Recorder::planning(alloc, answers_of(alloc, list)?);
-        Explorer::at_plan(alloc, program, lines, rules, trial, list)
+        Explorer::after_under(alloc, program, lines, rules, &[], list)
     }
 
-    // An explorer that stands at the run of a plan, of whose first questions these bounds are stated.
+    /// An explorer before the first of the runs that begin with the answers of a list, of which some
+    /// may have their bounds. It has played the first of them, which tells that a run begins so.
+    ///
+    /// # Errors
+    ///
+    /// [`UnderFault::NoBeginning`] where no run begins with the answers, or a bound that stands in the
+    /// list is not that of the question; [`UnderFault::Memory`] where a growth was refused memory.
+    pub fn under(
+        alloc: Global,
+        program: &'a Program,
+        lines: &'a [Line],
+        rules: Rules,
+        list: &[Marked],
+    ) -> Result<Explorer<'a>, UnderFault>
+        requires { IfSome rules.choose (λ n. pos 1 ≤ℤ n) }
+        ensures under { IfOk result (λ e. e ≡ record {
+          program = program.now;
+          input = lines.now;
+          rules = rules;
+          under = answers_of list.now;
+          front = Start;
+          kept = [];
+          played = e.played;
+        }) }
+        ensures beginning { OnOk result
+            (IsMarkedBeginning (play program.now lines.now rules) list.now) }
+        ensures played { IfOk result (λ e. (a : Answers)
+            → IsNextRun (play program.now lines.now rules) (answers_of list.now) Start a
+            → IsPlayed (play program.now lines.now rules) a e.played) }
+        ensures no_beginning { IsErrOf result UnderFault.NoBeginning
+            → IsMarkedBeginning (play program.now lines.now rules) list.now → ⊥ }
+
+        // Laws of the definitions.
+        ensures laws { TreeLaws (play program.now lines.now rules)
+            (most_answers program.now lines.now rules.limit) }
+    {
+        run_laws();
+        let under = answers_of(alloc, list)?;
+        let mut trial = Recorder::new(alloc);
+        trial.replay(&under)?;
+        let mut player = Player::new(alloc, program)?;
+        let played = check_beginning(alloc, &mut player, lines, rules, &mut trial)?;
+        if !states_bounds(list, &trial.bounds) {
+            return Err(UnderFault::NoBeginning);
+        }
+        Ok(Explorer::at_start(alloc, player, lines, rules, under, trial, played))
+    }
+
+    /// An explorer of the runs that begin with the answers of a list, which stands at the run of the
+    /// answers of a second one. Some of these may have their bounds; the bounds of the first list are
+    /// not looked at.
+    ///
+    /// # Errors
+    ///
+    /// [`AfterFault::NotARun`] where the answers of the second list are no run, or do not begin with
+    /// those of the first, or a bound that stands in the second list is not that of the question;
+    /// [`AfterFault::Memory`] where a growth was refused memory.
+    pub fn after_under(
+        alloc: Global,
+        program: &'a Program,
+        lines: &'a [Line],
+        rules: Rules,
+        under: &[Marked],
+        list: &[Marked],
+    ) -> Result<Explorer<'a>, AfterFault>
+        requires { IfSome rules.choose (λ n. pos 1 ≤ℤ n) }
+        ensures after { IfOk result (λ e. e ≡ record {
+          program = program.now;
+          input = lines.now;
+          rules = rules;
+          under = answers_of under.now;
+          front = At (answers_of list.now);
+          kept = e.kept;
+          played = e.played;
+        }) }
+        ensures run { OnOk result (IsMarkedRun (play program.now lines.now rules) list.now) }
+        ensures begins { OnOk result
+            (begins_with (answers_of list.now) (answers_of under.now) ≡ true) }
+        ensures kept { IfOk result (λ e. AreBeginnings 0 (answers_of list.now) e.kept) }
+        ensures played { IfOk result (λ e.
+            IsPlayed (play program.now lines.now rules) (answers_of list.now) e.played) }
+        ensures not_a_run { IsErrOf result AfterFault.NotARun
+            → IsMarkedRun (play program.now lines.now rules) list.now
+            → begins_with (answers_of list.now) (answers_of under.now) ≡ true → ⊥ }
+
+        // Laws of the definitions.
+        ensures laws { TreeLaws (play program.now lines.now rules)
+            (most_answers program.now lines.now rules.limit) }
+    {
+        run_laws();
+        let under = answers_of(alloc, under)?;
+        let trial = Recorder::planning(alloc, answers_of(alloc, list)?);
+        Explorer::at_plan(alloc, program, lines, rules, under, trial, list)
+    }
+
+    // An explorer of the runs that begin with some answers, which stands at the run of a plan, of whose
+    // first questions these bounds are stated.
     fn at_plan(
         alloc: Global,
         program: &'a Program,
         lines: &'a [Line],
         rules: Rules,
+        under: Vec<i16>,
         mut trial: Recorder,
         stated: &[Marked],
     ) -> Result<Explorer<'a>, AfterFault>
@@ -426,6 +602,7 @@ impl<'a> Explorer<'a> {
           program = program.now;
           input = lines.now;
           rules = rules;
+          under = under.items;
           front = At trial.answers.items;
           kept = e.kept;
           played = e.played;
@@ -433,15 +610,20 @@ impl<'a> Explorer<'a> {
         ensures run { OnOk result (IsRun (play program.now lines.now rules) trial.answers.items) }
         ensures stated { OnOk result (states_bounds stated.now
             (bounds_of (play program.now lines.now rules) trial.answers.items) ≡ true) }
+        ensures begins { OnOk result (begins_with trial.answers.items under.items ≡ true) }
         ensures kept { IfOk result (λ e. AreBeginnings 0 trial.answers.items e.kept) }
         ensures played { IfOk result (λ e.
             IsPlayed (play program.now lines.now rules) trial.answers.items e.played) }
         ensures not_a_run { IsErrOf result AfterFault.NotARun
             → IsRun (play program.now lines.now rules) trial.answers.items
             → states_bounds stated.now
-            (bounds_of (play program.now lines.now rules) trial.answers.items) ≡ true → ⊥ }
+            (bounds_of (play program.now lines.now rules) trial.answers.items) ≡ true
+            → begins_with trial.answers.items under.items ≡ true → ⊥ }
     {
         run_laws();
+        if !begins_with(&trial.answers, &under) {
+            return Err(AfterFault::NotARun);
+        }
         let mut player = Player::new(alloc, program)?;
         let mut screen = TextScreen::new(alloc);
         let mut copies = Copies::new();
@@ -467,6 +649,7 @@ impl<'a> Explorer<'a> {
             lines,
             rules,
             position: Position::AtRun,
+            under,
             report: run,
             trial,
             copies,
@@ -485,10 +668,11 @@ impl<'a> Explorer<'a> {
     pub fn next(&mut self) -> Result<Option<&Report>, AllocError>
         ensures report { IfOk result (λ o. IfSome o (λ r. Reports (play_of self.old) r.now)) }
         ensures next { IfOk result (λ o. IfSome o (λ r.
-            IsNextRun (play_of self.old) self.old.front r.now.answers.items)) }
+            IsNextRun (play_of self.old) self.old.under self.old.front r.now.answers.items)) }
         ensures few { IfOk result (λ o. IfSome o (λ r.
             length r.now.answers.items ≤ most_of self.old)) }
-        ensures last { IfOk result (λ o. IfNone o (IsLast (play_of self.old) self.old.front)) }
+        ensures last { IfOk result (λ o. IfNone o
+            (IsLast (play_of self.old) self.old.under self.old.front)) }
         ensures ended { self.old.front ≡ End → result ≡ Ok None }
         ensures* leaves { sem 𝓛 (NextRests self.entry result) }
     {
@@ -499,6 +683,7 @@ impl<'a> Explorer<'a> {
             self.lines,
             self.rules,
             self.position,
+            &self.under,
             &mut self.trial,
             &mut self.report,
             &mut self.copies,

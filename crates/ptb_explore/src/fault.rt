@@ -1,7 +1,8 @@
-// This file says why runs can't be listed, or a listing can't go on after a list of answers.
+// This file says why runs can't be listed, or a listing can't begin with or go on after a list of answers.
 
 ghost use Rattle.std.specs.Prelude.{◌≡◌};
 ghost use Rattle.ptb_explore.specs.declared.fault.AfterFault.TheVariants.{Memory};
+ghost use Rattle.ptb_explore.specs.declared.fault.UnderFault.TheVariants as under;
 
 use std::alloc::AllocError;
 use thiserror::Error;
@@ -35,6 +36,25 @@ impl From<AllocError> for AfterFault {
 
     fn from(_refusal: AllocError) -> AfterFault {
         AfterFault::Memory
+    }
+}
+
+/// Why there is no listing of the runs that begin with a list of answers.
+#[derive(Clone, Copy, Debug, PartialEq, Eq, Error)]
+pub enum UnderFault {
+    /// No run begins with the answers.
+    #[error("no run begins so")]
+    NoBeginning,
+    /// A growth was refused memory.
+    #[error("out of memory")]
+    Memory,
+}
+
+impl From<AllocError> for UnderFault {
+    ghost from_gives = { λ _ fault. fault ≡ under.Memory };
+
+    fn from(_refusal: AllocError) -> UnderFault {
+        UnderFault::Memory
     }
 }
 

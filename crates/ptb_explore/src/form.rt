@@ -3,6 +3,7 @@
 ghost use Rattle.std.specs.Prelude.{◌≡◌, ◌≤◌, length, IfOk};
 ghost use Rattle.ptb_explore.specs.AnswerText.{answers_of, in_form};
 ghost use Rattle.ptb_explore.specs.MarkedRuns.{states_bounds};
+ghost use Rattle.ptb_explore.specs.RunTree.{begins_with};
 
 use std::alloc::{AllocError, Global};
 
@@ -55,6 +56,13 @@ pub(crate) fn answers_of(alloc: Global, list: &[Marked]) -> Result<Vec<i16>, All
         answers.push(item.answer)?;
     }
     Ok(answers)
+}
+
+/// Whether answers begin with others.
+pub(crate) fn begins_with(answers: &[i16], under: &[i16]) -> bool
+    ensures { result ≡ begins_with answers.now under.now }
+{
+    answers.starts_with(under)
 }
 
 /// Whether each bound that is stated is that of the question.

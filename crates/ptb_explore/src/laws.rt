@@ -6,7 +6,7 @@ ghost use Rattle.ptb_expr.specs.Outcome.{Answers, Outcome, IsReader};
 ghost use Rattle.ptb_machine.specs.declared.rules.Rules.{Rules};
 ghost use Rattle.ptb_machine.specs.Play.{play};
 ghost use Rattle.ptb_machine.specs.Questions.{most_answers};
-ghost use Rattle.ptb_explore.specs.Laws.{ListingLaws, TreeLaws};
+ghost use Rattle.ptb_explore.specs.Laws.{ListingLaws, ShareLaws, TreeLaws};
 
 use ptb_machine::run_laws;
 
@@ -23,12 +23,23 @@ pub fn listing_laws<A, W>()
         → ListingLaws play most }
 {}
 
+/// The runs that begin with some answers are, one behind the other, those that go on with 1, with 2 and
+/// so on up to the bound of the question behind them; some run begins with answers exactly where they are
+/// one, or something is asked behind them; a run is alone with its answers; and lists that differ at
+/// some place share no run.
+pub fn share_laws<A, W>()
+    ensures { (play : Answers → Outcome A W) (most : ℕ) → IsReader play most
+        → ShareLaws play most }
+{}
+
 /// The runs of each program on each input, by any rules, have these laws.
 pub fn program_laws()
     ensures tree { (p : StoredProgram) (input : List (List ℕ)) (rules : Rules)
         → TreeLaws (play p input rules) (most_answers p input rules.limit) }
     ensures listing { (p : StoredProgram) (input : List (List ℕ)) (rules : Rules)
         → ListingLaws (play p input rules) (most_answers p input rules.limit) }
+    ensures share { (p : StoredProgram) (input : List (List ℕ)) (rules : Rules)
+        → ShareLaws (play p input rules) (most_answers p input rules.limit) }
 {
     run_laws();
 }

@@ -2,7 +2,8 @@
 //!
 //! It stands on `ptb_machine`, on definitions of the two crates below that, on `ptb_expr`,
 //! `ptb_text`, `arrayvec`, `itoa` and `thiserror`. The crate above may rely on `Explorer::start`
-//! `after` and `after_marked` (where a listing begins, or that the answers are no run), on `write_all_runs` (the
+//! `after` and `after_marked` (where a listing begins, or that the answers are no run), on `under`
+//! and `after_under` (the same for the runs that begin with a list of answers), on `write_all_runs` (the
 //! reports of the runs that are left), and on `program_laws`.
 #![tactic(auto)]
 
@@ -21,9 +22,9 @@ mod rows;
 mod tests;
 
 pub use explorer::Explorer;
-pub use fault::{AfterFault, ExploreFault};
+pub use fault::{AfterFault, ExploreFault, UnderFault};
 pub use form::{Form, Marked};
-pub use laws::{listing_laws, program_laws, tree_laws};
+pub use laws::{listing_laws, program_laws, share_laws, tree_laws};
 pub use listing::write_all_runs;
 pub use report::Report;
 pub use rows::{report_rows, run_rows};

@@ -25,8 +25,8 @@ fn write_next<W: Write>(
       kept = explorer.new.kept;
       played = explorer.new.played;
     } }
-    ensures writes { NextWrites (play_of explorer.old) (report form (play_of explorer.old))
-        explorer.old.front explorer.new.front
+    ensures writes { NextWrites (play_of explorer.old) explorer.old.under
+        (report form (play_of explorer.old)) explorer.old.front explorer.new.front
         (W.contents writer.old) (W.contents writer.new) result }
     ensures failed { IsErrOf result NextFault.Write
         → HasFailed (W.failures writer.old) (W.failures writer.new) }
@@ -82,8 +82,10 @@ pub fn write_all_runs<W: Write>(
       kept = explorer.new.kept;
       played = explorer.new.played;
     } }
-    ensures writes { WritesRuns (play_of explorer.old) (report form (play_of explorer.old))
-        (runs_left (play_of explorer.old) (most_of explorer.old) explorer.old.front first)
+    ensures writes { WritesRuns (play_of explorer.old) explorer.old.under
+        (report form (play_of explorer.old))
+        (runs_left (play_of explorer.old) (most_of explorer.old) explorer.old.under
+        explorer.old.front first)
         explorer.old.front explorer.new.front
         (W.contents writer.old) (W.contents writer.new) result }
     ensures failed { (n : ℕ) → IsErrOf result (ExploreFault.Write n)

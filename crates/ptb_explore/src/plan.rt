@@ -18,17 +18,17 @@ pub(crate) enum Position {
     AtEnd,
 }
 
-// The last place at which the answer is below its bound.
-fn last_below(answers: &[i16], bounds: &[i16]) -> Option<usize>
+// The last place at which the answer is below its bound, but for those in front of the floor.
+fn last_below(answers: &[i16], bounds: &[i16], floor: usize) -> Option<usize>
     requires { length answers.now ≡ length bounds.now }
     ensures place { MatchOption result
-        (AreAtBounds answers.now bounds.now)
-        (IsLastBelow answers.now bounds.now) }
+        (AreAtBounds floor answers.now bounds.now)
+        (IsLastBelow floor answers.now bounds.now) }
 
     // It can be raised by one.
     ensures room { IfSome result (λ i. slice_index_or answers.now i (pos 0) <ℤ pos 32767) }
 {
-    for i in (0..answers.len()).rev() {
+    for i in (floor..answers.len()).rev() {
         if answers[i] < bounds[i] {
             return Some(i);
         }
@@ -37,7 +37,8 @@ fn last_below(answers: &[i16], bounds: &[i16]) -> Option<usize>
 }
 
 /// Plans the run behind the one at which the listing stands: the last answer that its bound leaves
-/// room for is raised by one, and those behind it are dropped.
+/// room for is raised by one, and those behind it are dropped. The answers with which each run of
+/// the listing begins stay.
 ///
 /// It gives the number of answers in front of the raised one, or `None` where no run is left.
 ///
@@ -46,22 +47,24 @@ fn last_below(answers: &[i16], bounds: &[i16]) -> Option<usize>
 /// Where the plan is refused memory.
 pub(crate) fn plan_next(
     position: Position,
+    under: &[i16],
     answers: &[i16],
     bounds: &[i16],
     trial: &mut Recorder,
 ) -> Result<Option<usize>, AllocError>
     requires { position ≡ Position.AtRun → length answers.now ≡ length bounds.now }
-    ensures plan { IfOk result (PlansNext position answers.now bounds.now trial.new.answers.items) }
+    ensures plan { IfOk result (PlansNext under.now position
+        answers.now bounds.now trial.new.answers.items) }
     ensures fresh { IfOk result (λ o. OnSome o (IsFresh trial.new)) }
     ensures ended { position ≡ Position.AtEnd → result ≡ Ok None }
 {
     match position {
         Position::AtEnd => Ok(None),
         Position::AtStart => {
-            trial.clear();
+            trial.replay(under)?;
             Ok(Some(0))
         }
-        Position::AtRun => match last_below(answers, bounds) {
+        Position::AtRun => match last_below(answers, bounds, under.len()) {
             None => Ok(None),
             Some(i) => {
                 trial.restart(&answers[..i], answers[i] + 1)?;

@@ -1,7 +1,8 @@
 -- This file names the files of lemmas.
 pub mod Agreement
+pub mod Coding
+mod Cuts
 pub mod Evaluation
-pub mod Formulas
 pub mod Marks
 pub mod Parts
 pub mod Reaching
@@ -10,6 +11,7 @@ pub mod Spelling
 pub mod Taking
 pub mod Uniqueness
 pub mod Worked
+pub mod PlainValues
 pub mod Readers
 pub mod Zeros
 pub mod ValueReads

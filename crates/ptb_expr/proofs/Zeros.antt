@@ -1,6 +1,6 @@
 -- This file proves what a store of values that are 0 from some place on comes to.
-use Rattle.std.specs.Prelude.{◌≡◌, ◌≤◌, ◌<◌, ◌+◌, ◌-◌, ℕ, ℤ, List, pos, length, take, drop, replicate, ◌++◌, slice_set}
-use Rattle.std.proofs.Common.{rules, arith}
+use Rattle.std.specs.Prelude.{◌≡◌, ◌≤◌, ◌+◌, ◌-◌, ℕ, ℤ, List, pos, length, take, drop, replicate, ◌++◌, slice_set}
+use Rattle.std.proofs.Common.{arith}
 use Rattle.std.proofs.lemmas.List.{drop-drop, drop-replicate, drop-set-lt, take-append-drop, length-set}
 use Rattle.ptb_expr.specs.Store.{IsZeroFrom}
 

@@ -10,7 +10,7 @@ pub mod Reading
 pub mod Spells
 pub mod Marks
 pub mod Evaluate
-pub mod Formula
+pub mod Code
 pub mod Working
 pub mod Works
 pub mod Rows

@@ -2,16 +2,18 @@
 //! the evaluation of an expression while it is read.
 //!
 //! It stands on `ptb_text`, on `rand_core` and `rand_pcg` for the answers of a seed, and on
-//! `thiserror`. The crate above may rely on `evaluate` and `target`: whoever answers, they come to
+//! `arrayvec` and `thiserror`. The crate above may rely on `evaluate` and `target`: whoever answers, they come to
 //! what `specs/Value` makes of the tree that `specs/Spells` reads at the cursor, be it a value, a
 //! fault with its mark or a question; on the laws of `Chooser`; on `Seeded`, whose answers are those
-//! of `specs/Seeds`; and on `Formula`, a short expression that is read once and worked out often.
+//! of `specs/Seeds`; and on `Code` and `Codes`, expressions without RND that are read once and worked
+//! out often.
 #![tactic(auto)]
 
 mod chooser;
+mod code;
+mod codes;
 mod eval;
 mod fault;
-mod formula;
 mod laws;
 mod operator;
 mod pause;
@@ -22,9 +24,10 @@ mod store;
 mod tests;
 
 pub use chooser::{Chooser, Listed};
+pub use code::Code;
+pub use codes::Codes;
 pub use eval::{answer_to, evaluate, target};
 pub use fault::{Fault, FaultKind, Stop};
-pub use formula::{Formula, Operand, Operation};
 pub use laws::{mark_laws, spelling_laws, value_laws};
 pub use operator::Operator;
 pub use pause::Pause;

@@ -405,161 +405,167 @@ fn refused_answers(rt: HostRuntime) {
     }
 }
 
-// The formula at the front of a text, and the place after it.
-fn formula_of(text: &[u8]) -> Option<(Formula, usize)> {
-    let mut cursor = Cursor::new(text, 0);
-    let formula = Formula::read(&mut cursor)?;
-    Some((formula, cursor.place()))
-}
-
-// The variable that a byte names.
-fn variable(byte: u8) -> Operand
-    requires { IsTrue (is_letter byte) }
-{
-    Operand::Variable(letter(byte))
-}
-
-fn with_variable(operator: Operator, byte: u8) -> Operation
-    requires { IsTrue (is_letter byte) }
-{
-    Operation {
-        operator,
-        right: variable(byte),
-    }
-}
-
-fn with_number(operator: Operator, value: i16) -> Operation {
-    Operation {
-        operator,
-        right: Operand::Number(value),
-    }
-}
-
-// A is 5, B is -7, I is 2 and J is 100.
+// A is 5, B is -7, I is 2, J is 100, and the element 2 is 9.
 fn lettered_store(rt: HostRuntime) -> Result<Store, AllocError> {
     let mut store = Store::new(rt.alloc(), 4)?;
     store.set(letter(b'A'), 5);
     store.set(letter(b'B'), -7);
     store.set(letter(b'I'), 2);
     store.set(letter(b'J'), 100);
+    store.set_element(2, 9);
     Ok(store)
 }
 
+// The place after the expression at the front of a text, and its value by its code.
+fn by_code(store: &Store, text: &[u8]) -> Option<(usize, Option<i16>)> {
+    let mut cursor = Cursor::new(text, 0);
+    let mut code = Code::new();
+    code.read(&mut cursor)?;
+    Some((cursor.place(), code.value(store)))
+}
+
 #[test]
-fn formulas(rt: HostRuntime) -> Result<(), Fail> {
+fn codes(rt: HostRuntime) -> Result<(), Fail> {
     let store = lettered_store(rt)?;
-    let over7 = with_number(Operator::Over, 7);
-    let times7 = with_number(Operator::Times, 7);
-    let times3 = with_number(Operator::Times, 3);
-    for (text, formula, place, value) in [
-        ("7", Formula::Plain(Operand::Number(7)), 1, Some(7)),
-        (" J )", Formula::Plain(variable(b'J')), 3, Some(100)),
+    for (text, place, value) in [
+        ("7", 1, Some(7)),
+        (" J )", 3, Some(100)),
+        ("A+1", 3, Some(6)),
+        ("A<30000", 7, Some(1)),
+        ("A*3+B", 5, Some(8)),
+        ("A*B*I*I*A", 9, Some(-700)),
+        ("J/7*7+I", 7, Some(100)),
+        ("A+B*I", 5, Some(-9)),
+        ("A*(B)", 5, Some(-35)),
+        ("(A)", 3, Some(5)),
+        ("A<B+1", 5, Some(0)),
+        ("A<-1", 4, Some(0)),
+        ("A+B+I+J<A", 9, Some(0)),
+        ("-A", 2, Some(-5)),
+        ("A-1-B", 5, Some(11)),
+        ("A-(B-J)", 7, Some(112)),
+        ("(A-B)/(I+1)-J", 13, Some(-96)),
+        ("I/3*2-I+A/2+(J>I)*7", 19, Some(7)),
+        ("ABS(A-J)/3+1", 12, Some(32)),
+        ("-B*2+A", 6, Some(19)),
+        ("+A", 2, Some(5)),
+        ("S.-A", 4, Some(-1)),
+        ("A-S.", 4, Some(1)),
+        ("@(I)*@(I*0)+@(I)", 16, Some(9)),
+        ("A>B=1", 3, Some(1)),
+        ("(A<B)+(A<=B)+(A#B)", 18, Some(1)),
+        ("32767+1", 7, None),
+        ("-(-32767-1)", 11, None),
+        ("A.(-32767-1)", 12, None),
+        ("A*32767", 7, None),
+        ("A/(B+7)", 7, None),
+        ("@(I+1)", 6, None),
+        ("@(B)", 4, None),
         (
-            "A+1",
-            Formula::One(variable(b'A'), with_number(Operator::Plus, 1)),
-            3,
-            Some(6),
+            "1+1+1+1+1+1+1+1+1+1+1+1+1+1+1+1+1+1+1+1+1+1+1+1",
+            47,
+            Some(24),
         ),
         (
-            " A < 30000 ",
-            Formula::One(variable(b'A'), with_number(Operator::Below, 30000)),
-            11,
-            Some(1),
-        ),
-        (
-            "A*3+B",
-            Formula::Two(variable(b'A'), times3, with_variable(Operator::Plus, b'B')),
-            5,
-            Some(8),
-        ),
-        (
-            "A/9-B",
-            Formula::Two(
-                variable(b'A'),
-                with_number(Operator::Over, 9),
-                with_variable(Operator::Minus, b'B'),
-            ),
-            5,
-            Some(7),
-        ),
-        (
-            "A+1>B",
-            Formula::Two(
-                variable(b'A'),
-                with_number(Operator::Plus, 1),
-                with_variable(Operator::Above, b'B'),
-            ),
-            5,
-            Some(1),
-        ),
-        (
-            "J/7*7+I",
-            Formula::Three(
-                variable(b'J'),
-                over7,
-                times7,
-                with_variable(Operator::Plus, b'I'),
-            ),
-            7,
-            Some(100),
-        ),
-        // one comparison is read, and what comes behind it isn't
-        (
-            "A=5=1",
-            Formula::One(variable(b'A'), with_number(Operator::Equals, 5)),
-            3,
-            Some(1),
-        ),
-        (
-            "32767+1",
-            Formula::One(Operand::Number(32767), with_number(Operator::Plus, 1)),
-            7,
-            None,
-        ),
-        (
-            "A/Z",
-            Formula::One(variable(b'A'), with_variable(Operator::Over, b'Z')),
-            3,
-            None,
+            "A-(A-(A-(A-(A-(A-(A-(A-(A-(A-(A-(A-0)))))))))))",
+            47,
+            Some(0),
         ),
     ] {
         assert!(rt;
-            formula_of(text.as_bytes()) == Some((formula, place)),
+            by_code(&store, text.as_bytes()) == Some((place, value)),
             "{text}"
         );
-        assert!(rt; formula.value(&store) == value, "{text}");
     }
     Ok(())
 }
 
 #[test]
-fn no_formulas(rt: HostRuntime) {
+fn no_codes(rt: HostRuntime) -> Result<(), Fail> {
+    let store = Store::new(rt.alloc(), 4)?;
     for text in [
         "",
-        "32768",
-        "(A)",
-        "-A",
-        "+A",
-        "S.",
-        "A.(1)",
-        "@(1)",
-        "A+B*C",
-        "A*(B)",
-        "A<B+1",
-        "A<-1",
-        "A*B*C*D*E",
-        "A+B+C+D<E",
         "A+",
+        "A*",
+        "A<",
+        "-",
+        "(A",
+        "@A",
+        "@(A",
+        "ABS 5",
+        "32768",
+        "RND(5)",
+        "1+R.(2)",
+        "1+1+1+1+1+1+1+1+1+1+1+1+1+1+1+1+1+1+1+1+1+1+1+1+1",
+        "A-(A-(A-(A-(A-(A-(A-(A-(A-(A-(A-(A-(A-0))))))))))))",
     ] {
-        assert!(rt; formula_of(text.as_bytes()) == None, "{text}");
+        assert!(rt; by_code(&store, text.as_bytes()) == None, "{text}");
     }
+    Ok(())
+}
+
+// The number that stands alone at the front of a text.
+fn constant(text: &[u8]) -> Option<i16> {
+    let mut code = Code::new();
+    code.read(&mut Cursor::new(text, 0))?;
+    code.constant()
 }
 
 #[test]
 fn constants(rt: HostRuntime) {
-    assert!(rt; Formula::Plain(Operand::Number(7)).constant() == Some(7));
-    assert!(rt; Formula::Plain(variable(b'A')).constant() == None);
-    assert!(rt;
-        Formula::One(Operand::Number(7), with_number(Operator::Plus, 1)).constant() == None
-    );
+    assert!(rt; constant(b" 7 ") == Some(7));
+    assert!(rt; constant(b"(7)") == Some(7));
+    for text in ["A", "S.", "7+1", "-7", "ABS(7)"] {
+        assert!(rt; constant(text.as_bytes()) == None, "{text}");
+    }
+    assert!(rt; Code::new().constant() == None);
+}
+
+// The codes of these expressions, where all of them find room.
+fn codes_of(texts: &[&str]) -> Option<Codes> {
+    let mut codes = Codes::new();
+    for text in texts {
+        let mut code = Code::new();
+        code.read(&mut Cursor::new(text.as_bytes(), 0))?;
+        codes.add(&code)?;
+    }
+    Some(codes)
+}
+
+// The value of one of the codes of these expressions and of a number behind them.
+fn value_among(store: &Store, texts: &[&str], number: i16, before: usize) -> Option<i16> {
+    let mut codes = codes_of(texts)?;
+    codes.add(&Code::of_number(number))?;
+    codes.value(before, store)
+}
+
+// Each has a value of its own, or none.
+#[test]
+fn several_codes(rt: HostRuntime) -> Result<(), Fail> {
+    let store = lettered_store(rt)?;
+    for (before, value) in [
+        (0, Some(6)),
+        (1, Some(100)),
+        (2, None),
+        (3, Some(7)),
+        (4, Some(-3)),
+        (5, None),
+    ] {
+        let texts = ["A+1", "J", "A/0", "I/3*2-I+A/2+(J>I)*7"];
+        assert!(rt; value_among(&store, &texts, -3, before) == value);
+    }
+    Ok(())
+}
+
+// There is room for 24 operations and for 12 codes.
+#[test]
+fn room_of_codes(rt: HostRuntime) -> Result<(), Fail> {
+    let store = lettered_store(rt)?;
+    let long = "A*B*I*I*A*B*I*I*A*B*I*I*A*B*I*I*A*B*I*I*A*B*I";
+    assert!(rt; codes_of(&[long, "A+1"]).is_none());
+    assert!(rt; value_among(&store, &[long], 7, 1) == Some(7));
+    assert!(rt; value_among(&store, &[long, "A"], 7, 1) == None);
+    assert!(rt; value_among(&store, &["A"; 11], 7, 11) == Some(7));
+    assert!(rt; value_among(&store, &["A"; 12], 7, 11) == None);
+    Ok(())
 }

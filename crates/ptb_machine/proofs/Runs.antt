@@ -141,7 +141,7 @@ refused_state bound T (pauses.OutOfRange k) = refl
 refused_state bound T pauses.Memory = refl
 
 -- a question is refused
-run_waits : (refused : Refusal → Type 0) (p : StoredProgram) (rules : Rules) (m : Configuration) (o d : Devices) (input rest : List (List ℕ)) (z : Pause) → input ≡ d.given ++ rest → (w : Waits {A = Last} refused (RunsTo p rules m o input rest) d z) → IsUnanswered refused p rules input o d z
+run_waits : (refused : Refusal → Type 0) (p : StoredProgram) (rules : Rules) (m : Configuration) (o d : Devices) (input rest : List (List ℕ)) (z : Pause) → input ≡ d.given ++ rest → (w : Waits {A = Last} refused (RunsTo p rules m o input rest) d last_state z) → IsUnanswered refused p rules input o d z
 run_waits refused p rules m o d input rest z k w =
     let T = w.comes.leads.state in
     record {
@@ -217,12 +217,14 @@ module _ (refused : Refusal → Type 0) (p : StoredProgram) (rules : Rules) (m n
     ended : (ending : Ending) → LastStep e (ends ending) → IsFinished refused p rules whole o (onto d e) ending
     ended ending s = run_ends refused p rules n o (onto d e) whole rest ending (then_turns p rules.limit (ends ending)) (last e (ends ending) s) refl (λ a. refl)
 
-    waited : (z : Pause) → Waits refused LastStep e z → IsUnanswered refused p rules whole o (onto d e) z
+    waited : (z : Pause) → Waits refused LastStep e act_state z → IsUnanswered refused p rules whole o (onto d e) z
     waited z w = run_waits refused p rules n o (onto d e) whole rest z refl (record {
       left = then_turns p rules.limit w.left;
       bound = w.bound;
       comes = last e w.left w.comes;
       asks = λ S. ap (λ u. go_on u (after_turn (all_turns p rules.limit))) (w.asks S);
+      begins = λ S a. more_shown p rules S.shown (w.left S a) (w.begins S a);
+      takes = λ S a. more_taken p rules S.lines (w.left S a) (w.takes S a);
       outside = λ S. out_before (λ u. go_on u (after_turn (all_turns p rules.limit))) (λ (T : State). T) (λ k T. refl) (w.left S) w.bound S z (w.outside S);
       refusal = w.refusal;
       refuses = w.refuses;

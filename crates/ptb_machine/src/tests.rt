@@ -526,7 +526,7 @@ fn ends_so(
     Ok(result == Ok(want) && screen.bytes() == shown && early == Ok(Ending::Limit))
 }
 
-const FORMULAS_WITHOUT_A_VALUE: &[(&[u8], u32, Ending, &[u8])] = &[
+const COMMANDS_WITHOUT_A_VALUE: &[(&[u8], u32, Ending, &[u8])] = &[
     (
         b"10 A=32760\n20 A=A+1;GOTO 20\n",
         16,
@@ -551,13 +551,25 @@ const FORMULAS_WITHOUT_A_VALUE: &[(&[u8], u32, Ending, &[u8])] = &[
         Ending::How,
         b"HOW?\n20 B=6/A?\n",
     ),
+    (
+        b"10 A=2\n20 B=@(A);A=A-1;GOTO 20\n",
+        11,
+        Ending::How,
+        b"HOW?\n20 B=@(A)?;A=A-1;GOTO 20\n",
+    ),
+    (
+        b"10 A=32760\n20 A=-(-A-1);GOTO 20\n",
+        16,
+        Ending::How,
+        b"HOW?\n20 A=-(-A-1)?;GOTO 20\n",
+    ),
 ];
 
 // Commands that are done often, up to one whose expression has no value. The run takes as many
 // steps as it is given, and one fewer are too few.
 #[test]
-fn formulas_without_a_value(rt: HostRuntime) -> Result<(), Fail> {
-    for &(text, steps, want, shown) in FORMULAS_WITHOUT_A_VALUE {
+fn commands_without_a_value(rt: HostRuntime) -> Result<(), Fail> {
+    for &(text, steps, want, shown) in COMMANDS_WITHOUT_A_VALUE {
         assert!(rt; ends_so(rt.alloc(), text, steps, want, shown)?, "{text:?}");
     }
     Ok(())

@@ -30,6 +30,7 @@ rules =
     ∷ text_option (codes "answers")
     ∷ number_option (codes "seed") (Unsigned 0 4294967295)
     ∷ flag (codes "all")
+    ∷ text_option (codes "under")
     ∷ text_option (codes "after")
     ∷ number_option (codes "first") (Unsigned 1 1000000000)
     ∷ number_option (codes "form") (Signed (pos 1) (pos 2))

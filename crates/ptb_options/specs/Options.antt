@@ -29,7 +29,7 @@ use Rattle.ptb_options.specs.declared.request.Mode.{Mode}
 use Rattle.ptb_options.specs.declared.request.Mode.TheVariants as modes
 use Rattle.ptb_options.specs.declared.request.Request.{Request}
 use Rattle.ptb_options.specs.declared.usage.UsageFault.{UsageFault}
-use Rattle.ptb_options.specs.declared.usage.UsageFault.TheVariants.{ListWithOther, AfterWithoutAll, FirstWithoutAll, FormWithoutAll, AnswersWithAll, SeedWithAll, SeedWithAnswers, BadList, Memory}
+use Rattle.ptb_options.specs.declared.usage.UsageFault.TheVariants.{ListWithOther, AfterWithoutAll, FirstWithoutAll, FormWithoutAll, UnderWithoutAll, AnswersWithAll, SeedWithAll, SeedWithAnswers, BadList, Memory}
 
 -- ---- the options
 
@@ -41,6 +41,7 @@ pub record Options : Type 0 where
   pub answers : Option (List ℕ)
   pub seed : Option ℕ
   pub all : Bool
+  pub under : Option (List ℕ)
   pub after : Option (List ℕ)
   pub first : Option ℕ
   pub form : Option ℕ
@@ -48,7 +49,7 @@ pub record Options : Type 0 where
 
 -- an empty command line
 abbrev pub no_options : Options
-no_options = record { steps = None; memory = None; choose = None; answers = None; seed = None; all = false; after = None; first = None; form = None; list = false }
+no_options = record { steps = None; memory = None; choose = None; answers = None; seed = None; all = false; under = None; after = None; first = None; form = None; list = false }
 
 -- what clap found for each option
 abbrev pub entries_of : ArgMatches → List Row
@@ -81,6 +82,7 @@ options_of entries = record {
   answers = first_of (codes "answers") entries;
   seed = number_of 64 (codes "seed") entries;
   all = is_given (codes "all") entries;
+  under = first_of (codes "under") entries;
   after = first_of (codes "after") entries;
   first = number_of 64 (codes "first") entries;
   form = number_of 8 (codes "form") entries;
@@ -100,14 +102,15 @@ HasBound o = ForSome o.choose (λ n. (1 ≤ n) × (n ≤ 32767))
 -- the rules are looked at in this order
 abbrev pub clash : Options → Option UsageFault
 clash o =
-    if o.list && (o.all || is_some o.answers || is_some o.seed || is_some o.after || is_some o.first || is_some o.form || is_some o.choose) then Some ListWithOther
+    if o.list && (o.all || is_some o.answers || is_some o.seed || is_some o.under || is_some o.after || is_some o.first || is_some o.form || is_some o.choose) then Some ListWithOther
     else (if is_some o.after && not o.all then Some AfterWithoutAll
     else (if is_some o.first && not o.all then Some FirstWithoutAll
     else (if is_some o.form && not o.all then Some FormWithoutAll
+    else (if is_some o.under && not o.all then Some UnderWithoutAll
     else (if is_some o.answers && o.all then Some AnswersWithAll
     else (if is_some o.seed && o.all then Some SeedWithAll
     else (if is_some o.seed && is_some o.answers then Some SeedWithAnswers
-    else None))))))
+    else None)))))))
 
 -- a list that may be left out
 abbrev pub SpellsIfGiven : Option (List ℕ) → Option (List Marked) → Type 0
@@ -124,7 +127,7 @@ form_of (Some n) = if n == 1 then One else Two
 -- with neither --list nor --all there is one run, by a list of answers or by a seed
 abbrev pub AsksMode : Options → Mode → Type 0
 AsksMode o modes.List = o.list ≡ true
-AsksMode o (modes.All after first form) = (o.list ≡ false) × (o.all ≡ true) × SpellsIfGiven o.after after × (first ≡ o.first) × (form ≡ form_of o.form)
+AsksMode o (modes.All under after first form) = (o.list ≡ false) × (o.all ≡ true) × SpellsIfGiven o.under under × SpellsIfGiven o.after after × (first ≡ o.first) × (form ≡ form_of o.form)
 AsksMode o (modes.Plain a) = (o.list ≡ false) × (o.all ≡ false) × (o.seed ≡ None) × SpellsAnswers (unwrap_or o.answers (codes "none")) a
 AsksMode o (modes.Seeded seed) = (o.list ≡ false) × (o.all ≡ false) × (o.seed ≡ Some seed)
 
@@ -151,9 +154,9 @@ abbrev pub RefusesList : (List ℕ → Type 0) → Option (List ℕ) → ListFau
 RefusesList Misspelled text lists.Bad = IsSomeAnd text Misspelled
 RefusesList Misspelled text lists.Memory = IsSome text
 
--- of options that don't clash at most one has a list
+-- the option with the list is one of these
 abbrev pub RefusesLists : Options → ListFault → Type 0
-RefusesLists o fault = RefusesList IsMisspelled o.after fault ⊎ RefusesList HasNoAnswers o.answers fault
+RefusesLists o fault = RefusesList IsMisspelled o.under fault ⊎ RefusesList IsMisspelled o.after fault ⊎ RefusesList HasNoAnswers o.answers fault
 
 -- lists are looked at where nothing else is wrong
 abbrev pub Refuses : Options → UsageFault → Type 0

@@ -37,6 +37,7 @@ pub fn command<'a>(alloc: Global) -> Result<Command<'a>, AllocError>
         .arg(text_option(alloc, "answers", help::ANSWERS))?
         .arg(number_option(alloc, "seed", seed, help::SEED))?
         .arg(flag(alloc, "all", help::ALL))?
+        .arg(text_option(alloc, "under", help::UNDER))?
         .arg(text_option(alloc, "after", help::ALL_AFTER))?
         .arg(number_option(alloc, "first", first, help::FIRST))?
         .arg(number_option(alloc, "form", form, help::FORM))?

@@ -24,8 +24,9 @@ use std::marker::Model;
 ///
 /// The first that applies, in this order: [`UsageFault::ListWithOther`],
 /// [`UsageFault::AfterWithoutAll`], [`UsageFault::FirstWithoutAll`],
-/// [`UsageFault::FormWithoutAll`], [`UsageFault::AnswersWithAll`], [`UsageFault::SeedWithAll`],
-/// [`UsageFault::SeedWithAnswers`], [`UsageFault::BadList`]. [`UsageFault::Memory`] comes only while a list is kept.
+/// [`UsageFault::FormWithoutAll`], [`UsageFault::UnderWithoutAll`],
+/// [`UsageFault::AnswersWithAll`], [`UsageFault::SeedWithAll`], [`UsageFault::SeedWithAnswers`],
+/// [`UsageFault::BadList`]. [`UsageFault::Memory`] comes only while a list is kept.
 pub fn decide(alloc: Global, matches: &ArgMatches<'_>) -> Result<Request, UsageFault>
     requires memory { HasMemorySize (options_of (entries_of matches.now)) }
     requires bound { HasBound (options_of (entries_of matches.now)) }
@@ -54,6 +55,7 @@ struct GivenOptions<'a> {
     answers: Option<&'a str>,
     seed: Option<u64>,
     all: bool,
+    under: Option<&'a str>,
     after: Option<&'a str>,
     first: Option<u64>,
     form: Option<u8>,
@@ -73,6 +75,7 @@ impl<'a> Model for GivenOptions<'a> {
       answers = option_copied line.answers;
       seed = line.seed;
       all = line.all;
+      under = option_copied line.under;
       after = option_copied line.after;
       first = line.first;
       form = line.form;
@@ -92,6 +95,7 @@ impl<'a> GivenOptions<'a> {
             answers: matches.get_str("answers"),
             seed: matches.get_one("seed"),
             all: is_given(matches, "all"),
+            under: matches.get_str("under"),
             after: matches.get_str("after"),
             first: matches.get_one("first"),
             form: matches.get_one("form"),
@@ -106,7 +110,8 @@ impl<'a> GivenOptions<'a> {
         let (answers, after) = (self.answers.is_some(), self.after.is_some());
         let (seed, first) = (self.seed.is_some(), self.first.is_some());
         let (form, choose) = (self.form.is_some(), self.choose.is_some());
-        if self.list && (self.all || answers || seed || after || first || form || choose) {
+        let under = self.under.is_some();
+        if self.list && (self.all || answers || seed || under || after || first || form || choose) {
             Some(UsageFault::ListWithOther)
         } else if after && !self.all {
             Some(UsageFault::AfterWithoutAll)
@@ -114,6 +119,8 @@ impl<'a> GivenOptions<'a> {
             Some(UsageFault::FirstWithoutAll)
         } else if form && !self.all {
             Some(UsageFault::FormWithoutAll)
+        } else if under && !self.all {
+            Some(UsageFault::UnderWithoutAll)
         } else if answers && self.all {
             Some(UsageFault::AnswersWithAll)
         } else if seed && self.all {
@@ -157,6 +164,7 @@ impl<'a> GivenOptions<'a> {
         }
         if self.all {
             return Ok(Mode::All {
+                under: list(alloc, self.under)?,
                 after: list(alloc, self.after)?,
                 first: self.first,
                 form: self.form(),

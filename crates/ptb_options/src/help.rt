@@ -27,6 +27,9 @@ pub const SEED: &str =
 /// The help of `--all`.
 pub const ALL: &str = "Write a report of every run, in the order of their answers";
 
+/// The help of `--under`.
+pub const UNDER: &str = "With --all, report those runs alone that begin with these answers";
+
 /// The help of `--after`.
 pub const ALL_AFTER: &str = "With --all, begin after the run with these answers";
 
@@ -46,8 +49,8 @@ pub const PROGRAM: &str =
 
 /// What stands behind the options: how lists are written, the statuses, and examples.
 pub const AFTER: &str = "\
-A LIST is none, or numbers from 1 to 32767 with commas between them, as 2,1,6. In that of
---after an answer may have its bound behind it, as 2/2,1/3.
+A LIST is none, or numbers from 1 to 32767 with commas between them, as 2,1,6. In those of
+--under and --after an answer may have its bound behind it, as 2/2,1/3.
 
 With PROGRAM the lines of standard input answer INPUT.
 
@@ -61,7 +64,8 @@ Status:
   64      these words ask for nothing
   65      a line of the program is refused, or the program is too long
   66      the program or the input can't be read, or the input is too long
-  67      --after names no run, or a bound that its question hasn't
+  67      --after names no run, or a bound that its question hasn't; or no run begins
+          as --under says
   71      out of memory
   74      what was written could not be written
 

@@ -19,6 +19,9 @@ pub enum Mode {
     Seeded(u64),
     /// All its runs are listed.
     All {
+        /// The answers with which each run begins that is listed, some of them with their bounds; any
+        /// run is where there is none.
+        under: Option<MarkedAnswers>,
         /// The run after which the listing begins, of whose answers some may have their bounds; from
         /// the first run on where there is none.
         after: Option<MarkedAnswers>,

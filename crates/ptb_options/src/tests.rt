@@ -55,7 +55,7 @@ fn has_line(alloc: Global, fault: UsageFault, line: &str) -> bool {
 
 #[test]
 fn options_that_clash(rt: HostRuntime) {
-    let table: [(&[&str], UsageFault, &str); 24] = [
+    let table: [(&[&str], UsageFault, &str); 28] = [
         (
             &["--list", "--choose", "2"],
             UsageFault::ListWithOther,
@@ -78,6 +78,26 @@ fn options_that_clash(rt: HostRuntime) {
         ),
         (
             &["--list", "--first", "1"],
+            UsageFault::ListWithOther,
+            "ptb: --list stands alone",
+        ),
+        (
+            &["--under", "0"],
+            UsageFault::UnderWithoutAll,
+            "ptb: --under needs --all",
+        ),
+        (
+            &["--under", "1", "--answers", "x"],
+            UsageFault::UnderWithoutAll,
+            "ptb: --under needs --all",
+        ),
+        (
+            &["--under", "1", "--form", "1"],
+            UsageFault::FormWithoutAll,
+            "ptb: --form needs --all",
+        ),
+        (
+            &["--under", "1", "--list"],
             UsageFault::ListWithOther,
             "ptb: --list stands alone",
         ),
@@ -367,10 +387,26 @@ fn rules_of(alloc: Global, words: &[&str]) -> Option<(u32, Option<i16>)> {
     Some((rules.limit, rules.choose))
 }
 
-// What a request for a listing of runs asks for.
-fn listing(alloc: Global, words: &[&str]) -> Option<(Option<MarkedAnswers>, Option<u64>, Form)> {
+// What a request for a listing of runs asks for: the share, the run behind which it begins, how many
+// reports, and their form.
+fn listing(
+    alloc: Global,
+    words: &[&str],
+) -> Option<
+    (
+        Option<MarkedAnswers>,
+        Option<MarkedAnswers>,
+        Option<u64>,
+        Form,
+    ),
+> {
     match requested(alloc, words)?.mode {
-        Mode::All { after, first, form } => Some((after, first, form)),
+        Mode::All {
+            under,
+            after,
+            first,
+            form,
+        } => Some((under, after, first, form)),
         _ => None,
     }
 }
@@ -460,11 +496,36 @@ fn requests_for_all_runs(rt: HostRuntime) {
         (&["--form=2", "--all"], None, None, Form::Two),
     ];
     for (words, want, most, due) in table {
-        let Some((after, first, form)) = listing(rt.alloc(), words) else {
+        let Some((under, after, first, form)) = listing(rt.alloc(), words) else {
             panic!(rt; "{words:?} is no listing of runs");
         };
+        assert!(rt; under.is_none(), "{words:?}");
         assert_eq!(rt; (first, form), (most, due), "{words:?}");
         assert!(rt; is_list(&after, want), "{words:?}");
+    }
+}
+
+#[test]
+fn requests_for_a_share(rt: HostRuntime) {
+    let table: [(&[&str], &[Marked], bool); 3] = [
+        (&["--all", "--under", "none"], &[], false),
+        (
+            &["--under", "1,1/2", "--all"],
+            &[marked(1, None), marked(1, Some(2))],
+            false,
+        ),
+        (
+            &["--all", "--after=1,2", "--under=1"],
+            &[marked(1, None)],
+            true,
+        ),
+    ];
+    for (words, want, behind) in table {
+        let Some((under, after, _, _)) = listing(rt.alloc(), words) else {
+            panic!(rt; "{words:?} is no listing of runs");
+        };
+        assert!(rt; is_list(&under, Some(want)), "{words:?}");
+        assert_eq!(rt; after.is_some(), behind, "{words:?}");
     }
 }
 
@@ -574,6 +635,7 @@ fn help_names_each_option(rt: HostRuntime) {
         "--seed <N>",
         "0 to 4294967295",
         "--all",
+        "--under <LIST>",
         "--after <LIST>",
         "--first <N>",
         "--form <N>",

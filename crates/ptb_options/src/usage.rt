@@ -19,7 +19,8 @@ pub enum UsageFault {
     /// `--answers` stands beside `--all`.
     #[error("ptb: --answers excludes --all")]
     AnswersWithAll,
-    /// `--list` stands beside `--all`, `--answers`, `--seed`, `--after`, `--first`, `--form` or `--choose`.
+    /// `--list` stands beside `--all`, `--answers`, `--seed`, `--under`, `--after`, `--first`, `--form` or
+    /// `--choose`.
     #[error("ptb: --list stands alone")]
     ListWithOther,
     /// A list of answers isn't spelled as one.
@@ -37,6 +38,9 @@ pub enum UsageFault {
     /// `--form` stands without `--all`.
     #[error("ptb: --form needs --all")]
     FormWithoutAll,
+    /// `--under` stands without `--all`.
+    #[error("ptb: --under needs --all")]
+    UnderWithoutAll,
 }
 
 impl UsageFault {

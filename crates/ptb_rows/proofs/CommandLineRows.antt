@@ -18,6 +18,11 @@ clash_rows = record {
   form_and_seed = refl;
   form_listing = refl;
   form_and_all = refl;
+  under_alone = refl;
+  under_and_form = refl;
+  under_and_answers = refl;
+  under_listing = refl;
+  under_and_all = refl;
   answers_and_all = refl;
   seed_listing = refl;
   seed_and_after = refl;
@@ -41,6 +46,7 @@ option_rows = record {
   seed = refl;
   choice = refl;
   form = refl;
+  under = refl;
   switches = refl;
 }
 

@@ -9,6 +9,7 @@ pub mod LongRunRows
 pub mod AllRows
 pub mod AfterRows
 pub mod BoundRows
+pub mod ShareRows
 pub mod TextRows
 pub mod CommandLineRows
 pub mod ListRows

@@ -4,7 +4,7 @@ use Rattle.ptb_text.specs.declared.fault.LoadFault.TheVariants.{NoNumber, Number
 use Rattle.clap.specs.Words.{fault_of, matches_of}
 use Rattle.clap.specs.declared.error.ErrorKind.{ErrorKind}
 use Rattle.clap.specs.declared.error.ErrorKind.TheVariants.{ArgumentConflict, DisplayHelp, UnknownArgument, ValueValidation}
-use Rattle.ptb_options.specs.declared.usage.UsageFault.TheVariants.{ListWithOther, AfterWithoutAll, FirstWithoutAll, FormWithoutAll, AnswersWithAll, SeedWithAll, SeedWithAnswers}
+use Rattle.ptb_options.specs.declared.usage.UsageFault.TheVariants.{ListWithOther, AfterWithoutAll, FirstWithoutAll, FormWithoutAll, UnderWithoutAll, AnswersWithAll, SeedWithAll, SeedWithAnswers}
 use Rattle.ptb_options.specs.AnswerLists.{SpellsList, SpellsAnswers, IsMisspelled, HasNoAnswers}
 use Rattle.ptb_options.specs.CommandLine.{tool}
 use Rattle.ptb_options.specs.Options.{default_memory, default_steps, Options, no_options, options_of, clash}
@@ -48,7 +48,7 @@ seeded seed = record { rules = default_rules; memory = default_memory; mode = mo
 
 -- all runs, or the first n of those behind a run
 abbrev pub all_in : Form → Option (List Marked) → Option ℕ → Request
-all_in form after first = record { rules = default_rules; memory = default_memory; mode = modes.All after first form }
+all_in form after first = record { rules = default_rules; memory = default_memory; mode = modes.All None after first form }
 
 -- in form 1
 abbrev pub all_from : Option (List ℤ) → Option ℕ → Request
@@ -217,6 +217,30 @@ pub record BoundRows : Type 0 where
   pub only_answer : reply_to (all_in Two None None) (codes "10 A=RND(1)") [] ≡ success (codes "RUN 1/1 END 1 0\n\n")
   pub behind_none : reply_to (bounds_behind []) [] [] ≡ success []
 
+-- the runs that begin with these answers, or the first n of those behind one of them
+abbrev pub under : List Marked → Option (List Marked) → Option ℕ → Request
+under list after first = record { rules = default_rules; memory = default_memory; mode = modes.All (Some list) after first Two }
+
+abbrev pub answers : List ℤ → List Marked
+answers list = unmarked list
+
+-- shares of a tree
+pub record ShareRows : Type 0 where
+  pub second_answer : reply_to (under (answers (pos 2 ∷ [])) None None) (codes "10 A=RND(2);IF A=2 B=RND(3);PRINT B") [] ≡ success (codes "RUN 2/2,1/3 END 4 7\n     1\n\n" ++ codes "RUN 2/2,2/3 END 4 7\n     2\n\n" ++ codes "RUN 2/2,3/3 END 4 7\n     3\n\n")
+  pub first_of_share : reply_to (under (answers (pos 2 ∷ [])) None (Some 1)) (codes "10 A=RND(2);IF A=2 B=RND(3);PRINT B") [] ≡ success (codes "RUN 2/2,1/3 END 4 7\n     1\n\n")
+  pub behind_one : reply_to (under (answers (pos 2 ∷ [])) (Some (answers (pos 2 ∷ pos 1 ∷ []))) None) (codes "10 A=RND(2);IF A=2 B=RND(3);PRINT B") [] ≡ success (codes "RUN 2/2,2/3 END 4 7\n     2\n\n" ++ codes "RUN 2/2,3/3 END 4 7\n     3\n\n")
+  pub run_alone : reply_to (under (answers (pos 2 ∷ pos 3 ∷ [])) None None) (codes "10 A=RND(2);IF A=2 B=RND(3);PRINT B") [] ≡ success (codes "RUN 2/2,3/3 END 4 7\n     3\n\n")
+  pub first_answer : reply_to (under (answers (pos 1 ∷ [])) None None) (codes "10 A=RND(2);IF A=2 B=RND(3);PRINT B") [] ≡ success (codes "RUN 1/2 END 2 0\n\n")
+  pub with_bounds : reply_to (under (with_bound (pos 2) (pos 2) ∷ with_bound (pos 1) (pos 3) ∷ []) None None) (codes "10 A=RND(2);IF A=2 B=RND(3);PRINT B") [] ≡ success (codes "RUN 2/2,1/3 END 4 7\n     1\n\n")
+  pub whole : reply_to (under [] None None) (codes "10 A=RND(2);IF A=2 B=RND(3);PRINT B") [] ≡ success (codes "RUN 1/2 END 2 0\n\n" ++ codes "RUN 2/2,1/3 END 4 7\n     1\n\n" ++ codes "RUN 2/2,2/3 END 4 7\n     2\n\n" ++ codes "RUN 2/2,3/3 END 4 7\n     3\n\n")
+  pub too_long : reply_to (under (answers (pos 1 ∷ pos 1 ∷ [])) None None) (codes "10 A=RND(2);IF A=2 B=RND(3);PRINT B") [] ≡ refusal notes.NoBeginning
+  pub outside : reply_to (under (answers (pos 3 ∷ [])) None None) (codes "10 A=RND(2);IF A=2 B=RND(3);PRINT B") [] ≡ refusal notes.NoBeginning
+  pub other_bound : reply_to (under (with_bound (pos 2) (pos 3) ∷ []) None None) (codes "10 A=RND(2);IF A=2 B=RND(3);PRINT B") [] ≡ refusal notes.NoBeginning
+  pub behind_another : reply_to (under (answers (pos 2 ∷ [])) (Some (answers (pos 1 ∷ []))) None) (codes "10 A=RND(2);IF A=2 B=RND(3);PRINT B") [] ≡ refusal notes.NoRun
+  -- the beginning is looked at first
+  pub neither : reply_to (under (answers (pos 3 ∷ [])) (Some (answers (pos 9 ∷ []))) None) (codes "10 A=RND(2);IF A=2 B=RND(3);PRINT B") [] ≡ refusal notes.NoBeginning
+  pub empty_program : reply_to (under [] None None) [] [] ≡ success (codes "RUN none END 0 0\n\n")
+
 pub record RefusalRows : Type 0 where
   pub number : reply_to (run []) (codes "32768 P.1") [] ≡ refusal (notes.Load 1 NumberTooBig)
   pub no_number : reply_to (run []) (codes "0 P.") [] ≡ refusal (notes.Load 1 NoNumber)
@@ -263,6 +287,11 @@ pub record ClashRows : Type 0 where
   pub form_and_seed : clash (options (codes "--form=2" ∷ codes "--seed" ∷ codes "7" ∷ codes "--answers" ∷ codes "1" ∷ [])) ≡ Some FormWithoutAll
   pub form_listing : clash (options (codes "--form" ∷ codes "2" ∷ codes "--list" ∷ [])) ≡ Some ListWithOther
   pub form_and_all : clash (options (codes "--form" ∷ codes "1" ∷ codes "--all" ∷ [])) ≡ None
+  pub under_alone : clash (options (codes "--under" ∷ codes "2" ∷ [])) ≡ Some UnderWithoutAll
+  pub under_and_form : clash (options (codes "--under=2" ∷ codes "--form=1" ∷ [])) ≡ Some FormWithoutAll
+  pub under_and_answers : clash (options (codes "--answers" ∷ codes "1" ∷ codes "--under" ∷ codes "2" ∷ codes "--seed=7" ∷ [])) ≡ Some UnderWithoutAll
+  pub under_listing : clash (options (codes "--under" ∷ codes "2" ∷ codes "--list" ∷ [])) ≡ Some ListWithOther
+  pub under_and_all : clash (options (codes "--all" ∷ codes "--under" ∷ codes "2" ∷ codes "--after" ∷ codes "2,1" ∷ [])) ≡ None
   pub answers_and_all : clash (options (codes "--all" ∷ codes "--answers" ∷ codes "none" ∷ [])) ≡ Some AnswersWithAll
   pub seed_listing : clash (options (codes "--seed" ∷ codes "7" ∷ codes "--list" ∷ [])) ≡ Some ListWithOther
   pub seed_and_after : clash (options (codes "--seed" ∷ codes "7" ∷ codes "--after" ∷ codes "0" ∷ [])) ≡ Some AfterWithoutAll
@@ -302,6 +331,7 @@ pub record OptionRows : Type 0 where
   pub seed : options (codes "--seed" ∷ codes "4294967295" ∷ []) ≡ record no_options { seed = Some 4294967295 }
   pub choice : options (codes "--choose" ∷ codes "8" ∷ []) ≡ record no_options { choose = Some 8 }
   pub form : options (codes "--all" ∷ codes "--form" ∷ codes "1" ∷ []) ≡ record no_options { all = true; form = Some 1 }
+  pub under : options (codes "--all" ∷ codes "--under" ∷ codes "2/2" ∷ []) ≡ record no_options { all = true; under = Some (codes "2/2") }
   pub switches : options (codes "--all" ∷ codes "--list" ∷ []) ≡ record no_options { all = true; list = true }
 
 -- words that clap refuses

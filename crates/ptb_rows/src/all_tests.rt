@@ -7,20 +7,22 @@ use crate::tests::{
     Failing, Script, Sink, expect_reply, make_sink, reply_on_endless_input, reply_to, rules_of,
 };
 use ptb_explore::{Form, Marked};
-use ptb_options::{DEFAULT_MEMORY, DEFAULT_STEPS, Mode, Request};
+use ptb_options::{DEFAULT_MEMORY, DEFAULT_STEPS, MarkedAnswers, Mode, Request};
 use ptb_serve::{Note, Outcome, serve};
 use ptb_text::Device;
 use std::alloc::{AllocError, Global};
 use std::test::Fail;
 
 // A program with its input and the most commands of a run, the bound for answers in place of lines,
-// the run behind which its listing begins, how many reports it has at most, and their form.
+// the answers with which its listed runs begin, the run behind which its listing begins, how many
+// reports it has at most, and their form.
 #[derive(Clone, Copy, Debug)]
 struct Asked<'a> {
     program: &'a [u8],
     input: &'a [u8],
     steps: u32,
     choose: Option<i16>,
+    under: Option<&'a [Marked]>,
     after: Option<&'a [Marked]>,
     first: Option<u64>,
     form: Form,
@@ -53,6 +55,16 @@ const TWO: Marked = Marked {
     bound: None,
 };
 
+const THREE: Marked = Marked {
+    answer: 3,
+    bound: None,
+};
+
+const ONE_OF_3: Marked = Marked {
+    answer: 1,
+    bound: Some(3),
+};
+
 const ONE_OF_1: Marked = Marked {
     answer: 1,
     bound: Some(1),
@@ -80,9 +92,18 @@ fn all_of(program: &[u8]) -> Asked<'_> {
         input: b"",
         steps: DEFAULT_STEPS,
         choose: None,
+        under: None,
         after: None,
         first: None,
         form: Form::One,
+    }
+}
+
+// A list as a request has it.
+fn kept(alloc: Global, list: Option<&[Marked]>) -> Result<Option<MarkedAnswers>, AllocError> {
+    match list {
+        Some(list) => Ok(Some(Vec::from_slice(alloc, list)?.into())),
+        None => Ok(None),
     }
 }
 
@@ -90,14 +111,12 @@ fn request_of(alloc: Global, asked: &Asked<'_>) -> Result<Request, AllocError>
     ensures memory { IfOk result (λ r. IsMemorySize r.memory) }
     ensures bound { IfOk result (λ r. IfSome r.rules.choose (λ n. pos 1 ≤ℤ n)) }
 {
-    let after = match asked.after {
-        Some(list) => Some(Vec::from_slice(alloc, list)?.into()),
-        None => None,
-    };
+    let (under, after) = (kept(alloc, asked.under)?, kept(alloc, asked.after)?);
     Ok(Request {
         rules: rules_of(asked.steps, asked.choose),
         memory: DEFAULT_MEMORY,
         mode: Mode::All {
+            under,
             after,
             first: asked.first,
             form: asked.form,
@@ -404,6 +423,62 @@ fn runs_behind_no_run(rt: HostRuntime) -> Result<(), Fail> {
         };
         let reply = served(rt.alloc(), &asked, 100)?;
         expect_reply(&rt, reply, (67, Some(Note::NoRun)), b"");
+    }
+    Ok(())
+}
+
+// What a listing in form 1 of the runs that begin with a list comes to, behind one of them if it is named.
+fn share_of(
+    alloc: Global,
+    list: &[Marked],
+    after: Option<&[Marked]>,
+) -> Result<(Outcome, Vec<u8>), AllocError> {
+    let asked = Asked {
+        under: Some(list),
+        after,
+        ..all_of(ROLL_BEHIND_IF)
+    };
+    served(alloc, &asked, 100)
+}
+
+const SHARES: &[(&[Marked], Option<&[Marked]>, usize, usize)] = &[
+    (&[], None, 0, 87),
+    (&[ONE], None, 0, 15),
+    (&[TWO], None, 15, 87),
+    (&[TWO_OF_2], Some(&[TWO, ONE]), 39, 87),
+    (&[TWO, ONE_OF_3], None, 15, 39),
+    (&[TWO, THREE], None, 63, 87),
+];
+
+#[test]
+fn shares_of_a_tree(rt: HostRuntime) -> Result<(), Fail> {
+    for &(list, after, from, to) in SHARES {
+        let (outcome, bytes) = share_of(rt.alloc(), list, after)?;
+        assert_eq!(rt; (outcome.status, outcome.note), (0, None), "{list:?}");
+        let due = ROLL_BEHIND_IF_TEXT.get(from..to);
+        assert!(rt; Some(bytes.as_slice()) == due, "{list:?}");
+    }
+    Ok(())
+}
+
+const NO_SHARES: &[(&[Marked], Option<&[Marked]>, Note)] = &[
+    (&[ONE, ONE], None, Note::NoBeginning),
+    (&[THREE], None, Note::NoBeginning),
+    (&[TWO_OF_3], None, Note::NoBeginning),
+    (&[TWO_OF_3], Some(&[ONE]), Note::NoBeginning),
+    (&[TWO], Some(&[ONE]), Note::NoRun),
+];
+
+#[test]
+fn shares_of_no_run(rt: HostRuntime) -> Result<(), Fail> {
+    for &(list, after, note) in NO_SHARES {
+        let (outcome, bytes) = share_of(rt.alloc(), list, after)?;
+        assert_eq!(rt;
+            (outcome.status, outcome.note),
+            (67, Some(note)),
+            "{list:?}"
+        );
+        assert!(rt; bytes.is_empty());
     }
     Ok(())
 }

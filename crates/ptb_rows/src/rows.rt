@@ -3,7 +3,7 @@
 ghost use Rattle.ptb_rows.specs.Rows.{AfterRows, AllRows, BoundRows, ChoiceRows, ClashRows};
 ghost use Rattle.ptb_rows.specs.Rows.{ExampleRows, FaultRows};
 ghost use Rattle.ptb_rows.specs.Rows.{ListRows, ListingRows, LongRunRows, OptionRows, ProgramRows};
-ghost use Rattle.ptb_rows.specs.Rows.{RefusalRows, RunRows, SeedRows};
+ghost use Rattle.ptb_rows.specs.Rows.{RefusalRows, RunRows, SeedRows, ShareRows};
 
 /// Worked rows of plain runs.
 #[tactic(auto, using(crate::proofs::RunRows::run_rows))]
@@ -57,6 +57,12 @@ pub fn after_rows()
 #[tactic(auto, using(crate::proofs::BoundRows::bound_rows))]
 pub fn bound_rows()
     ensures { BoundRows }
+{}
+
+/// Worked rows of the runs that begin with some answers.
+#[tactic(auto, using(crate::proofs::ShareRows::share_rows))]
+pub fn share_rows()
+    ensures { ShareRows }
 {}
 
 /// Worked rows of programs that are refused.

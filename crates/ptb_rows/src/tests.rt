@@ -794,15 +794,16 @@ fn inputs_not_asked_for(rt: HostRuntime) -> Result<(), Fail> {
 }
 
 // What was written of a transcript is its beginning, whichever call fails. The numbers of bytes are
-// those before the first call, before the second, and so on. What is shown at a time is written by
-// itself: the prompt and the line in pieces of one byte, and WHAT? with its newline, which is six.
+// those before the first call, before the second, and so on. What INPUT shows is written before it
+// asks for a line, and when it is done: the prompt; then the line, WHAT? and the prompt, ten bytes;
+// and then the last line.
 #[test]
 fn runs_that_cannot_be_written(rt: HostRuntime) -> Result<(), Fail> {
     let transcript = b"A:)\nWHAT?\nA:5\n";
     let row = input_row(b"10 INPUT A", b")\n5\n", transcript, 0);
     let table = [
         (1, &[0, 1, 2, 3, 4, 5, 6, 7, 8, 9, 10, 11, 12, 13, 14][..]),
-        (5, &[0, 1, 2, 3, 4, 9, 10, 11, 12, 13, 14]),
+        (5, &[0, 2, 7, 12, 14]),
     ];
     for failing in [
         Failing::Breaks,

@@ -1,5 +1,6 @@
 -- This file names the files of lemmas.
 pub mod Replying
+pub mod Fronts
 pub mod Served
 pub mod Playing
 pub mod Listed

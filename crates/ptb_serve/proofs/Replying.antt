@@ -1,5 +1,5 @@
 -- This file proves the laws of replies.
-use Rattle.std.proofs.Common.{◌≡◌, refl, sym, ap, ◌∙◌, ℕ, ◌<◌, List, length, Bool, true, false, Option, Some, None, Ok, Err, ◌↔◌}
+use Rattle.std.proofs.Common.{◌≡◌, refl, sym, ap, ap₂, ◌∙◌, ℕ, ◌<◌, List, [], length, Bool, true, false, Option, Some, None, Ok, Err, ◌↔◌}
 use Rattle.std.specs.Prelude.{◌&&◌}
 use Rattle.std.proofs.lemmas.Bool.{false_from_ne_true, lt-ltb}
 use Rattle.ptb_text.specs.declared.fault.LoadFault.{LoadFault}
@@ -16,15 +16,18 @@ use Rattle.ptb_explore.specs.declared.form.Marked.{Marked}
 use Rattle.ptb_explore.specs.AnswerText.{answers_of, items_in}
 use Rattle.ptb_explore.specs.Laws.{ListingLaws}
 use Rattle.ptb_explore.specs.Report.{report_of}
-use Rattle.ptb_explore.specs.RunTree.{IsRun, Before, is_after, runs_after}
+use Rattle.ptb_explore.specs.RunTree.{IsRun, Before, begins_with, is_left, runs_after}
+use Rattle.ptb_explore.specs.MarkedRuns.{IsMarkedBeginning, IsMarkedRun}
+use Rattle.ptb_serve.specs.declared.note.Note.{Note}
 use Rattle.ptb_serve.specs.declared.note.Note.TheVariants as notes
 use Rattle.ptb_options.specs.declared.request.Mode.{Mode}
 use Rattle.ptb_options.specs.declared.request.Mode.TheVariants as modes
 use Rattle.ptb_options.specs.declared.request.Request.{Request}
 use Rattle.ptb_serve.specs.SeededRuns.{seeded_answers}
 use Rattle.ptb_serve.proofs.Drawing.{one_is_drawn}
-use Rattle.ptb_serve.specs.Replies.{Reply, refusal, plain_reply, seeded_reply, first_front, is_front, all_reply, listing_reply, program_of_text, reply_or_refusal, program_reply, reply_in_mode}
+use Rattle.ptb_serve.specs.Replies.{Reply, refusal, plain_reply, seeded_reply, answers_under, first_front, front_note, is_front, is_share, note_of, all_reply, listing_reply, program_of_text, reply_or_refusal, program_reply, reply_in_mode}
 use Rattle.ptb_serve.specs.ReplyLaws.{ListsRuns, RunReplies, RunsBySeed, ReplyLaws}
+use Rattle.ptb_serve.proofs.Fronts.{begun_after, begun_both, begun_under, both_parts, both_true, no_front, no_share, share_true}
 use Rattle.ptb_serve.proofs.Listed.{reply-listed, reply-refused}
 
 -- ---- a text that is refused
@@ -41,18 +44,10 @@ refused_in_mode : (m : Mode) (r : Request) (b c : List ℕ) (e : ℕ × LoadFaul
     → reply_in_mode m r b c ≡ refusal (notes.Load e.0 e.1)
 refused_in_mode (modes.Plain a) r b c e h = refused r.memory b (plain_reply r.rules a c) e h
 refused_in_mode (modes.Seeded seed) r b c e h = refused r.memory b (seeded_reply r.rules seed c) e h
-refused_in_mode (modes.All after first form) r b c e h = refused r.memory b (λ p. all_reply p (input_lines c) r.rules after first form) e h
+refused_in_mode (modes.All under after first form) r b c e h = refused r.memory b (λ p. all_reply p (input_lines c) r.rules under after first form) e h
 refused_in_mode modes.List r b c e h = refused r.memory b listing_reply e h
 
 -- ---- a text that is accepted
-
-both_true : (a b : Bool) → a ≡ true → b ≡ true → (a && b) ≡ true
-both_true a b h g = rw (h, g) refl
-
-both_parts : (a b : Bool) → (a && b) ≡ true → (a ≡ true) × (b ≡ true)
-both_parts true true h = (refl, refl)
-both_parts true false h = absurd (cc)
-both_parts false b h = absurd (cc)
 
 accepted : (memory : ℕ) (b : List ℕ) (next : StoredProgram → Reply) (p : Statements) → program_of_text memory b ≡ Ok p
     → program_reply memory b next ≡ next (record { lines = p; memory = memory })
@@ -64,19 +59,30 @@ module _ (p : StoredProgram) (c : List ℕ) (rules : Rules) (laws : ListingLaws 
   game = play p (input_lines c) rules
 
   -- a listing begins with the first run, or behind one that is named; these are the runs that are to be listed
-  lists_runs : (after : Option (List Marked)) → is_front game after ≡ true → (IsListed : Answers → Type 0)
-      → ((a : Answers) → (IsRun game a × (is_after (first_front after) a ≡ true)) ↔ IsListed a)
-      → (reply : Option ℕ → Form → Reply) → ((first : Option ℕ) (form : Form) → reply first form ≡ all_reply p (input_lines c) rules after first form)
+  lists_runs : (under after : Option (List Marked)) → front_note game under after ≡ None → (IsListed : Answers → Type 0)
+      → ((a : Answers) → (IsRun game a × (is_left (answers_under under) (first_front after) a ≡ true)) ↔ IsListed a)
+      → (reply : Option ℕ → Form → Reply) → ((first : Option ℕ) (form : Form) → reply first form ≡ all_reply p (input_lines c) rules under after first form)
       → ListsRuns game IsListed reply
-  lists_runs after front IsListed same reply is = record {
-    runs = runs_after game (most_answers p (input_lines c) rules.limit) (first_front after);
-    rising = laws.order (first_front after);
+  lists_runs under after front IsListed same reply is = record {
+    runs = runs_after game (most_answers p (input_lines c) rules.limit) (answers_under under) (first_front after);
+    rising = laws.order (answers_under under) (first_front after);
     members = λ a.
-        let left = laws.runs (first_front after) a in
+        let left = laws.runs (answers_under under) (first_front after) a in
         (λ h. (same a).0 (left.0 h), λ h. left.1 ((same a).1 h));
-    all = λ form. is None form ∙ reply-listed p rules after None form (input_lines c) front;
-    first = λ n form. is (Some n) form ∙ reply-listed p rules after (Some n) form (input_lines c) front;
+    all = λ form. is None form ∙ reply-listed p rules under after None form (input_lines c) front;
+    first = λ n form. is (Some n) form ∙ reply-listed p rules under after (Some n) form (input_lines c) front;
   }
+
+  -- the share of no answers is the whole
+  whole_reply : (after : Option (List Marked)) (first : Option ℕ) (form : Form) → all_reply p (input_lines c) rules (Some []) after first form ≡ all_reply p (input_lines c) rules None after first form
+  whole_reply after first form = by_note (front_note game None after) refl
+    where
+      same : front_note game (Some []) after ≡ front_note game None after
+      same = ap (λ t. note_of t (is_front game [] after)) (share_true game [] (reads.begins, refl))
+
+      by_note : (o : Option Note) → front_note game None after ≡ o → all_reply p (input_lines c) rules (Some []) after first form ≡ all_reply p (input_lines c) rules None after first form
+      by_note None e = reply-listed p rules (Some []) after first form (input_lines c) (same ∙ e) ∙ sym (reply-listed p rules None after first form (input_lines c) e)
+      by_note (Some note) e = reply-refused p rules (Some []) after first form (input_lines c) note (same ∙ e) ∙ sym (reply-refused p rules None after first form (input_lines c) note e)
 
   -- where replies to runs of it are those of the definition
   -- where the reply to a seed is that of the definition
@@ -93,15 +99,30 @@ module _ (p : StoredProgram) (c : List ℕ) (rules : Rules) (laws : ListingLaws 
 
   run_replies : (reply : Mode → Reply) → ((a : Answers) → reply (modes.Plain a) ≡ plain_reply rules a c p)
       → ((seed : ℕ) → reply (modes.Seeded seed) ≡ seeded_reply rules seed c p)
-      → ((after : Option (List Marked)) (first : Option ℕ) (form : Form) → reply (modes.All after first form) ≡ all_reply p (input_lines c) rules after first form)
+      → ((under after : Option (List Marked)) (first : Option ℕ) (form : Form) → reply (modes.All under after first form) ≡ all_reply p (input_lines c) rules under after first form)
       → RunReplies game reply
   run_replies reply plain seeded all = record {
-    all_runs = lists_runs None refl (IsRun game) (λ a. (λ h. h.0, λ h. (h, refl))) (λ first form. reply (modes.All None first form)) (all None);
+    all_runs = lists_runs None None refl (IsRun game) (λ a. (λ h. h.0, λ h. (h, refl))) (λ first form. reply (modes.All None None first form)) (all None None);
     runs_after = λ list run.
-        lists_runs (Some list) (both_true _ _ run.0 run.1) (λ a. IsRun game a × Before (answers_of list) a) (λ a. (λ h. h, λ h. h))
-        (λ first form. reply (modes.All (Some list) first form)) (all (Some list));
+        lists_runs None (Some list) (begun_after game list run) (λ a. IsRun game a × Before (answers_of list) a) (λ a. (λ h. h, λ h. h))
+        (λ first form. reply (modes.All None (Some list) first form)) (all None (Some list));
     no_run = λ list first form none.
-        all (Some list) first form ∙ reply-refused p rules (Some list) first form (input_lines c) (false_from_ne_true _ (λ h. none (both_parts _ _ h)));
+        all None (Some list) first form ∙ reply-refused p rules None (Some list) first form (input_lines c) notes.NoRun (no_front game None list refl (λ run b. none run));
+    share = λ under b.
+        lists_runs (Some under) None (begun_under game under b) (λ a. IsRun game a × (begins_with a (answers_of under) ≡ true))
+        (λ a. (λ h. (h.0, (both_parts _ _ h.1).0), λ h. (h.0, both_true _ _ h.1 refl)))
+        (λ first form. reply (modes.All (Some under) None first form)) (all (Some under) None);
+    share_after = λ under list b run begins.
+        lists_runs (Some under) (Some list) (begun_both game under list b run begins)
+        (λ a. IsRun game a × Before (answers_of list) a × (begins_with a (answers_of under) ≡ true))
+        (λ a. (λ h. let q = both_parts _ _ h.1 in (h.0, q.1, q.0), λ h. (h.0, both_true _ _ h.2 h.1)))
+        (λ first form. reply (modes.All (Some under) (Some list) first form)) (all (Some under) (Some list));
+    no_beginning = λ under after first form none.
+        all (Some under) after first form ∙ reply-refused p rules (Some under) after first form (input_lines c) notes.NoBeginning (no_share game under after none);
+    not_in_share = λ under list first form b none.
+        all (Some under) (Some list) first form
+        ∙ reply-refused p rules (Some under) (Some list) first form (input_lines c) notes.NoRun (no_front game (Some under) list (share_true game under b) none);
+    whole = λ after first form. all (Some []) after first form ∙ whole_reply after first form ∙ sym (all None after first form);
     run_report = λ form a f ends. ap (report_of (items_in form a (bounds game a))) ends;
     plain_run = plain;
     seeded_run = λ seed. runs_by_seed reply plain seed (seeded seed);
@@ -118,6 +139,6 @@ reply_laws runs laws = record {
       (runs.reads (record { lines = p; memory = memory }) (input_lines c) rules) _
       (λ a. accepted memory b (plain_reply rules a c) p h)
       (λ seed. accepted memory b (seeded_reply rules seed c) p h)
-      (λ after first form. accepted memory b (λ p. all_reply p (input_lines c) rules after first form) p h);
+      (λ under after first form. accepted memory b (λ p. all_reply p (input_lines c) rules under after first form) p h);
   listed = λ r b c p h mode. ap (λ m. reply_in_mode m r b c) mode ∙ accepted r.memory b listing_reply p h;
 }

@@ -140,6 +140,18 @@ load_note-start e h = by_fault e.1 h where
   by_fault loads.Read h = absurd cc
   by_fault loads.TooLong h = absurd cc
 
+pub load_note-beginning : (e : ℕ × LoadFault) → IsErrOf {T = ℕ} (Err (load_note e)) notes.NoBeginning → ⊥
+load_note-beginning e h = by_fault e.1 h where
+  by_fault : (fault : LoadFault) → IsErrOf {T = ℕ} (Err (load_note (e.0, fault))) notes.NoBeginning → ⊥
+  by_fault loads.NoNumber h = absurd cc
+  by_fault loads.NumberTooBig h = absurd cc
+  by_fault loads.TextTooLong h = absurd cc
+  by_fault (loads.BadByte place) h = absurd cc
+  by_fault loads.Full h = absurd cc
+  by_fault loads.Memory h = absurd cc
+  by_fault loads.Read h = absurd cc
+  by_fault loads.TooLong h = absurd cc
+
 -- ---- what a note tells of a program that isn't loaded
 
 pub load_note-refusal : (memory : ℕ) (known : Option (List ℕ)) (e : ℕ × LoadFault)
@@ -355,10 +367,10 @@ wanted_stopped faults.Write note n k = ap (λ m. outcome_wanted k (outcome_of (E
 wanted_stopped faults.Spent note n k = absurd n
 
 -- before a listing nothing was written
-pub unread_listing : (after : Option (List Marked)) (first : Option ℕ) (form : Form) (known old new : Option (List ℕ)) (note : Option Note) → SilentBy (modes.All after first form) note old new
+pub unread_listing : (under after : Option (List Marked)) (first : Option ℕ) (form : Form) (known old new : Option (List ℕ)) (note : Option Note) → SilentBy (modes.All under after first form) note old new
     → note ≡ Some notes.InputUnread → IfSome known (λ _. Appends old new [])
-unread_listing after first form None old new note h is = tt
-unread_listing after first form (Some b) old new note h is = subst (λ m. SilentBy (modes.All after first form) m old new) is h
+unread_listing under after first form None old new note h is = tt
+unread_listing under after first form (Some b) old new note h is = subst (λ m. SilentBy (modes.All under after first form) m old new) is h
 
 -- a run that is begun was told where to begin
 pub IsRunNote-start : (f : RunFault) (note : Note) → IsRunNote f note → IsErrOf {T = ℕ} (Err note) notes.NoRun → ⊥
@@ -366,6 +378,12 @@ IsRunNote-start faults.Memory note n h = absurd cc
 IsRunNote-start faults.Read note n h = absurd cc
 IsRunNote-start faults.Write note n h = absurd cc
 IsRunNote-start faults.Spent note n h = absurd n
+
+pub IsRunNote-beginning : (f : RunFault) (note : Note) → IsRunNote f note → IsErrOf {T = ℕ} (Err note) notes.NoBeginning → ⊥
+IsRunNote-beginning faults.Memory note n h = absurd cc
+IsRunNote-beginning faults.Read note n h = absurd cc
+IsRunNote-beginning faults.Write note n h = absurd cc
+IsRunNote-beginning faults.Spent note n h = absurd n
 
 -- the note tells the fault that came
 pub IsRunNote-read : (f : RunFault) (note : Note) → IsRunNote f note → (IsErrOf {T = ℕ} (Err note) notes.InputUnread → ⊥)

@@ -6,7 +6,7 @@ use Rattle.ptb_text.specs.declared.fault.LoadFault.{LoadFault}
 use Rattle.ptb_text.specs.declared.fault.LoadFault.TheVariants.{TooLong}
 use Rattle.ptb_text.specs.Lines.{input_lines}
 use Rattle.ptb_text.specs.Statements.{Statements, StoredProgram, program, program_limit, listing}
-use Rattle.ptb_expr.specs.Outcome.{Answers, Outcome, bounds, is_whole}
+use Rattle.ptb_expr.specs.Outcome.{Answers, Outcome, bounds, is_open, is_whole}
 use Rattle.ptb_command.specs.declared.ending.Ending.{Ending}
 use Rattle.ptb_machine.specs.declared.rules.Rules.{Rules}
 use Rattle.ptb_machine.specs.Play.{Finish, play, plain, status}
@@ -15,7 +15,7 @@ use Rattle.ptb_explore.specs.declared.form.Form.{Form}
 use Rattle.ptb_explore.specs.declared.form.Marked.{Marked}
 use Rattle.ptb_explore.specs.AnswerText.{answers_of}
 use Rattle.ptb_explore.specs.MarkedRuns.{states_bounds}
-use Rattle.ptb_explore.specs.RunTree.{Front, Start, At, runs_left}
+use Rattle.ptb_explore.specs.RunTree.{Front, Start, At, begins_with, runs_left}
 use Rattle.ptb_explore.specs.Listing.{text}
 use Rattle.ptb_explore.specs.Report.{report}
 use Rattle.ptb_serve.specs.declared.note.Note.{Note}
@@ -82,30 +82,49 @@ abbrev pub first_front : Option (List Marked) → Front
 first_front None = Start
 first_front (Some list) = At (answers_of list)
 
--- each bound that is stated must be that of its question
-abbrev pub is_front : (Answers → Outcome Finish (List ℕ)) → Option (List Marked) → Bool
-is_front game None = true
-is_front game (Some list) = is_whole (game (answers_of list)) && states_bounds list (bounds game (answers_of list))
+-- it has the runs that begin with these answers, or all
+abbrev pub answers_under : Option (List Marked) → Answers
+answers_under None = []
+answers_under (Some list) = answers_of list
+
+-- a run must begin with them, and each bound that is stated must be that of its question
+abbrev pub is_share : (Answers → Outcome Finish (List ℕ)) → Option (List Marked) → Bool
+is_share game None = true
+is_share game (Some list) = is_open (game (answers_of list)) && states_bounds list (bounds game (answers_of list))
+
+-- so it is with the run to go on behind, which must be one of the listing
+abbrev pub is_front : (Answers → Outcome Finish (List ℕ)) → Answers → Option (List Marked) → Bool
+is_front game under None = true
+is_front game under (Some list) = is_whole (game (answers_of list)) && states_bounds list (bounds game (answers_of list)) && begins_with (answers_of list) under
+
+-- why no listing is begun: the beginning is looked at first
+abbrev pub note_of : Bool → Bool → Option Note
+note_of false is_front = Some notes.NoBeginning
+note_of true false = Some notes.NoRun
+note_of true true = None
+
+abbrev pub front_note : (Answers → Outcome Finish (List ℕ)) → Option (List Marked) → Option (List Marked) → Option Note
+front_note game under after = note_of (is_share game under) (is_front game (answers_under under) after)
 
 -- the reports of the runs that are left, where none has more answers than `most`
-abbrev pub listed_runs : (Answers → Outcome Finish (List ℕ)) → ℕ → Option (List Marked) → Option ℕ → Form → List ℕ
-listed_runs game most after first form = text (report form game) (runs_left game most (first_front after) first)
+abbrev pub listed_runs : (Answers → Outcome Finish (List ℕ)) → ℕ → Option (List Marked) → Option (List Marked) → Option ℕ → Form → List ℕ
+listed_runs game most under after first form = text (report form game) (runs_left game most (answers_under under) (first_front after) first)
 
--- a list to go on behind that is no run, or states another bound, is refused, before anything is written
-unfoldable pub runs_reply : (Answers → Outcome Finish (List ℕ)) → ℕ → Option (List Marked) → Option ℕ → Form → Reply
-runs_reply game most after first form =
-    elim (is_front game after) [ true ↦ success (listed_runs game most after first form) | false ↦ refusal notes.NoRun ]
+-- what begins no run, is none to go on behind, or states another bound, is refused, before anything is written
+unfoldable pub runs_reply : (Answers → Outcome Finish (List ℕ)) → ℕ → Option (List Marked) → Option (List Marked) → Option ℕ → Form → Reply
+runs_reply game most under after first form =
+    elim (front_note game under after) [ None ↦ success (listed_runs game most under after first form) | Some note ↦ refusal note ]
 
 -- the runs of a program on these input lines
-abbrev pub all_reply : StoredProgram → List (List ℕ) → Rules → Option (List Marked) → Option ℕ → Form → Reply
-all_reply p input rules after first form = runs_reply (play p input rules) (most_answers p input rules.limit) after first form
+abbrev pub all_reply : StoredProgram → List (List ℕ) → Rules → Option (List Marked) → Option (List Marked) → Option ℕ → Form → Reply
+all_reply p input rules under after first form = runs_reply (play p input rules) (most_answers p input rules.limit) under after first form
 
 -- ---- the whole tool
 
 abbrev pub reply_in_mode : Mode → Request → List ℕ → List ℕ → Reply
 reply_in_mode (modes.Plain a) request b c = program_reply request.memory b (plain_reply request.rules a c)
 reply_in_mode (modes.Seeded seed) request b c = program_reply request.memory b (seeded_reply request.rules seed c)
-reply_in_mode (modes.All after first form) request b c = program_reply request.memory b (λ p. all_reply p (input_lines c) request.rules after first form)
+reply_in_mode (modes.All under after first form) request b c = program_reply request.memory b (λ p. all_reply p (input_lines c) request.rules under after first form)
 reply_in_mode modes.List request b c = program_reply request.memory b listing_reply
 
 abbrev pub reply_to : Request → List ℕ → List ℕ → Reply

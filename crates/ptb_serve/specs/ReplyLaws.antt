@@ -3,7 +3,7 @@
 --     RunsBySeed seed play reply       the reply to a run by a seed is that to one plain run, whose answers are drawn from the seed
 --     RunReplies play reply            what the replies are where a program is run, once or with all answers
 --     ReplyLaws                        what a reply is for every program text and every input
-use Rattle.std.specs.Prelude.{◌≡◌, ℕ, ◌<◌, List, [], length, take, Option, Some, None, Ok, Err, ◌↔◌, Contains}
+use Rattle.std.specs.Prelude.{◌≡◌, true, ℕ, ◌<◌, List, [], length, take, Option, Some, None, Ok, Err, ◌↔◌, Contains}
 use Rattle.ptb_text.specs.declared.fault.LoadFault.{LoadFault}
 use Rattle.ptb_text.specs.declared.fault.LoadFault.TheVariants.{TooLong}
 use Rattle.ptb_text.specs.Lines.{input_lines}
@@ -15,9 +15,9 @@ use Rattle.ptb_explore.specs.declared.form.Form.{Form}
 use Rattle.ptb_explore.specs.declared.form.Marked.{Marked}
 use Rattle.ptb_explore.specs.AnswerText.{answers_of, items_in}
 use Rattle.ptb_explore.specs.Listing.{text}
-use Rattle.ptb_explore.specs.MarkedRuns.{IsMarkedRun}
+use Rattle.ptb_explore.specs.MarkedRuns.{IsMarkedBeginning, IsMarkedRun}
 use Rattle.ptb_explore.specs.Report.{report, report_text, word_of}
-use Rattle.ptb_explore.specs.RunTree.{IsRun, Before, IsRising}
+use Rattle.ptb_explore.specs.RunTree.{IsRun, Before, IsRising, begins_with}
 use Rattle.ptb_serve.specs.declared.note.Note.TheVariants as notes
 use Rattle.ptb_options.specs.declared.request.Mode.{Mode}
 use Rattle.ptb_options.specs.declared.request.Mode.TheVariants as modes
@@ -48,12 +48,27 @@ pub record RunsBySeed (seed : ℕ) (play : Answers → Outcome Finish (List ℕ)
 -- `play` tells what the program comes to on the input, by the list of answers.
 pub record RunReplies (play : Answers → Outcome Finish (List ℕ)) (reply : Mode → Reply) : Type 0 where
   -- all runs are listed, and nothing else
-  pub all_runs : ListsRuns play (IsRun play) (λ first form. reply (modes.All None first form))
+  pub all_runs : ListsRuns play (IsRun play) (λ first form. reply (modes.All None None first form))
   -- after a run that is named, exactly the runs that it is before; bounds that are stated of it are those of its questions
   pub runs_after : (list : List Marked) → IsMarkedRun play list
-      → ListsRuns play (λ a. IsRun play a × Before (answers_of list) a) (λ first form. reply (modes.All (Some list) first form))
+      → ListsRuns play (λ a. IsRun play a × Before (answers_of list) a) (λ first form. reply (modes.All None (Some list) first form))
   -- where what is named is no run, or a bound is another, nothing is written, and the note and its status say so
-  pub no_run : (list : List Marked) (first : Option ℕ) (form : Form) → (IsMarkedRun play list → ⊥) → reply (modes.All (Some list) first form) ≡ refusal notes.NoRun
+  pub no_run : (list : List Marked) (first : Option ℕ) (form : Form) → (IsMarkedRun play list → ⊥) → reply (modes.All None (Some list) first form) ≡ refusal notes.NoRun
+  -- of the runs that begin with some answers, the same: all of them
+  pub share : (under : List Marked) → IsMarkedBeginning play under
+      → ListsRuns play (λ a. IsRun play a × (begins_with a (answers_of under) ≡ true)) (λ first form. reply (modes.All (Some under) None first form))
+  -- or those after one of them that is named
+  pub share_after : (under list : List Marked) → IsMarkedBeginning play under → IsMarkedRun play list → begins_with (answers_of list) (answers_of under) ≡ true
+      → ListsRuns play (λ a. IsRun play a × Before (answers_of list) a × (begins_with a (answers_of under) ≡ true)) (λ first form. reply (modes.All (Some under) (Some list) first form))
+  -- where no run begins so, or a bound is another, nothing is written, whatever run is named, and the note and its status say so
+  pub no_beginning : (under : List Marked) (after : Option (List Marked)) (first : Option ℕ) (form : Form) → (IsMarkedBeginning play under → ⊥)
+      → reply (modes.All (Some under) after first form) ≡ refusal notes.NoBeginning
+  -- where what is named is no run, or begins otherwise, it is as with any listing
+  pub not_in_share : (under list : List Marked) (first : Option ℕ) (form : Form) → IsMarkedBeginning play under
+      → (IsMarkedRun play list → begins_with (answers_of list) (answers_of under) ≡ true → ⊥)
+      → reply (modes.All (Some under) (Some list) first form) ≡ refusal notes.NoRun
+  -- every run begins with no answers
+  pub whole : (after : Option (List Marked)) (first : Option ℕ) (form : Form) → reply (modes.All (Some []) after first form) ≡ reply (modes.All None after first form)
   -- the report of a run has its answers, in form 2 with their bounds, and the ending, the steps and the transcript of its play
   pub run_report : (form : Form) (a : Answers) (f : Finish) → play a ≡ Done f []
       → report form play a ≡ report_text (items_in form a (bounds play a)) (word_of f.ending) f.steps f.shown
@@ -72,9 +87,11 @@ pub record ReplyLaws : Type 0 where
   -- report for each run and nothing else, in rising order of the answers (where two runs first differ, the first of them has the
   -- smaller answer), and each report has the answers, in form 2 with their bounds, and the ending, the steps and the transcript of
   -- its play. With `--after` and a run, the reply is this for the runs behind that run; with `--after` and a list that is no run, or
-  -- that has a bound which isn't that of its question, nothing is written, and the status is 67. With `--first n` it is the first n
-  -- of the same reports. The status of all these replies is 0, but for that 67. The reply to a plain run is what play shows with its
-  -- answers, and the status is that of the ending. A run by a seed is a plain run with the answers that are drawn from the seed.
+  -- that has a bound which isn't that of its question, nothing is written, and the status is 67. With `--under` and the beginning of
+  -- a run, the reply is this for the runs that begin so; where no run begins so, or a bound isn't that of its question, nothing is
+  -- written, and the status is 67. With `--first n` it is the first n of the same reports. The status of all these replies is 0, but
+  -- for those 67. The reply to a plain run is what play shows with its answers, and the status is that of the ending. A run by a
+  -- seed is a plain run with the answers that are drawn from the seed.
   pub accepted :
       (memory : ℕ) (rules : Rules) (b c : List ℕ) (p : Statements) → program_of_text memory b ≡ Ok p
       → RunReplies (play (record { lines = p; memory = memory }) (input_lines c) rules) (λ mode. reply_to (record { rules = rules; memory = memory; mode = mode }) b c)

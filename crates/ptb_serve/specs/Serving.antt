@@ -3,6 +3,7 @@
 --     load_note e                       the note of a program that is not loaded
 --     IsRunNote fault note              the note of a run that didn't come to its ending
 --     input_note e                      the note of an input that is not read
+--     under_note e                      the note of a listing that isn't begun with some answers
 --     after_note e                      the note of a listing that isn't begun behind a run
 --     reports_note e                    the note of reports that are not all written
 --     Serves reply old new outcome      the reply is given, or it is broken off
@@ -35,6 +36,8 @@ use Rattle.ptb_machine.specs.declared.fault.RunFault.{RunFault}
 use Rattle.ptb_machine.specs.declared.fault.RunFault.TheVariants as faults
 use Rattle.ptb_explore.specs.declared.fault.AfterFault.{AfterFault}
 use Rattle.ptb_explore.specs.declared.fault.AfterFault.TheVariants as afters
+use Rattle.ptb_explore.specs.declared.fault.UnderFault.{UnderFault}
+use Rattle.ptb_explore.specs.declared.fault.UnderFault.TheVariants as unders
 use Rattle.ptb_explore.specs.declared.fault.ExploreFault.{ExploreFault}
 use Rattle.ptb_explore.specs.declared.fault.ExploreFault.TheVariants as explores
 use Rattle.ptb_serve.specs.declared.note.Note.{Note}
@@ -76,6 +79,10 @@ input_note reads.Read = notes.InputUnread
 input_note reads.TooLong = notes.InputUnread
 input_note reads.Memory = notes.OutOfMemory
 
+abbrev pub under_note : UnderFault → Note
+under_note unders.NoBeginning = notes.NoBeginning
+under_note unders.Memory = notes.OutOfMemory
+
 abbrev pub after_note : AfterFault → Note
 after_note afters.NotARun = notes.NoRun
 after_note afters.Memory = notes.OutOfMemory
@@ -108,7 +115,7 @@ Serves reply old new outcome = ServesBy outcome.note reply old new outcome
 abbrev pub SilentWithoutMemory : Mode → Option (List ℕ) → Option (List ℕ) → Type 0
 SilentWithoutMemory (modes.Plain a) old new = Appends old new []
 SilentWithoutMemory (modes.Seeded seed) old new = Unit {0}
-SilentWithoutMemory (modes.All after first form) old new = Unit {0}
+SilentWithoutMemory (modes.All under after first form) old new = Unit {0}
 SilentWithoutMemory modes.List old new = Appends old new []
 
 -- nothing was written, unless a note says that a write failed, that no memory was left for the next report,
@@ -149,14 +156,14 @@ RunUnread request known left b run old new =
 abbrev pub ServesUnread : Mode → Request → Option (List ℕ) → Option (List ℕ) → List ℕ → Option (List ℕ) → Option (List ℕ) → Type 0
 ServesUnread (modes.Plain a) request known left b old new = RunUnread request known left b (lines_reply request.rules a) old new
 ServesUnread (modes.Seeded seed) request known left b old new = RunUnread request known left b (seeded_lines_reply request.rules seed) old new
-ServesUnread (modes.All after first form) request known left b old new = Appends old new []
+ServesUnread (modes.All under after first form) request known left b old new = Appends old new []
 ServesUnread modes.List request known left b old new = Appends old new []
 
 -- the status of such a request alone is that of an ending
 abbrev pub IsPlainRun : Mode → Type 0
 IsPlainRun (modes.Plain a) = Unit {0}
 IsPlainRun (modes.Seeded seed) = Unit {0}
-IsPlainRun (modes.All after first form) = ⊥
+IsPlainRun (modes.All under after first form) = ⊥
 IsPlainRun modes.List = ⊥
 
 -- ---- a program that isn't loaded
@@ -165,6 +172,7 @@ abbrev pub IsUnloaded : Option Note → Type 0
 IsUnloaded (Some (notes.Load line fault)) = Unit {0}
 IsUnloaded (Some notes.ProgramUnread) = Unit {0}
 IsUnloaded (Some notes.InputUnread) = ⊥
+IsUnloaded (Some notes.NoBeginning) = ⊥
 IsUnloaded (Some notes.NoRun) = ⊥
 IsUnloaded (Some notes.OutOfMemory) = ⊥
 IsUnloaded (Some notes.Unwritten) = ⊥
@@ -211,26 +219,26 @@ ReadsBy request count b c left outcome =
 abbrev pub ReadsForRun : Mode → Request → List ℕ → List ℕ → Option (List ℕ) → Outcome → Type 0
 ReadsForRun (modes.Plain a) request b c left outcome = ReadsBy request (λ p lines. lines_taken p lines request.rules a) b c left outcome
 ReadsForRun (modes.Seeded seed) request b c left outcome = ReadsBy request (λ p lines. seeded_taken seed p lines request.rules) b c left outcome
-ReadsForRun (modes.All after first form) request b c left outcome = Unit {0}
+ReadsForRun (modes.All under after first form) request b c left outcome = Unit {0}
 ReadsForRun modes.List request b c left outcome = Unit {0}
 
 -- a listing of the program's lines alone doesn't read it
 abbrev pub NeedsInput : Mode → Type 0
 NeedsInput (modes.Plain a) = Unit {0}
 NeedsInput (modes.Seeded seed) = Unit {0}
-NeedsInput (modes.All after first form) = Unit {0}
+NeedsInput (modes.All under after first form) = Unit {0}
 NeedsInput modes.List = ⊥
 
 -- a run reads it only as far as it asks for lines
 abbrev pub NeedsWholeInput : Mode → Type 0
 NeedsWholeInput (modes.Plain a) = ⊥
 NeedsWholeInput (modes.Seeded seed) = ⊥
-NeedsWholeInput (modes.All after first form) = Unit {0}
+NeedsWholeInput (modes.All under after first form) = Unit {0}
 NeedsWholeInput modes.List = ⊥
 
 -- the input, where it is needed and known; any bytes where it isn't looked at
 abbrev pub IsInput : Mode → Option (List ℕ) → List ℕ → Type 0
 IsInput (modes.Plain a) known c = known ≡ Some c
 IsInput (modes.Seeded seed) known c = known ≡ Some c
-IsInput (modes.All after first form) known c = known ≡ Some c
+IsInput (modes.All under after first form) known c = known ≡ Some c
 IsInput modes.List known c = Unit {0}

@@ -8,6 +8,7 @@ abbrev pub note_status : Note → ℕ
 note_status (notes.Load line fault) = 65
 note_status notes.ProgramUnread = 66
 note_status notes.InputUnread = 66
+note_status notes.NoBeginning = 67
 note_status notes.NoRun = 67
 note_status notes.OutOfMemory = 71
 note_status notes.Unwritten = 74

@@ -3,9 +3,10 @@
 ghost use Rattle.std.specs.Prelude.{◌≡◌};
 ghost use Rattle.ptb_serve.specs.declared.note.Note.TheVariants.{OutOfMemory, Unwritten};
 ghost use Rattle.ptb_serve.specs.Serving.{after_note, input_note, load_note, reports_note};
+ghost use Rattle.ptb_serve.specs.Serving.{under_note};
 ghost use Rattle.ptb_serve.specs.Statuses.{note_status};
 
-use ptb_explore::{AfterFault, ExploreFault};
+use ptb_explore::{AfterFault, ExploreFault, UnderFault};
 use ptb_machine::ReadFault;
 use ptb_text::{LoadFault, WriteFault};
 use std::alloc::AllocError;
@@ -20,6 +21,8 @@ pub enum Note {
     ProgramUnread,
     /// Reading the input failed, or it has too many bytes.
     InputUnread,
+    /// No run begins with the answers with which those to be listed were to begin.
+    NoBeginning,
     /// The run after which a listing was to begin is none.
     NoRun,
     /// A growth was refused memory.
@@ -36,7 +39,7 @@ impl Note {
         match self {
             Note::Load(..) => 65,
             Note::ProgramUnread | Note::InputUnread => 66,
-            Note::NoRun => 67,
+            Note::NoBeginning | Note::NoRun => 67,
             Note::OutOfMemory => 71,
             Note::Unwritten => 74,
         }
@@ -82,6 +85,17 @@ impl From<AllocError> for Note {
     }
 }
 
+impl From<UnderFault> for Note {
+    ghost from_gives = { λ fault note. note ≡ under_note fault };
+
+    fn from(fault: UnderFault) -> Note {
+        match fault {
+            UnderFault::NoBeginning => Note::NoBeginning,
+            UnderFault::Memory => Note::OutOfMemory,
+        }
+    }
+}
+
 impl From<AfterFault> for Note {
     ghost from_gives = { λ fault note. note ≡ after_note fault };
 
@@ -111,6 +125,7 @@ impl fmt::Display for Note {
             Note::Load(line, fault) => write!(f, "ptb: line {line}: {fault}"),
             Note::ProgramUnread => f.write_str("ptb: cannot read the program"),
             Note::InputUnread => f.write_str("ptb: cannot read the input"),
+            Note::NoBeginning => f.write_str("ptb: no run begins so"),
             Note::NoRun => f.write_str("ptb: not a run"),
             Note::OutOfMemory => f.write_str("ptb: out of memory"),
             Note::Unwritten => f.write_str("ptb: cannot write"),

@@ -93,6 +93,8 @@ pub fn serve<P: Read, R: Read, W: Write>(
         → ConsumesAtMost (R.remaining input.old) (R.remaining input.new) input_limit }
     ensures taken { IfSome (P.remaining program.old) (λ b. IfSome (R.remaining input.old) (λ c.
         ReadsForRun request.now.mode request.now b c (R.remaining input.new) result)) }
+    ensures no_beginning_within { result.note ≡ Some Note.NoBeginning
+        → IfSome (R.remaining input.old) (λ c. length c ≤ input_limit) }
     ensures no_run_within { result.note ≡ Some Note.NoRun
         → IfSome (R.remaining input.old) (λ c. length c ≤ input_limit) }
     ensures program_bounded { ConsumesAtMost
@@ -138,8 +140,13 @@ pub fn serve<P: Read, R: Read, W: Write>(
         Mode::Seeded(seed) => {
             Outcome::of(run_by_seed(alloc, request, *seed, program, input, out))
         }
-        Mode::All { after, first, form } => Outcome::of(list_runs(
-            alloc, request, after, *first, *form, program, input, out,
+        Mode::All {
+            under,
+            after,
+            first,
+            form,
+        } => Outcome::of(list_runs(
+            alloc, request, under, after, *first, *form, program, input, out,
         )),
         Mode::List => Outcome::of(list_program(alloc, request, program, out)),
     }
@@ -175,6 +182,7 @@ fn run_program<P: Read, R: Read, W: Write>(
         ServesUnread (Plain answers.now) request.now
         (R.remaining input.old) (R.remaining input.new) b
         (W.contents out.old) (W.contents out.new)) }
+    ensures no_beginning { ¬ IsErrOf result Note.NoBeginning }
     ensures no_start { ¬ IsErrOf result Note.NoRun }
     ensures program_bounded { ConsumesAtMost
         (P.remaining program.old) (P.remaining program.new) (program_limit + 1) }
@@ -245,6 +253,7 @@ fn run_by_seed<P: Read, R: Read, W: Write>(
         ServesUnread (Seeded seed) request.now
         (R.remaining input.old) (R.remaining input.new) b
         (W.contents out.old) (W.contents out.new)) }
+    ensures no_beginning { ¬ IsErrOf result Note.NoBeginning }
     ensures no_start { ¬ IsErrOf result Note.NoRun }
     ensures program_bounded { ConsumesAtMost
         (P.remaining program.old) (P.remaining program.new) (program_limit + 1) }
@@ -315,6 +324,7 @@ fn list_program<P: Read, W: Write>(
     ensures program_read { ¬ IsErrOf result Note.ProgramUnread
         → P.failures program.new ≡ P.failures program.old }
     ensures no_input { ¬ IsErrOf result Note.InputUnread }
+    ensures no_beginning { ¬ IsErrOf result Note.NoBeginning }
     ensures no_start { ¬ IsErrOf result Note.NoRun }
     ensures unwritten { IsErrOf result Note.Unwritten
         → HasFailed (W.failures out.old) (W.failures out.new) }

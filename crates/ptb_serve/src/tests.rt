@@ -39,6 +39,7 @@ fn notes(rt: HostRuntime) -> Result<(), Fail> {
         ),
         (Note::ProgramUnread, 66, "ptb: cannot read the program"),
         (Note::InputUnread, 66, "ptb: cannot read the input"),
+        (Note::NoBeginning, 67, "ptb: no run begins so"),
         (Note::NoRun, 67, "ptb: not a run"),
         (Note::OutOfMemory, 71, "ptb: out of memory"),
         (Note::Unwritten, 74, "ptb: cannot write"),

@@ -10,7 +10,7 @@ use Rattle.ptb.proofs.serve_without_input.Goals as goal
 no_bytes : (mode : Mode) (held : List ℕ) → held ≡ [] → IsInput mode (Some held) []
 no_bytes (modes.Plain a) held e = ap Some e
 no_bytes (modes.Seeded seed) held e = ap Some e
-no_bytes (modes.All after first form) held e = ap Some e
+no_bytes (modes.All under after first form) held e = ap Some e
 no_bytes modes.List held e = tt
 
 pub returns-clause-served : goal.returns-clause-served

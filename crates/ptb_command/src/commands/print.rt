@@ -8,16 +8,17 @@ ghost use Rattle.ptb_command.specs.Commands.{Part, print_item, print_parts};
 ghost use Rattle.ptb_expr.specs.Value.{or_fault};
 ghost use Rattle.ptb_command.specs.Actions.{goes_on, work_action, show};
 ghost use Rattle.ptb_command.specs.Devices.{nothing_refused, refused_answers};
-ghost use Rattle.ptb_command.specs.Io.{io_trace, SameDevices};
+ghost use Rattle.ptb_command.specs.Io.{io_trace, due_trace, SameDevices};
 ghost use Rattle.ptb_command.specs.Reads.{IsRead, IsClosed};
 ghost use Rattle.ptb_command.specs.Traces.{Trace};
 ghost use Rattle.ptb_command.specs.Stops.{Comes};
 
+use crate::gathering::Gathering;
 use crate::io::Io;
 use crate::laws::command_laws;
 use crate::reads::{at_end, check_end, literal};
 use crate::registers::Registers;
-use crate::stop::{Stop, fault};
+use crate::stop::{Stop, fault, still_shows};
 use itoa::Buffer;
 use ptb_devices::{LineSource, Screen};
 use ptb_expr::{Chooser, FaultKind, Store};
@@ -28,6 +29,9 @@ const FIRST_WIDTH: u8 = 6;
 
 /// The greatest width.
 const WIDTH_LIMIT: usize = 255;
+
+/// The blanks of a value: as many as the greatest width has.
+static BLANKS: [u8; WIDTH_LIMIT] = [b' '; WIDTH_LIMIT];
 
 // A value as a width.
 fn width_of(value: i16, mark: usize) -> Result<u8, Stop>
@@ -40,33 +44,26 @@ fn width_of(value: i16, mark: usize) -> Result<u8, Stop>
     }
 }
 
-// Puts the digits at a place of the bytes.
-fn put_digits(bytes: &mut [u8], start: usize, digits: &[u8])
-    requires { start + length digits.now ≤ length bytes.old }
-    ensures { take (start + length digits.now) bytes.new ≡ take start bytes.old ++ digits.now }
-{
-    bytes[start..start + digits.len()].copy_from_slice(digits);
-}
-
 // Shows a value with blanks in front of it up to the width.
 fn show_value<C: Chooser, S: Screen, L: LineSource>(
     io: &mut Io<'_, C, S, L>,
+    gathering: &mut Gathering,
     width: u8,
     value: i16,
 ) -> Result<(), Stop>
     ensures comes { (given : List (List ℕ)) (cells : Cells) → Comes nothing_refused
-        (io_trace C.choices S.Screen L.most io.old given cells)
-        (io_trace C.choices S.Screen L.most io.new given cells)
+        (due_trace C.choices S.Screen L.most io.old given cells
+        gathering.old)
+        (due_trace C.choices S.Screen L.most io.new given cells
+        gathering.new)
         (show (padded_decimal width value)) goes_on result }
     ensures same { SameDevices io.old io.new }
 {
     let mut buffer = Buffer::new();
     let digits = buffer.format(value).as_bytes();
-    let start = usize::from(width).saturating_sub(digits.len());
-    let end = start + digits.len();
-    let mut bytes = [b' '; WIDTH_LIMIT];
-    put_digits(&mut bytes, start, digits);
-    io.show(&bytes[..end])
+    let blanks = usize::from(width).saturating_sub(digits.len());
+    io.show(gathering, &BLANKS[..blanks])?;
+    io.show(gathering, digits)
 }
 
 // Reads an item and does it: it is shown, or its value becomes the width.
@@ -74,13 +71,16 @@ fn print_item<C: Chooser, S: Screen, L: LineSource>(
     cursor: &mut Cursor,
     store: &Store,
     io: &mut Io<'_, C, S, L>,
+    gathering: &mut Gathering,
     width: &mut u8,
 ) -> Result<(), Stop>
     ensures text { cursor.new.text ≡ cursor.old.text }
     ensures comes { (given : List (List ℕ)) (rest : List Part) (operands : List ℤ) →
         Comes (refused_answers (C.refused io.new.chooser.now))
-        (io_trace C.choices S.Screen L.most io.old given store.now)
-        (io_trace C.choices S.Screen L.most io.new given store.now)
+        (due_trace C.choices S.Screen L.most io.old given store.now
+        gathering.old)
+        (due_trace C.choices S.Screen L.most io.new given store.now
+        gathering.new)
         (parts_action (item_of (print_item cursor.old.text cursor.old.place) ∷ rest)
         width.old operands) (λ _. parts_action rest width.new operands) result }
     ensures read { IfOk result (λ _. IsRead cursor.old.text cursor.old.place
@@ -94,16 +94,54 @@ fn print_item<C: Chooser, S: Screen, L: LineSource>(
         return Ok(());
     }
     match literal(cursor) {
-        Quoted::Text(bytes) => io.show(bytes),
+        Quoted::Text(bytes) => io.show(gathering, bytes),
         Quoted::Unclosed => Err(fault(FaultKind::What, cursor.place())),
         Quoted::Absent => {
             let value = io.value(cursor, store)?;
-            show_value(io, *width, value)
+            show_value(io, gathering, *width, value)
         }
     }
 }
 
-/// Reads the items of a PRINT, behind whose word the cursor stands, and shows them.
+// Reads the items of a PRINT, behind whose word the cursor stands, and shows them.
+fn print_items<C: Chooser, S: Screen, L: LineSource>(
+    cursor: &mut Cursor,
+    store: &Store,
+    io: &mut Io<'_, C, S, L>,
+    gathering: &mut Gathering,
+) -> Result<(), Stop>
+    requires { cursor.old.place ≤ length cursor.old.text }
+    ensures text { cursor.new.text ≡ cursor.old.text }
+    ensures comes { (given : List (List ℕ)) →
+        Comes (refused_answers (C.refused io.new.chooser.now))
+        (due_trace C.choices S.Screen L.most io.old given store.now
+        gathering.old)
+        (due_trace C.choices S.Screen L.most io.new given store.now
+        gathering.new)
+        (action_of (item_of (print_parts cursor.old.text cursor.old.place)))
+        (λ _. goes_on []) result }
+    ensures closed { IfOk result (λ _. IsClosed cursor.old.text cursor.old.place
+        (print_parts cursor.old.text cursor.old.place) cursor.new.place) }
+    ensures same { SameDevices io.old io.new }
+{
+    finding_laws();
+    if at_end(cursor) {
+        return io.show(gathering, b"\n");
+    }
+    let mut width = FIRST_WIDTH;
+    'items: loop {
+        print_item(cursor, store, io, gathering, &mut width)?;
+        if !cursor.token(b',') {
+            io.show(gathering, b"\n")?;
+            return check_end(cursor);
+        }
+        if at_end(cursor) {
+            return Ok(());
+        }
+    }
+}
+
+/// Reads the items of a PRINT, behind whose word the cursor stands, and shows them together.
 pub(crate) fn print<C: Chooser, S: Screen, L: LineSource>(
     cursor: &mut Cursor,
     store: &Store,
@@ -121,21 +159,13 @@ pub(crate) fn print<C: Chooser, S: Screen, L: LineSource>(
         (print_parts cursor.old.text cursor.old.place) cursor.new.place) }
     ensures same { SameDevices io.old io.new }
 {
-    finding_laws();
-    if at_end(cursor) {
-        return io.show(b"\n");
+    let mut gathering = Gathering::new();
+    let done = print_items(cursor, store, io, &mut gathering);
+    if !still_shows(done) {
+        return done;
     }
-    let mut width = FIRST_WIDTH;
-    'items: loop {
-        print_item(cursor, store, io, &mut width)?;
-        if !cursor.token(b',') {
-            io.show(b"\n")?;
-            return check_end(cursor);
-        }
-        if at_end(cursor) {
-            return Ok(());
-        }
-    }
+    io.flush(&mut gathering)?;
+    done
 }
 
 impl Registers {
@@ -173,3 +203,6 @@ impl Registers {
         Ok(())
     }
 }
+
+#[cfg(test)]
+mod tests;

@@ -329,3 +329,20 @@ fn refused_behind_a_run(rt: HostRuntime) {
         expect_played(&rt, rt.alloc(), &program, &lines);
     }
 }
+
+// Passes whichever of its allocations is refused: the list is a beginning with its bound, so that
+// nothing but memory can be wanting. The one play that tells so is counted.
+#[test]
+fn refused_shares(rt: HostRuntime) {
+    let Some((program, lines)) = loaded(rt.alloc(), "10 A=RND(2);B=RND(3)", "") else {
+        return;
+    };
+    let under = [Marked {
+        answer: 2,
+        bound: Some(2),
+    }];
+    match Explorer::under(rt.alloc(), &program, &lines, plain_rules(10000), &under) {
+        Ok(explorer) => assert_eq!(rt; (explorer.kept(), explorer.played()), (0, 2)),
+        Err(fault) => assert_eq!(rt; fault, UnderFault::Memory),
+    }
+}

@@ -4,7 +4,7 @@
 ghost use Rattle.std.specs.Prelude.{◌≤◌, ◌≤ℤ◌, pos, IfSome};
 
 use super::*;
-use crate::fault::AfterFault;
+use crate::fault::{AfterFault, UnderFault};
 use crate::form::Marked;
 use crate::report::Report;
 use crate::tests::{expect_same, plain_rules};
@@ -367,6 +367,94 @@ fn expect_beginning(
     let begins = PRODUCT_REPORTS.as_bytes().starts_with(room);
     expect_same(rt, "a beginning", (room.len(), begins), (room.len(), true));
     Ok(())
+}
+
+// What the listing of a share of the branches writes, behind a run of it if one is named. An error says
+// why it isn't begun.
+fn listed_share(
+    alloc: Global,
+    under: &[Marked],
+    after: Option<&[Marked]>,
+    first: Option<u64>,
+) -> Result<Vec<u8>, &'static str> {
+    let mut text = BRANCHES.as_bytes();
+    let Ok(program) = load(alloc, 4096, &mut Device::new(&mut text)) else {
+        return Err("no program");
+    };
+    let lines: [Line; 0] = [];
+    let rules = plain_rules(10000);
+    let mut explorer = match after {
+        None => match Explorer::under(alloc, &program, &lines, rules, under) {
+            Ok(explorer) => explorer,
+            Err(UnderFault::NoBeginning) => return Err("no beginning"),
+            Err(UnderFault::Memory) => return Err("memory"),
+        },
+        Some(list) => match Explorer::after_under(alloc, &program, &lines, rules, under, list) {
+            Ok(explorer) => explorer,
+            Err(AfterFault::NotARun) => return Err("not a run"),
+            Err(AfterFault::Memory) => return Err("memory"),
+        },
+    };
+    let mut bytes = Vec::new(alloc);
+    let mut out = Device::new(&mut bytes);
+    match write_all_runs(&mut explorer, first, Form::Two, &mut out) {
+        Ok(_) => Ok(bytes),
+        Err(_) => Err("not written"),
+    }
+}
+
+// Whether a listing wrote these of the reports with bounds, from one byte up to another.
+fn are_reports(written: Result<Vec<u8>, &'static str>, from: usize, to: usize) -> bool
+    requires { to ≤ 101 }
+{
+    match written {
+        Ok(bytes) => Some(bytes.as_slice()) == BRANCH_REPORTS_WITH_BOUNDS.as_bytes().get(from..to),
+        Err(_) => false,
+    }
+}
+
+#[test]
+fn writes_shares(rt: HostRuntime) {
+    let (none, one): (&[Marked], &[Marked]) = (&[], &[marked(1, None)]);
+    assert!(rt; are_reports(listed_share(rt.alloc(), none, None, None), 0, 101));
+    assert!(rt; are_reports(listed_share(rt.alloc(), one, None, None), 0, 17));
+    for two in [marked(2, None), marked(2, Some(2))] {
+        assert!(rt; are_reports(listed_share(rt.alloc(), &[two], None, None), 17, 101));
+        assert!(rt; are_reports(listed_share(rt.alloc(), &[two], None, Some(1)), 17, 45));
+        let first = [two, marked(1, Some(3))];
+        assert!(rt; are_reports(listed_share(rt.alloc(), &first, None, None), 17, 45));
+        let last = [two, marked(3, None)];
+        assert!(rt; are_reports(listed_share(rt.alloc(), &last, None, None), 73, 101));
+    }
+}
+
+#[test]
+fn goes_on_in_a_share(rt: HostRuntime) {
+    let two = [marked(2, None)];
+    for (answer, from) in [(1, 45), (2, 73), (3, 101)] {
+        let run = [marked(2, Some(2)), marked(answer, None)];
+        assert!(rt; are_reports(listed_share(rt.alloc(), &two, Some(&run), None), from, 101));
+    }
+    let other = [marked(1, None)];
+    let refused = listed_share(rt.alloc(), &two, Some(&other), None);
+    assert_eq!(rt; refused.err(), Some("not a run"));
+    assert!(rt; are_reports(listed_share(rt.alloc(), &other, Some(&other), None), 17, 17));
+}
+
+#[test]
+fn refuses_what_begins_no_run(rt: HostRuntime) {
+    let lists: [&[Marked]; 6] = [
+        &[marked(1, None), marked(1, None)],
+        &[marked(3, None)],
+        &[marked(0, None)],
+        &[marked(2, Some(3))],
+        &[marked(2, Some(2)), marked(1, Some(2))],
+        &[marked(2, None), marked(4, Some(4))],
+    ];
+    for list in lists {
+        let refused = listed_share(rt.alloc(), list, None, None);
+        assert_eq!(rt; refused.err(), Some("no beginning"));
+    }
 }
 
 #[test]

@@ -1,9 +1,11 @@
-// This file tests what INPUT shows and stores, and where it stops.
+// This file tests what INPUT shows and stores, where it stops, and how many writes it takes.
 
 use super::*;
-use crate::tests::letter;
-use ptb_devices::{Line, Lines, TextScreen};
+use crate::stop::DeviceError;
+use crate::tests::{Counted, letter};
+use ptb_devices::{Line, Lines, TextScreen, WriterScreen};
 use ptb_expr::{Listed, Pause};
+use ptb_text::Device;
 use std::test::Fail;
 
 #[test]
@@ -90,6 +92,84 @@ fn answers_where_no_line_is_left(rt: HostRuntime) -> Result<(), Fail> {
         assert_eq!(rt; result, want);
         assert_eq!(rt; screen.bytes(), shown);
         assert_eq!(rt; store.get(letter(b'A')), a);
+    }
+    Ok(())
+}
+
+// Each INPUT with a writer that takes so many writes: how it was done, what was shown, and how many
+// writes are left.
+const WRITES: &[(&[u8], &[&[u8]], usize, Result<usize, Stop>, &[u8], usize)] = &[
+    (b"A", &[b"5"], 5, Ok(1), b"A:5\n", 3),
+    (b"'N'A,B", &[b"1", b"2"], 5, Ok(6), b"N:1\nB:2\n", 2),
+    (b"A", &[b")", b"5"], 5, Ok(1), b"A:)\nWHAT?\nA:5\n", 2),
+    (b"'X'", &[], 5, Ok(3), b"X", 4),
+    (b"A", &[], 5, Err(Stop::NoInput), b"A:", 4),
+    (
+        b"'N'@(0-1)",
+        &[],
+        5,
+        Err(Stop::Fault(Fault {
+            kind: FaultKind::How,
+            mark: 9,
+        })),
+        b"N",
+        4,
+    ),
+    (
+        b"'X',A(",
+        &[b"5"],
+        5,
+        Err(Stop::Fault(Fault {
+            kind: FaultKind::What,
+            mark: 5,
+        })),
+        b"XA:5\n",
+        3,
+    ),
+    (
+        b"A",
+        &[b"5"],
+        1,
+        Err(Stop::Broke(DeviceError::Write)),
+        b"A:",
+        0,
+    ),
+    (
+        b"A",
+        &[b"5"],
+        0,
+        Err(Stop::Broke(DeviceError::Write)),
+        b"",
+        0,
+    ),
+];
+
+#[test]
+fn writes(rt: HostRuntime) -> Result<(), Fail> {
+    for &(text, input_lines, writes, want, shown, left) in WRITES {
+        let mut lines = Vec::new(rt.alloc());
+        for line in input_lines {
+            lines.push(Line::clean(rt.alloc(), line)?)?;
+        }
+        let mut taken = Vec::new(rt.alloc());
+        let mut writes_left = writes;
+        let mut writer = Device::new(Counted {
+            taken: &mut taken,
+            writes_left: &mut writes_left,
+        });
+        let mut screen = WriterScreen::new(&mut writer);
+        let mut source = Lines::new(&lines);
+        let mut store = Store::new(rt.alloc(), 54)?;
+        let mut chooser = Listed::new(&[]);
+        let mut cursor = Cursor::new(text, 0);
+        let mut io = Io::new(&mut chooser, &mut screen, &mut source, true, None);
+        let result = super::input(&mut cursor, &mut store, &mut io).map(|()| cursor.place());
+        drop(io);
+        drop(screen);
+        drop(writer);
+        assert_eq!(rt; result, want);
+        assert_eq!(rt; taken.as_slice(), shown);
+        assert_eq!(rt; writes_left, left);
     }
     Ok(())
 }

@@ -8,7 +8,7 @@ use Rattle.ptb_explore.proofs.Raising.{position_lengths, next_plan, last_plan, p
 use Rattle.ptb_explore.proofs.explorer.report_next.Goals as goal
 
 pub plan_next-requires : goal.plan_next-requires
-plan_next-requires c = λ e. rw (c.deref.ensures.value, c.deref-2.ensures.value) (position_lengths (play c.args.player.now c.args.lines.now c.args.rules) _ _ _ c.requires.position e)
+plan_next-requires c = λ e. rw (c.deref.ensures.value, c.deref-2.ensures.value) (position_lengths (play c.args.player.now c.args.lines.now c.args.rules) _ _ _ _ c.requires.position e)
 
 pub returns-in-None-clause-next : goal.returns-in-None-clause-next
 returns-in-None-clause-next c =
@@ -16,8 +16,8 @@ returns-in-None-clause-next c =
     let input = c.args.lines.now in
     let rules = c.args.rules in
     let report = c.args.report.now in
-    let plans : PlansNext c.args.position report.answers.items report.bounds.items c.plan_next.new.trial.answers.items None = rw (← c.deref.ensures.value, ← c.deref-2.ensures.value, ← c.in-None.is) c.in_ok-plan_next.ensures.plan in
-    last_plan (play p input rules) (most_answers p input rules.limit) (c.run_laws.ensures.reads p input rules) c.args.position report.answers.items c.plan_next.new.trial.answers.items report.bounds.items c.requires.position plans
+    let plans : PlansNext c.args.under.now c.args.position report.answers.items report.bounds.items c.plan_next.new.trial.answers.items None = rw (← c.deref.ensures.value, ← c.deref-2.ensures.value, ← c.in-None.is) c.in_ok-plan_next.ensures.plan in
+    last_plan (play p input rules) (most_answers p input rules.limit) (c.run_laws.ensures.reads p input rules) c.args.under.now c.args.position report.answers.items c.plan_next.new.trial.answers.items report.bounds.items c.requires.position plans
 
 pub report_plan-requires-clause-opens : goal.report_plan-requires-clause-opens
 report_plan-requires-clause-opens c =
@@ -25,8 +25,8 @@ report_plan-requires-clause-opens c =
     let input = c.args.lines.now in
     let rules = c.args.rules in
     let report = c.args.report.now in
-    let plans : PlansNext c.args.position report.answers.items report.bounds.items c.plan_next.new.trial.answers.items (Some c.in-Some.common) = rw (← c.deref.ensures.value, ← c.deref-2.ensures.value, ← c.in-Some.is) c.in_ok-plan_next.ensures.plan in
-    (next_plan (play p input rules) (most_answers p input rules.limit) (c.run_laws.ensures.reads p input rules) c.args.position report.answers.items c.plan_next.new.trial.answers.items report.bounds.items c.in-Some.common c.requires.position plans).opens
+    let plans : PlansNext c.args.under.now c.args.position report.answers.items report.bounds.items c.plan_next.new.trial.answers.items (Some c.in-Some.common) = rw (← c.deref.ensures.value, ← c.deref-2.ensures.value, ← c.in-Some.is) c.in_ok-plan_next.ensures.plan in
+    (next_plan (play p input rules) (most_answers p input rules.limit) (c.run_laws.ensures.reads p input rules) c.args.under.now c.args.position report.answers.items c.plan_next.new.trial.answers.items report.bounds.items c.in-Some.common c.requires.position plans).opens
 
 pub returns-in_ok-report_plan-in-Some-clause-next : goal.returns-in_ok-report_plan-in-Some-clause-next
 returns-in_ok-report_plan-in-Some-clause-next c =
@@ -35,19 +35,19 @@ returns-in_ok-report_plan-in-Some-clause-next c =
     let rules = c.args.rules in
     let report = c.args.report.now in
     let plan = c.plan_next.new.trial.answers.items in
-    let plans : PlansNext c.args.position report.answers.items report.bounds.items plan (Some c.in-Some.common) = rw (← c.deref.ensures.value, ← c.deref-2.ensures.value, ← c.in-Some.is) c.in_ok-plan_next.ensures.plan in
-    let next = next_plan (play p input rules) (most_answers p input rules.limit) (c.run_laws.ensures.reads p input rules) c.args.position report.answers.items plan report.bounds.items c.in-Some.common c.requires.position plans in
+    let plans : PlansNext c.args.under.now c.args.position report.answers.items report.bounds.items plan (Some c.in-Some.common) = rw (← c.deref.ensures.value, ← c.deref-2.ensures.value, ← c.in-Some.is) c.in_ok-plan_next.ensures.plan in
+    let next = next_plan (play p input rules) (most_answers p input rules.limit) (c.run_laws.ensures.reads p input rules) c.args.under.now c.args.position report.answers.items plan report.bounds.items c.in-Some.common c.requires.position plans in
     let run = c.in_ok-report_plan-in-Some.ensures.ends in (
       record { outcome = run.outcome; bounds_are = run.bounds_are },
-      plan_ends (play p input rules) (most_answers p input rules.limit) (c.run_laws.ensures.reads p input rules) (front_at c.args.position report.answers.items) plan _ _ _ next run,
+      plan_ends (play p input rules) (most_answers p input rules.limit) (c.run_laws.ensures.reads p input rules) c.args.under.now (front_at c.args.position report.answers.items) plan _ _ _ next run,
     )
 
 pub report_plan-requires-clause-agrees : goal.report_plan-requires-clause-agrees
 report_plan-requires-clause-agrees c =
     let report = c.args.report.now in
     let plan = c.plan_next.new.trial.answers.items in
-    let plans : PlansNext c.args.position report.answers.items report.bounds.items plan (Some c.in-Some.common) = rw (← c.deref.ensures.value, ← c.deref-2.ensures.value, ← c.in-Some.is) c.in_ok-plan_next.ensures.plan in
-    next_agrees (play c.args.player.now c.args.lines.now c.args.rules) c.args.position report.answers.items plan report.bounds.items c.in-Some.common c.requires.position plans
+    let plans : PlansNext c.args.under.now c.args.position report.answers.items report.bounds.items plan (Some c.in-Some.common) = rw (← c.deref.ensures.value, ← c.deref-2.ensures.value, ← c.in-Some.is) c.in_ok-plan_next.ensures.plan in
+    next_agrees (play c.args.player.now c.args.lines.now c.args.rules) c.args.under.now c.args.position report.answers.items plan report.bounds.items c.in-Some.common c.requires.position plans
 
 pub report_plan-requires-clause-copies : goal.report_plan-requires-clause-copies
 report_plan-requires-clause-copies c = position_copies c.args.player.now c.args.lines.now c.args.rules c.args.position c.args.report.now c.args.copies.now.kept.items c.requires.copies
@@ -56,6 +56,6 @@ pub returns-in_ok-report_plan-in-Some-clause-played : goal.returns-in_ok-report_
 returns-in_ok-report_plan-in-Some-clause-played c =
     let report = c.args.report.now in
     let plan = c.plan_next.new.trial.answers.items in
-    let plans : PlansNext c.args.position report.answers.items report.bounds.items plan (Some c.in-Some.common) = rw (← c.deref.ensures.value, ← c.deref-2.ensures.value, ← c.in-Some.is) c.in_ok-plan_next.ensures.plan in
+    let plans : PlansNext c.args.under.now c.args.position report.answers.items report.bounds.items plan (Some c.in-Some.common) = rw (← c.deref.ensures.value, ← c.deref-2.ensures.value, ← c.in-Some.is) c.in_ok-plan_next.ensures.plan in
     let run = c.in_ok-report_plan-in-Some.ensures.ends in
-    next_played c.args.player.now c.args.lines.now c.args.rules c.args.position report plan run.ones _ c.in-Some.common c.args.copies.now.kept.items _ _ _ plans c.requires.copies run.answers_are c.in_ok-report_plan-in-Some.ensures.played
+    next_played c.args.player.now c.args.lines.now c.args.rules c.args.under.now c.args.position report plan run.ones _ c.in-Some.common c.args.copies.now.kept.items _ _ _ plans c.requires.copies run.answers_are c.in_ok-report_plan-in-Some.ensures.played

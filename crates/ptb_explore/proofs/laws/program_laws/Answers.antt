@@ -1,7 +1,8 @@
--- This file answers that the runs of each program have the laws of trees and of listings.
+-- This file answers that the runs of each program have the laws of trees, of listings and of shares.
 use Rattle.ptb_machine.specs.Play.{play}
 use Rattle.ptb_machine.specs.Questions.{most_answers}
 use Rattle.ptb_explore.proofs.Behind.{listing_laws}
+use Rattle.ptb_explore.proofs.Shares.{share_laws}
 use Rattle.ptb_explore.proofs.Tree.{tree_laws}
 use Rattle.ptb_explore.proofs.laws.program_laws.Goals as goal
 
@@ -10,3 +11,6 @@ returns-clause-tree c = λ p input rules. tree_laws (play p input rules) (most_a
 
 pub returns-clause-listing : goal.returns-clause-listing
 returns-clause-listing c = λ p input rules. listing_laws (play p input rules) (most_answers p input rules.limit) (c.run_laws.ensures.reads p input rules)
+
+pub returns-clause-share : goal.returns-clause-share
+returns-clause-share c = λ p input rules. share_laws (play p input rules) (most_answers p input rules.limit) (c.run_laws.ensures.reads p input rules)

@@ -1,7 +1,6 @@
 -- This file answers that a run is played step by step, how it ends, and that the copies that are kept are of it.
 use Rattle.std.proofs.Common.{◌≡◌, ◌++◌, ◌≤◌, drop, length, refl, sym, ap, ◌∙◌, arith, true, false, Ok, Err, Some, None}
 use Rattle.std.proofs.lemmas.List.{length-take-le}
-use Rattle.ptb_expr.specs.Outcome.{bounds}
 use Rattle.ptb_machine.specs.Play.{play}
 use Rattle.ptb_explore.specs.Copies.{StandsAt, taken_choices}
 use Rattle.ptb_explore.specs.Recording.{choices_of}

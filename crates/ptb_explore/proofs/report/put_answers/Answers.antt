@@ -1,6 +1,6 @@
 -- This file answers that answers are gathered one after the other, each but the first behind a comma.
 use Rattle.std.proofs.Common.{rules, ◌≡◌, ℕ, ◌<◌, ◌≤◌, List, [], ◌++◌, ◌∙◌, take, length, ap, sym, subst, arith, ℤ, pos, get_or, codes}
-use Rattle.std.specs.Prelude.{◌==◌, if◌then◌else◌, None}
+use Rattle.std.specs.Prelude.{◌==◌, if◌then◌else◌}
 use Rattle.std.specs.List.{flat_map}
 use Rattle.std.proofs.lemmas.Result.{err_from_is_err_and}
 use Rattle.std.proofs.lemmas.List.{take_all}
@@ -8,7 +8,7 @@ use Rattle.ptb_text.specs.Device.{TakesSome}
 use Rattle.ptb_expr.specs.Outcome.{Answers}
 use Rattle.ptb_explore.specs.declared.form.Form.{Form}
 use Rattle.ptb_explore.specs.declared.form.Marked.{Marked}
-use Rattle.ptb_explore.specs.AnswerText.{item_text, in_form, items_in, spelling, without_bound}
+use Rattle.ptb_explore.specs.AnswerText.{item_text, in_form, items_in, spelling}
 use Rattle.ptb_explore.proofs.Gathering.{gathers_same, gathers_piece, some_piece}
 use Rattle.ptb_explore.proofs.ReportText.{pieces_of, whole_piece, piece_at, item_at, spelling_in_pieces, length-pieces_of, length-items_in}
 use Rattle.ptb_explore.proofs.report.put_answers.Goals as goal

@@ -1,5 +1,5 @@
 -- This file answers what is left to prove of `run`.
-use Rattle.std.proofs.Common.{◌≤◌, [], ◌++◌, arith, inl, refl, ap, ◌∙◌, Ok, Err}
+use Rattle.std.proofs.Common.{[], ◌++◌, arith, inl, refl, ap, ◌∙◌, Ok, Err}
 use Rattle.ptb_command.specs.Devices.{devices, screen_state, refused_by, nothing_refused}
 use Rattle.ptb_command.specs.Stops.{NotMissed}
 use Rattle.ptb_command.proofs.Missed.{not_missed, not_missed_then, fewer_lines}

@@ -1,5 +1,5 @@
 -- This file says what a run has come to before each step.
-use Rattle.std.proofs.Common.{◌≡◌, ◌≤◌, ℕ, ◌-◌, false, List, []}
+use Rattle.std.proofs.Common.{◌≡◌, ℕ, ◌-◌, false, List, []}
 use Rattle.ptb_command.specs.Devices.{devices, screen_state}
 use Rattle.ptb_command.specs.Stops.{NotMissed}
 use Rattle.ptb_machine.specs.Steps.{FitsProgram}

@@ -47,7 +47,8 @@ returns c =
     let five = with_arg _ c.in_ok-arg-5.field-0 _ _ _ c.in_ok-arg-5.ensures c.number_option-4.ensures.local four (c.number_option-4.ensures.rule ∙ ap (number_option (codes "seed")) seed) in
     let six = with_arg _ c.in_ok-arg-6.field-0 _ _ _ c.in_ok-arg-6.ensures c.flag.ensures.local five c.flag.ensures.rule in
     let seven = with_arg _ c.in_ok-arg-7.field-0 _ _ _ c.in_ok-arg-7.ensures c.text_option-2.ensures.local six c.text_option-2.ensures.rule in
-    let eight = with_arg _ c.in_ok-arg-8.field-0 _ _ _ c.in_ok-arg-8.ensures c.number_option-5.ensures.local seven (c.number_option-5.ensures.rule ∙ ap (number_option (codes "first")) first) in
-    let nine = with_arg _ c.in_ok-arg-9.field-0 _ _ _ c.in_ok-arg-9.ensures c.number_option-6.ensures.local eight (c.number_option-6.ensures.rule ∙ ap (number_option (codes "form")) form) in
-    let ten = with_arg _ c.in_ok-arg-10.field-0 _ _ _ c.in_ok-arg-10.ensures c.flag-2.ensures.local nine c.flag-2.ensures.rule in
-    IfOk-weaker c.arg-11.result _ _ (λ whole added. with_arg _ whole _ _ _ added c.operand.ensures.local ten c.operand.ensures.rule) c.arg-11.ensures
+    let eight = with_arg _ c.in_ok-arg-8.field-0 _ _ _ c.in_ok-arg-8.ensures c.text_option-3.ensures.local seven c.text_option-3.ensures.rule in
+    let nine = with_arg _ c.in_ok-arg-9.field-0 _ _ _ c.in_ok-arg-9.ensures c.number_option-5.ensures.local eight (c.number_option-5.ensures.rule ∙ ap (number_option (codes "first")) first) in
+    let ten = with_arg _ c.in_ok-arg-10.field-0 _ _ _ c.in_ok-arg-10.ensures c.number_option-6.ensures.local nine (c.number_option-6.ensures.rule ∙ ap (number_option (codes "form")) form) in
+    let eleven = with_arg _ c.in_ok-arg-11.field-0 _ _ _ c.in_ok-arg-11.ensures c.flag-2.ensures.local ten c.flag-2.ensures.rule in
+    IfOk-weaker c.arg-12.result _ _ (λ whole added. with_arg _ whole _ _ _ added c.operand.ensures.local eleven c.operand.ensures.rule) c.arg-12.ensures

@@ -2,55 +2,56 @@
 use Rattle.std.proofs.Common.{◌≡◌, ◌∙◌, Ok, Err, ap, refl}
 use Rattle.std.proofs.lemmas.Result.{err_from_is_err_and}
 use Rattle.ptb_text.specs.Lines.{input_lines}
+use Rattle.ptb_machine.specs.Play.{play}
 use Rattle.ptb_serve.specs.Serving.{input_note, load_note, reports_note}
 use Rattle.ptb_serve.specs.Replies.{listing_reply}
-use Rattle.ptb_serve.proofs.Listed.{front_note-loaded, input_note-loaded, input_note-read, input_note-start, reports_note-loaded, reports_note-write, runs_due, serves_input, serves_front, serves_reports, serves_some}
-use Rattle.ptb_serve.proofs.Served.{at_known, consumes_nothing, consumes_some, load_note-input, load_note-length, load_note-refusal, load_note-start, loaded_unrefused, serves_unloaded, serves_loaded, serves_refusal, when_refused}
+use Rattle.ptb_serve.proofs.Listed.{front_note-loaded, input_note-loaded, input_note-read, input_note-beginning, input_note-start, reports_note-failed, reports_note-loaded, reports_note-write, runs_due, serves_input, serves_front, serves_reports, serves_some}
+use Rattle.ptb_serve.proofs.Served.{at_known, consumes_nothing, consumes_some, load_note-input, load_note-length, load_note-refusal, load_note-beginning, load_note-start, loaded_unrefused, serves_unloaded, serves_loaded, serves_refusal, when_refused}
 use Rattle.ptb_serve.proofs.all_runs.list_runs.Goals as goal
 
 pub returns-in_err-program-clause-served : goal.returns-in_err-program-clause-served
 returns-in_err-program-clause-served g c = λ i is.
     let p = err_from_is_err_and c.from_residual.result c.from_residual.ensures.1 in
     rw (p.1, p.2)
-    (serves_unloaded _ _ (runs_due c.args.request.now.rules c.args.after.now c.args.first c.args.form i) (g.W.Write.contents c.args.out.now) c.in_err-program.field-0.0
+    (serves_unloaded _ _ (runs_due c.args.request.now.rules c.args.under.now c.args.after.now c.args.first c.args.form i) (g.W.Write.contents c.args.out.now) c.in_err-program.field-0.0
     c.in_err-program.ensures.refused c.in_err-program.ensures.too_long)
 
 pub returns-in_err-lines-clause-served : goal.returns-in_err-lines-clause-served
 returns-in_err-lines-clause-served g c = λ i is.
     let p = err_from_is_err_and c.from_residual-in_err-lines.result c.from_residual-in_err-lines.ensures.1 in
     rw (p.1, p.2)
-    (serves_loaded _ _ (runs_due c.args.request.now.rules c.args.after.now c.args.first c.args.form i) c.in_ok-program.program (g.W.Write.contents c.args.out.now) (g.W.Write.contents c.args.out.now)
+    (serves_loaded _ _ (runs_due c.args.request.now.rules c.args.under.now c.args.after.now c.args.first c.args.form i) c.in_ok-program.program (g.W.Write.contents c.args.out.now) (g.W.Write.contents c.args.out.now)
     (Err (input_note c.in_err-lines.field-0.0)) c.in_ok-program.ensures.ok c.in_ok-program.ensures.memory
-    (serves_input c.in_ok-program.program c.args.request.now.rules c.args.after.now c.args.first c.args.form (g.W.Write.contents c.args.out.now) i c.in_err-lines.field-0.0))
+    (serves_input c.in_ok-program.program c.args.request.now.rules c.args.under.now c.args.after.now c.args.first c.args.form (g.W.Write.contents c.args.out.now) i c.in_err-lines.field-0.0))
 
 pub returns-in_err-explorer-clause-served : goal.returns-in_err-explorer-clause-served
 returns-in_err-explorer-clause-served g c = λ i is.
     let p = err_from_is_err_and c.from_residual-in_err-explorer.result c.from_residual-in_err-explorer.ensures.1 in
     let input = c.deref.ensures.value ∙ at_known (λ b. c.in_ok-lines.lines.items ≡ input_lines b) i is c.in_ok-lines.ensures.lines in
     rw (p.1, p.2)
-    (serves_loaded _ _ (runs_due c.args.request.now.rules c.args.after.now c.args.first c.args.form i) c.in_ok-program.program (g.W.Write.contents c.args.out.now) (g.W.Write.contents c.args.out.now)
+    (serves_loaded _ _ (runs_due c.args.request.now.rules c.args.under.now c.args.after.now c.args.first c.args.form i) c.in_ok-program.program (g.W.Write.contents c.args.out.now) (g.W.Write.contents c.args.out.now)
     (Err c.in_err-explorer.field-0.0) c.in_ok-program.ensures.ok c.in_ok-program.ensures.memory
-    (serves_front c.in_ok-program.program c.args.request.now.rules c.args.after.now c.args.first c.args.form (g.W.Write.contents c.args.out.now) i c.deref.result.now input
-    c.in_err-explorer.field-0.0 c.in_err-explorer.ensures.faults (λ e. c.in_err-explorer.ensures.no_run (ap Err e))))
+    (serves_front c.in_ok-program.program c.args.request.now.rules c.args.under.now c.args.after.now c.args.first c.args.form (g.W.Write.contents c.args.out.now) i c.deref.result.now input
+    c.in_err-explorer.field-0.0 c.in_err-explorer.ensures.unbegun))
 
 pub returns-in_err-write_all_runs-clause-served : goal.returns-in_err-write_all_runs-clause-served
 returns-in_err-write_all_runs-clause-served g c = λ i is.
     let p = err_from_is_err_and c.from_residual-in_err-write_all_runs.result c.from_residual-in_err-write_all_runs.ensures.1 in
     let input = c.deref.ensures.value ∙ at_known (λ b. c.in_ok-lines.lines.items ≡ input_lines b) i is c.in_ok-lines.ensures.lines in
     rw (p.1, p.2)
-    (serves_loaded _ _ (runs_due c.args.request.now.rules c.args.after.now c.args.first c.args.form i) c.in_ok-program.program (g.W.Write.contents c.args.out.now) (g.W.Write.contents c.write_all_runs.new.writer)
+    (serves_loaded _ _ (runs_due c.args.request.now.rules c.args.under.now c.args.after.now c.args.first c.args.form i) c.in_ok-program.program (g.W.Write.contents c.args.out.now) (g.W.Write.contents c.write_all_runs.new.writer)
     (Err (reports_note c.in_err-write_all_runs.field-0.0)) c.in_ok-program.ensures.ok c.in_ok-program.ensures.memory
-    (serves_some c.in_ok-program.program c.args.request.now.rules c.args.after.now c.args.first c.args.form (g.W.Write.contents c.args.out.now) (g.W.Write.contents c.write_all_runs.new.writer) i c.deref.result.now input
-    c.in_ok-explorer.explorer c.write_all_runs.new.explorer.front c.in_ok-explorer.ensures.explorer c.in_ok-explorer.ensures.front
+    (serves_some c.in_ok-program.program c.args.request.now.rules c.args.under.now c.args.after.now c.args.first c.args.form (g.W.Write.contents c.args.out.now) (g.W.Write.contents c.write_all_runs.new.writer) i c.deref.result.now input
+    c.in_ok-explorer.explorer c.write_all_runs.new.explorer.front c.in_ok-explorer.ensures.explorer c.in_ok-explorer.ensures.begun
     c.in_err-write_all_runs.field-0.0 c.in_err-write_all_runs.ensures.writes))
 
 pub returns-clause-served : goal.returns-clause-served
 returns-clause-served g c = λ i is.
     let input = c.deref.ensures.value ∙ at_known (λ b. c.in_ok-lines.lines.items ≡ input_lines b) i is c.in_ok-lines.ensures.lines in
-    serves_loaded _ _ (runs_due c.args.request.now.rules c.args.after.now c.args.first c.args.form i) c.in_ok-program.program (g.W.Write.contents c.args.out.now) (g.W.Write.contents c.write_all_runs.new.writer) (Ok 0)
+    serves_loaded _ _ (runs_due c.args.request.now.rules c.args.under.now c.args.after.now c.args.first c.args.form i) c.in_ok-program.program (g.W.Write.contents c.args.out.now) (g.W.Write.contents c.write_all_runs.new.writer) (Ok 0)
     c.in_ok-program.ensures.ok c.in_ok-program.ensures.memory
-    (serves_reports c.in_ok-program.program c.args.request.now.rules c.args.after.now c.args.first c.args.form (g.W.Write.contents c.args.out.now) (g.W.Write.contents c.write_all_runs.new.writer) i c.deref.result.now input
-    c.in_ok-explorer.explorer c.write_all_runs.new.explorer.front c.in_ok-explorer.ensures.explorer c.in_ok-explorer.ensures.front
+    (serves_reports c.in_ok-program.program c.args.request.now.rules c.args.under.now c.args.after.now c.args.first c.args.form (g.W.Write.contents c.args.out.now) (g.W.Write.contents c.write_all_runs.new.writer) i c.deref.result.now input
+    c.in_ok-explorer.explorer c.write_all_runs.new.explorer.front c.in_ok-explorer.ensures.explorer c.in_ok-explorer.ensures.begun
     c.in_ok-write_all_runs.field-0 c.in_ok-write_all_runs.ensures.writes)
 
 -- ---- a text that is refused
@@ -99,10 +100,20 @@ returns-in_err-program-clause-no_run_within g c =
     let p = err_from_is_err_and c.from_residual.result c.from_residual.ensures.1 in
     rw (p.1, p.2) (λ h. absurd (load_note-start c.in_err-program.field-0.0 h))
 
+pub returns-in_err-program-clause-no_beginning_within : goal.returns-in_err-program-clause-no_beginning_within
+returns-in_err-program-clause-no_beginning_within g c =
+    let p = err_from_is_err_and c.from_residual.result c.from_residual.ensures.1 in
+    rw (p.1, p.2) (λ h. absurd (load_note-beginning c.in_err-program.field-0.0 h))
+
 pub returns-in_err-lines-clause-no_run_within : goal.returns-in_err-lines-clause-no_run_within
 returns-in_err-lines-clause-no_run_within g c =
     let p = err_from_is_err_and c.from_residual-in_err-lines.result c.from_residual-in_err-lines.ensures.1 in
     rw (p.1, p.2) (λ h. absurd (input_note-start c.in_err-lines.field-0.0 h))
+
+pub returns-in_err-lines-clause-no_beginning_within : goal.returns-in_err-lines-clause-no_beginning_within
+returns-in_err-lines-clause-no_beginning_within g c =
+    let p = err_from_is_err_and c.from_residual-in_err-lines.result c.from_residual-in_err-lines.ensures.1 in
+    rw (p.1, p.2) (λ h. absurd (input_note-beginning c.in_err-lines.field-0.0 h))
 
 pub returns-in_err-program-clause-program_bounded : goal.returns-in_err-program-clause-program_bounded
 returns-in_err-program-clause-program_bounded g c = consumes_some _ _ _ c.in_err-program.ensures.bounded
@@ -138,6 +149,11 @@ returns-in_err-write_all_runs-clause-input_read g c = λ _. c.in_ok-lines.ensure
 pub returns-clause-input_read : goal.returns-clause-input_read
 returns-clause-input_read g c = λ _. c.in_ok-lines.ensures.unfailed (λ h. absurd cc)
 
+pub returns-in_err-write_all_runs-clause-unwritten : goal.returns-in_err-write_all_runs-clause-unwritten
+returns-in_err-write_all_runs-clause-unwritten g c =
+    let p = err_from_is_err_and c.from_residual-in_err-write_all_runs.result c.from_residual-in_err-write_all_runs.ensures.1 in
+    rw (p.1, p.2) (reports_note-failed c.in_err-write_all_runs.field-0.0 c.in_err-write_all_runs.ensures.failed)
+
 pub returns-in_err-write_all_runs-clause-written : goal.returns-in_err-write_all_runs-clause-written
 returns-in_err-write_all_runs-clause-written g c =
     let p = err_from_is_err_and c.from_residual-in_err-write_all_runs.result c.from_residual-in_err-write_all_runs.ensures.1 in
@@ -166,7 +182,7 @@ returns-in_err-lines-clause-unloaded g c =
 pub returns-in_err-explorer-clause-unloaded : goal.returns-in_err-explorer-clause-unloaded
 returns-in_err-explorer-clause-unloaded g c =
     let p = err_from_is_err_and c.from_residual-in_err-explorer.result c.from_residual-in_err-explorer.ensures.1 in
-    rw (p.1, p.2) (λ h. absurd (front_note-loaded c.in_err-explorer.field-0.0 c.in_err-explorer.ensures.faults h))
+    rw (p.1, p.2) (λ h. absurd (front_note-loaded (play c.in_ok-program.program c.deref.result.now c.args.request.now.rules) c.args.under.now c.args.after.now c.in_err-explorer.field-0.0 c.in_err-explorer.ensures.unbegun h))
 
 pub returns-in_err-write_all_runs-clause-unloaded : goal.returns-in_err-write_all_runs-clause-unloaded
 returns-in_err-write_all_runs-clause-unloaded g c =

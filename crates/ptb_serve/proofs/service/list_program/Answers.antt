@@ -4,7 +4,7 @@ use Rattle.std.proofs.lemmas.Result.{err_from_is_err_and}
 use Rattle.ptb_serve.specs.declared.note.Note.TheVariants.{Unwritten}
 use Rattle.ptb_serve.specs.Replies.{listing_reply}
 use Rattle.ptb_serve.specs.Serving.{load_note}
-use Rattle.ptb_serve.proofs.Served.{consumes_some, load_note-length, load_note-refusal, load_note-start, loaded_unrefused, serves_unloaded, serves_loaded, serves_refusal}
+use Rattle.ptb_serve.proofs.Served.{consumes_some, load_note-length, load_note-refusal, load_note-beginning, load_note-start, loaded_unrefused, serves_unloaded, serves_loaded, serves_refusal}
 use Rattle.ptb_serve.proofs.service.list_program.Goals as goal
 
 pub returns-in_err-program-clause-served : goal.returns-in_err-program-clause-served
@@ -44,6 +44,11 @@ pub returns-in_err-program-clause-no_start : goal.returns-in_err-program-clause-
 returns-in_err-program-clause-no_start g c =
     let p = err_from_is_err_and c.from_residual.result c.from_residual.ensures.1 in
     rw (p.1, p.2) (load_note-start c.in_err-program.field-0.0)
+
+pub returns-in_err-program-clause-no_beginning : goal.returns-in_err-program-clause-no_beginning
+returns-in_err-program-clause-no_beginning g c =
+    let p = err_from_is_err_and c.from_residual.result c.from_residual.ensures.1 in
+    rw (p.1, p.2) (load_note-beginning c.in_err-program.field-0.0)
 
 pub returns-in_err-program-clause-program_bounded : goal.returns-in_err-program-clause-program_bounded
 returns-in_err-program-clause-program_bounded g c = consumes_some _ _ _ c.in_err-program.ensures.bounded

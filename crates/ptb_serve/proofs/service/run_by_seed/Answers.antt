@@ -6,7 +6,7 @@ use Rattle.ptb_text.specs.Lines.{input_lines}
 use Rattle.ptb_serve.specs.SeededRuns.{seeded_answers, seeded_run}
 use Rattle.ptb_machine.specs.Play.{plain}
 use Rattle.ptb_serve.specs.Serving.{load_note, outcome_of, seeded_taken}
-use Rattle.ptb_serve.proofs.Served.{IsRunNote-loaded, IsRunNote-read, IsRunNote-start, IsRunNote-unread, IsRunNote-write, consumes_nothing, consumes_some, load_note-input, load_note-length, load_note-refusal, load_note-start, loaded_unrefused, serves_unloaded, serves_loaded, serves_refusal, serves_ended, serves_stopped, silent_seeded, unread_loaded, reads_nothing_for, reads_loaded, wanted_ended, wanted_stopped, when_refused}
+use Rattle.ptb_serve.proofs.Served.{IsRunNote-loaded, IsRunNote-read, IsRunNote-beginning, IsRunNote-start, IsRunNote-unread, IsRunNote-write, consumes_nothing, consumes_some, load_note-input, load_note-length, load_note-refusal, load_note-beginning, load_note-start, loaded_unrefused, serves_unloaded, serves_loaded, serves_refusal, serves_ended, serves_stopped, silent_seeded, unread_loaded, reads_nothing_for, reads_loaded, wanted_ended, wanted_stopped, when_refused}
 use Rattle.ptb_serve.proofs.service.run_by_seed.Goals as goal
 
 pub returns-in_err-program-clause-served : goal.returns-in_err-program-clause-served
@@ -80,8 +80,16 @@ returns-in_err-program-clause-no_start g c =
     let p = err_from_is_err_and c.from_residual.result c.from_residual.ensures.1 in
     rw (p.1, p.2) (load_note-start c.in_err-program.field-0.0)
 
+pub returns-in_err-program-clause-no_beginning : goal.returns-in_err-program-clause-no_beginning
+returns-in_err-program-clause-no_beginning g c =
+    let p = err_from_is_err_and c.from_residual.result c.from_residual.ensures.1 in
+    rw (p.1, p.2) (load_note-beginning c.in_err-program.field-0.0)
+
 pub returns-clause-no_start : goal.returns-clause-no_start
 returns-clause-no_start g c = IsRunNote-start c.in-Err.broken c.run_note.result c.run_note.ensures
+
+pub returns-clause-no_beginning : goal.returns-clause-no_beginning
+returns-clause-no_beginning g c = IsRunNote-beginning c.in-Err.broken c.run_note.result c.run_note.ensures
 
 -- ---- what was read
 

@@ -48,7 +48,7 @@ pub returns-in-Plain-clause-unread : goal.returns-in-Plain-clause-unread
 returns-in-Plain-clause-unread g c = rw (c.of.ensures, c.in-Plain.is) (λ is. c.run_program.ensures.unread (outcome_of-note c.run_program.result notes.InputUnread is))
 
 pub returns-in-All-clause-unread : goal.returns-in-All-clause-unread
-returns-in-All-clause-unread g c = rw (c.of-in-All.ensures, c.in-All.is) (λ is. unread_listing c.in-All.after c.in-All.first c.in-All.form _ _ _ _ c.list_runs.ensures.silent is)
+returns-in-All-clause-unread g c = rw (c.of-in-All.ensures, c.in-All.is) (λ is. unread_listing c.in-All.under c.in-All.after c.in-All.first c.in-All.form _ _ _ _ c.list_runs.ensures.silent is)
 
 pub returns-in-All-clause-within : goal.returns-in-All-clause-within
 returns-in-All-clause-within g c = λ _. rw c.of-in-All.ensures (outcome_of-none c.list_runs.result _ c.list_runs.ensures.within)
@@ -56,8 +56,14 @@ returns-in-All-clause-within g c = λ _. rw c.of-in-All.ensures (outcome_of-none
 pub returns-in-Plain-clause-no_run_within : goal.returns-in-Plain-clause-no_run_within
 returns-in-Plain-clause-no_run_within g c = rw c.of.ensures (λ is. absurd (c.run_program.ensures.no_start (outcome_of-note c.run_program.result notes.NoRun is)))
 
+pub returns-in-Plain-clause-no_beginning_within : goal.returns-in-Plain-clause-no_beginning_within
+returns-in-Plain-clause-no_beginning_within g c = rw c.of.ensures (λ is. absurd (c.run_program.ensures.no_beginning (outcome_of-note c.run_program.result notes.NoBeginning is)))
+
 pub returns-in-All-clause-no_run_within : goal.returns-in-All-clause-no_run_within
 returns-in-All-clause-no_run_within g c = rw c.of-in-All.ensures (λ is. c.list_runs.ensures.no_run_within (outcome_of-note c.list_runs.result notes.NoRun is))
+
+pub returns-in-All-clause-no_beginning_within : goal.returns-in-All-clause-no_beginning_within
+returns-in-All-clause-no_beginning_within g c = rw c.of-in-All.ensures (λ is. c.list_runs.ensures.no_beginning_within (outcome_of-note c.list_runs.result notes.NoBeginning is))
 
 -- ---- what a note tells of the program and the input
 
@@ -117,6 +123,9 @@ returns-in-Seeded-clause-unread g c = rw (c.of-in-Seeded.ensures, c.in-Seeded.is
 
 pub returns-in-Seeded-clause-no_run_within : goal.returns-in-Seeded-clause-no_run_within
 returns-in-Seeded-clause-no_run_within g c = rw c.of-in-Seeded.ensures (λ is. absurd (c.run_by_seed.ensures.no_start (outcome_of-note c.run_by_seed.result notes.NoRun is)))
+
+pub returns-in-Seeded-clause-no_beginning_within : goal.returns-in-Seeded-clause-no_beginning_within
+returns-in-Seeded-clause-no_beginning_within g c = rw c.of-in-Seeded.ensures (λ is. absurd (c.run_by_seed.ensures.no_beginning (outcome_of-note c.run_by_seed.result notes.NoBeginning is)))
 
 pub returns-in-Seeded-clause-tells_refusal : goal.returns-in-Seeded-clause-tells_refusal
 returns-in-Seeded-clause-tells_refusal g c = rw c.of-in-Seeded.ensures c.run_by_seed.ensures.tells_refusal

@@ -1,118 +1,56 @@
 -- This file answers what is left to prove of `input`.
-use Rattle.std.proofs.Common.{◌≤◌, ◌∙◌, ◌++◌, [], arith, refl}
-use Rattle.ptb_expr.specs.Reading.{item_of}
-use Rattle.ptb_command.specs.Act.{first_width}
-use Rattle.ptb_command.specs.Commands.{input_item, end_check, parts_of}
+use Rattle.std.proofs.Common.{◌∙◌, ◌++◌, [], subst, sym}
+use Rattle.ptb_command.specs.Devices.{refused_by}
 use Rattle.ptb_command.specs.Io.{io_trace}
-use Rattle.ptb_command.specs.Stops.{NotMissed}
-use Rattle.ptb_command.proofs.Comings.{if_ok_both, comes_unrefused}
-use Rattle.ptb_command.proofs.Commas.{comma_closed, comma_ended, comma_on, comma_first}
-use Rattle.ptb_command.proofs.Going.{item_in_front, going_start, going_last, last_closes, going_on, going_first}
-use Rattle.ptb_command.proofs.Inputting.{none_given, refines_part_joined, stops_joined}
-use Rattle.ptb_command.proofs.Missed.{unmissed, missed_err, stop_missed_from, not_missed, not_missed_then, fewer_lines}
-use Rattle.ptb_command.proofs.PartRefinement.{refines_part_then}
-use Rattle.ptb_command.proofs.Parts.{refines_part_parts}
-use Rattle.ptb_command.proofs.Stops.{comes_err, comes_after, stops_after}
+use Rattle.ptb_command.proofs.Actions.{goes_adds}
+use Rattle.ptb_command.proofs.Gathered.{unfinished, finished, finish_breaks}
+use Rattle.ptb_command.proofs.Stops.{comes_err, comes_more, stops_more}
 use Rattle.ptb_command.proofs.commands.input.input.Goals as goal
 
-pub items-init : goal.items-init
-unfolding parts_of
-items-init g c = record {
-  text = refl;
-  same = record { chooser = refl; screen = refl; source = refl; choose = refl };
-  given = [];
-  gives = g.met.L.LineSource.gives_none _;
-  missed = not_missed _ _ _ _ (omega arith);
-  going = going_start _ _ _ _ _ _ _ refl c.requires.place (λ before. none_given _ _);
-}
-
-pub returns-in_err-input_item-clause-comes : goal.returns-in_err-input_item-clause-comes
-returns-in_err-input_item-clause-comes g c =
-    let t = c.args.cursor.now.text in
-    let was = c.items.invariant in
-    let one = c.in_err-input_item.ensures.comes in
-    let first = going_first _ _ _ _ _ _ _ _ was.going _ (comma_first t (input_item t c.items.cursor.place)) in (
-      was.given ++ one.0,
+pub returns-then-not-still_shows-clause-comes : goal.returns-then-not-still_shows-clause-comes
+returns-then-not-still_shows-clause-comes g c =
+    let done = c.input_items-done.ensures.comes in (
+      done.0,
       (
-        g.met.L.LineSource.gives_more _ _ _ _ _ was.gives one.1.0,
-        λ before. comes_err _ _ _ _ _ _ _ c.from_residual.ensures.1
-            (stops_after _ _ (first.1 before) _
-            (stops_joined g.C.Chooser.choices g.S.Screen g.L.LineSource.most c.input_item.new.io c.input_item.new.store before was.given one.0 _ _ _ _
-            (rw was.text at (one.1.1 (before ++ was.given) first.0 first_width [])))),
+        done.1.0,
+        λ before. unfinished _ _ _ _ _ _ _ _ c.input_items-done.result (sym c.still_shows.ensures ∙ c.if-not-still_shows.true)
+            (rw c.new-gathering.ensures at (done.1.1 before)),
       ),
     )
 
-pub items-preserved : goal.items-preserved
-items-preserved g c =
-    let t = c.args.cursor.now.text in
-    let was = c.items.invariant in
-    let one = c.in_ok-input_item.ensures.comes in
-    let same = c.in_ok-input_item.ensures.same in
-    let text = c.in_ok-input_item.ensures.text ∙ was.text in
-    let item = rw was.text at c.in_ok-input_item.ensures.read in
-    let comma = rw text at c.if-not-token.ensures.value in
-    let ahead = c.finding_laws.ensures.token _ _ _ _ comma in
-    record {
-      text = c.token.ensures.text ∙ text;
-      same = record { chooser = same.chooser ∙ was.same.chooser; screen = same.screen ∙ was.same.screen; source = same.source ∙ was.same.source; choose = same.choose ∙ was.same.choose };
-      given = was.given ++ one.0;
-      gives = g.met.L.LineSource.gives_more _ _ _ _ _ was.gives one.1.0;
-      missed = not_missed_then _ _ _ _ _ _ (fewer_lines g.L.LineSource.gives g.L.LineSource.most g.met.L.LineSource.falls _ _ _ one.1.0) was.missed (rw was.same.choose at c.in_ok-input_item.ensures.missed);
-      going = going_on _ _ _ _ _ _ _ _ was.going _ _ _ _
-          (comma_on t (input_item t c.items.cursor.place) _ _ item.whole comma)
-          (omega (arith, item.ahead.after, ahead.after)) ahead.within
-          (λ rest p before. refines_part_then (p before)
-          (refines_part_joined g.C.Chooser.choices g.S.Screen g.L.LineSource.most c.input_item.new.io c.input_item.new.store before was.given one.0 (rw was.text at (one.1.1 (before ++ was.given) rest first_width []))));
-    }
-
-pub returns-then-not-token-clause-comes : goal.returns-then-not-token-clause-comes
-returns-then-not-token-clause-comes g c =
-    let t = c.args.cursor.now.text in
-    let was = c.items.invariant in
-    let one = c.in_ok-input_item.ensures.comes in
-    let text = c.in_ok-input_item.ensures.text ∙ was.text in
-    let item = rw was.text at c.in_ok-input_item.ensures.read in
-    let rest = end_check t c.input_item.new.cursor.place in
-    let last = going_last _ _ _ _ _ _ _ _ was.going _
-    (comma_closed t (input_item t c.items.cursor.place) _ item.whole (rw text at c.if-not-token.ensures.value)) in (
-      was.given ++ one.0,
+pub returns-in_err-flush-clause-comes : goal.returns-in_err-flush-clause-comes
+returns-in_err-flush-clause-comes g c =
+    let done = c.input_items-done.ensures.comes in
+    let io = c.input_items-done.new.io in
+    let source = c.flush.new.self.source in (
+      done.0,
       (
-        g.met.L.LineSource.gives_more _ _ _ _ _ was.gives one.1.0,
+        rw c.flush.ensures.same.source done.1.0,
         λ before.
-            let n = io_trace g.C.Chooser.choices g.S.Screen g.L.LineSource.most c.input_item.new.io (before ++ (was.given ++ one.0)) c.input_item.new.store in
-            comes_after _ n _
-            (refines_part_then (last before)
-            (refines_part_parts first_width [] _ _ (item_in_front _ rest)
-            (refines_part_joined g.C.Chooser.choices g.S.Screen g.L.LineSource.most c.input_item.new.io c.input_item.new.store before was.given one.0 (rw was.text at (one.1.1 (before ++ was.given) (item_of rest) first_width [])))))
-            _ (comes_unrefused _ _ _ _ _ _ (rw (c.token.ensures.text ∙ text) at (rw (c.if-not-token.ensures.absent refl) at (c.check_end.ensures.comes n first_width [])))),
+            let n = io_trace g.C.Chooser.choices g.S.Screen g.L.LineSource.most c.flush.new.self (before ++ done.0) c.input_items-done.new.store in
+            comes_err _ _ _ _ _ _ _ c.from_residual.ensures.1
+            (stops_more (refused_by (g.C.Chooser.refused io.chooser.now) (g.L.LineSource.refused io.source.now) (g.L.LineSource.lines io.source.now)) _
+            (λ r x. subst (λ k. refused_by (g.C.Chooser.refused k.now) (g.L.LineSource.refused source.now) (g.L.LineSource.lines source.now) r) (sym c.flush.ensures.chooser)
+            (subst (λ k. refused_by (g.C.Chooser.refused io.chooser.now) (g.L.LineSource.refused k.now) (g.L.LineSource.lines k.now) r) (sym c.flush.ensures.same.source) x)) _ n _ _
+            (finish_breaks _ _ _ _ _ n (λ u. goes_adds []) _ (c.in_err-flush.ensures.comes (before ++ done.0) c.input_items-done.new.store)
+            c.input_items-done.result (sym c.still_shows.ensures ∙ c.if-not-still_shows.false)
+            (rw c.new-gathering.ensures at (done.1.1 before)))),
       ),
     )
 
-pub returns-then-not-token-clause-closed : goal.returns-then-not-token-clause-closed
-returns-then-not-token-clause-closed g c =
-    let t = c.args.cursor.now.text in
-    let was = c.items.invariant in
-    let text = c.in_ok-input_item.ensures.text ∙ was.text in
-    let item = rw was.text at c.in_ok-input_item.ensures.read in
-    let none = rw text at c.if-not-token.ensures.value in
-    let whole = rw (c.token.ensures.text ∙ text) at (rw (c.if-not-token.ensures.absent refl) at c.check_end.ensures.whole) in
-    let ends = rw (c.token.ensures.text ∙ text) at (rw (c.if-not-token.ensures.absent refl) at c.check_end.ensures.ends) in
-    rw (c.if-not-token.ensures.absent refl)
-    (if_ok_both c.check_end.result
-    (λ w e. record {
-      whole = last_closes _ _ _ _ _ _ _ _ was.going _ _ (comma_ended t (input_item t c.items.cursor.place) _ item.whole none w);
-      from = omega (arith, item.ahead.after, was.going.from);
-      within = item.ahead.within;
-      ends = e;
-    })
-    whole ends)
-
-pub returns-in_err-input_item-clause-missed : goal.returns-in_err-input_item-clause-missed
-returns-in_err-input_item-clause-missed g c =
-    missed_err (g.L.LineSource.refused c.input_item.new.io.source.now) _ _ _ c.from_residual.ensures.1 (stop_missed_from (g.L.LineSource.refused c.input_item.new.io.source.now)
-    (NotMissed c.args.io.now.choose (g.L.LineSource.missed c.items.io.source.now) (g.L.LineSource.missed c.input_item.new.io.source.now) (g.L.LineSource.most c.input_item.new.io.source.now))
-    (NotMissed c.args.io.now.choose (g.L.LineSource.missed c.args.io.now.source.now) (g.L.LineSource.missed c.input_item.new.io.source.now) (g.L.LineSource.most c.input_item.new.io.source.now))
-    (λ h. not_missed_then c.args.io.now.choose _ _ _ (g.L.LineSource.most c.items.io.source.now) _ (fewer_lines g.L.LineSource.gives g.L.LineSource.most g.met.L.LineSource.falls _ _ _ c.in_err-input_item.ensures.comes.1.0) c.items.invariant.missed h) _ (rw c.items.invariant.same.choose at c.in_err-input_item.ensures.missed))
-
-pub returns-then-not-token-clause-missed : goal.returns-then-not-token-clause-missed
-returns-then-not-token-clause-missed g c = unmissed (g.L.LineSource.refused c.input_item.new.io.source.now) _ (not_missed_then _ _ _ _ _ _ (fewer_lines g.L.LineSource.gives g.L.LineSource.most g.met.L.LineSource.falls _ _ _ c.in_ok-input_item.ensures.comes.1.0) c.items.invariant.missed (rw c.items.invariant.same.choose at c.in_ok-input_item.ensures.missed)) c.check_end.result
+pub returns-clause-comes : goal.returns-clause-comes
+returns-clause-comes g c =
+    let done = c.input_items-done.ensures.comes in
+    let io = c.input_items-done.new.io in
+    let source = c.flush.new.self.source in (
+      done.0,
+      (
+        rw c.flush.ensures.same.source done.1.0,
+        λ before. comes_more (refused_by (g.C.Chooser.refused io.chooser.now) (g.L.LineSource.refused io.source.now) (g.L.LineSource.lines io.source.now)) _
+            (λ r x. subst (λ k. refused_by (g.C.Chooser.refused k.now) (g.L.LineSource.refused source.now) (g.L.LineSource.lines source.now) r) (sym c.flush.ensures.chooser)
+            (subst (λ k. refused_by (g.C.Chooser.refused io.chooser.now) (g.L.LineSource.refused k.now) (g.L.LineSource.lines k.now) r) (sym c.flush.ensures.same.source) x)) _ _ _ _ _
+            (finished _ _ _ _ _ _ _ _ (c.in_ok-flush.ensures.comes (before ++ done.0) c.input_items-done.new.store)
+            c.input_items-done.result (sym c.still_shows.ensures ∙ c.if-not-still_shows.false)
+            (rw c.new-gathering.ensures at (done.1.1 before))),
+      ),
+    )

@@ -1,13 +1,13 @@
 -- This file answers what is left to prove of `take_answer`.
-use Rattle.std.proofs.Common.{◌≡◌, ◌≤◌, ◌∙◌, ◌++◌, [], ◌∷◌, Ok, Some, None, IfErr, IfOk, IfNone, ap, append_assoc, arith, refl, rules, subst, sym, to_z, of_z, w16}
+use Rattle.std.proofs.Common.{◌≡◌, ◌∙◌, ◌++◌, [], ◌∷◌, Ok, Some, None, IfErr, IfOk, IfNone, ap, append_assoc, arith, refl, rules, subst, sym, to_z, of_z, w16}
 use Rattle.ptb_text.specs.CursorState.{CursorState}
 use Rattle.ptb_command.specs.declared.stop.Stop.TheVariants as stops
 use Rattle.ptb_command.specs.Devices.{devices, screen_state, with_screen, refused_answers, refused_by}
 use Rattle.ptb_command.specs.Stops.{NotMissed}
-use Rattle.ptb_command.specs.Io.{io_devices}
 use Rattle.ptb_devices.specs.Sources.{given_lines, NoneLeft}
 use Rattle.ptb_command.proofs.Letting.{store_refines_part}
 use Rattle.ptb_command.proofs.Actions.{stops_unrefused}
+use Rattle.ptb_command.proofs.Due.{stops_none}
 use Rattle.ptb_command.proofs.Inputting.{take_ask_stops, take_unread, take_dry, take_instead, take_given, line_refines_part, line_stops, newline_stops, worth_stops, stored_refines_part, again_refines_part, again_stops, gives_no_more, gives_one_more, none_given, line_known, answers_too}
 use Rattle.ptb_command.proofs.Missed.{stop_unmissed, unmissed, missed_err, missed_read, given_missed, not_missed, not_missed_instead, fewer_lines, falls_one, none_more}
 use Rattle.ptb_command.proofs.PartRefinement.{refines_part_then}
@@ -49,11 +49,11 @@ returns-in_err-line-clause-comes g c =
       (
         gives_no_more g.L.LineSource.gives g.met.L.LineSource.gives_more _ _ _ _ c.next.result (ap given_lines c.in_err-line.was) gives c.next.follows.holds-at-none.0,
         λ before. comes_err _ _ _ _ _ _ _ c.from_residual-in_err-line.ensures.1
-            (stops_after _ _ (was.refines before) _
+            (stops_none _ _ _ _ _ c.in_ok-target.ensures.empty (stops_after _ _ (was.refines before) _
             (take_unread _ _ _ _ _ c.in_ok-target.target c.in_err-line.field-0.0
             (fewer_lines g.L.LineSource.gives g.L.LineSource.most g.met.L.LineSource.falls _ _ _ c.next.follows.holds-at-none.0)
             (rw was.place at (rw was.text at (c.in_ok-target.ensures.comes (before ++ was.given))))
-            (subst (λ r. IfErr r (g.L.LineSource.refused c.next.follows.lender-at-none)) c.in_err-line.was c.next.follows.holds-at-none.1))),
+            (subst (λ r. IfErr r (g.L.LineSource.refused c.next.follows.lender-at-none)) c.in_err-line.was c.next.follows.holds-at-none.1)))),
       ),
     )
 
@@ -65,10 +65,10 @@ returns-in_default-choose-clause-comes g c =
       was.given,
       (
         gives_no_more g.L.LineSource.gives g.met.L.LineSource.gives_more _ _ _ _ c.next.result (ap given_lines none) gives c.next.follows.holds-at-none.0,
-        λ before. stops_after _ _ (was.refines before) stops.NoInput
+        λ before. stops_none _ _ _ _ stops.NoInput c.in_ok-target.ensures.empty (stops_after _ _ (was.refines before) stops.NoInput
             (take_dry _ _ _ _ _ c.in_ok-target.target (none_more g.L.LineSource.most c.next.result none c.next.follows.holds-at-none.4) c.in_default-choose.is
             (rw was.place at (rw was.text at (c.in_ok-target.ensures.comes (before ++ was.given))))
-            (subst (λ r. IfOk r (λ line. IfNone line (NoneLeft (g.L.LineSource.lines c.next.follows.lender-at-none)))) none c.next.follows.holds-at-none.2)),
+            (subst (λ r. IfOk r (λ line. IfNone line (NoneLeft (g.L.LineSource.lines c.next.follows.lender-at-none)))) none c.next.follows.holds-at-none.2))),
       ),
     )
 
@@ -109,7 +109,7 @@ returns-in_err-show-clause-comes g c =
             let given = take_given _ _ _ _ c.in_ok-target.target c.in-Some.line.now (before ++ lines) fewer (sym (append_assoc before was.given (c.in-Some.line.now ∷ []))) asked in
             comes_err _ _ _ _ _ _ _ c.from_residual-in_err-show.ensures.1
             (stops_after _ _ (refines_part_then (was.refines before) given) _
-            (line_stops _ _ _ _ _ _ _ _ _ (stops_unrefused _ _ _ _ _ (c.in_err-show.ensures d c.answers.store)))),
+            (line_stops _ _ _ _ _ _ _ _ _ (stops_unrefused _ _ _ _ _ (c.in_err-show.ensures.comes d c.answers.store)))),
       ),
     )
 
@@ -128,8 +128,8 @@ returns-in_err-show-2-clause-comes g c =
             let given = take_given _ _ _ _ c.in_ok-target.target c.in-Some.line.now (before ++ lines) fewer (sym (append_assoc before was.given (c.in-Some.line.now ∷ []))) asked in
             comes_err _ _ _ _ _ _ _ c.from_residual-in_err-show-2.ensures.1
             (stops_after _ _ (refines_part_then (was.refines before) given) _
-            (newline_stops _ _ _ _ _ _ _ _ (c.in_ok-show.ensures d c.answers.store)
-            (stops_unrefused _ _ _ _ _ (c.in_err-show-2.ensures d c.answers.store)))),
+            (newline_stops _ _ _ _ _ _ _ _ (c.in_ok-show.ensures.comes d c.answers.store)
+            (stops_unrefused _ _ _ _ _ (c.in_err-show-2.ensures.comes d c.answers.store)))),
       ),
     )
 
@@ -146,12 +146,12 @@ returns-in_err-value-clause-comes g c =
             let d = devices (g.C.Chooser.choices c.ask.new.io.chooser.now) (screen_state g.S.Screen c.ask.new.io.screen.now) (g.L.LineSource.most c.next.follows.lender-at-none) c.ask.new.io.choose (before ++ lines) in
             let asked = rw was.place at (rw was.text at (c.in_ok-target.ensures.comes (before ++ was.given))) in
             let given = take_given _ _ _ _ c.in_ok-target.target c.in-Some.line.now (before ++ lines) fewer (sym (append_assoc before was.given (c.in-Some.line.now ∷ []))) asked in
-            let shown = line_refines_part _ _ _ c.in_ok-target.target c.in-Some.line.now (c.in_ok-show.ensures d c.answers.store) (c.in_ok-show-2.ensures d c.answers.store) in
+            let shown = line_refines_part _ _ _ c.in_ok-target.target c.in-Some.line.now (c.in_ok-show.ensures.comes d c.answers.store) (c.in_ok-show-2.ensures.comes d c.answers.store) in
             comes_err _ _ _ _ _ _ _ c.from_residual-in_err-value.ensures.1
             (stops_after _ _ (refines_part_then (was.refines before) (refines_part_then given shown)) _
             (worth_stops _ _ _ _ _ _ _ _ _
             (stops_more (refused_answers _) _ (answers_too _ _ _) _ _ _ _
-            (c.in_err-value.ensures (with_screen (screen_state g.S.Screen c.show-in-answers.new.screen) d) c.show-in-answers.new.fresh)))),
+            (c.in_err-value.ensures (with_screen (screen_state g.S.Screen c.show-in-answers.new.screen) d) c.show-in-answers.new.fresh c.show-in-answers.new.self)))),
       ),
     )
 
@@ -169,11 +169,11 @@ returns-in-Ok-clause-comes g c =
             let d = devices (g.C.Chooser.choices c.ask.new.io.chooser.now) (screen_state g.S.Screen c.ask.new.io.screen.now) (g.L.LineSource.most c.next.follows.lender-at-none) c.ask.new.io.choose (before ++ lines) in
             let asked = rw was.place at (rw was.text at (c.in_ok-target.ensures.comes (before ++ was.given))) in
             let given = take_given _ _ _ _ c.in_ok-target.target c.in-Some.line.now (before ++ lines) fewer (sym (append_assoc before was.given (c.in-Some.line.now ∷ []))) asked in
-            let shown = line_refines_part _ _ _ c.in_ok-target.target c.in-Some.line.now (c.in_ok-show.ensures d c.answers.store) (c.in_ok-show-2.ensures d c.answers.store) in
+            let shown = line_refines_part _ _ _ c.in_ok-target.target c.in-Some.line.now (c.in_ok-show.ensures.comes d c.answers.store) (c.in_ok-show-2.ensures.comes d c.answers.store) in
             refines_part_then (was.refines before) (refines_part_then given (refines_part_then shown
             (stored_refines_part _ _ _ c.in_ok-target.target c.in-Some.line.now _ _ same
-            (line_known _ _ _ c.in-Ok.is (c.in_ok-value.ensures (with_screen (screen_state g.S.Screen c.show-in-answers.new.screen) d) c.show-in-answers.new.fresh))
-            (store_refines_part _ _ _ _ _ _ c.store_value.ensures)))),
+            (line_known _ _ _ c.in-Ok.is (c.in_ok-value.ensures (with_screen (screen_state g.S.Screen c.show-in-answers.new.screen) d) c.show-in-answers.new.fresh c.show-in-answers.new.self))
+            (store_refines_part _ _ _ _ _ _ _ c.store_value.ensures)))),
       ),
     )
 
@@ -200,10 +200,10 @@ answers-preserved g c =
           let d = devices (g.C.Chooser.choices c.ask.new.io.chooser.now) (screen_state g.S.Screen c.ask.new.io.screen.now) (g.L.LineSource.most c.next.follows.lender-at-none) c.ask.new.io.choose (before ++ lines) in
           let asked = rw was.place at (rw was.text at (c.in_ok-target.ensures.comes (before ++ was.given))) in
           let given = take_given _ _ _ _ c.in_ok-target.target c.in-Some.line.now (before ++ lines) fewer (sym (append_assoc before was.given (c.in-Some.line.now ∷ []))) asked in
-          let shown = line_refines_part _ _ _ c.in_ok-target.target c.in-Some.line.now (c.in_ok-show.ensures d c.answers.store) (c.in_ok-show-2.ensures d c.answers.store) in
+          let shown = line_refines_part _ _ _ c.in_ok-target.target c.in-Some.line.now (c.in_ok-show.ensures.comes d c.answers.store) (c.in_ok-show-2.ensures.comes d c.answers.store) in
           refines_part_then (was.refines before) (refines_part_then given (refines_part_then shown
           (again_refines_part _ _ _ c.in_ok-target.target c.in-Some.line.now c.in-Err.fault _ c.fault_line.ensures
-          (line_known _ _ _ c.in-Err.is (c.in_ok-value.ensures (with_screen (screen_state g.S.Screen c.show-in-answers.new.screen) d) c.show-in-answers.new.fresh))
+          (line_known _ _ _ c.in-Err.is (c.in_ok-value.ensures (with_screen (screen_state g.S.Screen c.show-in-answers.new.screen) d) c.show-in-answers.new.fresh c.show-in-answers.new.self))
           (c.in_ok-show-in-Err.ensures.comes (before ++ lines) c.answers.store))));
     }
 
@@ -220,11 +220,11 @@ returns-in_err-show-in-Err-clause-comes g c =
             let d = devices (g.C.Chooser.choices c.ask.new.io.chooser.now) (screen_state g.S.Screen c.ask.new.io.screen.now) (g.L.LineSource.most c.next.follows.lender-at-none) c.ask.new.io.choose (before ++ lines) in
             let asked = rw was.place at (rw was.text at (c.in_ok-target.ensures.comes (before ++ was.given))) in
             let given = take_given _ _ _ _ c.in_ok-target.target c.in-Some.line.now (before ++ lines) fewer (sym (append_assoc before was.given (c.in-Some.line.now ∷ []))) asked in
-            let shown = line_refines_part _ _ _ c.in_ok-target.target c.in-Some.line.now (c.in_ok-show.ensures d c.answers.store) (c.in_ok-show-2.ensures d c.answers.store) in
+            let shown = line_refines_part _ _ _ c.in_ok-target.target c.in-Some.line.now (c.in_ok-show.ensures.comes d c.answers.store) (c.in_ok-show-2.ensures.comes d c.answers.store) in
             comes_err _ _ _ _ _ _ _ c.from_residual-in_err-show-in-Err.ensures.1
             (stops_after _ _ (refines_part_then (was.refines before) (refines_part_then given shown)) _
             (again_stops _ _ _ _ _ c.in_ok-target.target c.in-Some.line.now c.in-Err.fault _ c.fault_line.ensures _
-            (line_known _ _ _ c.in-Err.is (c.in_ok-value.ensures (with_screen (screen_state g.S.Screen c.show-in-answers.new.screen) d) c.show-in-answers.new.fresh))
+            (line_known _ _ _ c.in-Err.is (c.in_ok-value.ensures (with_screen (screen_state g.S.Screen c.show-in-answers.new.screen) d) c.show-in-answers.new.fresh c.show-in-answers.new.self))
             (stops_unrefused _ _ _ _ _ (c.in_err-show-in-Err.ensures.comes (before ++ lines) c.answers.store)))),
       ),
     )

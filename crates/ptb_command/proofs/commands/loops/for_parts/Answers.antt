@@ -28,7 +28,7 @@ pub returns-in_err-first-clause-comes : goal.returns-in_err-first-clause-comes
 returns-in_err-first-clause-comes g c d fresh =
     comes_err _ _ _ _ _ _ _ c.from_residual.ensures.1
     (first_stops c.args.cursor.now.text c.args.cursor.now.place c.in-Some.letter _ c.in-Some.ensures.value _ (rw c.letter.ensures.text at c.if-not-token.ensures.value) _ _ _ _
-    (rw (c.token.ensures.text ∙ c.letter.ensures.text) at (c.in_err-first.ensures.comes d fresh)))
+    (rw (c.token.ensures.text ∙ c.letter.ensures.text) at (c.in_err-first.ensures.comes d fresh [])))
 
 -- ---- the limit
 
@@ -39,7 +39,7 @@ returns-then-is_none-clause-comes g c d fresh =
     let none = no_word _ _ _ c.if-is_none.ensures (rw (c.value.ensures.text ∙ c.token.ensures.text ∙ c.letter.ensures.text) at c.word.ensures.value) in
     stops_fault _ _ _ _ _ _ (rw (c.place-then-is_none.ensures ∙ c.word.ensures.absent c.if-is_none.ensures) at c.fault-then-is_none.ensures)
     (refines_part_then (first_refines_part c.args.cursor.now.text c.args.cursor.now.place c.in-Some.letter _ c.in-Some.ensures.value _ (rw c.letter.ensures.text at c.if-not-token.ensures.value) _ _ _ _
-    first.whole same c.set.ensures (rw (c.token.ensures.text ∙ c.letter.ensures.text) at (c.in_ok-first.ensures.comes d fresh)))
+    first.whole same c.set.ensures (rw (c.token.ensures.text ∙ c.letter.ensures.text) at (c.in_ok-first.ensures.comes d fresh [])))
     (limit_missing c.args.cursor.now.text _ first_width [] _ none))
 
 pub returns-in_err-limit-clause-comes : goal.returns-in_err-limit-clause-comes
@@ -49,8 +49,8 @@ returns-in_err-limit-clause-comes g c d fresh =
     let to = word_there _ _ _ c.if-is_none.ensures (rw (c.value.ensures.text ∙ c.token.ensures.text ∙ c.letter.ensures.text) at c.word.ensures.value) in
     comes_err _ _ _ _ _ _ _ c.from_residual-in_err-limit.ensures.1
     (stops_after _ _ (first_refines_part c.args.cursor.now.text c.args.cursor.now.place c.in-Some.letter _ c.in-Some.ensures.value _ (rw c.letter.ensures.text at c.if-not-token.ensures.value) _ _ _ _
-    first.whole same c.set.ensures (rw (c.token.ensures.text ∙ c.letter.ensures.text) at (c.in_ok-first.ensures.comes d fresh))) _
-    (limit_stops c.args.cursor.now.text _ first_width [] _ _ to.1 _ _ _ _ (rw (c.word.ensures.text ∙ (c.value.ensures.text ∙ c.token.ensures.text ∙ c.letter.ensures.text)) at (c.in_err-limit.ensures.comes d fresh))))
+    first.whole same c.set.ensures (rw (c.token.ensures.text ∙ c.letter.ensures.text) at (c.in_ok-first.ensures.comes d fresh []))) _
+    (limit_stops c.args.cursor.now.text _ first_width [] _ _ to.1 _ _ _ _ (rw (c.word.ensures.text ∙ (c.value.ensures.text ∙ c.token.ensures.text ∙ c.letter.ensures.text)) at (c.in_err-limit.ensures.comes d fresh []))))
 
 -- ---- the step
 
@@ -62,8 +62,8 @@ returns-in_err-step-clause-comes g c d fresh =
     let limit = rw (c.word.ensures.text ∙ (c.value.ensures.text ∙ c.token.ensures.text ∙ c.letter.ensures.text)) at c.in_ok-limit.ensures.read in
     comes_err _ _ _ _ _ _ _ c.from_residual-in_err-step.ensures.1
     (stops_after _ _ (first_refines_part c.args.cursor.now.text c.args.cursor.now.place c.in-Some.letter _ c.in-Some.ensures.value _ (rw c.letter.ensures.text at c.if-not-token.ensures.value) _ _ _ _
-    first.whole same c.set.ensures (rw (c.token.ensures.text ∙ c.letter.ensures.text) at (c.in_ok-first.ensures.comes d fresh))) _
-    (stops_after _ _ (limit_refines_part c.args.cursor.now.text _ first_width [] _ _ to.1 _ _ limit.whole (rw (c.word.ensures.text ∙ (c.value.ensures.text ∙ c.token.ensures.text ∙ c.letter.ensures.text)) at (c.in_ok-limit.ensures.comes d fresh))) _
+    first.whole same c.set.ensures (rw (c.token.ensures.text ∙ c.letter.ensures.text) at (c.in_ok-first.ensures.comes d fresh []))) _
+    (stops_after _ _ (limit_refines_part c.args.cursor.now.text _ first_width [] _ _ to.1 _ _ limit.whole (rw (c.word.ensures.text ∙ (c.value.ensures.text ∙ c.token.ensures.text ∙ c.letter.ensures.text)) at (c.in_ok-limit.ensures.comes d fresh []))) _
     (rw (c.value-2.ensures.text ∙ c.word.ensures.text ∙ (c.value.ensures.text ∙ c.token.ensures.text ∙ c.letter.ensures.text)) at (c.in_err-step.ensures.comes d fresh first_width (c.in_ok-limit.limit ∷ [])))))
 
 pub returns-clause-comes : goal.returns-clause-comes
@@ -76,8 +76,8 @@ returns-clause-comes g c d fresh =
     let limit = rw (c.word.ensures.text ∙ (c.value.ensures.text ∙ c.token.ensures.text ∙ c.letter.ensures.text)) at c.in_ok-limit.ensures.read in
     both_same _ _ _ _ limit_same step_same
     (refines_part_then (first_refines_part c.args.cursor.now.text c.args.cursor.now.place c.in-Some.letter _ c.in-Some.ensures.value _ (rw c.letter.ensures.text at c.if-not-token.ensures.value) _ _ _ _
-    first.whole same c.set.ensures (rw (c.token.ensures.text ∙ c.letter.ensures.text) at (c.in_ok-first.ensures.comes d fresh)))
-    (refines_part_then (limit_refines_part c.args.cursor.now.text _ first_width [] _ _ to.1 _ _ limit.whole (rw (c.word.ensures.text ∙ (c.value.ensures.text ∙ c.token.ensures.text ∙ c.letter.ensures.text)) at (c.in_ok-limit.ensures.comes d fresh)))
+    first.whole same c.set.ensures (rw (c.token.ensures.text ∙ c.letter.ensures.text) at (c.in_ok-first.ensures.comes d fresh [])))
+    (refines_part_then (limit_refines_part c.args.cursor.now.text _ first_width [] _ _ to.1 _ _ limit.whole (rw (c.word.ensures.text ∙ (c.value.ensures.text ∙ c.token.ensures.text ∙ c.letter.ensures.text)) at (c.in_ok-limit.ensures.comes d fresh [])))
     (rw (c.value-2.ensures.text ∙ c.word.ensures.text ∙ (c.value.ensures.text ∙ c.token.ensures.text ∙ c.letter.ensures.text)) at (c.in_ok-step.ensures.comes d fresh first_width (c.in_ok-limit.limit ∷ [])))))
 
 pub returns-clause-closed : goal.returns-clause-closed

@@ -1,128 +1,31 @@
 -- This file answers what is left to prove of `print`.
-use Rattle.std.proofs.Common.{◌≡◌, ◌∙◌, [], ◌∷◌, true, ap, arith, refl, sym}
-use Rattle.ptb_expr.specs.Reading.{item_of}
-use Rattle.ptb_command.specs.Act.{first_width}
-use Rattle.ptb_command.specs.Commands.{NewLine, at_end, end_check}
+use Rattle.std.proofs.Common.{◌∙◌, [], subst, sym}
+use Rattle.ptb_command.specs.Devices.{refused_answers}
 use Rattle.ptb_command.specs.Io.{io_trace}
-use Rattle.ptb_command.proofs.Comings.{if_ok_always, if_ok_both, comes_unrefused, newline_comes}
-use Rattle.ptb_command.proofs.Actions.{stops_unrefused}
-use Rattle.ptb_command.proofs.Going.{is_whole, going_start, going_last, last_closes, going_on, going_first}
-use Rattle.ptb_command.proofs.Items.{print_nothing, print_something, round_first, round_closed, round_ended, round_open, round_on, closed_list}
-use Rattle.ptb_command.proofs.PartRefinement.{refines_part_refl, refines_part_then}
-use Rattle.ptb_command.proofs.Parts.{refines_part_parts, stops_parts, refines_part_end, newline_refines_part, newline_stops}
-use Rattle.ptb_command.proofs.Stops.{comes_err, comes_after, stops_after}
+use Rattle.ptb_command.proofs.Actions.{goes_adds}
+use Rattle.ptb_command.proofs.Gathered.{unfinished, finished, finish_breaks}
+use Rattle.ptb_command.proofs.Stops.{comes_err, comes_more, stops_more}
 use Rattle.ptb_command.proofs.commands.print.print.Goals as goal
 
--- ---- a newline alone
+pub returns-then-not-still_shows-clause-comes : goal.returns-then-not-still_shows-clause-comes
+returns-then-not-still_shows-clause-comes g c given =
+    unfinished _ _ _ _ _ _ _ _ c.print_items-done.result (sym c.still_shows.ensures ∙ c.if-not-still_shows.true)
+    (rw c.new-gathering.ensures at (c.print_items-done.ensures.comes given))
 
-pub returns-then-at_end-clause-comes : goal.returns-then-at_end-clause-comes
-returns-then-at_end-clause-comes g c given =
-    newline_comes _ _ _ _ first_width (ap item_of (print_nothing c.args.cursor.now.text c.args.cursor.now.place (sym c.at_end.ensures ∙ c.if-at_end.true))) _
-    (c.show.ensures.comes given c.args.store.now)
-
-pub returns-then-at_end-clause-closed : goal.returns-then-at_end-clause-closed
-returns-then-at_end-clause-closed g c =
-    let ends : at_end c.args.cursor.now.text c.args.cursor.now.place ≡ true = sym c.at_end.ensures ∙ c.if-at_end.true in
-    if_ok_always _ c.show.result (record { whole = is_whole _ _ _ (print_nothing c.args.cursor.now.text c.args.cursor.now.place ends); from = omega arith; within = c.requires; ends = ends })
-
--- ---- items
-
-pub items-init : goal.items-init
-items-init g c = record {
-  text = refl;
-  same = record { chooser = refl; screen = refl; source = refl; choose = refl };
-  going = going_start _ _ _ _ _ _ _ (print_something c.args.cursor.now.text c.args.cursor.now.place (sym c.at_end.ensures ∙ c.if-at_end.false)) c.requires (λ given. refines_part_refl _ _);
-}
-
-pub returns-in_err-print_item-clause-comes : goal.returns-in_err-print_item-clause-comes
-returns-in_err-print_item-clause-comes g c given =
-    let first = going_first _ _ _ _ _ _ _ _ c.items.invariant.going _ (round_first c.args.cursor.now.text c.items.cursor.place) in
+pub returns-in_err-flush-clause-comes : goal.returns-in_err-flush-clause-comes
+returns-in_err-flush-clause-comes g c given =
+    let n = io_trace g.C.Chooser.choices g.S.Screen g.L.LineSource.most c.flush.new.self given c.args.store.now in
     comes_err _ _ _ _ _ _ _ c.from_residual.ensures.1
-    (stops_after _ _ (first.1 given) _ (rw c.items.invariant.text at (c.in_err-print_item.ensures.comes given first.0 [])))
+    (stops_more (refused_answers (g.C.Chooser.refused c.print_items-done.new.io.chooser.now)) _
+    (λ r x. subst (λ k. refused_answers (g.C.Chooser.refused k.now) r) (sym c.flush.ensures.chooser) x) _ n _ _
+    (finish_breaks _ _ _ _ _ n (λ u. goes_adds []) _ (c.in_err-flush.ensures.comes given c.args.store.now)
+    c.print_items-done.result (sym c.still_shows.ensures ∙ c.if-not-still_shows.false)
+    (rw c.new-gathering.ensures at (c.print_items-done.ensures.comes given))))
 
-pub items-preserved : goal.items-preserved
-items-preserved g c =
-    let text = c.print_item.ensures.text ∙ c.items.invariant.text in
-    let item = rw c.items.invariant.text at c.in_ok-print_item.ensures.read in
-    let comma = rw text at c.if-not-token.ensures.value in
-    let ahead = c.finding_laws.ensures.token _ _ _ _ comma in
-    let was = c.items.invariant.same in
-    let same = c.print_item.ensures.same in
-    record {
-      text = c.token.ensures.text ∙ text;
-      same = record { chooser = same.chooser ∙ was.chooser; screen = same.screen ∙ was.screen; source = same.source ∙ was.source; choose = same.choose ∙ was.choose };
-      going = going_on _ _ _ _ _ _ _ _ c.items.invariant.going _ _ _ _
-          (round_on c.args.cursor.now.text c.items.cursor.place _ _ item.whole comma (rw (c.token.ensures.text ∙ text) at (sym c.at_end-in-items.ensures ∙ c.if-at_end-2.false)))
-          (omega (arith, item.ahead.after, ahead.after)) ahead.within
-          (λ rest p given. refines_part_then (p given) (rw c.items.invariant.text at (c.in_ok-print_item.ensures.comes given rest [])));
-    }
-
--- ---- the last item, with a newline
-
-pub returns-in_err-show-clause-comes : goal.returns-in_err-show-clause-comes
-returns-in_err-show-clause-comes g c given =
-    let text = c.print_item.ensures.text ∙ c.items.invariant.text in
-    let rest = item_of (end_check c.args.cursor.now.text c.print_item.new.cursor.place) in
-    let item = rw c.items.invariant.text at c.in_ok-print_item.ensures.read in
-    let last = going_last _ _ _ _ _ _ _ _ c.items.invariant.going _ (round_closed c.args.cursor.now.text c.items.cursor.place _ item.whole (rw text at c.if-not-token.ensures.value)) in
-    comes_err _ _ _ _ _ _ _ c.from_residual-in_err-show.ensures.1
-    (stops_after _ _ (last given) _
-    (stops_parts _ _ _ _ [] _ _ (closed_list _ _) _
-    (stops_after _ _ (rw c.items.invariant.text at (c.in_ok-print_item.ensures.comes given (NewLine ∷ rest) [])) _
-    (newline_stops rest _ [] _ _ _ _
-    (stops_unrefused _ _ _ _ _ (c.in_err-show.ensures.comes given c.args.store.now))))))
-
-pub returns-then-not-token-clause-comes : goal.returns-then-not-token-clause-comes
-returns-then-not-token-clause-comes g c given =
-    let text = c.print_item.ensures.text ∙ c.items.invariant.text in
-    let rest = item_of (end_check c.args.cursor.now.text c.print_item.new.cursor.place) in
-    let item = rw c.items.invariant.text at c.in_ok-print_item.ensures.read in
-    let last = going_last _ _ _ _ _ _ _ _ c.items.invariant.going _ (round_closed c.args.cursor.now.text c.items.cursor.place _ item.whole (rw text at c.if-not-token.ensures.value)) in
-    let n = io_trace g.C.Chooser.choices g.S.Screen g.L.LineSource.most c.show-then-not-token.new.self given c.args.store.now in
-    comes_after _ n _
-    (refines_part_then (last given)
-    (refines_part_parts _ [] _ _ (closed_list _ _)
-    (refines_part_then (rw c.items.invariant.text at (c.in_ok-print_item.ensures.comes given (NewLine ∷ rest) []))
-    (newline_refines_part rest _ [] (c.in_ok-show.ensures.comes given c.args.store.now)))))
-    _ (comes_unrefused _ _ _ _ _ _ (rw (c.token.ensures.text ∙ text) at (rw (c.if-not-token.ensures.absent refl) at (c.check_end.ensures.comes n c.print_item.new.width []))))
-
-pub returns-then-not-token-clause-closed : goal.returns-then-not-token-clause-closed
-returns-then-not-token-clause-closed g c =
-    let text = c.print_item.ensures.text ∙ c.items.invariant.text in
-    let item = rw c.items.invariant.text at c.in_ok-print_item.ensures.read in
-    let none = rw text at c.if-not-token.ensures.value in
-    let whole = rw (c.token.ensures.text ∙ text) at (rw (c.if-not-token.ensures.absent refl) at c.check_end.ensures.whole) in
-    let ends = rw (c.token.ensures.text ∙ text) at (rw (c.if-not-token.ensures.absent refl) at c.check_end.ensures.ends) in
-    rw (c.if-not-token.ensures.absent refl)
-    (if_ok_both c.check_end.result
-    (λ w e. record {
-      whole = last_closes _ _ _ _ _ _ _ _ c.items.invariant.going _ _ (round_ended c.args.cursor.now.text c.items.cursor.place _ item.whole none w);
-      from = omega (arith, item.ahead.after, c.items.invariant.going.from);
-      within = item.ahead.within;
-      ends = e;
-    })
-    whole ends)
-
--- ---- the last item, with the line left open
-
-pub returns-then-at_end-2-clause-comes : goal.returns-then-at_end-2-clause-comes
-returns-then-at_end-2-clause-comes g c given =
-    let text = c.print_item.ensures.text ∙ c.items.invariant.text in
-    let item = rw c.items.invariant.text at c.in_ok-print_item.ensures.read in
-    let ends = rw (c.token.ensures.text ∙ text) at (sym c.at_end-in-items.ensures ∙ c.if-at_end-2.true) in
-    let last = going_last _ _ _ _ _ _ _ _ c.items.invariant.going _ (round_open c.args.cursor.now.text c.items.cursor.place _ _ item.whole (rw text at c.if-not-token.ensures.value) ends) in
-    refines_part_end _ [] (refines_part_then (last given) (rw c.items.invariant.text at (c.in_ok-print_item.ensures.comes given [] [])))
-
-pub returns-then-at_end-2-clause-closed : goal.returns-then-at_end-2-clause-closed
-returns-then-at_end-2-clause-closed g c =
-    let text = c.print_item.ensures.text ∙ c.items.invariant.text in
-    let item = rw c.items.invariant.text at c.in_ok-print_item.ensures.read in
-    let comma = rw text at c.if-not-token.ensures.value in
-    let ahead = c.finding_laws.ensures.token _ _ _ _ comma in
-    let ends = rw (c.token.ensures.text ∙ text) at (sym c.at_end-in-items.ensures ∙ c.if-at_end-2.true) in
-    record {
-      whole = last_closes _ _ _ _ _ _ _ _ c.items.invariant.going _ _ (round_open c.args.cursor.now.text c.items.cursor.place _ _ item.whole comma ends);
-      from = omega (arith, item.ahead.after, c.items.invariant.going.from, ahead.after);
-      within = ahead.within;
-      ends = ends;
-    }
+pub returns-clause-comes : goal.returns-clause-comes
+returns-clause-comes g c given =
+    comes_more (refused_answers (g.C.Chooser.refused c.print_items-done.new.io.chooser.now)) _
+    (λ r x. subst (λ k. refused_answers (g.C.Chooser.refused k.now) r) (sym c.flush.ensures.chooser) x) _ _ _ _ _
+    (finished _ _ _ _ _ _ _ _ (c.in_ok-flush.ensures.comes given c.args.store.now)
+    c.print_items-done.result (sym c.still_shows.ensures ∙ c.if-not-still_shows.false)
+    (rw c.new-gathering.ensures at (c.print_items-done.ensures.comes given)))

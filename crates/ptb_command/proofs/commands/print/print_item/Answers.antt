@@ -1,7 +1,7 @@
 -- This file answers what is left to prove of `print_item`.
 use Rattle.std.proofs.Common.{◌≡◌, ◌∙◌, ap, arith, refl, rules, to_z, of_z, w16}
 use Rattle.ptb_expr.specs.Reading.{item_of}
-use Rattle.ptb_command.specs.Io.{io_trace}
+use Rattle.ptb_command.specs.Io.{due_trace}
 use Rattle.ptb_command.proofs.Comings.{if_ok_always, say_comes, show_comes}
 use Rattle.ptb_command.proofs.Actions.{stops_unrefused, stops_fault}
 use Rattle.ptb_command.proofs.Going.{is_whole}
@@ -17,7 +17,7 @@ returns-in_err-value-clause-comes g c given rest operands =
     let width = item_width c.args.cursor.now.text c.args.cursor.now.place _ c.if-token.ensures.value in
     comes_err _ _ _ _ _ _ _ c.from_residual.ensures.1
     (stops_part rest _ operands _ _ _ _ _ width.1 _ (width_value_stops rest _ operands _ _ _ _ width.0 _
-    (rw c.token.ensures.text at (c.in_err-value.ensures.comes given))))
+    (rw c.token.ensures.text at (c.in_err-value.ensures.comes given c.args.gathering.now))))
 
 pub returns-in_err-width-clause-comes : goal.returns-in_err-width-clause-comes
 returns-in_err-width-clause-comes g c given rest operands =
@@ -25,16 +25,16 @@ returns-in_err-width-clause-comes g c given rest operands =
     let width = ap item_of (item_whole_width c.args.cursor.now.text c.args.cursor.now.place c.token.new.self.place c.value.new.cursor.place c.if-token.ensures.value (rw c.token.ensures.text at c.in_ok-value.ensures.read.whole)) in
     comes_err _ _ _ _ _ _ _ c.from_residual-in_err-width.ensures.1
     (stops_part rest _ operands _ _ _ _ _ width _ (width_stops rest _ operands _ _ _ _ _ _ same _
-    (rw c.token.ensures.text at (c.in_ok-value.ensures.comes given))
-    (stops_unrefused _ _ _ _ _ (rw c.place.ensures at (c.in_err-width.ensures (io_trace g.C.Chooser.choices g.S.Screen g.L.LineSource.most c.value.new.self given c.args.store.now))))))
+    (rw c.token.ensures.text at (c.in_ok-value.ensures.comes given c.args.gathering.now))
+    (stops_unrefused _ _ _ _ _ (rw c.place.ensures at (c.in_err-width.ensures (due_trace g.C.Chooser.choices g.S.Screen g.L.LineSource.most c.value.new.self given c.args.store.now c.args.gathering.now))))))
 
 pub returns-then-token-clause-comes : goal.returns-then-token-clause-comes
 returns-then-token-clause-comes g c given rest operands =
     let same : to_z w16 (of_z w16 c.in_ok-value.value) ≡ c.in_ok-value.value = search rules in
     let width = ap item_of (item_whole_width c.args.cursor.now.text c.args.cursor.now.place c.token.new.self.place c.value.new.cursor.place c.if-token.ensures.value (rw c.token.ensures.text at c.in_ok-value.ensures.read.whole)) in
     refines_part_part rest _ operands _ _ width (width_refines_part rest _ operands _ _ _ _ same _
-    (rw c.token.ensures.text at (c.in_ok-value.ensures.comes given))
-    (rw c.place.ensures at (c.in_ok-width.ensures (io_trace g.C.Chooser.choices g.S.Screen g.L.LineSource.most c.value.new.self given c.args.store.now))))
+    (rw c.token.ensures.text at (c.in_ok-value.ensures.comes given c.args.gathering.now))
+    (rw c.place.ensures at (c.in_ok-width.ensures (due_trace g.C.Chooser.choices g.S.Screen g.L.LineSource.most c.value.new.self given c.args.store.now c.args.gathering.now))))
 
 pub returns-then-token-clause-read : goal.returns-then-token-clause-read
 returns-then-token-clause-read g c =
@@ -72,14 +72,14 @@ returns-in_err-value-in-Absent-clause-comes g c given rest operands =
     let none = rw c.token.ensures.text at (rw (c.if-token.ensures.absent refl) at c.in-Absent.ensures.value) in
     comes_err _ _ _ _ _ _ _ c.from_residual-in_err-value-in-Absent.ensures.1
     (stops_part rest _ operands _ _ _ _ _ (item_value c.args.cursor.now.text c.args.cursor.now.place c.if-token.ensures.value none) _ (show_value_stops rest _ operands _ _ _ _ _
-    (rw (c.literal.ensures.text ∙ c.token.ensures.text) at (rw (c.in-Absent.ensures.absent refl ∙ c.if-token.ensures.absent refl) at (c.in_err-value-in-Absent.ensures.comes given)))))
+    (rw (c.literal.ensures.text ∙ c.token.ensures.text) at (rw (c.in-Absent.ensures.absent refl ∙ c.if-token.ensures.absent refl) at (c.in_err-value-in-Absent.ensures.comes given c.args.gathering.now)))))
 
 pub returns-in_ok-value-in-Absent-clause-comes : goal.returns-in_ok-value-in-Absent-clause-comes
 returns-in_ok-value-in-Absent-clause-comes g c given rest operands =
     let same : to_z w16 (of_z w16 c.in_ok-value-in-Absent.value) ≡ c.in_ok-value-in-Absent.value = search rules in
     let none = rw c.token.ensures.text at (rw (c.if-token.ensures.absent refl) at c.in-Absent.ensures.value) in
     show_comes _ _ _ rest _ operands _ _ _ _ _ (item_value c.args.cursor.now.text c.args.cursor.now.place c.if-token.ensures.value none) same
-    (rw (c.literal.ensures.text ∙ c.token.ensures.text) at (rw (c.in-Absent.ensures.absent refl ∙ c.if-token.ensures.absent refl) at (c.in_ok-value-in-Absent.ensures.comes given)))
+    (rw (c.literal.ensures.text ∙ c.token.ensures.text) at (rw (c.in-Absent.ensures.absent refl ∙ c.if-token.ensures.absent refl) at (c.in_ok-value-in-Absent.ensures.comes given c.args.gathering.now)))
     _ (c.show_value.ensures.comes given c.args.store.now)
 
 pub returns-in_ok-value-in-Absent-clause-read : goal.returns-in_ok-value-in-Absent-clause-read

@@ -24,7 +24,7 @@ returns-then-not-open_loop g c = record {
       let parts = c.in_ok-parts.parts in
       for_full p m (record m { cells = c.for_parts.new.store }) _ _ q c.args.cursor.now.text c.args.cursor.now.place c.for_parts.new.cursor.place parts.letter parts.limit parts.step
       (record { place = refl; stack = refl; steps = refl }) c.in_ok-parts.ensures.closed c.in_ok-parts.ensures.letter (c.in_ok-parts.ensures.comes d fresh)
-      _ c.open_loop.new.self _ c.if-not-open_loop.ensures.0 (le-leb nesting_limit (length (without parts.letter c.args.self.now.stack)) c.if-not-open_loop.ensures.1)
+      _ c.open_loop.new.self _ c.if-not-open_loop.ensures.opens.0 (le-leb nesting_limit (length (without parts.letter c.args.self.now.stack)) c.if-not-open_loop.ensures.opens.1)
       (rw c.place-end.ensures at c.fault.ensures);
 }
 
@@ -39,6 +39,6 @@ returns g c = record {
       (record { place = refl; stack = refl; steps = refl }) c.in_ok-parts.ensures.closed c.in_ok-parts.ensures.letter (c.in_ok-parts.ensures.comes d fresh)
       c.command_laws.ensures _ c.args.statement c.place.result
       (record { letter = parts.letter; limit = to_z w16 (of_z w16 parts.limit); step = to_z w16 (of_z w16 parts.step); back = location_at c.args.statement c.place.result })
-      c.open_loop.new.self c.if-not-open_loop.ensures.0 (lt-leb nesting_limit (length (without parts.letter c.args.self.now.stack)) c.if-not-open_loop.ensures.1)
+      c.open_loop.new.self c.if-not-open_loop.ensures.opens.0 (lt-leb nesting_limit (length (without parts.letter c.args.self.now.stack)) c.if-not-open_loop.ensures.opens.1)
       begun (rw c.place.ensures (rw c.for_parts.ensures.text at c.pass_separator.ensures.follows)) refl (sym limit) (sym step) refl refl;
 }

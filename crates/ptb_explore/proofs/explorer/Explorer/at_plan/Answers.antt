@@ -21,5 +21,5 @@ returns-clause-kept c =
 pub states_bounds-requires : goal.states_bounds-requires
 states_bounds-requires c =
     let all = play c.args.program.now c.args.lines.now c.args.rules in
-    let given : c.deref.result.now ≡ bounds all c.args.trial.answers.items = c.deref.ensures.value ∙ c.in_ok-check_run.ensures.bounds ∙ ap (λ p. bounds (play p c.args.lines.now c.args.rules) c.args.trial.answers.items) c.in_ok-player.ensures in
+    let given : c.deref-3.result.now ≡ bounds all c.args.trial.answers.items = c.deref-3.ensures.value ∙ c.in_ok-check_run.ensures.bounds ∙ ap (λ p. bounds (play p c.args.lines.now c.args.rules) c.args.trial.answers.items) c.in_ok-player.ensures in
     omega (arith, c.requires.within, ap length given, length-bounds all [] c.args.trial.answers.items)

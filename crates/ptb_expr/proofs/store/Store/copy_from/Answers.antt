@@ -1,5 +1,5 @@
 -- This file answers what is left to prove of values that are taken over.
-use Rattle.std.proofs.Common.{rules, arith, ◌≡◌, length, refl}
+use Rattle.std.proofs.Common.{rules, ◌≡◌, length, refl}
 use Rattle.std.proofs.Math.Nat.{le-max_left, le-max_right}
 use Rattle.std.proofs.lemmas.List.{with_items_is}
 use Rattle.std.specs.Vec.{with_items}

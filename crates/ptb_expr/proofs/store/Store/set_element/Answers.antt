@@ -1,5 +1,5 @@
 -- This file answers what is left to prove of a value that is stored in the array.
-use Rattle.std.proofs.Common.{rules, arith, ◌≡◌, ◌≤◌, ◌+◌, ◌<◌}
+use Rattle.std.proofs.Common.{rules}
 use Rattle.std.proofs.Math.Nat.{le-max_left, le-max_right, max-le}
 use Rattle.ptb_expr.proofs.Zeros.{zeros_stored}
 use Rattle.ptb_expr.proofs.store.Store.set_element.Goals as goal

@@ -21,5 +21,6 @@ returns c =
     let choose = number_of-get_one _ (λ text r. ParsesUnsigned 16 10 text r × ExplainsUnsignedError 10 text r × HasUnsignedDigitsIfOk text r)
     m 16 (codes "choose") c.get_one-3.result (λ text x reads. reads.0) c.get_one-3.ensures.none c.get_one-3.ensures.value in
     let answers = first_of-get_str m (codes "answers") c.get_str.result c.get_str.ensures in
-    let after = first_of-get_str m (codes "after") c.get_str-2.result c.get_str-2.ensures in
-    rw (steps, memory, choose, answers, seed, first, form, after, c.is_given.ensures, c.is_given-2.ensures) refl
+    let under = first_of-get_str m (codes "under") c.get_str-2.result c.get_str-2.ensures in
+    let after = first_of-get_str m (codes "after") c.get_str-3.result c.get_str-3.ensures in
+    rw (steps, memory, choose, answers, seed, first, form, under, after, c.is_given.ensures, c.is_given-2.ensures) refl

@@ -1,0 +1,111 @@
+// This file gathers what a command shows, so that the screen gets it at once.
+
+ghost use Rattle.std.specs.Prelude.{◌≡◌, ◌↔◌, ◌≤◌, ◌+◌, ◌++◌, List, ℕ, [], length, IsTrue, IsFalse};
+ghost use Rattle.ptb_expr.specs.Store.{Cells};
+ghost use Rattle.ptb_command.specs.Actions.{goes_on, show as show_action};
+ghost use Rattle.ptb_command.specs.Devices.{Devices, screen_state, with_screen, nothing_refused};
+ghost use Rattle.ptb_command.specs.Traces.{trace, with_due};
+ghost use Rattle.ptb_command.specs.Stops.{Comes};
+
+use crate::showing::show;
+use crate::stop::Stop;
+use arrayvec::ArrayVec;
+use ptb_devices::Screen;
+use std::marker::Model;
+
+/// How many bytes are gathered at most. An item of PRINT shows no more than 255.
+const GATHERING_LIMIT: usize = 512;
+
+/// What a command is to show, and hasn't shown yet. It takes no memory. Contracts see its bytes.
+#[derive(Drop)]
+pub(crate) struct Gathering {
+    bytes: ArrayVec<u8, GATHERING_LIMIT>,
+}
+
+impl Model for Gathering {
+    ghost Value = { List ℕ };
+
+    ghost view = { λ g. g.bytes.items };
+}
+
+impl Gathering {
+    /// Nothing is gathered yet.
+    pub(crate) fn new() -> Self
+        ensures { result ≡ [] }
+    {
+        Gathering {
+            bytes: ArrayVec::new(),
+        }
+    }
+
+    // Takes bytes, if there is room for all of them. Whether there was.
+    #[inline(always)]
+    fn takes(&mut self, bytes: &[u8]) -> bool
+        ensures taken { IsTrue result → self.new ≡ self.old ++ bytes.now }
+        ensures full { IsFalse result → self.new ≡ self.old }
+        ensures room { IsTrue result ↔ (length self.old + length bytes.now ≤ GATHERING_LIMIT) }
+    {
+        self.bytes.try_extend_from_slice(bytes).is_ok()
+    }
+
+    /// Shows what was gathered. Nothing is gathered then, also where the screen fails.
+    pub(crate) fn flush<S: Screen>(&mut self, screen: &mut S, fresh: &mut bool) -> Result<(), Stop>
+        ensures comes { (d : Devices) (cells : Cells) → Comes nothing_refused
+            (with_due self.old
+            (trace (with_screen (screen_state S.Screen screen.old) d) fresh.old cells))
+            (trace (with_screen (screen_state S.Screen screen.new) d) fresh.new cells)
+            (goes_on tt) goes_on result }
+        ensures empty { self.new ≡ [] }
+    {
+        let result = show(screen, fresh, self.bytes.as_slice());
+        self.bytes.clear();
+        result
+    }
+
+    /// Shows bytes as a part of a command: later, with others, if there is room for them.
+    // inlined: most bytes find room, and to take them costs less than a call
+    #[inline(always)]
+    pub(crate) fn show<S: Screen>(
+        &mut self,
+        screen: &mut S,
+        fresh: &mut bool,
+        bytes: &[u8],
+    ) -> Result<(), Stop>
+        ensures comes { (d : Devices) (cells : Cells) → Comes nothing_refused
+            (with_due self.old
+            (trace (with_screen (screen_state S.Screen screen.old) d) fresh.old cells))
+            (with_due self.new
+            (trace (with_screen (screen_state S.Screen screen.new) d) fresh.new cells))
+            (show_action bytes.now) goes_on result }
+        ensures gathered { length self.old + length bytes.now ≤ GATHERING_LIMIT
+            → self.new ≡ self.old ++ bytes.now }
+    {
+        if self.takes(bytes) {
+            return Ok(());
+        }
+        self.show_behind(screen, fresh, bytes)
+    }
+
+    // Shows what was gathered, and behind it bytes for which there was no room: these later, if
+    // there is room then.
+    #[inline(never)]
+    fn show_behind<S: Screen>(
+        &mut self,
+        screen: &mut S,
+        fresh: &mut bool,
+        bytes: &[u8],
+    ) -> Result<(), Stop>
+        ensures { (d : Devices) (cells : Cells) → Comes nothing_refused
+            (with_due self.old
+            (trace (with_screen (screen_state S.Screen screen.old) d) fresh.old cells))
+            (with_due self.new
+            (trace (with_screen (screen_state S.Screen screen.new) d) fresh.new cells))
+            (show_action bytes.now) goes_on result }
+    {
+        self.flush(screen, fresh)?;
+        if self.takes(bytes) {
+            return Ok(());
+        }
+        show(screen, fresh, bytes)
+    }
+}

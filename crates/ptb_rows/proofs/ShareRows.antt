@@ -1,0 +1,22 @@
+-- This file proves the worked rows of shares of a tree by computation.
+use Rattle.std.specs.Prelude.{refl}
+use Rattle.ptb_rows.specs.Rows.{ShareRows}
+use Rattle.ptb_rows.proofs.OnPrograms.{on_programs}
+
+pub share_rows : ShareRows
+unfolding on_programs
+share_rows = record {
+  second_answer = refl;
+  first_of_share = refl;
+  behind_one = refl;
+  run_alone = refl;
+  first_answer = refl;
+  with_bounds = refl;
+  whole = refl;
+  too_long = refl;
+  outside = refl;
+  other_bound = refl;
+  behind_another = refl;
+  neither = refl;
+  empty_program = refl;
+}

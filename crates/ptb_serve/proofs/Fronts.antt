@@ -1,0 +1,89 @@
+-- This file proves why a listing is begun, or isn't.
+use Rattle.std.proofs.Common.{◌≡◌, ◌⊎◌, inl, inr, refl, ap, ap₂, ◌∙◌, List, [], Bool, true, false, Option, Some, None}
+use Rattle.std.specs.Prelude.{ℕ, ◌&&◌}
+use Rattle.std.proofs.lemmas.Bool.{false_from_ne_true}
+use Rattle.ptb_expr.specs.Outcome.{Answers, Outcome}
+use Rattle.ptb_machine.specs.Play.{Finish}
+use Rattle.ptb_explore.specs.declared.fault.AfterFault.{AfterFault}
+use Rattle.ptb_explore.specs.declared.fault.AfterFault.TheVariants as afters
+use Rattle.ptb_explore.specs.declared.fault.UnderFault.{UnderFault}
+use Rattle.ptb_explore.specs.declared.fault.UnderFault.TheVariants as unders
+use Rattle.ptb_explore.specs.declared.form.Marked.{Marked}
+use Rattle.ptb_explore.specs.AnswerText.{answers_of}
+use Rattle.ptb_explore.specs.MarkedRuns.{IsMarkedBeginning, IsMarkedRun}
+use Rattle.ptb_explore.specs.RunTree.{begins_with}
+use Rattle.ptb_serve.specs.declared.note.Note.{Note}
+use Rattle.ptb_serve.specs.declared.note.Note.TheVariants as notes
+use Rattle.ptb_serve.specs.Replies.{answers_under, front_note, is_front, is_share, note_of}
+use Rattle.ptb_serve.specs.Serving.{after_note, under_note}
+
+-- ---- tests one behind the other
+
+pub both_true : (a b : Bool) → a ≡ true → b ≡ true → (a && b) ≡ true
+both_true a b h g = rw (h, g) refl
+
+pub both_parts : (a b : Bool) → (a && b) ≡ true → (a ≡ true) × (b ≡ true)
+both_parts true true h = (refl, refl)
+both_parts true false h = absurd cc
+both_parts false b h = absurd cc
+
+three_true : (a b d : Bool) → a ≡ true → b ≡ true → d ≡ true → (a && b && d) ≡ true
+three_true a b d h g k = rw (h, g, k) refl
+
+three_parts : (a b d : Bool) → (a && b && d) ≡ true → (a ≡ true) × (b ≡ true) × (d ≡ true)
+three_parts true true true h = (refl, refl, refl)
+three_parts true true false h = absurd cc
+three_parts true false d h = absurd cc
+three_parts false b d h = absurd cc
+
+-- which notes say that no listing is begun
+pub note_is : (share front : Bool) (note : Note) → note_of share front ≡ Some note → (note ≡ notes.NoBeginning) ⊎ (note ≡ notes.NoRun)
+note_is false front note e = inl cc
+note_is true false note e = inr cc
+note_is true true note e = absurd cc
+
+module _ (game : Answers → Outcome Finish (List ℕ)) where
+  -- ---- a beginning, and a run
+
+  pub share_true : (under : List Marked) → IsMarkedBeginning game under → is_share game (Some under) ≡ true
+  share_true under b = both_true _ _ b.0 b.1
+
+  pub share_false : (under : List Marked) → (IsMarkedBeginning game under → ⊥) → is_share game (Some under) ≡ false
+  share_false under none = false_from_ne_true _ (λ h. none (both_parts _ _ h))
+
+  pub front_true : (under : Answers) (list : List Marked) → IsMarkedRun game list → begins_with (answers_of list) under ≡ true → is_front game under (Some list) ≡ true
+  front_true under list run b = three_true _ _ _ run.0 run.1 b
+
+  pub front_false : (under : Answers) (list : List Marked) → (IsMarkedRun game list → begins_with (answers_of list) under ≡ true → ⊥) → is_front game under (Some list) ≡ false
+  front_false under list none = false_from_ne_true _ (λ h. let p = three_parts _ _ _ h in none (p.0, p.1) p.2)
+
+  -- ---- a listing that is begun
+
+  pub begun_after : (list : List Marked) → IsMarkedRun game list → front_note game None (Some list) ≡ None
+  begun_after list run = ap (note_of true) (front_true [] list run refl)
+
+  pub begun_under : (under : List Marked) → IsMarkedBeginning game under → front_note game (Some under) None ≡ None
+  begun_under under b = ap (λ t. note_of t true) (share_true under b)
+
+  pub begun_both : (under list : List Marked) → IsMarkedBeginning game under → IsMarkedRun game list → begins_with (answers_of list) (answers_of under) ≡ true → front_note game (Some under) (Some list) ≡ None
+  begun_both under list b run begins = ap₂ note_of (share_true under b) (front_true (answers_of under) list run begins)
+
+  -- ---- one that isn't
+
+  pub no_front : (under : Option (List Marked)) (list : List Marked) → is_share game under ≡ true → (IsMarkedRun game list → begins_with (answers_of list) (answers_under under) ≡ true → ⊥) → front_note game under (Some list) ≡ Some notes.NoRun
+  no_front under list share none = ap₂ note_of share (front_false (answers_under under) list none)
+
+  pub no_share : (under : List Marked) (after : Option (List Marked)) → (IsMarkedBeginning game under → ⊥) → front_note game (Some under) after ≡ Some notes.NoBeginning
+  no_share under after none = ap (λ t. note_of t (is_front game (answers_of under) after)) (share_false under none)
+
+  pub unbegun_after : (under : Option (List Marked)) (list : List Marked) (fault : AfterFault) → is_share game under ≡ true
+      → (fault ≡ afters.NotARun → IsMarkedRun game list → begins_with (answers_of list) (answers_under under) ≡ true → ⊥)
+      → (after_note fault ≡ notes.OutOfMemory) ⊎ (front_note game under (Some list) ≡ Some (after_note fault))
+  unbegun_after under list afters.NotARun share none = inr (no_front under list share (none refl))
+  unbegun_after under list afters.Memory share none = inl refl
+
+  pub unbegun_under : (under : List Marked) (after : Option (List Marked)) (fault : UnderFault)
+      → (fault ≡ unders.NoBeginning → IsMarkedBeginning game under → ⊥)
+      → (under_note fault ≡ notes.OutOfMemory) ⊎ (front_note game (Some under) after ≡ Some (under_note fault))
+  unbegun_under under after unders.NoBeginning none = inr (no_share under after (none refl))
+  unbegun_under under after unders.Memory none = inl refl
