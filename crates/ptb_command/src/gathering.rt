@@ -14,11 +14,11 @@ use ptb_devices::Screen;
 use std::marker::Model;
 
 /// How many bytes are gathered at most. An item of PRINT shows no more than 255.
-const GATHERING_LIMIT: usize = 512;
+pub const GATHERING_LIMIT: usize = 512;
 
 /// What a command is to show, and hasn't shown yet. It takes no memory. Contracts see its bytes.
 #[derive(Drop)]
-pub(crate) struct Gathering {
+pub struct Gathering {
     bytes: ArrayVec<u8, GATHERING_LIMIT>,
 }
 
@@ -30,7 +30,7 @@ impl Model for Gathering {
 
 impl Gathering {
     /// Nothing is gathered yet.
-    pub(crate) fn new() -> Self
+    pub fn new() -> Self
         ensures { result ≡ [] }
     {
         Gathering {
@@ -38,9 +38,16 @@ impl Gathering {
         }
     }
 
-    // Takes bytes, if there is room for all of them. Whether there was.
+    /// The bytes that were gathered.
+    pub fn as_slice(&self) -> &[u8]
+        ensures { result.now ≡ self.now }
+    {
+        self.bytes.as_slice()
+    }
+
+    /// Takes bytes, if there is room for all of them. Whether there was.
     #[inline(always)]
-    fn takes(&mut self, bytes: &[u8]) -> bool
+    pub fn takes(&mut self, bytes: &[u8]) -> bool
         ensures taken { IsTrue result → self.new ≡ self.old ++ bytes.now }
         ensures full { IsFalse result → self.new ≡ self.old }
         ensures room { IsTrue result ↔ (length self.old + length bytes.now ≤ GATHERING_LIMIT) }

@@ -3,8 +3,9 @@
 //!
 //! It stands on `ptb_devices`, `ptb_expr`, `ptb_text`, `arrayvec` and `itoa`. The crate above may rely on
 //! `Registers::do_command` (a command is done as `specs/Act` says), on `next_command` (which command
-//! stands at a place), on `Stack` (a list of loops and calls, newest first, of limited length) and on
-//! `command_laws` (how the parts of a command and the commands of a statement follow one another).
+//! stands at a place), on `Stack` (a list of loops and calls, newest first, of limited length), on
+//! `Gathering` and `gather_value` (bytes and values that are to be shown), and on `command_laws` (how
+//! the parts of a command and the commands of a statement follow one another).
 #![tactic(auto)]
 
 mod commands;
@@ -23,7 +24,9 @@ mod stop;
 
 pub use commands::let_command::store_value;
 pub use commands::loops::end_turn;
+pub use commands::print::{FIRST_WIDTH, gather_value};
 pub use ending::Ending;
+pub use gathering::{GATHERING_LIMIT, Gathering};
 pub use io::Io;
 pub use laws::command_laws;
 pub use location::Location;

@@ -10,6 +10,7 @@ mod Opening
 pub mod Lawful
 pub mod PartsSpend
 pub mod PlayReads
+mod Printing
 pub mod ProgramQuestions
 pub mod Results
 pub mod Runs

@@ -491,7 +491,7 @@ fn programs_with_the_same_places(rt: HostRuntime) -> Result<(), Fail> {
 }
 
 // How a run of a program's text without input ends, and what it shows.
-fn ending_of(
+pub(crate) fn ending_of(
     alloc: Global,
     text: &[u8],
     limit: u32,
@@ -514,7 +514,7 @@ fn ending_of(
 
 // Whether the run of a text ends so and shows this after so many steps, and stops at its limit with
 // one fewer.
-fn ends_so(
+pub(crate) fn ends_so(
     alloc: Global,
     text: &[u8],
     steps: u32,

@@ -1,6 +1,7 @@
 // This file has PRINT.
 
-ghost use Rattle.std.specs.Prelude.{◌≡◌, ◌≤◌, ◌+◌, ℕ, ℤ, Bool, List, [], ◌∷◌, ◌++◌, length, take, IfOk};
+ghost use Rattle.std.specs.Prelude.{◌≡◌, ◌≤◌, ◌+◌, ℕ, ℤ, Bool, List, [], ◌∷◌, ◌++◌, length, take, IfOk, IsTrue};
+ghost use Rattle.std.specs.Fmt.{signed_decimal};
 ghost use Rattle.ptb_expr.specs.Reading.{item_of};
 ghost use Rattle.ptb_expr.specs.Store.{Cells};
 ghost use Rattle.ptb_command.specs.Act.{width_of, padded_decimal, action_of, parts_action};
@@ -13,7 +14,7 @@ ghost use Rattle.ptb_command.specs.Reads.{IsRead, IsClosed};
 ghost use Rattle.ptb_command.specs.Traces.{Trace};
 ghost use Rattle.ptb_command.specs.Stops.{Comes};
 
-use crate::gathering::Gathering;
+use crate::gathering::{GATHERING_LIMIT, Gathering};
 use crate::io::Io;
 use crate::laws::command_laws;
 use crate::reads::{at_end, check_end, literal};
@@ -25,7 +26,7 @@ use ptb_expr::{Chooser, FaultKind, Store};
 use ptb_text::{Cursor, Quoted, finding_laws};
 
 /// The width of the values at the start of each PRINT.
-const FIRST_WIDTH: u8 = 6;
+pub const FIRST_WIDTH: u8 = 6;
 
 /// The greatest width.
 const WIDTH_LIMIT: usize = 255;
@@ -42,6 +43,28 @@ fn width_of(value: i16, mark: usize) -> Result<u8, Stop>
         Ok(width) => Ok(width),
         Err(_) => Err(fault(FaultKind::How, mark)),
     }
+}
+
+// The blanks in front of the digits of a value, up to the width.
+fn blanks_before(digits: &[u8], width: u8) -> &'static [u8]
+    ensures { (v : ℤ) → digits.now ≡ signed_decimal v →
+        result.now ++ digits.now ≡ padded_decimal width v }
+{
+    let count = usize::from(width).saturating_sub(digits.len());
+    &BLANKS[..count]
+}
+
+/// Gathers a value with blanks in front of it up to the width, if there is room. Whether there was:
+/// where there was not, blanks may be gathered.
+pub fn gather_value(gathering: &mut Gathering, width: u8, value: i16) -> bool
+    ensures gathered { IsTrue result
+        → gathering.new ≡ gathering.old ++ padded_decimal width value }
+    ensures room { length gathering.old + length (padded_decimal width value) ≤ GATHERING_LIMIT
+        → IsTrue result }
+{
+    let mut buffer = Buffer::new();
+    let digits = buffer.format(value).as_bytes();
+    gathering.takes(blanks_before(digits, width)) && gathering.takes(digits)
 }
 
 // Shows a value with blanks in front of it up to the width.
@@ -61,8 +84,7 @@ fn show_value<C: Chooser, S: Screen, L: LineSource>(
 {
     let mut buffer = Buffer::new();
     let digits = buffer.format(value).as_bytes();
-    let blanks = usize::from(width).saturating_sub(digits.len());
-    io.show(gathering, &BLANKS[..blanks])?;
+    io.show(gathering, blanks_before(digits, width))?;
     io.show(gathering, digits)
 }
 

@@ -125,3 +125,30 @@ fn writes(rt: HostRuntime) -> Result<(), Fail> {
     }
     Ok(())
 }
+
+const GATHERED: &[(u8, i16, usize, bool, usize, &[u8])] = &[
+    (6, 7, 0, true, 6, b"     7"),
+    (3, -7, 2, true, 5, b"## -7"),
+    (2, 100, 1, true, 4, b"#100"),
+    (0, 0, 0, true, 1, b"0"),
+    (6, -32768, 506, true, 512, b"#-32768"),
+    (6, -32768, 507, false, 507, b"#"),
+    (255, 1, 257, true, 512, b"   1"),
+    (255, 1, 258, false, 512, b"   "),
+];
+
+// A value behind so many bytes that were gathered: whether there is room for it, how many bytes are
+// gathered then, and how they end.
+#[test]
+fn values_that_are_gathered(rt: HostRuntime) -> Result<(), Fail> {
+    for &(width, value, before, room, count, ends) in GATHERED {
+        let mut gathering = Gathering::new();
+        for _ in 0..before {
+            assert!(rt; gathering.takes(b"#"));
+        }
+        assert_eq!(rt; gather_value(&mut gathering, width, value), room);
+        assert_eq!(rt; gathering.as_slice().len(), count);
+        assert!(rt; gathering.as_slice().ends_with(ends));
+    }
+    Ok(())
+}
