@@ -4,8 +4,8 @@
 # Prints the microseconds that a run takes in listings of 10,000 runs of 4, 25, 110 and 790 commands: the middle and the least of ten
 # rounds, and beside them those of another build of ptb where one is named, in turn with it. Then the seconds of a tree whose first thousand
 # commands are the same in all of its 100,000 runs, and the runs a second and the memory of trees of 1,000, 100,000 and 1,000,000 runs, also
-# of a program that has all the memory there can be and fills the array. At last a tree of 1,000,000 runs by one process, and by shares on
-# all cores.
+# of a program that has all the memory there can be and fills the array. At last a tree of 1,000,000 runs by one process, by shares on
+# all cores, and as often as there are cores, side by side, which tells what the cores do together.
 set -eu
 root=$(dirname "$(readlink -f "$0")")/..
 program=$root/crates/ptb/out/ptb
@@ -76,24 +76,29 @@ for runs in 1000 100000 1000000; do
 done
 tree ' with a full array' "$room/full.bas" 10000 --memory 32767 --steps 100000
 
-# 1,000,000 runs by one process, and by as many as there are cores, one share for each of their first two answers
+# 1,000,000 runs by one process, by as many as there are cores, one share for each of their first two answers, and by as many that list all of
+# them. Processors that are threads of one core do less together than each does alone, so shares are held to the last.
 cores=$(nproc)
 PTB=$program "$root/tools/shares" "$room/six.bas" 2 </dev/null >"$room/lists"
-share_seconds() {
+by_one() { "$program" --all "$room/six.bas" </dev/null >/dev/null; }
+# what xargs starts has an empty input
+by_shares() { xargs -P "$cores" -I{} "$program" --all --under {} "$room/six.bas" <"$room/lists" >/dev/null; }
+side_by_side() {
+    for _ in $(seq "$cores"); do by_one & done
+    wait
+}
+# milliseconds COMMAND: how long it takes
+milliseconds() {
     local start
     start=$(date +%s%N)
-    # what xargs starts has an empty input
-    xargs -P "$1" -I{} "$program" --all --under {} "$room/six.bas" <"$room/lists" >/dev/null
+    "$1"
     echo $((($(date +%s%N) - start) / 1000000))
 }
-for _ in 1 2 3; do
-    start=$(date +%s%N)
-    "$program" --all "$room/six.bas" </dev/null >/dev/null
-    echo $((($(date +%s%N) - start) / 1000000)) >>"$room/one"
-    share_seconds "$cores" >>"$room/many"
+for _ in 1 2 3 4 5 6 7 8 9; do
+    for way in by_one by_shares side_by_side; do milliseconds "$way" >>"$room/$way"; done
 done
-one=$(sort -n "$room/one" | sed -n 2p)
-many=$(sort -n "$room/many" | sed -n 2p)
-awk -v one="$one" -v many="$many" -v cores="$cores" 'BEGIN {
-    printf "1000000 runs: %.2f s by one process, %.2f s by shares on %d cores: %.2f of their number\n", one / 1000, many / 1000, cores, one / many / cores
+middle() { sort -n "$room/$1" | sed -n 5p; }
+awk -v one="$(middle by_one)" -v shares="$(middle by_shares)" -v all="$(middle side_by_side)" -v cores="$cores" 'BEGIN {
+    printf "1000000 runs: %.2f s by one process, %.2f s by shares on %d cores, %.2f of their number; ", one / 1000, shares / 1000, cores, one / shares / cores
+    printf "%d times %.2f s side by side, of which shares reach %.2f\n", cores, all / 1000, all / shares / cores
 }'

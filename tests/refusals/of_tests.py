@@ -14,10 +14,10 @@ TESTS = [
     ("ptb_expr", "tests::refused_answers", set()),
     ("ptb_command", "tests::first_registers", set()),
     ("ptb_command", "tests::copied_registers", set()),
-    ("ptb_explore", "explorer::tests::refused_copies", set()),
-    ("ptb_explore", "explorer::tests::refused_behind_a_run", set()),
-    ("ptb_explore", "explorer::tests::refused_shares", set()),
-    ("ptb_explore", "listing::tests::refused_listings_go_on", {"0", "1"}),
+    ("ptb_tests", "copies::refused_copies", set()),
+    ("ptb_tests", "copies::refused_behind_a_run", set()),
+    ("ptb_tests", "copies::refused_shares", set()),
+    ("ptb_tests", "listing::refused_listings_go_on", {"0", "1"}),
 ]
 MOST_CALLS = 1000
 SECONDS_OF_A_TEST = 60

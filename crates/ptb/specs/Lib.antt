@@ -1,3 +1,2 @@
--- This file names the files of definitions.
-pub mod Flushed
+-- This file names the file of definitions.
 pub mod Exits

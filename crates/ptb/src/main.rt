@@ -17,13 +17,10 @@ ghost use Rattle.ptb_serve.specs.Statuses.{note_status};
 ghost use Rattle.ptb.specs.Exits.{IsAnswerStatus, IsExitStatus, IsRefusedStatus};
 ghost use Rattle.ptb.specs.Exits.{IsServedStatus, IsUnreadStatus, open_note};
 
-mod flushing;
-
 use clap::ArgMatches;
 use clap::error::ErrorKind;
-use flushing::Flushing;
 use ptb_options::{Request, decide, parse, refusal_status};
-use ptb_serve::{Note, Outcome, serve};
+use ptb_serve::{Flushing, Note, Outcome, serve};
 use ptb_text::{Device, Read, Write};
 use std::alloc::Global;
 use std::fmt::Display;

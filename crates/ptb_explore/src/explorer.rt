@@ -723,6 +723,3 @@ impl<'a> Explorer<'a> {
         self.played
     }
 }
-
-#[cfg(test)]
-mod tests;

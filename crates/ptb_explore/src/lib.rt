@@ -18,8 +18,6 @@ mod playing;
 mod recorder;
 mod report;
 mod rows;
-#[cfg(test)]
-mod tests;
 
 pub use explorer::Explorer;
 pub use fault::{AfterFault, ExploreFault, UnderFault};

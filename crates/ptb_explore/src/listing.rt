@@ -108,6 +108,3 @@ pub fn write_all_runs<W: Write>(
     }
     Ok(written)
 }
-
-#[cfg(test)]
-mod tests;

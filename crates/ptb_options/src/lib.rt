@@ -19,6 +19,3 @@ pub use command_line::{command, parse, refusal_status};
 pub use deciding::decide;
 pub use request::{DEFAULT_MEMORY, DEFAULT_STEPS, Mode, Request};
 pub use usage::UsageFault;
-
-#[cfg(test)]
-mod tests;

@@ -2,6 +2,7 @@
 pub mod Replying
 pub mod Fronts
 pub mod Served
+pub mod Running
 pub mod Playing
 pub mod Listed
 pub mod Taking

@@ -1,13 +1,15 @@
 -- This file proves how a listing of all runs is served, from where it began and what was written.
-use Rattle.std.proofs.Common.{◌≡◌, ℕ, ◌⊎◌, inl, inr, Bool, true, false, List, ◌∷◌, ◌++◌, Option, Some, None, Result, Ok, Err, refl, ap, sym, ◌∙◌, subst, append_assoc, IsErrOf}
+use Rattle.std.proofs.Common.{◌≡◌, ℕ, ◌+◌, ◌<◌, ◌≤◌, ◌⊎◌, inl, inr, List, [], ◌∷◌, ◌++◌, length, Option, Some, None, Result, Ok, Err, refl, ap, sym, ◌∙◌, subst, append_assoc, arith, IfOk, IfSome, IsErrOf, OnOk}
 use Rattle.std.specs.Io.KnownBytes.{Appends}
+use Rattle.std.proofs.KnownBytes.{Appends-nil}
 use Rattle.std.proofs.lemmas.List.Concat.{flat_map-append}
-use Rattle.ptb_text.specs.Device.{TakesSome}
+use Rattle.ptb_text.specs.Device.{GivesAtMost, GivesExactly, HasFailed, TakesSome}
 use Rattle.ptb_text.specs.Lines.{input_lines}
 use Rattle.ptb_text.specs.Statements.{StoredProgram}
 use Rattle.ptb_expr.specs.Outcome.{Answers, Outcome}
 use Rattle.ptb_devices.specs.declared.fault.ReadFault.{ReadFault}
 use Rattle.ptb_devices.specs.declared.fault.ReadFault.TheVariants as reads
+use Rattle.ptb_devices.specs.Sources.{ConsumesAtMost}
 use Rattle.ptb_command.specs.Effects.{Begins}
 use Rattle.ptb_machine.specs.declared.rules.Rules.{Rules}
 use Rattle.ptb_machine.specs.Play.{Finish, play}
@@ -22,11 +24,16 @@ use Rattle.ptb_explore.specs.Report.{report}
 use Rattle.ptb_explore.specs.RunTree.{Front, runs_left}
 use Rattle.ptb_serve.specs.declared.note.Note.{Note}
 use Rattle.ptb_serve.specs.declared.note.Note.TheVariants as notes
-use Rattle.ptb_serve.specs.Replies.{Reply, refusal, success, answers_under, first_front, front_note, is_front, is_share, listed_runs, runs_reply, all_reply}
-use Rattle.ptb_serve.specs.Serving.{outcome_of, input_note, reports_note, IsUnloaded, Serves}
+use Rattle.ptb_options.specs.declared.request.Mode.{Mode}
+use Rattle.ptb_options.specs.declared.request.Mode.TheVariants as modes
+use Rattle.ptb_options.specs.declared.request.Request.{Request}
+use Rattle.ptb_serve.specs.Loaded.{ReadsInput, ServesProgram}
+use Rattle.ptb_serve.specs.PlainRuns.{IsUnreadable, input_limit}
+use Rattle.ptb_serve.specs.Replies.{Reply, refusal, success, answers_under, first_front, front_note, is_front, is_share, listed_runs, listing_reply, runs_reply, all_reply}
+use Rattle.ptb_serve.specs.Serving.{outcome_of, input_note, reports_note, IsUnloaded, Serves, SilentBy}
 use Rattle.ptb_serve.proofs.Fronts.{note_is}
 use Rattle.ptb_serve.proofs.Playing.{takes_beginning}
-use Rattle.ptb_serve.proofs.Served.{takes_nothing, replies_refusal}
+use Rattle.ptb_serve.proofs.Served.{at_known, consumes_nothing, nothing_told, serves_loaded, takes_nothing, replies_refusal}
 
 -- ---- nothing was written but the front of what is due
 
@@ -77,6 +84,23 @@ module _ (game : Answers → Outcome Finish (List ℕ)) (under after : Option (L
     | inr b ↦ subst (λ m. IsUnloaded (Some m)) b h
   ]
 
+  -- of a listing that isn't begun a note tells nothing else
+  pub front_note-other : (note other : Note) → (note ≡ notes.OutOfMemory) ⊎ (front_note game under after ≡ Some note)
+      → (other ≡ notes.OutOfMemory → ⊥) → (other ≡ notes.NoBeginning → ⊥) → (other ≡ notes.NoRun → ⊥) → IsErrOf {T = ℕ} (Err note) other → ⊥
+  front_note-other note other (inl e) memory beginning run h = memory cc
+  front_note-other note other (inr e) memory beginning run h = elim (note_is (is_share game under) (is_front game (answers_under under) after) note e) [
+    | inl b ↦ beginning cc
+    | inr b ↦ run cc
+  ]
+
+  pub front_note-silent : (first : Option ℕ) (form : Form) (held : Option (List ℕ)) (note : Note) → (note ≡ notes.OutOfMemory) ⊎ (front_note game under after ≡ Some note)
+      → SilentBy (modes.All under after first form) (Some note) held held
+  front_note-silent first form held note (inl e) = subst (λ m. SilentBy (modes.All under after first form) (Some m) held held) (sym e) tt
+  front_note-silent first form held note (inr e) = elim (note_is (is_share game under) (is_front game (answers_under under) after) note e) [
+    | inl b ↦ subst (λ m. SilentBy (modes.All under after first form) (Some m) held held) (sym b) (Appends-nil held)
+    | inr b ↦ subst (λ m. SilentBy (modes.All under after first form) (Some m) held held) (sym b) (Appends-nil held)
+  ]
+
 pub reports_note-loaded : (fault : ExploreFault) → IsUnloaded (Some (reports_note fault)) → ⊥
 reports_note-loaded (explores.Memory n) h = h
 reports_note-loaded (explores.Write n) h = h
@@ -90,6 +114,25 @@ pub reports_note-write : {T : Type 0} (fault : ExploreFault) → (IsErrOf {T = �
     → (n : ℕ) → IsErrOf {T = T} (Err fault) (explores.Write n) → ⊥
 reports_note-write (explores.Memory m) h n e = absurd cc
 reports_note-write (explores.Write m) h n e = h refl
+
+-- nothing was written where the input isn't read
+input_note-silent : (under after : Option (List Marked)) (first : Option ℕ) (form : Form) (held : Option (List ℕ)) (fault : ReadFault) → SilentBy (modes.All under after first form) (Some (input_note fault)) held held
+input_note-silent under after first form held reads.Read = Appends-nil held
+input_note-silent under after first form held reads.TooLong = Appends-nil held
+input_note-silent under after first form held reads.Memory = tt
+
+pub input_note-written : (fault : ReadFault) → IsErrOf {T = ℕ} (Err (input_note fault)) notes.Unwritten → ⊥
+input_note-written reads.Read h = absurd cc
+input_note-written reads.TooLong h = absurd cc
+input_note-written reads.Memory h = absurd cc
+
+pub reports_note-read : (fault : ExploreFault) → IsErrOf {T = ℕ} (Err (reports_note fault)) notes.InputUnread → ⊥
+reports_note-read (explores.Memory n) h = absurd cc
+reports_note-read (explores.Write n) h = absurd cc
+
+pub reports_note-silent : (under after : Option (List Marked)) (first : Option ℕ) (form : Form) (old new : Option (List ℕ)) (fault : ExploreFault) → SilentBy (modes.All under after first form) (Some (reports_note fault)) old new
+reports_note-silent under after first form old new (explores.Memory n) = tt
+reports_note-silent under after first form old new (explores.Write n) = tt
 
 -- ---- the replies
 
@@ -183,3 +226,144 @@ module _ (p : StoredProgram) (rules : Rules) (under after : Option (List Marked)
       pub serves_some : (fault : ExploreFault) → WritesFrom e (Err fault) → Serves (runs_due rules under after first form c p) old new (outcome_of (Err (reports_note fault)))
       serves_some fault w =
           subst (λ i. Serves (reply i) old new (outcome_of (Err (reports_note fault)))) is (serves_cut input f fault h (written_from (Err fault) w))
+
+-- ---- how it is served, for a program that was loaded
+
+zero_within : (r : Result ℕ Note) → OnOk r (r ≡ Ok 0) → IfOk r (λ n. n ≤ 7)
+zero_within (Ok n) h =
+    let e : n ≡ 0 = cc in
+    omega arith
+zero_within (Err note) h = tt
+
+on_ok : (r : Result ℕ Note) (Q : Type 0) → Q → OnOk r Q
+on_ok (Ok n) Q q = q
+on_ok (Err note) Q q = tt
+
+module _ (request : Request) (p : StoredProgram) (memory : p.memory ≡ request.memory) (under after : Option (List Marked)) (first : Option ℕ) (form : Form) (i j : Option (List ℕ)) where
+  abbrev listing : Mode
+  listing = modes.All under after first form
+
+  pub listing_serves : (old new : Option (List ℕ)) (result : Result ℕ Note)
+      → ((c : List ℕ) → i ≡ Some c → Serves (runs_due request.rules under after first form c p) old new (outcome_of result))
+      → SilentBy listing (outcome_of result).note old new
+      → (IsErrOf result notes.InputUnread → Appends old new [])
+      → OnOk result (result ≡ Ok 0) → (IsUnloaded (outcome_of result).note → ⊥)
+      → ServesProgram listing request p i j old new result
+  listing_serves old new result served quiet unread success loaded = record {
+    served = λ b c l is. serves_loaded request.memory (Some b) (runs_due request.rules under after first form c) p old new result l memory (served c is);
+    taken = λ b l. nothing_told i;
+    unread = λ b l. unread;
+    silent = quiet;
+    status = zero_within result success;
+    success = λ _. success;
+    loaded = loaded;
+  }
+
+  module _ (failed fails gave gives : ℕ) where
+    -- once its lines were read
+    pub listing_reads : (result : Result ℕ Note) → IfSome i (λ c. length c ≤ input_limit) → ConsumesAtMost i j (input_limit + 1) → GivesAtMost gave gives (input_limit + 1)
+        → fails ≡ failed → (IsErrOf result notes.InputUnread → ⊥) → ReadsInput listing i j failed fails gave gives result
+    listing_reads result short bounded given same fine = record {
+      within = λ _. on_ok result (IfSome i (λ c. length c ≤ input_limit)) short;
+      taken_within = λ x. absurd x;
+      no_beginning_within = λ _. short;
+      no_run_within = λ _. short;
+      bounded = bounded;
+      given = given;
+      unread = λ x. absurd (fine x);
+      failed_or_given = λ x. absurd (fine x);
+      read = λ _. same;
+      unneeded = λ x. absurd (x tt);
+    }
+
+    -- where they are not
+    module _ {T : Type 0} (fault : ReadFault) (read : IsErrOf {T = T} (Err fault) reads.Read → HasFailed failed fails) where
+      unread_lines : (fault : ReadFault) → (IsErrOf {T = T} (Err fault) reads.Read → HasFailed failed fails) → (IsErrOf {T = T} (Err fault) reads.TooLong → IfSome i (λ c. input_limit < length c))
+          → IsErrOf {T = ℕ} (Err (input_note fault)) notes.InputUnread → IsUnreadable i failed fails
+      unread_lines reads.Read read long x = inl (read refl)
+      unread_lines reads.TooLong read long x = inr (long refl)
+      unread_lines reads.Memory read long x = absurd cc
+
+      told_lines : (fault : ReadFault) → (IsErrOf {T = T} (Err fault) reads.Read → HasFailed failed fails) → (IsErrOf {T = T} (Err fault) reads.TooLong → GivesExactly gave gives (input_limit + 1))
+          → IsErrOf {T = ℕ} (Err (input_note fault)) notes.InputUnread → HasFailed failed fails ⊎ GivesExactly gave gives (input_limit + 1)
+      told_lines reads.Read read long x = inl (read refl)
+      told_lines reads.TooLong read long x = inr (long refl)
+      told_lines reads.Memory read long x = absurd cc
+
+      pub lines_unread : (IsErrOf {T = T} (Err fault) reads.TooLong → IfSome i (λ c. input_limit < length c))
+          → (IsErrOf {T = T} (Err fault) reads.TooLong → GivesExactly gave gives (input_limit + 1))
+          → ((IsErrOf {T = T} (Err fault) reads.Read → ⊥) → fails ≡ failed)
+          → ConsumesAtMost i j (input_limit + 1) → GivesAtMost gave gives (input_limit + 1) → ReadsInput listing i j failed fails gave gives (Err (input_note fault))
+      lines_unread long exactly unfailed bounded given = record {
+        within = λ _. tt;
+        taken_within = λ x. absurd x;
+        no_beginning_within = λ x. absurd (input_note-beginning fault x);
+        no_run_within = λ x. absurd (input_note-start fault x);
+        bounded = bounded;
+        given = given;
+        unread = unread_lines fault read long;
+        failed_or_given = told_lines fault read exactly;
+        read = λ x. unfailed (input_note-read fault x);
+        unneeded = λ x. absurd (x tt);
+      }
+
+  -- by the writer, which got nothing
+  pub unread_listed : (held : Option (List ℕ)) (fault : ReadFault) → ServesProgram listing request p i j held held (Err (input_note fault))
+  unread_listed held fault =
+      listing_serves held held (Err (input_note fault)) (λ c is. serves_input p request.rules under after first form held c fault) (input_note-silent under after first form held fault)
+      (λ _. Appends-nil held) tt (input_note-loaded fault)
+
+  module _ (input items : List (List ℕ)) (read : input ≡ items) (lines : IfSome i (λ c. items ≡ input_lines c)) where
+    pub unbegun_listed : (held : Option (List ℕ)) (note : Note) → (note ≡ notes.OutOfMemory) ⊎ (front_note (play p input request.rules) under after ≡ Some note)
+        → ServesProgram listing request p i j held held (Err note)
+    unbegun_listed held note one =
+        listing_serves held held (Err note) (λ c is. serves_front p request.rules under after first form held c input (read ∙ at_known (λ d. items ≡ input_lines d) c is lines) note one)
+        (front_note-silent (play p input request.rules) under after first form held note one) (λ _. Appends-nil held) tt (front_note-loaded (play p input request.rules) under after note one)
+
+    -- an explorer went on from its front
+    module _ (old new : Option (List ℕ)) (e : Exploration) (f : Front)
+        (same : e ≡ record { program = p; input = input; rules = request.rules; under = answers_under under; front = first_front after; kept = e.kept; played = e.played })
+        (h : front_note (play p input request.rules) under after ≡ None) where
+      abbrev WritesOn : Result ℕ ExploreFault → Type 0
+      WritesOn result = WritesRuns (play_of e) e.under (report form (play_of e)) (runs_left (play_of e) (most_of e) e.under e.front first) e.front f old new result
+
+      pub all_listed : (n : ℕ) → WritesOn (Ok n) → ServesProgram listing request p i j old new (Ok 0)
+      all_listed n w =
+          listing_serves old new (Ok 0)
+          (λ c is. serves_reports p request.rules under after first form old new c input (read ∙ at_known (λ d. items ≡ input_lines d) c is lines) e f same h n w)
+          tt (λ x. absurd cc) refl (λ x. x)
+
+      pub some_listed : (fault : ExploreFault) → WritesOn (Err fault) → ServesProgram listing request p i j old new (Err (reports_note fault))
+      some_listed fault w =
+          listing_serves old new (Err (reports_note fault))
+          (λ c is. serves_some p request.rules under after first form old new c input (read ∙ at_known (λ d. items ≡ input_lines d) c is lines) e f same h fault w)
+          (reports_note-silent under after first form old new fault) (λ x. absurd (reports_note-read fault x)) tt (reports_note-loaded fault)
+
+-- ---- a listing of the program's text, which leaves the input alone
+
+module _ (request : Request) (p : StoredProgram) (memory : p.memory ≡ request.memory) (i : Option (List ℕ)) (result : Result ℕ Note) (fine : IsErrOf result notes.InputUnread → ⊥) where
+  pub text_serves : (old new : Option (List ℕ)) → Serves (listing_reply p) old new (outcome_of result) → SilentBy modes.List (outcome_of result).note old new
+      → OnOk result (result ≡ Ok 0) → (IsUnloaded (outcome_of result).note → ⊥) → ServesProgram modes.List request p i i old new result
+  text_serves old new served quiet success loaded = record {
+    served = λ b c l is. serves_loaded request.memory (Some b) listing_reply p old new result l memory served;
+    taken = λ b l. nothing_told i;
+    unread = λ b l x. absurd (fine x);
+    silent = quiet;
+    status = zero_within result success;
+    success = λ _. success;
+    loaded = loaded;
+  }
+
+  pub text_reads : (failed gave : ℕ) → (IsErrOf result notes.NoBeginning → ⊥) → (IsErrOf result notes.NoRun → ⊥) → ReadsInput modes.List i i failed failed gave gave result
+  text_reads failed gave begun run = record {
+    within = λ x. absurd x;
+    taken_within = λ x. absurd x;
+    no_beginning_within = λ x. absurd (begun x);
+    no_run_within = λ x. absurd (run x);
+    bounded = consumes_nothing i (input_limit + 1);
+    given = (omega arith, omega arith);
+    unread = λ x. absurd (fine x);
+    failed_or_given = λ x. absurd (fine x);
+    read = λ _. refl;
+    unneeded = λ _. fine;
+  }

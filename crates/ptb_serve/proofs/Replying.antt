@@ -1,7 +1,6 @@
 -- This file proves the laws of replies.
-use Rattle.std.proofs.Common.{◌≡◌, refl, sym, ap, ap₂, ◌∙◌, ℕ, ◌<◌, List, [], length, Bool, true, false, Option, Some, None, Ok, Err, ◌↔◌}
-use Rattle.std.specs.Prelude.{◌&&◌}
-use Rattle.std.proofs.lemmas.Bool.{false_from_ne_true, lt-ltb}
+use Rattle.std.proofs.Common.{◌≡◌, refl, sym, ap, ◌∙◌, ℕ, ◌<◌, List, [], length, Bool, true, false, Option, Some, None, Ok, Err, ◌↔◌}
+use Rattle.std.proofs.lemmas.Bool.{lt-ltb}
 use Rattle.ptb_text.specs.declared.fault.LoadFault.{LoadFault}
 use Rattle.ptb_text.specs.declared.fault.LoadFault.TheVariants.{TooLong}
 use Rattle.ptb_text.specs.Lines.{input_lines}
@@ -17,7 +16,6 @@ use Rattle.ptb_explore.specs.AnswerText.{answers_of, items_in}
 use Rattle.ptb_explore.specs.Laws.{ListingLaws}
 use Rattle.ptb_explore.specs.Report.{report_of}
 use Rattle.ptb_explore.specs.RunTree.{IsRun, Before, begins_with, is_left, runs_after}
-use Rattle.ptb_explore.specs.MarkedRuns.{IsMarkedBeginning, IsMarkedRun}
 use Rattle.ptb_serve.specs.declared.note.Note.{Note}
 use Rattle.ptb_serve.specs.declared.note.Note.TheVariants as notes
 use Rattle.ptb_options.specs.declared.request.Mode.{Mode}
@@ -25,7 +23,7 @@ use Rattle.ptb_options.specs.declared.request.Mode.TheVariants as modes
 use Rattle.ptb_options.specs.declared.request.Request.{Request}
 use Rattle.ptb_serve.specs.SeededRuns.{seeded_answers}
 use Rattle.ptb_serve.proofs.Drawing.{one_is_drawn}
-use Rattle.ptb_serve.specs.Replies.{Reply, refusal, plain_reply, seeded_reply, answers_under, first_front, front_note, is_front, is_share, note_of, all_reply, listing_reply, program_of_text, reply_or_refusal, program_reply, reply_in_mode}
+use Rattle.ptb_serve.specs.Replies.{Reply, refusal, plain_reply, seeded_reply, answers_under, first_front, front_note, is_front, note_of, all_reply, listing_reply, program_of_text, reply_or_refusal, program_reply, reply_in_mode}
 use Rattle.ptb_serve.specs.ReplyLaws.{ListsRuns, RunReplies, RunsBySeed, ReplyLaws}
 use Rattle.ptb_serve.proofs.Fronts.{begun_after, begun_both, begun_under, both_parts, both_true, no_front, no_share, share_true}
 use Rattle.ptb_serve.proofs.Listed.{reply-listed, reply-refused}

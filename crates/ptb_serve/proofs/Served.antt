@@ -1,6 +1,6 @@
 -- This file proves how a request is served, from how its program was loaded and what was written.
-use Rattle.std.proofs.Common.{◌≡◌, inl, ℕ, ◌+◌, ◌==◌, if◌then◌else◌, ◌<◌, ◌≤◌, true, false, nat_lt, List, [], length, Option, Some, None, Result, Ok, Err, IfOk, IfSome, IfErr, OnOk, refl, ap, ◌∙◌, sym, arith, IsErrOf, ℤ, subst}
-use Rattle.std.specs.Io.KnownBytes.{Appends, Consumes}
+use Rattle.std.proofs.Common.{◌≡◌, inl, ℕ, ◌+◌, ◌==◌, if◌then◌else◌, ◌<◌, ◌≤◌, true, false, nat_lt, List, [], length, Option, Some, None, Result, Ok, Err, IfOk, IfSome, IfErr, MatchOption, OnOk, refl, ap, ◌∙◌, sym, arith, IsErrOf, ℤ, subst}
+use Rattle.std.specs.Io.KnownBytes.{Consumes}
 use Rattle.std.proofs.KnownBytes.{Appends-nil, Consumes-nil}
 use Rattle.ptb_text.specs.declared.fault.LoadFault.{LoadFault}
 use Rattle.ptb_text.specs.declared.fault.LoadFault.TheVariants as loads
@@ -12,22 +12,19 @@ use Rattle.ptb_text.specs.Lines.{input_lines}
 use Rattle.ptb_command.specs.declared.ending.Ending.{Ending}
 use Rattle.ptb_command.specs.declared.ending.Ending.TheVariants as endings
 use Rattle.ptb_machine.specs.declared.fault.RunFault.{RunFault}
-use Rattle.ptb_machine.specs.declared.fault.RunFault.TheVariants as faults
 use Rattle.ptb_expr.specs.Outcome.{Answers}
-use Rattle.ptb_machine.specs.declared.rules.Rules.{Rules}
 use Rattle.ptb_machine.specs.Play.{status}
 use Rattle.ptb_devices.specs.Sources.{ConsumesAtMost}
+use Rattle.ptb_options.specs.declared.request.Mode.{Mode}
 use Rattle.ptb_options.specs.declared.request.Mode.TheVariants as modes
 use Rattle.ptb_options.specs.declared.request.Request.{Request}
-use Rattle.ptb_explore.specs.declared.form.Form.{Form}
-use Rattle.ptb_explore.specs.declared.form.Marked.{Marked}
 use Rattle.ptb_serve.specs.declared.note.Note.{Note}
 use Rattle.ptb_serve.specs.declared.note.Note.TheVariants as notes
 use Rattle.ptb_serve.specs.declared.service.Outcome.{Outcome}
 use Rattle.ptb_serve.specs.Statuses.{note_status}
 use Rattle.ptb_serve.specs.PlainRuns.{ShowsRun, lines_come, ShowsUnread, ending_wanted, lines_taken, lines_wanted, ReadsFor}
 use Rattle.ptb_serve.specs.Replies.{Reply, refusal, run_reply, program_of_text, reply_or_refusal, program_reply}
-use Rattle.ptb_serve.specs.Serving.{outcome_of, EndsUnread, ReadsBy, outcome_wanted, wanted_by, load_note, IsRunNote, IsUnloaded, Replies, Serves, SilentBy, TellsLength, TellsRefusal}
+use Rattle.ptb_serve.specs.Serving.{outcome_of, EndsUnread, ReadsBy, outcome_wanted, wanted_by, load_note, IsUnloaded, ReadsForRun, Replies, Serves, SilentBy, SilentWithoutMemory, TellsLength, TellsRefusal, load_fault_note, seeded_taken}
 
 -- ---- the program of a text
 
@@ -48,6 +45,20 @@ unfolding program_of_text
 program_of_text-too_long memory b h =
     let long : nat_lt program_limit (length b) ≡ true = grind arith in
     rw (long, program_of_text) refl
+
+-- ---- what is known of bytes
+
+-- what is said where the input is known, of this input
+pub at_known : {known : Option (List ℕ)} (P : List ℕ → Type 0) (c : List ℕ) → known ≡ Some c → IfSome known P → P c
+at_known P c e h = subst (λ k. IfSome k P) e h
+
+pub each_known : (P Q : List ℕ → Type 0) (known : Option (List ℕ)) → ((b : List ℕ) → P b → Q b) → IfSome known P → IfSome known Q
+each_known P Q None f h = tt
+each_known P Q (Some b) f h = f b h
+
+pub nothing_told : (known : Option (List ℕ)) → IfSome known (λ _. Unit {0})
+nothing_told None = tt
+nothing_told (Some b) = tt
 
 -- ---- what a device gave
 
@@ -115,44 +126,55 @@ when_refused memory (Some b) Q q = by_text (program_of_text memory b) where
   by_text (Ok p) = tt
   by_text (Err e) = q
 
--- of a program that isn't loaded, neither the input is told nor where a listing was to begin
-pub load_note-input : (e : ℕ × LoadFault) → IsErrOf {T = ℕ} (Err (load_note e)) notes.InputUnread → ⊥
-load_note-input e h = by_fault e.1 h where
-  by_fault : (fault : LoadFault) → IsErrOf {T = ℕ} (Err (load_note (e.0, fault))) notes.InputUnread → ⊥
-  by_fault loads.NoNumber h = absurd cc
-  by_fault loads.NumberTooBig h = absurd cc
-  by_fault loads.TextTooLong h = absurd cc
-  by_fault (loads.BadByte place) h = absurd cc
-  by_fault loads.Full h = absurd cc
-  by_fault loads.Memory h = absurd cc
-  by_fault loads.Read h = absurd cc
-  by_fault loads.TooLong h = absurd cc
-
-pub load_note-start : (e : ℕ × LoadFault) → IsErrOf {T = ℕ} (Err (load_note e)) notes.NoRun → ⊥
-load_note-start e h = by_fault e.1 h where
-  by_fault : (fault : LoadFault) → IsErrOf {T = ℕ} (Err (load_note (e.0, fault))) notes.NoRun → ⊥
-  by_fault loads.NoNumber h = absurd cc
-  by_fault loads.NumberTooBig h = absurd cc
-  by_fault loads.TextTooLong h = absurd cc
-  by_fault (loads.BadByte place) h = absurd cc
-  by_fault loads.Full h = absurd cc
-  by_fault loads.Memory h = absurd cc
-  by_fault loads.Read h = absurd cc
-  by_fault loads.TooLong h = absurd cc
-
-pub load_note-beginning : (e : ℕ × LoadFault) → IsErrOf {T = ℕ} (Err (load_note e)) notes.NoBeginning → ⊥
-load_note-beginning e h = by_fault e.1 h where
-  by_fault : (fault : LoadFault) → IsErrOf {T = ℕ} (Err (load_note (e.0, fault))) notes.NoBeginning → ⊥
-  by_fault loads.NoNumber h = absurd cc
-  by_fault loads.NumberTooBig h = absurd cc
-  by_fault loads.TextTooLong h = absurd cc
-  by_fault (loads.BadByte place) h = absurd cc
-  by_fault loads.Full h = absurd cc
-  by_fault loads.Memory h = absurd cc
-  by_fault loads.Read h = absurd cc
-  by_fault loads.TooLong h = absurd cc
-
 -- ---- what a note tells of a program that isn't loaded
+
+-- that it isn't loaded, or that memory was refused, and nothing else
+pub load_note-other : (e : ℕ × LoadFault) (note : Note) → (IsUnloaded (Some note) → ⊥) → (note ≡ notes.OutOfMemory → ⊥) → Some (load_note e) ≡ Some note → ⊥
+load_note-other e note told memory h = by_fault e.1 h where
+  by_fault : (fault : LoadFault) → Some (load_note (e.0, fault)) ≡ Some note → ⊥
+  by_fault loads.NoNumber h = told (subst IsUnloaded h tt)
+  by_fault loads.NumberTooBig h = told (subst IsUnloaded h tt)
+  by_fault loads.TextTooLong h = told (subst IsUnloaded h tt)
+  by_fault (loads.BadByte place) h = told (subst IsUnloaded h tt)
+  by_fault loads.Full h = told (subst IsUnloaded h tt)
+  by_fault loads.Memory h = memory cc
+  by_fault loads.Read h = told (subst IsUnloaded h tt)
+  by_fault loads.TooLong h = told (subst IsUnloaded h tt)
+
+-- that it can't be read where its reader failed, and then alone
+pub load_note-read : (e : ℕ × LoadFault) → e.1 ≡ loads.Read → Some (load_note e) ≡ Some notes.ProgramUnread
+load_note-read e h = ap (λ fault. Some (load_fault_note e.0 fault)) h
+
+pub load_note-unread : (e : ℕ × LoadFault) → Some (load_note e) ≡ Some notes.ProgramUnread → e.1 ≡ loads.Read
+load_note-unread e h = by_fault e.1 h where
+  by_fault : (fault : LoadFault) → Some (load_note (e.0, fault)) ≡ Some notes.ProgramUnread → fault ≡ loads.Read
+  by_fault loads.NoNumber h = absurd cc
+  by_fault loads.NumberTooBig h = absurd cc
+  by_fault loads.TextTooLong h = absurd cc
+  by_fault (loads.BadByte place) h = absurd cc
+  by_fault loads.Full h = absurd cc
+  by_fault loads.Memory h = absurd cc
+  by_fault loads.Read h = refl
+  by_fault loads.TooLong h = absurd cc
+
+-- nothing was written then
+pub load_note-silent : (mode : Mode) (held : Option (List ℕ)) (e : ℕ × LoadFault) → SilentBy mode (Some (load_note e)) held held
+load_note-silent mode held e = by_fault e.1 where
+  without_memory : (mode : Mode) → SilentWithoutMemory mode held held
+  without_memory (modes.Plain a) = Appends-nil held
+  without_memory (modes.Seeded seed) = tt
+  without_memory (modes.All under after first form) = tt
+  without_memory modes.List = Appends-nil held
+
+  by_fault : (fault : LoadFault) → SilentBy mode (Some (load_note (e.0, fault))) held held
+  by_fault loads.NoNumber = Appends-nil held
+  by_fault loads.NumberTooBig = Appends-nil held
+  by_fault loads.TextTooLong = Appends-nil held
+  by_fault (loads.BadByte place) = Appends-nil held
+  by_fault loads.Full = Appends-nil held
+  by_fault loads.Memory = without_memory mode
+  by_fault loads.Read = Appends-nil held
+  by_fault loads.TooLong = Appends-nil held
 
 pub load_note-refusal : (memory : ℕ) (known : Option (List ℕ)) (e : ℕ × LoadFault)
     → (IsLineFault e.1 → IfSome known (λ b. IsRefusedAt memory b e))
@@ -194,14 +216,28 @@ load_note-length old new e exactly = by_fault e.1 exactly where
   by_fault loads.Read h = tt
   by_fault loads.TooLong h = h refl
 
--- a run that is begun has a program
-pub IsRunNote-loaded : (f : RunFault) (note : Note) → IsRunNote f note → IsUnloaded (Some note) → ⊥
-IsRunNote-loaded faults.Memory note n h = subst (λ m. IsUnloaded (Some m)) n h
-IsRunNote-loaded faults.Read note n h = subst (λ m. IsUnloaded (Some m)) n h
-IsRunNote-loaded faults.Write note n h = subst (λ m. IsUnloaded (Some m)) n h
-IsRunNote-loaded faults.Spent note n h = absurd n
-
 -- ---- a program that is loaded
+
+-- of a text that was loaded no note tells a refusal
+pub loaded_refusal : (memory : ℕ) (known : Option (List ℕ)) (note : Option Note) → (IsUnloaded note → ⊥) → TellsRefusal memory known note
+loaded_refusal memory known None h = tt
+loaded_refusal memory known (Some (notes.Load line fault)) h = absurd (h tt)
+loaded_refusal memory known (Some notes.ProgramUnread) h = tt
+loaded_refusal memory known (Some notes.InputUnread) h = tt
+loaded_refusal memory known (Some notes.NoBeginning) h = tt
+loaded_refusal memory known (Some notes.NoRun) h = tt
+loaded_refusal memory known (Some notes.OutOfMemory) h = tt
+loaded_refusal memory known (Some notes.Unwritten) h = tt
+
+pub loaded_length : (old new : ℕ) (note : Option Note) → (IsUnloaded note → ⊥) → TellsLength old new note
+loaded_length old new None h = tt
+loaded_length old new (Some (notes.Load line fault)) h = absurd (h tt)
+loaded_length old new (Some notes.ProgramUnread) h = tt
+loaded_length old new (Some notes.InputUnread) h = tt
+loaded_length old new (Some notes.NoBeginning) h = tt
+loaded_length old new (Some notes.NoRun) h = tt
+loaded_length old new (Some notes.OutOfMemory) h = tt
+loaded_length old new (Some notes.Unwritten) h = tt
 
 -- a text that was loaded isn't refused
 pub loaded_unrefused : (memory : ℕ) (known : Option (List ℕ)) (p : Statements) (Q : ℕ × LoadFault → Type 0) → IfSome known (λ b. IsLoaded memory b p)
@@ -226,10 +262,6 @@ serves_loaded memory (Some b) next p old new result h e s =
 
 -- ---- a run
 
--- what is said where the input is known, of this input
-pub at_known : {known : Option (List ℕ)} (P : List ℕ → Type 0) (c : List ℕ) → known ≡ Some c → IfSome known P → P c
-at_known P c e h = subst (λ k. IfSome k P) e h
-
 pub status_within : (e : Ending) → status e ≤ 7
 status_within endings.End = omega arith
 status_within endings.Stop = omega arith
@@ -251,30 +283,6 @@ module _ (run : List (List ℕ) → List ℕ × Ending) (known : Option (List �
   serves_ended e n number is h =
       let shown = at_known (λ b. ShowsRun (run (input_lines b)) old new e) c is h in
       record { bytes = shown.bytes; status = number ∙ ap status shown.ending; note = refl }
-
-  pub serves_stopped : (f : RunFault) (note : Note) → known ≡ Some c → IsRunNote f note
-      → IfSome known (λ b. TakesSome old new (run (input_lines b)).0) → Serves due old new (outcome_of (Err note))
-  serves_stopped f note is n begins = by_fault f n (at_known (λ b. TakesSome old new (run (input_lines b)).0) c is begins) where
-    by_fault : (f : RunFault) → IsRunNote f note → TakesSome old new (run (input_lines c)).0 → Serves due old new (outcome_of (Err note))
-    by_fault faults.Memory n h = subst (λ m. Serves due old new (outcome_of (Err m))) (sym n) h
-    by_fault faults.Read n h = subst (λ m. Serves due old new (outcome_of (Err m))) (sym n) h
-    by_fault faults.Write n h = subst (λ m. Serves due old new (outcome_of (Err m))) (sym n) h
-    by_fault faults.Spent n h = absurd n
-
--- nothing was written where memory was refused
-pub silent_stopped : (a : List ℤ) (old new : Option (List ℕ)) (f : RunFault) (note : Note) → IsRunNote f note
-    → (IsErrOf {T = Ending} (Err f) faults.Memory → Appends old new []) → SilentBy (modes.Plain a) (Some note) old new
-silent_stopped a old new faults.Memory note n h = subst (λ m. SilentBy (modes.Plain a) (Some m) old new) (sym n) (h refl)
-silent_stopped a old new faults.Read note n h = subst (λ m. SilentBy (modes.Plain a) (Some m) old new) (sym n) tt
-silent_stopped a old new faults.Write note n h = subst (λ m. SilentBy (modes.Plain a) (Some m) old new) (sym n) tt
-silent_stopped a old new faults.Spent note n h = absurd n
-
--- the answers of a seed take memory
-pub silent_seeded : (seed : ℕ) (old new : Option (List ℕ)) (f : RunFault) (note : Note) → IsRunNote f note → SilentBy (modes.Seeded seed) (Some note) old new
-silent_seeded seed old new faults.Memory note n = subst (λ m. SilentBy (modes.Seeded seed) (Some m) old new) (sym n) tt
-silent_seeded seed old new faults.Read note n = subst (λ m. SilentBy (modes.Seeded seed) (Some m) old new) (sym n) tt
-silent_seeded seed old new faults.Write note n = subst (λ m. SilentBy (modes.Seeded seed) (Some m) old new) (sym n) tt
-silent_seeded seed old new faults.Spent note n = absurd n
 
 -- ---- an input that can't be read
 
@@ -312,16 +320,12 @@ reads_nothing request count b (Some c) outcome = by_text (program_of_text reques
   by_text (Ok p) = ([], refl, inl refl)
   by_text (Err e) = tt
 
-pub reads_nothing_for : (request : Request) (count : StoredProgram → List (List ℕ) → ℕ) (program known : Option (List ℕ)) (outcome : Outcome) → IfSome program (λ b. IfSome known (λ c. ReadsBy request count b c known outcome))
-reads_nothing_for request count None known outcome = tt
-reads_nothing_for request count (Some b) known outcome = reads_nothing request count b known outcome
-
--- with the same answers
-pub taken_answers : (p : StoredProgram) (rules : Rules) (known left : Option (List ℕ)) (result : Result Ending RunFault) (x y : List ℤ) → x ≡ y
-    → (taken : List ℕ) × Consumes known left taken × IfSome known (λ c. ReadsFor taken (lines_wanted rules.choose (length (input_lines c)) (lines_taken p (input_lines c) rules x) result))
-    → (taken : List ℕ) × Consumes known left taken × IfSome known (λ c. ReadsFor taken (lines_wanted rules.choose (length (input_lines c)) (lines_taken p (input_lines c) rules y) result))
-taken_answers p rules known left result x y e h =
-    subst (λ (a : List ℤ). (taken : List ℕ) × Consumes known left taken × IfSome known (λ c. ReadsFor taken (lines_wanted rules.choose (length (input_lines c)) (lines_taken p (input_lines c) rules a) result))) e h
+pub takes_nothing_in : (mode : Mode) (request : Request) (program known : Option (List ℕ)) (outcome : Outcome) → IfSome program (λ b. IfSome known (λ c. ReadsForRun mode request b c known outcome))
+takes_nothing_in mode request None known outcome = tt
+takes_nothing_in (modes.Plain a) request (Some b) known outcome = reads_nothing request (λ p lines. lines_taken p lines request.rules a) b known outcome
+takes_nothing_in (modes.Seeded seed) request (Some b) known outcome = reads_nothing request (λ p lines. seeded_taken seed p lines request.rules) b known outcome
+takes_nothing_in (modes.All under after first form) request (Some b) known outcome = nothing_told known
+takes_nothing_in modes.List request (Some b) known outcome = nothing_told known
 
 -- by the outcome as by the result
 wanted_same : (result : Result Ending RunFault) (outcome : Outcome) → ((k : ℕ) → ending_wanted k result ≡ outcome_wanted k outcome)
@@ -360,60 +364,6 @@ wanted_ended e n number k = by_ending e ∙ ap (λ s. outcome_wanted k (outcome_
   by_ending endings.NoAnswer = refl
   by_ending endings.BadAnswer = refl
 
-pub wanted_stopped : (f : RunFault) (note : Note) → IsRunNote f note → (k : ℕ) → ending_wanted k (Err f) ≡ outcome_wanted k (outcome_of (Err note))
-wanted_stopped faults.Memory note n k = ap (λ m. outcome_wanted k (outcome_of (Err m))) (sym n)
-wanted_stopped faults.Read note n k = ap (λ m. outcome_wanted k (outcome_of (Err m))) (sym n)
-wanted_stopped faults.Write note n k = ap (λ m. outcome_wanted k (outcome_of (Err m))) (sym n)
-wanted_stopped faults.Spent note n k = absurd n
-
--- before a listing nothing was written
-pub unread_listing : (under after : Option (List Marked)) (first : Option ℕ) (form : Form) (known old new : Option (List ℕ)) (note : Option Note) → SilentBy (modes.All under after first form) note old new
-    → note ≡ Some notes.InputUnread → IfSome known (λ _. Appends old new [])
-unread_listing under after first form None old new note h is = tt
-unread_listing under after first form (Some b) old new note h is = subst (λ m. SilentBy (modes.All under after first form) m old new) is h
-
--- a run that is begun was told where to begin
-pub IsRunNote-start : (f : RunFault) (note : Note) → IsRunNote f note → IsErrOf {T = ℕ} (Err note) notes.NoRun → ⊥
-IsRunNote-start faults.Memory note n h = absurd cc
-IsRunNote-start faults.Read note n h = absurd cc
-IsRunNote-start faults.Write note n h = absurd cc
-IsRunNote-start faults.Spent note n h = absurd n
-
-pub IsRunNote-beginning : (f : RunFault) (note : Note) → IsRunNote f note → IsErrOf {T = ℕ} (Err note) notes.NoBeginning → ⊥
-IsRunNote-beginning faults.Memory note n h = absurd cc
-IsRunNote-beginning faults.Read note n h = absurd cc
-IsRunNote-beginning faults.Write note n h = absurd cc
-IsRunNote-beginning faults.Spent note n h = absurd n
-
--- the note tells the fault that came
-pub IsRunNote-read : (f : RunFault) (note : Note) → IsRunNote f note → (IsErrOf {T = ℕ} (Err note) notes.InputUnread → ⊥)
-    → IsErrOf {T = Ending} (Err f) faults.Read → ⊥
-IsRunNote-read faults.Memory note n h e = absurd cc
-IsRunNote-read faults.Read note n h e = h (ap Err n)
-IsRunNote-read faults.Write note n h e = absurd cc
-IsRunNote-read faults.Spent note n h e = absurd n
-
-pub IsRunNote-write : (f : RunFault) (note : Note) → IsRunNote f note → (IsErrOf {T = ℕ} (Err note) notes.Unwritten → ⊥)
-    → IsErrOf {T = Ending} (Err f) faults.Write → ⊥
-IsRunNote-write faults.Memory note n h e = absurd cc
-IsRunNote-write faults.Read note n h e = absurd cc
-IsRunNote-write faults.Write note n h e = h (ap Err n)
-IsRunNote-write faults.Spent note n h e = absurd n
-
-pub IsRunNote-unread : (f : RunFault) (note : Note) → IsRunNote f note → IsErrOf {T = ℕ} (Err note) notes.InputUnread
-    → IsErrOf {T = Ending} (Err f) faults.Read
-IsRunNote-unread faults.Memory note n h = absurd cc
-IsRunNote-unread faults.Read note n h = refl
-IsRunNote-unread faults.Write note n h = absurd cc
-IsRunNote-unread faults.Spent note n h = absurd n
-
-pub IsRunNote-memory : (f : RunFault) (note : Note) → IsRunNote f note → IsErrOf {T = ℕ} (Err note) notes.OutOfMemory
-    → IsErrOf {T = Ending} (Err f) faults.Memory
-IsRunNote-memory faults.Memory note n h = refl
-IsRunNote-memory faults.Read note n h = absurd cc
-IsRunNote-memory faults.Write note n h = absurd cc
-IsRunNote-memory faults.Spent note n h = absurd n
-
 -- ---- an outcome
 
 pub outcome_of-note : (r : Result ℕ Note) (note : Note) → (outcome_of r).note ≡ Some note → IsErrOf r note
@@ -428,13 +378,9 @@ pub outcome_of-success : (r : Result ℕ Note) → OnOk r (r ≡ Ok 0) → (outc
 outcome_of-success (Ok status) q h = cc
 outcome_of-success (Err n) q h = absurd cc
 
--- that a fault isn't told, where a text is refused
-pub outcome_of-unread : (memory : ℕ) (known : Option (List ℕ)) (Q : Type 0) (r : Result ℕ Note) (note : Note)
-    → IfSome known (λ b. IfErr (program_of_text memory b) (λ _. Q × (IsErrOf r note → ⊥)))
-    → IfSome known (λ b. IfErr (program_of_text memory b) (λ _. Q × ((outcome_of r).note ≡ Some note → ⊥)))
-outcome_of-unread memory None Q r note h = tt
-outcome_of-unread memory (Some b) Q r note h = by_text (program_of_text memory b) h where
-  by_text : (t : Result Statements (ℕ × LoadFault)) → IfErr t (λ _. Q × (IsErrOf r note → ⊥))
-      → IfErr t (λ _. Q × ((outcome_of r).note ≡ Some note → ⊥))
-  by_text (Ok p) h = tt
-  by_text (Err e) h = (h.0, λ is. h.1 (outcome_of-note r note is))
+pub outcome_of-err : (r : Result ℕ Note) (note : Note) → IsErrOf r note → (outcome_of r).note ≡ Some note
+outcome_of-err r note h = ap (λ x. (outcome_of x).note) h
+
+pub outcome_of-status : (r : Result ℕ Note) → IfOk r (λ n. n ≤ 7) → MatchOption (outcome_of r).note ((outcome_of r).status ≤ 7) (λ note. (outcome_of r).status ≡ note_status note)
+outcome_of-status (Ok n) h = h
+outcome_of-status (Err note) h = refl

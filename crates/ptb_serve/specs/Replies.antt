@@ -121,11 +121,15 @@ all_reply p input rules under after first form = runs_reply (play p input rules)
 
 -- ---- the whole tool
 
+-- the reply for a program that was loaded
+abbrev pub program_reply_in_mode : Mode → Rules → List ℕ → StoredProgram → Reply
+program_reply_in_mode (modes.Plain a) rules c = plain_reply rules a c
+program_reply_in_mode (modes.Seeded seed) rules c = seeded_reply rules seed c
+program_reply_in_mode (modes.All under after first form) rules c = λ p. all_reply p (input_lines c) rules under after first form
+program_reply_in_mode modes.List rules c = listing_reply
+
 abbrev pub reply_in_mode : Mode → Request → List ℕ → List ℕ → Reply
-reply_in_mode (modes.Plain a) request b c = program_reply request.memory b (plain_reply request.rules a c)
-reply_in_mode (modes.Seeded seed) request b c = program_reply request.memory b (seeded_reply request.rules seed c)
-reply_in_mode (modes.All under after first form) request b c = program_reply request.memory b (λ p. all_reply p (input_lines c) request.rules under after first form)
-reply_in_mode modes.List request b c = program_reply request.memory b listing_reply
+reply_in_mode mode request b c = program_reply request.memory b (program_reply_in_mode mode request.rules c)
 
 abbrev pub reply_to : Request → List ℕ → List ℕ → Reply
 reply_to request b c = reply_in_mode request.mode request b c

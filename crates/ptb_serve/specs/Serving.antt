@@ -1,7 +1,6 @@
 -- This file defines how a request is served: its reply is given, or it is broken off and the outcome notes why.
 --     outcome_of result                 what serving comes to, from a status or a note
 --     load_note e                       the note of a program that is not loaded
---     IsRunNote fault note              the note of a run that didn't come to its ending
 --     input_note e                      the note of an input that is not read
 --     under_note e                      the note of a listing that isn't begun with some answers
 --     after_note e                      the note of a listing that isn't begun behind a run
@@ -32,8 +31,6 @@ use Rattle.ptb_command.specs.declared.ending.Ending.TheVariants as endings
 use Rattle.ptb_expr.specs.Outcome.{Answers}
 use Rattle.ptb_machine.specs.declared.rules.Rules.{Rules}
 use Rattle.ptb_machine.specs.Play.{status}
-use Rattle.ptb_machine.specs.declared.fault.RunFault.{RunFault}
-use Rattle.ptb_machine.specs.declared.fault.RunFault.TheVariants as faults
 use Rattle.ptb_explore.specs.declared.fault.AfterFault.{AfterFault}
 use Rattle.ptb_explore.specs.declared.fault.AfterFault.TheVariants as afters
 use Rattle.ptb_explore.specs.declared.fault.UnderFault.{UnderFault}
@@ -66,13 +63,6 @@ load_fault_note line fault = notes.Load line fault
 
 abbrev pub load_note : ℕ × LoadFault → Note
 load_note e = load_fault_note e.0 e.1
-
--- a run that didn't come to its ending; one that is begun isn't spent
-abbrev pub IsRunNote : RunFault → Note → Type 0
-IsRunNote faults.Memory note = note ≡ notes.OutOfMemory
-IsRunNote faults.Read note = note ≡ notes.InputUnread
-IsRunNote faults.Write note = note ≡ notes.Unwritten
-IsRunNote faults.Spent note = ⊥
 
 abbrev pub input_note : ReadFault → Note
 input_note reads.Read = notes.InputUnread

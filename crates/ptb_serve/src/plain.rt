@@ -223,6 +223,3 @@ fn run_fault(fault: ReadFault) -> RunFault
         ReadFault::Memory => RunFault::Memory,
     }
 }
-
-#[cfg(test)]
-mod tests;

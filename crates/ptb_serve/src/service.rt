@@ -1,16 +1,16 @@
 // This file serves a request: it loads the program, and runs it, reports all its runs, or lists it.
 
-ghost use Rattle.std.specs.Prelude.{◌≡◌, ◌≢◌, ◌⊎◌, ◌+◌, ◌≤◌, ◌≤ℤ◌, ℕ, pos, List, [], length};
-ghost use Rattle.std.specs.Prelude.{IfErr, IfOk, IfSome, IsErrOf, MatchOption, OnOk};
+ghost use Rattle.std.specs.Prelude.{◌≡◌, ◌≢◌, ◌⊎◌, ◌+◌, ◌≤◌, ◌≤ℤ◌, ℕ, pos, List, length};
+ghost use Rattle.std.specs.Prelude.{IfErr, IfSome, IsErrOf, MatchOption};
 ghost use Rattle.ptb_text.specs.Device.{GivesAtMost, GivesExactly, HasFailed};
 ghost use Rattle.ptb_text.specs.Statements.{IsMemorySize, program_limit};
 ghost use Rattle.ptb_machine.specs.Play.{status};
 ghost use Rattle.ptb_devices.specs.Sources.{ConsumesAtMost};
-ghost use Rattle.ptb_options.specs.declared.request.Mode.TheVariants.{List as Listing, Plain, Seeded};
 ghost use Rattle.ptb_serve.specs.declared.note.Note.TheVariants.{Load};
+ghost use Rattle.ptb_serve.specs.Loaded.{IsRunStatus, ReadsInput, ServesProgram, TellsFailures};
 ghost use Rattle.ptb_serve.specs.PlainRuns.{IsUnreadable, input_limit};
-ghost use Rattle.ptb_serve.specs.Replies.{program_of_text, refusal, reply_in_mode, reply_to};
-ghost use Rattle.ptb_serve.specs.Serving.{IsInput, IsPlainRun, IsRunNote, IsUnloaded, NeedsInput};
+ghost use Rattle.ptb_serve.specs.Replies.{program_of_text, refusal, reply_to};
+ghost use Rattle.ptb_serve.specs.Serving.{IsInput, IsPlainRun, IsUnloaded, NeedsInput};
 ghost use Rattle.ptb_serve.specs.Serving.{NeedsWholeInput, ReadsForRun, Serves, ServesUnread, SilentBy};
 ghost use Rattle.ptb_serve.specs.Serving.{TellsLength, TellsRefusal};
 ghost use Rattle.ptb_serve.specs.Serving.{outcome_of};
@@ -20,8 +20,8 @@ use crate::all_runs::list_runs;
 use crate::note::Note;
 use crate::plain::{run_plain, run_seeded};
 use ptb_machine::{Ending, RunFault};
-use ptb_options::{Answers, Mode, Request};
-use ptb_text::{Read, Write, list, load};
+use ptb_options::{Mode, Request};
+use ptb_text::{Program, Read, Write, list, load};
 use std::alloc::Global;
 
 /// What serving a request came to.
@@ -133,207 +133,52 @@ pub fn serve<P: Read, R: Read, W: Write>(
     ensures written { result.note ≢ Some Note.Unwritten
         → W.failures out.new ≡ W.failures out.old }
 {
+    match load(alloc, request.memory, program) {
+        Ok(program) => Outcome::of(serve_program(alloc, request, &program, input, out)),
+        Err(refusal) => Outcome::of(Err(Note::from(refusal))),
+    }
+}
+
+// Serves a request for a program that was loaded: the status, or a note.
+fn serve_program<R: Read, W: Write>(
+    alloc: Global,
+    request: &Request,
+    program: &Program,
+    input: &mut R,
+    out: &mut W,
+) -> Result<u8, Note>
+    requires memory { program.now.memory ≡ request.now.memory }
+    requires bound { IfSome request.now.rules.choose (λ n. pos 1 ≤ℤ n) }
+    ensures serves { ServesProgram request.now.mode request.now program.now
+        (R.remaining input.old) (R.remaining input.new)
+        (W.contents out.old) (W.contents out.new) result }
+    ensures reads { ReadsInput request.now.mode (R.remaining input.old) (R.remaining input.new)
+        (R.failures input.old) (R.failures input.new)
+        (R.given input.old) (R.given input.new) result }
+    ensures failures { TellsFailures (W.failures out.old) (W.failures out.new) result }
+    ensures input_kept { ¬ NeedsInput request.now.mode → input.new ≡ input.old }
+{
     match &request.mode {
         Mode::Plain(answers) => {
-            Outcome::of(run_program(alloc, request, answers, program, input, out))
+            let answers = answers.as_slice();
+            run_status(run_plain(alloc, program, answers, request.rules, input, out))
         }
         Mode::Seeded(seed) => {
-            Outcome::of(run_by_seed(alloc, request, *seed, program, input, out))
+            run_status(run_seeded(alloc, program, *seed, request.rules, input, out))
         }
         Mode::All {
             under,
             after,
             first,
             form,
-        } => Outcome::of(list_runs(
-            alloc, request, under, after, *first, *form, program, input, out,
-        )),
-        Mode::List => Outcome::of(list_program(alloc, request, program, out)),
+        } => list_runs(
+            alloc, request, program, under, after, *first, *form, input, out,
+        ),
+        Mode::List => {
+            list(program, out)?;
+            Ok(0)
+        }
     }
-}
-
-// Loads the program, and runs it with these answers. The status is that of its ending.
-fn run_program<P: Read, R: Read, W: Write>(
-    alloc: Global,
-    request: &Request,
-    answers: &Answers,
-    program: &mut P,
-    input: &mut R,
-    out: &mut W,
-) -> Result<u8, Note>
-    requires size { IsMemorySize request.now.memory }
-    requires bound { IfSome request.now.rules.choose (λ n. pos 1 ≤ℤ n) }
-    ensures served { (c : List ℕ) → R.remaining input.old ≡ Some c
-        → IfSome (P.remaining program.old) (λ b.
-        Serves (reply_in_mode (Plain answers.now) request.now b c)
-        (W.contents out.old) (W.contents out.new) (outcome_of result)) }
-    ensures refused { IfSome (P.remaining program.old) (λ b.
-        IfErr (program_of_text request.now.memory b) (λ e. Serves (refusal (Load e.0 e.1))
-        (W.contents out.old) (W.contents out.new) (outcome_of result))) }
-    ensures load_first { IfSome (P.remaining program.old) (λ b.
-        IfErr (program_of_text request.now.memory b)
-        (λ _. (input.new ≡ input.old) × ¬ IsErrOf result Note.InputUnread)) }
-    ensures done { IfOk result (λ status. status ≤ 7) }
-    ensures within { OnOk result
-        (ConsumesAtMost (R.remaining input.old) (R.remaining input.new) input_limit) }
-    ensures taken { IfSome (P.remaining program.old) (λ b. IfSome (R.remaining input.old) (λ c.
-        ReadsForRun (Plain answers.now) request.now b c (R.remaining input.new) (outcome_of result))) }
-    ensures unread { IsErrOf result Note.InputUnread → IfSome (P.remaining program.old) (λ b.
-        ServesUnread (Plain answers.now) request.now
-        (R.remaining input.old) (R.remaining input.new) b
-        (W.contents out.old) (W.contents out.new)) }
-    ensures no_beginning { ¬ IsErrOf result Note.NoBeginning }
-    ensures no_start { ¬ IsErrOf result Note.NoRun }
-    ensures program_bounded { ConsumesAtMost
-        (P.remaining program.old) (P.remaining program.new) (program_limit + 1) }
-    ensures input_bounded { ConsumesAtMost
-        (R.remaining input.old) (R.remaining input.new) (input_limit + 1) }
-    ensures tells_refusal { TellsRefusal request.now.memory (P.remaining program.old)
-        (outcome_of result).note }
-    ensures tells_length { TellsLength (P.given program.old) (P.given program.new)
-        (outcome_of result).note }
-    ensures unloaded { IsUnloaded (outcome_of result).note → input.new ≡ input.old }
-    ensures program_given { GivesAtMost
-        (P.given program.old) (P.given program.new) (program_limit + 1) }
-    ensures input_given { GivesAtMost
-        (R.given input.old) (R.given input.new) (input_limit + 1) }
-    ensures silent { SilentBy (Plain answers.now) (outcome_of result).note
-        (W.contents out.old) (W.contents out.new) }
-    ensures program_unread { IsErrOf result Note.ProgramUnread
-        → HasFailed (P.failures program.old) (P.failures program.new) }
-    ensures program_read { ¬ IsErrOf result Note.ProgramUnread
-        → P.failures program.new ≡ P.failures program.old }
-    ensures input_unread { IsErrOf result Note.InputUnread
-        → IsUnreadable (R.remaining input.old) (R.failures input.old) (R.failures input.new) }
-    ensures input_failed_or_given { IsErrOf result Note.InputUnread
-        → HasFailed (R.failures input.old) (R.failures input.new)
-        ⊎ GivesExactly (R.given input.old) (R.given input.new) (input_limit + 1) }
-    ensures input_read { ¬ IsErrOf result Note.InputUnread
-        → R.failures input.new ≡ R.failures input.old }
-    ensures unwritten { IsErrOf result Note.Unwritten
-        → HasFailed (W.failures out.old) (W.failures out.new) }
-    ensures written { ¬ IsErrOf result Note.Unwritten
-        → W.failures out.new ≡ W.failures out.old }
-{
-    let program = load(alloc, request.memory, program)?;
-    let answers = answers.as_slice();
-    match run_plain(alloc, &program, answers, request.rules, input, out) {
-        Ok(ending) => Ok(ending_status(ending)),
-        Err(fault) => Err(run_note(fault)),
-    }
-}
-
-// Loads the program, and runs it with the answers of this seed. The status is that of its ending.
-fn run_by_seed<P: Read, R: Read, W: Write>(
-    alloc: Global,
-    request: &Request,
-    seed: u64,
-    program: &mut P,
-    input: &mut R,
-    out: &mut W,
-) -> Result<u8, Note>
-    requires size { IsMemorySize request.now.memory }
-    requires bound { IfSome request.now.rules.choose (λ n. pos 1 ≤ℤ n) }
-    ensures served { (c : List ℕ) → R.remaining input.old ≡ Some c
-        → IfSome (P.remaining program.old) (λ b.
-        Serves (reply_in_mode (Seeded seed) request.now b c)
-        (W.contents out.old) (W.contents out.new) (outcome_of result)) }
-    ensures refused { IfSome (P.remaining program.old) (λ b.
-        IfErr (program_of_text request.now.memory b) (λ e. Serves (refusal (Load e.0 e.1))
-        (W.contents out.old) (W.contents out.new) (outcome_of result))) }
-    ensures load_first { IfSome (P.remaining program.old) (λ b.
-        IfErr (program_of_text request.now.memory b)
-        (λ _. (input.new ≡ input.old) × ¬ IsErrOf result Note.InputUnread)) }
-    ensures done { IfOk result (λ status. status ≤ 7) }
-    ensures within { OnOk result
-        (ConsumesAtMost (R.remaining input.old) (R.remaining input.new) input_limit) }
-    ensures taken { IfSome (P.remaining program.old) (λ b. IfSome (R.remaining input.old) (λ c.
-        ReadsForRun (Seeded seed) request.now b c (R.remaining input.new) (outcome_of result))) }
-    ensures unread { IsErrOf result Note.InputUnread → IfSome (P.remaining program.old) (λ b.
-        ServesUnread (Seeded seed) request.now
-        (R.remaining input.old) (R.remaining input.new) b
-        (W.contents out.old) (W.contents out.new)) }
-    ensures no_beginning { ¬ IsErrOf result Note.NoBeginning }
-    ensures no_start { ¬ IsErrOf result Note.NoRun }
-    ensures program_bounded { ConsumesAtMost
-        (P.remaining program.old) (P.remaining program.new) (program_limit + 1) }
-    ensures input_bounded { ConsumesAtMost
-        (R.remaining input.old) (R.remaining input.new) (input_limit + 1) }
-    ensures tells_refusal { TellsRefusal request.now.memory (P.remaining program.old)
-        (outcome_of result).note }
-    ensures tells_length { TellsLength (P.given program.old) (P.given program.new)
-        (outcome_of result).note }
-    ensures unloaded { IsUnloaded (outcome_of result).note → input.new ≡ input.old }
-    ensures program_given { GivesAtMost
-        (P.given program.old) (P.given program.new) (program_limit + 1) }
-    ensures input_given { GivesAtMost
-        (R.given input.old) (R.given input.new) (input_limit + 1) }
-    ensures silent { SilentBy (Seeded seed) (outcome_of result).note
-        (W.contents out.old) (W.contents out.new) }
-    ensures program_unread { IsErrOf result Note.ProgramUnread
-        → HasFailed (P.failures program.old) (P.failures program.new) }
-    ensures program_read { ¬ IsErrOf result Note.ProgramUnread
-        → P.failures program.new ≡ P.failures program.old }
-    ensures input_unread { IsErrOf result Note.InputUnread
-        → IsUnreadable (R.remaining input.old) (R.failures input.old) (R.failures input.new) }
-    ensures input_failed_or_given { IsErrOf result Note.InputUnread
-        → HasFailed (R.failures input.old) (R.failures input.new)
-        ⊎ GivesExactly (R.given input.old) (R.given input.new) (input_limit + 1) }
-    ensures input_read { ¬ IsErrOf result Note.InputUnread
-        → R.failures input.new ≡ R.failures input.old }
-    ensures unwritten { IsErrOf result Note.Unwritten
-        → HasFailed (W.failures out.old) (W.failures out.new) }
-    ensures written { ¬ IsErrOf result Note.Unwritten
-        → W.failures out.new ≡ W.failures out.old }
-{
-    let program = load(alloc, request.memory, program)?;
-    match run_seeded(alloc, &program, seed, request.rules, input, out) {
-        Ok(ending) => Ok(ending_status(ending)),
-        Err(broken) => Err(run_note(broken)),
-    }
-}
-
-// Loads the program, and writes its listing. The status is 0.
-fn list_program<P: Read, W: Write>(
-    alloc: Global,
-    request: &Request,
-    program: &mut P,
-    out: &mut W,
-) -> Result<u8, Note>
-    requires size { IsMemorySize request.now.memory }
-    requires bound { IfSome request.now.rules.choose (λ n. pos 1 ≤ℤ n) }
-    ensures served { IfSome (P.remaining program.old) (λ b.
-        Serves (reply_in_mode Listing request.now b [])
-        (W.contents out.old) (W.contents out.new) (outcome_of result)) }
-    ensures refused { IfSome (P.remaining program.old) (λ b.
-        IfErr (program_of_text request.now.memory b) (λ e. Serves (refusal (Load e.0 e.1))
-        (W.contents out.old) (W.contents out.new) (outcome_of result))) }
-    ensures done { OnOk result (result ≡ Ok 0) }
-    ensures program_bounded { ConsumesAtMost
-        (P.remaining program.old) (P.remaining program.new) (program_limit + 1) }
-    ensures tells_refusal { TellsRefusal request.now.memory (P.remaining program.old)
-        (outcome_of result).note }
-    ensures tells_length { TellsLength (P.given program.old) (P.given program.new)
-        (outcome_of result).note }
-    ensures program_given { GivesAtMost
-        (P.given program.old) (P.given program.new) (program_limit + 1) }
-    ensures silent { SilentBy Listing (outcome_of result).note
-        (W.contents out.old) (W.contents out.new) }
-    ensures program_unread { IsErrOf result Note.ProgramUnread
-        → HasFailed (P.failures program.old) (P.failures program.new) }
-    ensures program_read { ¬ IsErrOf result Note.ProgramUnread
-        → P.failures program.new ≡ P.failures program.old }
-    ensures no_input { ¬ IsErrOf result Note.InputUnread }
-    ensures no_beginning { ¬ IsErrOf result Note.NoBeginning }
-    ensures no_start { ¬ IsErrOf result Note.NoRun }
-    ensures unwritten { IsErrOf result Note.Unwritten
-        → HasFailed (W.failures out.old) (W.failures out.new) }
-    ensures written { ¬ IsErrOf result Note.Unwritten
-        → W.failures out.new ≡ W.failures out.old }
-{
-    let program = load(alloc, request.memory, program)?;
-    list(&program, out)?;
-    Ok(0)
 }
 
 // The status of a run that ended.
@@ -352,15 +197,16 @@ fn ending_status(ending: Ending) -> u8
     }
 }
 
-// The note of a run that didn't come to its ending.
-fn run_note(fault: RunFault) -> Note
-    requires { fault ≢ RunFault.Spent }
-    ensures { IsRunNote fault result }
+// The status of a run that ended, or the note that says why it did not.
+fn run_status(ended: Result<Ending, RunFault>) -> Result<u8, Note>
+    requires { ¬ IsErrOf ended RunFault.Spent }
+    ensures { IsRunStatus ended result }
 {
-    match fault {
-        RunFault::Memory => Note::OutOfMemory,
-        RunFault::Read => Note::InputUnread,
-        RunFault::Write => Note::Unwritten,
-        RunFault::Spent => unreachable!(),
+    match ended {
+        Ok(ending) => Ok(ending_status(ending)),
+        Err(RunFault::Memory) => Err(Note::OutOfMemory),
+        Err(RunFault::Read) => Err(Note::InputUnread),
+        Err(RunFault::Write) => Err(Note::Unwritten),
+        Err(RunFault::Spent) => unreachable!(),
     }
 }

@@ -1,190 +1,105 @@
--- This file answers that what is written of a listing of all runs, and how it ends, is what is due.
-use Rattle.std.proofs.Common.{◌≡◌, ◌∙◌, Ok, Err, ap, refl}
+-- This file answers that a listing of all runs is served as is due, and how its input is read.
+use Rattle.std.proofs.Common.{Ok, Err, refl}
 use Rattle.std.proofs.lemmas.Result.{err_from_is_err_and}
-use Rattle.ptb_text.specs.Lines.{input_lines}
 use Rattle.ptb_machine.specs.Play.{play}
-use Rattle.ptb_serve.specs.Serving.{input_note, load_note, reports_note}
-use Rattle.ptb_serve.specs.Replies.{listing_reply}
-use Rattle.ptb_serve.proofs.Listed.{front_note-loaded, input_note-loaded, input_note-read, input_note-beginning, input_note-start, reports_note-failed, reports_note-loaded, reports_note-write, runs_due, serves_input, serves_front, serves_reports, serves_some}
-use Rattle.ptb_serve.proofs.Served.{at_known, consumes_nothing, consumes_some, load_note-input, load_note-length, load_note-refusal, load_note-beginning, load_note-start, loaded_unrefused, serves_unloaded, serves_loaded, serves_refusal, when_refused}
+use Rattle.ptb_serve.specs.declared.note.Note.TheVariants as notes
+use Rattle.ptb_serve.specs.Serving.{reports_note}
+use Rattle.ptb_serve.proofs.Listed.{all_listed, front_note-other, input_note-written, lines_unread, listing_reads, reports_note-failed, reports_note-read, reports_note-write, some_listed, unbegun_listed, unread_listed}
 use Rattle.ptb_serve.proofs.all_runs.list_runs.Goals as goal
 
-pub returns-in_err-program-clause-served : goal.returns-in_err-program-clause-served
-returns-in_err-program-clause-served g c = λ i is.
+-- ---- the lines can't be read
+
+pub returns-in_err-lines-clause-serves : goal.returns-in_err-lines-clause-serves
+returns-in_err-lines-clause-serves g c =
     let p = err_from_is_err_and c.from_residual.result c.from_residual.ensures.1 in
-    rw (p.1, p.2)
-    (serves_unloaded _ _ (runs_due c.args.request.now.rules c.args.under.now c.args.after.now c.args.first c.args.form i) (g.W.Write.contents c.args.out.now) c.in_err-program.field-0.0
-    c.in_err-program.ensures.refused c.in_err-program.ensures.too_long)
+    rw (p.1, p.2) (unread_listed c.args.request.now c.args.program.now c.requires.memory c.args.under.now c.args.after.now c.args.first c.args.form _ _ _ c.in_err-lines.field-0.0)
 
-pub returns-in_err-lines-clause-served : goal.returns-in_err-lines-clause-served
-returns-in_err-lines-clause-served g c = λ i is.
-    let p = err_from_is_err_and c.from_residual-in_err-lines.result c.from_residual-in_err-lines.ensures.1 in
+pub returns-in_err-lines-clause-reads : goal.returns-in_err-lines-clause-reads
+returns-in_err-lines-clause-reads g c =
+    let p = err_from_is_err_and c.from_residual.result c.from_residual.ensures.1 in
+    let lines = c.in_err-lines.ensures in
     rw (p.1, p.2)
-    (serves_loaded _ _ (runs_due c.args.request.now.rules c.args.under.now c.args.after.now c.args.first c.args.form i) c.in_ok-program.program (g.W.Write.contents c.args.out.now) (g.W.Write.contents c.args.out.now)
-    (Err (input_note c.in_err-lines.field-0.0)) c.in_ok-program.ensures.ok c.in_ok-program.ensures.memory
-    (serves_input c.in_ok-program.program c.args.request.now.rules c.args.under.now c.args.after.now c.args.first c.args.form (g.W.Write.contents c.args.out.now) i c.in_err-lines.field-0.0))
+    (lines_unread c.args.request.now c.args.program.now c.requires.memory c.args.under.now c.args.after.now c.args.first c.args.form _ _ _ _ _ _ c.in_err-lines.field-0.0
+    lines.read lines.too_long lines.given_too_long lines.unfailed lines.bounded lines.given)
 
-pub returns-in_err-explorer-clause-served : goal.returns-in_err-explorer-clause-served
-returns-in_err-explorer-clause-served g c = λ i is.
+pub returns-in_err-lines-clause-failures : goal.returns-in_err-lines-clause-failures
+returns-in_err-lines-clause-failures g c =
+    let p = err_from_is_err_and c.from_residual.result c.from_residual.ensures.1 in
+    rw (p.1, p.2) (record { unwritten = λ x. absurd (input_note-written c.in_err-lines.field-0.0 x); written = λ _. refl })
+
+-- ---- no listing begins so
+
+pub returns-in_err-explorer-clause-serves : goal.returns-in_err-explorer-clause-serves
+returns-in_err-explorer-clause-serves g c =
     let p = err_from_is_err_and c.from_residual-in_err-explorer.result c.from_residual-in_err-explorer.ensures.1 in
-    let input = c.deref.ensures.value ∙ at_known (λ b. c.in_ok-lines.lines.items ≡ input_lines b) i is c.in_ok-lines.ensures.lines in
     rw (p.1, p.2)
-    (serves_loaded _ _ (runs_due c.args.request.now.rules c.args.under.now c.args.after.now c.args.first c.args.form i) c.in_ok-program.program (g.W.Write.contents c.args.out.now) (g.W.Write.contents c.args.out.now)
-    (Err c.in_err-explorer.field-0.0) c.in_ok-program.ensures.ok c.in_ok-program.ensures.memory
-    (serves_front c.in_ok-program.program c.args.request.now.rules c.args.under.now c.args.after.now c.args.first c.args.form (g.W.Write.contents c.args.out.now) i c.deref.result.now input
-    c.in_err-explorer.field-0.0 c.in_err-explorer.ensures.unbegun))
+    (unbegun_listed c.args.request.now c.args.program.now c.requires.memory c.args.under.now c.args.after.now c.args.first c.args.form _ _ c.deref.result.now c.in_ok-lines.lines.items
+    c.deref.ensures.value c.in_ok-lines.ensures.lines _ c.in_err-explorer.field-0.0 c.in_err-explorer.ensures.unbegun)
 
-pub returns-in_err-write_all_runs-clause-served : goal.returns-in_err-write_all_runs-clause-served
-returns-in_err-write_all_runs-clause-served g c = λ i is.
-    let p = err_from_is_err_and c.from_residual-in_err-write_all_runs.result c.from_residual-in_err-write_all_runs.ensures.1 in
-    let input = c.deref.ensures.value ∙ at_known (λ b. c.in_ok-lines.lines.items ≡ input_lines b) i is c.in_ok-lines.ensures.lines in
-    rw (p.1, p.2)
-    (serves_loaded _ _ (runs_due c.args.request.now.rules c.args.under.now c.args.after.now c.args.first c.args.form i) c.in_ok-program.program (g.W.Write.contents c.args.out.now) (g.W.Write.contents c.write_all_runs.new.writer)
-    (Err (reports_note c.in_err-write_all_runs.field-0.0)) c.in_ok-program.ensures.ok c.in_ok-program.ensures.memory
-    (serves_some c.in_ok-program.program c.args.request.now.rules c.args.under.now c.args.after.now c.args.first c.args.form (g.W.Write.contents c.args.out.now) (g.W.Write.contents c.write_all_runs.new.writer) i c.deref.result.now input
-    c.in_ok-explorer.explorer c.write_all_runs.new.explorer.front c.in_ok-explorer.ensures.explorer c.in_ok-explorer.ensures.begun
-    c.in_err-write_all_runs.field-0.0 c.in_err-write_all_runs.ensures.writes))
-
-pub returns-clause-served : goal.returns-clause-served
-returns-clause-served g c = λ i is.
-    let input = c.deref.ensures.value ∙ at_known (λ b. c.in_ok-lines.lines.items ≡ input_lines b) i is c.in_ok-lines.ensures.lines in
-    serves_loaded _ _ (runs_due c.args.request.now.rules c.args.under.now c.args.after.now c.args.first c.args.form i) c.in_ok-program.program (g.W.Write.contents c.args.out.now) (g.W.Write.contents c.write_all_runs.new.writer) (Ok 0)
-    c.in_ok-program.ensures.ok c.in_ok-program.ensures.memory
-    (serves_reports c.in_ok-program.program c.args.request.now.rules c.args.under.now c.args.after.now c.args.first c.args.form (g.W.Write.contents c.args.out.now) (g.W.Write.contents c.write_all_runs.new.writer) i c.deref.result.now input
-    c.in_ok-explorer.explorer c.write_all_runs.new.explorer.front c.in_ok-explorer.ensures.explorer c.in_ok-explorer.ensures.begun
-    c.in_ok-write_all_runs.field-0 c.in_ok-write_all_runs.ensures.writes)
-
--- ---- a text that is refused
-
-pub returns-in_err-program-clause-refused : goal.returns-in_err-program-clause-refused
-returns-in_err-program-clause-refused g c =
-    let p = err_from_is_err_and c.from_residual.result c.from_residual.ensures.1 in
-    let held = g.W.Write.contents c.args.out.now in
-    rw (p.1, p.2)
-    (serves_refusal _ _ listing_reply held held (Err (load_note c.in_err-program.field-0.0))
-    (serves_unloaded _ _ listing_reply held c.in_err-program.field-0.0 c.in_err-program.ensures.refused c.in_err-program.ensures.too_long))
-
-pub returns-in_err-program-clause-load_first : goal.returns-in_err-program-clause-load_first
-returns-in_err-program-clause-load_first g c =
-    let p = err_from_is_err_and c.from_residual.result c.from_residual.ensures.1 in
-    rw (p.1, p.2) (when_refused _ _ _ (refl, load_note-input c.in_err-program.field-0.0))
-
-pub returns-in_err-lines-clause-refused : goal.returns-in_err-lines-clause-refused
-returns-in_err-lines-clause-refused g c = loaded_unrefused _ _ c.in_ok-program.program.lines _ c.in_ok-program.ensures.ok
-
-pub returns-in_err-lines-clause-load_first : goal.returns-in_err-lines-clause-load_first
-returns-in_err-lines-clause-load_first g c = loaded_unrefused _ _ c.in_ok-program.program.lines _ c.in_ok-program.ensures.ok
-
-pub returns-in_err-explorer-clause-refused : goal.returns-in_err-explorer-clause-refused
-returns-in_err-explorer-clause-refused g c = loaded_unrefused _ _ c.in_ok-program.program.lines _ c.in_ok-program.ensures.ok
-
-pub returns-in_err-explorer-clause-load_first : goal.returns-in_err-explorer-clause-load_first
-returns-in_err-explorer-clause-load_first g c = loaded_unrefused _ _ c.in_ok-program.program.lines _ c.in_ok-program.ensures.ok
-
-pub returns-in_err-write_all_runs-clause-refused : goal.returns-in_err-write_all_runs-clause-refused
-returns-in_err-write_all_runs-clause-refused g c = loaded_unrefused _ _ c.in_ok-program.program.lines _ c.in_ok-program.ensures.ok
-
-pub returns-in_err-write_all_runs-clause-load_first : goal.returns-in_err-write_all_runs-clause-load_first
-returns-in_err-write_all_runs-clause-load_first g c = loaded_unrefused _ _ c.in_ok-program.program.lines _ c.in_ok-program.ensures.ok
-
-pub returns-clause-refused : goal.returns-clause-refused
-returns-clause-refused g c = loaded_unrefused _ _ c.in_ok-program.program.lines _ c.in_ok-program.ensures.ok
-
-pub returns-clause-load_first : goal.returns-clause-load_first
-returns-clause-load_first g c = loaded_unrefused _ _ c.in_ok-program.program.lines _ c.in_ok-program.ensures.ok
-
--- ---- what was read
-
-pub returns-in_err-program-clause-no_run_within : goal.returns-in_err-program-clause-no_run_within
-returns-in_err-program-clause-no_run_within g c =
-    let p = err_from_is_err_and c.from_residual.result c.from_residual.ensures.1 in
-    rw (p.1, p.2) (λ h. absurd (load_note-start c.in_err-program.field-0.0 h))
-
-pub returns-in_err-program-clause-no_beginning_within : goal.returns-in_err-program-clause-no_beginning_within
-returns-in_err-program-clause-no_beginning_within g c =
-    let p = err_from_is_err_and c.from_residual.result c.from_residual.ensures.1 in
-    rw (p.1, p.2) (λ h. absurd (load_note-beginning c.in_err-program.field-0.0 h))
-
-pub returns-in_err-lines-clause-no_run_within : goal.returns-in_err-lines-clause-no_run_within
-returns-in_err-lines-clause-no_run_within g c =
-    let p = err_from_is_err_and c.from_residual-in_err-lines.result c.from_residual-in_err-lines.ensures.1 in
-    rw (p.1, p.2) (λ h. absurd (input_note-start c.in_err-lines.field-0.0 h))
-
-pub returns-in_err-lines-clause-no_beginning_within : goal.returns-in_err-lines-clause-no_beginning_within
-returns-in_err-lines-clause-no_beginning_within g c =
-    let p = err_from_is_err_and c.from_residual-in_err-lines.result c.from_residual-in_err-lines.ensures.1 in
-    rw (p.1, p.2) (λ h. absurd (input_note-beginning c.in_err-lines.field-0.0 h))
-
-pub returns-in_err-program-clause-program_bounded : goal.returns-in_err-program-clause-program_bounded
-returns-in_err-program-clause-program_bounded g c = consumes_some _ _ _ c.in_err-program.ensures.bounded
-
-pub returns-in_err-lines-clause-program_bounded : goal.returns-in_err-lines-clause-program_bounded
-returns-in_err-lines-clause-program_bounded g c = consumes_some _ _ _ c.in_ok-program.ensures.bounded
-
-pub returns-in_err-explorer-clause-program_bounded : goal.returns-in_err-explorer-clause-program_bounded
-returns-in_err-explorer-clause-program_bounded g c = consumes_some _ _ _ c.in_ok-program.ensures.bounded
-
-pub returns-in_err-write_all_runs-clause-program_bounded : goal.returns-in_err-write_all_runs-clause-program_bounded
-returns-in_err-write_all_runs-clause-program_bounded g c = consumes_some _ _ _ c.in_ok-program.ensures.bounded
-
-pub returns-clause-program_bounded : goal.returns-clause-program_bounded
-returns-clause-program_bounded g c = consumes_some _ _ _ c.in_ok-program.ensures.bounded
-
-pub returns-in_err-program-clause-input_bounded : goal.returns-in_err-program-clause-input_bounded
-returns-in_err-program-clause-input_bounded g c = consumes_nothing _ _
-
--- ---- the fault that came
-
-pub returns-in_err-lines-clause-input_read : goal.returns-in_err-lines-clause-input_read
-returns-in_err-lines-clause-input_read g c =
-    let p = err_from_is_err_and c.from_residual-in_err-lines.result c.from_residual-in_err-lines.ensures.1 in
-    rw (p.1, p.2) (λ h. c.in_err-lines.ensures.unfailed (input_note-read c.in_err-lines.field-0.0 h))
-
-pub returns-in_err-explorer-clause-input_read : goal.returns-in_err-explorer-clause-input_read
-returns-in_err-explorer-clause-input_read g c = λ _. c.in_ok-lines.ensures.unfailed (λ h. absurd cc)
-
-pub returns-in_err-write_all_runs-clause-input_read : goal.returns-in_err-write_all_runs-clause-input_read
-returns-in_err-write_all_runs-clause-input_read g c = λ _. c.in_ok-lines.ensures.unfailed (λ h. absurd cc)
-
-pub returns-clause-input_read : goal.returns-clause-input_read
-returns-clause-input_read g c = λ _. c.in_ok-lines.ensures.unfailed (λ h. absurd cc)
-
-pub returns-in_err-write_all_runs-clause-unwritten : goal.returns-in_err-write_all_runs-clause-unwritten
-returns-in_err-write_all_runs-clause-unwritten g c =
-    let p = err_from_is_err_and c.from_residual-in_err-write_all_runs.result c.from_residual-in_err-write_all_runs.ensures.1 in
-    rw (p.1, p.2) (reports_note-failed c.in_err-write_all_runs.field-0.0 c.in_err-write_all_runs.ensures.failed)
-
-pub returns-in_err-write_all_runs-clause-written : goal.returns-in_err-write_all_runs-clause-written
-returns-in_err-write_all_runs-clause-written g c =
-    let p = err_from_is_err_and c.from_residual-in_err-write_all_runs.result c.from_residual-in_err-write_all_runs.ensures.1 in
-    rw (p.1, p.2) (λ h. c.in_err-write_all_runs.ensures.unfailed (reports_note-write c.in_err-write_all_runs.field-0.0 h))
-
-pub returns-clause-written : goal.returns-clause-written
-returns-clause-written g c = λ _. c.in_ok-write_all_runs.ensures.unfailed (λ n h. absurd cc)
-
--- ---- what a note tells of the program
-
-pub returns-in_err-program-clause-tells_refusal : goal.returns-in_err-program-clause-tells_refusal
-returns-in_err-program-clause-tells_refusal g c =
-    let p = err_from_is_err_and c.from_residual.result c.from_residual.ensures.1 in
-    rw (p.1, p.2) (load_note-refusal _ _ c.in_err-program.field-0.0 c.in_err-program.ensures.refused c.in_err-program.ensures.too_long)
-
-pub returns-in_err-program-clause-tells_length : goal.returns-in_err-program-clause-tells_length
-returns-in_err-program-clause-tells_length g c =
-    let p = err_from_is_err_and c.from_residual.result c.from_residual.ensures.1 in
-    rw (p.1, p.2) (load_note-length _ _ c.in_err-program.field-0.0 c.in_err-program.ensures.given_too_long)
-
-pub returns-in_err-lines-clause-unloaded : goal.returns-in_err-lines-clause-unloaded
-returns-in_err-lines-clause-unloaded g c =
-    let p = err_from_is_err_and c.from_residual-in_err-lines.result c.from_residual-in_err-lines.ensures.1 in
-    rw (p.1, p.2) (λ h. absurd (input_note-loaded c.in_err-lines.field-0.0 h))
-
-pub returns-in_err-explorer-clause-unloaded : goal.returns-in_err-explorer-clause-unloaded
-returns-in_err-explorer-clause-unloaded g c =
+pub returns-in_err-explorer-clause-reads : goal.returns-in_err-explorer-clause-reads
+returns-in_err-explorer-clause-reads g c =
     let p = err_from_is_err_and c.from_residual-in_err-explorer.result c.from_residual-in_err-explorer.ensures.1 in
-    rw (p.1, p.2) (λ h. absurd (front_note-loaded (play c.in_ok-program.program c.deref.result.now c.args.request.now.rules) c.args.under.now c.args.after.now c.in_err-explorer.field-0.0 c.in_err-explorer.ensures.unbegun h))
+    let lines = c.in_ok-lines.ensures in
+    let note = c.in_err-explorer.field-0.0 in
+    let game = play c.args.program.now c.deref.result.now c.args.request.now.rules in
+    rw (p.1, p.2)
+    (listing_reads c.args.request.now c.args.program.now c.requires.memory c.args.under.now c.args.after.now c.args.first c.args.form _ _ _ _ _ _ (Err note)
+    lines.within lines.bounded lines.given (lines.unfailed (λ x. absurd cc))
+    (front_note-other game c.args.under.now c.args.after.now note notes.InputUnread c.in_err-explorer.ensures.unbegun (λ x. absurd cc) (λ x. absurd cc) (λ x. absurd cc)))
 
-pub returns-in_err-write_all_runs-clause-unloaded : goal.returns-in_err-write_all_runs-clause-unloaded
-returns-in_err-write_all_runs-clause-unloaded g c =
+pub returns-in_err-explorer-clause-failures : goal.returns-in_err-explorer-clause-failures
+returns-in_err-explorer-clause-failures g c =
+    let p = err_from_is_err_and c.from_residual-in_err-explorer.result c.from_residual-in_err-explorer.ensures.1 in
+    let note = c.in_err-explorer.field-0.0 in
+    let game = play c.args.program.now c.deref.result.now c.args.request.now.rules in
+    rw (p.1, p.2)
+    (record {
+      unwritten = λ x. absurd (front_note-other game c.args.under.now c.args.after.now note notes.Unwritten c.in_err-explorer.ensures.unbegun (λ x. absurd cc) (λ x. absurd cc) (λ x. absurd cc) x);
+      written = λ _. refl;
+    })
+
+-- ---- some reports are written
+
+pub returns-in_err-write_all_runs-clause-serves : goal.returns-in_err-write_all_runs-clause-serves
+returns-in_err-write_all_runs-clause-serves g c =
     let p = err_from_is_err_and c.from_residual-in_err-write_all_runs.result c.from_residual-in_err-write_all_runs.ensures.1 in
-    rw (p.1, p.2) (λ h. absurd (reports_note-loaded c.in_err-write_all_runs.field-0.0 h))
+    rw (p.1, p.2)
+    (some_listed c.args.request.now c.args.program.now c.requires.memory c.args.under.now c.args.after.now c.args.first c.args.form _ _ c.deref.result.now c.in_ok-lines.lines.items
+    c.deref.ensures.value c.in_ok-lines.ensures.lines _ _ c.in_ok-explorer.explorer c.write_all_runs.new.explorer.front c.in_ok-explorer.ensures.explorer c.in_ok-explorer.ensures.begun
+    c.in_err-write_all_runs.field-0.0 c.in_err-write_all_runs.ensures.writes)
+
+pub returns-in_err-write_all_runs-clause-reads : goal.returns-in_err-write_all_runs-clause-reads
+returns-in_err-write_all_runs-clause-reads g c =
+    let p = err_from_is_err_and c.from_residual-in_err-write_all_runs.result c.from_residual-in_err-write_all_runs.ensures.1 in
+    let lines = c.in_ok-lines.ensures in
+    let fault = c.in_err-write_all_runs.field-0.0 in
+    rw (p.1, p.2)
+    (listing_reads c.args.request.now c.args.program.now c.requires.memory c.args.under.now c.args.after.now c.args.first c.args.form _ _ _ _ _ _ (Err (reports_note fault))
+    lines.within lines.bounded lines.given (lines.unfailed (λ x. absurd cc)) (reports_note-read fault))
+
+pub returns-in_err-write_all_runs-clause-failures : goal.returns-in_err-write_all_runs-clause-failures
+returns-in_err-write_all_runs-clause-failures g c =
+    let p = err_from_is_err_and c.from_residual-in_err-write_all_runs.result c.from_residual-in_err-write_all_runs.ensures.1 in
+    let fault = c.in_err-write_all_runs.field-0.0 in
+    rw (p.1, p.2)
+    (record {
+      unwritten = reports_note-failed fault c.in_err-write_all_runs.ensures.failed;
+      written = λ x. c.in_err-write_all_runs.ensures.unfailed (reports_note-write fault x);
+    })
+
+-- ---- all are
+
+pub returns-clause-serves : goal.returns-clause-serves
+returns-clause-serves g c =
+    all_listed c.args.request.now c.args.program.now c.requires.memory c.args.under.now c.args.after.now c.args.first c.args.form _ _ c.deref.result.now c.in_ok-lines.lines.items
+    c.deref.ensures.value c.in_ok-lines.ensures.lines _ _ c.in_ok-explorer.explorer c.write_all_runs.new.explorer.front c.in_ok-explorer.ensures.explorer c.in_ok-explorer.ensures.begun
+    c.in_ok-write_all_runs.field-0 c.in_ok-write_all_runs.ensures.writes
+
+pub returns-clause-reads : goal.returns-clause-reads
+returns-clause-reads g c =
+    let lines = c.in_ok-lines.ensures in
+    listing_reads c.args.request.now c.args.program.now c.requires.memory c.args.under.now c.args.after.now c.args.first c.args.form _ _ _ _ _ _ (Ok 0)
+    lines.within lines.bounded lines.given (lines.unfailed (λ x. absurd cc)) (λ x. absurd cc)
+
+pub returns-clause-failures : goal.returns-clause-failures
+returns-clause-failures g c = record { unwritten = λ x. absurd cc; written = λ _. c.in_ok-write_all_runs.ensures.unfailed (λ n x. absurd cc) }

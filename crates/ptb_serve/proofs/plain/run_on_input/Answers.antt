@@ -1,7 +1,6 @@
 -- This file answers what is left to prove of `run_on_input`.
-use Rattle.std.proofs.Common.{◌≡◌, ◌≤◌, List, ℕ, [], ◌++◌, length, Some, None, Ok, Err, IsErrOf, refl, sym, subst, ◌∙◌}
-use Rattle.ptb_command.specs.declared.ending.Ending.TheVariants as endings
-use Rattle.ptb_devices.specs.Inputs.{InputState, known_lines, most_lines, fresh_input, ReadsOn, Refuses, asked, fault_at}
+use Rattle.std.proofs.Common.{◌≡◌, ◌≤◌, List, ℕ, [], ◌++◌, length, Some, None, Err, IsErrOf, refl, sym, subst, ◌∙◌}
+use Rattle.ptb_devices.specs.Inputs.{InputState, known_lines, most_lines, ReadsOn, Refuses, asked, fault_at}
 use Rattle.ptb_devices.specs.InputLaws.{none_known}
 use Rattle.ptb_command.specs.Stops.{NotMissed}
 use Rattle.ptb_devices.specs.Readers.{line_input, line_reader, input_of}

@@ -1,12 +1,11 @@
 // This file tests the command line, from its words to the request or the line that refuses them.
 
-use crate::answers::{Answers, ListFault, MarkedAnswers, parse_answers, parse_list};
-use crate::command_line;
-use crate::deciding::decide;
-use crate::request::{Mode, Request};
-use crate::usage::UsageFault;
 use clap::error::ErrorKind;
 use ptb_explore::{Form, Marked};
+use ptb_options::{
+    Answers, ListFault, MarkedAnswers, Mode, Request, UsageFault, decide, parse, parse_answers,
+    parse_list, refusal_status,
+};
 use std::alloc::Global;
 use std::test::Fail;
 
@@ -17,7 +16,7 @@ fn asked(alloc: Global, words: &[&str]) -> Result<Result<Request, UsageFault>, c
     for word in words {
         line.push(word.to_string(alloc)?)?;
     }
-    let matches = command_line::parse(alloc, line.as_slice())?;
+    let matches = parse(alloc, line.as_slice())?;
     Ok(decide(alloc, &matches))
 }
 
@@ -584,18 +583,18 @@ fn words_that_clap_refuses(rt: HostRuntime) {
     ];
     for (words, kind, status) in table {
         assert_eq!(rt; refused_by_clap(rt.alloc(), words), Some(kind), "{words:?}");
-        assert_eq!(rt; command_line::refusal_status(kind), status, "{words:?}");
+        assert_eq!(rt; refusal_status(kind), status, "{words:?}");
     }
 }
 
 #[test]
 fn memory_that_clap_lacks(rt: HostRuntime) {
-    assert_eq!(rt; command_line::refusal_status(ErrorKind::OutOfMemory), 71);
+    assert_eq!(rt; refusal_status(ErrorKind::OutOfMemory), 71);
 }
 
 // The text that clap has for a word, and whether it belongs on standard error.
 fn told(alloc: Global, word: &str) -> Option<(String, bool)> {
-    match command_line::parse(alloc, &["ptb", word]) {
+    match parse(alloc, &["ptb", word]) {
         Ok(_) => None,
         Err(error) => match error.to_string(alloc) {
             Ok(text) => Some((text, error.use_stderr())),

@@ -1,6 +1,8 @@
 // This file tests the writer that flushes, over one whose flush fails at a call.
 
-use super::*;
+use ptb_serve::Flushing;
+use ptb_text::{DeviceFault, Write};
+use std::io;
 use std::io::ErrorKind;
 use std::test::Fail;
 

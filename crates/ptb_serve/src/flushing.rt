@@ -2,7 +2,7 @@
 
 ghost use Rattle.std.specs.Prelude.{◌≡◌};
 ghost use Rattle.ptb_text.specs.Device.{device_inner, failure_count};
-ghost use Rattle.ptb.specs.Flushed.{flushed_device};
+ghost use Rattle.ptb_serve.specs.Flushed.{flushed_device};
 
 use ptb_text::{Device, DeviceFault, Write};
 use std::io;
@@ -39,6 +39,3 @@ impl<W: io::Write> Write for Flushing<W> {
         Ok(taken)
     }
 }
-
-#[cfg(test)]
-mod tests;

@@ -2,10 +2,11 @@
 
 ghost use Rattle.std.specs.Prelude.{◌≤ℤ◌, pos, IfSome};
 
-use super::*;
-use crate::tests::{expect_same, plain_rules};
-use ptb_machine::{Ending, read_lines};
-use ptb_text::{Device, load};
+use crate::shared::{expect_same, plain_rules};
+use ptb_explore::{AfterFault, Explorer, Marked, Report, UnderFault};
+use ptb_machine::{Ending, Line, Rules, read_lines};
+use ptb_text::{Device, Program, load};
+use std::alloc::{AllocError, Global};
 use std::process::Abort;
 use std::test::Fail;
 

@@ -1,6 +1,6 @@
 // This file tests the notes: the line of each, and its status.
 
-use crate::note::Note;
+use ptb_serve::Note;
 use ptb_text::LoadFault;
 use std::test::Fail;
 

@@ -3,12 +3,11 @@
 
 ghost use Rattle.std.specs.Prelude.{◌≤◌, ◌≤ℤ◌, pos, IfSome};
 
-use super::*;
-use crate::fault::{AfterFault, UnderFault};
-use crate::form::Marked;
-use crate::report::Report;
-use crate::tests::{expect_same, plain_rules};
-use ptb_machine::{Ending, Line, Rules, read_lines};
+use crate::shared::{expect_same, loaded, plain_rules};
+use ptb_explore::{
+    AfterFault, ExploreFault, Explorer, Form, Marked, Report, UnderFault, write_all_runs,
+};
+use ptb_machine::{Ending, Line, Rules};
 use ptb_text::{Device, Program, Write, load};
 use std::alloc::{AllocError, Global};
 use std::io;
@@ -29,18 +28,6 @@ RUN 2,2 END 4 7\n     2\n\nRUN 2,3 END 4 7\n     3\n\n";
 // The same, each answer with its bound.
 const BRANCH_REPORTS_WITH_BOUNDS: &str = "RUN 1/2 END 2 0\n\nRUN 2/2,1/3 END 4 7\n     1\n\n\
 RUN 2/2,2/3 END 4 7\n     2\n\nRUN 2/2,3/3 END 4 7\n     3\n\n";
-
-// The program of a text, and the lines of an input.
-fn loaded(alloc: Global, text: &str, input: &str) -> Result<(Program, Vec<Line>), Fail> {
-    let (mut text, mut input) = (text.as_bytes(), input.as_bytes());
-    let Ok(program) = load(alloc, 4096, &mut Device::new(&mut text)) else {
-        return Err(Fail::from("no program"));
-    };
-    let Ok(lines) = read_lines(alloc, &mut Device::new(&mut input)) else {
-        return Err(Fail::from("no input"));
-    };
-    Ok((program, lines))
-}
 
 // What an explorer's listing writes, and how many reports.
 fn written(

@@ -1,10 +1,12 @@
 // This file tests runs that end, and that can't be read or written.
 
-ghost use Rattle.std.specs.Prelude.{◌≡◌, ◌≤ℤ◌, pos, None, IfSome};
+ghost use Rattle.std.specs.Prelude.{◌≤ℤ◌, pos, IfSome};
 
-use super::*;
-use ptb_text::{Device, LoadFault};
-use std::fmt::Debug;
+use crate::shared::{expect_same, plain_rules};
+use ptb_machine::{Ending, Rules, RunFault};
+use ptb_serve::{run_plain, run_seeded};
+use ptb_text::{Device, LoadFault, Program};
+use std::alloc::Global;
 use std::io;
 use std::io::ErrorKind;
 use std::process::Abort;
@@ -37,21 +39,6 @@ fn one_line(alloc: Global, line: &[u8]) -> Result<Program, LoadFault> {
     Ok(program)
 }
 
-// The rules of a run that ends for want of a line.
-fn lines_alone(limit: u32) -> Rules
-    ensures { result.choose ≡ None }
-{
-    Rules {
-        limit,
-        choose: None,
-    }
-}
-
-// Two values that must be the same.
-fn expect_same<T: Copy + PartialEq + Debug>(rt: &impl Abort, found: T, wanted: T) {
-    assert_eq!(rt; found, wanted);
-}
-
 // How a run without input ends, and what it shows.
 fn ended(
     alloc: Global,
@@ -79,7 +66,7 @@ fn ended_by_seed(
     let mut input = Device::new(&b""[..]);
     let mut shown = Vec::new(alloc);
     let mut out = Device::new(&mut shown);
-    let ending = run_seeded(alloc, &program, seed, lines_alone(10), &mut input, &mut out);
+    let ending = run_seeded(alloc, &program, seed, plain_rules(10), &mut input, &mut out);
     Ok((ending, shown))
 }
 
@@ -90,7 +77,7 @@ fn expect_ending(
     ending: Ending,
     shown: &[u8],
 ) {
-    expect_same(rt, (run.0, run.1.as_slice()), (Ok(ending), shown));
+    expect_same(rt, "ending", (run.0, run.1.as_slice()), (Ok(ending), shown));
 }
 
 #[test]
@@ -101,7 +88,7 @@ fn endings(rt: HostRuntime) -> Result<(), Fail> {
         (&[2, 9], Ending::End, b"     2\n"),
         (&[3], Ending::BadAnswer, b""),
     ] {
-        let run = ended(rt.alloc(), b"10 P.RND(2)", answers, lines_alone(10))?;
+        let run = ended(rt.alloc(), b"10 P.RND(2)", answers, plain_rules(10))?;
         expect_ending(&rt, run, ending, shown);
     }
     Ok(())
@@ -161,12 +148,12 @@ fn refused_seeded_runs(rt: HostRuntime) {
         rt.alloc(),
         &program,
         7,
-        lines_alone(200),
+        plain_rules(200),
         &mut input,
         &mut out,
     ) {
-        Ok(ending) => expect_same(&rt, ending, Ending::End),
-        Err(fault) => expect_same(&rt, fault, RunFault::Memory),
+        Ok(ending) => expect_same(&rt, "ending", ending, Ending::End),
+        Err(fault) => expect_same(&rt, "fault", fault, RunFault::Memory),
     }
     let mut ended = false;
     for pair in shown.as_chunks::<2>().0 {
@@ -180,7 +167,7 @@ fn unread(alloc: Global, program: &Program) -> (Result<Ending, RunFault>, Vec<u8
     let mut shown = Vec::new(alloc);
     let mut input = Device::new(Broken);
     let mut out = Device::new(&mut shown);
-    let ending = run_plain(alloc, program, &[], lines_alone(10), &mut input, &mut out);
+    let ending = run_plain(alloc, program, &[], plain_rules(10), &mut input, &mut out);
     (ending, shown)
 }
 
@@ -189,7 +176,7 @@ fn unread_by_seed(alloc: Global, program: &Program) -> (Result<Ending, RunFault>
     let mut shown = Vec::new(alloc);
     let mut input = Device::new(Broken);
     let mut out = Device::new(&mut shown);
-    let ending = run_seeded(alloc, program, 7, lines_alone(10), &mut input, &mut out);
+    let ending = run_seeded(alloc, program, 7, plain_rules(10), &mut input, &mut out);
     (ending, shown)
 }
 
@@ -197,6 +184,7 @@ fn unread_by_seed(alloc: Global, program: &Program) -> (Result<Ending, RunFault>
 fn expect_unread(rt: &impl Abort, run: (Result<Ending, RunFault>, Vec<u8>)) {
     expect_same(
         rt,
+        "fault",
         (run.0, run.1.as_slice()),
         (Err(RunFault::Read), b"\nA:"),
     );
@@ -206,11 +194,11 @@ fn expect_unread(rt: &impl Abort, run: (Result<Ending, RunFault>, Vec<u8>)) {
 fn expect_unwritten(rt: &impl Abort, alloc: Global, program: &Program) {
     let mut input = Device::new(&b""[..]);
     let mut broken = Device::new(Broken);
-    let rules = lines_alone(10);
+    let rules = plain_rules(10);
     let plain = run_plain(alloc, program, &[], rules, &mut input, &mut broken);
-    expect_same(rt, plain, Err(RunFault::Write));
+    expect_same(rt, "plain run", plain, Err(RunFault::Write));
     let seeded = run_seeded(alloc, program, 7, rules, &mut input, &mut broken);
-    expect_same(rt, seeded, Err(RunFault::Write));
+    expect_same(rt, "run by a seed", seeded, Err(RunFault::Write));
 }
 
 #[test]

@@ -1,0 +1,57 @@
+-- This file defines how a request is served for a program that was loaded.
+--     IsRunStatus ended result    the status of a run that ended, or the note that says why it did not
+--     ServesProgram mode ..       what is written, and the status or the note
+--     ReadsInput mode ..          what is read of the input
+--     TellsFailures old new result    that the writer failed is noted, and is noted of no other
+use Rattle.std.specs.Prelude.{◌≡◌, ◌⊎◌, ◌+◌, ◌≤◌, ℕ, List, length, Option, Result, Ok, Err, IfOk, IfSome, IsErrOf, OnOk}
+use Rattle.ptb_text.specs.Device.{GivesAtMost, GivesExactly, HasFailed}
+use Rattle.ptb_text.specs.Loading.{IsLoaded}
+use Rattle.ptb_text.specs.Statements.{StoredProgram}
+use Rattle.ptb_command.specs.declared.ending.Ending.{Ending}
+use Rattle.ptb_devices.specs.Sources.{ConsumesAtMost}
+use Rattle.ptb_machine.specs.Play.{status}
+use Rattle.ptb_machine.specs.declared.fault.RunFault.{RunFault}
+use Rattle.ptb_machine.specs.declared.fault.RunFault.TheVariants as faults
+use Rattle.ptb_options.specs.declared.request.Mode.{Mode}
+use Rattle.ptb_options.specs.declared.request.Request.{Request}
+use Rattle.ptb_serve.specs.declared.note.Note.{Note}
+use Rattle.ptb_serve.specs.declared.note.Note.TheVariants as notes
+use Rattle.ptb_serve.specs.PlainRuns.{IsUnreadable, input_limit}
+use Rattle.ptb_serve.specs.Replies.{reply_in_mode}
+use Rattle.ptb_serve.specs.Serving.{IsInput, IsPlainRun, IsUnloaded, NeedsInput, NeedsWholeInput, ReadsForRun, Serves, ServesUnread, SilentBy, outcome_of}
+
+-- a run that is begun isn't spent
+abbrev pub IsRunStatus : Result Ending RunFault → Result ℕ Note → Type 0
+IsRunStatus (Ok ending) result = result ≡ Ok (status ending)
+IsRunStatus (Err faults.Memory) result = result ≡ Err notes.OutOfMemory
+IsRunStatus (Err faults.Read) result = result ≡ Err notes.InputUnread
+IsRunStatus (Err faults.Write) result = result ≡ Err notes.Unwritten
+IsRunStatus (Err faults.Spent) result = ⊥
+
+-- the input is `known` before and `left` after, and what is written goes from `old` to `new`; b is a text of which p is the program
+pub record ServesProgram (mode : Mode) (request : Request) (p : StoredProgram) (known left old new : Option (List ℕ)) (result : Result ℕ Note) : Type 0 where
+  pub served : (b c : List ℕ) → IsLoaded request.memory b p.lines → IsInput mode known c → Serves (reply_in_mode mode request b c) old new (outcome_of result)
+  pub taken : (b : List ℕ) → IsLoaded request.memory b p.lines → IfSome known (λ c. ReadsForRun mode request b c left (outcome_of result))
+  pub unread : (b : List ℕ) → IsLoaded request.memory b p.lines → IsErrOf result notes.InputUnread → ServesUnread mode request known left b old new
+  pub silent : SilentBy mode (outcome_of result).note old new
+  pub status : IfOk result (λ n. n ≤ 7)
+  pub success : (IsPlainRun mode → ⊥) → OnOk result (result ≡ Ok 0)
+  -- no note says that the program was not loaded
+  pub loaded : IsUnloaded (outcome_of result).note → ⊥
+
+-- the reader had failed so often and given so many bytes before, and after
+pub record ReadsInput (mode : Mode) (known left : Option (List ℕ)) (failed fails gave gives : ℕ) (result : Result ℕ Note) : Type 0 where
+  pub within : NeedsWholeInput mode → OnOk result (IfSome known (λ c. length c ≤ input_limit))
+  pub taken_within : IsPlainRun mode → OnOk result (ConsumesAtMost known left input_limit)
+  pub no_beginning_within : IsErrOf result notes.NoBeginning → IfSome known (λ c. length c ≤ input_limit)
+  pub no_run_within : IsErrOf result notes.NoRun → IfSome known (λ c. length c ≤ input_limit)
+  pub bounded : ConsumesAtMost known left (input_limit + 1)
+  pub given : GivesAtMost gave gives (input_limit + 1)
+  pub unread : IsErrOf result notes.InputUnread → IsUnreadable known failed fails
+  pub failed_or_given : IsErrOf result notes.InputUnread → HasFailed failed fails ⊎ GivesExactly gave gives (input_limit + 1)
+  pub read : (IsErrOf result notes.InputUnread → ⊥) → fails ≡ failed
+  pub unneeded : (NeedsInput mode → ⊥) → IsErrOf result notes.InputUnread → ⊥
+
+pub record TellsFailures (old new : ℕ) (result : Result ℕ Note) : Type 0 where
+  pub unwritten : IsErrOf result notes.Unwritten → HasFailed old new
+  pub written : (IsErrOf result notes.Unwritten → ⊥) → new ≡ old

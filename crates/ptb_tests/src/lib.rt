@@ -1,0 +1,23 @@
+//! Tests of the parts of the tool, over their public names: the explorer and its reports, the command
+//! line, runs, notes, and the writer of standard output.
+//!
+//! It stands on the libraries of the tool and on `clap`. No crate stands on it: a crate with tests is
+//! proved once more together with them, so these stand apart from what they test.
+#![tactic(auto)]
+
+#[cfg(test)]
+mod command_line;
+#[cfg(test)]
+mod copies;
+#[cfg(test)]
+mod flushing;
+#[cfg(test)]
+mod listing;
+#[cfg(test)]
+mod notes;
+#[cfg(test)]
+mod plain_runs;
+#[cfg(test)]
+mod reports;
+#[cfg(test)]
+mod shared;
