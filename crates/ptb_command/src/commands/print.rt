@@ -55,12 +55,13 @@ fn blanks_before(digits: &[u8], width: u8) -> &'static [u8]
 }
 
 /// Gathers a value with blanks in front of it up to the width, if there is room. Whether there was:
-/// where there was not, blanks may be gathered.
+/// where there was not, blanks may be gathered. What was gathered before stays.
 pub fn gather_value(gathering: &mut Gathering, width: u8, value: i16) -> bool
     ensures gathered { IsTrue result
         → gathering.new ≡ gathering.old ++ padded_decimal width value }
     ensures room { length gathering.old + length (padded_decimal width value) ≤ GATHERING_LIMIT
         → IsTrue result }
+    ensures stays { take (length gathering.old) gathering.new ≡ gathering.old }
 {
     let mut buffer = Buffer::new();
     let digits = buffer.format(value).as_bytes();
