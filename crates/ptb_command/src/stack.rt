@@ -127,11 +127,16 @@ impl Stack {
 
     /// Closes the newest call with the loops above it, and gives the place to which it returns.
     /// Where no call is open, nothing is closed.
+    #[inline(always)]
     pub fn close_call(&mut self) -> Option<Location>
         ensures { ClosesCall self.old self.new result }
     {
-        let (below, back) = newest_call(self.opens.as_slice())?;
-        self.opens.truncate(below);
+        // most often no loop is open above it, and nothing need be looked for
+        let Some(Open::Call(back)) = self.opens.as_slice().last() else {
+            return self.close_call_below_loops();
+        };
+        let back = *back;
+        self.close_newest();
         Some(back)
     }
 
@@ -150,6 +155,17 @@ impl Stack {
         ensures { ClosesNewest self.old self.new }
     {
         self.opens.pop();
+    }
+
+    // Closes the newest call with the loops above it, wherever it stands. Not inlined, so that the code
+    // for the newest of all stays short.
+    #[inline(never)]
+    fn close_call_below_loops(&mut self) -> Option<Location>
+        ensures { ClosesCall self.old self.new result }
+    {
+        let (below, back) = newest_call(self.opens.as_slice())?;
+        self.opens.truncate(below);
+        Some(back)
     }
 
     // Adds a loop or a call, where there is room for one more; whether there is.
