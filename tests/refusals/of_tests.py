@@ -7,11 +7,11 @@ import tempfile
 
 # The tests, and behind how many reports memory must have been refused at least once.
 TESTS = [
-    ("ptb_text", "tests::refused_growths_are_answered", set()),
-    ("ptb_text", "tests::refused_lines_are_entered_again", set()),
-    ("ptb_expr", "tests::refused_array", set()),
-    ("ptb_expr", "tests::copied_values", set()),
-    ("ptb_expr", "tests::refused_answers", set()),
+    ("ptb_language_tests", "texts::refused_growths_are_answered", set()),
+    ("ptb_language_tests", "texts::refused_lines_are_entered_again", set()),
+    ("ptb_language_tests", "expressions::refused_array", set()),
+    ("ptb_language_tests", "expressions::copied_values", set()),
+    ("ptb_language_tests", "expressions::refused_answers", set()),
     ("ptb_command", "tests::first_registers", set()),
     ("ptb_command", "tests::copied_registers", set()),
     ("ptb_tests", "copies::refused_copies", set()),

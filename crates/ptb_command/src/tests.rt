@@ -6,11 +6,13 @@ ghost use Rattle.ptb_text.specs.Words.{is_letter};
 
 use super::*;
 use ptb_devices::{Line, Lines, TextScreen};
-use ptb_expr::{Fault, FaultKind, Listed, Pause, Store};
+use ptb_expr::{Listed, Pause, Store};
 use ptb_text::{Cursor, Letter, LoadFault, Program, Word};
 use std::alloc::{AllocError, Global};
+use std::fmt::Debug;
 use std::io;
 use std::io::ErrorKind;
+use std::process::Abort;
 use std::test::Fail;
 
 /// The memory of the programs.
@@ -46,9 +48,26 @@ impl<'a> io::Write for Counted<'a> {
     }
 }
 
-// A fault with its mark.
-fn fault(kind: FaultKind, mark: usize) -> Result<(), Stop> {
-    Err(Stop::Fault(Fault { kind, mark }))
+// A fault with its mark, for tables that are constants.
+macro_rules! fault {
+    ($kind:ident, $mark:literal) => {
+        Err($crate::Stop::Fault(ptb_expr::Fault {
+            kind: ptb_expr::FaultKind::$kind,
+            mark: $mark,
+        }))
+    };
+}
+
+pub(crate) use fault;
+
+// Two values that must be the same; `what` says of what they are.
+pub(crate) fn expect_same<T: Copy + PartialEq + Debug>(
+    rt: &impl Abort,
+    what: &str,
+    found: T,
+    wanted: T,
+) {
+    assert_eq!(rt; found, wanted, "{what}");
 }
 
 // The program of two lines, of which each may be empty.
@@ -110,129 +129,105 @@ fn done(
     (result, io.fresh)
 }
 
-// Commands that open and close nothing, where A is 1: how each is done, the next place, what was
+// A program of a line and a STOP, and its registers, where A holds this.
+fn begun(alloc: Global, line: &str, a: i16) -> Result<(Program, Registers), Fail> {
+    let program = program(alloc, line.as_bytes(), b"20 STOP")?;
+    let mut registers = Registers::new(alloc, &program)?;
+    registers.store.set(letter(b'A'), a);
+    Ok((program, registers))
+}
+
+// Commands that open and close nothing, where A is 1: how each is done, the next place, what is
 // shown, and A.
+const COMMANDS: &[(&str, Result<(), Stop>, (usize, usize), &[u8], i16)] = &[
+    ("10 REM X;P.1", Ok(()), (1, 0), b"", 1),
+    ("10 STOP", Err(Stop::Ended), (0, 0), b"", 1),
+    ("10 STOP;", fault!(What, 4), (0, 0), b"", 1),
+    ("10 GOTO 20", Ok(()), (1, 0), b"", 1),
+    ("10 GOTO 30", fault!(How, 7), (0, 0), b"", 1),
+    ("10 GOTO 20;", fault!(What, 7), (0, 0), b"", 1),
+    ("10 IF A P.1", Ok(()), (0, 5), b"", 1),
+    ("10 IF A=2 P.(", Ok(()), (1, 0), b"", 1),
+    ("10 LET A=2;P.A", Ok(()), (0, 8), b"", 2),
+    ("10 A=RND(6) ;P.A", Ok(()), (0, 10), b"", 4),
+    ("10 A=RND(6),A=RND(6)", NO_ANSWER, (0, 0), b"", 4),
+    ("10 A=1/0", fault!(How, 5), (0, 0), b"", 1),
+    ("10 PRINT A,\"X\";STOP", Ok(()), (0, 12), b"     1X\n", 1),
+    ("10 PRINT A,", Ok(()), (0, 8), b"     1", 1),
+    ("10 PRINT 1 2", fault!(What, 8), (0, 0), b"     1\n", 1),
+    ("10 INPUT A;P.A", Ok(()), (0, 8), b"A:5\n", 5),
+    ("10 INPUT A,A", Err(Stop::NoInput), (0, 0), b"A:5\nA:", 5),
+];
+
+const NO_ANSWER: Result<(), Stop> = Err(Stop::Pause(Pause::Ended));
+
+// Whether a transcript of these bytes is fresh.
+fn is_fresh(shown: &[u8]) -> bool {
+    matches!(shown.last(), None | Some(b'\n'))
+}
+
 #[test]
 fn commands(rt: HostRuntime) -> Result<(), Fail> {
-    for (line, want, place, shown, a) in [
-        (&b"10 REM X;P.1"[..], Ok(()), (1, 0), &b""[..], 1),
-        (b"10 STOP", Err(Stop::Ended), (0, 0), b"", 1),
-        (b"10 STOP;", fault(FaultKind::What, 4), (0, 0), b"", 1),
-        (b"10 GOTO 20", Ok(()), (1, 0), b"", 1),
-        (b"10 GOTO 30", fault(FaultKind::How, 7), (0, 0), b"", 1),
-        (b"10 GOTO 20;", fault(FaultKind::What, 7), (0, 0), b"", 1),
-        (b"10 IF A P.1", Ok(()), (0, 5), b"", 1),
-        (b"10 IF A=2 P.(", Ok(()), (1, 0), b"", 1),
-        (b"10 LET A=2;P.A", Ok(()), (0, 8), b"", 2),
-        (b"10 A=RND(6) ;P.A", Ok(()), (0, 10), b"", 4),
-        (
-            b"10 A=RND(6),A=RND(6)",
-            Err(Stop::Pause(Pause::Ended)),
-            (0, 0),
-            b"",
-            4,
-        ),
-        (b"10 A=1/0", fault(FaultKind::How, 5), (0, 0), b"", 1),
-        (b"10 PRINT A,\"X\";STOP", Ok(()), (0, 12), b"     1X\n", 1),
-        (b"10 PRINT A,", Ok(()), (0, 8), b"     1", 1),
-        (
-            b"10 PRINT 1 2",
-            fault(FaultKind::What, 8),
-            (0, 0),
-            b"     1\n",
-            1,
-        ),
-        (b"10 INPUT A;P.A", Ok(()), (0, 8), b"A:5\n", 5),
-        (b"10 INPUT A,A", Err(Stop::NoInput), (0, 0), b"A:5\nA:", 5),
-    ] {
-        let program = program(rt.alloc(), line, b"20 STOP")?;
-        let mut lines = Vec::new(rt.alloc());
-        lines.push(Line::clean(rt.alloc(), b"5")?)?;
-        let mut registers = Registers::new(rt.alloc(), &program)?;
-        registers.store.set(letter(b'A'), 1);
+    let lines = [Line::clean(rt.alloc(), b"5")?];
+    for &(line, want, place, shown, a) in COMMANDS {
+        let (program, mut registers) = begun(rt.alloc(), line, 1)?;
         let mut screen = TextScreen::new(rt.alloc());
         let (result, fresh) = done(&mut registers, &program, &mut screen, &lines);
-        assert_eq!(rt; result, want, "{line:?}");
-        assert_eq!(rt; numbers(registers.place), Some(place), "{line:?}");
-        assert_eq!(rt; screen.bytes(), shown, "{line:?}");
-        assert_eq!(rt; registers.store.get(letter(b'A')), a, "{line:?}");
-        assert_eq!(rt;
-            fresh,
-            matches!(shown.last(), None | Some(b'\n')),
-            "{line:?}"
-        );
+        let place_then = numbers(registers.place);
+        let a_then = registers.store.get(letter(b'A'));
+        let found = (result, place_then, screen.bytes(), fresh, a_then);
+        let due = (want, Some(place), shown, is_fresh(shown), a);
+        expect_same(&rt, line, found, due);
     }
     Ok(())
 }
 
 // Commands that open or close, where A and B are 0: what is open before, how each is done, the next
 // place, A, to where the newest call returns, and how many are open below it, or without a call.
+const LOOPS_AND_CALLS: &[(
+    &str,
+    &[u8],
+    Result<(), Stop>,
+    (usize, usize),
+    i16,
+    Option<(usize, usize)>,
+    usize,
+)] = &[
+    ("10 GOSUB 20;P.1", b"", Ok(()), (1, 0), 0, Some((0, 9)), 0),
+    ("10 GOSUB 30", b"", fault!(How, 8), (0, 0), 0, None, 0),
+    ("10 RETURN", b"(A", Ok(()), (1, 2), 0, None, 0),
+    ("10 RETURN", b"A", fault!(What, 6), (0, 0), 0, None, 1),
+    ("10 FOR A=3 TO 5;P.1", b"", Ok(()), (0, 13), 3, None, 1),
+    ("10 FOR A=3 S.2", b"", fault!(What, 8), (0, 0), 3, None, 0),
+    ("10 NEXT A", b"A", Ok(()), (1, 2), 1, None, 1),
+    ("10 NEXT A", b"AB", Ok(()), (1, 2), 1, None, 1),
+    ("10 NEXT B;P.1", b"AB", Ok(()), (0, 7), 0, None, 1),
+    (
+        "10 NEXT A",
+        b"A(",
+        fault!(What, 6),
+        (0, 0),
+        0,
+        Some((1, 2)),
+        1,
+    ),
+];
+
 #[test]
 fn loops_and_calls(rt: HostRuntime) -> Result<(), Fail> {
-    for (line, before, want, place, a, back, left) in [
-        (
-            &b"10 GOSUB 20;P.1"[..],
-            &b""[..],
-            Ok(()),
-            (1, 0),
-            0,
-            Some((0, 9)),
-            0,
-        ),
-        (
-            b"10 GOSUB 30",
-            b"",
-            fault(FaultKind::How, 8),
-            (0, 0),
-            0,
-            None,
-            0,
-        ),
-        (b"10 RETURN", b"(A", Ok(()), (1, 2), 0, None, 0),
-        (
-            b"10 RETURN",
-            b"A",
-            fault(FaultKind::What, 6),
-            (0, 0),
-            0,
-            None,
-            1,
-        ),
-        (b"10 FOR A=3 TO 5;P.1", b"", Ok(()), (0, 13), 3, None, 1),
-        (
-            b"10 FOR A=3 S.2",
-            b"",
-            fault(FaultKind::What, 8),
-            (0, 0),
-            3,
-            None,
-            0,
-        ),
-        (b"10 NEXT A", b"A", Ok(()), (1, 2), 1, None, 1),
-        (b"10 NEXT A", b"AB", Ok(()), (1, 2), 1, None, 1),
-        (b"10 NEXT B;P.1", b"AB", Ok(()), (0, 7), 0, None, 1),
-        (
-            b"10 NEXT A",
-            b"A(",
-            fault(FaultKind::What, 6),
-            (0, 0),
-            0,
-            Some((1, 2)),
-            1,
-        ),
-    ] {
-        let program = program(rt.alloc(), line, b"20 STOP")?;
-        let mut registers = Registers::new(rt.alloc(), &program)?;
+    for &(line, before, want, place, a, back, left) in LOOPS_AND_CALLS {
+        let (program, mut registers) = begun(rt.alloc(), line, 0)?;
         for &byte in before {
-            assert!(rt; open(&mut registers.stack, byte), "{line:?}");
+            expect_same(&rt, line, open(&mut registers.stack, byte), true);
         }
         let mut screen = TextScreen::new(rt.alloc());
         let (result, _) = done(&mut registers, &program, &mut screen, &[]);
-        assert_eq!(rt; result, want, "{line:?}");
-        assert_eq!(rt; numbers(registers.place), Some(place), "{line:?}");
-        assert_eq!(rt; registers.store.get(letter(b'A')), a, "{line:?}");
-        assert_eq!(rt; numbers(registers.stack.close_call()), back, "{line:?}");
-        assert_eq!(rt; closed(&mut registers.stack), left, "{line:?}");
+        let place_then = numbers(registers.place);
+        let a_then = registers.store.get(letter(b'A'));
+        let call = numbers(registers.stack.close_call());
+        let count = closed(&mut registers.stack);
+        let found = (result, place_then, a_then, call, count);
+        expect_same(&rt, line, found, (want, Some(place), a, back, left));
     }
     Ok(())
 }
@@ -244,80 +239,128 @@ fn first_registers(rt: HostRuntime) -> Result<(), Fail> {
         return Ok(());
     };
     match Registers::new(rt.alloc(), &program) {
-        Ok(registers) => {
-            assert_eq!(rt; numbers(registers.place), Some((0, 0)));
-            assert_eq!(rt; registers.store.get(letter(b'A')), 0);
-            assert_eq!(rt; registers.store.element(2), Ok(0));
-            assert_eq!(rt; registers.store.size(), program.size());
-            assert!(rt; registers.stack.is_empty());
-        }
+        Ok(registers) => expect_first(&rt, &registers, program.size()),
         Err(AllocError) => {}
     }
     Ok(())
 }
 
-// Passes whichever of its allocations is refused: the registers hold then what they held.
-#[test]
-fn copied_registers(rt: HostRuntime) -> Result<(), Fail> {
-    let Ok(program) = program(rt.alloc(), b"10 A=1", b"") else {
-        return Ok(());
-    };
-    let Ok(mut registers) = Registers::new(rt.alloc(), &program) else {
-        return Ok(());
-    };
-    registers.store.set(letter(b'A'), 7);
-    assert!(rt; open(&mut registers.stack, b'('));
-    let Ok(mut copy) = registers.copy(rt.alloc()) else {
-        return Ok(());
-    };
-    assert_eq!(rt; numbers(copy.place), Some((0, 0)));
-    assert_eq!(rt; copy.store.get(letter(b'A')), 7);
-    copy.store.set(letter(b'A'), 8);
-    copy.place = None;
-    assert_eq!(rt; registers.copy_from(rt.alloc(), &copy), Ok(()));
-    assert_eq!(rt; numbers(registers.place), None);
-    assert_eq!(rt; registers.store.get(letter(b'A')), 8);
-    assert_eq!(rt; closed(&mut registers.stack), 1);
-    assert_eq!(rt; closed(&mut copy.stack), 1);
-    let Ok(store) = Store::new(rt.alloc(), 4) else {
-        return Ok(());
-    };
-    copy.store = store;
-    let (a, size) = match registers.copy_from(rt.alloc(), &copy) {
-        Ok(()) => (0, 4),
-        Err(AllocError) => (8, program.size()),
-    };
-    assert_eq!(rt; registers.store.get(letter(b'A')), a);
-    assert_eq!(rt; registers.store.size(), size);
-    Ok(())
+// The registers at the beginning of a run, with an array of this size.
+fn expect_first(rt: &impl Abort, registers: &Registers, size: i16) {
+    let Registers {
+        place,
+        store,
+        stack,
+    } = registers;
+    let found = (
+        numbers(*place),
+        store.get(letter(b'A')),
+        store.size(),
+        stack.is_empty(),
+    );
+    expect_same(rt, "registers", found, (Some((0, 0)), 0, size, true));
+    expect_same(rt, "element", store.element(2), Ok(0));
 }
 
-// The places of a program, and its lines.
+// Registers of a program, where A is 7 and a call is open, and a copy of them.
+fn copied(
+    rt: &impl Abort,
+    alloc: Global,
+    program: &Program,
+) -> Result<(Registers, Registers), AllocError> {
+    let mut registers = Registers::new(alloc, program)?;
+    registers.store.set(letter(b'A'), 7);
+    expect_same(rt, "call", open(&mut registers.stack, b'('), true);
+    let copy = registers.copy(alloc)?;
+    Ok((registers, copy))
+}
+
+// A copy holds what was copied. Registers that take it over, once it has another place and A is 8,
+// hold what it holds.
+fn expect_taken_over(
+    rt: &impl Abort,
+    alloc: Global,
+    registers: &mut Registers,
+    copy: &mut Registers,
+) {
+    let found = (numbers(copy.place), copy.store.get(letter(b'A')));
+    expect_same(rt, "copy", found, (Some((0, 0)), 7));
+    copy.store.set(letter(b'A'), 8);
+    copy.place = None;
+    expect_same(rt, "copied", registers.copy_from(alloc, copy).is_ok(), true);
+    let found = (numbers(registers.place), registers.store.get(letter(b'A')));
+    expect_same(rt, "registers", found, (None, 8));
+    let open = (closed(&mut registers.stack), closed(&mut copy.stack));
+    expect_same(rt, "open", open, (1, 1));
+}
+
+// Registers that take over an array of size 4 hold it, or what they held.
+fn expect_four(rt: &impl Abort, alloc: Global, registers: &mut Registers, copy: &Registers) {
+    let size = registers.store.size();
+    let wanted = match registers.copy_from(alloc, copy) {
+        Ok(()) => (0, 4),
+        Err(AllocError) => (8, size),
+    };
+    let found = (registers.store.get(letter(b'A')), registers.store.size());
+    expect_same(rt, "store", found, wanted);
+}
+
+// Passes whichever of its allocations is refused: the registers hold then what they held.
+#[test]
+fn copied_registers(rt: HostRuntime) {
+    let Ok(program) = program(rt.alloc(), b"10 A=1", b"") else {
+        return;
+    };
+    let Ok((mut registers, mut copy)) = copied(&rt, rt.alloc(), &program) else {
+        return;
+    };
+    expect_taken_over(&rt, rt.alloc(), &mut registers, &mut copy);
+    let Ok(store) = Store::new(rt.alloc(), 4) else {
+        return;
+    };
+    copy.store = store;
+    expect_same(&rt, "size", registers.store.size(), program.size());
+    expect_four(&rt, rt.alloc(), &mut registers, &copy);
+}
+
+// Each statement of a program of two lines: the place after it, its number and its text.
+const STATEMENTS: &[(usize, Option<(usize, usize)>, i16, &[u8])] = &[
+    (0, Some((1, 0)), 10, b"A=1"),
+    (1, None, 20, b"B=1"),
+    (2, None, 0, b""),
+];
+
+// Where each of its lines begins.
+const BEGINNINGS: &[(i16, Option<(usize, usize)>)] = &[
+    (10, Some((0, 0))),
+    (20, Some((1, 0))),
+    (15, None),
+    (-10, None),
+];
+
+// Where a program without a line begins.
+fn first_of_none(alloc: Global) -> Option<(usize, usize)> {
+    numbers(first_place(&Program::new(alloc, MEMORY)))
+}
+
 #[test]
 fn places(rt: HostRuntime) -> Result<(), Fail> {
     let program = program(rt.alloc(), b"20 B=1", b"10 A=1")?;
-    assert_eq!(rt; numbers(first_place(&program)), Some((0, 0)));
-    assert_eq!(rt;
-        numbers(first_place(&Program::new(rt.alloc(), MEMORY))),
-        None
-    );
-    for (statement, after, number, text) in [
-        (0, Some((1, 0)), 10, &b"A=1"[..]),
-        (1, None, 20, b"B=1"),
-        (2, None, 0, b""),
-    ] {
-        assert_eq!(rt; numbers(place_after(&program, statement)), after);
-        let line = line_at(&program, statement);
-        assert_eq!(rt; line.0, number);
-        assert_eq!(rt; line.1, text);
+    let first = numbers(first_place(&program));
+    let of_none = first_of_none(rt.alloc());
+    expect_same(&rt, "first", (first, of_none), (Some((0, 0)), None));
+    for &(statement, after, number, text) in STATEMENTS {
+        let place = numbers(place_after(&program, statement));
+        let (found, line) = line_at(&program, statement);
+        expect_same(
+            &rt,
+            "statement",
+            (place, found, line),
+            (after, number, text),
+        );
     }
-    for (number, place) in [
-        (10, Some((0, 0))),
-        (20, Some((1, 0))),
-        (15, None),
-        (-10, None),
-    ] {
-        assert_eq!(rt; numbers(beginning_of(&program, number)), place);
+    for &(number, place) in BEGINNINGS {
+        expect_same(&rt, "line", numbers(beginning_of(&program, number)), place);
     }
     Ok(())
 }
@@ -328,70 +371,81 @@ fn first_command(program: &Program) -> Option<(usize, usize)> {
     next_command(program, place).map(|(statement, cursor)| (statement, cursor.place()))
 }
 
+const FIRST_COMMANDS: &[(&str, Option<(usize, usize)>)] = &[
+    ("", None),
+    ("10 P.1", Some((0, 0))),
+    ("10 ;P.1", Some((0, 0))),
+];
+
 #[test]
 fn first_commands(rt: HostRuntime) -> Result<(), Fail> {
-    for (line, want) in [
-        (&b""[..], None),
-        (b"10 P.1", Some((0, 0))),
-        (b"10 ;P.1", Some((0, 0))),
-    ] {
-        let program = program(rt.alloc(), line, b"")?;
-        assert_eq!(rt; first_command(&program), want, "{line:?}");
+    for &(line, want) in FIRST_COMMANDS {
+        let program = program(rt.alloc(), line.as_bytes(), b"")?;
+        expect_same(&rt, line, first_command(&program), want);
     }
     Ok(())
 }
 
 // What stands at the beginning of a text: whether a command ends there, the place behind its
 // separator, and the word of a command with the place behind it.
+const BEGINS: &[(&str, bool, usize, Word, usize)] = &[
+    ("GOTO 10", false, 0, Word::GotoKw, 5),
+    ("P.1", false, 0, Word::PrintKw, 2),
+    (",", false, 0, Word::LetKw, 0),
+    ("", true, 0, Word::LetKw, 0),
+    ("  ", true, 0, Word::LetKw, 0),
+    (";P.1", true, 1, Word::LetKw, 0),
+    (" ; P.1", true, 3, Word::LetKw, 0),
+    (";;", true, 1, Word::LetKw, 0),
+];
+
 #[test]
 fn reads(rt: HostRuntime) {
-    for (text, ends, behind, word, from) in [
-        (&b"GOTO 10"[..], false, 0, Word::GotoKw, 5),
-        (b"P.1", false, 0, Word::PrintKw, 2),
-        (b",", false, 0, Word::LetKw, 0),
-        (b"", true, 0, Word::LetKw, 0),
-        (b"  ", true, 0, Word::LetKw, 0),
-        (b";P.1", true, 1, Word::LetKw, 0),
-        (b" ; P.1", true, 3, Word::LetKw, 0),
-        (b";;", true, 1, Word::LetKw, 0),
-    ] {
-        let mut cursor = Cursor::new(text, 0);
-        assert_eq!(rt; at_end(&cursor), ends, "{text:?}");
+    for &(text, ends, behind, word, from) in BEGINS {
+        let mut cursor = Cursor::new(text.as_bytes(), 0);
+        let is_end = at_end(&cursor);
         pass_separator(&mut cursor);
-        assert_eq!(rt; cursor.place(), behind, "{text:?}");
-        let mut cursor = Cursor::new(text, 0);
-        assert!(rt; first_word(&mut cursor) == word, "{text:?}");
-        assert_eq!(rt; cursor.place(), from, "{text:?}");
+        let place = cursor.place();
+        let mut cursor = Cursor::new(text.as_bytes(), 0);
+        let is_word = first_word(&mut cursor) == word;
+        let found = (is_end, place, is_word, cursor.place());
+        expect_same(&rt, text, found, (ends, behind, true, from));
     }
 }
 
 #[test]
 fn zeros(rt: HostRuntime) {
-    for (value, want) in [(0, true), (1, false), (-1, false)] {
-        assert_eq!(rt; is_zero(value), want);
-    }
+    expect_same(
+        &rt,
+        "zeros of 0, 1 and -1",
+        (is_zero(0), is_zero(1), is_zero(-1)),
+        (true, false, false),
+    );
 }
 
-// Whether a transcript is fresh once bytes were shown.
+// Bytes that are shown, and whether a transcript is fresh before them and behind them.
+const SHOWN: &[(&str, bool, bool)] = &[
+    ("", true, true),
+    ("", false, false),
+    ("A", true, false),
+    ("A\n", false, true),
+    ("\nA", true, false),
+];
+
 #[test]
-fn freshness(rt: HostRuntime) -> Result<(), Fail> {
-    for (bytes, before, after) in [
-        (&b""[..], true, true),
-        (b"", false, false),
-        (b"A", true, false),
-        (b"A\n", false, true),
-        (b"\nA", true, false),
-    ] {
+fn freshness(rt: HostRuntime) {
+    for &(text, before, after) in SHOWN {
         let mut screen = TextScreen::new(rt.alloc());
         let mut fresh = before;
-        assert!(rt; put(&mut screen, &mut fresh, bytes).is_ok());
-        assert_eq!(rt; screen.bytes(), bytes);
-        assert_eq!(rt; fresh, after, "{bytes:?}");
+        let is_shown = put(&mut screen, &mut fresh, text.as_bytes()).is_ok();
+        let found = (is_shown, screen.bytes(), fresh);
+        expect_same(&rt, text, found, (true, text.as_bytes(), after));
     }
-    Ok(())
 }
 
-// A loop up to 1 has a turn, is over, and then there is none.
+// Where a loop up to 1 goes from its end, and A then: it has a turn, is over, and then there is none.
+const TURNS: &[(Option<(usize, usize)>, i16)] = &[(Some((1, 2)), 1), (Some((0, 6)), 2), (None, 2)];
+
 #[test]
 fn turns(rt: HostRuntime) -> Result<(), Fail> {
     let mut store = Store::new(rt.alloc(), 5)?;
@@ -400,11 +454,11 @@ fn turns(rt: HostRuntime) -> Result<(), Fail> {
         statement: 0,
         at: 6,
     };
-    assert!(rt; open(&mut stack, b'A'));
-    for (place, a) in [(Some((1, 2)), 1), (Some((0, 6)), 2), (None, 2)] {
+    expect_same(&rt, "loop", open(&mut stack, b'A'), true);
+    for &(place, a) in TURNS {
         let to = end_turn(&mut store, &mut stack, letter(b'A'), next);
-        assert_eq!(rt; numbers(to), place);
-        assert_eq!(rt; store.get(letter(b'A')), a);
+        let found = (numbers(to), store.get(letter(b'A')));
+        expect_same(&rt, "turn", found, (place, a));
     }
     Ok(())
 }

@@ -13,7 +13,7 @@ use ptb_text::{DeviceFault, Read};
 use std::marker::Model;
 
 /// How an input goes on.
-#[derive(Clone, Copy, Debug, PartialEq, Eq)]
+#[derive(Clone, Copy)]
 pub(crate) enum InputEnd {
     /// Its reader may have more.
     Open,

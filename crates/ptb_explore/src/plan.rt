@@ -8,7 +8,7 @@ use crate::recorder::Recorder;
 use std::alloc::AllocError;
 
 /// Where a listing of all runs stands.
-#[derive(Clone, Copy, Debug, PartialEq, Eq)]
+#[derive(Clone, Copy)]
 pub(crate) enum Position {
     /// Before the first run.
     AtStart,

@@ -20,8 +20,6 @@ mod pause;
 mod rows;
 mod seeded;
 mod store;
-#[cfg(test)]
-mod tests;
 
 pub use chooser::{Chooser, Listed};
 pub use code::Code;

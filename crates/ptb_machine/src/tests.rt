@@ -9,6 +9,8 @@ use ptb_command::first_place;
 use ptb_expr::{Fault, FaultKind, Listed};
 use ptb_text::{Device, Program, load};
 use std::alloc::Global;
+use std::fmt::Debug;
+use std::process::Abort;
 use std::test::Fail;
 
 /// The memory of the programs.
@@ -24,119 +26,106 @@ pub(crate) fn plain_rules(limit: u32) -> Rules
     }
 }
 
-// The program of two lines, of which the second may be empty.
-fn program(alloc: Global, first: &[u8], second: &[u8]) -> Result<Program, Fail> {
-    let mut program = Program::new(alloc, MEMORY);
-    program.enter(first)?;
-    program.enter(second)?;
-    Ok(program)
+// Two values that must be the same; `what` says of what they are.
+pub(crate) fn expect_same<T: Copy + PartialEq + Debug>(
+    rt: &impl Abort,
+    what: &str,
+    found: T,
+    wanted: T,
+) {
+    assert_eq!(rt; found, wanted, "{what}");
 }
 
-// How a run without input ends, and what it shows.
-fn outcome(
+// The program of a text.
+pub(crate) fn loaded(alloc: Global, text: &[u8]) -> Result<Program, Fail> {
+    let mut text = text;
+    Ok(load(alloc, MEMORY, &mut Device::new(&mut text))?)
+}
+
+// How a run of a program without input ends.
+fn ending_of(
     alloc: Global,
-    first: &[u8],
-    second: &[u8],
+    program: &Program,
     limit: u32,
     answers: &[i16],
-) -> Result<(Result<Ending, RunFault>, TextScreen), Fail> {
-    let program = program(alloc, first, second)?;
+    screen: &mut TextScreen,
+) -> Result<Ending, RunFault> {
     let mut list = Listed::new(answers);
-    let mut screen = TextScreen::new(alloc);
     let mut input = Lines::new(&[]);
-    let result = run(
-        alloc,
-        &program,
-        plain_rules(limit),
-        &mut list,
-        &mut screen,
-        &mut input,
-    );
-    Ok((result, screen))
+    let rules = plain_rules(limit);
+    run(alloc, program, rules, &mut list, screen, &mut input)
 }
 
-// Whether a run of two lines ends so and shows this.
-fn comes_to(
+// A run of a program without input ends so and shows this.
+fn expect_run(
+    rt: &impl Abort,
     alloc: Global,
-    lines: (&[u8], &[u8]),
+    program: &Program,
     limit: u32,
     answers: &[i16],
-    want: Ending,
-    shown: &[u8],
-) -> Result<bool, Fail> {
-    let (result, screen) = outcome(alloc, lines.0, lines.1, limit, answers)?;
-    Ok(result == Ok(want) && screen.bytes() == shown)
+    want: (Ending, &[u8]),
+) {
+    let mut screen = TextScreen::new(alloc);
+    let ending = ending_of(alloc, program, limit, answers, &mut screen);
+    let found = (ending, screen.bytes());
+    expect_same(rt, "a run", found, (Ok(want.0), want.1));
 }
 
-const RUNS: &[(&[u8], &[u8], Ending, &[u8])] = &[
-    (b"", b"", Ending::End, b""),
-    (b"10 PRINT \"HI\"", b"", Ending::End, b"HI\n"),
+// So do the runs of these texts.
+fn expect_runs(
+    rt: &impl Abort,
+    alloc: Global,
+    limit: u32,
+    rows: &[(&[u8], Ending, &[u8])],
+) -> Result<(), Fail> {
+    for &(text, want, shown) in rows {
+        let program = loaded(alloc, text)?;
+        expect_run(rt, alloc, &program, limit, &[], (want, shown));
+    }
+    Ok(())
+}
+
+const RUNS: &[(&[u8], Ending, &[u8])] = &[
+    (b"", Ending::End, b""),
+    (b"10 PRINT \"HI\"", Ending::End, b"HI\n"),
+    (b"10 PRINT 'ABC',_,\"X\",#3,7", Ending::End, b"ABC\rX  7\n"),
+    (b"10 PRINT -32767-1", Ending::End, b"-32768\n"),
+    (b"10 PRINT SIZE", Ending::End, b"  4083\n"),
+    (b"20 P.2\n10 P.1,;REM P.3", Ending::End, b"     1     2\n"),
+    (b"10 P.1;STOP\n20 P.2", Ending::Stop, b"     1\n"),
+    (b"10 P.1,;GOTO 30\n30 P.3", Ending::End, b"     1     3\n"),
+    (b"10 IF 0 P.1;P.2\n20 P.3", Ending::End, b"     3\n"),
     (
-        b"10 PRINT 'ABC',_,\"X\",#3,7",
-        b"",
-        Ending::End,
-        b"ABC\rX  7\n",
-    ),
-    (b"10 PRINT -32767-1", b"", Ending::End, b"-32768\n"),
-    (b"10 PRINT SIZE", b"", Ending::End, b"  4083\n"),
-    (
-        b"20 P.2",
-        b"10 P.1,;REM P.3",
-        Ending::End,
-        b"     1     2\n",
-    ),
-    (b"10 P.1;STOP", b"20 P.2", Ending::Stop, b"     1\n"),
-    (
-        b"10 P.1,;GOTO 30",
-        b"30 P.3",
-        Ending::End,
-        b"     1     3\n",
-    ),
-    (b"10 IF 0 P.1;P.2", b"20 P.3", Ending::End, b"     3\n"),
-    (
-        b"10 IF 2 P.1;P.2",
-        b"20 P.3",
+        b"10 IF 2 P.1;P.2\n20 P.3",
         Ending::End,
         b"     1\n     2\n     3\n",
     ),
-    (b"10 IF 1=2 P.1", b"", Ending::End, b""),
-    (b"10 REM", b"", Ending::End, b""),
+    (b"10 IF 1=2 P.1", Ending::End, b""),
+    (b"10 REM", Ending::End, b""),
+    (b"10 F.I=1TO3S.2;P.I,;N.I", Ending::End, b"     1     3"),
+    (b"10 @(3)=4;P.@(3)", Ending::End, b"     4\n"),
     (
-        b"10 F.I=1TO3S.2;P.I,;N.I",
-        b"",
-        Ending::End,
-        b"     1     3",
-    ),
-    (b"10 @(3)=4;P.@(3)", b"", Ending::End, b"     4\n"),
-    (
-        b"10 GOS.30;P.2;S.",
-        b"30 P.1;R.",
+        b"10 GOS.30;P.2;S.\n30 P.1;R.",
         Ending::Stop,
         b"     1\n     2\n",
     ),
-    (b"10 GOSUB 10", b"", Ending::Sorry, b"SORRY\n10 GOSUB 10?\n"),
+    (b"10 GOSUB 10", Ending::Sorry, b"SORRY\n10 GOSUB 10?\n"),
     (
-        b"10 GOS.30;N.J",
-        b"30 F.J=1TO9;R.",
+        b"10 GOS.30;N.J\n30 F.J=1TO9;R.",
         Ending::What,
         b"WHAT?\n10 GOS.30;N.J?\n",
     ),
     (
-        b"300 B=200,C=200",
-        b"310 LET A=B*C+2",
+        b"300 B=200,C=200\n310 LET A=B*C+2",
         Ending::How,
         b"HOW?\n310 LET A=B*C?+2\n",
     ),
-    (b"10 INPUT A", b"", Ending::NoInput, b"A:"),
+    (b"10 INPUT A", Ending::NoInput, b"A:"),
 ];
 
 #[test]
 fn runs(rt: HostRuntime) -> Result<(), Fail> {
-    for &(first, second, want, shown) in RUNS {
-        let found = comes_to(rt.alloc(), (first, second), 300, &[], want, shown)?;
-        assert!(rt; found, "{first:?}");
-    }
-    Ok(())
+    expect_runs(&rt, rt.alloc(), 300, RUNS)
 }
 
 const FAULTS: &[(&[u8], Ending, &[u8])] = &[
@@ -170,11 +159,7 @@ const FAULTS: &[(&[u8], Ending, &[u8])] = &[
 // A report begins on a fresh line, and shows the statement with the mark.
 #[test]
 fn faults(rt: HostRuntime) -> Result<(), Fail> {
-    for &(line, want, shown) in FAULTS {
-        let found = comes_to(rt.alloc(), (line, b""), 100, &[], want, shown)?;
-        assert!(rt; found, "{line:?}");
-    }
-    Ok(())
+    expect_runs(&rt, rt.alloc(), 100, FAULTS)
 }
 
 const TWO_QUESTIONS: &[(u32, &[i16], Ending, &[u8])] = &[
@@ -187,44 +172,52 @@ const TWO_QUESTIONS: &[(u32, &[i16], Ending, &[u8])] = &[
     (9, &[0], Ending::BadAnswer, b""),
 ];
 
-// Answers to RND, and the limit on commands.
-#[test]
-fn limits_and_answers(rt: HostRuntime) -> Result<(), Fail> {
-    for &(limit, answers, want, shown) in TWO_QUESTIONS {
-        let lines = (&b"10 P.RND(2),;P.RND(2)"[..], &b""[..]);
-        let found = comes_to(rt.alloc(), lines, limit, answers, want, shown)?;
-        assert!(rt; found, "{limit} {answers:?}");
+// The runs of a text with these limits and answers end so and show this.
+fn expect_limits(
+    rt: &impl Abort,
+    alloc: Global,
+    text: &[u8],
+    rows: &[(u32, &[i16], Ending, &[u8])],
+) -> Result<(), Fail> {
+    let program = loaded(alloc, text)?;
+    for &(limit, answers, want, shown) in rows {
+        expect_run(rt, alloc, &program, limit, answers, (want, shown));
     }
     Ok(())
 }
 
+// Answers to RND, and the limit on commands.
 #[test]
-fn an_endless_run(rt: HostRuntime) -> Result<(), Fail> {
-    let lines = (&b"10 GOTO 10"[..], &b""[..]);
-    assert!(rt; comes_to(rt.alloc(), lines, 5, &[], Ending::Limit, b"")?);
-    Ok(())
+fn limits_and_answers(rt: HostRuntime) -> Result<(), Fail> {
+    expect_limits(&rt, rt.alloc(), b"10 P.RND(2),;P.RND(2)", TWO_QUESTIONS)
 }
 
-// Whether a run with this bound for missing lines ends so and shows this.
-fn takes_answers(
+#[test]
+fn an_endless_run(rt: HostRuntime) -> Result<(), Fail> {
+    let rows: &[(&[u8], Ending, &[u8])] = &[(b"10 GOTO 10", Ending::Limit, b"")];
+    expect_runs(&rt, rt.alloc(), 5, rows)
+}
+
+// A run with this input, by these rules and answers, ends so and shows this.
+fn expect_answered(
+    rt: &impl Abort,
     alloc: Global,
-    lines: (&[u8], &[u8]),
+    program: &Program,
     input: &[u8],
     rules: Rules,
     answers: &[i16],
-    want: Ending,
-    shown: &[u8],
-) -> Result<bool, Fail>
+    want: (Ending, &[u8]),
+)
     requires { IfSome rules.choose (λ n. pos 1 ≤ℤ n) }
 {
-    let program = program(alloc, lines.0, lines.1)?;
     let mut input = input;
     let mut reader = Device::new(&mut input);
     let mut source = ReaderLines::new(&mut reader);
     let mut list = Listed::new(answers);
     let mut screen = TextScreen::new(alloc);
-    let result = run(alloc, &program, rules, &mut list, &mut screen, &mut source);
-    Ok(result == Ok(want) && screen.bytes() == shown)
+    let ending = run(alloc, program, rules, &mut list, &mut screen, &mut source);
+    let found = (ending, screen.bytes());
+    expect_same(rt, "a run with answers", found, (Ok(want.0), want.1));
 }
 
 const TWO_INPUTS: &[u8] = b"10 INPUT A,B;P.A+B";
@@ -298,9 +291,9 @@ fn answers_in_place_of_lines(rt: HostRuntime) -> Result<(), Fail> {
         choose: Some(2),
     };
     for &(line, input, answers, want, shown) in MISSING_LINES {
-        let lines = (line, &b""[..]);
-        let found = takes_answers(rt.alloc(), lines, input, rules, answers, want, shown)?;
-        assert!(rt; found, "{line:?} {answers:?}");
+        let program = loaded(rt.alloc(), line)?;
+        let want = (want, shown);
+        expect_answered(&rt, rt.alloc(), &program, input, rules, answers, want);
     }
     Ok(())
 }
@@ -313,14 +306,14 @@ const GREAT_ANSWERS: &[(u32, &[i16], Ending, &[u8])] = &[
 // The greatest bound, and commands that ask often.
 #[test]
 fn many_answers_in_place_of_lines(rt: HostRuntime) -> Result<(), Fail> {
+    let program = loaded(rt.alloc(), b"10 INPUT A\n20 IF A#1 GOTO 10")?;
     for &(limit, answers, want, shown) in GREAT_ANSWERS {
-        let lines = (&b"10 INPUT A"[..], &b"20 IF A#1 GOTO 10"[..]);
         let rules = Rules {
             limit,
             choose: Some(32767),
         };
-        let found = takes_answers(rt.alloc(), lines, b"", rules, answers, want, shown)?;
-        assert!(rt; found, "{limit}");
+        let want = (want, shown);
+        expect_answered(&rt, rt.alloc(), &program, b"", rules, answers, want);
     }
     Ok(())
 }
@@ -340,61 +333,102 @@ fn step_of(
     machine.step(program, plain_rules(limit), &mut list, screen, &mut input)
 }
 
+// A step comes to this, and so many commands are begun and this is shown then.
+fn expect_step(
+    rt: &impl Abort,
+    machine: &mut Machine,
+    program: &Program,
+    limit: u32,
+    screen: &mut TextScreen,
+    want: (Result<Option<Ending>, RunFault>, u32, &[u8]),
+)
+    requires { FitsProgram program.now machine.old }
+    ensures { FitsProgram program.now machine.new }
+{
+    let result = step_of(machine, program, limit, screen);
+    let found = (result, machine.steps(), screen.bytes());
+    expect_same(rt, "a step", found, want);
+}
+
+// The steps of a program that prints twice, and one behind them.
+fn expect_steps(rt: &impl Abort, machine: &mut Machine, program: &Program, screen: &mut TextScreen)
+    requires { FitsProgram program.now machine.old }
+{
+    let shown = b"     1     2\n";
+    expect_same(rt, "steps", machine.steps(), 0);
+    expect_step(rt, machine, program, 9, screen, (Ok(None), 1, b"     1"));
+    expect_step(rt, machine, program, 9, screen, (Ok(None), 2, shown));
+    let end = Ok(Some(Ending::End));
+    expect_step(rt, machine, program, 9, screen, (end, 2, shown));
+    let spent = Err(RunFault::Spent);
+    expect_step(rt, machine, program, 9, screen, (spent, 2, shown));
+}
+
 #[test]
 fn steps(rt: HostRuntime) -> Result<(), Fail> {
-    let program = program(rt.alloc(), b"10 P.1,;P.2", b"")?;
-    let mut screen = TextScreen::new(rt.alloc());
+    let program = loaded(rt.alloc(), b"10 P.1,;P.2")?;
     let mut machine = Machine::new(rt.alloc(), &program)?;
-    assert!(rt; machine.steps() == 0);
-    assert!(rt; step_of(&mut machine, &program, 9, &mut screen) == Ok(None));
-    assert!(rt; machine.steps() == 1 && screen.bytes() == b"     1".as_slice());
-    assert!(rt; step_of(&mut machine, &program, 9, &mut screen) == Ok(None));
-    assert!(rt; machine.steps() == 2);
-    let last = step_of(&mut machine, &program, 9, &mut screen);
-    assert!(rt; last == Ok(Some(Ending::End)));
-    let spent = step_of(&mut machine, &program, 9, &mut screen);
-    assert!(rt; spent == Err(RunFault::Spent));
-    assert!(rt; machine.steps() == 2 && screen.bytes() == b"     1     2\n".as_slice());
+    let mut screen = TextScreen::new(rt.alloc());
+    expect_steps(&rt, &mut machine, &program, &mut screen);
     Ok(())
+}
+
+// A copy takes over where the machine stands behind a step, and goes on to the end by itself; the
+// machine is over where it takes over from there.
+fn expect_taken_over(
+    rt: &impl Abort,
+    alloc: Global,
+    program: &Program,
+    machine: &mut Machine,
+    copy: &mut Machine,
+    screen: &mut TextScreen,
+) -> Result<(), Fail>
+    requires machine { FitsProgram program.now machine.old }
+{
+    expect_step(rt, machine, program, 9, screen, (Ok(None), 1, b""));
+    expect_same(rt, "steps", copy.steps(), 0);
+    copy.copy_from(alloc, machine)?;
+    expect_same(rt, "steps", copy.steps(), 1);
+    let shown = b"     1\n";
+    expect_step(rt, copy, program, 2, screen, (Ok(None), 2, shown));
+    let end = Ok(Some(Ending::End));
+    expect_step(rt, copy, program, 2, screen, (end, 2, shown));
+    expect_same(rt, "steps", machine.steps(), 1);
+    machine.copy_from(alloc, copy)?;
+    let spent = Err(RunFault::Spent);
+    expect_step(rt, machine, program, 9, screen, (spent, 2, shown));
+    Ok(())
+}
+
+// A machine and its copy do so, where there is memory for them.
+fn expect_copies(rt: &impl Abort, alloc: Global, program: &Program) -> Result<(), Fail> {
+    let Ok(mut machine) = Machine::new(alloc, program) else {
+        return Ok(());
+    };
+    let Ok(mut copy) = machine.copy(alloc) else {
+        return Ok(());
+    };
+    let mut screen = TextScreen::new(alloc);
+    expect_taken_over(rt, alloc, program, &mut machine, &mut copy, &mut screen)
 }
 
 // A copy goes on by itself, also from where it was taken over; one of a machine that is over is over.
 // Passes whichever of its allocations is refused but the program's.
 #[test]
 fn copies(rt: HostRuntime) -> Result<(), Fail> {
-    let program = program(rt.alloc(), b"10 A=A+1,B=SIZE", b"20 P.A")?;
-    let mut screen = TextScreen::new(rt.alloc());
-    let Ok(mut machine) = Machine::new(rt.alloc(), &program) else {
-        return Ok(());
-    };
-    let Ok(mut copy) = machine.copy(rt.alloc()) else {
-        return Ok(());
-    };
-    assert!(rt; step_of(&mut machine, &program, 9, &mut screen) == Ok(None));
-    assert!(rt; copy.steps() == 0);
-    copy.copy_from(rt.alloc(), &machine)?;
-    assert!(rt; copy.steps() == 1);
-    assert!(rt; step_of(&mut copy, &program, 2, &mut screen) == Ok(None));
-    let last = step_of(&mut copy, &program, 2, &mut screen);
-    assert!(rt; last == Ok(Some(Ending::End)));
-    assert!(rt; copy.steps() == 2 && machine.steps() == 1);
-    machine.copy_from(rt.alloc(), &copy)?;
-    let spent = step_of(&mut machine, &program, 9, &mut screen);
-    assert!(rt; spent == Err(RunFault::Spent));
-    Ok(())
+    let program = loaded(rt.alloc(), b"10 A=A+1,B=SIZE\n20 P.A")?;
+    expect_copies(&rt, rt.alloc(), &program)
 }
 
-// The bytes of a report of HOW? on a text of this length.
-fn report_of(alloc: Global, fresh: bool, length: usize, mark: usize) -> Option<TextScreen> {
+// Reports HOW? on a text of this length; whether it is shown, and the next line is fresh.
+fn is_reported(screen: &mut TextScreen, fresh: bool, length: usize, mark: usize) -> bool {
     let kind = FaultKind::How;
     let text = [b'A'; 400];
-    let mut screen = TextScreen::new(alloc);
+    let Some(text) = text.get(..length) else {
+        return false;
+    };
     let mut fresh = fresh;
-    let fault = Fault { kind, mark };
-    match report(&mut screen, &mut fresh, 10, text.get(..length)?, fault) {
-        Ok(()) if fresh => Some(screen),
-        _ => None,
-    }
+    report(screen, &mut fresh, 10, text, Fault { kind, mark }).is_ok() && fresh
 }
 
 // What the report is: its front, the text with the mark, and a newline.
@@ -419,15 +453,25 @@ const REPORTS: &[(bool, usize, usize)] = &[
     (false, 400, 400),
 ];
 
+// A report of HOW? is this one.
+fn expect_report(
+    rt: &impl Abort,
+    alloc: Global,
+    (fresh, length, mark): (bool, usize, usize),
+    due: &[u8],
+) {
+    let mut screen = TextScreen::new(alloc);
+    let is_reported = is_reported(&mut screen, fresh, length, mark);
+    let found = (is_reported, screen.bytes());
+    expect_same(rt, "a report", found, (true, due));
+}
+
 // A report is whole, and has its mark, also where the text is longer than that of a statement.
 #[test]
 fn reports(rt: HostRuntime) -> Result<(), Fail> {
-    for &(fresh, length, mark) in REPORTS {
-        let Some(screen) = report_of(rt.alloc(), fresh, length, mark) else {
-            panic!(rt; "no report of {length} bytes");
-        };
-        let due = report_due(rt.alloc(), fresh, length, mark)?;
-        assert!(rt; screen.bytes() == due.as_slice(), "{fresh} {length} {mark}");
+    for &row in REPORTS {
+        let due = report_due(rt.alloc(), row.0, row.1, row.2)?;
+        expect_report(&rt, rt.alloc(), row, due.as_slice());
     }
     Ok(())
 }
@@ -472,58 +516,76 @@ fn four_go_on(machine: &mut Machine, program: &Program, screen: &mut TextScreen)
     first && second && third && fourth
 }
 
+// A machine of a program that shows nothing is where another one begins that prints, after eight
+// commands, and then prints.
+fn expect_print(
+    rt: &impl Abort,
+    machine: &mut Machine,
+    counts: &Program,
+    prints: &Program,
+    screen: &mut TextScreen,
+)
+    requires { FitsProgram counts.now machine.old }
+{
+    let first = four_go_on(machine, counts, screen);
+    let second = four_go_on(machine, counts, screen);
+    let is_quiet = screen.bytes().is_empty();
+    let stands = stands_at_beginning(machine, prints);
+    let goes_on = stands && goes_on(machine, prints, screen);
+    let found = (first && second, is_quiet, stands, goes_on);
+    expect_same(rt, "commands", found, (true, true, true, true));
+    let found = (machine.steps(), screen.bytes());
+    expect_same(rt, "a print", found, (9, b"\n".as_slice()));
+}
+
+// A machine of one program does so in another.
+fn expect_same_places(
+    rt: &impl Abort,
+    alloc: Global,
+    counts: &Program,
+    prints: &Program,
+) -> Result<(), Fail> {
+    let mut machine = Machine::new(alloc, counts)?;
+    let mut screen = TextScreen::new(alloc);
+    expect_print(rt, &mut machine, counts, prints, &mut screen);
+    Ok(())
+}
+
 // A machine has nothing of the program whose commands it did: after four turns of a sum and a jump
 // it fits a program that prints there, and prints.
 #[test]
 fn programs_with_the_same_places(rt: HostRuntime) -> Result<(), Fail> {
-    let alloc = rt.alloc();
-    let counts = program(alloc, b"10 A=A+1", b"20 GOTO 10")?;
-    let prints = program(alloc, b"10 PRINT", b"20 GOTO 10")?;
-    let mut screen = TextScreen::new(alloc);
-    let mut machine = Machine::new(alloc, &counts)?;
-    assert!(rt; four_go_on(&mut machine, &counts, &mut screen));
-    assert!(rt; four_go_on(&mut machine, &counts, &mut screen));
-    assert!(rt; screen.bytes().is_empty());
-    assert!(rt; stands_at_beginning(&machine, &prints));
-    assert!(rt; goes_on(&mut machine, &prints, &mut screen));
-    assert!(rt; screen.bytes() == b"\n".as_slice() && machine.steps() == 9);
-    Ok(())
+    let counts = loaded(rt.alloc(), b"10 A=A+1\n20 GOTO 10")?;
+    let prints = loaded(rt.alloc(), b"10 PRINT\n20 GOTO 10")?;
+    expect_same_places(&rt, rt.alloc(), &counts, &prints)
 }
 
-// How a run of a program's text without input ends, and what it shows.
-pub(crate) fn ending_of(
+// The run of a program ends so and shows this after so many steps, and stops at its limit with one
+// fewer.
+fn expect_end(
+    rt: &impl Abort,
     alloc: Global,
-    text: &[u8],
-    limit: u32,
-) -> Result<(Result<Ending, RunFault>, TextScreen), Fail> {
-    let mut text = text;
-    let program = load(alloc, MEMORY, &mut Device::new(&mut text))?;
-    let mut list = Listed::new(&[]);
-    let mut screen = TextScreen::new(alloc);
-    let mut input = Lines::new(&[]);
-    let result = run(
-        alloc,
-        &program,
-        plain_rules(limit),
-        &mut list,
-        &mut screen,
-        &mut input,
-    );
-    Ok((result, screen))
-}
-
-// Whether the run of a text ends so and shows this after so many steps, and stops at its limit with
-// one fewer.
-pub(crate) fn ends_so(
-    alloc: Global,
-    text: &[u8],
+    program: &Program,
     steps: u32,
-    want: Ending,
-    shown: &[u8],
-) -> Result<bool, Fail> {
-    let (result, screen) = ending_of(alloc, text, steps)?;
-    let (early, _) = ending_of(alloc, text, steps.saturating_sub(1))?;
-    Ok(result == Ok(want) && screen.bytes() == shown && early == Ok(Ending::Limit))
+    want: (Ending, &[u8]),
+) {
+    expect_run(rt, alloc, program, steps, &[], want);
+    let mut screen = TextScreen::new(alloc);
+    let early = ending_of(alloc, program, steps.saturating_sub(1), &[], &mut screen);
+    expect_same(rt, "one step fewer", early, Ok(Ending::Limit));
+}
+
+// So do the runs of these texts.
+pub(crate) fn expect_ends(
+    rt: &impl Abort,
+    alloc: Global,
+    rows: &[(&[u8], u32, Ending, &[u8])],
+) -> Result<(), Fail> {
+    for &(text, steps, want, shown) in rows {
+        let program = loaded(alloc, text)?;
+        expect_end(rt, alloc, &program, steps, (want, shown));
+    }
+    Ok(())
 }
 
 const COMMANDS_WITHOUT_A_VALUE: &[(&[u8], u32, Ending, &[u8])] = &[
@@ -569,10 +631,7 @@ const COMMANDS_WITHOUT_A_VALUE: &[(&[u8], u32, Ending, &[u8])] = &[
 // steps as it is given, and one fewer are too few.
 #[test]
 fn commands_without_a_value(rt: HostRuntime) -> Result<(), Fail> {
-    for &(text, steps, want, shown) in COMMANDS_WITHOUT_A_VALUE {
-        assert!(rt; ends_so(rt.alloc(), text, steps, want, shown)?, "{text:?}");
-    }
-    Ok(())
+    expect_ends(&rt, rt.alloc(), COMMANDS_WITHOUT_A_VALUE)
 }
 
 const JUMPS: &[(&[u8], u32, Ending, &[u8])] = &[(
@@ -585,10 +644,7 @@ const JUMPS: &[(&[u8], u32, Ending, &[u8])] = &[(
 // Jumps to a number beside jumps to the value of a variable.
 #[test]
 fn jumps_done_often(rt: HostRuntime) -> Result<(), Fail> {
-    for &(text, steps, want, shown) in JUMPS {
-        assert!(rt; ends_so(rt.alloc(), text, steps, want, shown)?, "{text:?}");
-    }
-    Ok(())
+    expect_ends(&rt, rt.alloc(), JUMPS)
 }
 
 const CONDITIONS: &[(&[u8], u32, Ending, &[u8])] = &[
@@ -623,10 +679,7 @@ const CONDITIONS: &[(&[u8], u32, Ending, &[u8])] = &[
 // Conditions that change, one behind which the text is over, and one that has no value at last.
 #[test]
 fn conditions_done_often(rt: HostRuntime) -> Result<(), Fail> {
-    for &(text, steps, want, shown) in CONDITIONS {
-        assert!(rt; ends_so(rt.alloc(), text, steps, want, shown)?, "{text:?}");
-    }
-    Ok(())
+    expect_ends(&rt, rt.alloc(), CONDITIONS)
 }
 
 const PLACES: &[(&[u8], u32, Ending, &[u8])] = &[
@@ -660,10 +713,7 @@ const PLACES: &[(&[u8], u32, Ending, &[u8])] = &[
 // than one value.
 #[test]
 fn places_of_commands_done_often(rt: HostRuntime) -> Result<(), Fail> {
-    for &(text, steps, want, shown) in PLACES {
-        assert!(rt; ends_so(rt.alloc(), text, steps, want, shown)?, "{text:?}");
-    }
-    Ok(())
+    expect_ends(&rt, rt.alloc(), PLACES)
 }
 
 const CALLS: &[(&[u8], u32, Ending, &[u8])] = &[
@@ -696,10 +746,7 @@ const CALLS: &[(&[u8], u32, Ending, &[u8])] = &[
 // Calls until no room is left, and RETURN where no call is open any more.
 #[test]
 fn calls_done_often(rt: HostRuntime) -> Result<(), Fail> {
-    for &(text, steps, want, shown) in CALLS {
-        assert!(rt; ends_so(rt.alloc(), text, steps, want, shown)?, "{text:?}");
-    }
-    Ok(())
+    expect_ends(&rt, rt.alloc(), CALLS)
 }
 
 const LOOPS: &[(&[u8], u32, Ending, &[u8])] = &[
@@ -733,10 +780,7 @@ const LOOPS: &[(&[u8], u32, Ending, &[u8])] = &[
 // more.
 #[test]
 fn loops_done_often(rt: HostRuntime) -> Result<(), Fail> {
-    for &(text, steps, want, shown) in LOOPS {
-        assert!(rt; ends_so(rt.alloc(), text, steps, want, shown)?, "{text:?}");
-    }
-    Ok(())
+    expect_ends(&rt, rt.alloc(), LOOPS)
 }
 
 const LOOPS_TO_THE_ENDS: &[(&[u8], u32, Ending, &[u8])] = &[
@@ -763,10 +807,7 @@ const LOOPS_TO_THE_ENDS: &[(&[u8], u32, Ending, &[u8])] = &[
 // A loop ends where its next value is out of range, and its variable keeps the value before.
 #[test]
 fn loops_to_the_ends_of_the_range(rt: HostRuntime) -> Result<(), Fail> {
-    for &(text, steps, want, shown) in LOOPS_TO_THE_ENDS {
-        assert!(rt; ends_so(rt.alloc(), text, steps, want, shown)?, "{text:?}");
-    }
-    Ok(())
+    expect_ends(&rt, rt.alloc(), LOOPS_TO_THE_ENDS)
 }
 
 const SHARED_ENTRIES: &[(&[u8], u32, Ending, &[u8])] = &[
@@ -788,43 +829,44 @@ const SHARED_ENTRIES: &[(&[u8], u32, Ending, &[u8])] = &[
 // for what was read of a command.
 #[test]
 fn places_that_share_an_entry(rt: HostRuntime) -> Result<(), Fail> {
-    for &(text, steps, want, shown) in SHARED_ENTRIES {
-        assert!(rt; ends_so(rt.alloc(), text, steps, want, shown)?, "{text:?}");
-    }
-    Ok(())
+    expect_ends(&rt, rt.alloc(), SHARED_ENTRIES)
 }
 
-const LIMITS: &[(u32, &[u8])] = &[
-    (7, b"     1     2"),
-    (8, b"     1     2     3"),
-    (9, b"     1     2     3"),
-    (10, b"     1     2     3"),
-    (11, b"     1     2     3     4"),
-    (12, b"     1     2     3     4"),
-    (20, b"     1     2     3     4     5     6     7"),
+const LIMITS: &[(u32, &[i16], Ending, &[u8])] = &[
+    (7, &[], Ending::Limit, b"     1     2"),
+    (8, &[], Ending::Limit, b"     1     2     3"),
+    (9, &[], Ending::Limit, b"     1     2     3"),
+    (10, &[], Ending::Limit, b"     1     2     3"),
+    (11, &[], Ending::Limit, b"     1     2     3     4"),
+    (12, &[], Ending::Limit, b"     1     2     3     4"),
+    (
+        20,
+        &[],
+        Ending::Limit,
+        b"     1     2     3     4     5     6     7",
+    ),
 ];
 
 // Each command counts as one step, however it is done: only every third one is shown.
 #[test]
 fn limits_on_commands_done_often(rt: HostRuntime) -> Result<(), Fail> {
-    for &(limit, shown) in LIMITS {
-        let (result, screen) = ending_of(rt.alloc(), b"10 A=A+1;P.A,;GOTO 10", limit)?;
-        assert!(rt;
-            result == Ok(Ending::Limit) && screen.bytes() == shown,
-            "{limit}"
-        );
-    }
-    Ok(())
+    expect_limits(&rt, rt.alloc(), b"10 A=A+1;P.A,;GOTO 10", LIMITS)
+}
+
+// The statement's text ends behind 127 blanks with a command.
+fn long_statement(alloc: Global) -> Result<Vec<u8>, Fail> {
+    let mut text = Vec::from_slice(alloc, b"10 A=A+1")?;
+    text.resize(3 + 127, b' ')?;
+    text.extend_from_slice(b";IF A<5 GOTO 10\n20 P.A\n")?;
+    Ok(text)
 }
 
 // The places 0 and 128 of a statement share the room that is kept for what was read.
 #[test]
 fn places_of_one_statement_that_share_an_entry(rt: HostRuntime) -> Result<(), Fail> {
-    let mut text = Vec::from_slice(rt.alloc(), b"10 A=A+1")?;
-    text.resize(3 + 127, b' ')?;
-    text.extend_from_slice(b";IF A<5 GOTO 10\n20 P.A\n")?;
-    assert!(rt; ends_so(rt.alloc(), text.as_slice(), 15, Ending::End, b"     5\n")?);
-    Ok(())
+    let text = long_statement(rt.alloc())?;
+    let rows = [(text.as_slice(), 15, Ending::End, b"     5\n".as_slice())];
+    expect_ends(&rt, rt.alloc(), &rows)
 }
 
 // 127 lines of comments, numbered from 1000 on.
@@ -839,12 +881,18 @@ fn comments(text: &mut Vec<u8>) -> Result<(), Fail> {
     Ok(())
 }
 
+// Such lines between a command and one that goes back to it.
+fn many_statements(alloc: Global) -> Result<Vec<u8>, Fail> {
+    let mut text = Vec::from_slice(alloc, b"10 A=A+1;GOTO 5000\n")?;
+    comments(&mut text)?;
+    text.extend_from_slice(b"5000 IF A<5 GOTO 10\n5010 P.A\n")?;
+    Ok(text)
+}
+
 // So do the beginnings of the first statement and of the 129th.
 #[test]
 fn statements_that_share_an_entry(rt: HostRuntime) -> Result<(), Fail> {
-    let mut text = Vec::from_slice(rt.alloc(), b"10 A=A+1;GOTO 5000\n")?;
-    comments(&mut text)?;
-    text.extend_from_slice(b"5000 IF A<5 GOTO 10\n5010 P.A\n")?;
-    assert!(rt; ends_so(rt.alloc(), text.as_slice(), 20, Ending::End, b"     5\n")?);
-    Ok(())
+    let text = many_statements(rt.alloc())?;
+    let rows = [(text.as_slice(), 20, Ending::End, b"     5\n".as_slice())];
+    expect_ends(&rt, rt.alloc(), &rows)
 }

@@ -4,19 +4,21 @@ ghost use Rattle.std.specs.Prelude.{◌≤ℤ◌, pos, IfOk, IfSome};
 ghost use Rattle.ptb_text.specs.Statements.{IsMemorySize};
 
 use crate::tests::{
-    Failing, Script, Sink, expect_reply, make_sink, reply_on_endless_input, reply_to, rules_of,
+    FAILINGS, Failing, Script, Sink, expect_reply, expect_same, make_sink, reply_on_endless_input,
+    reply_to, rules_of,
 };
 use ptb_explore::{Form, Marked};
 use ptb_options::{DEFAULT_MEMORY, DEFAULT_STEPS, MarkedAnswers, Mode, Request};
 use ptb_serve::{Note, Outcome, serve};
 use ptb_text::Device;
 use std::alloc::{AllocError, Global};
+use std::process::Abort;
 use std::test::Fail;
 
 // A program with its input and the most commands of a run, the bound for answers in place of lines,
 // the answers with which its listed runs begin, the run behind which its listing begins, how many
 // reports it has at most, and their form.
-#[derive(Clone, Copy, Debug)]
+#[derive(Clone, Copy)]
 struct Asked<'a> {
     program: &'a [u8],
     input: &'a [u8],
@@ -26,22 +28,6 @@ struct Asked<'a> {
     after: Option<&'a [Marked]>,
     first: Option<u64>,
     form: Form,
-}
-
-// An answer alone.
-const fn answer(answer: i16) -> Marked {
-    Marked {
-        answer,
-        bound: None,
-    }
-}
-
-// An answer and its bound.
-const fn bounded(answer: i16, bound: i16) -> Marked {
-    Marked {
-        answer,
-        bound: Some(bound),
-    }
 }
 
 // Answers with and without their bounds, for lists that are constants.
@@ -60,6 +46,16 @@ const THREE: Marked = Marked {
     bound: None,
 };
 
+const FOUR: Marked = Marked {
+    answer: 4,
+    bound: None,
+};
+
+const GREATEST: Marked = Marked {
+    answer: 32767,
+    bound: None,
+};
+
 const ONE_OF_3: Marked = Marked {
     answer: 1,
     bound: Some(3),
@@ -68,6 +64,11 @@ const ONE_OF_3: Marked = Marked {
 const ONE_OF_1: Marked = Marked {
     answer: 1,
     bound: Some(1),
+};
+
+const ONE_OF_2: Marked = Marked {
+    answer: 1,
+    bound: Some(2),
 };
 
 const TWO_OF_2: Marked = Marked {
@@ -86,17 +87,26 @@ const THREE_OF_3: Marked = Marked {
 };
 
 // All runs of a program without input, in form 1, by a request that gives neither steps nor a bound.
-fn all_of(program: &[u8]) -> Asked<'_> {
-    Asked {
-        program,
-        input: b"",
-        steps: DEFAULT_STEPS,
-        choose: None,
-        under: None,
-        after: None,
-        first: None,
-        form: Form::One,
-    }
+const ALL: Asked<'static> = Asked {
+    program: b"",
+    input: b"",
+    steps: DEFAULT_STEPS,
+    choose: None,
+    under: None,
+    after: None,
+    first: None,
+    form: Form::One,
+};
+
+// Such a request for a program, but for what is told behind it. Rows of constants can't call functions.
+macro_rules! all_of {
+    ($program:expr $(, $field:ident = $value:expr)*) => {
+        Asked {
+            program: $program,
+            $($field: $value,)*
+            ..ALL
+        }
+    };
 }
 
 // A list as a request has it.
@@ -173,175 +183,171 @@ const LIMITED: &[u8] = b"10 A=RND(2);B=RND(2)";
 
 const LIMITED_TEXT: &[u8] = b"RUN 1 LIMIT 1 0\n\nRUN 2 LIMIT 1 0\n\n";
 
-// Programs with what their listing of all runs is.
-#[test]
-fn all_runs(rt: HostRuntime) -> Result<(), Fail> {
-    let rolled_input = b"RUN 1 END 2 16\nA:RND(2)\n     1\n\nRUN 2 END 2 16\nA:RND(2)\n     2\n\n";
-    let table = [
-        (all_of(b""), &b"RUN none END 0 0\n\n"[..]),
-        (all_of(ONE_ROLL), ONE_ROLL_TEXT),
-        (all_of(TWO_ROLLS), TWO_ROLLS_TEXT),
-        (all_of(ROLL_BEHIND_IF), ROLL_BEHIND_IF_TEXT),
-        (all_of(FAULTY), FAULTY_TEXT),
-        (
-            Asked {
-                steps: 5,
-                ..all_of(b"10 GOTO 10")
-            },
-            b"RUN none LIMIT 5 0\n\n",
-        ),
-        (
-            Asked {
-                input: b"RND(2)\n",
-                ..all_of(b"10 INPUT A;PRINT A")
-            },
-            rolled_input,
-        ),
-        (all_of(b"10 INPUT A"), b"RUN none NOINPUT 1 2\nA:\n"),
-        (
-            all_of(b"10 GOSUB 10"),
-            b"RUN none SORRY 257 19\nSORRY\n10 GOSUB 10?\n\n",
-        ),
-        (
-            all_of(b"10 F.I=1TO1;GOS.10"),
-            b"RUN none SORRY 257 26\nSORRY\n10 F.I=1TO1?;GOS.10\n\n",
-        ),
-        (
-            Asked {
-                input: b")\n5\n",
-                ..all_of(ROLLED_INDEX)
-            },
-            ROLLED_INDEX_TEXT,
-        ),
-        (
-            Asked {
-                steps: 1,
-                ..all_of(LIMITED)
-            },
-            LIMITED_TEXT,
-        ),
-    ];
-    for (asked, text) in table {
+// Requests with what they list.
+type Listings<'a> = &'a [(Asked<'a>, &'a [u8])];
+
+// A listing is this text, with a writer that takes some bytes a call.
+fn expect_listing(
+    rt: &impl Abort,
+    alloc: Global,
+    asked: &Asked<'_>,
+    piece: usize,
+    text: &[u8],
+) -> Result<(), AllocError> {
+    let reply = served(alloc, asked, piece)?;
+    expect_reply(rt, reply, (0, None), text);
+    Ok(())
+}
+
+// Each request lists this, however its bytes are cut.
+fn expect_listings(
+    rt: &impl Abort,
+    alloc: Global,
+    listings: Listings<'_>,
+) -> Result<(), AllocError> {
+    for (asked, text) in listings {
         for piece in [1, 5, 100_000] {
-            let reply = served(rt.alloc(), &asked, piece)?;
-            expect_reply(&rt, reply, (0, None), text);
+            expect_listing(rt, alloc, asked, piece, text)?;
         }
     }
     Ok(())
 }
 
+const ALL_RUNS: Listings<'static> = &[
+    (ALL, b"RUN none END 0 0\n\n"),
+    (all_of!(ONE_ROLL), ONE_ROLL_TEXT),
+    (all_of!(TWO_ROLLS), TWO_ROLLS_TEXT),
+    (all_of!(ROLL_BEHIND_IF), ROLL_BEHIND_IF_TEXT),
+    (all_of!(FAULTY), FAULTY_TEXT),
+    (all_of!(b"10 GOTO 10", steps = 5), b"RUN none LIMIT 5 0\n\n"),
+    (
+        all_of!(b"10 INPUT A;PRINT A", input = b"RND(2)\n"),
+        b"RUN 1 END 2 16\nA:RND(2)\n     1\n\nRUN 2 END 2 16\nA:RND(2)\n     2\n\n",
+    ),
+    (all_of!(b"10 INPUT A"), b"RUN none NOINPUT 1 2\nA:\n"),
+    (
+        all_of!(b"10 GOSUB 10"),
+        b"RUN none SORRY 257 19\nSORRY\n10 GOSUB 10?\n\n",
+    ),
+    (
+        all_of!(b"10 F.I=1TO1;GOS.10"),
+        b"RUN none SORRY 257 26\nSORRY\n10 F.I=1TO1?;GOS.10\n\n",
+    ),
+    (all_of!(ROLLED_INDEX, input = b")\n5\n"), ROLLED_INDEX_TEXT),
+    (all_of!(LIMITED, steps = 1), LIMITED_TEXT),
+];
+
+// Programs with what their listing of all runs is.
+#[test]
+fn all_runs(rt: HostRuntime) -> Result<(), Fail> {
+    expect_listings(&rt, rt.alloc(), ALL_RUNS)?;
+    Ok(())
+}
+
+// A program that takes an answer from 1 to 2 in place of a line.
+const NO_LINE: Asked<'static> = all_of!(b"10 INPUT A;PRINT A", choose = Some(2));
+
+const RUNS_WITHOUT_LINES: Listings<'static> = &[
+    (
+        NO_LINE,
+        b"RUN 1 END 2 11\nA:1\n     1\n\nRUN 2 END 2 11\nA:2\n     2\n\n",
+    ),
+    (
+        Asked {
+            after: Some(&[ONE]),
+            ..NO_LINE
+        },
+        b"RUN 2 END 2 11\nA:2\n     2\n\n",
+    ),
+    (
+        Asked {
+            first: Some(1),
+            ..NO_LINE
+        },
+        b"RUN 1 END 2 11\nA:1\n     1\n\n",
+    ),
+    (
+        Asked {
+            input: b")\n",
+            ..NO_LINE
+        },
+        b"RUN 1 END 2 21\nA:)\nWHAT?\nA:1\n     1\n\n\
+RUN 2 END 2 21\nA:)\nWHAT?\nA:2\n     2\n\n",
+    ),
+    (
+        Asked {
+            program: b"10 INPUT @(RND(2)-1)",
+            ..NO_LINE
+        },
+        b"RUN 1,1 END 1 14\n@(RND(2)-1):1\n\nRUN 1,2 END 1 14\n@(RND(2)-1):2\n\n\
+RUN 2,1 END 1 14\n@(RND(2)-1):1\n\nRUN 2,2 END 1 14\n@(RND(2)-1):2\n\n",
+    ),
+];
+
 // Where no line is left each answer up to the bound gives a run.
 #[test]
 fn runs_without_lines(rt: HostRuntime) -> Result<(), Fail> {
-    let two = Asked {
-        choose: Some(2),
-        ..all_of(b"10 INPUT A;PRINT A")
-    };
-    let first = b"RUN 1 END 2 11\nA:1\n     1\n\n";
-    let second = b"RUN 2 END 2 11\nA:2\n     2\n\n";
-    let both = b"RUN 1 END 2 11\nA:1\n     1\n\nRUN 2 END 2 11\nA:2\n     2\n\n";
-    let index = b"RUN 1,1 END 1 14\n@(RND(2)-1):1\n\nRUN 1,2 END 1 14\n@(RND(2)-1):2\n\n\
-RUN 2,1 END 1 14\n@(RND(2)-1):1\n\nRUN 2,2 END 1 14\n@(RND(2)-1):2\n\n";
-    let behind_line = b"RUN 1 END 2 21\nA:)\nWHAT?\nA:1\n     1\n\n\
-RUN 2 END 2 21\nA:)\nWHAT?\nA:2\n     2\n\n";
-    let table = [
-        (two, &both[..]),
-        (
-            Asked {
-                after: Some(&[answer(1)]),
-                ..two
-            },
-            second,
-        ),
-        (
-            Asked {
-                first: Some(1),
-                ..two
-            },
-            first,
-        ),
-        (
-            Asked {
-                input: b")\n",
-                ..two
-            },
-            behind_line,
-        ),
-        (
-            Asked {
-                program: b"10 INPUT @(RND(2)-1)",
-                ..two
-            },
-            index,
-        ),
-    ];
-    for (asked, text) in table {
-        for piece in [1, 5, 100_000] {
-            let reply = served(rt.alloc(), &asked, piece)?;
-            expect_reply(&rt, reply, (0, None), text);
-        }
-    }
+    expect_listings(&rt, rt.alloc(), RUNS_WITHOUT_LINES)?;
     Ok(())
+}
+
+// The report of a run of 5000 answers, each of which is 1.
+fn long_report(alloc: Global) -> Result<Vec<u8>, AllocError> {
+    let mut text = Vec::from_slice(alloc, b"RUN 1")?;
+    for _ in 1..5000 {
+        text.extend_from_slice(b",1")?;
+    }
+    text.extend_from_slice(b" END 10001 0\n\n")?;
+    Ok(text)
 }
 
 // A run with many answers, each of which is 1.
 #[test]
 fn most_answers(rt: HostRuntime) -> Result<(), Fail> {
-    let asked = Asked {
-        steps: 20_000,
-        ..all_of(b"10 F.I=1TO5000;A=RND(1);N.I")
-    };
-    let mut text = Vec::from_slice(rt.alloc(), b"RUN 1")?;
-    for _ in 1..5000 {
-        text.extend_from_slice(b",1")?;
-    }
-    text.extend_from_slice(b" END 10001 0\n\n")?;
-    let reply = served(rt.alloc(), &asked, 100_000)?;
-    expect_reply(&rt, reply, (0, None), &text);
+    let asked = all_of!(b"10 F.I=1TO5000;A=RND(1);N.I", steps = 20_000);
+    let text = long_report(rt.alloc())?;
+    expect_listing(&rt, rt.alloc(), &asked, 100_000, &text)?;
     Ok(())
 }
+
+// Programs, the run behind which a listing begins, how many reports it has at most, and its text.
+const RUNS_BEHIND_A_RUN: &[(&[u8], Option<&[Marked]>, Option<u64>, &[u8])] = &[
+    (
+        TWO_ROLLS,
+        Some(&[ONE, ONE]),
+        Some(2),
+        b"RUN 1,2 END 1 7\n     2\n\nRUN 2,1 END 1 7\n     2\n\n",
+    ),
+    (
+        TWO_ROLLS,
+        None,
+        Some(2),
+        b"RUN 1,1 END 1 7\n     1\n\nRUN 1,2 END 1 7\n     2\n\n",
+    ),
+    (TWO_ROLLS, None, Some(4), TWO_ROLLS_TEXT),
+    (TWO_ROLLS, None, Some(1_000_000_000), TWO_ROLLS_TEXT),
+    (
+        ROLL_BEHIND_IF,
+        Some(&[TWO, ONE]),
+        None,
+        b"RUN 2,2 END 4 7\n     2\n\nRUN 2,3 END 4 7\n     3\n\n",
+    ),
+    (ROLL_BEHIND_IF, Some(&[TWO, THREE]), None, b""),
+    (b"", Some(&[]), None, b""),
+    (
+        ONE_ROLL,
+        Some(&[ONE]),
+        Some(5),
+        b"RUN 2 END 1 7\n     2\n\n",
+    ),
+];
 
 // Listings behind a run, or of the first runs: what is written, with status 0.
 #[test]
 fn runs_behind_a_run(rt: HostRuntime) -> Result<(), Fail> {
-    let table = [
-        (
-            TWO_ROLLS,
-            Some(&[answer(1), answer(1)][..]),
-            Some(2),
-            &b"RUN 1,2 END 1 7\n     2\n\nRUN 2,1 END 1 7\n     2\n\n"[..],
-        ),
-        (
-            TWO_ROLLS,
-            None,
-            Some(2),
-            b"RUN 1,1 END 1 7\n     1\n\nRUN 1,2 END 1 7\n     2\n\n",
-        ),
-        (TWO_ROLLS, None, Some(4), TWO_ROLLS_TEXT),
-        (TWO_ROLLS, None, Some(1_000_000_000), TWO_ROLLS_TEXT),
-        (
-            ROLL_BEHIND_IF,
-            Some(&[answer(2), answer(1)]),
-            None,
-            b"RUN 2,2 END 4 7\n     2\n\nRUN 2,3 END 4 7\n     3\n\n",
-        ),
-        (ROLL_BEHIND_IF, Some(&[answer(2), answer(3)]), None, b""),
-        (b"", Some(&[]), None, b""),
-        (
-            ONE_ROLL,
-            Some(&[answer(1)]),
-            Some(5),
-            b"RUN 2 END 1 7\n     2\n\n",
-        ),
-    ];
-    for (program, after, first, text) in table {
-        let asked = Asked {
-            after,
-            first,
-            ..all_of(program)
-        };
-        let reply = served(rt.alloc(), &asked, 100)?;
-        expect_reply(&rt, reply, (0, None), text);
+    for &(program, after, first, text) in RUNS_BEHIND_A_RUN {
+        let asked = all_of!(program, after = after, first = first);
+        expect_listing(&rt, rt.alloc(), &asked, 100, text)?;
     }
     Ok(())
 }
@@ -353,91 +359,73 @@ const SECOND_WITH_A_BOUND: &[Marked] = &[TWO_OF_2, ONE];
 
 const THIRD_WITH_BOUNDS: &[Marked] = &[TWO_OF_2, TWO_OF_3];
 
+const IN_FORM_TWO: Asked<'static> = all_of!(ROLL_BEHIND_IF, form = Form::Two);
+
+const RUNS_WITH_BOUNDS: Listings<'static> = &[
+    (IN_FORM_TWO, ROLL_BEHIND_IF_BOUNDS),
+    (
+        Asked {
+            after: Some(SECOND_WITH_A_BOUND),
+            ..IN_FORM_TWO
+        },
+        b"RUN 2/2,2/3 END 4 7\n     2\n\nRUN 2/2,3/3 END 4 7\n     3\n\n",
+    ),
+    (
+        Asked {
+            first: Some(1),
+            ..IN_FORM_TWO
+        },
+        b"RUN 1/2 END 2 0\n\n",
+    ),
+    (
+        all_of!(ROLL_BEHIND_IF, after = Some(THIRD_WITH_BOUNDS)),
+        b"RUN 2,3 END 4 7\n     3\n\n",
+    ),
+    (
+        Asked {
+            program: b"",
+            ..IN_FORM_TWO
+        },
+        b"RUN none END 0 0\n\n",
+    ),
+];
+
 // In form 2 each answer is followed by its bound. Lists to go on behind may have bounds in either form.
 #[test]
 fn runs_with_bounds(rt: HostRuntime) -> Result<(), Fail> {
-    let all = Asked {
-        form: Form::Two,
-        ..all_of(ROLL_BEHIND_IF)
-    };
-    let none = b"RUN none END 0 0\n\n";
-    let table = [
-        (all, ROLL_BEHIND_IF_BOUNDS),
-        (
-            Asked {
-                after: Some(SECOND_WITH_A_BOUND),
-                ..all
-            },
-            &ROLL_BEHIND_IF_BOUNDS[45..],
-        ),
-        (
-            Asked {
-                first: Some(1),
-                ..all
-            },
-            &ROLL_BEHIND_IF_BOUNDS[..17],
-        ),
-        (
-            Asked {
-                after: Some(THIRD_WITH_BOUNDS),
-                form: Form::One,
-                ..all
-            },
-            b"RUN 2,3 END 4 7\n     3\n\n",
-        ),
-        (
-            Asked {
-                program: b"",
-                ..all
-            },
-            none,
-        ),
-    ];
-    for (asked, text) in table {
-        for piece in [1, 5, 100_000] {
-            let reply = served(rt.alloc(), &asked, piece)?;
-            expect_reply(&rt, reply, (0, None), text);
-        }
-    }
+    expect_listings(&rt, rt.alloc(), RUNS_WITH_BOUNDS)?;
     Ok(())
 }
+
+const NO_RUNS: &[(&[u8], &[Marked])] = &[
+    (ROLL_BEHIND_IF, &[TWO]),
+    (ROLL_BEHIND_IF, &[TWO, FOUR]),
+    (ROLL_BEHIND_IF, &[TWO, ONE, ONE]),
+    (ONE_ROLL, &[]),
+    (ONE_ROLL, &[GREATEST]),
+    // a run, and a bound that none of its questions has there
+    (ROLL_BEHIND_IF, &[TWO_OF_3, ONE_OF_3]),
+    (ROLL_BEHIND_IF, &[TWO_OF_2, ONE_OF_2]),
+    (ONE_ROLL, &[ONE_OF_1]),
+];
 
 // Answers that are no run are refused, and nothing is written.
 #[test]
 fn runs_behind_no_run(rt: HostRuntime) -> Result<(), Fail> {
-    let table = [
-        (ROLL_BEHIND_IF, &[answer(2)][..]),
-        (ROLL_BEHIND_IF, &[answer(2), answer(4)]),
-        (ROLL_BEHIND_IF, &[answer(2), answer(1), answer(1)]),
-        (ONE_ROLL, &[]),
-        (ONE_ROLL, &[answer(32767)]),
-        // a run, and a bound that none of its questions has there
-        (ROLL_BEHIND_IF, &[bounded(2, 3), bounded(1, 3)]),
-        (ROLL_BEHIND_IF, &[bounded(2, 2), bounded(1, 2)]),
-        (ONE_ROLL, &[bounded(1, 1)]),
-    ];
-    for (program, list) in table {
-        let asked = Asked {
-            after: Some(list),
-            ..all_of(program)
-        };
-        let reply = served(rt.alloc(), &asked, 100)?;
+    for &(program, list) in NO_RUNS {
+        let reply = served(rt.alloc(), &all_of!(program, after = Some(list)), 100)?;
         expect_reply(&rt, reply, (67, Some(Note::NoRun)), b"");
     }
     Ok(())
 }
 
 // What a listing in form 1 of the runs that begin with a list comes to, behind one of them if it is named.
-fn share_of(
+fn share_of<'a>(
     alloc: Global,
-    list: &[Marked],
-    after: Option<&[Marked]>,
+    list: &'a [Marked],
+    after: Option<&'a [Marked]>,
 ) -> Result<(Outcome, Vec<u8>), AllocError> {
-    let asked = Asked {
-        under: Some(list),
-        after,
-        ..all_of(ROLL_BEHIND_IF)
-    };
+    let asked = all_of!(ROLL_BEHIND_IF, under = Some(list), after = after);
     served(alloc, &asked, 100)
 }
 
@@ -454,9 +442,8 @@ const SHARES: &[(&[Marked], Option<&[Marked]>, usize, usize)] = &[
 fn shares_of_a_tree(rt: HostRuntime) -> Result<(), Fail> {
     for &(list, after, from, to) in SHARES {
         let (outcome, bytes) = share_of(rt.alloc(), list, after)?;
-        assert_eq!(rt; (outcome.status, outcome.note), (0, None), "{list:?}");
-        let due = ROLL_BEHIND_IF_TEXT.get(from..to);
-        assert!(rt; Some(bytes.as_slice()) == due, "{list:?}");
+        let found = (outcome.status, outcome.note, Some(bytes.as_slice()));
+        expect_same(&rt, found, (0, None, ROLL_BEHIND_IF_TEXT.get(from..to)));
     }
     Ok(())
 }
@@ -472,13 +459,8 @@ const NO_SHARES: &[(&[Marked], Option<&[Marked]>, Note)] = &[
 #[test]
 fn shares_of_no_run(rt: HostRuntime) -> Result<(), Fail> {
     for &(list, after, note) in NO_SHARES {
-        let (outcome, bytes) = share_of(rt.alloc(), list, after)?;
-        assert_eq!(rt;
-            (outcome.status, outcome.note),
-            (67, Some(note)),
-            "{list:?}"
-        );
-        assert!(rt; bytes.is_empty());
+        let reply = share_of(rt.alloc(), list, after)?;
+        expect_reply(&rt, reply, (67, Some(note)), b"");
     }
     Ok(())
 }
@@ -499,52 +481,82 @@ const ROLLED_INDEX_RUNS: &[&[Marked]] = &[&[ONE, ONE], &[ONE, TWO], &[TWO, ONE],
 
 const LIMITED_RUNS: &[&[Marked]] = &[&[ONE], &[TWO]];
 
+// Requests with what they list, and the runs of that.
+const IN_TWO_PARTS: &[(Asked<'static>, &[u8], &[&[Marked]])] = &[
+    (all_of!(ONE_ROLL), ONE_ROLL_TEXT, ONE_ROLL_RUNS),
+    (
+        all_of!(ROLL_BEHIND_IF),
+        ROLL_BEHIND_IF_TEXT,
+        ROLL_BEHIND_IF_RUNS,
+    ),
+    (all_of!(FAULTY), FAULTY_TEXT, FAULTY_RUNS),
+    (
+        all_of!(ROLLED_INDEX, input = b")\n5\n"),
+        ROLLED_INDEX_TEXT,
+        ROLLED_INDEX_RUNS,
+    ),
+    (all_of!(LIMITED, steps = 1), LIMITED_TEXT, LIMITED_RUNS),
+];
+
+// The first reports of a listing, up to a run, and behind it those that are listed behind this run.
+fn joined(
+    alloc: Global,
+    asked: &Asked<'_>,
+    first: u64,
+    run: &[Marked],
+) -> Result<Vec<u8>, AllocError> {
+    let first = Some(first);
+    let (_, mut bytes) = served(alloc, &Asked { first, ..*asked }, 100)?;
+    let after = Some(run);
+    let (_, rest) = served(alloc, &Asked { after, ..*asked }, 100)?;
+    bytes.extend_from_slice(&rest)?;
+    Ok(bytes)
+}
+
+// A listing may end at each of its runs, and go on behind it.
+fn expect_two_parts(
+    rt: &impl Abort,
+    alloc: Global,
+    asked: &Asked<'_>,
+    text: &[u8],
+    runs: &[&[Marked]],
+) -> Result<(), AllocError> {
+    let mut first: u64 = 0;
+    for run in runs {
+        first = first.saturating_add(1);
+        let bytes = joined(alloc, asked, first, run)?;
+        expect_same(rt, (first, bytes.as_slice()), (first, text));
+    }
+    Ok(())
+}
+
 // What is listed up to a run, and what is listed behind it, is the whole listing.
 #[test]
 fn listings_in_two_parts(rt: HostRuntime) -> Result<(), Fail> {
-    let table = [
-        (all_of(ONE_ROLL), ONE_ROLL_TEXT, ONE_ROLL_RUNS),
-        (
-            all_of(ROLL_BEHIND_IF),
-            ROLL_BEHIND_IF_TEXT,
-            ROLL_BEHIND_IF_RUNS,
-        ),
-        (all_of(FAULTY), FAULTY_TEXT, FAULTY_RUNS),
-        (
-            Asked {
-                input: b")\n5\n",
-                ..all_of(ROLLED_INDEX)
-            },
-            ROLLED_INDEX_TEXT,
-            ROLLED_INDEX_RUNS,
-        ),
-        (
-            Asked {
-                steps: 1,
-                ..all_of(LIMITED)
-            },
-            LIMITED_TEXT,
-            LIMITED_RUNS,
-        ),
-    ];
-    for (asked, text, runs) in table {
-        let mut first: u64 = 0;
-        for list in runs {
-            first = first.saturating_add(1);
-            let front = Asked {
-                first: Some(first),
-                ..asked
-            };
-            let back = Asked {
-                after: Some(*list),
-                ..asked
-            };
-            let (_, mut bytes) = served(rt.alloc(), &front, 100)?;
-            let (_, rest) = served(rt.alloc(), &back, 100)?;
-            bytes.extend_from_slice(&rest)?;
-            assert_eq!(rt; bytes.as_slice(), text, "{back:?}");
-        }
+    for (asked, text, runs) in IN_TWO_PARTS {
+        expect_two_parts(&rt, rt.alloc(), asked, text, runs)?;
     }
+    Ok(())
+}
+
+// The listing of two rolls to a writer that takes five bytes a call, and fails behind so many calls, is
+// the beginning of this length.
+fn expect_broken_off(
+    rt: &impl Abort,
+    alloc: Global,
+    failing: Failing,
+    calls: usize,
+    length: usize,
+) -> Result<(), AllocError> {
+    let mut sink = make_sink(alloc, 5, calls, failing);
+    let outcome = served_to(alloc, &all_of!(TWO_ROLLS), &mut sink)?;
+    let due = if calls < 20 {
+        (74, Some(Note::Unwritten))
+    } else {
+        (0, None)
+    };
+    let bytes = &TWO_ROLLS_TEXT[..length.min(TWO_ROLLS_TEXT.len())];
+    expect_reply(rt, (outcome, sink.taken), due, bytes);
     Ok(())
 }
 
@@ -552,50 +564,55 @@ fn listings_in_two_parts(rt: HostRuntime) -> Result<(), Fail> {
 // five calls.
 #[test]
 fn listings_that_break_off(rt: HostRuntime) -> Result<(), Fail> {
-    for failing in [
-        Failing::Breaks,
-        Failing::IsInterrupted,
-        Failing::TakesNothing,
-    ] {
+    for &failing in FAILINGS {
         for calls in 0..=20 {
-            let mut sink = make_sink(rt.alloc(), 5, calls, failing);
-            let outcome = served_to(rt.alloc(), &all_of(TWO_ROLLS), &mut sink)?;
-            let due = if calls == 20 {
-                (0, None)
-            } else {
-                (74, Some(Note::Unwritten))
-            };
             let length = 24 * (calls / 5) + 5 * (calls % 5);
-            expect_reply(&rt, (outcome, sink.taken), due, &TWO_ROLLS_TEXT[..length]);
+            expect_broken_off(&rt, rt.alloc(), failing, calls, length)?;
         }
     }
     Ok(())
 }
 
+// The listing of a program whose input fails behind these bytes.
+fn reply_on_unread_input(
+    alloc: Global,
+    program: &[u8],
+    bytes: &[u8],
+) -> Result<(Outcome, Vec<u8>), AllocError> {
+    let request = request_of(alloc, &all_of!(program))?;
+    let mut text = Device::new(program);
+    let mut input = Device::new(Script {
+        bytes,
+        piece: 1,
+        fails: true,
+    });
+    Ok(reply_to(alloc, &request, &mut text, &mut input, 1))
+}
+
+const UNREAD_INPUTS: &[(&[u8], &[u8])] = &[
+    (ONE_ROLL, b""),
+    (ONE_ROLL, b"5"),
+    (ONE_ROLL, b"5\n"),
+    (b"10 INPUT A", b""),
+    (b"10 INPUT A", b"5"),
+    (b"10 INPUT A", b"5\n"),
+];
+
 // The input is read before anything is written, whether or not the program asks for it.
 #[test]
 fn unread_inputs(rt: HostRuntime) -> Result<(), Fail> {
-    for program in [ONE_ROLL, b"10 INPUT A"] {
-        for bytes in [&b""[..], b"5", b"5\n"] {
-            let request = request_of(rt.alloc(), &all_of(program))?;
-            let mut text = Device::new(program);
-            let mut input = Device::new(Script {
-                bytes,
-                piece: 1,
-                fails: true,
-            });
-            let reply = reply_to(rt.alloc(), &request, &mut text, &mut input, 1);
-            expect_reply(&rt, reply, (66, Some(Note::InputUnread)), b"");
-        }
+    for &(program, bytes) in UNREAD_INPUTS {
+        let reply = reply_on_unread_input(rt.alloc(), program, bytes)?;
+        expect_reply(&rt, reply, (66, Some(Note::InputUnread)), b"");
     }
     Ok(())
 }
 
 #[test]
 fn endless_inputs(rt: HostRuntime) -> Result<(), Fail> {
-    let request = request_of(rt.alloc(), &all_of(b"10 INPUT A"))?;
+    let request = request_of(rt.alloc(), &all_of!(b"10 INPUT A"))?;
     let (reply, given) = reply_on_endless_input(rt.alloc(), &request, b"10 INPUT A", 1);
     expect_reply(&rt, reply, (66, Some(Note::InputUnread)), b"");
-    assert!(rt; given <= 16_777_217);
+    expect_same(&rt, given <= 16_777_217, true);
     Ok(())
 }

@@ -51,7 +51,7 @@ impl io::Read for &mut Endless {
 }
 
 // How a writer fails: by an error, by one that says that it was interrupted, or by taking nothing.
-#[derive(Clone, Copy, Debug)]
+#[derive(Clone, Copy)]
 pub(crate) enum Failing {
     Breaks,
     IsInterrupted,
@@ -148,7 +148,7 @@ pub(crate) fn reply_on_endless_input(
 }
 
 // What a row asks for.
-#[derive(Clone, Copy, Debug)]
+#[derive(Clone, Copy)]
 enum Asked<'a> {
     Run(&'a [i16]),
     Seed(u64),
@@ -156,7 +156,7 @@ enum Asked<'a> {
 }
 
 // A request with its program and input, and what is due: the bytes, the status and the note.
-#[derive(Clone, Copy, Debug)]
+#[derive(Clone, Copy)]
 struct Row<'a> {
     asked: Asked<'a>,
     steps: u32,
@@ -171,33 +171,40 @@ struct Row<'a> {
 
 // A run of a request that gives neither steps nor memory nor a bound, without answers and input
 // lines.
-fn run_row<'a>(program: &'a [u8], bytes: &'a [u8], status: u8) -> Row<'a> {
-    Row {
-        asked: Asked::Run(&[]),
-        steps: DEFAULT_STEPS,
-        choose: None,
-        memory: DEFAULT_MEMORY,
-        program,
-        input: b"",
-        bytes,
-        status,
-        note: None,
-    }
+const RUN: Row<'static> = Row {
+    asked: Asked::Run(&[]),
+    steps: DEFAULT_STEPS,
+    choose: None,
+    memory: DEFAULT_MEMORY,
+    program: b"",
+    input: b"",
+    bytes: b"",
+    status: 0,
+    note: None,
+};
+
+// Such a run of a program with the bytes and the status that are due, but for what is told behind
+// them. Rows of constants can't call functions.
+macro_rules! row {
+    ($program:expr, $bytes:expr, $status:expr $(, $field:ident = $value:expr)*) => {
+        Row {
+            program: $program,
+            bytes: $bytes,
+            status: $status,
+            $($field: $value,)*
+            ..RUN
+        }
+    };
 }
 
-fn list_row<'a>(program: &'a [u8], bytes: &'a [u8]) -> Row<'a> {
-    Row {
-        asked: Asked::List,
-        ..run_row(program, bytes, 0)
-    }
-}
+// What is done with a program by each kind of request that runs it once or lists it.
+const ONCE: &[Asked<'static>] = &[Asked::Run(&[]), Asked::Seed(7), Asked::List];
 
-fn refused_row(program: &[u8], status: u8, note: Note) -> Row<'_> {
-    Row {
-        note: Some(note),
-        ..run_row(program, b"", status)
-    }
-}
+pub(crate) const FAILINGS: &[Failing] = &[
+    Failing::Breaks,
+    Failing::IsInterrupted,
+    Failing::TakesNothing,
+];
 
 // These rules. A bound for answers in place of lines is at least 1.
 pub(crate) fn rules_of(limit: u32, choose: Option<i16>) -> Rules
@@ -251,75 +258,96 @@ fn served(alloc: Global, row: &Row<'_>, piece: usize) -> Result<(Outcome, Vec<u8
     Ok(reply_to(alloc, &request, &mut program, &mut input, piece))
 }
 
-// Each row is served as it is due, however the bytes are cut; or memory was refused.
-fn mistake<'a>(alloc: Global, rows: &[Row<'a>]) -> Result<Option<Row<'a>>, AllocError> {
-    for row in rows {
-        for piece in [1, 5, 100_000] {
-            let (outcome, bytes) = served(alloc, row, piece)?;
-            if outcome.note == Some(Note::OutOfMemory) {
-                return Err(AllocError);
-            }
-            let due = Outcome {
-                status: row.status,
-                note: row.note,
-            };
-            if outcome != due || bytes.as_slice() != row.bytes {
-                return Ok(Some(*row));
-            }
-        }
-    }
-    Ok(None)
-}
-
-#[test]
-fn listings(rt: HostRuntime) -> Result<(), Fail> {
-    let four = b"10 P.1\n20 P.2\n010\tP.3\r\n20";
-    let rows = [
-        list_row(four, b"10 P.3\n"),
-        list_row(b"", b""),
-        list_row(b"20 P.2\n5 P.1\n", b"5 P.1\n20 P.2\n"),
-        list_row(b"20 P.2\n5 P.1", b"5 P.1\n20 P.2\n"),
-        list_row(b"10P.\t1 \r\n\r\n   ", b"10 P. 1 \n"),
-        list_row(b"32767 NONSENSE", b"32767 NONSENSE\n"),
-        Row {
-            steps: 1,
-            memory: 64,
-            ..list_row(
-                b"1 GOTO 1\n2 GOTO 1\n3 GOTO 1\n4 GOTO 1\n",
-                b"1 GOTO 1\n2 GOTO 1\n3 GOTO 1\n4 GOTO 1\n",
-            )
-        },
-        Row {
-            input: b"5\n7\n",
-            ..list_row(b"10 INPUT A", b"10 INPUT A\n")
-        },
-    ];
-    assert!(rt; mistake(rt.alloc(), &rows)?.is_none());
+// A row is served as it is due, with bytes that are cut so.
+fn expect_row(
+    rt: &impl Abort,
+    alloc: Global,
+    row: &Row<'_>,
+    piece: usize,
+) -> Result<(), AllocError> {
+    let reply = served(alloc, row, piece)?;
+    expect_reply(rt, reply, (row.status, row.note), row.bytes);
     Ok(())
 }
 
+// Each row is served as it is due, however the bytes are cut.
+fn expect_rows(rt: &impl Abort, alloc: Global, rows: &[Row<'_>]) -> Result<(), AllocError> {
+    for row in rows {
+        for piece in [1, 5, 100_000] {
+            expect_row(rt, alloc, row, piece)?;
+        }
+    }
+    Ok(())
+}
+
+const FOUR_LINES: &[u8] = b"10 P.1\n20 P.2\n010\tP.3\r\n20";
+
+const LISTINGS: &[Row<'static>] = &[
+    row!(FOUR_LINES, b"10 P.3\n", 0, asked = Asked::List),
+    row!(b"", b"", 0, asked = Asked::List),
+    row!(
+        b"20 P.2\n5 P.1\n",
+        b"5 P.1\n20 P.2\n",
+        0,
+        asked = Asked::List
+    ),
+    row!(b"20 P.2\n5 P.1", b"5 P.1\n20 P.2\n", 0, asked = Asked::List),
+    row!(
+        b"10P.\t1 \r\n\r\n   ",
+        b"10 P. 1 \n",
+        0,
+        asked = Asked::List
+    ),
+    row!(
+        b"32767 NONSENSE",
+        b"32767 NONSENSE\n",
+        0,
+        asked = Asked::List
+    ),
+    row!(
+        b"1 GOTO 1\n2 GOTO 1\n3 GOTO 1\n4 GOTO 1\n",
+        b"1 GOTO 1\n2 GOTO 1\n3 GOTO 1\n4 GOTO 1\n",
+        0,
+        asked = Asked::List,
+        steps = 1,
+        memory = 64
+    ),
+    row!(
+        b"10 INPUT A",
+        b"10 INPUT A\n",
+        0,
+        asked = Asked::List,
+        input = b"5\n7\n"
+    ),
+];
+
+#[test]
+fn listings(rt: HostRuntime) -> Result<(), Fail> {
+    expect_rows(&rt, rt.alloc(), LISTINGS)?;
+    Ok(())
+}
+
+const SEEDED_RUNS: &[Row<'static>] = &[
+    row!(b"10 P.RND(1)", b"     1\n", 0, asked = Asked::Seed(7)),
+    row!(
+        b"10 P.RND(6),RND(6),RND(100)",
+        b"     3     5    13\n",
+        0,
+        asked = Asked::Seed(7)
+    ),
+    row!(
+        b"10 INPUT A;PRINT A",
+        b"A:RND(6)\n     3\n",
+        0,
+        asked = Asked::Seed(7),
+        input = b"RND(6)\n"
+    ),
+    row!(b"10 INPUT A", b"A:", 5, asked = Asked::Seed(7)),
+];
+
 #[test]
 fn seeded_runs(rt: HostRuntime) -> Result<(), Fail> {
-    let rows = [
-        Row {
-            asked: Asked::Seed(7),
-            ..run_row(b"10 P.RND(1)", b"     1\n", 0)
-        },
-        Row {
-            asked: Asked::Seed(7),
-            ..run_row(b"10 P.RND(6),RND(6),RND(100)", b"     3     5    13\n", 0)
-        },
-        Row {
-            asked: Asked::Seed(7),
-            input: b"RND(6)\n",
-            ..run_row(b"10 INPUT A;PRINT A", b"A:RND(6)\n     3\n", 0)
-        },
-        Row {
-            asked: Asked::Seed(7),
-            ..run_row(b"10 INPUT A", b"A:", 5)
-        },
-    ];
-    assert!(rt; mistake(rt.alloc(), &rows)?.is_none());
+    expect_rows(&rt, rt.alloc(), SEEDED_RUNS)?;
     Ok(())
 }
 
@@ -335,53 +363,82 @@ fn drawn_list(alloc: Global, seed: u64) -> Result<Vec<i16>, AllocError> {
 
 // What twenty questions for a number from 1 to 6 show.
 fn twenty_rolls(alloc: Global, asked: Asked<'_>) -> Result<(Outcome, Vec<u8>), AllocError> {
-    let row = Row {
-        asked,
-        ..run_row(b"10 F.I=1TO20;P.RND(6),;N.I", b"", 0)
-    };
+    let row = row!(b"10 F.I=1TO20;P.RND(6),;N.I", b"", 0, asked = asked);
     served(alloc, &row, 5)
+}
+
+// The same with the list that is drawn.
+fn twenty_drawn_rolls(alloc: Global, seed: u64) -> Result<(Outcome, Vec<u8>), AllocError> {
+    let list = drawn_list(alloc, seed)?;
+    twenty_rolls(alloc, Asked::Run(&list))
+}
+
+// Two runs, of which the second shows the same bytes as the first.
+fn expect_same_rolls(rt: &impl Abort, by_list: (Outcome, Vec<u8>), by_seed: (Outcome, Vec<u8>)) {
+    let found = (by_list.0.status, by_list.0.note, by_list.1.len());
+    expect_same(rt, found, (0, None, 120));
+    expect_reply(rt, by_seed, (0, None), &by_list.1);
 }
 
 // A run by a seed shows the same bytes as one with the list that is drawn.
 #[test]
 fn seeds_and_lists(rt: HostRuntime) -> Result<(), Fail> {
     for seed in [0, 1, 4294967295] {
-        let list = drawn_list(rt.alloc(), seed)?;
-        let (by_list, want) = twenty_rolls(rt.alloc(), Asked::Run(&list))?;
+        let by_list = twenty_drawn_rolls(rt.alloc(), seed)?;
         let by_seed = twenty_rolls(rt.alloc(), Asked::Seed(seed))?;
-        expect_same(
-            &rt,
-            (by_list.status, by_list.note, want.len()),
-            (0, None, 120),
-        );
-        expect_reply(&rt, by_seed, (0, None), &want);
+        expect_same_rolls(&rt, by_list, by_seed);
     }
     Ok(())
 }
 
+const ELEVEN_LINES: &[u8] =
+    b"1 P.1\n2 P.1\n3 P.1\n4 P.1\n5 P.1\n6 P.1\n7 P.1\n8 P.1\n9 P.1\n10 P.1\n11 P.1\n";
+
+const REFUSED_PROGRAMS: &[Row<'static>] = &[
+    row!(
+        b"32768 P.1",
+        b"",
+        65,
+        note = Some(Note::Load(1, LoadFault::NumberTooBig))
+    ),
+    row!(
+        b"0 P.",
+        b"",
+        65,
+        note = Some(Note::Load(1, LoadFault::NoNumber))
+    ),
+    row!(
+        b"P.1",
+        b"",
+        65,
+        note = Some(Note::Load(1, LoadFault::NoNumber))
+    ),
+    row!(
+        b"10 P.\x7f",
+        b"",
+        65,
+        note = Some(Note::Load(1, LoadFault::BadByte(6)))
+    ),
+    row!(
+        b"10 P.1\n\n\nP.2\n0",
+        b"",
+        65,
+        note = Some(Note::Load(4, LoadFault::NoNumber))
+    ),
+    row!(
+        ELEVEN_LINES,
+        b"",
+        65,
+        note = Some(Note::Load(11, LoadFault::Full)),
+        memory = 64
+    ),
+];
+
 #[test]
 fn refused_programs(rt: HostRuntime) -> Result<(), Fail> {
-    let eleven = b"1 P.1\n2 P.1\n3 P.1\n4 P.1\n5 P.1\n6 P.1\n7 P.1\n8 P.1\n9 P.1\n10 P.1\n11 P.1\n";
-    let big = Note::Load(1, LoadFault::NumberTooBig);
-    let rows = [
-        refused_row(b"32768 P.1", 65, big),
-        refused_row(b"0 P.", 65, Note::Load(1, LoadFault::NoNumber)),
-        refused_row(b"P.1", 65, Note::Load(1, LoadFault::NoNumber)),
-        refused_row(b"10 P.\x7f", 65, Note::Load(1, LoadFault::BadByte(6))),
-        refused_row(
-            b"10 P.1\n\n\nP.2\n0",
-            65,
-            Note::Load(4, LoadFault::NoNumber),
-        ),
-        Row {
-            memory: 64,
-            ..refused_row(eleven, 65, Note::Load(11, LoadFault::Full))
-        },
-    ];
-    for row in rows {
-        for asked in [Asked::Run(&[]), Asked::Seed(7), Asked::List] {
-            let row = Row { asked, ..row };
-            assert!(rt; mistake(rt.alloc(), &[row])?.is_none(), "{row:?}");
+    for &row in REFUSED_PROGRAMS {
+        for &asked in ONCE {
+            expect_rows(&rt, rt.alloc(), &[Row { asked, ..row }])?;
         }
     }
     Ok(())
@@ -403,41 +460,50 @@ fn long_text(
     Ok(text)
 }
 
+// Text, a byte so often, and text behind it; and why that is refused.
+const LONG_PROGRAMS: &[(&[u8], u8, usize, &[u8], Note)] = &[
+    (
+        b"",
+        b'9',
+        200,
+        b" P.",
+        Note::Load(1, LoadFault::NumberTooBig),
+    ),
+    (
+        b"10 A=",
+        b'9',
+        254,
+        b"",
+        Note::Load(1, LoadFault::TextTooLong),
+    ),
+    (
+        b"",
+        b'\n',
+        1_048_577,
+        b"",
+        Note::Load(0, LoadFault::TooLong),
+    ),
+];
+
+// A program is refused, whatever is asked for.
+fn expect_refused(
+    rt: &impl Abort,
+    alloc: Global,
+    program: &[u8],
+    note: Note,
+) -> Result<(), AllocError> {
+    for &asked in ONCE {
+        let row = row!(program, b"", 65, asked = asked, note = Some(note));
+        expect_row(rt, alloc, &row, 4000)?;
+    }
+    Ok(())
+}
+
 #[test]
 fn refused_long_programs(rt: HostRuntime) -> Result<(), Fail> {
-    let rows = [
-        (
-            &b""[..],
-            b'9',
-            200,
-            &b" P."[..],
-            Note::Load(1, LoadFault::NumberTooBig),
-        ),
-        (
-            b"10 A=",
-            b'9',
-            254,
-            b"",
-            Note::Load(1, LoadFault::TextTooLong),
-        ),
-        (
-            b"",
-            b'\n',
-            1_048_577,
-            b"",
-            Note::Load(0, LoadFault::TooLong),
-        ),
-    ];
-    for (before, byte, count, behind, note) in rows {
+    for &(before, byte, count, behind, note) in LONG_PROGRAMS {
         let text = long_text(rt.alloc(), before, byte, count, behind)?;
-        for asked in [Asked::Run(&[]), Asked::Seed(7), Asked::List] {
-            let row = Row {
-                asked,
-                ..refused_row(&text, 65, note)
-            };
-            let reply = served(rt.alloc(), &row, 4000)?;
-            expect_reply(&rt, reply, (65, Some(note)), b"");
-        }
+        expect_refused(&rt, rt.alloc(), &text, note)?;
     }
     Ok(())
 }
@@ -454,19 +520,22 @@ fn reply_to_unread(alloc: Global, row: &Row<'_>) -> Result<(Outcome, Vec<u8>), A
     Ok(reply_to(alloc, &request, &mut program, &mut input, 1))
 }
 
+// It is refused, whatever is asked for.
+fn expect_unread(rt: &impl Abort, alloc: Global, program: &[u8]) -> Result<(), AllocError> {
+    for &asked in ONCE {
+        let row = row!(program, b"", 66, asked = asked);
+        let reply = reply_to_unread(alloc, &row)?;
+        expect_reply(rt, reply, (66, Some(Note::ProgramUnread)), b"");
+    }
+    Ok(())
+}
+
 // A reader of the program that fails, at once or behind its first bytes.
 #[test]
 fn unread_programs(rt: HostRuntime) -> Result<(), Fail> {
-    for asked in [Asked::Run(&[]), Asked::Seed(7), Asked::List] {
-        for bytes in [&b""[..], b"10 P.", b"10 P.1\n"] {
-            let row = Row {
-                asked,
-                ..run_row(bytes, b"", 66)
-            };
-            let reply = reply_to_unread(rt.alloc(), &row)?;
-            expect_reply(&rt, reply, (66, Some(Note::ProgramUnread)), b"");
-        }
-    }
+    expect_unread(&rt, rt.alloc(), b"")?;
+    expect_unread(&rt, rt.alloc(), b"10 P.")?;
+    expect_unread(&rt, rt.alloc(), b"10 P.1\n")?;
     Ok(())
 }
 
@@ -485,15 +554,12 @@ fn reply_on_endless_program(
 
 #[test]
 fn endless_programs(rt: HostRuntime) -> Result<(), Fail> {
-    for asked in [Asked::Run(&[]), Asked::Seed(7), Asked::List] {
-        let row = Row {
-            asked,
-            ..run_row(b"", b"", 65)
-        };
+    for &asked in ONCE {
+        let row = row!(b"", b"", 65, asked = asked);
         let (reply, given) = reply_on_endless_program(rt.alloc(), &row)?;
         let note = Some(Note::Load(0, LoadFault::TooLong));
         expect_reply(&rt, reply, (65, note), b"");
-        assert!(rt; given <= 1_048_577);
+        expect_same(&rt, given <= 1_048_577, true);
     }
     Ok(())
 }
@@ -501,7 +567,7 @@ fn endless_programs(rt: HostRuntime) -> Result<(), Fail> {
 // A listing leaves its input alone.
 #[test]
 fn inputs_left_alone(rt: HostRuntime) -> Result<(), Fail> {
-    let row = list_row(b"10 INPUT A\n", b"10 INPUT A\n");
+    let row = row!(b"10 INPUT A\n", b"10 INPUT A\n", 0, asked = Asked::List);
     let request = request_of(rt.alloc(), &row)?;
     let (reply, given) = reply_on_endless_input(rt.alloc(), &request, row.program, 3);
     expect_reply(&rt, reply, (0, None), row.bytes);
@@ -509,224 +575,213 @@ fn inputs_left_alone(rt: HostRuntime) -> Result<(), Fail> {
     Ok(())
 }
 
+// A row is served to a writer that fails behind so many calls, each of which took so many bytes; what
+// it took is the beginning of this length.
+fn expect_broken_off(
+    rt: &impl Abort,
+    alloc: Global,
+    row: &Row<'_>,
+    mut sink: Sink,
+    length: usize,
+) -> Result<(), AllocError> {
+    let outcome = served_to(alloc, row, &mut sink)?;
+    let due = if length < row.bytes.len() {
+        (74, Some(Note::Unwritten))
+    } else {
+        (0, None)
+    };
+    let bytes = &row.bytes[..length.min(row.bytes.len())];
+    expect_reply(rt, (outcome, sink.taken), due, bytes);
+    Ok(())
+}
+
 // What was written of a listing of 16 bytes is its beginning, whichever call fails.
 #[test]
 fn listings_that_cannot_be_written(rt: HostRuntime) -> Result<(), Fail> {
     let listing = b"10 P.12\n20 P.34\n";
-    let row = list_row(b"20 P.34\n10 P.12\n", listing);
-    for failing in [
-        Failing::Breaks,
-        Failing::IsInterrupted,
-        Failing::TakesNothing,
-    ] {
+    let row = row!(b"20 P.34\n10 P.12\n", listing, 0, asked = Asked::List);
+    for &failing in FAILINGS {
         for calls in 0..=8 {
-            let mut sink = make_sink(rt.alloc(), 2, calls, failing);
-            let outcome = served_to(rt.alloc(), &row, &mut sink)?;
-            let due = if calls == 8 {
-                (0, None)
-            } else {
-                (74, Some(Note::Unwritten))
-            };
-            expect_reply(&rt, (outcome, sink.taken), due, &listing[..2 * calls]);
+            let sink = make_sink(rt.alloc(), 2, calls, failing);
+            expect_broken_off(&rt, rt.alloc(), &row, sink, 2 * calls)?;
         }
     }
     Ok(())
 }
 
-fn answered_row<'a>(answers: &'a [i16], program: &'a [u8], bytes: &'a [u8], status: u8) -> Row<'a> {
-    Row {
-        asked: Asked::Run(answers),
-        ..run_row(program, bytes, status)
-    }
-}
-
-fn input_row<'a>(program: &'a [u8], input: &'a [u8], bytes: &'a [u8], status: u8) -> Row<'a> {
-    Row {
-        input,
-        ..run_row(program, bytes, status)
-    }
-}
-
-fn limited_row<'a>(steps: u32, program: &'a [u8], bytes: &'a [u8], status: u8) -> Row<'a> {
-    Row {
-        steps,
-        ..run_row(program, bytes, status)
-    }
-}
-
-fn memory_row<'a>(memory: u16, program: &'a [u8], bytes: &'a [u8], status: u8) -> Row<'a> {
-    Row {
-        memory,
-        ..run_row(program, bytes, status)
-    }
-}
+const RUNS_WITHOUT_INPUT: &[Row<'static>] = &[
+    row!(b"", b"", 0),
+    row!(b"10 PRINT \"HI\"\n", b"HI\n", 0),
+    row!(b"20 P.\"B\"\n10 P.'A',;P.\n", b"A\nB\n", 0),
+    row!(b"10 P.\"A\";P.1", b"A\n     1\n", 0),
+    row!(b"10 P.RND(2)", b"     2\n", 0, asked = Asked::Run(&[2])),
+    row!(b"10 P.RND(2)", b"     1\n", 0, asked = Asked::Run(&[1, 9])),
+    row!(b"10 P.RND(2)", b"", 6, asked = Asked::Run(&[])),
+    row!(b"10 P.RND(2)", b"", 7, asked = Asked::Run(&[3])),
+    row!(b"10 GOTO 10", b"", 4, steps = 5),
+    row!(b"10 PRINT -32767-1", b"-32768\n", 0),
+    row!(b"10 PRINT -(-32767-1)", b"HOW?\n10 PRINT -(-32767-1)?\n", 2),
+    row!(b"10 F.I=1TO3S.2;P.I,;N.I", b"     1     3", 0, steps = 5),
+    row!(b"10 F.I=1TO3S.2;P.I,;N.I", b"     1     3", 4, steps = 4),
+    row!(b"10 PRINT 'ABC',_,\"X\",#3,7", b"ABC\rX  7\n", 0),
+    row!(b"10 GOSUB 10", b"SORRY\n10 GOSUB 10?\n", 3, steps = 257),
+    row!(b"10 GOSUB 10", b"", 4, steps = 256),
+    row!(
+        b"300 B=200,C=200\n310 LET A=B*C+2",
+        b"HOW?\n310 LET A=B*C?+2\n",
+        2
+    ),
+    row!(b"10 @(27)=1", b"", 0, memory = 64),
+    row!(b"10 @(28)=1", b"SORRY\n10 @(28)?=1\n", 3, memory = 64),
+    row!(b"10 PRINT SIZE", b"  4083\n", 0),
+    row!(
+        b"10 GOS.30;N.J\n30 F.J=1TO9;R.",
+        b"WHAT?\n10 GOS.30;N.J?\n",
+        1
+    ),
+    row!(b"10 A=3,@(A)=A+1;P.@(3)", b"     4\n", 0),
+    row!(b"10 F.I=1TO1;GOS.10", b"SORRY\n10 F.I=1TO1?;GOS.10\n", 3),
+];
 
 #[test]
 fn runs_without_input(rt: HostRuntime) -> Result<(), Fail> {
-    let rows = [
-        run_row(b"", b"", 0),
-        run_row(b"10 PRINT \"HI\"\n", b"HI\n", 0),
-        run_row(b"20 P.\"B\"\n10 P.'A',;P.\n", b"A\nB\n", 0),
-        run_row(b"10 P.\"A\";P.1", b"A\n     1\n", 0),
-        answered_row(&[2], b"10 P.RND(2)", b"     2\n", 0),
-        answered_row(&[1, 9], b"10 P.RND(2)", b"     1\n", 0),
-        answered_row(&[], b"10 P.RND(2)", b"", 6),
-        answered_row(&[3], b"10 P.RND(2)", b"", 7),
-        limited_row(5, b"10 GOTO 10", b"", 4),
-        run_row(b"10 PRINT -32767-1", b"-32768\n", 0),
-        run_row(b"10 PRINT -(-32767-1)", b"HOW?\n10 PRINT -(-32767-1)?\n", 2),
-        limited_row(5, b"10 F.I=1TO3S.2;P.I,;N.I", b"     1     3", 0),
-        limited_row(4, b"10 F.I=1TO3S.2;P.I,;N.I", b"     1     3", 4),
-        run_row(b"10 PRINT 'ABC',_,\"X\",#3,7", b"ABC\rX  7\n", 0),
-        limited_row(257, b"10 GOSUB 10", b"SORRY\n10 GOSUB 10?\n", 3),
-        limited_row(256, b"10 GOSUB 10", b"", 4),
-        run_row(
-            b"300 B=200,C=200\n310 LET A=B*C+2",
-            b"HOW?\n310 LET A=B*C?+2\n",
-            2,
-        ),
-        memory_row(64, b"10 @(27)=1", b"", 0),
-        memory_row(64, b"10 @(28)=1", b"SORRY\n10 @(28)?=1\n", 3),
-        run_row(b"10 PRINT SIZE", b"  4083\n", 0),
-        run_row(
-            b"10 GOS.30;N.J\n30 F.J=1TO9;R.",
-            b"WHAT?\n10 GOS.30;N.J?\n",
-            1,
-        ),
-        run_row(b"10 A=3,@(A)=A+1;P.@(3)", b"     4\n", 0),
-        run_row(b"10 F.I=1TO1;GOS.10", b"SORRY\n10 F.I=1TO1?;GOS.10\n", 3),
-    ];
-    let found = mistake(rt.alloc(), &rows)?;
-    assert!(rt; found.is_none(), "{found:?}");
+    expect_rows(&rt, rt.alloc(), RUNS_WITHOUT_INPUT)?;
     Ok(())
 }
+
+const RUNS_OF_EACH_COMMAND: &[Row<'static>] = &[
+    row!(b"210 PTINT \"THIS\"", b"WHAT?\n210 P?TINT \"THIS\"\n", 1),
+    row!(
+        b"260 LET A=B+3, C=(3+4, X=4",
+        b"WHAT?\n260 LET A=B+3, C=(3+4?, X=4\n",
+        1
+    ),
+    row!(b"380 GOTO 412", b"HOW?\n380 GOTO 412?\n", 2),
+    row!(b"10 PRINT 2*-3", b"WHAT?\n10 PRINT 2*?-3\n", 1),
+    row!(b"10 PRINT 1<2<3", b"     1\nWHAT?\n10 PRINT 1<2?<3\n", 1),
+    row!(b"10 P.32768", b"HOW?\n10 P.32768?\n", 2),
+    row!(b"10 P.\"A\",'B", b"A\nWHAT?\n10 P.\"A\",?'B\n", 1),
+    row!(
+        b"10 P.#2,-123,#256,1",
+        b"-123\nHOW?\n10 P.#2,-123,#256?,1\n",
+        2
+    ),
+    row!(b"10 F.I=5TO1;P.I;N.I", b"     5\n", 0, steps = 3),
+    row!(b"10 F.I=32766TO32767;N.I;P.I", b" 32767\n", 0, steps = 4),
+    row!(b"10 RETURN", b"WHAT?\n10 RETURN?\n", 1),
+    row!(b"10 GOTO 10;P.1", b"WHAT?\n10 GOTO 10?;P.1\n", 1),
+    row!(
+        b"10 GOSUB 40;P.1\n20 STOP\n40 P.2;RETURN",
+        b"     2\n     1\n",
+        0,
+        steps = 5
+    ),
+    row!(b"10 IF 0 NONSENSE\n20 P.2/3;", b"     0\n", 0, steps = 2),
+    row!(b"10 A=1/0", b"HOW?\n10 A=1/0?\n", 2),
+    row!(b"10 A=B=0;P.A", b"     1\n", 0),
+    row!(b"10 REM;P.1\n20 PRINT", b"\n", 0, steps = 2),
+    row!(b"10 .1", b"WHAT?\n10 ?.1\n", 1),
+    row!(b"10 P", b"WHAT?\n10 P?\n", 1),
+    row!(b"10 PRINT.", b"WHAT?\n10 PRINT?.\n", 1),
+    row!(b"10 I.1P.2", b"     2\n", 0),
+    row!(b"10 P.S.", b"  4089\n", 0),
+    row!(b"10 INPUT \"N", b"WHAT?\n10 INPUT ?\"N\n", 1),
+    row!(b"10 P.1;;P.2", b"     1\nWHAT?\n10 P.1;?;P.2\n", 1),
+    row!(b"10 @(16371)=1;P.@(16371)", b"     1\n", 0, memory = 32767),
+    row!(
+        b"10 @(16372)=1;P.@(16372)",
+        b"SORRY\n10 @(16372)?=1;P.@(16372)\n",
+        3,
+        memory = 32767
+    ),
+    row!(b"10 @(32767)=1", b"SORRY\n10 @(32767)?=1\n", 3),
+];
 
 #[test]
 fn runs_of_each_command(rt: HostRuntime) -> Result<(), Fail> {
-    let rows = [
-        run_row(b"210 PTINT \"THIS\"", b"WHAT?\n210 P?TINT \"THIS\"\n", 1),
-        run_row(
-            b"260 LET A=B+3, C=(3+4, X=4",
-            b"WHAT?\n260 LET A=B+3, C=(3+4?, X=4\n",
-            1,
-        ),
-        run_row(b"380 GOTO 412", b"HOW?\n380 GOTO 412?\n", 2),
-        run_row(b"10 PRINT 2*-3", b"WHAT?\n10 PRINT 2*?-3\n", 1),
-        run_row(b"10 PRINT 1<2<3", b"     1\nWHAT?\n10 PRINT 1<2?<3\n", 1),
-        run_row(b"10 P.32768", b"HOW?\n10 P.32768?\n", 2),
-        run_row(b"10 P.\"A\",'B", b"A\nWHAT?\n10 P.\"A\",?'B\n", 1),
-        run_row(
-            b"10 P.#2,-123,#256,1",
-            b"-123\nHOW?\n10 P.#2,-123,#256?,1\n",
-            2,
-        ),
-        limited_row(3, b"10 F.I=5TO1;P.I;N.I", b"     5\n", 0),
-        limited_row(4, b"10 F.I=32766TO32767;N.I;P.I", b" 32767\n", 0),
-        run_row(b"10 RETURN", b"WHAT?\n10 RETURN?\n", 1),
-        run_row(b"10 GOTO 10;P.1", b"WHAT?\n10 GOTO 10?;P.1\n", 1),
-        limited_row(
-            5,
-            b"10 GOSUB 40;P.1\n20 STOP\n40 P.2;RETURN",
-            b"     2\n     1\n",
-            0,
-        ),
-        limited_row(2, b"10 IF 0 NONSENSE\n20 P.2/3;", b"     0\n", 0),
-        run_row(b"10 A=1/0", b"HOW?\n10 A=1/0?\n", 2),
-        run_row(b"10 A=B=0;P.A", b"     1\n", 0),
-        limited_row(2, b"10 REM;P.1\n20 PRINT", b"\n", 0),
-        run_row(b"10 .1", b"WHAT?\n10 ?.1\n", 1),
-        run_row(b"10 P", b"WHAT?\n10 P?\n", 1),
-        run_row(b"10 PRINT.", b"WHAT?\n10 PRINT?.\n", 1),
-        run_row(b"10 I.1P.2", b"     2\n", 0),
-        run_row(b"10 P.S.", b"  4089\n", 0),
-        run_row(b"10 INPUT \"N", b"WHAT?\n10 INPUT ?\"N\n", 1),
-        run_row(b"10 P.1;;P.2", b"     1\nWHAT?\n10 P.1;?;P.2\n", 1),
-        memory_row(32767, b"10 @(16371)=1;P.@(16371)", b"     1\n", 0),
-        memory_row(
-            32767,
-            b"10 @(16372)=1;P.@(16372)",
-            b"SORRY\n10 @(16372)?=1;P.@(16372)\n",
-            3,
-        ),
-        run_row(b"10 @(32767)=1", b"SORRY\n10 @(32767)?=1\n", 3),
-    ];
-    let found = mistake(rt.alloc(), &rows)?;
-    assert!(rt; found.is_none(), "{found:?}");
+    expect_rows(&rt, rt.alloc(), RUNS_OF_EACH_COMMAND)?;
     Ok(())
 }
+
+const RUNS_WITH_INPUT: &[Row<'static>] = &[
+    row!(
+        b"10 INPUT A;PRINT A",
+        b"A:RND(2)\n     1\n",
+        0,
+        input = b"RND(2)\n",
+        asked = Asked::Run(&[1])
+    ),
+    row!(b"10 INPUT A", b"A:)\nWHAT?\nA:5\n", 0, input = b")\n5\n"),
+    row!(b"10 INPUT A", b"A:)\nWHAT?\nA:5\n", 0, input = b")\n5"),
+    row!(b"10 INPUT A", b"A:)\nWHAT?\nA:", 5, input = b")\n"),
+    row!(b"10 INPUT A", b"A:", 5, input = b""),
+    row!(
+        b"10 INPUT @(RND(2))",
+        b"@(RND(2)):)\nWHAT?\n@(RND(2)):5\n",
+        0,
+        input = b")\n5\n",
+        asked = Asked::Run(&[1, 1])
+    ),
+    row!(b"10 INPUT \"N\"A,'!'", b"N:2+3 X\n!", 0, input = b"2+3 X\n"),
+    row!(
+        b"10 INPUT A;P.A",
+        b"A: 71\n    71\n",
+        0,
+        input = b"\t7\x01\x7f1\r\n"
+    ),
+];
 
 #[test]
 fn runs_with_input(rt: HostRuntime) -> Result<(), Fail> {
-    let rows = [
-        Row {
-            asked: Asked::Run(&[1]),
-            ..input_row(b"10 INPUT A;PRINT A", b"RND(2)\n", b"A:RND(2)\n     1\n", 0)
-        },
-        input_row(b"10 INPUT A", b")\n5\n", b"A:)\nWHAT?\nA:5\n", 0),
-        input_row(b"10 INPUT A", b")\n5", b"A:)\nWHAT?\nA:5\n", 0),
-        input_row(b"10 INPUT A", b")\n", b"A:)\nWHAT?\nA:", 5),
-        input_row(b"10 INPUT A", b"", b"A:", 5),
-        Row {
-            asked: Asked::Run(&[1, 1]),
-            ..input_row(
-                b"10 INPUT @(RND(2))",
-                b")\n5\n",
-                b"@(RND(2)):)\nWHAT?\n@(RND(2)):5\n",
-                0,
-            )
-        },
-        input_row(b"10 INPUT \"N\"A,'!'", b"2+3 X\n", b"N:2+3 X\n!", 0),
-        input_row(
-            b"10 INPUT A;P.A",
-            b"\t7\x01\x7f1\r\n",
-            b"A: 71\n    71\n",
-            0,
-        ),
-    ];
-    let found = mistake(rt.alloc(), &rows)?;
-    assert!(rt; found.is_none(), "{found:?}");
+    expect_rows(&rt, rt.alloc(), RUNS_WITH_INPUT)?;
     Ok(())
 }
 
-fn choosing_row(bound: i16, row: Row<'_>) -> Row<'_> {
-    Row {
-        choose: Some(bound),
-        ..row
-    }
-}
+const ANSWERS_IN_PLACE_OF_LINES: &[Row<'static>] = &[
+    row!(b"10 INPUT A;PRINT A", b"A:", 6, choose = Some(2)),
+    row!(
+        b"10 INPUT A;PRINT A",
+        b"A:",
+        7,
+        asked = Asked::Run(&[3]),
+        choose = Some(2)
+    ),
+    row!(
+        b"10 INPUT A;PRINT A",
+        b"A:2\n     2\n",
+        0,
+        asked = Asked::Run(&[2]),
+        choose = Some(2)
+    ),
+    row!(
+        b"10 INPUT A,B;PRINT A-B",
+        b"A:5\nB:9\n    -4\n",
+        0,
+        asked = Asked::Run(&[9]),
+        input = b"5\n",
+        choose = Some(9)
+    ),
+    row!(
+        b"10 INPUT A;PRINT A",
+        b"A:)\nWHAT?\nA:1\n     1\n",
+        0,
+        asked = Asked::Run(&[1]),
+        input = b")\n",
+        choose = Some(2)
+    ),
+    row!(
+        b"10 INPUT A;PRINT RND(6)",
+        b"A:3\n     5\n",
+        0,
+        asked = Asked::Seed(7),
+        choose = Some(6)
+    ),
+];
 
 // Where no line is left an answer stands for it, from 1 to the bound.
 #[test]
 fn answers_in_place_of_lines(rt: HostRuntime) -> Result<(), Fail> {
-    let program = b"10 INPUT A;PRINT A";
-    let rows = [
-        choosing_row(2, run_row(program, b"A:", 6)),
-        choosing_row(2, answered_row(&[3], program, b"A:", 7)),
-        choosing_row(2, answered_row(&[2], program, b"A:2\n     2\n", 0)),
-        choosing_row(
-            9,
-            Row {
-                input: b"5\n",
-                ..answered_row(&[9], b"10 INPUT A,B;PRINT A-B", b"A:5\nB:9\n    -4\n", 0)
-            },
-        ),
-        choosing_row(
-            2,
-            Row {
-                input: b")\n",
-                ..answered_row(&[1], program, b"A:)\nWHAT?\nA:1\n     1\n", 0)
-            },
-        ),
-        choosing_row(
-            6,
-            Row {
-                asked: Asked::Seed(7),
-                ..run_row(b"10 INPUT A;PRINT RND(6)", b"A:3\n     5\n", 0)
-            },
-        ),
-    ];
-    let found = mistake(rt.alloc(), &rows)?;
-    assert!(rt; found.is_none(), "{found:?}");
+    expect_rows(&rt, rt.alloc(), ANSWERS_IN_PLACE_OF_LINES)?;
     Ok(())
 }
 
@@ -747,45 +802,60 @@ fn reply_on_unread_input(
     Ok(reply_to(alloc, &request, &mut program, &mut input, 1))
 }
 
+// Programs, the bytes behind which their input fails, the status, and what is shown.
+const UNREAD_INPUTS: &[(&[u8], &[u8], u8, &[u8])] = &[
+    (b"10 PRINT \"HI\"", b"", 0, b"HI\n"),
+    (b"10 INPUT A", b"5\n", 0, b"A:5\n"),
+    (b"10 INPUT A,B", b"5\n", 66, b"A:5\nB:"),
+    (b"10 INPUT A,B", b"5\n7", 66, b"A:5\nB:"),
+    (b"10 INPUT A", b"", 66, b"A:"),
+    (b"10 INPUT A", b"5", 66, b"A:"),
+];
+
+// How many bytes are read at most, and the bound for answers in place of lines.
+const READINGS: &[(usize, Option<i16>)] = &[(1, None), (5000, None), (1, Some(9)), (5000, Some(9))];
+
+// However the input of a row is read, it fails behind these bytes.
+fn expect_unread_input(
+    rt: &impl Abort,
+    alloc: Global,
+    row: &Row<'_>,
+    bytes: &[u8],
+) -> Result<(), AllocError> {
+    for &(piece, choose) in READINGS {
+        let reply = reply_on_unread_input(alloc, &Row { choose, ..*row }, bytes, piece)?;
+        expect_reply(rt, reply, (row.status, row.note), row.bytes);
+    }
+    Ok(())
+}
+
 // A line is read only when it is asked for, and what was shown before stays. An answer doesn't
 // stand for a line that can't be read.
 #[test]
 fn unread_inputs(rt: HostRuntime) -> Result<(), Fail> {
-    for (program, bytes, status, shown) in [
-        (&b"10 PRINT \"HI\""[..], &b""[..], 0, &b"HI\n"[..]),
-        (b"10 INPUT A", b"5\n", 0, b"A:5\n"),
-        (b"10 INPUT A,B", b"5\n", 66, b"A:5\nB:"),
-        (b"10 INPUT A,B", b"5\n7", 66, b"A:5\nB:"),
-        (b"10 INPUT A", b"", 66, b"A:"),
-        (b"10 INPUT A", b"5", 66, b"A:"),
-    ] {
-        for (piece, choose) in [(1, None), (5000, None), (1, Some(9)), (5000, Some(9))] {
-            let row = Row {
-                choose,
-                ..answered_row(&[4, 4], program, shown, status)
-            };
-            let reply = reply_on_unread_input(rt.alloc(), &row, bytes, piece)?;
-            let note = (status == 66).then_some(Note::InputUnread);
-            expect_reply(&rt, reply, (status, note), shown);
-        }
+    for &(program, bytes, status, shown) in UNREAD_INPUTS {
+        let note = (status == 66).then_some(Note::InputUnread);
+        let asked = Asked::Run(&[4, 4]);
+        let row = row!(program, shown, status, asked = asked, note = note);
+        expect_unread_input(&rt, rt.alloc(), &row, bytes)?;
     }
     Ok(())
 }
 
 #[test]
 fn endless_inputs(rt: HostRuntime) -> Result<(), Fail> {
-    let row = run_row(b"10 INPUT A\n", b"A:", 66);
+    let row = row!(b"10 INPUT A\n", b"A:", 66);
     let request = request_of(rt.alloc(), &row)?;
     let (reply, given) = reply_on_endless_input(rt.alloc(), &request, row.program, 1);
     expect_reply(&rt, reply, (66, Some(Note::InputUnread)), b"A:");
-    assert!(rt; given <= 16_777_217);
+    expect_same(&rt, given <= 16_777_217, true);
     Ok(())
 }
 
 // A program that asks for no line takes none.
 #[test]
 fn inputs_not_asked_for(rt: HostRuntime) -> Result<(), Fail> {
-    let row = run_row(b"10 PRINT \"HI\"\n", b"HI\n", 0);
+    let row = row!(b"10 PRINT \"HI\"\n", b"HI\n", 0);
     let request = request_of(rt.alloc(), &row)?;
     let (reply, given) = reply_on_endless_input(rt.alloc(), &request, row.program, 1);
     expect_reply(&rt, reply, (0, None), b"HI\n");
@@ -793,35 +863,35 @@ fn inputs_not_asked_for(rt: HostRuntime) -> Result<(), Fail> {
     Ok(())
 }
 
+// What is served to a writer that takes so many bytes a call and fails, at its first call, at its second
+// and so on: of each beginning the length.
+fn expect_beginnings(
+    rt: &impl Abort,
+    alloc: Global,
+    row: &Row<'_>,
+    failing: Failing,
+    piece: usize,
+    lengths: &[usize],
+) -> Result<(), AllocError> {
+    for (calls, length) in lengths.iter().enumerate() {
+        let sink = make_sink(alloc, piece, calls, failing);
+        expect_broken_off(rt, alloc, row, sink, *length)?;
+    }
+    Ok(())
+}
+
+const BYTE_BY_BYTE: &[usize] = &[0, 1, 2, 3, 4, 5, 6, 7, 8, 9, 10, 11, 12, 13, 14];
+
 // What was written of a transcript is its beginning, whichever call fails. The numbers of bytes are
 // those before the first call, before the second, and so on. What INPUT shows is written before it
 // asks for a line, and when it is done: the prompt; then the line, WHAT? and the prompt, ten bytes;
 // and then the last line.
 #[test]
 fn runs_that_cannot_be_written(rt: HostRuntime) -> Result<(), Fail> {
-    let transcript = b"A:)\nWHAT?\nA:5\n";
-    let row = input_row(b"10 INPUT A", b")\n5\n", transcript, 0);
-    let table = [
-        (1, &[0, 1, 2, 3, 4, 5, 6, 7, 8, 9, 10, 11, 12, 13, 14][..]),
-        (5, &[0, 2, 7, 12, 14]),
-    ];
-    for failing in [
-        Failing::Breaks,
-        Failing::IsInterrupted,
-        Failing::TakesNothing,
-    ] {
-        for (piece, lengths) in table {
-            for (calls, length) in lengths.iter().enumerate() {
-                let mut sink = make_sink(rt.alloc(), piece, calls, failing);
-                let outcome = served_to(rt.alloc(), &row, &mut sink)?;
-                let due = if *length == transcript.len() {
-                    (0, None)
-                } else {
-                    (74, Some(Note::Unwritten))
-                };
-                expect_reply(&rt, (outcome, sink.taken), due, &transcript[..*length]);
-            }
-        }
+    let row = row!(b"10 INPUT A", b"A:)\nWHAT?\nA:5\n", 0, input = b")\n5\n");
+    for &failing in FAILINGS {
+        expect_beginnings(&rt, rt.alloc(), &row, failing, 1, BYTE_BY_BYTE)?;
+        expect_beginnings(&rt, rt.alloc(), &row, failing, 5, &[0, 2, 7, 12, 14])?;
     }
     Ok(())
 }

@@ -2,21 +2,13 @@
 
 ghost use Rattle.std.specs.Prelude.{◌≤ℤ◌, pos, IfSome};
 
-use crate::shared::{expect_same, plain_rules};
-use ptb_explore::{AfterFault, Explorer, Marked, Report, UnderFault};
-use ptb_machine::{Ending, Line, Rules, read_lines};
-use ptb_text::{Device, Program, load};
+use crate::shared::{ONE, TWO_OF_2, expect_same, loaded, plain_rules};
+use ptb_explore::{AfterFault, Explorer, Report, UnderFault};
+use ptb_machine::{Ending, Line, Rules};
+use ptb_text::Program;
 use std::alloc::{AllocError, Global};
 use std::process::Abort;
 use std::test::Fail;
-
-// The program of a text and the lines of an input, or none for want of memory.
-fn loaded(alloc: Global, text: &str, input: &str) -> Option<(Program, Vec<Line>)> {
-    let (mut text, mut input) = (text.as_bytes(), input.as_bytes());
-    let program = load(alloc, 4096, &mut Device::new(&mut text)).ok()?;
-    let lines = read_lines(alloc, &mut Device::new(&mut input)).ok()?;
-    Some((program, lines))
-}
 
 // What is told of a run: its last answers, its steps, the copies that are kept then, and the steps
 // played in all runs so far.
@@ -30,14 +22,14 @@ struct ExpectedRun<'a> {
 
 // The copies that are kept, and the steps played.
 fn expect_counts(rt: &impl Abort, explorer: &Explorer, kept: usize, played: u64) {
-    expect_same(rt, "copies kept", explorer.kept(), kept);
-    expect_same(rt, "steps played", explorer.played(), played);
+    let found = (explorer.kept(), explorer.played());
+    expect_same(rt, "copies kept and steps played", found, (kept, played));
 }
 
 fn expect_report(rt: &impl Abort, report: &Report, run: &ExpectedRun) {
     let from = report.answers.len().saturating_sub(run.last.len());
-    expect_same(rt, "last answers", &report.answers[from..], run.last);
-    expect_same(rt, "steps", report.steps, run.steps);
+    let found = (&report.answers[from..], report.steps);
+    expect_same(rt, "last answers and steps", found, (run.last, run.steps));
 }
 
 // Goes to the next run.
@@ -50,6 +42,14 @@ fn expect_next(rt: &impl Abort, explorer: &mut Explorer, run: &ExpectedRun) -> R
     Ok(())
 }
 
+// No run is left, and no copy is kept.
+fn expect_no_next(rt: &impl Abort, explorer: &mut Explorer, played: u64) -> Result<(), Fail> {
+    let is_none = explorer.next()?.is_none();
+    expect_same(rt, "no run is left", is_none, true);
+    expect_counts(rt, explorer, 0, played);
+    Ok(())
+}
+
 // Goes to each of these runs, behind which there is no other, from the beginning on.
 fn expect_runs(rt: &impl Abort, explorer: &mut Explorer, runs: &[ExpectedRun]) -> Result<(), Fail> {
     expect_counts(rt, explorer, 0, 0);
@@ -58,9 +58,7 @@ fn expect_runs(rt: &impl Abort, explorer: &mut Explorer, runs: &[ExpectedRun]) -
         expect_next(rt, explorer, run)?;
         played = run.played;
     }
-    assert!(rt; explorer.next()?.is_none());
-    expect_counts(rt, explorer, 0, played);
-    Ok(())
+    expect_no_next(rt, explorer, played)
 }
 
 // Goes to each run of a program.
@@ -88,47 +86,103 @@ fn expect_runs_of(
 ) -> Result<(), Fail>
     requires { IfSome rules.choose (λ n. pos 1 ≤ℤ n) }
 {
-    match loaded(alloc, text, "") {
-        Some((program, lines)) => expect_runs_from(rt, alloc, &program, &lines, rules, runs),
-        None => Err(Fail::from("no program")),
-    }
+    let (program, lines) = loaded(alloc, text, "")?;
+    expect_runs_from(rt, alloc, &program, &lines, rules, runs)
 }
 
-// What is told of a run whose last answers are these.
-fn expected(last: &[i16], steps: u32, kept: usize, played: u64) -> ExpectedRun<'_> {
+const ONE_QUESTION: &str = "10 F.I=1TO200;A=I;N.I\n20 A=RND(3)";
+
+const ONE_QUESTION_RUNS: &[ExpectedRun<'static>] = &[
     ExpectedRun {
-        last,
-        steps,
-        kept,
-        played,
-    }
-}
+        last: &[1],
+        steps: 402,
+        kept: 1,
+        played: 402,
+    },
+    ExpectedRun {
+        last: &[2],
+        steps: 402,
+        kept: 1,
+        played: 804,
+    },
+    ExpectedRun {
+        last: &[3],
+        steps: 402,
+        kept: 1,
+        played: 1206,
+    },
+];
 
 // A question asked before no other command: nothing is played again but the run itself.
 #[test]
 fn one_question_at_the_end(rt: HostRuntime) -> Result<(), Fail> {
-    let text = "10 F.I=1TO200;A=I;N.I\n20 A=RND(3)";
-    let runs = [
-        expected(&[1], 402, 1, 402),
-        expected(&[2], 402, 1, 804),
-        expected(&[3], 402, 1, 1206),
-    ];
-    expect_runs_of(&rt, rt.alloc(), text, plain_rules(10000), &runs)
+    let rules = plain_rules(10000);
+    expect_runs_of(&rt, rt.alloc(), ONE_QUESTION, rules, ONE_QUESTION_RUNS)
 }
+
+const MANY_QUESTIONS: &str = "10 F.I=1TO69;A=RND(1);N.I\n20 A=RND(2),B=RND(2)";
+
+const MANY_QUESTIONS_RUNS: &[ExpectedRun<'static>] = &[
+    ExpectedRun {
+        last: &[1, 1],
+        steps: 140,
+        kept: 64,
+        played: 140,
+    },
+    ExpectedRun {
+        last: &[1, 2],
+        steps: 140,
+        kept: 64,
+        played: 142,
+    },
+    ExpectedRun {
+        last: &[2, 1],
+        steps: 140,
+        kept: 64,
+        played: 144,
+    },
+    ExpectedRun {
+        last: &[2, 2],
+        steps: 140,
+        kept: 64,
+        played: 146,
+    },
+];
 
 // More questions than copies: those with the fewest answers are dropped, and each run after the first
 // goes on from the newest copy that has the answers in front of the raised one.
 #[test]
 fn more_questions_than_copies(rt: HostRuntime) -> Result<(), Fail> {
-    let text = "10 F.I=1TO69;A=RND(1);N.I\n20 A=RND(2),B=RND(2)";
-    let runs = [
-        expected(&[1, 1], 140, 64, 140),
-        expected(&[1, 2], 140, 64, 142),
-        expected(&[2, 1], 140, 64, 144),
-        expected(&[2, 2], 140, 64, 146),
-    ];
-    expect_runs_of(&rt, rt.alloc(), text, plain_rules(10000), &runs)
+    let rules = plain_rules(10000);
+    expect_runs_of(&rt, rt.alloc(), MANY_QUESTIONS, rules, MANY_QUESTIONS_RUNS)
 }
+
+const RUNS_WITHOUT_LINES: &[ExpectedRun<'static>] = &[
+    ExpectedRun {
+        last: &[1, 1],
+        steps: 203,
+        kept: 2,
+        played: 203,
+    },
+    ExpectedRun {
+        last: &[1, 2],
+        steps: 203,
+        kept: 2,
+        played: 204,
+    },
+    ExpectedRun {
+        last: &[2, 1],
+        steps: 203,
+        kept: 2,
+        played: 407,
+    },
+    ExpectedRun {
+        last: &[2, 2],
+        steps: 203,
+        kept: 2,
+        played: 408,
+    },
+];
 
 // An answer that stands in for a missing line is kept as any other: only what comes behind it is
 // played again.
@@ -139,13 +193,13 @@ fn answers_in_place_of_lines(rt: HostRuntime) -> Result<(), Fail> {
         limit: 10000,
         choose: Some(2),
     };
-    let runs = [
-        expected(&[1, 1], 203, 2, 203),
-        expected(&[1, 2], 203, 2, 204),
-        expected(&[2, 1], 203, 2, 407),
-        expected(&[2, 2], 203, 2, 408),
-    ];
-    expect_runs_of(&rt, rt.alloc(), text, rules, &runs)
+    expect_runs_of(&rt, rt.alloc(), text, rules, RUNS_WITHOUT_LINES)
+}
+
+// A run comes to its end and shows this.
+fn expect_end(rt: &impl Abort, report: &Report, shown: &str) {
+    let found = (report.ending, report.transcript.as_slice());
+    expect_same(rt, "a run", found, (Ending::End, shown.as_bytes()));
 }
 
 // Goes to the next run, which comes to its end and shows this.
@@ -155,21 +209,27 @@ fn expect_shown(
     shown: &str,
     played: u64,
 ) -> Result<(), Fail> {
-    let Some(report) = explorer.next()? else {
-        return Err(Fail::from("no run"));
-    };
-    expect_same(
-        rt,
-        "transcript",
-        report.transcript.as_slice(),
-        shown.as_bytes(),
-    );
-    expect_same(rt, "ending", report.ending, Ending::End);
+    match explorer.next()? {
+        Some(report) => expect_end(rt, report, shown),
+        None => return Err(Fail::from("no run")),
+    }
     expect_same(rt, "steps played", explorer.played(), played);
     Ok(())
 }
 
-// Goes to the first runs of a program, told by what they show and by the steps played so far.
+// Goes to the first runs, told by what they show and by the steps played so far.
+fn expect_all_shown(
+    rt: &impl Abort,
+    explorer: &mut Explorer,
+    runs: &[(&str, u64)],
+) -> Result<(), Fail> {
+    for (shown, played) in runs {
+        expect_shown(rt, explorer, shown, *played)?;
+    }
+    Ok(())
+}
+
+// The same, of a program.
 fn expect_shown_from(
     rt: &impl Abort,
     alloc: Global,
@@ -178,26 +238,23 @@ fn expect_shown_from(
     runs: &[(&str, u64)],
 ) -> Result<(), Fail> {
     let mut explorer = Explorer::start(alloc, program, lines, plain_rules(10000))?;
-    for (shown, played) in runs {
-        expect_shown(rt, &mut explorer, shown, *played)?;
-    }
-    Ok(())
+    expect_all_shown(rt, &mut explorer, runs)
 }
+
+// What each run shows, and the steps played so far.
+const SHOWN: &[(&str, u64)] = &[
+    ("A:3\nB:4\n     1\nC:5\n     5\n", 4),
+    ("A:3\nB:4\n     1\nC:5\n    10\n", 6),
+    ("A:3\nB:4\n     2\nC:5\n     5\n", 10),
+    ("A:3\nB:4\n     2\nC:5\n    10\n", 12),
+];
 
 // A run that goes on from a copy shows what was shown before, and takes the lines behind those taken.
 #[test]
 fn lines_and_bytes_of_a_copy(rt: HostRuntime) -> Result<(), Fail> {
     let text = "10 INPUT A,B;P.RND(2);INPUT C;P.RND(2)*C";
-    let runs = [
-        ("A:3\nB:4\n     1\nC:5\n     5\n", 4),
-        ("A:3\nB:4\n     1\nC:5\n    10\n", 6),
-        ("A:3\nB:4\n     2\nC:5\n     5\n", 10),
-        ("A:3\nB:4\n     2\nC:5\n    10\n", 12),
-    ];
-    match loaded(rt.alloc(), text, "3\n4\n5\n") {
-        Some((program, lines)) => expect_shown_from(&rt, rt.alloc(), &program, &lines, &runs),
-        None => Err(Fail::from("no program")),
-    }
+    let (program, lines) = loaded(rt.alloc(), text, "3\n4\n5\n")?;
+    expect_shown_from(&rt, rt.alloc(), &program, &lines, SHOWN)
 }
 
 // Whether a run took so many answers, these last, began so many commands, and shows nothing.
@@ -254,26 +311,32 @@ fn has_runs_from(
 // Whether a program has these runs and no others, told by their last answers; or it has no memory.
 fn has_runs(alloc: Global, text: &str, taken: usize, steps: u32, runs: &[&[i16]]) -> bool {
     match loaded(alloc, text, "") {
-        Some((program, lines)) => has_runs_from(alloc, &program, &lines, taken, steps, runs),
-        None => true,
+        Ok((program, lines)) => has_runs_from(alloc, &program, &lines, taken, steps, runs),
+        Err(_) => true,
     }
 }
 
 // Passes whichever of its allocations is refused: the runs are the same.
 #[test]
 fn refused_copies(rt: HostRuntime) {
-    let one = "10 F.I=1TO200;A=I;N.I\n20 A=RND(3)";
-    assert!(rt; has_runs(rt.alloc(), one, 1, 402, &[&[1], &[2], &[3]]));
-    let many = "10 F.I=1TO69;A=RND(1);N.I\n20 A=RND(2),B=RND(2)";
-    assert!(rt;
-        has_runs(
-            rt.alloc(),
-            many,
-            71,
-            140,
-            &[&[1, 1], &[1, 2], &[2, 1], &[2, 2]]
-        )
-    );
+    let one = has_runs(rt.alloc(), ONE_QUESTION, 1, 402, &[&[1], &[2], &[3]]);
+    let pairs: &[&[i16]] = &[&[1, 1], &[1, 2], &[2, 1], &[2, 2]];
+    let many = has_runs(rt.alloc(), MANY_QUESTIONS, 71, 140, pairs);
+    expect_same(&rt, "has these runs", (one, many), (true, true));
+}
+
+// The third of many questions' runs, where the first two were not played.
+const THIRD_RUN: ExpectedRun<'static> = ExpectedRun {
+    last: &[2, 1],
+    steps: 140,
+    kept: 64,
+    played: 142,
+};
+
+// Behind the second of four runs: goes to the third.
+fn expect_third(rt: &impl Abort, explorer: &mut Explorer) -> Result<(), Fail> {
+    expect_counts(rt, explorer, 64, 140);
+    expect_next(rt, explorer, &THIRD_RUN)
 }
 
 // Goes behind the second of four runs, and to the third.
@@ -286,10 +349,7 @@ fn expect_behind(
     let mut answers = [1; 71];
     answers[70] = 2;
     match Explorer::after(alloc, program, lines, plain_rules(10000), &answers) {
-        Ok(mut explorer) => {
-            expect_counts(rt, &explorer, 64, 140);
-            expect_next(rt, &mut explorer, &expected(&[2, 1], 140, 64, 142))
-        }
+        Ok(mut explorer) => expect_third(rt, &mut explorer),
         Err(_) => Err(Fail::from("no run")),
     }
 }
@@ -297,26 +357,13 @@ fn expect_behind(
 // Behind a run, too, the next one goes on from a copy.
 #[test]
 fn behind_a_run(rt: HostRuntime) -> Result<(), Fail> {
-    let text = "10 F.I=1TO69;A=RND(1);N.I\n20 A=RND(2),B=RND(2)";
-    match loaded(rt.alloc(), text, "") {
-        Some((program, lines)) => expect_behind(&rt, rt.alloc(), &program, &lines),
-        None => Err(Fail::from("no program")),
-    }
+    let (program, lines) = loaded(rt.alloc(), MANY_QUESTIONS, "")?;
+    expect_behind(&rt, rt.alloc(), &program, &lines)
 }
 
 // Goes behind a run, of whose two answers the first is told with its bound; or there is no memory.
 fn expect_played(rt: &impl Abort, alloc: Global, program: &Program, lines: &[Line]) {
-    let list = [
-        Marked {
-            answer: 2,
-            bound: Some(2),
-        },
-        Marked {
-            answer: 1,
-            bound: None,
-        },
-    ];
-    match Explorer::after_marked(alloc, program, lines, plain_rules(10000), &list) {
+    match Explorer::after_marked(alloc, program, lines, plain_rules(10000), &[TWO_OF_2, ONE]) {
         Ok(explorer) => expect_same(rt, "steps played", explorer.played(), 2),
         Err(fault) => expect_same(rt, "fault", fault, AfterFault::Memory),
     }
@@ -326,8 +373,16 @@ fn expect_played(rt: &impl Abort, alloc: Global, program: &Program, lines: &[Lin
 // but memory can be wanting.
 #[test]
 fn refused_behind_a_run(rt: HostRuntime) {
-    if let Some((program, lines)) = loaded(rt.alloc(), "10 A=RND(2);B=RND(3)", "") {
+    if let Ok((program, lines)) = loaded(rt.alloc(), "10 A=RND(2);B=RND(3)", "") {
         expect_played(&rt, rt.alloc(), &program, &lines);
+    }
+}
+
+// Goes to the runs that begin with an answer, told with its bound; or there is no memory.
+fn expect_share(rt: &impl Abort, alloc: Global, program: &Program, lines: &[Line]) {
+    match Explorer::under(alloc, program, lines, plain_rules(10000), &[TWO_OF_2]) {
+        Ok(explorer) => expect_counts(rt, &explorer, 0, 2),
+        Err(fault) => expect_same(rt, "fault", fault, UnderFault::Memory),
     }
 }
 
@@ -335,15 +390,7 @@ fn refused_behind_a_run(rt: HostRuntime) {
 // nothing but memory can be wanting. The one play that tells so is counted.
 #[test]
 fn refused_shares(rt: HostRuntime) {
-    let Some((program, lines)) = loaded(rt.alloc(), "10 A=RND(2);B=RND(3)", "") else {
-        return;
-    };
-    let under = [Marked {
-        answer: 2,
-        bound: Some(2),
-    }];
-    match Explorer::under(rt.alloc(), &program, &lines, plain_rules(10000), &under) {
-        Ok(explorer) => assert_eq!(rt; (explorer.kept(), explorer.played()), (0, 2)),
-        Err(fault) => assert_eq!(rt; fault, UnderFault::Memory),
+    if let Ok((program, lines)) = loaded(rt.alloc(), "10 A=RND(2);B=RND(3)", "") {
+        expect_share(&rt, rt.alloc(), &program, &lines);
     }
 }

@@ -1,10 +1,10 @@
 // This file tests the writer that flushes, over one whose flush fails at a call.
 
+use crate::shared::expect_same;
 use ptb_serve::Flushing;
 use ptb_text::{DeviceFault, Write};
 use std::io;
 use std::io::ErrorKind;
-use std::test::Fail;
 
 // Takes all bytes, and fails at a flush.
 #[derive(Drop)]
@@ -29,15 +29,17 @@ impl io::Write for &mut Tank {
 }
 
 #[test]
-fn each_write_is_flushed(rt: HostRuntime) -> Result<(), Fail> {
+fn each_write_is_flushed(rt: HostRuntime) {
     let mut tank = Tank {
         taken: Vec::new(rt.alloc()),
         flushes_left: 2,
     };
     let mut out = Flushing::new(&mut tank);
-    assert_eq!(rt; out.write_all(b"one"), Ok(()));
-    assert_eq!(rt; out.write_all(b"two"), Ok(()));
-    assert_eq!(rt; out.write_all(b"three"), Err(DeviceFault));
-    assert_eq!(rt; tank.taken.as_slice(), b"onetwothree".as_slice());
-    Ok(())
+    let found = (
+        out.write_all(b"one"),
+        out.write_all(b"two"),
+        out.write_all(b"three"),
+    );
+    expect_same(&rt, "writes", found, (Ok(()), Ok(()), Err(DeviceFault)));
+    expect_same(&rt, "taken", tank.taken.as_slice(), b"onetwothree");
 }

@@ -3,7 +3,10 @@
 
 ghost use Rattle.std.specs.Prelude.{◌≤◌, ◌≤ℤ◌, pos, IfSome};
 
-use crate::shared::{expect_same, loaded, plain_rules};
+use crate::shared::{
+    FOUR_OF_3, FOUR_OF_4, ONE, ONE_OF_1, ONE_OF_2, ONE_OF_3, ONE_OF_4, THREE, TWO, TWO_OF_2,
+    TWO_OF_3, ZERO, expect_same, loaded, plain_rules,
+};
 use ptb_explore::{
     AfterFault, ExploreFault, Explorer, Form, Marked, Report, UnderFault, write_all_runs,
 };
@@ -29,168 +32,252 @@ RUN 2,2 END 4 7\n     2\n\nRUN 2,3 END 4 7\n     3\n\n";
 const BRANCH_REPORTS_WITH_BOUNDS: &str = "RUN 1/2 END 2 0\n\nRUN 2/2,1/3 END 4 7\n     1\n\n\
 RUN 2/2,2/3 END 4 7\n     2\n\nRUN 2/2,3/3 END 4 7\n     3\n\n";
 
-// What an explorer's listing writes, and how many reports.
-fn written(
-    alloc: Global,
-    explorer: &mut Explorer,
-    first: Option<u64>,
-    form: Form,
-) -> Result<(u64, Vec<u8>), Fail> {
-    let mut bytes = Vec::new(alloc);
-    match write_all_runs(explorer, first, form, &mut Device::new(&mut bytes)) {
-        Ok(count) => Ok((count, bytes)),
-        Err(_) => Err(Fail::from("not written")),
+// Which runs are listed: all, those behind one, those that begin with some answers, or both.
+#[derive(Clone, Copy)]
+enum Runs<'a> {
+    All,
+    Behind(&'a [i16]),
+    BehindMarked(&'a [Marked]),
+    Under(&'a [Marked]),
+    UnderBehind(&'a [Marked], &'a [Marked]),
+}
+
+// Why no listing begins behind a run.
+fn why_not_behind(fault: AfterFault) -> &'static str {
+    match fault {
+        AfterFault::NotARun => "not a run",
+        AfterFault::Memory => "out of memory",
     }
 }
 
-// What the listing of all runs writes, and how many reports.
+// Why there is no listing of the runs that begin so.
+fn why_not_under(fault: UnderFault) -> &'static str {
+    match fault {
+        UnderFault::NoBeginning => "no beginning",
+        UnderFault::Memory => "out of memory",
+    }
+}
+
+// An explorer of these runs; or why there is none.
+fn explorer_of<'a>(
+    alloc: Global,
+    program: &'a Program,
+    lines: &'a [Line],
+    rules: Rules,
+    runs: Runs<'_>,
+) -> Result<Explorer<'a>, &'static str>
+    requires { IfSome rules.choose (λ n. pos 1 ≤ℤ n) }
+{
+    match runs {
+        Runs::All => Explorer::start(alloc, program, lines, rules).or(Err("out of memory")),
+        Runs::Behind(run) => {
+            Explorer::after(alloc, program, lines, rules, run).map_err(why_not_behind)
+        }
+        Runs::BehindMarked(run) => {
+            Explorer::after_marked(alloc, program, lines, rules, run).map_err(why_not_behind)
+        }
+        Runs::Under(list) => {
+            Explorer::under(alloc, program, lines, rules, list).map_err(why_not_under)
+        }
+        Runs::UnderBehind(list, run) => {
+            Explorer::after_under(alloc, program, lines, rules, list, run).map_err(why_not_behind)
+        }
+    }
+}
+
+// A program with its input, which of its runs are listed, how many of them at most, and the form of
+// their reports.
+#[derive(Clone, Copy)]
+struct Asked<'a> {
+    text: &'a str,
+    input: &'a str,
+    runs: Runs<'a>,
+    first: Option<u64>,
+    form: Form,
+}
+
+// What the listing comes to that is written to this writer; or why there is none.
+fn listed_to<W: Write>(
+    alloc: Global,
+    program: &Program,
+    lines: &[Line],
+    rules: Rules,
+    asked: &Asked,
+    out: &mut W,
+) -> Result<Result<u64, ExploreFault>, &'static str>
+    requires { IfSome rules.choose (λ n. pos 1 ≤ℤ n) }
+{
+    let mut explorer = explorer_of(alloc, program, lines, rules, asked.runs)?;
+    Ok(write_all_runs(&mut explorer, asked.first, asked.form, out))
+}
+
+// How many reports the listing has, and its bytes; or why there is none.
 fn listed_from(
     alloc: Global,
     program: &Program,
     lines: &[Line],
     rules: Rules,
-    form: Form,
-) -> Result<(u64, Vec<u8>), Fail>
+    asked: &Asked,
+) -> Result<(u64, Vec<u8>), &'static str>
     requires { IfSome rules.choose (λ n. pos 1 ≤ℤ n) }
 {
-    let mut explorer = Explorer::start(alloc, program, lines, rules)?;
-    written(alloc, &mut explorer, None, form)
-}
-
-// What the listing of a program's text on an input writes, and how many reports.
-fn listed(
-    alloc: Global,
-    text: &str,
-    input: &str,
-    rules: Rules,
-    form: Form,
-) -> Result<(u64, Vec<u8>), Fail>
-    requires { IfSome rules.choose (λ n. pos 1 ≤ℤ n) }
-{
-    let (program, lines) = loaded(alloc, text, input)?;
-    listed_from(alloc, &program, &lines, rules, form)
-}
-
-// What the listing of a program behind a run writes, and how many reports.
-fn listed_from_behind(
-    alloc: Global,
-    program: &Program,
-    lines: &[Line],
-    answers: &[i16],
-    first: Option<u64>,
-) -> Result<(u64, Vec<u8>), Fail> {
-    match Explorer::after(alloc, program, lines, plain_rules(10000), answers) {
-        Ok(mut explorer) => written(alloc, &mut explorer, first, Form::One),
-        Err(_) => Err(Fail::from("no run")),
+    let mut bytes = Vec::new(alloc);
+    let mut out = Device::new(&mut bytes);
+    match listed_to(alloc, program, lines, rules, asked, &mut out)? {
+        Ok(count) => Ok((count, bytes)),
+        Err(_) => Err("not written"),
     }
 }
 
-// What the listing of a program without input writes behind a run, and how many reports.
-fn listed_behind(
-    alloc: Global,
-    text: &str,
-    answers: &[i16],
-    first: Option<u64>,
-) -> Result<(u64, Vec<u8>), Fail> {
-    let (program, lines) = loaded(alloc, text, "")?;
-    listed_from_behind(alloc, &program, &lines, answers, first)
+// The same, of the program's text.
+fn listed(alloc: Global, rules: Rules, asked: &Asked) -> Result<(u64, Vec<u8>), &'static str>
+    requires { IfSome rules.choose (λ n. pos 1 ≤ℤ n) }
+{
+    let (program, lines) = loaded(alloc, asked.text, asked.input)?;
+    listed_from(alloc, &program, &lines, rules, asked)
 }
+
+// So many reports and these bytes are listed; or there is no listing, for this reason.
+fn expect_listing(
+    rt: &impl Abort,
+    alloc: Global,
+    rules: Rules,
+    asked: &Asked,
+    wanted: Result<(u64, &[u8]), &'static str>,
+)
+    requires { IfSome rules.choose (λ n. pos 1 ≤ℤ n) }
+{
+    let listing = listed(alloc, rules, asked);
+    let found = match &listing {
+        Ok((count, bytes)) => Ok((*count, bytes.as_slice())),
+        Err(why) => Err(*why),
+    };
+    expect_same(rt, asked.text, found, wanted);
+}
+
+// Programs with their inputs, and the reports of all their runs in form 1: how many, and their text.
+type Listings<'a> = &'a [(&'a str, &'a str, u64, &'a str)];
+
+fn expect_listings(rt: &impl Abort, alloc: Global, rules: Rules, listings: Listings<'_>)
+    requires { IfSome rules.choose (λ n. pos 1 ≤ℤ n) }
+{
+    for &(text, input, count, reports) in listings {
+        let asked = Asked {
+            text,
+            input,
+            runs: Runs::All,
+            first: None,
+            form: Form::One,
+        };
+        expect_listing(rt, alloc, rules, &asked, Ok((count, reports.as_bytes())));
+    }
+}
+
+const LISTINGS: Listings<'static> = &[
+    ("", "", 1, "RUN none END 0 0\n\n"),
+    (PRODUCTS, "", 4, PRODUCT_REPORTS),
+    (BRANCHES, "", 4, BRANCH_REPORTS),
+    (
+        "10 A=RND(2)-1;B=RND(A)",
+        "",
+        2,
+        "RUN 1 HOW 2 29\nHOW?\n10 A=RND(2)-1;B=RND(A)?\n\nRUN 2,1 END 2 0\n\n",
+    ),
+    (
+        "10 INPUT A;PRINT A",
+        "RND(2)",
+        2,
+        "RUN 1 END 2 16\nA:RND(2)\n     1\n\nRUN 2 END 2 16\nA:RND(2)\n     2\n\n",
+    ),
+    ("10 INPUT A", "", 1, "RUN none NOINPUT 1 2\nA:\n"),
+];
+
+const LISTINGS_OF_ONE_COMMAND: Listings<'static> = &[(
+    "10 A=RND(2);B=RND(2)",
+    "",
+    2,
+    "RUN 1 LIMIT 1 0\n\nRUN 2 LIMIT 1 0\n\n",
+)];
 
 #[test]
-fn writes_all(rt: HostRuntime) -> Result<(), Fail> {
-    let programs = [
-        "",
-        PRODUCTS,
-        BRANCHES,
-        "10 A=RND(2)-1;B=RND(A)",
-        "10 INPUT A;PRINT A",
-        "10 INPUT A",
-        "10 A=RND(2);B=RND(2)",
-    ];
-    let inputs = ["", "", "", "", "RND(2)", "", ""];
-    let limits = [10000, 10000, 10000, 10000, 10000, 10000, 1];
-    let texts = [
-        "RUN none END 0 0\n\n",
-        PRODUCT_REPORTS,
-        BRANCH_REPORTS,
-        "RUN 1 HOW 2 29\nHOW?\n10 A=RND(2)-1;B=RND(A)?\n\nRUN 2,1 END 2 0\n\n",
-        "RUN 1 END 2 16\nA:RND(2)\n     1\n\nRUN 2 END 2 16\nA:RND(2)\n     2\n\n",
-        "RUN none NOINPUT 1 2\nA:\n",
-        "RUN 1 LIMIT 1 0\n\nRUN 2 LIMIT 1 0\n\n",
-    ];
-    for i in 0..7 {
-        let rules = plain_rules(limits[i]);
-        let (_, bytes) = listed(rt.alloc(), programs[i], inputs[i], rules, Form::One)?;
-        expect_same(&rt, programs[i], bytes.as_slice(), texts[i].as_bytes());
-    }
-    Ok(())
+fn writes_all(rt: HostRuntime) {
+    expect_listings(&rt, rt.alloc(), plain_rules(10000), LISTINGS);
+    expect_listings(&rt, rt.alloc(), plain_rules(1), LISTINGS_OF_ONE_COMMAND);
 }
+
+const LISTINGS_WITHOUT_LINES: Listings<'static> = &[
+    (
+        "10 INPUT A;PRINT A",
+        "",
+        2,
+        "RUN 1 END 2 11\nA:1\n     1\n\nRUN 2 END 2 11\nA:2\n     2\n\n",
+    ),
+    (
+        "10 INPUT A;PRINT A",
+        ")",
+        2,
+        "RUN 1 END 2 21\nA:)\nWHAT?\nA:1\n     1\n\nRUN 2 END 2 21\nA:)\nWHAT?\nA:2\n     2\n\n",
+    ),
+    (
+        "10 INPUT A;PRINT A",
+        "7",
+        1,
+        "RUN none END 2 11\nA:7\n     7\n\n",
+    ),
+    (
+        "10 INPUT @(RND(2)-1)",
+        "",
+        4,
+        "RUN 1,1 END 1 14\n@(RND(2)-1):1\n\nRUN 1,2 END 1 14\n@(RND(2)-1):2\n\n\
+RUN 2,1 END 1 14\n@(RND(2)-1):1\n\nRUN 2,2 END 1 14\n@(RND(2)-1):2\n\n",
+    ),
+];
 
 // Each answer that INPUT takes in place of a line gives a run, as each of RND's does.
 #[test]
-fn writes_runs_without_lines(rt: HostRuntime) -> Result<(), Fail> {
-    let (asked, element) = ("10 INPUT A;PRINT A", "10 INPUT @(RND(2)-1)");
+fn writes_runs_without_lines(rt: HostRuntime) {
     let rules = Rules {
         limit: 10000,
         choose: Some(2),
     };
-    for (text, input, want) in [
-        (
-            asked,
-            "",
-            "RUN 1 END 2 11\nA:1\n     1\n\nRUN 2 END 2 11\nA:2\n     2\n\n",
-        ),
-        (
-            asked,
-            ")",
-            "RUN 1 END 2 21\nA:)\nWHAT?\nA:1\n     1\n\nRUN 2 END 2 21\nA:)\nWHAT?\nA:2\n     2\n\n",
-        ),
-        (asked, "7", "RUN none END 2 11\nA:7\n     7\n\n"),
-        (
-            element,
-            "",
-            "RUN 1,1 END 1 14\n@(RND(2)-1):1\n\nRUN 1,2 END 1 14\n@(RND(2)-1):2\n\n\
-RUN 2,1 END 1 14\n@(RND(2)-1):1\n\nRUN 2,2 END 1 14\n@(RND(2)-1):2\n\n",
-        ),
-    ] {
-        let (_, bytes) = listed(rt.alloc(), text, input, rules, Form::One)?;
-        expect_same(&rt, text, bytes.as_slice(), want.as_bytes());
-    }
-    Ok(())
+    expect_listings(&rt, rt.alloc(), rules, LISTINGS_WITHOUT_LINES);
 }
 
-// A listing of so many reports, which are this text.
-fn expect_listing(rt: &impl Abort, listing: (u64, Vec<u8>), count: u64, text: &[u8]) {
-    expect_same(rt, "reports", listing.0, count);
-    expect_same(rt, "listing", listing.1.as_slice(), text);
-}
+// Programs and their runs, how many reports are listed behind those at most and how many there are,
+// and their text.
+const LISTINGS_BEHIND: &[(&str, &[i16], Option<u64>, u64, &[u8])] = &[
+    (
+        PRODUCTS,
+        &[1, 1],
+        Some(2),
+        2,
+        b"RUN 1,2 END 1 7\n     2\n\nRUN 2,1 END 1 7\n     2\n\n",
+    ),
+    (BRANCHES, &[2, 3], None, 0, b""),
+    ("", &[], None, 0, b""),
+];
 
 #[test]
-fn writes_those_behind(rt: HostRuntime) -> Result<(), Fail> {
-    let middle = &PRODUCT_REPORTS.as_bytes()[24..72];
-    expect_listing(
-        &rt,
-        listed_behind(rt.alloc(), PRODUCTS, &[1, 1], Some(2))?,
-        2,
-        middle,
-    );
-    expect_listing(
-        &rt,
-        listed_behind(rt.alloc(), BRANCHES, &[2, 3], None)?,
-        0,
-        b"",
-    );
-    expect_listing(&rt, listed_behind(rt.alloc(), "", &[], None)?, 0, b"");
-    Ok(())
+fn writes_those_behind(rt: HostRuntime) {
+    for &(text, run, first, count, reports) in LISTINGS_BEHIND {
+        let asked = Asked {
+            text,
+            input: "",
+            runs: Runs::Behind(run),
+            first,
+            form: Form::One,
+        };
+        let rules = plain_rules(10000);
+        expect_listing(&rt, rt.alloc(), rules, &asked, Ok((count, reports)));
+    }
 }
 
 // A run of two steps that shows a number, and whose questions have the bounds 1 and 2.
 fn expect_report(rt: &impl Abort, report: &Report, answers: &[i16]) {
-    expect_same(rt, "answers", report.answers.as_slice(), answers);
-    expect_same(rt, "bounds", report.bounds.as_slice(), &[1, 2]);
-    expect_same(rt, "ending", report.ending, Ending::End);
-    expect_same(rt, "steps", report.steps, 2);
-    expect_same(rt, "bytes", report.transcript.len(), 7);
+    let lists = (report.answers.as_slice(), report.bounds.as_slice());
+    expect_same(rt, "answers and bounds", lists, (answers, &[1, 2]));
+    let others = (report.ending, report.steps, report.transcript.len());
+    expect_same(rt, "a report", others, (Ending::End, 2, 7));
 }
 
 // Goes to the next run, whose second answer is this.
@@ -209,239 +296,227 @@ fn expect_no_next(rt: &impl Abort, explorer: &mut Explorer) -> Result<(), Fail> 
     Ok(())
 }
 
-// Goes to both runs of a program, and past them.
-fn expect_both(
+// Goes to both runs, and past them.
+fn expect_both(rt: &impl Abort, explorer: &mut Explorer) -> Result<(), Fail> {
+    expect_next(rt, explorer, 1)?;
+    expect_next(rt, explorer, 2)?;
+    expect_no_next(rt, explorer)?;
+    expect_no_next(rt, explorer)
+}
+
+// The same, from the beginning of a program's runs on.
+fn expect_both_from(
     rt: &impl Abort,
     alloc: Global,
     program: &Program,
     lines: &[Line],
 ) -> Result<(), Fail> {
     let mut explorer = Explorer::start(alloc, program, lines, plain_rules(10000))?;
-    expect_next(rt, &mut explorer, 1)?;
-    expect_next(rt, &mut explorer, 2)?;
-    expect_no_next(rt, &mut explorer)?;
-    expect_no_next(rt, &mut explorer)
+    expect_both(rt, &mut explorer)
 }
 
 #[test]
 fn lends_each_report(rt: HostRuntime) -> Result<(), Fail> {
     let (program, lines) = loaded(rt.alloc(), "10 A=RND(1);P.RND(2)", "")?;
-    expect_both(&rt, rt.alloc(), &program, &lines)
+    expect_both_from(&rt, rt.alloc(), &program, &lines)
 }
 
-// Answers behind which no listing goes on.
-fn expect_not_a_run(
+// A listing of these runs of the branches in form 2, of so many reports at most.
+fn of_branches(runs: Runs<'_>, first: Option<u64>) -> Asked<'_> {
+    Asked {
+        text: BRANCHES,
+        input: "",
+        runs,
+        first,
+        form: Form::Two,
+    }
+}
+
+// So many of the branches' reports are listed, whose text goes from one byte to another.
+fn expect_branches(
     rt: &impl Abort,
     alloc: Global,
-    program: &Program,
-    lines: &[Line],
-    answers: &[i16],
+    asked: &Asked,
+    count: u64,
+    from: usize,
+    to: usize,
 ) {
-    let refusal = Explorer::after(alloc, program, lines, plain_rules(10000), answers).err();
-    expect_same(rt, "refusal", refusal, Some(AfterFault::NotARun));
+    let wanted = match BRANCH_REPORTS_WITH_BOUNDS.as_bytes().get(from..to) {
+        Some(reports) => Ok((count, reports)),
+        None => Err("no such reports"),
+    };
+    expect_listing(rt, alloc, plain_rules(10000), asked, wanted);
 }
+
+// Answers that are no run of the branches.
+const NO_RUNS: &[&[i16]] = &[&[], &[2], &[2, 4], &[2, 1, 1], &[0]];
 
 #[test]
-fn refuses_what_is_no_run(rt: HostRuntime) -> Result<(), Fail> {
-    let (program, lines) = loaded(rt.alloc(), BRANCHES, "")?;
-    let lists: [&[i16]; 5] = [&[], &[2], &[2, 4], &[2, 1, 1], &[0]];
-    for answers in lists {
-        expect_not_a_run(&rt, rt.alloc(), &program, &lines, answers);
-    }
-    Ok(())
-}
-
-// An answer, and the bound that is stated of it, if one is.
-fn marked(answer: i16, bound: Option<i16>) -> Marked {
-    Marked { answer, bound }
-}
-
-#[test]
-fn writes_bounds(rt: HostRuntime) -> Result<(), Fail> {
-    let listing = listed(rt.alloc(), BRANCHES, "", plain_rules(10000), Form::Two)?;
-    expect_listing(&rt, listing, 4, BRANCH_REPORTS_WITH_BOUNDS.as_bytes());
-    Ok(())
-}
-
-// What the listing writes behind the run of a list of answers with their bounds.
-fn written_behind(
-    alloc: Global,
-    program: &Program,
-    lines: &[Line],
-    list: &[Marked],
-) -> Result<(u64, Vec<u8>), Fail> {
-    match Explorer::after_marked(alloc, program, lines, plain_rules(10000), list) {
-        Ok(mut explorer) => written(alloc, &mut explorer, None, Form::Two),
-        Err(_) => Err(Fail::from("no run")),
+fn refuses_what_is_no_run(rt: HostRuntime) {
+    for &run in NO_RUNS {
+        let asked = of_branches(Runs::Behind(run), None);
+        expect_listing(
+            &rt,
+            rt.alloc(),
+            plain_rules(10000),
+            &asked,
+            Err("not a run"),
+        );
     }
 }
 
-// Each bound may be stated or not.
 #[test]
-fn goes_on_behind_stated_bounds(rt: HostRuntime) -> Result<(), Fail> {
-    let (program, lines) = loaded(rt.alloc(), BRANCHES, "")?;
-    for first in [None, Some(2)] {
-        for second in [None, Some(3)] {
-            let list = [marked(2, first), marked(1, second)];
-            let listing = written_behind(rt.alloc(), &program, &lines, &list)?;
-            expect_listing(
-                &rt,
-                listing,
-                2,
-                &BRANCH_REPORTS_WITH_BOUNDS.as_bytes()[45..],
-            );
-        }
-    }
-    Ok(())
+fn writes_bounds(rt: HostRuntime) {
+    let asked = of_branches(Runs::All, None);
+    let wanted = Ok((4, BRANCH_REPORTS_WITH_BOUNDS.as_bytes()));
+    expect_listing(&rt, rt.alloc(), plain_rules(10000), &asked, wanted);
 }
 
-// What is no run, or has another bound.
-fn expect_no_run(
-    rt: &impl Abort,
-    alloc: Global,
-    program: &Program,
-    lines: &[Line],
-    list: &[Marked],
-) {
-    let refusal = Explorer::after_marked(alloc, program, lines, plain_rules(10000), list).err();
-    expect_same(rt, "refusal", refusal, Some(AfterFault::NotARun));
-}
+// The run of the answers 2 and 1: each bound may be stated or not.
+const SECOND_RUN: &[&[Marked]] = &[
+    &[TWO, ONE],
+    &[TWO, ONE_OF_3],
+    &[TWO_OF_2, ONE],
+    &[TWO_OF_2, ONE_OF_3],
+];
 
 #[test]
-fn refuses_other_bounds(rt: HostRuntime) -> Result<(), Fail> {
-    let (program, lines) = loaded(rt.alloc(), BRANCHES, "")?;
-    let lists: [&[Marked]; 9] = [
-        // the bound of another question
-        &[marked(2, Some(3)), marked(1, Some(3))],
-        &[marked(2, Some(2)), marked(1, Some(2))],
-        &[marked(2, None), marked(1, Some(4))],
-        &[marked(1, Some(1))],
-        // beginnings, a run and more, an answer out of range
-        &[],
-        &[marked(2, Some(2))],
-        &[marked(2, Some(2)), marked(1, Some(3)), marked(1, None)],
-        &[marked(2, Some(2)), marked(4, Some(3))],
-        &[marked(2, Some(2)), marked(4, Some(4))],
-    ];
-    for list in lists {
-        expect_no_run(&rt, rt.alloc(), &program, &lines, list);
+fn goes_on_behind_stated_bounds(rt: HostRuntime) {
+    for &run in SECOND_RUN {
+        let asked = of_branches(Runs::BehindMarked(run), None);
+        expect_branches(&rt, rt.alloc(), &asked, 2, 45, 101);
     }
-    Ok(())
 }
 
-// What the listing of all runs to this writer comes to.
-fn listed_to<W: Write>(
+const OTHER_BOUNDS: &[&[Marked]] = &[
+    // the bound of another question
+    &[TWO_OF_3, ONE_OF_3],
+    &[TWO_OF_2, ONE_OF_2],
+    &[TWO, ONE_OF_4],
+    &[ONE_OF_1],
+    // beginnings, a run and more, an answer out of range
+    &[],
+    &[TWO_OF_2],
+    &[TWO_OF_2, ONE_OF_3, ONE],
+    &[TWO_OF_2, FOUR_OF_3],
+    &[TWO_OF_2, FOUR_OF_4],
+];
+
+#[test]
+fn refuses_other_bounds(rt: HostRuntime) {
+    for &run in OTHER_BOUNDS {
+        let asked = of_branches(Runs::BehindMarked(run), None);
+        expect_listing(
+            &rt,
+            rt.alloc(),
+            plain_rules(10000),
+            &asked,
+            Err("not a run"),
+        );
+    }
+}
+
+// Answers with which runs begin, how many reports of those runs are listed at most and how many there
+// are, and where their text begins and ends.
+const SHARES: &[(&[Marked], Option<u64>, u64, usize, usize)] = &[
+    (&[], None, 4, 0, 101),
+    (&[ONE], None, 1, 0, 17),
+    (&[TWO], None, 3, 17, 101),
+    (&[TWO], Some(1), 1, 17, 45),
+    (&[TWO, ONE_OF_3], None, 1, 17, 45),
+    (&[TWO, THREE], None, 1, 73, 101),
+    (&[TWO_OF_2], None, 3, 17, 101),
+    (&[TWO_OF_2], Some(1), 1, 17, 45),
+    (&[TWO_OF_2, ONE_OF_3], None, 1, 17, 45),
+    (&[TWO_OF_2, THREE], None, 1, 73, 101),
+];
+
+#[test]
+fn writes_shares(rt: HostRuntime) {
+    for &(list, first, count, from, to) in SHARES {
+        let asked = of_branches(Runs::Under(list), first);
+        expect_branches(&rt, rt.alloc(), &asked, count, from, to);
+    }
+}
+
+// Answers with which runs begin, one of these runs, how many there are behind it, and where the text of
+// their reports begins and ends.
+const SHARES_BEHIND: &[(&[Marked], &[Marked], u64, usize, usize)] = &[
+    (&[TWO], &[TWO_OF_2, ONE], 2, 45, 101),
+    (&[TWO], &[TWO_OF_2, TWO], 1, 73, 101),
+    (&[TWO], &[TWO_OF_2, THREE], 0, 101, 101),
+    (&[ONE], &[ONE], 0, 17, 17),
+];
+
+#[test]
+fn goes_on_in_a_share(rt: HostRuntime) {
+    for &(list, run, count, from, to) in SHARES_BEHIND {
+        let asked = of_branches(Runs::UnderBehind(list, run), None);
+        expect_branches(&rt, rt.alloc(), &asked, count, from, to);
+    }
+    let asked = of_branches(Runs::UnderBehind(&[TWO], &[ONE]), None);
+    expect_listing(
+        &rt,
+        rt.alloc(),
+        plain_rules(10000),
+        &asked,
+        Err("not a run"),
+    );
+}
+
+const NO_BEGINNINGS: &[&[Marked]] = &[
+    &[ONE, ONE],
+    &[THREE],
+    &[ZERO],
+    &[TWO_OF_3],
+    &[TWO_OF_2, ONE_OF_2],
+    &[TWO, FOUR_OF_4],
+];
+
+#[test]
+fn refuses_what_begins_no_run(rt: HostRuntime) {
+    for &list in NO_BEGINNINGS {
+        let asked = of_branches(Runs::Under(list), None);
+        expect_listing(
+            &rt,
+            rt.alloc(),
+            plain_rules(10000),
+            &asked,
+            Err("no beginning"),
+        );
+    }
+}
+
+// The listing of all products to this writer comes to this.
+fn listed_products<W: Write>(
     alloc: Global,
     program: &Program,
     lines: &[Line],
     out: &mut W,
-) -> Result<Result<u64, ExploreFault>, Fail> {
-    let mut explorer = Explorer::start(alloc, program, lines, plain_rules(10000))?;
-    Ok(write_all_runs(&mut explorer, None, Form::One, out))
+) -> Result<Result<u64, ExploreFault>, &'static str> {
+    let asked = Asked {
+        text: PRODUCTS,
+        input: "",
+        runs: Runs::All,
+        first: None,
+        form: Form::One,
+    };
+    listed_to(alloc, program, lines, plain_rules(10000), &asked, out)
 }
 
-// A listing into a room of so many bytes.
+// A listing into a room of so many bytes, which end in its beginning.
 fn expect_beginning(
     rt: &impl Abort,
     alloc: Global,
     program: &Program,
     lines: &[Line],
     room: &mut [u8],
-) -> Result<(), Fail> {
-    let count = listed_to(alloc, program, lines, &mut Device::new(&mut *room))?;
-    let due = Err(ExploreFault::Write(room.len() as u64 / 24));
-    expect_same(rt, "reports", count, due);
+) {
+    let count = listed_products(alloc, program, lines, &mut Device::new(&mut *room));
+    let due = Ok(Err(ExploreFault::Write(room.len() as u64 / 24)));
     let begins = PRODUCT_REPORTS.as_bytes().starts_with(room);
-    expect_same(rt, "a beginning", (room.len(), begins), (room.len(), true));
-    Ok(())
-}
-
-// What the listing of a share of the branches writes, behind a run of it if one is named. An error says
-// why it isn't begun.
-fn listed_share(
-    alloc: Global,
-    under: &[Marked],
-    after: Option<&[Marked]>,
-    first: Option<u64>,
-) -> Result<Vec<u8>, &'static str> {
-    let mut text = BRANCHES.as_bytes();
-    let Ok(program) = load(alloc, 4096, &mut Device::new(&mut text)) else {
-        return Err("no program");
-    };
-    let lines: [Line; 0] = [];
-    let rules = plain_rules(10000);
-    let mut explorer = match after {
-        None => match Explorer::under(alloc, &program, &lines, rules, under) {
-            Ok(explorer) => explorer,
-            Err(UnderFault::NoBeginning) => return Err("no beginning"),
-            Err(UnderFault::Memory) => return Err("memory"),
-        },
-        Some(list) => match Explorer::after_under(alloc, &program, &lines, rules, under, list) {
-            Ok(explorer) => explorer,
-            Err(AfterFault::NotARun) => return Err("not a run"),
-            Err(AfterFault::Memory) => return Err("memory"),
-        },
-    };
-    let mut bytes = Vec::new(alloc);
-    let mut out = Device::new(&mut bytes);
-    match write_all_runs(&mut explorer, first, Form::Two, &mut out) {
-        Ok(_) => Ok(bytes),
-        Err(_) => Err("not written"),
-    }
-}
-
-// Whether a listing wrote these of the reports with bounds, from one byte up to another.
-fn are_reports(written: Result<Vec<u8>, &'static str>, from: usize, to: usize) -> bool
-    requires { to ≤ 101 }
-{
-    match written {
-        Ok(bytes) => Some(bytes.as_slice()) == BRANCH_REPORTS_WITH_BOUNDS.as_bytes().get(from..to),
-        Err(_) => false,
-    }
-}
-
-#[test]
-fn writes_shares(rt: HostRuntime) {
-    let (none, one): (&[Marked], &[Marked]) = (&[], &[marked(1, None)]);
-    assert!(rt; are_reports(listed_share(rt.alloc(), none, None, None), 0, 101));
-    assert!(rt; are_reports(listed_share(rt.alloc(), one, None, None), 0, 17));
-    for two in [marked(2, None), marked(2, Some(2))] {
-        assert!(rt; are_reports(listed_share(rt.alloc(), &[two], None, None), 17, 101));
-        assert!(rt; are_reports(listed_share(rt.alloc(), &[two], None, Some(1)), 17, 45));
-        let first = [two, marked(1, Some(3))];
-        assert!(rt; are_reports(listed_share(rt.alloc(), &first, None, None), 17, 45));
-        let last = [two, marked(3, None)];
-        assert!(rt; are_reports(listed_share(rt.alloc(), &last, None, None), 73, 101));
-    }
-}
-
-#[test]
-fn goes_on_in_a_share(rt: HostRuntime) {
-    let two = [marked(2, None)];
-    for (answer, from) in [(1, 45), (2, 73), (3, 101)] {
-        let run = [marked(2, Some(2)), marked(answer, None)];
-        assert!(rt; are_reports(listed_share(rt.alloc(), &two, Some(&run), None), from, 101));
-    }
-    let other = [marked(1, None)];
-    let refused = listed_share(rt.alloc(), &two, Some(&other), None);
-    assert_eq!(rt; refused.err(), Some("not a run"));
-    assert!(rt; are_reports(listed_share(rt.alloc(), &other, Some(&other), None), 17, 17));
-}
-
-#[test]
-fn refuses_what_begins_no_run(rt: HostRuntime) {
-    let lists: [&[Marked]; 6] = [
-        &[marked(1, None), marked(1, None)],
-        &[marked(3, None)],
-        &[marked(0, None)],
-        &[marked(2, Some(3))],
-        &[marked(2, Some(2)), marked(1, Some(2))],
-        &[marked(2, None), marked(4, Some(4))],
-    ];
-    for list in lists {
-        let refused = listed_share(rt.alloc(), list, None, None);
-        assert_eq!(rt; refused.err(), Some("no beginning"));
-    }
+    let found = (room.len(), count, begins);
+    expect_same(rt, "a beginning", found, (room.len(), due, true));
 }
 
 #[test]
@@ -449,7 +524,7 @@ fn writes_a_beginning(rt: HostRuntime) -> Result<(), Fail> {
     let (program, lines) = loaded(rt.alloc(), PRODUCTS, "")?;
     for size in 0..96 {
         let mut room = [b'.'; 96];
-        expect_beginning(&rt, rt.alloc(), &program, &lines, &mut room[..size])?;
+        expect_beginning(&rt, rt.alloc(), &program, &lines, &mut room[..size]);
     }
     Ok(())
 }
@@ -495,23 +570,18 @@ fn expect_count(
     rt: &impl Abort,
     name: &str,
     calls: usize,
-    count: Result<u64, ExploreFault>,
+    count: Result<Result<u64, ExploreFault>, &'static str>,
     taken: &[u8],
 ) {
-    let due = if taken.len() == 96 {
-        Ok(4)
-    } else {
-        Err(ExploreFault::Write(taken.len() as u64 / 24))
-    };
-    expect_same(rt, name, (calls, count), (calls, due));
-    let begins = PRODUCT_REPORTS.as_bytes().starts_with(taken);
     // a report of 24 bytes takes five calls
-    expect_same(
-        rt,
-        name,
-        (calls, begins, count.is_err()),
-        (calls, true, calls < 20),
-    );
+    let due = if calls < 20 {
+        Err(ExploreFault::Write(taken.len() as u64 / 24))
+    } else {
+        Ok(4)
+    };
+    let begins = PRODUCT_REPORTS.as_bytes().starts_with(taken);
+    let found = (calls, count, begins, taken.len() == 96);
+    expect_same(rt, name, found, (calls, Ok(due), true, calls == 20));
 }
 
 // The writer fails at its first call, at its second, and so on until none fails.
@@ -522,29 +592,30 @@ fn expect_counts(
     lines: &[Line],
     name: &str,
     failing: Failing,
-) -> Result<(), Fail> {
+) {
     for calls in 0..=20 {
         let mut sink = Sink {
             taken: Vec::new(alloc),
             calls_left: calls,
             failing,
         };
-        let count = listed_to(alloc, program, lines, &mut Device::new(&mut sink))?;
+        let count = listed_products(alloc, program, lines, &mut Device::new(&mut sink));
         expect_count(rt, name, calls, count, &sink.taken);
     }
-    Ok(())
 }
+
+const FAILINGS: &[(&str, Failing)] = &[
+    ("breaks", Failing::Breaks),
+    ("is interrupted", Failing::IsInterrupted),
+    ("takes nothing", Failing::TakesNothing),
+];
 
 // However the writer fails.
 #[test]
 fn counts_reports_of_a_failing_writer(rt: HostRuntime) -> Result<(), Fail> {
     let (program, lines) = loaded(rt.alloc(), PRODUCTS, "")?;
-    for (name, failing) in [
-        ("breaks", Failing::Breaks),
-        ("is interrupted", Failing::IsInterrupted),
-        ("takes nothing", Failing::TakesNothing),
-    ] {
-        expect_counts(&rt, rt.alloc(), &program, &lines, name, failing)?;
+    for &(name, failing) in FAILINGS {
+        expect_counts(&rt, rt.alloc(), &program, &lines, name, failing);
     }
     Ok(())
 }
@@ -583,7 +654,7 @@ fn begun<R: Abort + Print>(rt: &R, explorer: &mut Explorer) -> Result<u64, Fail>
         Err(ExploreFault::Write(_)) => return Err(Fail::from("not written")),
     };
     let front = &BRANCH_REPORTS.as_bytes()[..branch_bytes(count)];
-    assert!(rt; holds(&room, front), "behind {count}");
+    expect_same(rt, "begun", (count, holds(&room, front)), (count, true));
     Ok(count)
 }
 
@@ -592,9 +663,10 @@ fn expect_rest(rt: &impl Abort, explorer: &mut Explorer, first: u64) {
     let mut room = [b'.'; 100];
     let mut out = Device::new(&mut room[..]);
     let second = write_all_runs(explorer, None, Form::One, &mut out);
-    expect_same(rt, "reports", second, Ok(4_u64.saturating_sub(first)));
     let back = &BRANCH_REPORTS.as_bytes()[branch_bytes(first)..];
-    assert!(rt; holds(&room, back), "behind {first}");
+    let found = (first, second, holds(&room, back));
+    let due = Ok(4_u64.saturating_sub(first));
+    expect_same(rt, "the rest", found, (first, due, true));
 }
 
 // Two listings, one behind the other, have all reports.

@@ -80,59 +80,99 @@ fn expect_ending(
     expect_same(rt, "ending", (run.0, run.1.as_slice()), (Ok(ending), shown));
 }
 
-#[test]
-fn endings(rt: HostRuntime) -> Result<(), Fail> {
-    for (answers, ending, shown) in [
-        (&[][..], Ending::NoAnswer, &b""[..]),
-        (&[2], Ending::End, b"     2\n"),
-        (&[2, 9], Ending::End, b"     2\n"),
-        (&[3], Ending::BadAnswer, b""),
-    ] {
-        let run = ended(rt.alloc(), b"10 P.RND(2)", answers, plain_rules(10))?;
-        expect_ending(&rt, run, ending, shown);
+// Answers, how the run with them ends, and what it shows.
+type Endings<'a> = &'a [(&'a [i16], Ending, &'a [u8])];
+
+// How the runs of a program of one statement end.
+fn expect_endings(
+    rt: &impl Abort,
+    alloc: Global,
+    line: &[u8],
+    rules: Rules,
+    endings: Endings<'_>,
+) -> Result<(), Fail>
+    requires { IfSome rules.choose (λ n. pos 1 ≤ℤ n) }
+{
+    for &(answers, ending, shown) in endings {
+        let run = ended(alloc, line, answers, rules)?;
+        expect_ending(rt, run, ending, shown);
     }
     Ok(())
 }
 
+const ENDINGS: Endings<'static> = &[
+    (&[], Ending::NoAnswer, b""),
+    (&[2], Ending::End, b"     2\n"),
+    (&[2, 9], Ending::End, b"     2\n"),
+    (&[3], Ending::BadAnswer, b""),
+];
+
+#[test]
+fn endings(rt: HostRuntime) -> Result<(), Fail> {
+    let line = b"10 P.RND(2)";
+    expect_endings(&rt, rt.alloc(), line, plain_rules(10), ENDINGS)
+}
+
 // A run by a seed has an answer to each question.
+const SEEDED_ENDINGS: &[(u64, &[u8], Ending, &[u8])] = &[
+    (0, b"10 P.RND(2)", Ending::End, b"     2\n"),
+    (7, b"10 P.RND(2)", Ending::End, b"     1\n"),
+    (7, b"10 P.RND(6),RND(6)", Ending::End, b"     3     5\n"),
+    (
+        4294967295,
+        b"10 P.RND(6),RND(6)",
+        Ending::End,
+        b"     4     2\n",
+    ),
+    (7, b"10 P.RND(1);INPUT A", Ending::NoInput, b"     1\nA:"),
+    (7, b"10 A=RND(2);GOTO 10", Ending::Limit, b""),
+    (7, b"10 A=RND(0)", Ending::How, b"HOW?\n10 A=RND(0)?\n"),
+];
+
 #[test]
 fn seeded_endings(rt: HostRuntime) -> Result<(), Fail> {
-    for (seed, line, ending, shown) in [
-        (0, &b"10 P.RND(2)"[..], Ending::End, &b"     2\n"[..]),
-        (7, b"10 P.RND(2)", Ending::End, b"     1\n"),
-        (7, b"10 P.RND(6),RND(6)", Ending::End, b"     3     5\n"),
-        (
-            4294967295,
-            b"10 P.RND(6),RND(6)",
-            Ending::End,
-            b"     4     2\n",
-        ),
-        (7, b"10 P.RND(1);INPUT A", Ending::NoInput, b"     1\nA:"),
-        (7, b"10 A=RND(2);GOTO 10", Ending::Limit, b""),
-        (7, b"10 A=RND(0)", Ending::How, b"HOW?\n10 A=RND(0)?\n"),
-    ] {
+    for &(seed, line, ending, shown) in SEEDED_ENDINGS {
         let run = ended_by_seed(rt.alloc(), line, seed)?;
         expect_ending(&rt, run, ending, shown);
     }
     Ok(())
 }
 
+const ENDINGS_WITHOUT_LINES: Endings<'static> = &[
+    (&[], Ending::NoAnswer, b"A:"),
+    (&[2], Ending::End, b"A:2\n     2\n"),
+    (&[3], Ending::BadAnswer, b"A:"),
+];
+
 // Without a line a run asks for an answer, if it has a bound for that.
 #[test]
 fn endings_without_lines(rt: HostRuntime) -> Result<(), Fail> {
+    let line = b"10 INPUT A;PRINT A";
     let rules = Rules {
         limit: 10,
         choose: Some(2),
     };
-    for (answers, ending, shown) in [
-        (&[][..], Ending::NoAnswer, &b"A:"[..]),
-        (&[2], Ending::End, b"A:2\n     2\n"),
-        (&[3], Ending::BadAnswer, b"A:"),
-    ] {
-        let run = ended(rt.alloc(), b"10 INPUT A;PRINT A", answers, rules)?;
-        expect_ending(&rt, run, ending, shown);
+    expect_endings(&rt, rt.alloc(), line, rules, ENDINGS_WITHOUT_LINES)
+}
+
+// How a run of 40 lines by a seed ends, whose writer has this room.
+fn ended_in(alloc: Global, program: &Program, room: &mut [u8]) -> Result<Ending, RunFault> {
+    let mut input = Device::new(&b""[..]);
+    let mut out = Device::new(room);
+    run_seeded(alloc, program, 7, plain_rules(200), &mut input, &mut out)
+}
+
+// Whether a room has only lines that are shown, and behind them nothing.
+fn begins(room: &[u8]) -> bool {
+    let mut ended = false;
+    for pair in room.as_chunks::<2>().0 {
+        let is_shown = *pair == *b"1\n" && !ended;
+        ended = *pair == [0, 0];
+        if !is_shown && !ended {
+            return false;
+        }
     }
-    Ok(())
+    true
 }
 
 // Passes whichever of its allocations is refused: a beginning is shown then.
@@ -141,25 +181,12 @@ fn refused_seeded_runs(rt: HostRuntime) {
     let Ok(program) = one_line(rt.alloc(), b"10 F.I=1TO40;P.#1,RND(1);N.I") else {
         return;
     };
-    let mut input = Device::new(&b""[..]);
-    let mut shown = [0; 80];
-    let mut out = Device::new(&mut shown[..]);
-    match run_seeded(
-        rt.alloc(),
-        &program,
-        7,
-        plain_rules(200),
-        &mut input,
-        &mut out,
-    ) {
+    let mut room = [0; 80];
+    match ended_in(rt.alloc(), &program, &mut room) {
         Ok(ending) => expect_same(&rt, "ending", ending, Ending::End),
         Err(fault) => expect_same(&rt, "fault", fault, RunFault::Memory),
     }
-    let mut ended = false;
-    for pair in shown.as_chunks::<2>().0 {
-        assert!(rt; *pair == *b"1\n" && !ended || *pair == [0, 0], "{pair:?}");
-        ended = *pair == [0, 0];
-    }
+    expect_same(&rt, "a beginning", begins(&room), true);
 }
 
 // What a run comes to whose input can't be read, and what it shows.

@@ -1,13 +1,13 @@
-// This file has what several of the tests use: rules, programs, and values that must be the same.
+// This file has what several of the tests use: rules, answers, programs, and values that must be the same.
 
 ghost use Rattle.std.specs.Prelude.{◌≡◌, None};
 
+use ptb_explore::Marked;
 use ptb_machine::{Line, Rules, read_lines};
 use ptb_text::{Device, Program, load};
 use std::alloc::Global;
 use std::fmt::Debug;
 use std::process::Abort;
-use std::test::Fail;
 
 // Rules by which a run ends where no line is left.
 pub(crate) fn plain_rules(limit: u32) -> Rules
@@ -19,6 +19,77 @@ pub(crate) fn plain_rules(limit: u32) -> Rules
     }
 }
 
+// Answers, some of them with their bounds, for lists that are constants.
+pub(crate) const ZERO: Marked = Marked {
+    answer: 0,
+    bound: None,
+};
+
+pub(crate) const ONE: Marked = Marked {
+    answer: 1,
+    bound: None,
+};
+
+pub(crate) const ONE_OF_1: Marked = Marked {
+    answer: 1,
+    bound: Some(1),
+};
+
+pub(crate) const ONE_OF_2: Marked = Marked {
+    answer: 1,
+    bound: Some(2),
+};
+
+pub(crate) const ONE_OF_3: Marked = Marked {
+    answer: 1,
+    bound: Some(3),
+};
+
+pub(crate) const ONE_OF_4: Marked = Marked {
+    answer: 1,
+    bound: Some(4),
+};
+
+pub(crate) const ONE_OF_6: Marked = Marked {
+    answer: 1,
+    bound: Some(6),
+};
+
+pub(crate) const TWO: Marked = Marked {
+    answer: 2,
+    bound: None,
+};
+
+pub(crate) const TWO_OF_2: Marked = Marked {
+    answer: 2,
+    bound: Some(2),
+};
+
+pub(crate) const TWO_OF_3: Marked = Marked {
+    answer: 2,
+    bound: Some(3),
+};
+
+pub(crate) const THREE: Marked = Marked {
+    answer: 3,
+    bound: None,
+};
+
+pub(crate) const THREE_OF_3: Marked = Marked {
+    answer: 3,
+    bound: Some(3),
+};
+
+pub(crate) const FOUR_OF_3: Marked = Marked {
+    answer: 4,
+    bound: Some(3),
+};
+
+pub(crate) const FOUR_OF_4: Marked = Marked {
+    answer: 4,
+    bound: Some(4),
+};
+
 // Two values that must be the same; `what` says of what they are.
 pub(crate) fn expect_same<T: Copy + PartialEq + Debug>(
     rt: &impl Abort,
@@ -29,14 +100,18 @@ pub(crate) fn expect_same<T: Copy + PartialEq + Debug>(
     assert_eq!(rt; found, wanted, "{what}");
 }
 
-// The program of a text, and the lines of an input.
-pub(crate) fn loaded(alloc: Global, text: &str, input: &str) -> Result<(Program, Vec<Line>), Fail> {
+// The program of a text, and the lines of an input; or why there are none.
+pub(crate) fn loaded(
+    alloc: Global,
+    text: &str,
+    input: &str,
+) -> Result<(Program, Vec<Line>), &'static str> {
     let (mut text, mut input) = (text.as_bytes(), input.as_bytes());
     let Ok(program) = load(alloc, 4096, &mut Device::new(&mut text)) else {
-        return Err(Fail::from("no program"));
+        return Err("no program");
     };
     let Ok(lines) = read_lines(alloc, &mut Device::new(&mut input)) else {
-        return Err(Fail::from("no input"));
+        return Err("no input");
     };
     Ok((program, lines))
 }

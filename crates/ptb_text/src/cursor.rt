@@ -297,6 +297,3 @@ impl<'a> Cursor<'a> {
         Quoted::Text(&rest[..count])
     }
 }
-
-#[cfg(test)]
-mod tests;

@@ -29,6 +29,3 @@ pub use loading::load;
 pub use program::Program;
 pub use rows::{loading_rows, word_rows};
 pub use word::{Number, Quoted, Table, Word};
-
-#[cfg(test)]
-mod tests;

@@ -1,8 +1,8 @@
 // This file tests the control stack: what FOR, NEXT, GOSUB and RETURN leave open.
 
 use super::*;
-use crate::tests::letter;
-use std::test::Fail;
+use crate::tests::{expect_same, letter};
+use std::process::Abort;
 
 // A loop of this variable.
 fn loop_of(letter: Letter) -> OpenLoop {
@@ -49,97 +49,104 @@ fn newest(stack: &mut Stack) -> Option<u8> {
     }
 }
 
+// What is open, newest first; it is closed.
+fn expect_open(rt: &impl Abort, what: &str, stack: &mut Stack, open: &[u8]) {
+    for &byte in open {
+        expect_same(rt, what, newest(stack), Some(byte));
+    }
+    expect_same(rt, what, newest(stack), None);
+}
+
 // Whether the last change was done, and what is open then, newest first.
+const CHANGES: &[(&str, bool, &[u8])] = &[
+    ("(", true, b"("),
+    ("AB(", true, b"(BA"),
+    (")", false, b""),
+    ("AB)", false, b"BA"),
+    ("A(BC)", true, b"A"),
+    ("A(B(C)", true, b"B(A"),
+    ("a", false, b""),
+    ("ABCa", true, b"A"),
+    ("ABCb", true, b"BA"),
+    ("A(Ba", false, b"B(A"),
+    ("A(BAb", true, b"B(A"),
+    ("ABA", true, b"AB"),
+    ("BAB", true, b"BA"),
+    ("A(A", true, b"A(A"),
+    ("-", true, b""),
+    ("A(-", true, b"A"),
+];
+
 #[test]
-fn changes(rt: HostRuntime) -> Result<(), Fail> {
-    for (script, done, open) in [
-        (&b"("[..], true, &b"("[..]),
-        (b"AB(", true, b"(BA"),
-        (b")", false, b""),
-        (b"AB)", false, b"BA"),
-        (b"A(BC)", true, b"A"),
-        (b"A(B(C)", true, b"B(A"),
-        (b"a", false, b""),
-        (b"ABCa", true, b"A"),
-        (b"ABCb", true, b"BA"),
-        (b"A(Ba", false, b"B(A"),
-        (b"A(BAb", true, b"B(A"),
-        (b"ABA", true, b"AB"),
-        (b"BAB", true, b"BA"),
-        (b"A(A", true, b"A(A"),
-        (b"-", true, b""),
-        (b"A(-", true, b"A"),
-    ] {
+fn changes(rt: HostRuntime) {
+    for &(script, done, open) in CHANGES {
         let mut stack = Stack::new();
         let mut last = true;
-        for &byte in script {
+        for &byte in script.as_bytes() {
             last = change(&mut stack, byte);
         }
-        assert_eq!(rt; last, done, "{script:?}");
-        for &byte in open {
-            assert_eq!(rt; newest(&mut stack), Some(byte), "{script:?}");
-        }
-        assert_eq!(rt; newest(&mut stack), None, "{script:?}");
+        expect_same(&rt, script, last, done);
+        expect_open(&rt, script, &mut stack, open);
     }
-    Ok(())
 }
+
+// What is done where 255 calls are open.
+const LAST_ROOM: &[(u8, bool)] = &[
+    (b'A', true),
+    (b'A', true),
+    (b'B', false),
+    (b'(', false),
+    (b'-', true),
+    (b'(', true),
+    (b'A', false),
+    (b')', true),
+    (b'B', true),
+];
 
 // There is room for 256: loops and calls count alike, and a loop that is opened again counts once.
 #[test]
-fn room(rt: HostRuntime) -> Result<(), Fail> {
+fn room(rt: HostRuntime) {
     let mut stack = Stack::new();
     for _ in 0..255 {
-        assert!(rt; change(&mut stack, b'('));
+        expect_same(&rt, "call", change(&mut stack, b'('), true);
     }
-    for (byte, done) in [
-        (b'A', true),
-        (b'A', true),
-        (b'B', false),
-        (b'(', false),
-        (b'-', true),
-        (b'(', true),
-        (b'A', false),
-        (b')', true),
-        (b'B', true),
-    ] {
-        assert_eq!(rt; change(&mut stack, byte), done);
+    for &(byte, done) in LAST_ROOM {
+        expect_same(&rt, "change", change(&mut stack, byte), done);
     }
-    Ok(())
 }
 
 // A call returns to its place, and a loop is given as it was opened.
 #[test]
-fn places(rt: HostRuntime) -> Result<(), Fail> {
+fn places(rt: HostRuntime) {
     let mut stack = Stack::new();
-    assert!(rt; change(&mut stack, b'('));
-    assert!(rt; change(&mut stack, b'A'));
-    let found = stack
+    let opened = (change(&mut stack, b'('), change(&mut stack, b'A'));
+    expect_same(&rt, "opened", opened, (true, true));
+    let begin = stack
         .close_newer(letter(b'A'))
         .map(|item| (item.back.statement, item.back.at));
-    assert_eq!(rt; found, Some((1, 2)));
     let back = stack.close_call().map(|back| (back.statement, back.at));
-    assert_eq!(rt; back, Some((3, 4)));
-    Ok(())
+    expect_same(&rt, "places", (begin, back), (Some((1, 2)), Some((3, 4))));
 }
 
 // A copy has what was open, whatever is closed or opened later; a stack that takes it over keeps
 // nothing of its own.
 #[test]
-fn copies(rt: HostRuntime) -> Result<(), Fail> {
+fn copies(rt: HostRuntime) {
     let mut stack = Stack::new();
-    assert!(rt; change(&mut stack, b'A'));
-    assert!(rt; change(&mut stack, b'('));
+    let opened = (change(&mut stack, b'A'), change(&mut stack, b'('));
     let mut copy = stack.copy();
-    assert!(rt; change(&mut stack, b'B'));
-    for (byte, done) in [(b'C', true), (b'-', true)] {
-        assert_eq!(rt; change(&mut copy, byte), done);
-    }
+    let changed = (
+        change(&mut stack, b'B'),
+        change(&mut copy, b'C'),
+        change(&mut copy, b'-'),
+    );
+    expect_same(
+        &rt,
+        "done",
+        (opened, changed),
+        ((true, true), (true, true, true)),
+    );
     stack.copy_from(&copy);
-    for byte in [b'(', b'A'] {
-        assert_eq!(rt; newest(&mut copy), Some(byte));
-        assert_eq!(rt; newest(&mut stack), Some(byte));
-    }
-    assert_eq!(rt; newest(&mut copy), None);
-    assert_eq!(rt; newest(&mut stack), None);
-    Ok(())
+    expect_open(&rt, "copy", &mut copy, b"(A");
+    expect_open(&rt, "stack", &mut stack, b"(A");
 }

@@ -1,10 +1,11 @@
 // This file tests screens over writers that take little and fail, and the screen in memory.
 
 use super::*;
+use crate::tests::expect_same;
 use ptb_text::Device;
 use std::io;
 use std::io::ErrorKind;
-use std::test::Fail;
+use std::process::Abort;
 
 // Takes at most five bytes a call, and fails at a call.
 #[derive(Drop)]
@@ -34,39 +35,45 @@ fn put_twice<S: Screen>(screen: &mut S) -> Result<(), ScreenFault> {
     screen.put(b"89")
 }
 
+// How many calls the writer takes, how the bytes are shown, and which it takes.
+const WRITERS: &[(usize, Result<(), ScreenFault>, &[u8])] = &[
+    (0, Err(ScreenFault::Write), b""),
+    (1, Err(ScreenFault::Write), b"12345"),
+    (2, Err(ScreenFault::Write), b"1234567"),
+    (3, Ok(()), b"123456789"),
+];
+
 #[test]
-fn writer_screens(rt: HostRuntime) -> Result<(), Fail> {
-    for (calls_left, want, shown) in [
-        (0, Err(ScreenFault::Write), &b""[..]),
-        (1, Err(ScreenFault::Write), b"12345"),
-        (2, Err(ScreenFault::Write), b"1234567"),
-        (3, Ok(()), b"123456789"),
-    ] {
+fn writer_screens(rt: HostRuntime) {
+    for &(calls_left, want, shown) in WRITERS {
         let mut taken = Vec::new(rt.alloc());
         let mut writer = Device::new(Frail {
             taken: &mut taken,
             calls_left,
         });
-        assert!(rt; put_twice(&mut WriterScreen::new(&mut writer)) == want);
+        let result = put_twice(&mut WriterScreen::new(&mut writer));
         drop(writer);
-        assert_eq!(rt; taken.as_slice(), shown);
+        expect_same(&rt, "writer", (result, taken.as_slice()), (want, shown));
     }
-    Ok(())
+}
+
+// What a screen in memory has shown.
+fn expect_shown(rt: &impl Abort, screen: &TextScreen, shown: &[u8]) {
+    let found = (screen.bytes(), screen.len(), screen.is_empty());
+    expect_same(rt, "shown", found, (shown, shown.len(), shown.is_empty()));
 }
 
 #[test]
-fn text_screens(rt: HostRuntime) -> Result<(), Fail> {
+fn text_screens(rt: HostRuntime) {
     let mut screen = TextScreen::new(rt.alloc());
-    assert!(rt; screen.is_empty());
-    put_twice(&mut screen)?;
-    assert_eq!(rt; screen.bytes(), b"123456789".as_slice());
-    assert_eq!(rt; screen.len(), 9);
+    expect_shown(&rt, &screen, b"");
+    let first = put_twice(&mut screen);
+    expect_shown(&rt, &screen, b"123456789");
     assert!(rt; screen.bytes().len() == 9);
     screen.cut(3);
-    assert_eq!(rt; screen.bytes(), b"123".as_slice());
+    expect_shown(&rt, &screen, b"123");
     let mut again = TextScreen::from_vec(screen.into_vec());
-    put_twice(&mut again)?;
-    assert!(rt; !again.is_empty());
-    assert_eq!(rt; again.into_vec().as_slice(), b"123123456789".as_slice());
-    Ok(())
+    expect_same(&rt, "put", (first, put_twice(&mut again)), (Ok(()), Ok(())));
+    expect_shown(&rt, &again, b"123123456789");
+    expect_same(&rt, "text", again.into_vec().as_slice(), b"123123456789");
 }

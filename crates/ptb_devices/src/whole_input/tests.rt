@@ -2,85 +2,54 @@
 // ends.
 
 use super::*;
+use crate::tests::{Long, expect_same, scripted};
 use ptb_text::Device;
-use std::io;
-use std::io::ErrorKind;
+use std::process::Abort;
 use std::test::Fail;
 
-// Gives some bytes a call, and then the end or a fault.
-#[derive(Drop)]
-struct Script<'a> {
-    bytes: &'a [u8],
-    piece: usize,
-    fails: bool,
-}
-
-impl<'a> io::Read for Script<'a> {
-    fn read(&mut self, buf: &mut [u8]) -> io::Result<usize> {
-        if self.fails && self.bytes.is_empty() {
-            return Err(io::Error::from(ErrorKind::BrokenPipe));
-        }
-        let count = buf.len().min(self.piece);
-        self.bytes.read(&mut buf[..count])
-    }
-}
-
-// Gives the byte 65 so many times.
-#[derive(Drop)]
-struct Long {
-    left: usize,
-    given: usize,
-}
-
-impl io::Read for Long {
-    fn read(&mut self, buf: &mut [u8]) -> io::Result<usize> {
-        let count = buf.len().min(self.left);
-        for byte in &mut buf[..count] {
-            *byte = 65;
-        }
-        self.left -= count;
-        self.given = self.given.saturating_add(count);
-        Ok(count)
-    }
-}
-
-// Each line with a bar after it.
-fn barred(alloc: Global, lines: &[Line]) -> Result<Vec<u8>, AllocError> {
+// The lines of an input that comes in such pieces, each with a bar after it.
+fn barred(alloc: Global, bytes: &[u8], piece: usize) -> Result<Vec<u8>, Fail> {
+    let lines = read_lines(alloc, &mut Device::new(scripted(bytes, piece, false)))?;
     let mut text = Vec::new(alloc);
-    for line in lines {
+    for line in &lines {
         text.extend_from_slice(line.bytes())?;
         text.push(b'|')?;
     }
     Ok(text)
 }
 
+// Each input, and its lines with bars.
+const INPUTS: &[(&[u8], &[u8])] = &[
+    (b"", b""),
+    (b"\n", b"|"),
+    (b"\r", b"|"),
+    (b"\x01", b"|"),
+    (b"5", b"5|"),
+    (b"5\n", b"5|"),
+    (b"5\n\n", b"5||"),
+    (b"5\n\r", b"5||"),
+    (b"5\n\x7f", b"5||"),
+    (b"1\r2\r\n\t3\r", b"12| 3|"),
+    (b"\n)\n5\n7 ", b"|)|5|7 |"),
+];
+
 #[test]
 fn lines_of_an_input(rt: HostRuntime) -> Result<(), Fail> {
-    for (bytes, want) in [
-        (&b""[..], &b""[..]),
-        (b"\n", b"|"),
-        (b"\r", b"|"),
-        (b"\x01", b"|"),
-        (b"5", b"5|"),
-        (b"5\n", b"5|"),
-        (b"5\n\n", b"5||"),
-        (b"5\n\r", b"5||"),
-        (b"5\n\x7f", b"5||"),
-        (b"1\r2\r\n\t3\r", b"12| 3|"),
-        (b"\n)\n5\n7 ", b"|)|5|7 |"),
-    ] {
+    for &(bytes, want) in INPUTS {
         for piece in [1, 2, 3, 4096] {
-            let mut reader = Device::new(Script {
-                bytes,
-                piece,
-                fails: false,
-            });
-            let lines = read_lines(rt.alloc(), &mut reader)?;
-            let text = barred(rt.alloc(), &lines)?;
-            assert_eq!(rt; text.as_slice(), want, "{piece}");
+            let text = barred(rt.alloc(), bytes, piece)?;
+            expect_same(&rt, "lines", text.as_slice(), want);
         }
     }
     Ok(())
+}
+
+// How long three lines are.
+fn expect_lengths(rt: &impl Abort, lines: &[Line], want: [usize; 3]) {
+    expect_same(rt, "lines", lines.len(), 3);
+    for (line, want) in lines.iter().zip(want) {
+        expect_same(rt, "length", line.bytes().len(), want);
+    }
 }
 
 // A line longer than the buffer, and one behind it.
@@ -90,44 +59,38 @@ fn long_lines(rt: HostRuntime) -> Result<(), Fail> {
     bytes[300] = b'\n';
     bytes[4990] = b'\n';
     for piece in [1, 299, 5000] {
-        let mut reader = Device::new(Script {
-            bytes: &bytes,
-            piece,
-            fails: false,
-        });
+        let mut reader = Device::new(scripted(&bytes, piece, false));
         let lines = read_lines(rt.alloc(), &mut reader)?;
-        assert_eq!(rt; lines.len(), 3);
-        for (line, want) in lines.iter().zip([255, 255, 9]) {
-            assert_eq!(rt; line.bytes().len(), want);
-        }
+        expect_lengths(&rt, &lines, [255, 255, 9]);
     }
     Ok(())
 }
 
 #[test]
-fn failing_readers(rt: HostRuntime) -> Result<(), Fail> {
+fn failing_readers(rt: HostRuntime) {
     for bytes in [&b""[..], b"5", b"5\n", b"5\n7"] {
-        let mut reader = Device::new(Script {
-            bytes,
-            piece: 1,
-            fails: true,
-        });
-        assert!(rt; read_lines(rt.alloc(), &mut reader).err() == Some(ReadFault::Read));
+        let mut reader = Device::new(scripted(bytes, 1, true));
+        let fault = read_lines(rt.alloc(), &mut reader).err();
+        expect_same(&rt, "fault", fault, Some(ReadFault::Read));
     }
-    Ok(())
 }
 
+// How long an input is, the fault that it comes to, and how many bytes are taken.
+const LENGTHS: &[(usize, Option<ReadFault>, usize)] = &[
+    (16_777_216, None, 16_777_216),
+    (16_777_217, Some(ReadFault::TooLong), 16_777_217),
+    (usize::MAX, Some(ReadFault::TooLong), 16_777_217),
+];
+
 #[test]
-fn length_of_an_input(rt: HostRuntime) -> Result<(), Fail> {
-    for (left, want, taken) in [
-        (16_777_216, None, 16_777_216),
-        (16_777_217, Some(ReadFault::TooLong), 16_777_217),
-        (usize::MAX, Some(ReadFault::TooLong), 16_777_217),
-    ] {
-        let mut long = Long { left, given: 0 };
-        let lines = read_lines(rt.alloc(), &mut Device::new(&mut long));
-        assert!(rt; lines.err() == want);
-        assert_eq!(rt; long.given, taken);
+fn length_of_an_input(rt: HostRuntime) {
+    for &(left, want, taken) in LENGTHS {
+        let mut long = Long {
+            left,
+            newline_at: usize::MAX,
+            given: 0,
+        };
+        let fault = read_lines(rt.alloc(), &mut Device::new(&mut long)).err();
+        expect_same(&rt, "input", (fault, long.given), (want, taken));
     }
-    Ok(())
 }

@@ -1,5 +1,5 @@
 -- This file answers that a plan that is open ends at a run, whose report is made, and that the copies that are kept are of it.
-use Rattle.std.proofs.Common.{◌≡◌, ℕ, ◌-◌, List, ◌∙◌, ap, sym, subst}
+use Rattle.std.proofs.Common.{rules, ◌≡◌, ℕ, ◌-◌, List, ◌∙◌, ap, sym, subst}
 use Rattle.ptb_text.specs.Statements.{StoredProgram}
 use Rattle.ptb_command.specs.Configuration.{Configuration}
 use Rattle.ptb_devices.specs.Sources.{LineList}
@@ -47,3 +47,9 @@ pub returns-clause-played : goal.returns-clause-played
 returns-clause-played c =
     let first = c.steps-first.ensures ∙ ap (λ (m : Configuration). m.steps) c.deref.ensures ∙ c.in_ok-machine.ensures.steps in
     (c.go_back-machine.new.copies.kept.items, c.in_ok-machine.ensures.back, c.saturating_add.ensures ∙ ap (λ n. more_played c.args.played.now n) (c.from.ensures ∙ c.saturating_sub.ensures ∙ ap (λ n. c.steps-steps.result - n) first))
+
+pub returns-in_err-report-clause-answers : goal.returns-in_err-report-clause-answers
+returns-in_err-report-clause-answers c = search rules
+
+pub returns-in_err-report-clause-bounds : goal.returns-in_err-report-clause-bounds
+returns-in_err-report-clause-bounds c = search rules

@@ -1,5 +1,5 @@
 -- This file answers that the reports that are written are those of the runs that were left, in their order.
-use Rattle.std.proofs.Common.{◌≡◌, ℕ, List, Bool, Option, Some, Result, Ok, Err, true, false, not, eqb, ap, refl, ◌∙◌, subst}
+use Rattle.std.proofs.Common.{rules, ◌≡◌, ℕ, List, Bool, Option, Some, Result, Ok, Err, true, false, not, eqb, ap, refl, ◌∙◌, subst}
 use Rattle.std.specs.Option.{option_eq}
 use Rattle.ptb_explore.specs.declared.fault.NextFault.{NextFault}
 use Rattle.ptb_explore.specs.declared.form.Form.{Form}
@@ -72,3 +72,6 @@ loop-form-preserved g c =
 
 pub returns-in-Err-Write-clause-unfailed : goal.returns-in-Err-Write-clause-unfailed
 returns-in-Err-Write-clause-unfailed g c = λ h. absurd (h _ refl)
+
+pub loop-form-init : goal.loop-form-init
+loop-form-init g c = search rules

@@ -1,5 +1,5 @@
 -- This file answers that a run has as many bounds as answers.
-use Rattle.std.proofs.Common.{◌≡◌, ◌∙◌, ap, sym, length, []}
+use Rattle.std.proofs.Common.{rules, ◌≡◌, ◌∙◌, ap, sym, length, []}
 use Rattle.ptb_expr.specs.Outcome.{bounds}
 use Rattle.ptb_explore.proofs.Bounds.{length-bounds}
 use Rattle.ptb_explore.specs.Exploring.{Reports, play_of}
@@ -12,3 +12,6 @@ write_report-requires g c =
     let their : run.bounds.items ≡ bounds (play_of c.args.explorer.now) run.answers.items = reports.bounds_are in
     ap length c.deref.ensures.value ∙ sym (length-bounds (play_of c.args.explorer.now) [] run.answers.items) ∙ ap length (sym their)
     ∙ ap length (sym c.deref-in-Ok-Some.ensures.value)
+
+pub returns-in-Ok-clause-writes : goal.returns-in-Ok-clause-writes
+returns-in-Ok-clause-writes g c = search rules

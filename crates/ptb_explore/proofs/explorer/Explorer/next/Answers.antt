@@ -24,3 +24,9 @@ returns-in-Ok-true c =
       kept = kept_beginnings e.player e.lines.now e.rules r.answers.items r.transcript.items new.copies.kept.items (c.in-Ok-true.ensures.copies c.in-Ok-true.field-0-test);
     } in
     ((refl, (λ _. tt), subst (λ (x : Exploration). FoundNext x r (record { program = new.player; input = e.lines.now; rules = e.rules; under = e.under.items; front = At r.answers.items; kept = runs; played = new.played })) c.self.view_is found), search rules)
+
+pub invariant_of-self-in-Ok-false : goal.invariant_of-self-in-Ok-false
+invariant_of-self-in-Ok-false c = search rules
+
+pub returns-in-Ok-false : goal.returns-in-Ok-false
+returns-in-Ok-false c = search rules

@@ -1,16 +1,16 @@
 // This file tests loading, entering and listing, over readers and writers that move few bytes or
 // fail.
 
-ghost use Rattle.std.specs.Prelude.{None};
-
-use crate::{
+use crate::shared::expect_same;
+use ptb_text::{
     Device, DeviceFault, LoadFault, Program, Read, Write, WriteFault, list, load, loading_rows,
     word_rows,
 };
 use std::alloc::{AllocError, Global};
 use std::collections::BTreeMap;
+use std::fmt::Display;
 use std::io;
-use std::test::Fail;
+use std::process::Abort;
 
 // Gives bytes in pieces, and fails where they end or at its end gives no more.
 #[derive(Drop)]
@@ -32,23 +32,19 @@ impl io::Read for Pieces<'_> {
     }
 }
 
-// Gives one byte again and again, so many times that it never ends within a test.
+// Gives the byte 65 without end, and counts how often.
 #[derive(Drop)]
 struct Endless {
-    byte: u8,
-    given: u64,
-    most: u64,
+    given: usize,
 }
 
-impl io::Read for Endless {
+impl io::Read for &mut Endless {
     fn read(&mut self, buf: &mut [u8]) -> io::Result<usize> {
-        let left = usize::try_from(self.most.saturating_sub(self.given)).unwrap_or(0);
-        let taken = buf.len().min(left);
-        for b in buf[..taken].iter_mut() {
-            *b = self.byte;
+        for byte in buf.iter_mut() {
+            *byte = b'A';
         }
-        self.given = self.given.saturating_add(taken as u64);
-        Ok(taken)
+        self.given = self.given.saturating_add(buf.len());
+        Ok(buf.len())
     }
 }
 
@@ -85,30 +81,58 @@ impl io::Write for &mut Sink {
     }
 }
 
+fn make_sink(alloc: Global, piece: usize, fails_at: usize) -> Sink {
+    Sink {
+        taken: Vec::new(alloc),
+        piece,
+        calls: 0,
+        fails_at,
+    }
+}
+
 type Refusal = (u32, LoadFault);
 
-// What `--list` would write of a text that is read and written in pieces of this length.
-fn listed(
-    alloc: Global,
-    text: &[u8],
-    piece: usize,
-    memory: u16,
-) -> Result<Result<Vec<u8>, Refusal>, AllocError> {
+// What is written of a program, to a writer that takes pieces of this length.
+fn written(alloc: Global, program: &Program, piece: usize) -> Result<Vec<u8>, AllocError> {
+    let mut sink = make_sink(alloc, piece, 0);
+    match list(program, &mut Device::new(&mut sink)) {
+        Ok(()) => Ok(sink.taken),
+        Err(WriteFault) => Err(AllocError),
+    }
+}
+
+// The program of a text that is read in pieces of this length.
+fn loaded(alloc: Global, text: &[u8], piece: usize, memory: u16) -> Result<Program, Refusal> {
     let mut reader = Device::new(Pieces {
         bytes: text,
         piece,
         fails: false,
     });
-    let program = match load(alloc, memory.clamp(64, 32767), &mut reader) {
-        Ok(program) => program,
+    load(alloc, memory.clamp(64, 32767), &mut reader)
+}
+
+// A text that is read and written in pieces of this length lists so, or is refused so.
+fn expect_listed(
+    rt: &impl Abort,
+    alloc: Global,
+    text: &[u8],
+    piece: usize,
+    memory: u16,
+    wanted: Result<&[u8], Refusal>,
+) -> Result<(), AllocError> {
+    match loaded(alloc, text, piece, memory) {
+        Ok(program) => {
+            let listing = written(alloc, &program, piece)?;
+            let found = (text, piece, Ok(listing.as_slice()));
+            expect_same(rt, "a listing", found, (text, piece, wanted));
+        }
         Err((_, LoadFault::Memory)) => return Err(AllocError),
-        Err(refusal) => return Ok(Err(refusal)),
-    };
-    let mut sink = make_sink(alloc, piece, 0);
-    match list(&program, &mut Device::new(&mut sink)) {
-        Ok(()) => Ok(Ok(sink.taken)),
-        Err(WriteFault) => Err(AllocError),
+        Err(refusal) => {
+            let found = (text, piece, Err(refusal));
+            expect_same(rt, "a refusal", found, (text, piece, wanted));
+        }
     }
+    Ok(())
 }
 
 // Some bytes between two texts.
@@ -170,45 +194,47 @@ const TEXTS: &[(&[u8], u16, Result<&[u8], Refusal>)] = &[
 ];
 
 #[test]
-fn texts_load_and_list(rt: HostRuntime) -> Result<(), Fail> {
-    for &(text, memory, expected) in TEXTS {
+fn texts_load_and_list(rt: HostRuntime) {
+    for &(text, memory, wanted) in TEXTS {
         for piece in [1, 5, 100_000] {
-            let found = listed(rt.alloc(), text, piece, memory)?;
-            let found = found.as_ref().map(|bytes| bytes.as_slice()).map_err(|e| *e);
-            assert_eq!(rt; found, expected, "{text:?} in pieces of {piece}");
+            let done = expect_listed(&rt, rt.alloc(), text, piece, memory, wanted);
+            done.expect(&rt, "memory");
         }
     }
-    Ok(())
 }
 
 // Passes whichever of its allocations is refused: the answer is want of memory, or the listing.
 #[test]
-fn refused_growths_are_answered(rt: HostRuntime) -> Result<(), Fail> {
-    if let Ok(found) = listed(rt.alloc(), b"20 P.2\n10 A=1\n20\n30 P.3\n", 5, 4096) {
-        let found = found.as_ref().map(|bytes| bytes.as_slice()).map_err(|e| *e);
-        assert_eq!(rt; found, Ok(b"10 A=1\n30 P.3\n".as_slice()));
-    }
-    Ok(())
+fn refused_growths_are_answered(rt: HostRuntime) {
+    let text = b"20 P.2\n10 A=1\n20\n30 P.3\n";
+    let listing = b"10 A=1\n30 P.3\n";
+    let _ = expect_listed(&rt, rt.alloc(), text, 5, 4096, Ok(listing));
 }
+
+// Enters a line, and once more where memory was refused: the program stays as it was then.
+fn enter_again(rt: &impl Abort, program: &mut Program, line: &[u8]) {
+    let before = (program.len(), program.size());
+    if program.enter(line) == Err(LoadFault::Memory) {
+        let behind = (program.len(), program.size());
+        let again = program.enter(line);
+        expect_same(rt, "a line", (line, behind, again), (line, before, Ok(())));
+    }
+}
+
+const LINES_FOR_THREE: &[&[u8]] = &[b"20 P.2", b"10 A=1", b"30 P.3", b"20 P.22", b"40 P.", b"10"];
 
 // Passes whichever of its allocations is refused: the program stays as it was, and the line can be
 // entered again.
 #[test]
-fn refused_lines_are_entered_again(rt: HostRuntime) -> Result<(), Fail> {
+fn refused_lines_are_entered_again(rt: HostRuntime) {
     let mut program = Program::new(rt.alloc(), 4096);
-    let lines: [&[u8]; 6] = [b"20 P.2", b"10 A=1", b"30 P.3", b"20 P.22", b"40 P.", b"10"];
-    for line in lines {
-        let (count, size) = (program.len(), program.size());
-        if program.enter(line) == Err(LoadFault::Memory) {
-            assert_eq!(rt; (program.len(), program.size()), (count, size), "{line:?}");
-            assert_eq!(rt; program.enter(line), Ok(()), "{line:?}");
-        }
+    for line in LINES_FOR_THREE {
+        enter_again(&rt, &mut program, line);
     }
-    assert_eq!(rt; (program.len(), program.size()), (3, 4096 - 18));
-    assert!(rt; program.line(10) == None);
-    assert!(rt; program.line(20) == Some(b"P.22".as_slice()));
-    assert!(rt; program.line(40) == Some(b"P.".as_slice()));
-    Ok(())
+    let size = (program.len(), program.size());
+    expect_same(&rt, "size", size, (3, 4096 - 18));
+    let texts = (program.line(10), program.line(20), program.line(40));
+    expect_same(&rt, "texts", texts, (None, Some(b"P.22"), Some(b"P.")));
 }
 
 // Some bytes between two texts, the memory, and the refusal, if the text is refused.
@@ -273,14 +299,25 @@ const LONG_TEXTS: &[(&[u8], u8, usize, &[u8], u16, Option<Refusal>)] = &[
     ),
 ];
 
-#[test]
-fn long_lines(rt: HostRuntime) -> Result<(), Fail> {
-    for &(before, byte, count, behind, memory, refusal) in LONG_TEXTS {
-        let text = around(rt.alloc(), before, byte, count, behind)?;
-        let found = listed(rt.alloc(), text.as_slice(), 4000, memory)?;
-        assert_eq!(rt; found.err(), refusal, "{before:?} and {count}");
+// Why a text is refused, if it isn't listed.
+fn refusal_of(alloc: Global, text: &[u8], memory: u16) -> Result<Option<Refusal>, AllocError> {
+    match loaded(alloc, text, 4000, memory) {
+        Ok(program) => {
+            written(alloc, &program, 4000)?;
+            Ok(None)
+        }
+        Err(refusal) => Ok(Some(refusal)),
     }
-    Ok(())
+}
+
+#[test]
+fn long_lines(rt: HostRuntime) {
+    for &(before, byte, count, behind, memory, refusal) in LONG_TEXTS {
+        let text = around(rt.alloc(), before, byte, count, behind).expect(&rt, "memory");
+        let found = refusal_of(rt.alloc(), &text, memory).expect(&rt, "memory");
+        let wanted = (before, count, refusal);
+        expect_same(&rt, "a refusal", (before, count, found), wanted);
+    }
 }
 
 #[test]
@@ -291,19 +328,15 @@ fn readers_that_fail(rt: HostRuntime) {
         fails: true,
     });
     let refusal = load(rt.alloc(), 4096, &mut broken).err();
-    assert_eq!(rt; refusal, Some((0, LoadFault::Read)));
+    expect_same(&rt, "refusal", refusal, Some((0, LoadFault::Read)));
 }
 
 #[test]
 fn readers_that_never_end(rt: HostRuntime) {
-    let mut endless = Endless {
-        byte: b'A',
-        given: 0,
-        most: u64::MAX,
-    };
+    let mut endless = Endless { given: 0 };
     let refusal = load(rt.alloc(), 4096, &mut Device::new(&mut endless)).err();
-    assert_eq!(rt; refusal, Some((0, LoadFault::TooLong)));
-    assert!(rt; endless.given <= 1_048_577);
+    expect_same(&rt, "refusal", refusal, Some((0, LoadFault::TooLong)));
+    expect_same(&rt, "few are read", endless.given <= 1_048_577, true);
 }
 
 // A program of two lines, which list as 16 bytes.
@@ -314,69 +347,65 @@ fn two_lines(alloc: Global) -> Result<Program, LoadFault> {
     Ok(program)
 }
 
-fn make_sink(alloc: Global, piece: usize, fails_at: usize) -> Sink {
-    Sink {
-        taken: Vec::new(alloc),
-        piece,
-        calls: 0,
-        fails_at,
-    }
-}
-
-#[test]
-fn writers_that_fail(rt: HostRuntime) -> Result<(), Fail> {
-    let program = two_lines(rt.alloc())?;
+// A writer that fails at a call has taken what was written before. The listing takes eight calls.
+fn expect_beginning(rt: &impl Abort, alloc: Global, program: &Program, fails_at: usize) {
     let text = b"10 P.12\n20 P.34\n";
-    for fails_at in 1..10 {
-        let mut sink = make_sink(rt.alloc(), 2, fails_at);
-        let result = list(&program, &mut Device::new(&mut sink));
-        let written = text.len().min(2 * (fails_at - 1));
-        assert_eq!(rt; result.is_ok(), fails_at == 9, "at call {fails_at}");
-        assert_eq!(rt;
-            sink.taken.as_slice(),
-            &text[..written],
-            "at call {fails_at}"
-        );
-    }
-    Ok(())
+    let mut sink = make_sink(alloc, 2, fails_at);
+    let result = list(program, &mut Device::new(&mut sink));
+    let count = text.len().min(fails_at.saturating_sub(1).saturating_mul(2));
+    let found = (fails_at, result.is_ok(), sink.taken.as_slice());
+    let wanted = (fails_at, fails_at == 9, &text[..count]);
+    expect_same(rt, "a listing", found, wanted);
 }
 
 #[test]
-fn writers_that_take_nothing(rt: HostRuntime) -> Result<(), Fail> {
-    let program = two_lines(rt.alloc())?;
+fn writers_that_fail(rt: HostRuntime) {
+    let program = two_lines(rt.alloc()).expect(&rt, "a program");
+    for fails_at in 1..10 {
+        expect_beginning(&rt, rt.alloc(), &program, fails_at);
+    }
+}
+
+#[test]
+fn writers_that_take_nothing(rt: HostRuntime) {
+    let program = two_lines(rt.alloc()).expect(&rt, "a program");
     let mut takes_nothing = make_sink(rt.alloc(), 0, 0);
     let result = list(&program, &mut Device::new(&mut takes_nothing));
-    assert_eq!(rt; result, Err(WriteFault));
-    Ok(())
+    expect_same(&rt, "result", result, Err(WriteFault));
 }
 
 #[test]
 fn writers_take_pieces(rt: HostRuntime) {
     let mut sink = make_sink(rt.alloc(), 3, 3);
     let mut writer = Device::new(&mut sink);
-    assert_eq!(rt; writer.write(b"ABCDE"), Ok(3));
-    assert_eq!(rt; writer.write_all(b"DEFGH"), Err(DeviceFault));
-    assert_eq!(rt; writer.write_all(b"G"), Ok(()));
-    assert_eq!(rt; sink.taken.as_slice(), b"ABCDEFG".as_slice());
+    let first = writer.write(b"ABCDE");
+    let second = writer.write_all(b"DEFGH");
+    let third = writer.write_all(b"G");
+    let wanted = (Ok(3), Err(DeviceFault), Ok(()));
+    expect_same(&rt, "results", (first, second, third), wanted);
+    expect_same(&rt, "bytes", sink.taken.as_slice(), b"ABCDEFG");
 }
 
 #[test]
 fn writers_are_flushed(rt: HostRuntime) {
     let mut sink = make_sink(rt.alloc(), 3, 2);
     let mut writer = Device::new(&mut sink);
-    assert_eq!(rt; writer.write(b"ABC"), Ok(3));
-    assert_eq!(rt; writer.flush(), Err(DeviceFault));
-    assert_eq!(rt; writer.flush(), Ok(()));
-    assert_eq!(rt; sink.taken.as_slice(), b"ABC".as_slice());
+    let first = writer.write(b"ABC");
+    let second = writer.flush();
+    let third = writer.flush();
+    let wanted = (Ok(3), Err(DeviceFault), Ok(()));
+    expect_same(&rt, "results", (first, second, third), wanted);
+    expect_same(&rt, "bytes", sink.taken.as_slice(), b"ABC");
 }
 
 #[test]
 fn readers_give_bytes(rt: HostRuntime) {
     let mut reader = Device::new(&b"HI"[..]);
     let mut buf = [0; 4];
-    assert_eq!(rt; reader.read(&mut buf), Ok(2));
-    assert_eq!(rt; buf, [b'H', b'I', 0, 0]);
-    assert_eq!(rt; reader.read(&mut buf), Ok(0));
+    let first = reader.read(&mut buf);
+    expect_same(&rt, "read", (first, buf), (Ok(2), [b'H', b'I', 0, 0]));
+    let second = reader.read(&mut buf);
+    expect_same(&rt, "read at the end", second, Ok(0));
 }
 
 // Lines, and what is said of each.
@@ -396,15 +425,15 @@ const LINES: &[(&[u8], Result<(), LoadFault>)] = &[
 #[test]
 fn lines_are_entered(rt: HostRuntime) {
     let mut program = Program::new(rt.alloc(), 64);
-    assert!(rt; program.is_empty() && program.first() == None);
-    for &(line, expected) in LINES {
-        assert_eq!(rt; program.enter(line), expected, "{line:?}");
+    let empty = (program.is_empty(), program.first());
+    expect_same(&rt, "without lines", empty, (true, None));
+    for &(line, wanted) in LINES {
+        let found = program.enter(line);
+        expect_same(&rt, "a line", (line, found), (line, wanted));
     }
-    assert!(rt; !program.is_empty());
-    assert_eq!(rt;
-        (program.memory(), program.size(), program.len()),
-        (64, 50, 2)
-    );
+    expect_same(&rt, "is empty", program.is_empty(), false);
+    let sizes = (program.memory(), program.size(), program.len());
+    expect_same(&rt, "sizes", sizes, (64, 50, 2));
 }
 
 // The program of these lines.
@@ -429,8 +458,8 @@ const TEXTS_BY_NUMBER: &[(i16, Option<&[u8]>, Option<usize>)] = &[
 fn lines_are_found_by_number(rt: HostRuntime) {
     let program = entered(rt.alloc());
     for &(number, text, index) in TEXTS_BY_NUMBER {
-        assert!(rt; program.line(number) == text, "line {number}");
-        assert!(rt; program.index_of(number) == index, "index of {number}");
+        let found = (number, program.line(number), program.index_of(number));
+        expect_same(&rt, "a line", found, (number, text, index));
     }
 }
 
@@ -451,12 +480,14 @@ const NUMBERS_BEHIND: &[(i16, Option<i16>)] = &[
 #[test]
 fn lines_are_found_in_order(rt: HostRuntime) {
     let program = entered(rt.alloc());
-    for &(index, expected) in TEXTS_BY_INDEX {
-        assert!(rt; program.get(index) == expected, "at {index}");
+    for &(index, wanted) in TEXTS_BY_INDEX {
+        let found = (index, program.get(index));
+        expect_same(&rt, "at an index", found, (index, wanted));
     }
-    assert!(rt; program.first() == Some(10));
+    expect_same(&rt, "first", program.first(), Some(10));
     for &(number, next) in NUMBERS_BEHIND {
-        assert!(rt; program.after(number) == next, "after {number}");
+        let found = (number, program.after(number));
+        expect_same(&rt, "after a number", found, (number, next));
     }
 }
 
@@ -473,6 +504,18 @@ fn has_texts(program: &Program, texts: &BTreeMap<i16, Vec<u8>>) -> bool {
     index == program.len()
 }
 
+// A text like no other: it begins with its count, and has dots behind it.
+fn stamped(alloc: Global, count: u32, dots: usize) -> Result<Vec<u8>, AllocError> {
+    let stamp = format!(in alloc; "A{count}")?;
+    around(alloc, stamp.as_bytes(), b'.', dots, b"")
+}
+
+// The line that enters a text under a number.
+fn line_of(alloc: Global, number: i16, text: &[u8]) -> Result<Vec<u8>, AllocError> {
+    let number = format!(in alloc; "{number}")?;
+    around(alloc, number.as_bytes(), b' ', 1, text)
+}
+
 // Changes a program and a map alike by a random number: a line is entered or deleted.
 fn change(
     alloc: Global,
@@ -480,36 +523,33 @@ fn change(
     texts: &mut BTreeMap<i16, Vec<u8>>,
     random: u32,
     count: u32,
-) -> Result<Result<(), LoadFault>, Fail> {
+) -> Result<Result<(), LoadFault>, AllocError> {
     let number = ((random >> 16) % 128) as i16 + 128;
-    let mut line = Vec::from_slice(alloc, format!(in alloc; "{number} ")?.as_bytes())?;
-    if random >> 31 == 0 {
-        let stamp = format!(in alloc; "A{count}")?;
-        let dots = (random >> 24) as usize;
-        let text = around(alloc, stamp.as_bytes(), b'.', dots, b"")?;
-        line.extend_from_slice(&text)?;
-        texts.insert(number, text)?;
-    } else {
+    if random >> 31 != 0 {
         drop(texts.remove(&number));
+        let line = line_of(alloc, number, b"")?;
+        return Ok(program.enter(&line));
     }
+    let text = stamped(alloc, count, (random >> 24) as usize)?;
+    let line = line_of(alloc, number, &text)?;
+    texts.insert(number, text)?;
     Ok(program.enter(&line))
 }
 
 // Half of the numbers are in use at most times, so that lines are new, replaced and deleted alike.
 #[test]
-fn entered_lines_are_those_of_a_map(rt: HostRuntime) -> Result<(), Fail> {
+fn entered_lines_are_those_of_a_map(rt: HostRuntime) {
     let alloc = rt.alloc();
     let mut program = Program::new(alloc, 32_767);
     let mut texts = BTreeMap::new(alloc);
     let mut random: u32 = 1;
     for count in 0..2000 {
         random = random.wrapping_mul(1_664_525).wrapping_add(1_013_904_223);
-        let entered = change(alloc, &mut program, &mut texts, random, count)?;
-        assert_eq!(rt; entered, Ok(()), "line {count}");
-        assert!(rt; has_texts(&program, &texts), "after line {count}");
+        let entered = change(alloc, &mut program, &mut texts, random, count);
+        let found = (count, entered, has_texts(&program, &texts));
+        expect_same(&rt, "a line", found, (count, Ok(Ok(())), true));
     }
-    assert!(rt; program.len() > 50);
-    Ok(())
+    expect_same(&rt, "many lines", program.len() > 50, true);
 }
 
 const FAULTS: &[(LoadFault, &str)] = &[
@@ -523,22 +563,22 @@ const FAULTS: &[(LoadFault, &str)] = &[
     (LoadFault::TooLong, "program too long"),
 ];
 
-#[test]
-fn faults_print(rt: HostRuntime) -> Result<(), Fail> {
-    for &(fault, text) in FAULTS {
-        assert_eq!(rt; fault.to_string(rt.alloc())?.as_str(), text);
-    }
-    Ok(())
+fn expect_text(rt: &impl Abort, alloc: Global, fault: &impl Display, text: &str) {
+    let found = fault.to_string(alloc).expect(rt, "memory");
+    expect_same(rt, "text", found.as_str(), text);
 }
 
 #[test]
-fn faults_of_devices_print(rt: HostRuntime) -> Result<(), Fail> {
-    assert_eq!(rt; WriteFault.to_string(rt.alloc())?.as_str(), "cannot write");
-    assert_eq!(rt;
-        DeviceFault.to_string(rt.alloc())?.as_str(),
-        "the device failed"
-    );
-    Ok(())
+fn faults_print(rt: HostRuntime) {
+    for &(fault, text) in FAULTS {
+        expect_text(&rt, rt.alloc(), &fault, text);
+    }
+}
+
+#[test]
+fn faults_of_devices_print(rt: HostRuntime) {
+    expect_text(&rt, rt.alloc(), &WriteFault, "cannot write");
+    expect_text(&rt, rt.alloc(), &DeviceFault, "the device failed");
 }
 
 #[test]
