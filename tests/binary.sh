@@ -311,14 +311,14 @@ else
     count 'shares of a tree' no
 fi
 
-# ---- the start script, with a command rt that builds nothing or a program that says its words
+# ---- the start script and the build, with a kit that proves nothing and makes a program that says its words
 
 # started NAME STATUS OUTPUT ERRORS WORDS..: a start in a copy of the repository's shape; a line for errors fits the pattern
 # ERRORS, or there is none where the pattern is empty
 started() {
     local name=$1 due=$2 output=$3 errors=$4
     shift 4
-    PATH=$folder/bin:$PATH "$folder/copy/ptb" "$@" </dev/null >"$folder/output" 2>"$folder/errors"
+    "$folder/a copy/ptb" "$@" </dev/null >"$folder/output" 2>"$folder/errors"
     status=$?
     if [ "$status" = "$due" ] && [ "$(cat "$folder/output")" = "$output" ] &&
         { if [ -n "$errors" ]; then grep -q "$errors" "$folder/errors"; else [ ! -s "$folder/errors" ]; fi; }; then
@@ -328,30 +328,98 @@ started() {
     fi
 }
 
-mkdir -p "$folder/bin"
-for crate in $(sed -n 's/^\([a-z_]*\):.*/\1/p' "$root/crates.txt"); do mkdir -p "$folder/copy/crates/$crate/src"; done
-cp "$root/ptb" "$root/crates.txt" "$folder/copy/"
-crates=$(sed '/^ptb:/q' "$root/crates.txt" | grep -c '^[a-z]')
-printf '#!/bin/sh\necho "so far: 3 of 9 functions checked"\nsleep 2\nexit 1\n' >"$folder/bin/rt"
-chmod +x "$folder/bin/rt"
-started 'help is no reason to build' 70 '' '^ptb: not built yet: ' --help
-started 'a build tells its crate' 70 '' "^ptb: crate 1 of $crates (ptb_text)\$" --all
-started 'a build that fails names its log' 70 '' '^ptb: not built; what was said of it: /' --all
-log=$(sed -n 's/^ptb: not built; what was said of it: //p' "$folder/errors")
-if grep -q '^so far: 3 of 9 functions checked$' "$log"; then count 'the log is there' yes; else count 'the log is there' no; fi
-rm -f "$log"
-cat >"$folder/bin/rt" <<'END'
-#!/bin/sh
-if [ "$1" = run ]; then
-    mkdir -p out
-    printf '#!/bin/sh\necho "said $*"\n' >out/ptb
-    chmod +x out/ptb
-    sleep 2
+# A kit whose prover notes when it begins and ends a crate, and does what the file behaviour says.
+mkdir -p "$folder/bin" "$folder/kit/bin" "$folder/kit/rlibs"
+printf '#!/bin/sh\necho "%s"\n' "$folder/kit/START-HERE.md" >"$folder/bin/rt"
+cat >"$folder/kit/bin/rattle" <<'END'
+#!/bin/bash
+kit=$(dirname "$(dirname "$(readlink -f "$0")")")
+words=" $* "
+name=${words#* --crate-name }
+name=${name%% *}
+for made; do :; done
+if [ "$1" = check ]; then
+    echo "begins $name" >>"$kit/calls"
+    echo "checked $name::first, 3 of 9"
+    sleep 0.5
+    . "$kit/behaviour"
+    mkdir -p "$made"
+else
+    [ -d out/proved/checked ] || exit 1
+    case $made in *.rlib) mkdir -p "$made" ;; *) : >"$made" ;; esac
+    echo "ends $name" >>"$kit/calls"
 fi
-echo 'logic=proved functions=1'
 END
+cat >"$folder/kit/bin/rattle-link" <<'END'
+#!/bin/sh
+printf '#!/bin/sh\necho "said $*"\n' >out/ptb
+chmod +x out/ptb
+END
+chmod +x "$folder/bin/rt" "$folder/kit/bin/rattle" "$folder/kit/bin/rattle-link"
+
+# A copy of the repository's shape, with spaces in its name, whose sources are older than what is built.
+for crate in $(sed -n 's/^\([a-z_]*\):.*/\1/p' "$root/crates.txt"); do
+    mkdir -p "$folder/a copy/crates/$crate/src"
+    touch -d '1 minute ago' "$folder/a copy/crates/$crate/src/lib.rt"
+done
+cp "$root/ptb" "$root/build" "$root/crates.txt" "$folder/a copy/"
+touch -d '1 minute ago' "$folder/a copy/crates.txt"
+crates=$(sed '/^ptb:/q' "$root/crates.txt" | grep -c '^[a-z]')
+
+# comes_before FIRST SECOND: whether the kit was called for the first before the second
+comes_before() {
+    awk -v first="$1" -v second="$2" '$0 == first { found = 1 } $0 == second { exit !found }' "$folder/kit/calls"
+}
+
+# Whether each crate began behind those that it stands on.
+is_in_order() {
+    local name libraries library
+    while IFS=: read -r name libraries; do
+        for library in $libraries; do
+            if [ -d "$folder/a copy/crates/$library" ] && ! comes_before "ends $library" "begins $name"; then return 1; fi
+        done
+        if [ "$name" = ptb ]; then return 0; fi
+    done < <(grep '^[a-z]' "$root/crates.txt")
+}
+
+PATH=$folder/bin:$PATH
+started 'help is no reason to build' 70 '' '^ptb: not built yet: ' --help
+echo 'exit 1' >"$folder/kit/behaviour"
+started 'a build tells its crate' 70 '' "^ptb: crate 1 of $crates (ptb_text)\$" --all
+log=$(sed -n 's/^ptb: not built; what was said of it: //p' "$folder/errors")
+count_if 'and the log of one that fails' [ -n "$log" ]
+count_if 'the log is there' grep -q '^checked ptb_text::first, 3 of 9$' "$log"
+rm -rf "$(dirname "$log")"
+count_if 'nothing is begun above a crate that is not proved' [ "$(sort -u "$folder/kit/calls")" = 'begins ptb_text' ]
+
+echo 'case $words in *" --jobs 1 "*) ;; *) if [ "$name" = ptb_expr ]; then kill -9 $$; fi ;; esac' >"$folder/kit/behaviour"
+rm "$folder/kit/calls"
 started 'a program that is built is run' 0 'said --all a' "^ptb: crate $crates of $crates (ptb)\$" --all a
-started 'and is not built again' 0 'said --help' '' --help
+count_if 'a prover that was killed is started once more' [ "$(grep -c 'begins ptb_expr' "$folder/kit/calls")" = 2 ]
+count_if 'each crate is begun behind those that it stands on' is_in_order
+count_if 'crates are proved side by side' comes_before 'begins ptb_expr' 'ends ptb_devices'
+count_if 'also where one is much lower' comes_before 'begins ptb_options' 'ends ptb_command'
+
+rm "$folder/kit/calls"
+started 'a program is not built again' 0 'said --help' '' --help
+count_if 'and nothing is proved' [ ! -e "$folder/kit/calls" ]
+touch "$folder/a copy/crates/ptb_explore/src/lib.rt"
+started 'it is built again where a source is newer' 0 'said --all' '^ptb: proving and building' --all
+count_if 'but for what stands below' [ "$(sed -n 's/begins //p' "$folder/kit/calls" | xargs)" = 'ptb_explore ptb_serve ptb' ]
+
+# Whether a build that is interrupted takes its provers with it.
+is_interrupted_whole() {
+    local build
+    touch "$folder/a copy/crates/ptb_text/src/lib.rt"
+    echo 'sleep 31.4159' >"$folder/kit/behaviour"
+    "$folder/a copy/build" </dev/null >/dev/null 2>&1 &
+    build=$!
+    until pgrep -f 'sleep 31.4159' >/dev/null; do sleep 0.1; done
+    kill -TERM "$build"
+    wait "$build"
+    [ $? = 130 ] && ! pgrep -f 'sleep 31.4159' >/dev/null
+}
+count_if 'a build that is interrupted takes its provers with it' is_interrupted_whole
 
 echo "$passed passed, $failed failed"
 [ "$failed" = 0 ]

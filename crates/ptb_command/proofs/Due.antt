@@ -1,5 +1,5 @@
 -- This file proves what is left of bytes that are gathered, and not shown yet, where a part of a command stops.
-use Rattle.std.proofs.Common.{◌≡◌, Bool, true, false, List, [], ◌∷◌, ◌++◌, ℕ, Err, refl, sym, ap, subst, ◌∙◌, append-nil}
+use Rattle.std.proofs.Common.{◌≡◌, Bool, true, false, List, [], ◌∷◌, ◌++◌, ℕ, Result, Err, refl, sym, ap, subst, ◌∙◌, append-nil}
 use Rattle.ptb_expr.specs.Outcome.{Answers, Outcome}
 use Rattle.ptb_command.specs.declared.stop.Stop.{Stop}
 use Rattle.ptb_command.specs.declared.stop.Stop.TheVariants as stops
@@ -7,7 +7,7 @@ use Rattle.ptb_command.specs.State.{State}
 use Rattle.ptb_command.specs.Actions.{Action}
 use Rattle.ptb_command.specs.Devices.{Refusal}
 use Rattle.ptb_command.specs.Traces.{Trace, with_due, still_due, behind, once_shown, RefinesPart}
-use Rattle.ptb_command.specs.Stops.{Stops, RefinesPartTo, still_shows}
+use Rattle.ptb_command.specs.Stops.{Stops, RefinesPartTo, Comes, still_shows}
 
 pub behind_is : (shown due : List ℕ) → behind shown due ≡ shown ++ due
 behind_is shown [] = sym (append-nil shown)
@@ -48,9 +48,5 @@ pub stops_none : {A : Type 0} (refused : Refusal → Type 0) (o n : Trace) (f : 
 stops_none refused o n f e none h =
     subst (λ (due : List ℕ). Stops refused (RefinesPartTo o (with_due due n) f) n.devices e) (none ∙ sym (ap (λ (due : List ℕ). still_due due e) none)) h
 
-pub stops_emptied : {A : Type 0} (refused : Refusal → Type 0) (o n : Trace) (f : Action A) (e : Stop) (due : List ℕ) → due ≡ [] → Stops refused (RefinesPartTo o (with_due [] n) f) n.devices e → Stops refused (RefinesPartTo o (with_due (still_due due e) n) f) n.devices e
-stops_emptied refused o n f e due none h =
-    subst (λ (x : List ℕ). Stops refused (RefinesPartTo o (with_due (still_due x e) n) f) n.devices e) (sym none) h
-
-pub refines_part_emptied : {A : Type 0} {o : Trace} (n : Trace) {f g : Action A} (due : List ℕ) → due ≡ [] → RefinesPart o (with_due [] n) f g → RefinesPart o (with_due due n) f g
-refines_part_emptied {o = o} n {f = f} {g = g} due none h = subst (λ (x : List ℕ). RefinesPart o (with_due x n) f g) (sym none) h
+pub comes_emptied : {A X : Type 0} (refused : Refusal → Type 0) (o n : Trace) (f : Action A) (ok : X → Action A) (due : List ℕ) → due ≡ [] → (r : Result X Stop) → Comes refused o (with_due [] n) f ok r → Comes refused o (with_due due n) f ok r
+comes_emptied refused o n f ok due none r h = subst (λ (x : List ℕ). Comes refused o (with_due x n) f ok r) (sym none) h

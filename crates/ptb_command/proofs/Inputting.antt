@@ -205,7 +205,7 @@ module _ (said : List ℕ) (x : Tree) (prompt : List ℕ) where
   unfolding target_next
   target_then at a b = refines_part_then (said_first a) (refines_part_on prompt_next b)
 
-  pub ask_refines_part : {o m k n : Trace} (at : Target) → RefinesPart o m (show said) (goes_on tt) → RefinesPart m k (target_action x) (goes_on at) → RefinesPart k n (show prompt) (goes_on tt) → RefinesPart o n (ask_for said x prompt) (goes_on at)
+  ask_refines_part : {o m k n : Trace} (at : Target) → RefinesPart o m (show said) (goes_on tt) → RefinesPart m k (target_action x) (goes_on at) → RefinesPart k n (show prompt) (goes_on tt) → RefinesPart o n (ask_for said x prompt) (goes_on at)
   unfolding prompt_next
   ask_refines_part at a b c = refines_part_then (target_then at a b) (refines_part_on (λ u. goes_on at) c)
 
@@ -217,26 +217,20 @@ module _ (said : List ℕ) (x : Tree) (prompt : List ℕ) where
   unfolding target_next
   ask_target_stops refused {m = m} n e a h = stops_after refused n (said_first a) e (stops_first refused m n (target_action x) prompt_next prompt_next_adds e h)
 
-  pub ask_prompt_stops : (refused : Refusal → Type 0) {o m k : Trace} (n : Trace) (at : Target) (e : Stop) → RefinesPart o m (show said) (goes_on tt) → RefinesPart m k (target_action x) (goes_on at) → Stops refused (RefinesPartTo k n (show prompt)) n.devices e → Stops refused (RefinesPartTo o n (ask_for said x prompt)) n.devices e
+  ask_prompt_stops : (refused : Refusal → Type 0) {o m k : Trace} (n : Trace) (at : Target) (e : Stop) → RefinesPart o m (show said) (goes_on tt) → RefinesPart m k (target_action x) (goes_on at) → Stops refused (RefinesPartTo k n (show prompt)) n.devices e → Stops refused (RefinesPartTo o n (ask_for said x prompt)) n.devices e
   unfolding prompt_next
   ask_prompt_stops refused {k = k} n at e a b h =
       stops_after refused n (target_then at a b) e (stops_first refused k n (show prompt) (λ u. goes_on at) (λ u. goes_adds at) e h)
 
-  -- a prompt in two pieces
+  -- a prompt whose text is known before its colon
   module _ (name : List ℕ) (is : prompt ≡ name ++ 58 ∷ []) where
-    pub ask_name_stops : (refused : Refusal → Type 0) {o m k : Trace} (n : Trace) (at : Target) (e : Stop) → RefinesPart o m (show said) (goes_on tt) → RefinesPart m k (target_action x) (goes_on at) → Stops refused (RefinesPartTo k n (show name)) n.devices e → Stops refused (RefinesPartTo o n (ask_for said x prompt)) n.devices e
-    ask_name_stops refused {k = k} n at e a b h =
-        ask_prompt_stops refused n at e a b
-        (subst (λ (s : List ℕ). Stops refused (RefinesPartTo k n (show s)) n.devices e) (sym is) (first_stops name (58 ∷ []) refused k n e h))
+    pub ask_known_stops : (refused : Refusal → Type 0) {o m k : Trace} (n : Trace) (at : Target) (e : Stop) → RefinesPart o m (show said) (goes_on tt) → RefinesPart m k (target_action x) (goes_on at) → Stops refused (RefinesPartTo k n (show (name ++ 58 ∷ []))) n.devices e → Stops refused (RefinesPartTo o n (ask_for said x prompt)) n.devices e
+    ask_known_stops refused {k = k} n at e a b h =
+        ask_prompt_stops refused n at e a b (subst (λ (s : List ℕ). Stops refused (RefinesPartTo k n (show s)) n.devices e) (sym is) h)
 
-    pub ask_colon_stops : (refused : Refusal → Type 0) {o m k l : Trace} (n : Trace) (at : Target) (e : Stop) → RefinesPart o m (show said) (goes_on tt) → RefinesPart m k (target_action x) (goes_on at) → RefinesPart k l (show name) (goes_on tt) → Stops refused (RefinesPartTo l n (show (58 ∷ []))) n.devices e → Stops refused (RefinesPartTo o n (ask_for said x prompt)) n.devices e
-    ask_colon_stops refused {k = k} n at e a b c h =
-        ask_prompt_stops refused n at e a b
-        (subst (λ (s : List ℕ). Stops refused (RefinesPartTo k n (show s)) n.devices e) (sym is) (second_stops name (58 ∷ []) refused n e c h))
-
-    pub ask_all_refines_part : {o m k l n : Trace} (at : Target) → RefinesPart o m (show said) (goes_on tt) → RefinesPart m k (target_action x) (goes_on at) → RefinesPart k l (show name) (goes_on tt) → RefinesPart l n (show (58 ∷ [])) (goes_on tt) → RefinesPart o n (ask_for said x prompt) (goes_on at)
-    ask_all_refines_part {k = k} {n = n} at a b c d =
-        ask_refines_part at a b (subst (λ (s : List ℕ). RefinesPart k n (show s) (goes_on tt)) (sym is) (both_move name (58 ∷ []) c d))
+    pub ask_known_refines_part : {o m k n : Trace} (at : Target) → RefinesPart o m (show said) (goes_on tt) → RefinesPart m k (target_action x) (goes_on at) → RefinesPart k n (show (name ++ 58 ∷ [])) (goes_on tt) → RefinesPart o n (ask_for said x prompt) (goes_on at)
+    ask_known_refines_part {k = k} {n = n} at a b c =
+        ask_refines_part at a b (subst (λ (s : List ℕ). RefinesPart k n (show s) (goes_on tt)) (sym is) c)
 
   -- ---- a line is taken
 
@@ -402,43 +396,75 @@ module _ (said : List ℕ) (x : Tree) (prompt : List ℕ) where
         (leaves_itself (wants at (once_shown m.due S)));
   }
 
-  pub take_given : {o m : Trace} (most : ℕ) (at : Target) (l : List ℕ) (k : List (List ℕ)) → most + 1 ≤ m.devices.most → k ≡ m.devices.given ++ l ∷ [] → RefinesPart o m (ask_for said x prompt) (goes_on at) → RefinesPart o (with_given k (with_most most m)) (item_action said x prompt) (line_next at l)
+  take_given : {o m : Trace} (most : ℕ) (at : Target) (l : List ℕ) (k : List (List ℕ)) → most + 1 ≤ m.devices.most → k ≡ m.devices.given ++ l ∷ [] → RefinesPart o m (ask_for said x prompt) (goes_on at) → RefinesPart o (with_given k (with_most most m)) (item_action said x prompt) (line_next at l)
   take_given {m = m} most at l k fewer e a = refines_part_then (wanted at a) (line_given m most at l k fewer e)
 
   -- ---- once a line is given
 
-  pub line_refines_part : {o m n : Trace} (at : Target) (l : List ℕ) → RefinesPart o m (show l) (goes_on tt) → RefinesPart m n (show newline) (goes_on tt) → RefinesPart o n (line_next at l) (worth at l)
+  -- all that is left to do then
+  abbrev pub line_left : Target → List ℕ → Action (Unit {0})
+  line_left at l = and_then (show (l ++ newline)) (λ u. and_then (line_value l) (store_or_again at (item_action said x prompt)))
+
+  line_refines_part : {o m n : Trace} (at : Target) (l : List ℕ) → RefinesPart o m (show l) (goes_on tt) → RefinesPart m n (show newline) (goes_on tt) → RefinesPart o n (line_next at l) (worth at l)
   unfolding line_next
   line_refines_part at l a b = refines_part_on (λ u. worth at l) (both_move l newline a b)
 
-  pub line_stops : (refused : Refusal → Type 0) (o n : Trace) (at : Target) (l : List ℕ) (e : Stop) → Stops refused (RefinesPartTo o n (show l)) n.devices e → Stops refused (RefinesPartTo o n (line_next at l)) n.devices e
-  unfolding line_next
+  pub line_stops : (refused : Refusal → Type 0) (o n : Trace) (at : Target) (l : List ℕ) (e : Stop) → Stops refused (RefinesPartTo o n (show l)) n.devices e → Stops refused (RefinesPartTo o n (line_left at l)) n.devices e
+  unfolding line_next worth answered
   line_stops refused o n at l e h = stops_first refused o n (show (l ++ newline)) (λ u. worth at l) (λ u. worth_adds at l) e (first_stops l newline refused o n e h)
 
-  pub newline_stops : (refused : Refusal → Type 0) {o m : Trace} (n : Trace) (at : Target) (l : List ℕ) (e : Stop) → RefinesPart o m (show l) (goes_on tt) → Stops refused (RefinesPartTo m n (show newline)) n.devices e → Stops refused (RefinesPartTo o n (line_next at l)) n.devices e
-  unfolding line_next
+  pub newline_stops : (refused : Refusal → Type 0) {o m : Trace} (n : Trace) (at : Target) (l : List ℕ) (e : Stop) → RefinesPart o m (show l) (goes_on tt) → Stops refused (RefinesPartTo m n (show newline)) n.devices e → Stops refused (RefinesPartTo o n (line_left at l)) n.devices e
+  unfolding line_next worth answered
   newline_stops refused {o = o} n at l e a h = stops_first refused o n (show (l ++ newline)) (λ u. worth at l) (λ u. worth_adds at l) e (second_stops l newline refused n e a h)
 
-  pub worth_stops : (refused : Refusal → Type 0) (o n : Trace) (at : Target) (l : List ℕ) (e : Stop) → Stops refused (RefinesPartTo o n (line_value l)) n.devices e → Stops refused (RefinesPartTo o n (worth at l)) n.devices e
+  worth_stops : (refused : Refusal → Type 0) (o n : Trace) (at : Target) (l : List ℕ) (e : Stop) → Stops refused (RefinesPartTo o n (line_value l)) n.devices e → Stops refused (RefinesPartTo o n (worth at l)) n.devices e
   unfolding worth
   worth_stops refused o n at l e h = stops_first refused o n (line_value l) (answered at) (answered_adds at) e h
 
   -- the code has the value v as u
-  pub stored_refines_part : {o m n : Trace} (at : Target) (l : List ℕ) (v u : ℤ) → u ≡ v → RefinesPart o m (line_value l) (goes_on (Ok v)) → RefinesPart m n (store at u) (goes_on tt) → RefinesPart o n (worth at l) (goes_on tt)
+  stored_refines_part : {o m n : Trace} (at : Target) (l : List ℕ) (v u : ℤ) → u ≡ v → RefinesPart o m (line_value l) (goes_on (Ok v)) → RefinesPart m n (store at u) (goes_on tt) → RefinesPart o n (worth at l) (goes_on tt)
   unfolding worth answered
   stored_refines_part {m = m} {n = n} at l v u k a b = refines_part_then (refines_part_on (answered at) a) (subst (λ (z : ℤ). RefinesPart m n (store at z) (goes_on tt)) k b)
 
-  pub again_refines_part : {o m n : Trace} (at : Target) (l : List ℕ) (f : Fault) (bytes : List ℕ) → bytes ≡ word_of f.kind ++ newline → RefinesPart o m (line_value l) (goes_on (Err f)) → RefinesPart m n (show bytes) (goes_on tt) → RefinesPart o n (worth at l) (item_action said x prompt)
+  again_refines_part : {o m n : Trace} (at : Target) (l : List ℕ) (f : Fault) (bytes : List ℕ) → bytes ≡ word_of f.kind ++ newline → RefinesPart o m (line_value l) (goes_on (Err f)) → RefinesPart m n (show bytes) (goes_on tt) → RefinesPart o n (worth at l) (item_action said x prompt)
   unfolding worth answered
   again_refines_part {m = m} {n = n} at l f bytes k a b =
       refines_part_then (refines_part_on (answered at) a) (refines_part_on (λ u. item_action said x prompt) (subst (λ (s : List ℕ). RefinesPart m n (show s) (goes_on tt)) k b))
 
-  pub again_stops : (refused : Refusal → Type 0) {o m : Trace} (n : Trace) (at : Target) (l : List ℕ) (f : Fault) (bytes : List ℕ) → bytes ≡ word_of f.kind ++ newline → (e : Stop) → RefinesPart o m (line_value l) (goes_on (Err f)) → Stops refused (RefinesPartTo m n (show bytes)) n.devices e → Stops refused (RefinesPartTo o n (worth at l)) n.devices e
+  again_stops : (refused : Refusal → Type 0) {o m : Trace} (n : Trace) (at : Target) (l : List ℕ) (f : Fault) (bytes : List ℕ) → bytes ≡ word_of f.kind ++ newline → (e : Stop) → RefinesPart o m (line_value l) (goes_on (Err f)) → Stops refused (RefinesPartTo m n (show bytes)) n.devices e → Stops refused (RefinesPartTo o n (worth at l)) n.devices e
   unfolding worth answered
   again_stops refused {m = m} n at l f bytes k e a h =
       stops_after refused n (refines_part_on (answered at) a) e
       (stops_first refused m n (show (word_of f.kind ++ newline)) (λ u. item_action said x prompt) (λ u. item_action_adds) e
       (subst (λ (s : List ℕ). Stops refused (RefinesPartTo m n (show s)) n.devices e) k h))
+
+  -- ways out, once it is shown
+  pub line_worth_stops : (refused : Refusal → Type 0) {o m k : Trace} (n : Trace) (at : Target) (l : List ℕ) (e : Stop) → RefinesPart o m (show l) (goes_on tt) → RefinesPart m k (show newline) (goes_on tt) → Stops refused (RefinesPartTo k n (line_value l)) n.devices e → Stops refused (RefinesPartTo o n (line_left at l)) n.devices e
+  unfolding line_next worth answered
+  line_worth_stops refused {k = k} n at l e a b h = stops_after refused n (line_refines_part at l a b) e (worth_stops refused k n at l e h)
+
+  pub line_stored : {o m k j n : Trace} (at : Target) (l : List ℕ) (v u : ℤ) (r : Result ℤ Fault) → u ≡ v → r ≡ Ok v → RefinesPart o m (show l) (goes_on tt) → RefinesPart m k (show newline) (goes_on tt) → RefinesPart k j (line_value l) (goes_on r) → RefinesPart j n (store at u) (goes_on tt) → RefinesPart o n (line_left at l) (goes_on tt)
+  unfolding line_next worth answered
+  line_stored {k = k} {j = j} at l v u r same is a b c d =
+      refines_part_then (line_refines_part at l a b)
+      (stored_refines_part at l v u same (subst (λ (x : Result ℤ Fault). RefinesPart k j (line_value l) (goes_on x)) is c) d)
+
+  pub line_again : {o m k j n : Trace} (at : Target) (l : List ℕ) (f : Fault) (bytes : List ℕ) (r : Result ℤ Fault) → bytes ≡ word_of f.kind ++ newline → r ≡ Err f → RefinesPart o m (show l) (goes_on tt) → RefinesPart m k (show newline) (goes_on tt) → RefinesPart k j (line_value l) (goes_on r) → RefinesPart j n (show bytes) (goes_on tt) → RefinesPart o n (line_left at l) (item_action said x prompt)
+  unfolding line_next worth answered
+  line_again {k = k} {j = j} at l f bytes r same is a b c d =
+      refines_part_then (line_refines_part at l a b)
+      (again_refines_part at l f bytes same (subst (λ (x : Result ℤ Fault). RefinesPart k j (line_value l) (goes_on x)) is c) d)
+
+  pub line_again_stops : (refused : Refusal → Type 0) {o m k j : Trace} (n : Trace) (at : Target) (l : List ℕ) (f : Fault) (bytes : List ℕ) (r : Result ℤ Fault) (e : Stop) → bytes ≡ word_of f.kind ++ newline → r ≡ Err f → RefinesPart o m (show l) (goes_on tt) → RefinesPart m k (show newline) (goes_on tt) → RefinesPart k j (line_value l) (goes_on r) → Stops refused (RefinesPartTo j n (show bytes)) n.devices e → Stops refused (RefinesPartTo o n (line_left at l)) n.devices e
+  unfolding line_next worth answered
+  line_again_stops refused {k = k} {j = j} n at l f bytes r e same is a b c h =
+      stops_after refused n (line_refines_part at l a b) e
+      (again_stops refused n at l f bytes same e (subst (λ (x : Result ℤ Fault). RefinesPart k j (line_value l) (goes_on x)) is c) h)
+
+  -- a line is given, to which nothing but lines without a value led
+  pub line_asked : {i o m : Trace} (most : ℕ) (at : Target) (l : List ℕ) (k : List (List ℕ)) → RefinesPart i o (item_action said x prompt) (item_action said x prompt) → RefinesPart o m (ask_for said x prompt) (goes_on at) → most + 1 ≤ m.devices.most → k ≡ m.devices.given ++ l ∷ [] → RefinesPart i (with_given k (with_most most m)) (item_action said x prompt) (line_left at l)
+  unfolding line_next worth answered
+  line_asked most at l k before a fewer e = refines_part_then before (take_given most at l k fewer e a)
 
 -- ---- the part
 
@@ -490,10 +516,6 @@ module _ {C S L : Type 0} (choices : C → Choices) (screen : Ghosts S) (most : 
   pub stops_joined : {A : Type 0} (refused : Refusal → Type 0) (m : Trace) (f : Action A) (e : Stop) → Stops refused (RefinesPartTo m (due_trace choices screen most io ((before ++ xs) ++ ys) cells due) f) (io_devices choices screen most io ((before ++ xs) ++ ys)) e → Stops refused (RefinesPartTo m (due_trace choices screen most io (before ++ (xs ++ ys)) cells due) f) (io_devices choices screen most io (before ++ (xs ++ ys))) e
   stops_joined refused m f e h =
       subst (λ (ks : List (List ℕ)). Stops refused (RefinesPartTo m (due_trace choices screen most io ks cells due) f) (io_devices choices screen most io ks) e) (append_assoc before xs ys) h
-
--- what a line is worth
-pub line_known : {o n : Trace} (l : List ℕ) (r s : Result ℤ Fault) → r ≡ s → RefinesPart o n (line_value l) (goes_on r) → RefinesPart o n (line_value l) (goes_on s)
-line_known {o = o} {n = n} l r s e m = subst (λ (x : Result ℤ Fault). RefinesPart o n (line_value l) (goes_on x)) e m
 
 -- whoever may refuse a line too refuses answers
 pub answers_too : (refused : Pause → ℤ → Type 0) (unread : ReadFault → Type 0) (lines : Option (List (List ℕ))) (r : Refusal) → refused_answers refused r → refused_by refused unread lines r

@@ -1,5 +1,6 @@
 -- This file names the files of lemmas.
 pub mod Ahead
+pub mod Borrows
 pub mod Letting
 pub mod Comings
 pub mod Commas

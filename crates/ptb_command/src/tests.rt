@@ -1,10 +1,10 @@
-// This file tests what each command does, and where a run stands. It has what the tests of the
-// commands share.
+// This file tests what each command does and where a run stands, and has what the tests share.
 
 ghost use Rattle.std.specs.Prelude.{◌≡◌, IsTrue};
 ghost use Rattle.ptb_text.specs.Words.{is_letter};
 
 use super::*;
+use crate::stop::DeviceError;
 use ptb_devices::{Line, Lines, TextScreen};
 use ptb_expr::{Listed, Pause, Store};
 use ptb_text::{Cursor, Letter, LoadFault, Program, Word};
@@ -60,6 +60,9 @@ macro_rules! fault {
 
 pub(crate) use fault;
 
+// A command that was stopped by a write that failed.
+pub(crate) const UNWRITTEN: Result<usize, Stop> = Err(Stop::Broke(DeviceError::Write));
+
 // Two values that must be the same; `what` says of what they are.
 pub(crate) fn expect_same<T: Copy + PartialEq + Debug>(
     rt: &impl Abort,
@@ -76,6 +79,22 @@ fn program(alloc: Global, first: &[u8], second: &[u8]) -> Result<Program, LoadFa
     program.enter(first)?;
     program.enter(second)?;
     Ok(program)
+}
+
+// The program of two lines, or none where it was refused memory.
+fn program_or_refusal(
+    rt: &impl Abort,
+    alloc: Global,
+    first: &[u8],
+    second: &[u8],
+) -> Option<Program> {
+    match program(alloc, first, second) {
+        Ok(program) => Some(program),
+        Err(fault) => {
+            expect_same(rt, "fault", fault, LoadFault::Memory);
+            None
+        }
+    }
 }
 
 // The two numbers of a place.
@@ -235,7 +254,7 @@ fn loops_and_calls(rt: HostRuntime) -> Result<(), Fail> {
 // Passes whichever of its allocations is refused.
 #[test]
 fn first_registers(rt: HostRuntime) -> Result<(), Fail> {
-    let Ok(program) = program(rt.alloc(), b"20 STOP", b"10 A=1") else {
+    let Some(program) = program_or_refusal(&rt, rt.alloc(), b"20 STOP", b"10 A=1") else {
         return Ok(());
     };
     match Registers::new(rt.alloc(), &program) {
@@ -308,7 +327,7 @@ fn expect_four(rt: &impl Abort, alloc: Global, registers: &mut Registers, copy: 
 // Passes whichever of its allocations is refused: the registers hold then what they held.
 #[test]
 fn copied_registers(rt: HostRuntime) {
-    let Ok(program) = program(rt.alloc(), b"10 A=1", b"") else {
+    let Some(program) = program_or_refusal(&rt, rt.alloc(), b"10 A=1", b"") else {
         return;
     };
     let Ok((mut registers, mut copy)) = copied(&rt, rt.alloc(), &program) else {
@@ -323,14 +342,15 @@ fn copied_registers(rt: HostRuntime) {
     expect_four(&rt, rt.alloc(), &mut registers, &copy);
 }
 
-// Each statement of a program of two lines: the place after it, its number and its text.
+// The statements of a program of two lines, and one behind them: the place after it, its number and
+// its text.
 const STATEMENTS: &[(usize, Option<(usize, usize)>, i16, &[u8])] = &[
     (0, Some((1, 0)), 10, b"A=1"),
     (1, None, 20, b"B=1"),
     (2, None, 0, b""),
 ];
 
-// Where each of its lines begins.
+// Where the line of a number begins, if there is one.
 const BEGINNINGS: &[(i16, Option<(usize, usize)>)] = &[
     (10, Some((0, 0))),
     (20, Some((1, 0))),
@@ -443,7 +463,8 @@ fn freshness(rt: HostRuntime) {
     }
 }
 
-// Where a loop up to 1 goes from its end, and A then: it has a turn, is over, and then there is none.
+// Where a loop up to 1 goes from its end, and A then: it has a turn, is over, and then there is
+// none.
 const TURNS: &[(Option<(usize, usize)>, i16)] = &[(Some((1, 2)), 1), (Some((0, 6)), 2), (None, 2)];
 
 #[test]

@@ -6,7 +6,7 @@ use Rattle.std.specs.List.{AllByRecursion}
 use Rattle.std.proofs.lemmas.List.{take-append-le, length-take-le}
 use Rattle.std.proofs.lemmas.Int.{ints}
 use Rattle.std.proofs.Math.Seq.{take-length}
-use Rattle.ptb_machine.specs.declared.rules.Rules.{Rules}
+use Rattle.ptb_expr.specs.declared.rules.Rules.{Rules}
 use Rattle.ptb_text.specs.Statements.{StoredProgram}
 use Rattle.ptb_expr.specs.Outcome.{Answers, Outcome, bound_of, bounds, bounds_after}
 use Rattle.ptb_command.specs.Configuration.{Configuration}

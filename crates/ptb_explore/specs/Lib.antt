@@ -4,7 +4,6 @@ pub mod Plans
 pub mod Recording
 pub mod Playing
 pub mod Copies
-pub mod AnswerText
 pub mod MarkedRuns
 pub mod Report
 pub mod Listing

@@ -5,8 +5,8 @@
 use Rattle.std.specs.Prelude.{◌≡◌, List, [], ◌∷◌, Bool, true, false, ◌&&◌, Option, Some, None, ℤ}
 use Rattle.std.specs.Ordering.{int_eq}
 use Rattle.ptb_expr.specs.Outcome.{Answers, Outcome, bounds, is_open}
-use Rattle.ptb_explore.specs.declared.form.Marked.{Marked}
-use Rattle.ptb_explore.specs.AnswerText.{answers_of}
+use Rattle.ptb_expr.specs.declared.form.Marked.{Marked}
+use Rattle.ptb_expr.specs.AnswerText.{answers_of}
 use Rattle.ptb_explore.specs.RunTree.{IsRun}
 
 -- where none is stated, any is right

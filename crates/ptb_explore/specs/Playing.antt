@@ -13,7 +13,7 @@ use Rattle.ptb_command.specs.declared.ending.Ending.TheVariants as endings
 use Rattle.ptb_command.specs.State.{State}
 use Rattle.ptb_command.specs.Configuration.{Configuration}
 use Rattle.ptb_command.specs.Representation.{Represents}
-use Rattle.ptb_machine.specs.declared.rules.Rules.{Rules}
+use Rattle.ptb_expr.specs.declared.rules.Rules.{Rules}
 use Rattle.ptb_machine.specs.Play.{Finish, turns, play}
 
 module _ {A W : Type 0} (play : Answers → Outcome A W) where

@@ -10,9 +10,9 @@ use Rattle.ptb_expr.specs.Outcome.{Answers, Outcome, Done, Asks, Out, bounds}
 use Rattle.ptb_command.specs.declared.ending.Ending.{Ending}
 use Rattle.ptb_command.specs.declared.ending.Ending.TheVariants as endings
 use Rattle.ptb_machine.specs.Play.{Finish}
-use Rattle.ptb_explore.specs.declared.form.Form.{Form}
-use Rattle.ptb_explore.specs.declared.form.Marked.{Marked}
-use Rattle.ptb_explore.specs.AnswerText.{spelling, items_in}
+use Rattle.ptb_expr.specs.declared.form.Form.{Form}
+use Rattle.ptb_expr.specs.declared.form.Marked.{Marked}
+use Rattle.ptb_expr.specs.AnswerText.{spelling, items_in}
 
 -- ---- text
 

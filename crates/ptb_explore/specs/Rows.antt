@@ -3,7 +3,7 @@ use Rattle.std.specs.Prelude.{◌≡◌, ℕ, [], ◌∷◌, ◌++◌, codes, fa
 use Rattle.ptb_expr.specs.Outcome.{Answers, is_whole, bounds}
 use Rattle.ptb_expr.specs.Rows.{worth}
 use Rattle.ptb_explore.specs.RunTree.{At, End, is_before, tree, runs_left}
-use Rattle.ptb_explore.specs.AnswerText.{answers_of, marked, spelling, unmarked}
+use Rattle.ptb_expr.specs.AnswerText.{answers_of, marked, spelling, unmarked}
 use Rattle.ptb_explore.specs.MarkedRuns.{states_bounds}
 use Rattle.ptb_explore.specs.Report.{report_text}
 

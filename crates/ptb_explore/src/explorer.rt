@@ -5,7 +5,7 @@ ghost use Rattle.std.specs.Prelude.{IfOk, OnOk, OnErr, IfSome, IfNone, IsErrOf, 
 ghost use Rattle.ptb_expr.specs.Outcome.{Answers, is_open, bounds as bounds_of};
 ghost use Rattle.ptb_machine.specs.Play.{play};
 ghost use Rattle.ptb_machine.specs.Questions.{most_answers};
-ghost use Rattle.ptb_explore.specs.AnswerText.{answers_of};
+ghost use Rattle.ptb_expr.specs.AnswerText.{answers_of};
 ghost use Rattle.ptb_explore.specs.Copies.{Agrees, AreBeginnings, AreCopies, PlaysOn, WentBack};
 ghost use Rattle.ptb_explore.specs.Copies.{kept_runs, last_steps};
 ghost use Rattle.ptb_explore.specs.Exploring.{play_of, most_of, finish_of, Reports, NextReports};
@@ -19,11 +19,12 @@ ghost use Rattle.ptb_explore.specs.RunTree.{Start, At, End, IsRun, IsNextRun, Is
 
 use crate::copies::Copies;
 use crate::fault::{AfterFault, UnderFault};
-use crate::form::{Marked, answers_of, begins_with, states_bounds};
+use crate::form::{answers_of, begins_with, states_bounds};
 use crate::plan::{Position, plan_next};
-use crate::playing::play_on;
+use crate::playing::{play_from_start, play_on};
 use crate::recorder::Recorder;
 use crate::report::Report;
+use ptb_expr::Marked;
 use ptb_machine::{Line, Lines, Machine, Player, Rules, TextScreen, run_laws};
 use ptb_text::Program;
 use std::alloc::{AllocError, Global};
@@ -214,19 +215,8 @@ fn check_run(
 {
     run_laws();
     let planned = trial.answers.len();
-    let mut machine = player.machine(alloc)?;
-    let mut source = Lines::new(lines);
-    play_on(
-        alloc,
-        player,
-        rules,
-        &mut machine,
-        trial,
-        screen,
-        &mut source,
-        copies,
-    )?;
-    *played = u64::from(machine.steps());
+    let steps = play_from_start(alloc, player, lines, rules, trial, screen, copies)?;
+    *played = u64::from(steps);
     // An answer outside its bound isn't taken, so fewer are taken than planned where there is one.
     if trial.bounds.len() == planned && trial.answers.len() == planned {
         Ok(())
@@ -261,22 +251,11 @@ fn check_beginning(
 {
     run_laws();
     let planned = trial.answers.len();
-    let mut machine = player.machine(alloc)?;
     let mut screen = TextScreen::new(alloc);
-    let mut source = Lines::new(lines);
     let mut copies = Copies::new();
-    play_on(
-        alloc,
-        player,
-        rules,
-        &mut machine,
-        trial,
-        &mut screen,
-        &mut source,
-        &mut copies,
-    )?;
+    let steps = play_from_start(alloc, player, lines, rules, trial, &mut screen, &mut copies)?;
     if trial.bounds.len() >= planned {
-        Ok(u64::from(machine.steps()))
+        Ok(u64::from(steps))
     } else {
         Err(UnderFault::NoBeginning)
     }

@@ -1,45 +1,26 @@
-// This file says how the answers of a run are written: alone, or each with its bound.
+// This file compares lists of answers, which may have bounds, with a run, and writes an answer as a form has it.
 
 ghost use Rattle.std.specs.Prelude.{◌≡◌, ◌≤◌, length, IfOk};
-ghost use Rattle.ptb_explore.specs.AnswerText.{answers_of, in_form};
+ghost use Rattle.ptb_expr.specs.AnswerText.{answers_of, in_form};
 ghost use Rattle.ptb_explore.specs.MarkedRuns.{states_bounds};
 ghost use Rattle.ptb_explore.specs.RunTree.{begins_with};
 
+use ptb_expr::{Form, Marked};
 use std::alloc::{AllocError, Global};
 
-/// How a report has the answers of its run.
-#[derive(Clone, Copy, Debug, PartialEq, Eq)]
-pub enum Form {
-    /// The answers alone, as `2,1`.
-    One,
-    /// Each answer followed by its bound, as `2/2,1/3`.
-    Two,
-}
-
-/// An answer, and the bound that is stated of its question, if one is.
-#[derive(Clone, Copy, Debug, PartialEq, Eq)]
-pub struct Marked {
-    /// The answer.
-    pub answer: i16,
-    /// The greatest answer that its question allows, where that is stated.
-    pub bound: Option<i16>,
-}
-
-impl Form {
-    /// An answer as this form has it.
-    pub(crate) fn item(self, answer: i16, bound: i16) -> Marked
-        ensures { result ≡ in_form self answer bound }
-    {
-        match self {
-            Form::One => Marked {
-                answer,
-                bound: None,
-            },
-            Form::Two => Marked {
-                answer,
-                bound: Some(bound),
-            },
-        }
+/// An answer as a form has it.
+pub(crate) fn item(form: Form, answer: i16, bound: i16) -> Marked
+    ensures { result ≡ in_form form answer bound }
+{
+    match form {
+        Form::One => Marked {
+            answer,
+            bound: None,
+        },
+        Form::Two => Marked {
+            answer,
+            bound: Some(bound),
+        },
     }
 }
 

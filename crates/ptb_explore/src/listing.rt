@@ -9,8 +9,8 @@ ghost use Rattle.ptb_explore.specs.RunTree.{runs_left};
 
 use crate::explorer::Explorer;
 use crate::fault::{ExploreFault, NextFault};
-use crate::form::Form;
 use crate::report::{word, write_report};
+use ptb_expr::Form;
 use ptb_machine::run_laws;
 use ptb_text::Write;
 

@@ -1,14 +1,15 @@
 // This file plays a program with the answers of a plan.
 
-ghost use Rattle.std.specs.Prelude.{◌≡◌, ◌≤◌, ◌≤ℤ◌, pos, false, length, drop, IfOk, IfSome, OnOk};
+ghost use Rattle.std.specs.Prelude.{◌≡◌, ◌≤◌, ◌≤ℤ◌, pos, false, [], length, drop, IfOk, IfSome, OnOk};
 ghost use Rattle.ptb_machine.specs.Play.{play};
 ghost use Rattle.ptb_explore.specs.Copies.{AreCopies};
+ghost use Rattle.ptb_explore.specs.Plans.{IsFresh};
 ghost use Rattle.ptb_explore.specs.Playing.{PlayEnds, IsRunPrefix};
 ghost use Rattle.ptb_explore.specs.Recording.{choices_of};
 
 use crate::copies::Copies;
 use crate::recorder::Recorder;
-use ptb_machine::{Ending, Lines, Machine, Player, Rules, RunFault, TextScreen, run_laws};
+use ptb_machine::{Ending, Line, Lines, Machine, Player, Rules, RunFault, TextScreen, run_laws};
 use std::alloc::{AllocError, Global};
 
 /// Plays a run of the player's program on from where it stands: with the answers of the plan, and 1
@@ -61,4 +62,45 @@ pub(crate) fn play_on(
         let lines = source.taken();
         copies.keep(alloc, machine, before, taken, shown, lines);
     }
+}
+
+/// Plays a run of the player's program from its beginning, as [`play_on`] goes on with it, and gives
+/// the number of its steps.
+///
+/// # Errors
+///
+/// Where a growth was refused memory, but for that of a copy.
+pub(crate) fn play_from_start(
+    alloc: Global,
+    player: &mut Player,
+    lines: &[Line],
+    rules: Rules,
+    trial: &mut Recorder,
+    screen: &mut TextScreen,
+    copies: &mut Copies,
+) -> Result<u32, AllocError>
+    requires choose { IfSome rules.choose (λ n. pos 1 ≤ℤ n) }
+    requires fresh { IsFresh trial.old }
+    requires shown { screen.old ≡ [] }
+    requires none { copies.old.kept.items ≡ [] }
+    ensures program { player.new ≡ player.old }
+    ensures plan { OnOk result ((choices_of trial.new).plan ≡ trial.old.answers.items) }
+    ensures ends { IfOk result (λ steps. (ending : Ending)
+        × PlayEnds (play player.old lines.now rules) (choices_of trial.new) steps screen.new ending) }
+    ensures copies { OnOk result (AreCopies player.old lines.now rules
+        (choices_of trial.new).taken screen.new copies.new.kept.items) }
+{
+    let mut machine = player.machine(alloc)?;
+    let mut source = Lines::new(lines);
+    play_on(
+        alloc,
+        player,
+        rules,
+        &mut machine,
+        trial,
+        screen,
+        &mut source,
+        copies,
+    )?;
+    Ok(machine.steps())
 }

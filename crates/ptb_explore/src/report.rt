@@ -4,12 +4,13 @@ ghost use Rattle.std.specs.Prelude.{◌≡◌, ◌==◌, [], ◌++◌, length, O
 ghost use Rattle.std.specs.Io.KnownBytes.{Appends};
 ghost use Rattle.std.specs.List.{flat_map};
 ghost use Rattle.ptb_text.specs.Device.{TakesSome, HasFailed};
-ghost use Rattle.ptb_explore.specs.AnswerText.{item_text, items_in, spelling};
+ghost use Rattle.ptb_expr.specs.AnswerText.{item_text, items_in, spelling};
 ghost use Rattle.ptb_explore.specs.Report.{report_text, word_of, Gathers};
 
-use crate::form::{Form, Marked};
+use crate::form::item;
 use arrayvec::ArrayVec;
 use itoa::Buffer;
+use ptb_expr::{Form, Marked};
 use ptb_machine::Ending;
 use ptb_text::{DeviceFault, Write};
 use std::alloc::Global;
@@ -156,7 +157,12 @@ fn put_answers<W: Write>(
         return put(out, pending, b"none");
     }
     for k in 0..answers.len() {
-        put_item(out, pending, separator(k), form.item(answers[k], bounds[k]))?;
+        put_item(
+            out,
+            pending,
+            separator(k),
+            item(form, answers[k], bounds[k]),
+        )?;
     }
     Ok(())
 }

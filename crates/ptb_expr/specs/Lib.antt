@@ -2,6 +2,7 @@
 pub mod Outcome
 pub mod Choices
 pub mod Seeds
+pub mod AnswerText
 pub mod Store
 pub mod Tree
 pub mod Value

@@ -6,7 +6,8 @@
 //! what `specs/Value` makes of the tree that `specs/Spells` reads at the cursor, be it a value, a
 //! fault with its mark or a question; on the laws of `Chooser`; on `Seeded`, whose answers are those
 //! of `specs/Seeds`; and on `Code` and `Codes`, expressions without RND that are read once and worked
-//! out often.
+//! out often. It also has what the command line and the machine share: the `Rules` of a run, and
+//! how lists of answers are written (`Form`, `Marked` and `specs/AnswerText`).
 #![tactic(auto)]
 
 mod chooser;
@@ -14,10 +15,12 @@ mod code;
 mod codes;
 mod eval;
 mod fault;
+mod form;
 mod laws;
 mod operator;
 mod pause;
 mod rows;
+mod rules;
 mod seeded;
 mod store;
 
@@ -26,9 +29,11 @@ pub use code::Code;
 pub use codes::Codes;
 pub use eval::{answer_to, evaluate, target};
 pub use fault::{Fault, FaultKind, Stop};
+pub use form::{Form, Marked};
 pub use laws::{mark_laws, spelling_laws, value_laws};
 pub use operator::Operator;
 pub use pause::Pause;
 pub use rows::value_rows;
+pub use rules::Rules;
 pub use seeded::Seeded;
 pub use store::{Store, Target};

@@ -1,4 +1,4 @@
-// This file tests worked rows of expressions: from place 0, with all values 0 and SIZE 4.
+// This file tests expressions, variables, the store, the choosers and codes, by worked rows.
 
 ghost use Rattle.std.specs.Prelude.{◌≡◌, ◌≤◌, ◌≤ℤ◌, length, pos, take, Some, IsTrue};
 ghost use Rattle.ptb_text.specs.Words.{is_letter};
@@ -45,7 +45,7 @@ fn worth(store: &Store, text: &[u8], answers: &[i16]) -> (Worked, usize) {
     (result, list.left())
 }
 
-// A text that is worth this with these answers, of which some are left.
+// A text that is worth this with these answers, of which so many are left.
 fn expect_worth(
     rt: &impl Abort,
     store: &Store,
@@ -433,7 +433,7 @@ const SEEDED: &[(&str, u32)] = &[
     ("R.(20000)", 20000),
 ];
 
-// The answers of a seed are those of its generator, the first of them also later.
+// The answers of a seed are those of its generator; they are kept with their bounds.
 fn expect_seeded(rt: &impl Abort, alloc: Global, store: &Store, seed: u64) {
     let mut seeded = Seeded::new(alloc, seed);
     let mut generator = Lcg64Xsh32::new(seed, 1);

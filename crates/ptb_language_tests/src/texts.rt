@@ -1,5 +1,4 @@
-// This file tests loading, entering and listing, over readers and writers that move few bytes or
-// fail.
+// This file tests loading, entering and listing, also over devices that fail.
 
 use crate::shared::expect_same;
 use ptb_text::{
@@ -221,6 +220,7 @@ fn enter_again(rt: &impl Abort, program: &mut Program, line: &[u8]) {
     }
 }
 
+// Lines behind which three statements stand.
 const LINES_FOR_THREE: &[&[u8]] = &[b"20 P.2", b"10 A=1", b"30 P.3", b"20 P.22", b"40 P.", b"10"];
 
 // Passes whichever of its allocations is refused: the program stays as it was, and the line can be

@@ -12,7 +12,7 @@ use Rattle.ptb_command.specs.Commands.{Command}
 use Rattle.ptb_command.specs.State.{Place, State, first_state, text_of, next_command}
 use Rattle.ptb_command.specs.Actions.{Faults, Ends, Progress, Goes, Halts}
 use Rattle.ptb_command.specs.Act.{finish, end_of, letter_of, first_width, command_action, StepResult, Next, Over, step_result_of, with_step, act, parts_action}
-use Rattle.ptb_machine.specs.declared.rules.Rules.{Rules}
+use Rattle.ptb_expr.specs.declared.rules.Rules.{Rules}
 use Rattle.ptb_machine.specs.Questions.{command_questions, line_questions, most_answers, answers_left}
 use Rattle.ptb_machine.specs.Play.{Last, act_unless, turn_by, turn, after_turn, turns_within, all_turns, finish_of, turns, play}
 use Rattle.ptb_command.specs.Effects.{act_state, CommandChange}

@@ -23,7 +23,7 @@ use Rattle.ptb_command.specs.Effects.{act_state, Begins, TakesLines}
 use Rattle.ptb_command.specs.Devices.{ScreenState, Devices, with_screen, Shows, Exchange, no_exchange, both_exchanges, Exchanges, MayFollow, Refusal}
 use Rattle.ptb_command.specs.Traces.{Leaves}
 use Rattle.ptb_command.specs.Stops.{LacksLine, Waits, IsDry, Breaks}
-use Rattle.ptb_machine.specs.declared.rules.Rules.{Rules}
+use Rattle.ptb_expr.specs.declared.rules.Rules.{Rules}
 use Rattle.ptb_command.specs.Configuration.{Configuration}
 use Rattle.ptb_command.specs.Representation.{Represents}
 use Rattle.ptb_machine.specs.Steps.{StepsTo, goes, ends, StepComes, Steps}

@@ -17,7 +17,7 @@ use Rattle.ptb_machine.specs.declared.fault.RunFault.{RunFault}
 use Rattle.ptb_machine.specs.declared.fault.RunFault.TheVariants as faults
 use Rattle.ptb_command.specs.declared.stop.DeviceError.{DeviceError}
 use Rattle.ptb_command.specs.declared.stop.DeviceError.TheVariants as errors
-use Rattle.ptb_machine.specs.declared.rules.Rules.{Rules}
+use Rattle.ptb_expr.specs.declared.rules.Rules.{Rules}
 use Rattle.ptb_machine.specs.Play.{Finish, play, unasked_lines}
 use Rattle.ptb_command.specs.Effects.{Begins}
 use Rattle.ptb_command.specs.Devices.{Devices, with_failures, Exchange, Exchanges, MayFollow, Refusal, Unanswered, NoLine, HasBroken}

@@ -13,7 +13,6 @@ mod laws;
 mod machine;
 mod report;
 mod rows;
-mod rules;
 mod running;
 mod stop_result;
 
@@ -26,10 +25,10 @@ pub use ptb_devices::{
     INPUT_LIMIT, Line, LineSource, Lines, ReadFault, ReaderLines, Screen, ScreenFault, TextScreen,
     WriterScreen, read_lines,
 };
+pub use ptb_expr::Rules;
 pub use rows::{
     answer_rows, array_rows, fault_rows, input_rows, long_rows, loop_rows, print_rows, step_rows,
 };
-pub use rules::Rules;
 pub use running::run;
 
 #[cfg(test)]

@@ -400,20 +400,16 @@ fn expect_taken_over(
     Ok(())
 }
 
-// A machine and its copy do so, where there is memory for them.
+// A machine and its copy do so.
 fn expect_copies(rt: &impl Abort, alloc: Global, program: &Program) -> Result<(), Fail> {
-    let Ok(mut machine) = Machine::new(alloc, program) else {
-        return Ok(());
-    };
-    let Ok(mut copy) = machine.copy(alloc) else {
-        return Ok(());
-    };
+    let mut machine = Machine::new(alloc, program)?;
+    let mut copy = machine.copy(alloc)?;
     let mut screen = TextScreen::new(alloc);
     expect_taken_over(rt, alloc, program, &mut machine, &mut copy, &mut screen)
 }
 
-// A copy goes on by itself, also from where it was taken over; one of a machine that is over is over.
-// Passes whichever of its allocations is refused but the program's.
+// A copy goes on by itself, also from where it was taken over; one of a machine that is over is
+// over.
 #[test]
 fn copies(rt: HostRuntime) -> Result<(), Fail> {
     let program = loaded(rt.alloc(), b"10 A=A+1,B=SIZE\n20 P.A")?;
@@ -572,7 +568,8 @@ fn expect_end(
     expect_run(rt, alloc, program, steps, &[], want);
     let mut screen = TextScreen::new(alloc);
     let early = ending_of(alloc, program, steps.saturating_sub(1), &[], &mut screen);
-    expect_same(rt, "one step fewer", early, Ok(Ending::Limit));
+    let found = (early, steps);
+    expect_same(rt, "one step fewer", found, (Ok(Ending::Limit), steps));
 }
 
 // So do the runs of these texts.
@@ -812,20 +809,20 @@ fn loops_to_the_ends_of_the_range(rt: HostRuntime) -> Result<(), Fail> {
 
 const SHARED_ENTRIES: &[(&[u8], u32, Ending, &[u8])] = &[
     (
-        b"10 A=A+10;B=B+1;C=C+1;D=2;E=A-B;IF B<G GOTO 10\n20 G=G+5;IF G<20 GOTO 10\n30 P.A,B,C,D,E,G\n",
+        b"10 A=A+10;B=B+1;C=C+1;D=2+0+0+0+0;E=A-B;IF B<G GOTO 10\n20 G=G+5;IF G<20 GOTO 10\n30 P.A,B,C,D,E,G\n",
         113,
         Ending::End,
         b"   150    15    15     2   135    20\n",
     ),
     (
-        b"10 A=A+10;B=B+1;C=C+1;D=2;E=A-B;IF B=4 STOP\n20 F=F+E;P.F,;GOTO 10\n",
+        b"10 A=A+10;B=B+1;C=C+1;D=2+0+0+0+0;E=A-B;IF B=4 STOP\n20 F=F+E;P.F,;GOTO 10\n",
         34,
         Ending::Stop,
         b"     9    27    54",
     ),
 ];
 
-// The place 29 of the first statement and the beginning of the second share the room that is kept
+// The place 37 of the first statement and the beginning of the second share the room that is kept
 // for what was read of a command.
 #[test]
 fn places_that_share_an_entry(rt: HostRuntime) -> Result<(), Fail> {
@@ -853,7 +850,7 @@ fn limits_on_commands_done_often(rt: HostRuntime) -> Result<(), Fail> {
     expect_limits(&rt, rt.alloc(), b"10 A=A+1;P.A,;GOTO 10", LIMITS)
 }
 
-// The statement's text ends behind 127 blanks with a command.
+// A statement whose second command stands at place 128, behind blanks, and one that prints.
 fn long_statement(alloc: Global) -> Result<Vec<u8>, Fail> {
     let mut text = Vec::from_slice(alloc, b"10 A=A+1")?;
     text.resize(3 + 127, b' ')?;
@@ -889,7 +886,7 @@ fn many_statements(alloc: Global) -> Result<Vec<u8>, Fail> {
     Ok(text)
 }
 
-// So do the beginnings of the first statement and of the 129th.
+// The beginnings of the first statement and of the 129th share it, too.
 #[test]
 fn statements_that_share_an_entry(rt: HostRuntime) -> Result<(), Fail> {
     let text = many_statements(rt.alloc())?;

@@ -1,10 +1,14 @@
 -- This file defines the command line as clap reads it.
---     tool         the command with its options, in the order in which help shows them
+--     tool                the command with its options, in the order in which help shows them
+--     rule_of_listed a    the rule of an argument as the program lists it
 use Rattle.std.specs.Prelude.{List, [], ◌∷◌, Some, pos, codes, true, ℕ}
 use Rattle.clap.specs.Words.{App, Rule, new_app, new_rule}
 use Rattle.clap.specs.declared.builder.ArgAction.TheVariants.{SetTrue}
 use Rattle.clap.specs.declared.builder.ValueParser.{ValueParser}
 use Rattle.clap.specs.declared.builder.ValueParser.TheVariants.{Signed, Unsigned}
+use Rattle.ptb_options.specs.declared.command_line.ListedArg.{ListedArg}
+use Rattle.ptb_options.specs.declared.command_line.ArgKind.{ArgKind}
+use Rattle.ptb_options.specs.declared.command_line.ArgKind.TheVariants as kinds
 
 -- an option with a number
 abbrev pub number_option : List ℕ → ValueParser → Rule
@@ -37,6 +41,16 @@ rules =
     ∷ flag (codes "list")
     ∷ operand (codes "program")
     ∷ []
+
+-- the rule of an argument as the program lists it
+abbrev pub rule_by : List ℕ → ArgKind → Rule
+rule_by name (kinds.Number parser) = number_option name parser
+rule_by name kinds.List = text_option name
+rule_by name kinds.Flag = flag name
+rule_by name kinds.Operand = operand name
+
+abbrev pub rule_of_listed : ListedArg → Rule
+rule_of_listed a = rule_by a.name.now a.kind
 
 -- it has a version to show
 abbrev pub tool : App

@@ -1,13 +1,13 @@
 // This file has lists of answers, and how they are read from a word of the command line.
 
 ghost use Rattle.std.specs.Prelude.{◌≡◌, List, ℤ, IfOk, IfSome};
-ghost use Rattle.ptb_explore.specs.AnswerText.{without_bound};
-ghost use Rattle.ptb_explore.specs.declared.form.Marked.{Marked};
+ghost use Rattle.ptb_expr.specs.AnswerText.{without_bound};
+ghost use Rattle.ptb_expr.specs.declared.form.Marked.{Marked};
 ghost use Rattle.ptb_options.specs.AnswerLists.{HasNoAnswers, IsMisspelled, SpellsAnswers};
 ghost use Rattle.ptb_options.specs.AnswerLists.{SpellsItem, SpellsList, SpellsNumber};
 ghost use Rattle.ptb_options.specs.declared.answers.ListFault.TheVariants.{Memory};
 
-use ptb_explore::Marked;
+use ptb_expr::Marked;
 use std::alloc::{AllocFailed, Global};
 use std::marker::Model;
 use thiserror::Error;
@@ -62,7 +62,7 @@ pub struct MarkedAnswers {
 
 impl Model for MarkedAnswers {
     ghost use Rattle.std.specs.Prelude.{List};
-    ghost use Rattle.ptb_explore.specs.declared.form.Marked.{Marked};
+    ghost use Rattle.ptb_expr.specs.declared.form.Marked.{Marked};
 
     ghost Value = { List Marked };
 
@@ -120,7 +120,6 @@ impl<T: Drop> From<AllocFailed<T>> for ListFault {
 ///
 /// [`ListFault::Bad`] where the text spells no list; [`ListFault::Memory`] where a growth was
 /// refused memory.
-#[tactic(auto, using(crate::proofs::AnswerTexts::one_list))]
 pub fn parse_list(alloc: Global, text: &str) -> Result<MarkedAnswers, ListFault>
     ensures ok { IfOk result (SpellsList text.now) }
     ensures bad { result ≡ Err ListFault.Bad → IsMisspelled text.now }
@@ -143,7 +142,6 @@ pub fn parse_list(alloc: Global, text: &str) -> Result<MarkedAnswers, ListFault>
 ///
 /// [`ListFault::Bad`] where the text spells no such list; [`ListFault::Memory`] where a growth was
 /// refused memory.
-#[tactic(auto, using(crate::proofs::AnswerTexts::one_list_of_answers))]
 pub fn parse_answers(alloc: Global, text: &str) -> Result<Answers, ListFault>
     ensures ok { IfOk result (SpellsAnswers text.now) }
     ensures bad { result ≡ Err ListFault.Bad → HasNoAnswers text.now }

@@ -2,14 +2,14 @@
 
 ghost use Rattle.std.specs.Prelude.{◌≡◌, IfOk, false, map};
 ghost use Rattle.clap.specs.Words.{FailsBy, app_of, fault_of, matches_of, rule_of};
-ghost use Rattle.ptb_options.specs.CommandLine.{flag, number_option, operand, text_option, tool};
+ghost use Rattle.ptb_options.specs.CommandLine.{rule_of_listed, tool};
 ghost use Rattle.ptb_options.specs.Options.{HasBound, HasMemorySize, entries_of, options_of};
 ghost use Rattle.ptb_options.specs.Statuses.{refusal_status};
 
 use crate::help;
 use clap::builder::ValueParser;
 use clap::error::ErrorKind;
-use clap::{Arg, ArgAction, ArgMatches, Command, Error, value_parser};
+use clap::{Arg, ArgAction, ArgMatches, Command, Error};
 use std::alloc::{AllocError, Global};
 use std::convert::AsStr;
 
@@ -21,28 +21,14 @@ use std::convert::AsStr;
 pub fn command<'a>(alloc: Global) -> Result<Command<'a>, AllocError>
     ensures { IfOk result (λ c. app_of c ≡ tool) }
 {
-    let steps = value_parser!(u32).range(1..=1_000_000_000);
-    let memory = value_parser!(u16).range(64..=32767);
-    let choose = value_parser!(u16).range(1..=32767);
-    let seed = value_parser!(u64).range(0..=4_294_967_295);
-    let first = value_parser!(u64).range(1..=1_000_000_000);
-    let form = value_parser!(u8).range(1..=2);
-    Command::new(alloc, "ptb")
+    let mut command = Command::new(alloc, "ptb")
         .about(help::ABOUT)
         .version(help::VERSION)
-        .after_help(help::AFTER)
-        .arg(number_option(alloc, "steps", steps, help::STEPS))?
-        .arg(number_option(alloc, "memory", memory, help::MEMORY))?
-        .arg(number_option(alloc, "choose", choose, help::CHOOSE))?
-        .arg(text_option(alloc, "answers", help::ANSWERS))?
-        .arg(number_option(alloc, "seed", seed, help::SEED))?
-        .arg(flag(alloc, "all", help::ALL))?
-        .arg(text_option(alloc, "under", help::UNDER))?
-        .arg(text_option(alloc, "after", help::ALL_AFTER))?
-        .arg(number_option(alloc, "first", first, help::FIRST))?
-        .arg(number_option(alloc, "form", form, help::FORM))?
-        .arg(flag(alloc, "list", help::LIST))?
-        .arg(operand(alloc, "program", "PROGRAM", help::PROGRAM))
+        .after_help(help::AFTER);
+    for listed in ARGS {
+        command = command.arg(listed.arg(alloc))?;
+    }
+    Ok(command)
 }
 
 /// What clap finds in the words of the command line, of which the first is the program's name.
@@ -72,49 +58,101 @@ pub fn refusal_status(kind: ErrorKind) -> u8
     }
 }
 
-// An option with a number.
-fn number_option<'a>(
-    alloc: Global,
-    name: &'a str,
-    parser: ValueParser<'a>,
-    help: &'a str,
-) -> Arg<'a>
-    ensures rule { rule_of result ≡ number_option name.entry.now parser.entry }
-    ensures local { result.global ≡ false }
-{
-    Arg::new(alloc, name)
-        .long(name)
-        .value_name("N")
-        .value_parser(parser)
-        .help(help)
+// The arguments: the options, and the program, in the order in which help shows them.
+const ARGS: &[ListedArg] = &[
+    ListedArg {
+        name: "steps",
+        kind: ArgKind::Number(ValueParser::Signed(1, 1_000_000_000)),
+        help: help::STEPS,
+    },
+    ListedArg {
+        name: "memory",
+        kind: ArgKind::Number(ValueParser::Signed(64, 32767)),
+        help: help::MEMORY,
+    },
+    ListedArg {
+        name: "choose",
+        kind: ArgKind::Number(ValueParser::Signed(1, 32767)),
+        help: help::CHOOSE,
+    },
+    ListedArg {
+        name: "answers",
+        kind: ArgKind::List,
+        help: help::ANSWERS,
+    },
+    ListedArg {
+        name: "seed",
+        kind: ArgKind::Number(ValueParser::Unsigned(0, 4_294_967_295)),
+        help: help::SEED,
+    },
+    ListedArg {
+        name: "all",
+        kind: ArgKind::Flag,
+        help: help::ALL,
+    },
+    ListedArg {
+        name: "under",
+        kind: ArgKind::List,
+        help: help::UNDER,
+    },
+    ListedArg {
+        name: "after",
+        kind: ArgKind::List,
+        help: help::ALL_AFTER,
+    },
+    ListedArg {
+        name: "first",
+        kind: ArgKind::Number(ValueParser::Unsigned(1, 1_000_000_000)),
+        help: help::FIRST,
+    },
+    ListedArg {
+        name: "form",
+        kind: ArgKind::Number(ValueParser::Signed(1, 2)),
+        help: help::FORM,
+    },
+    ListedArg {
+        name: "list",
+        kind: ArgKind::Flag,
+        help: help::LIST,
+    },
+    ListedArg {
+        name: "program",
+        kind: ArgKind::Operand,
+        help: help::PROGRAM,
+    },
+];
+
+// An argument, with what clap is told of it.
+struct ListedArg {
+    name: &'static str,
+    kind: ArgKind,
+    help: &'static str,
 }
 
-// An option with a text: a list of answers.
-fn text_option<'a>(alloc: Global, name: &'a str, help: &'a str) -> Arg<'a>
-    ensures rule { rule_of result ≡ text_option name.entry.now }
-    ensures local { result.global ≡ false }
-{
-    Arg::new(alloc, name)
-        .long(name)
-        .value_name("LIST")
-        .help(help)
+// What an argument is.
+enum ArgKind {
+    // An option with a number.
+    Number(ValueParser<'static>),
+    // An option with a text: a list of answers.
+    List,
+    // An option without a value.
+    Flag,
+    // No option. Help shows it by its value's name.
+    Operand,
 }
 
-// An option without a value.
-fn flag<'a>(alloc: Global, name: &'a str, help: &'a str) -> Arg<'a>
-    ensures rule { rule_of result ≡ flag name.entry.now }
-    ensures local { result.global ≡ false }
-{
-    Arg::new(alloc, name)
-        .long(name)
-        .action(ArgAction::SetTrue)
-        .help(help)
-}
-
-// A word that is no option. Help shows it by its value's name.
-fn operand<'a>(alloc: Global, name: &'a str, value_name: &'a str, help: &'a str) -> Arg<'a>
-    ensures rule { rule_of result ≡ operand name.entry.now }
-    ensures local { result.global ≡ false }
-{
-    Arg::new(alloc, name).value_name(value_name).help(help)
+impl ListedArg {
+    // The argument as clap has it.
+    fn arg<'a>(&self, alloc: Global) -> Arg<'a>
+        ensures rule { rule_of result ≡ rule_of_listed self.now }
+        ensures local { result.global ≡ false }
+    {
+        let arg = Arg::new(alloc, self.name).help(self.help);
+        match self.kind {
+            ArgKind::Number(parser) => arg.long(self.name).value_name("N").value_parser(parser),
+            ArgKind::List => arg.long(self.name).value_name("LIST"),
+            ArgKind::Flag => arg.long(self.name).action(ArgAction::SetTrue),
+            ArgKind::Operand => arg.value_name("PROGRAM"),
+        }
+    }
 }

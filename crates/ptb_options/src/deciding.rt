@@ -13,8 +13,7 @@ use crate::request::{DEFAULT_MEMORY, DEFAULT_STEPS, Mode, Request};
 use crate::usage::UsageFault;
 use clap::ArgMatches;
 use clap::parser::ValueSource;
-use ptb_explore::Form;
-use ptb_machine::Rules;
+use ptb_expr::{Form, Rules};
 use std::alloc::Global;
 use std::marker::Model;
 
@@ -107,25 +106,26 @@ impl<'a> GivenOptions<'a> {
     fn clash(&self) -> Option<UsageFault>
         ensures { result ≡ clash self.now }
     {
+        // All of these are looked at anyway, so no test below stops at the first that decides it.
         let (answers, after) = (self.answers.is_some(), self.after.is_some());
         let (seed, first) = (self.seed.is_some(), self.first.is_some());
         let (form, choose) = (self.form.is_some(), self.choose.is_some());
-        let under = self.under.is_some();
-        if self.list && (self.all || answers || seed || under || after || first || form || choose) {
+        let (under, all) = (self.under.is_some(), self.all);
+        if self.list & (all | answers | seed | under | after | first | form | choose) {
             Some(UsageFault::ListWithOther)
-        } else if after && !self.all {
+        } else if after & !all {
             Some(UsageFault::AfterWithoutAll)
-        } else if first && !self.all {
+        } else if first & !all {
             Some(UsageFault::FirstWithoutAll)
-        } else if form && !self.all {
+        } else if form & !all {
             Some(UsageFault::FormWithoutAll)
-        } else if under && !self.all {
+        } else if under & !all {
             Some(UsageFault::UnderWithoutAll)
-        } else if answers && self.all {
+        } else if answers & all {
             Some(UsageFault::AnswersWithAll)
-        } else if seed && self.all {
+        } else if seed & all {
             Some(UsageFault::SeedWithAll)
-        } else if seed && answers {
+        } else if seed & answers {
             Some(UsageFault::SeedWithAnswers)
         } else {
             None

@@ -1,10 +1,9 @@
 //! What the words of the command line ask for.
 //!
-//! It stands on `ptb_machine`, of which it takes what the rules of a run are, on `ptb_explore`, of
-//! which it takes the forms of reports and how lists of answers are written, on definitions of
-//! `ptb_expr` and `ptb_text`, and on `clap` and `thiserror`. The crates above may rely on `parse`
-//! (what clap finds in the words, or its error) and on `decide` (the request that the options make,
-//! or the first fault of them).
+//! It stands on `ptb_expr`, of which it takes the rules of a run, the forms of reports and how lists
+//! of answers are written, on a definition of `ptb_text`, and on `clap` and `thiserror`. The crates
+//! above may rely on `parse` (what clap finds in the words, or its error) and on `decide` (the
+//! request that the options make, or the first fault of them).
 #![tactic(auto)]
 
 mod answers;

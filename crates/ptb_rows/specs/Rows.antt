@@ -14,12 +14,12 @@ use Rattle.ptb_options.specs.declared.request.Request.{Request}
 use Rattle.ptb_serve.specs.Replies.{Reply, refusal, success, reply_to}
 use Rattle.ptb_text.specs.Statements.{program}
 use Rattle.ptb_expr.specs.Outcome.{is_whole}
-use Rattle.ptb_machine.specs.declared.rules.Rules.{Rules}
+use Rattle.ptb_expr.specs.declared.rules.Rules.{Rules}
 use Rattle.ptb_machine.specs.Play.{play}
-use Rattle.ptb_explore.specs.declared.form.Form.{Form}
-use Rattle.ptb_explore.specs.declared.form.Form.TheVariants.{One, Two}
-use Rattle.ptb_explore.specs.declared.form.Marked.{Marked}
-use Rattle.ptb_explore.specs.AnswerText.{unmarked, with_bound, without_bound}
+use Rattle.ptb_expr.specs.declared.form.Form.{Form}
+use Rattle.ptb_expr.specs.declared.form.Form.TheVariants.{One, Two}
+use Rattle.ptb_expr.specs.declared.form.Marked.{Marked}
+use Rattle.ptb_expr.specs.AnswerText.{unmarked, with_bound, without_bound}
 use Rattle.ptb_explore.specs.Report.{report}
 
 -- a text of these lines

@@ -198,7 +198,7 @@ macro_rules! row {
 }
 
 // What is done with a program by each kind of request that runs it once or lists it.
-const ONCE: &[Asked<'static>] = &[Asked::Run(&[]), Asked::Seed(7), Asked::List];
+const EACH_KIND: &[Asked<'static>] = &[Asked::Run(&[]), Asked::Seed(7), Asked::List];
 
 pub(crate) const FAILINGS: &[Failing] = &[
     Failing::Breaks,
@@ -265,8 +265,10 @@ fn expect_row(
     row: &Row<'_>,
     piece: usize,
 ) -> Result<(), AllocError> {
-    let reply = served(alloc, row, piece)?;
-    expect_reply(rt, reply, (row.status, row.note), row.bytes);
+    let (outcome, written) = served(alloc, row, piece)?;
+    let found = (outcome.status, outcome.note, written.as_slice());
+    let due = (row.status, row.note, row.bytes);
+    expect_same(rt, (row.program, piece, found), (row.program, piece, due));
     Ok(())
 }
 
@@ -437,7 +439,7 @@ const REFUSED_PROGRAMS: &[Row<'static>] = &[
 #[test]
 fn refused_programs(rt: HostRuntime) -> Result<(), Fail> {
     for &row in REFUSED_PROGRAMS {
-        for &asked in ONCE {
+        for &asked in EACH_KIND {
             expect_rows(&rt, rt.alloc(), &[Row { asked, ..row }])?;
         }
     }
@@ -492,7 +494,7 @@ fn expect_refused(
     program: &[u8],
     note: Note,
 ) -> Result<(), AllocError> {
-    for &asked in ONCE {
+    for &asked in EACH_KIND {
         let row = row!(program, b"", 65, asked = asked, note = Some(note));
         expect_row(rt, alloc, &row, 4000)?;
     }
@@ -522,7 +524,7 @@ fn reply_to_unread(alloc: Global, row: &Row<'_>) -> Result<(Outcome, Vec<u8>), A
 
 // It is refused, whatever is asked for.
 fn expect_unread(rt: &impl Abort, alloc: Global, program: &[u8]) -> Result<(), AllocError> {
-    for &asked in ONCE {
+    for &asked in EACH_KIND {
         let row = row!(program, b"", 66, asked = asked);
         let reply = reply_to_unread(alloc, &row)?;
         expect_reply(rt, reply, (66, Some(Note::ProgramUnread)), b"");
@@ -554,7 +556,7 @@ fn reply_on_endless_program(
 
 #[test]
 fn endless_programs(rt: HostRuntime) -> Result<(), Fail> {
-    for &asked in ONCE {
+    for &asked in EACH_KIND {
         let row = row!(b"", b"", 65, asked = asked);
         let (reply, given) = reply_on_endless_program(rt.alloc(), &row)?;
         let note = Some(Note::Load(0, LoadFault::TooLong));
@@ -575,8 +577,8 @@ fn inputs_left_alone(rt: HostRuntime) -> Result<(), Fail> {
     Ok(())
 }
 
-// A row is served to a writer that fails behind so many calls, each of which took so many bytes; what
-// it took is the beginning of this length.
+// A row is served to a writer that fails at a call; what it took before is the beginning of this
+// length.
 fn expect_broken_off(
     rt: &impl Abort,
     alloc: Global,
@@ -863,8 +865,8 @@ fn inputs_not_asked_for(rt: HostRuntime) -> Result<(), Fail> {
     Ok(())
 }
 
-// What is served to a writer that takes so many bytes a call and fails, at its first call, at its second
-// and so on: of each beginning the length.
+// A row is served to a writer that takes so many bytes a call and fails at its first call, at its
+// second and so on: what it took has these lengths.
 fn expect_beginnings(
     rt: &impl Abort,
     alloc: Global,

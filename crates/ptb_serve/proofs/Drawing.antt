@@ -11,7 +11,7 @@ use Rattle.ptb_expr.proofs.Readers.{open_is, whole_is}
 use Rattle.ptb_expr.specs.Choices.{Asked, with_answers}
 use Rattle.ptb_expr.specs.Seeds.{SeededAnswers, RefusedForMemory, drawn_answer, drawn_answers, drawn_from, generator_of, seeded_choices}
 use Rattle.ptb_machine.specs.Laws.{RunLaws}
-use Rattle.ptb_machine.specs.declared.rules.Rules.{Rules}
+use Rattle.ptb_expr.specs.declared.rules.Rules.{Rules}
 use Rattle.ptb_machine.specs.Play.{play}
 use Rattle.ptb_machine.specs.Questions.{most_answers}
 use Rattle.ptb_serve.specs.PlainRuns.{GoesBy}

@@ -8,8 +8,8 @@ use Rattle.ptb_explore.specs.declared.fault.AfterFault.{AfterFault}
 use Rattle.ptb_explore.specs.declared.fault.AfterFault.TheVariants as afters
 use Rattle.ptb_explore.specs.declared.fault.UnderFault.{UnderFault}
 use Rattle.ptb_explore.specs.declared.fault.UnderFault.TheVariants as unders
-use Rattle.ptb_explore.specs.declared.form.Marked.{Marked}
-use Rattle.ptb_explore.specs.AnswerText.{answers_of}
+use Rattle.ptb_expr.specs.declared.form.Marked.{Marked}
+use Rattle.ptb_expr.specs.AnswerText.{answers_of}
 use Rattle.ptb_explore.specs.MarkedRuns.{IsMarkedBeginning, IsMarkedRun}
 use Rattle.ptb_explore.specs.RunTree.{begins_with}
 use Rattle.ptb_serve.specs.declared.note.Note.{Note}

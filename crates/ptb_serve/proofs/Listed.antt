@@ -11,13 +11,13 @@ use Rattle.ptb_devices.specs.declared.fault.ReadFault.{ReadFault}
 use Rattle.ptb_devices.specs.declared.fault.ReadFault.TheVariants as reads
 use Rattle.ptb_devices.specs.Sources.{ConsumesAtMost}
 use Rattle.ptb_command.specs.Effects.{Begins}
-use Rattle.ptb_machine.specs.declared.rules.Rules.{Rules}
+use Rattle.ptb_expr.specs.declared.rules.Rules.{Rules}
 use Rattle.ptb_machine.specs.Play.{Finish, play}
 use Rattle.ptb_machine.specs.Questions.{most_answers}
 use Rattle.ptb_explore.specs.declared.fault.ExploreFault.{ExploreFault}
 use Rattle.ptb_explore.specs.declared.fault.ExploreFault.TheVariants as explores
-use Rattle.ptb_explore.specs.declared.form.Form.{Form}
-use Rattle.ptb_explore.specs.declared.form.Marked.{Marked}
+use Rattle.ptb_expr.specs.declared.form.Form.{Form}
+use Rattle.ptb_expr.specs.declared.form.Marked.{Marked}
 use Rattle.ptb_explore.specs.Exploring.{Exploration, play_of, most_of}
 use Rattle.ptb_explore.specs.Listing.{text, WritesRuns}
 use Rattle.ptb_explore.specs.Report.{report}
@@ -313,11 +313,11 @@ module _ (request : Request) (p : StoredProgram) (memory : p.memory ≡ request.
       listing_serves held held (Err (input_note fault)) (λ c is. serves_input p request.rules under after first form held c fault) (input_note-silent under after first form held fault)
       (λ _. Appends-nil held) tt (input_note-loaded fault)
 
-  module _ (input items : List (List ℕ)) (read : input ≡ items) (lines : IfSome i (λ c. items ≡ input_lines c)) where
+  module _ (input : List (List ℕ)) (lines : IfSome i (λ c. input ≡ input_lines c)) where
     pub unbegun_listed : (held : Option (List ℕ)) (note : Note) → (note ≡ notes.OutOfMemory) ⊎ (front_note (play p input request.rules) under after ≡ Some note)
         → ServesProgram listing request p i j held held (Err note)
     unbegun_listed held note one =
-        listing_serves held held (Err note) (λ c is. serves_front p request.rules under after first form held c input (read ∙ at_known (λ d. items ≡ input_lines d) c is lines) note one)
+        listing_serves held held (Err note) (λ c is. serves_front p request.rules under after first form held c input (at_known (λ d. input ≡ input_lines d) c is lines) note one)
         (front_note-silent (play p input request.rules) under after first form held note one) (λ _. Appends-nil held) tt (front_note-loaded (play p input request.rules) under after note one)
 
     -- an explorer went on from its front
@@ -330,13 +330,13 @@ module _ (request : Request) (p : StoredProgram) (memory : p.memory ≡ request.
       pub all_listed : (n : ℕ) → WritesOn (Ok n) → ServesProgram listing request p i j old new (Ok 0)
       all_listed n w =
           listing_serves old new (Ok 0)
-          (λ c is. serves_reports p request.rules under after first form old new c input (read ∙ at_known (λ d. items ≡ input_lines d) c is lines) e f same h n w)
+          (λ c is. serves_reports p request.rules under after first form old new c input (at_known (λ d. input ≡ input_lines d) c is lines) e f same h n w)
           tt (λ x. absurd cc) refl (λ x. x)
 
       pub some_listed : (fault : ExploreFault) → WritesOn (Err fault) → ServesProgram listing request p i j old new (Err (reports_note fault))
       some_listed fault w =
           listing_serves old new (Err (reports_note fault))
-          (λ c is. serves_some p request.rules under after first form old new c input (read ∙ at_known (λ d. items ≡ input_lines d) c is lines) e f same h fault w)
+          (λ c is. serves_some p request.rules under after first form old new c input (at_known (λ d. input ≡ input_lines d) c is lines) e f same h fault w)
           (reports_note-silent under after first form old new fault) (λ x. absurd (reports_note-read fault x)) tt (reports_note-loaded fault)
 
 -- ---- a listing of the program's text, which leaves the input alone

@@ -22,7 +22,7 @@ use Rattle.ptb_expr.specs.declared.pause.Pause.{Pause}
 use Rattle.ptb_expr.specs.Outcome.{Answers}
 use Rattle.ptb_command.specs.Devices.{Devices, refused_by}
 use Rattle.ptb_machine.specs.declared.fault.RunFault.TheVariants as runs
-use Rattle.ptb_machine.specs.declared.rules.Rules.{Rules}
+use Rattle.ptb_expr.specs.declared.rules.Rules.{Rules}
 use Rattle.ptb_command.specs.Stops.{NotMissed}
 use Rattle.ptb_machine.specs.Runs.{RunComes, UnlessRunMissed}
 use Rattle.ptb_command.specs.declared.ending.Ending.{Ending}
@@ -156,6 +156,12 @@ fault_without_memory Open e = absurd cc
 fault_without_memory Ended e = absurd cc
 fault_without_memory Failed e = absurd cc
 fault_without_memory Exceeded e = absurd cc
+
+-- so a run on such an input couldn't read a line
+pub fault_unread : (end : InputEnd) (fault : ReadFault) → fault_at end ≡ Some fault → run_fault fault ≡ runs.Read
+fault_unread end reads.Read e = refl
+fault_unread end reads.TooLong e = refl
+fault_unread end reads.Memory e = absurd (fault_without_memory end e)
 
 module _ (wanted : ℕ) (known : Option (List ℕ)) (x f : ℕ) (n : InputNow) (given : List (List ℕ)) (on : ReadsOn wanted (fresh known x f) given n) where
   pub takes_at_most : ConsumesAtMost known n.bytes 16777217

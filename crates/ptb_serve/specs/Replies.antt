@@ -8,12 +8,12 @@ use Rattle.ptb_text.specs.Lines.{input_lines}
 use Rattle.ptb_text.specs.Statements.{Statements, StoredProgram, program, program_limit, listing}
 use Rattle.ptb_expr.specs.Outcome.{Answers, Outcome, bounds, is_open, is_whole}
 use Rattle.ptb_command.specs.declared.ending.Ending.{Ending}
-use Rattle.ptb_machine.specs.declared.rules.Rules.{Rules}
+use Rattle.ptb_expr.specs.declared.rules.Rules.{Rules}
 use Rattle.ptb_machine.specs.Play.{Finish, play, plain, status}
 use Rattle.ptb_machine.specs.Questions.{most_answers}
-use Rattle.ptb_explore.specs.declared.form.Form.{Form}
-use Rattle.ptb_explore.specs.declared.form.Marked.{Marked}
-use Rattle.ptb_explore.specs.AnswerText.{answers_of}
+use Rattle.ptb_expr.specs.declared.form.Form.{Form}
+use Rattle.ptb_expr.specs.declared.form.Marked.{Marked}
+use Rattle.ptb_expr.specs.AnswerText.{answers_of}
 use Rattle.ptb_explore.specs.MarkedRuns.{states_bounds}
 use Rattle.ptb_explore.specs.RunTree.{Front, Start, At, begins_with, runs_left}
 use Rattle.ptb_explore.specs.Listing.{text}

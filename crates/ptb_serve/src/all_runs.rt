@@ -1,13 +1,15 @@
 // This file has the listing of all runs of a program, each with its report.
 
-ghost use Rattle.std.specs.Prelude.{◌≡◌, ◌⊎◌, ◌≤ℤ◌, pos, None, Some, IfErr, IfOk, IfSome, OnOk};
+ghost use Rattle.std.specs.Prelude.{◌≡◌, ◌⊎◌, ◌≤ℤ◌, ℕ, pos, true, false, List, [], Option, None, Some};
+ghost use Rattle.std.specs.Prelude.{IfErr, IfOk, IfSome, IsErrOf, OnOk};
+ghost use Rattle.ptb_text.specs.Lines.{input_lines};
 ghost use Rattle.ptb_machine.specs.Play.{play};
 ghost use Rattle.ptb_options.specs.declared.request.Mode.TheVariants.{All};
 ghost use Rattle.ptb_serve.specs.Loaded.{ReadsInput, ServesProgram, TellsFailures};
-ghost use Rattle.ptb_serve.specs.Replies.{answers_under, first_front, front_note};
+ghost use Rattle.ptb_serve.specs.Replies.{answers_under, first_front, front_note, is_share};
 
 use crate::note::Note;
-use ptb_explore::{Explorer, Form, write_all_runs};
+use ptb_explore::{Explorer, Form, Marked, write_all_runs};
 use ptb_machine::{Line, Rules, read_lines};
 use ptb_options::{MarkedAnswers, Request};
 use ptb_text::{Program, Read, Write};
@@ -50,7 +52,32 @@ pub fn list_runs<R: Read, W: Write>(
     ensures failures { TellsFailures (W.failures out.old) (W.failures out.new) result }
 {
     let lines = read_lines(alloc, input)?;
-    let mut explorer = explorer_behind(alloc, program, &lines, request.rules, under, after)?;
+    list_runs_on(
+        alloc, request, program, &lines, under, after, first, form, out,
+    )
+}
+
+// Writes the reports of a program's runs on the lines of an input that was read.
+fn list_runs_on<W: Write>(
+    alloc: Global,
+    request: &Request,
+    program: &Program,
+    lines: &[Line],
+    under: &Option<MarkedAnswers>,
+    after: &Option<MarkedAnswers>,
+    first: Option<u64>,
+    form: Form,
+    out: &mut W,
+) -> Result<u8, Note>
+    requires memory { program.now.memory ≡ request.now.memory }
+    requires bound { IfSome request.now.rules.choose (λ n. pos 1 ≤ℤ n) }
+    ensures serves { (known left : Option (List ℕ)) → IfSome known (λ c. lines.now ≡ input_lines c)
+        → ServesProgram (All under.now after.now first form) request.now program.now known left
+        (W.contents out.old) (W.contents out.new) result }
+    ensures read { ¬ IsErrOf result Note.InputUnread }
+    ensures failures { TellsFailures (W.failures out.old) (W.failures out.new) result }
+{
+    let mut explorer = explorer_behind(alloc, program, lines, request.rules, under, after)?;
     write_all_runs(&mut explorer, first, form, out)?;
     Ok(0)
 }
@@ -81,19 +108,139 @@ fn explorer_behind<'a>(
         ⊎ (front_note (play program.now lines.now rules) under.now after.now ≡ Some note)) }
 {
     match (under, after) {
-        (None, None) => Ok(Explorer::start(alloc, program, lines, rules)?),
-        (None, Some(list)) => {
-            let list = list.as_slice();
-            Ok(Explorer::after_marked(alloc, program, lines, rules, list)?)
-        }
-        (Some(under), None) => {
-            let under = under.as_slice();
-            Ok(Explorer::under(alloc, program, lines, rules, under)?)
-        }
+        (None, None) => explorer_of_all(alloc, program, lines, rules),
+        (None, Some(list)) => explorer_at(alloc, program, lines, rules, list.as_slice()),
+        (Some(under), None) => explorer_under(alloc, program, lines, rules, under.as_slice()),
         (Some(under), Some(list)) => {
             let (under, list) = (under.as_slice(), list.as_slice());
-            Explorer::under(alloc, program, lines, rules, under)?;
-            Ok(Explorer::after_under(alloc, program, lines, rules, under, list)?)
+            explorer_under_at(alloc, program, lines, rules, under, list)
         }
+    }
+}
+
+// An explorer of all runs, before the first.
+fn explorer_of_all<'a>(
+    alloc: Global,
+    program: &'a Program,
+    lines: &'a [Line],
+    rules: Rules,
+) -> Result<Explorer<'a>, Note>
+    requires { IfSome rules.choose (λ n. pos 1 ≤ℤ n) }
+    ensures explorer { IfOk result (λ e. e ≡ record {
+      program = program.now;
+      input = lines.now;
+      rules = rules;
+      under = [];
+      front = first_front None;
+      kept = e.kept;
+      played = e.played;
+    }) }
+    ensures begun { OnOk result
+        (front_note (play program.now lines.now rules) None None ≡ None) }
+    ensures unbegun { IfErr result (λ note. (note ≡ Note.OutOfMemory)
+        ⊎ (front_note (play program.now lines.now rules) None None ≡ Some note)) }
+{
+    Ok(Explorer::start(alloc, program, lines, rules)?)
+}
+
+// An explorer of all runs, at the run with these answers.
+fn explorer_at<'a>(
+    alloc: Global,
+    program: &'a Program,
+    lines: &'a [Line],
+    rules: Rules,
+    list: &[Marked],
+) -> Result<Explorer<'a>, Note>
+    requires { IfSome rules.choose (λ n. pos 1 ≤ℤ n) }
+    ensures explorer { IfOk result (λ e. e ≡ record {
+      program = program.now;
+      input = lines.now;
+      rules = rules;
+      under = [];
+      front = first_front (Some list.now);
+      kept = e.kept;
+      played = e.played;
+    }) }
+    ensures begun { OnOk result
+        (front_note (play program.now lines.now rules) None (Some list.now) ≡ None) }
+    ensures unbegun { IfErr result (λ note. (note ≡ Note.OutOfMemory)
+        ⊎ (front_note (play program.now lines.now rules) None (Some list.now) ≡ Some note)) }
+{
+    Ok(Explorer::after_marked(alloc, program, lines, rules, list)?)
+}
+
+// An explorer of the runs that begin with these answers, before the first of them.
+fn explorer_under<'a>(
+    alloc: Global,
+    program: &'a Program,
+    lines: &'a [Line],
+    rules: Rules,
+    under: &[Marked],
+) -> Result<Explorer<'a>, Note>
+    requires { IfSome rules.choose (λ n. pos 1 ≤ℤ n) }
+    ensures explorer { IfOk result (λ e. e ≡ record {
+      program = program.now;
+      input = lines.now;
+      rules = rules;
+      under = answers_under (Some under.now);
+      front = first_front None;
+      kept = e.kept;
+      played = e.played;
+    }) }
+    ensures begun { OnOk result
+        (front_note (play program.now lines.now rules) (Some under.now) None ≡ None) }
+    ensures unbegun { IfErr result (λ note. (note ≡ Note.OutOfMemory)
+        ⊎ (front_note (play program.now lines.now rules) (Some under.now) None ≡ Some note)) }
+{
+    Ok(Explorer::under(alloc, program, lines, rules, under)?)
+}
+
+// An explorer of the runs that begin with these answers, at the run with those of a second list. The
+// first are looked at first.
+fn explorer_under_at<'a>(
+    alloc: Global,
+    program: &'a Program,
+    lines: &'a [Line],
+    rules: Rules,
+    under: &[Marked],
+    list: &[Marked],
+) -> Result<Explorer<'a>, Note>
+    requires { IfSome rules.choose (λ n. pos 1 ≤ℤ n) }
+    ensures explorer { IfOk result (λ e. e ≡ record {
+      program = program.now;
+      input = lines.now;
+      rules = rules;
+      under = answers_under (Some under.now);
+      front = first_front (Some list.now);
+      kept = e.kept;
+      played = e.played;
+    }) }
+    ensures begun { OnOk result
+        (front_note (play program.now lines.now rules) (Some under.now) (Some list.now) ≡ None) }
+    ensures unbegun { IfErr result (λ note. (note ≡ Note.OutOfMemory)
+        ⊎ (front_note (play program.now lines.now rules) (Some under.now) (Some list.now) ≡ Some note)) }
+{
+    look_at_beginning(alloc, program, lines, rules, under)?;
+    Ok(Explorer::after_under(alloc, program, lines, rules, under, list)?)
+}
+
+// Plays one run that begins with these answers, so that it is noted if there is none.
+fn look_at_beginning(
+    alloc: Global,
+    program: &Program,
+    lines: &[Line],
+    rules: Rules,
+    under: &[Marked],
+) -> Result<(), Note>
+    requires { IfSome rules.choose (λ n. pos 1 ≤ℤ n) }
+    ensures begins { OnOk result
+        (is_share (play program.now lines.now rules) (Some under.now) ≡ true) }
+    ensures unbegun { IfErr result (λ note. (note ≡ Note.OutOfMemory)
+        ⊎ ((note ≡ Note.NoBeginning)
+        × is_share (play program.now lines.now rules) (Some under.now) ≡ false)) }
+{
+    match Explorer::under(alloc, program, lines, rules, under) {
+        Ok(_) => Ok(()),
+        Err(fault) => Err(Note::from(fault)),
     }
 }

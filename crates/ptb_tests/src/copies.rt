@@ -2,7 +2,7 @@
 
 ghost use Rattle.std.specs.Prelude.{◌≤ℤ◌, pos, IfSome};
 
-use crate::shared::{ONE, TWO_OF_2, expect_same, loaded, plain_rules};
+use crate::shared::{ONE, OUT_OF_MEMORY, TWO_OF_2, expect_same, loaded, plain_rules};
 use ptb_explore::{AfterFault, Explorer, Report, UnderFault};
 use ptb_machine::{Ending, Line, Rules};
 use ptb_text::Program;
@@ -312,7 +312,7 @@ fn has_runs_from(
 fn has_runs(alloc: Global, text: &str, taken: usize, steps: u32, runs: &[&[i16]]) -> bool {
     match loaded(alloc, text, "") {
         Ok((program, lines)) => has_runs_from(alloc, &program, &lines, taken, steps, runs),
-        Err(_) => true,
+        Err(why) => why == OUT_OF_MEMORY,
     }
 }
 
@@ -325,7 +325,7 @@ fn refused_copies(rt: HostRuntime) {
     expect_same(&rt, "has these runs", (one, many), (true, true));
 }
 
-// The third of many questions' runs, where the first two were not played.
+// The third of many questions' runs, where only the second was played before.
 const THIRD_RUN: ExpectedRun<'static> = ExpectedRun {
     last: &[2, 1],
     steps: 140,
@@ -333,7 +333,7 @@ const THIRD_RUN: ExpectedRun<'static> = ExpectedRun {
     played: 142,
 };
 
-// Behind the second of four runs: goes to the third.
+// Goes from the second of four runs to the third.
 fn expect_third(rt: &impl Abort, explorer: &mut Explorer) -> Result<(), Fail> {
     expect_counts(rt, explorer, 64, 140);
     expect_next(rt, explorer, &THIRD_RUN)
@@ -373,8 +373,9 @@ fn expect_played(rt: &impl Abort, alloc: Global, program: &Program, lines: &[Lin
 // but memory can be wanting.
 #[test]
 fn refused_behind_a_run(rt: HostRuntime) {
-    if let Ok((program, lines)) = loaded(rt.alloc(), "10 A=RND(2);B=RND(3)", "") {
-        expect_played(&rt, rt.alloc(), &program, &lines);
+    match loaded(rt.alloc(), "10 A=RND(2);B=RND(3)", "") {
+        Ok((program, lines)) => expect_played(&rt, rt.alloc(), &program, &lines),
+        Err(why) => expect_same(&rt, "program", why, OUT_OF_MEMORY),
     }
 }
 
@@ -390,7 +391,8 @@ fn expect_share(rt: &impl Abort, alloc: Global, program: &Program, lines: &[Line
 // nothing but memory can be wanting. The one play that tells so is counted.
 #[test]
 fn refused_shares(rt: HostRuntime) {
-    if let Ok((program, lines)) = loaded(rt.alloc(), "10 A=RND(2);B=RND(3)", "") {
-        expect_share(&rt, rt.alloc(), &program, &lines);
+    match loaded(rt.alloc(), "10 A=RND(2);B=RND(3)", "") {
+        Ok((program, lines)) => expect_share(&rt, rt.alloc(), &program, &lines),
+        Err(why) => expect_same(&rt, "program", why, OUT_OF_MEMORY),
     }
 }

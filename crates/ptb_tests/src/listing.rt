@@ -1,5 +1,4 @@
-// This file tests listings of runs: all reports, the first of them, those behind a run, writers that
-// fail, and memory that is refused.
+// This file tests listings of runs, also to writers that fail and where memory is refused.
 
 ghost use Rattle.std.specs.Prelude.{◌≤◌, ◌≤ℤ◌, pos, IfSome};
 
@@ -11,7 +10,7 @@ use ptb_explore::{
     AfterFault, ExploreFault, Explorer, Form, Marked, Report, UnderFault, write_all_runs,
 };
 use ptb_machine::{Ending, Line, Rules};
-use ptb_text::{Device, Program, Write, load};
+use ptb_text::{Device, LoadFault, Program, Write, load};
 use std::alloc::{AllocError, Global};
 use std::io;
 use std::io::{ErrorKind, Print};
@@ -487,7 +486,7 @@ fn refuses_what_begins_no_run(rt: HostRuntime) {
     }
 }
 
-// The listing of all products to this writer comes to this.
+// What the listing of all products to this writer comes to; or why there is none.
 fn listed_products<W: Write>(
     alloc: Global,
     program: &Program,
@@ -504,7 +503,7 @@ fn listed_products<W: Write>(
     listed_to(alloc, program, lines, plain_rules(10000), &asked, out)
 }
 
-// A listing into a room of so many bytes, which end in its beginning.
+// A listing into a room of so many bytes, which holds its beginning then.
 fn expect_beginning(
     rt: &impl Abort,
     alloc: Global,
@@ -681,8 +680,12 @@ fn expect_two_parts<R: Abort + Print>(rt: &R, explorer: &mut Explorer) -> Result
 #[test]
 fn refused_listings_go_on(rt: HostRuntime) -> Result<(), Fail> {
     let mut text = BRANCHES.as_bytes();
-    let Ok(program) = load(rt.alloc(), 4096, &mut Device::new(&mut text)) else {
-        return Ok(());
+    let program = match load(rt.alloc(), 4096, &mut Device::new(&mut text)) {
+        Ok(program) => program,
+        Err((_, fault)) => {
+            expect_same(&rt, "fault", fault, LoadFault::Memory);
+            return Ok(());
+        }
     };
     match Explorer::start(rt.alloc(), &program, &[], plain_rules(10000)) {
         Ok(mut explorer) => expect_two_parts(&rt, &mut explorer),

@@ -113,7 +113,7 @@ fn endings(rt: HostRuntime) -> Result<(), Fail> {
     expect_endings(&rt, rt.alloc(), line, plain_rules(10), ENDINGS)
 }
 
-// A run by a seed has an answer to each question.
+// A seed, a line, how its run ends, and what it shows.
 const SEEDED_ENDINGS: &[(u64, &[u8], Ending, &[u8])] = &[
     (0, b"10 P.RND(2)", Ending::End, b"     2\n"),
     (7, b"10 P.RND(2)", Ending::End, b"     1\n"),
@@ -129,6 +129,7 @@ const SEEDED_ENDINGS: &[(u64, &[u8], Ending, &[u8])] = &[
     (7, b"10 A=RND(0)", Ending::How, b"HOW?\n10 A=RND(0)?\n"),
 ];
 
+// A run by a seed has an answer to each question.
 #[test]
 fn seeded_endings(rt: HostRuntime) -> Result<(), Fail> {
     for &(seed, line, ending, shown) in SEEDED_ENDINGS {
@@ -155,7 +156,7 @@ fn endings_without_lines(rt: HostRuntime) -> Result<(), Fail> {
     expect_endings(&rt, rt.alloc(), line, rules, ENDINGS_WITHOUT_LINES)
 }
 
-// How a run of 40 lines by a seed ends, whose writer has this room.
+// How a run by a seed ends whose writer has this room.
 fn ended_in(alloc: Global, program: &Program, room: &mut [u8]) -> Result<Ending, RunFault> {
     let mut input = Device::new(&b""[..]);
     let mut out = Device::new(room);
@@ -175,15 +176,19 @@ fn begins(room: &[u8]) -> bool {
     true
 }
 
-// Passes whichever of its allocations is refused: a beginning is shown then.
+// Passes whichever of its allocations is refused: a beginning is shown then, and else all.
 #[test]
 fn refused_seeded_runs(rt: HostRuntime) {
-    let Ok(program) = one_line(rt.alloc(), b"10 F.I=1TO40;P.#1,RND(1);N.I") else {
-        return;
+    let program = match one_line(rt.alloc(), b"10 F.I=1TO40;P.#1,RND(1);N.I") {
+        Ok(program) => program,
+        Err(fault) => {
+            expect_same(&rt, "fault", fault, LoadFault::Memory);
+            return;
+        }
     };
     let mut room = [0; 80];
     match ended_in(rt.alloc(), &program, &mut room) {
-        Ok(ending) => expect_same(&rt, "ending", ending, Ending::End),
+        Ok(ending) => expect_same(&rt, "ending", (ending, room[78]), (Ending::End, b'1')),
         Err(fault) => expect_same(&rt, "fault", fault, RunFault::Memory),
     }
     expect_same(&rt, "a beginning", begins(&room), true);

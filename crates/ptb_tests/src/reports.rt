@@ -233,7 +233,7 @@ fn writes_a_long_report(rt: HostRuntime) -> Result<(), Fail> {
     Ok(())
 }
 
-// How many reports there are behind a run, written to this room.
+// What the listing behind a run comes to that is written to this room.
 fn written_to(
     alloc: Global,
     program: &Program,

@@ -3,8 +3,8 @@
 ghost use Rattle.std.specs.Prelude.{◌≡◌, None};
 
 use ptb_explore::Marked;
-use ptb_machine::{Line, Rules, read_lines};
-use ptb_text::{Device, Program, load};
+use ptb_machine::{Line, ReadFault, Rules, read_lines};
+use ptb_text::{Device, LoadFault, Program, load};
 use std::alloc::Global;
 use std::fmt::Debug;
 use std::process::Abort;
@@ -100,6 +100,9 @@ pub(crate) fn expect_same<T: Copy + PartialEq + Debug>(
     assert_eq!(rt; found, wanted, "{what}");
 }
 
+// Why there is no program or there are no lines, where memory is wanting.
+pub(crate) const OUT_OF_MEMORY: &str = "out of memory";
+
 // The program of a text, and the lines of an input; or why there are none.
 pub(crate) fn loaded(
     alloc: Global,
@@ -107,11 +110,14 @@ pub(crate) fn loaded(
     input: &str,
 ) -> Result<(Program, Vec<Line>), &'static str> {
     let (mut text, mut input) = (text.as_bytes(), input.as_bytes());
-    let Ok(program) = load(alloc, 4096, &mut Device::new(&mut text)) else {
-        return Err("no program");
+    let program = match load(alloc, 4096, &mut Device::new(&mut text)) {
+        Ok(program) => program,
+        Err((_, LoadFault::Memory)) => return Err(OUT_OF_MEMORY),
+        Err(_) => return Err("no program"),
     };
-    let Ok(lines) = read_lines(alloc, &mut Device::new(&mut input)) else {
-        return Err("no input");
-    };
-    Ok((program, lines))
+    match read_lines(alloc, &mut Device::new(&mut input)) {
+        Ok(lines) => Ok((program, lines)),
+        Err(ReadFault::Memory) => Err(OUT_OF_MEMORY),
+        Err(_) => Err("no input"),
+    }
 }

@@ -1,5 +1,4 @@
-// This file tests how lines are read when they are asked for: in pieces, to the end or a fault, and
-// from a reader that gives too much.
+// This file tests how lines are read when they are asked for, to the end or a fault.
 
 use super::*;
 use crate::tests::{Long, expect_same, scripted};
@@ -24,7 +23,7 @@ fn expect_lines(rt: &impl Abort, bytes: &[u8], piece: usize, lines: &[&[u8]]) {
     let mut reader = Device::new(scripted(bytes, piece, false));
     let mut source = ReaderLines::new(&mut reader);
     for &line in lines {
-        expect_same(rt, "line", source.next(), Ok(Some(line)));
+        expect_same(rt, "line", (piece, source.next()), (piece, Ok(Some(line))));
     }
     for _ in 0..2 {
         expect_same(rt, "end", source.next(), Ok(None));
@@ -94,9 +93,13 @@ fn expect_end<R: Read>(rt: &impl Abort, reader: &mut R, lines: usize, fault: Opt
         let is_line = source.next().is_ok_and(|line| line.is_some());
         expect_same(rt, "line", (is_line, source.fault()), (true, None));
     }
+    let wanted = match fault {
+        Some(fault) => Err(fault),
+        None => Ok(false),
+    };
     for _ in 0..2 {
-        let found = source.next().err();
-        expect_same(rt, "fault", (found, source.fault()), (fault, fault));
+        let found = source.next().map(|line| line.is_some());
+        expect_same(rt, "end", (found, source.fault()), (wanted, fault));
     }
 }
 

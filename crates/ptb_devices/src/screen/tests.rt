@@ -35,7 +35,7 @@ fn put_twice<S: Screen>(screen: &mut S) -> Result<(), ScreenFault> {
     screen.put(b"89")
 }
 
-// How many calls the writer takes, how the bytes are shown, and which it takes.
+// How many calls the writer takes, whether all bytes are shown, and which it takes.
 const WRITERS: &[(usize, Result<(), ScreenFault>, &[u8])] = &[
     (0, Err(ScreenFault::Write), b""),
     (1, Err(ScreenFault::Write), b"12345"),

@@ -1,5 +1,4 @@
-// This file tests how a whole input is read: in pieces, to a fault, and from a reader that never
-// ends.
+// This file tests how a whole input is read: in pieces, to a fault, and without an end.
 
 use super::*;
 use crate::tests::{Long, expect_same, scripted};
@@ -38,7 +37,7 @@ fn lines_of_an_input(rt: HostRuntime) -> Result<(), Fail> {
     for &(bytes, want) in INPUTS {
         for piece in [1, 2, 3, 4096] {
             let text = barred(rt.alloc(), bytes, piece)?;
-            expect_same(&rt, "lines", text.as_slice(), want);
+            expect_same(&rt, "lines", (piece, text.as_slice()), (piece, want));
         }
     }
     Ok(())

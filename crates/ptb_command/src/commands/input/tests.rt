@@ -3,8 +3,7 @@
 ghost use Rattle.std.specs.Prelude.{◌≤ℤ◌, pos, IfSome};
 
 use super::*;
-use crate::stop::DeviceError;
-use crate::tests::{Counted, expect_same, fault, letter};
+use crate::tests::{Counted, UNWRITTEN, expect_same, fault, letter};
 use ptb_devices::{Line, Lines, TextScreen, WriterScreen};
 use ptb_expr::{Listed, Pause};
 use ptb_text::Device;
@@ -40,7 +39,7 @@ fn done<S: Screen>(
     (result, io.fresh)
 }
 
-// Each INPUT with its lines: how it is done, what is shown, and A.
+// Each INPUT with its lines, where RND is answered by 1 and 2: how it is done, what is shown, and A.
 const ITEMS: &[(&str, &[&[u8]], Result<usize, Stop>, &[u8], i16)] = &[
     ("A", &[b")", b"5"], Ok(1), b"A:)\nWHAT?\nA:5\n", 5),
     ("A", &[b")"], Err(Stop::NoInput), b"A:)\nWHAT?\nA:", 0),
@@ -114,8 +113,6 @@ const WRITES: &[(&str, &[&[u8]], usize, Result<usize, Stop>, &[u8], usize)] = &[
     ("A", &[b"5"], 1, UNWRITTEN, b"A:", 0),
     ("A", &[b"5"], 0, UNWRITTEN, b"", 0),
 ];
-
-const UNWRITTEN: Result<usize, Stop> = Err(Stop::Broke(DeviceError::Write));
 
 // Does an INPUT with a writer that takes so many writes: the place behind it, and how many writes
 // are left.

@@ -1,8 +1,7 @@
 // This file tests how many writes a PRINT takes, and what it has shown where it stops.
 
 use super::*;
-use crate::stop::DeviceError;
-use crate::tests::{Counted, expect_same, fault};
+use crate::tests::{Counted, UNWRITTEN, expect_same, fault};
 use ptb_devices::{Lines, WriterScreen};
 use ptb_expr::{Listed, Pause};
 use ptb_text::Device;
@@ -46,8 +45,6 @@ const WRITES: &[(
 ];
 
 const NO_ANSWER: Result<usize, Stop> = Err(Stop::Pause(Pause::Ended));
-
-const UNWRITTEN: Result<usize, Stop> = Err(Stop::Broke(DeviceError::Write));
 
 // Does a PRINT with these answers and a writer that takes so many writes: the place behind it, and
 // how many writes are left.

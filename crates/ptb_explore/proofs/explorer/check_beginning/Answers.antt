@@ -1,60 +1,44 @@
 -- This file answers that a run begins with answers exactly where all of them are taken.
-use Rattle.std.proofs.Common.{◌≡◌, ◌≤◌, ℕ, List, [], ◌∙◌, take, Some, length, ap, sym, subst, arith}
-use Rattle.std.specs.Prelude.{ℤ}
-use Rattle.ptb_devices.specs.Sources.{LineList}
+use Rattle.std.proofs.Common.{◌≡◌, ◌≤◌, [], ◌∙◌, length, ap, sym, arith}
 use Rattle.ptb_machine.specs.Play.{Finish, play}
 use Rattle.ptb_machine.specs.Questions.{most_answers}
-use Rattle.ptb_explore.specs.Playing.{PlayEnds}
-use Rattle.ptb_explore.specs.Recording.{choices_of}
 use Rattle.ptb_explore.specs.RunTree.{Start}
 use Rattle.ptb_explore.proofs.Next.{next_same}
 use Rattle.ptb_explore.proofs.Raising.{plan_ends, start_plan}
-use Rattle.ptb_explore.proofs.RunPrefix.{run_prefix_at_first}
-use Rattle.ptb_explore.proofs.Trial.{begun_opens, fresh_plan, open_begun, open_ends, result_is}
+use Rattle.ptb_explore.proofs.Trial.{begun_opens, open_begun, open_ends, result_is}
 use Rattle.ptb_explore.proofs.explorer.check_beginning.Goals as goal
-
-pub play_on-requires-clause-run_prefix : goal.play_on-requires-clause-run_prefix
-play_on-requires-clause-run_prefix c =
-    let trial = c.args.trial.now in
-    let input = c.args.lines.now in
-    let taken : (choices_of trial).taken ≡ [] = ap (λ (bs : List ℤ). take (length bs) trial.answers.items) c.requires.fresh.none_given in
-    let kept : (choices_of trial).kept ≡ Some [] = ap Some c.requires.fresh.none_given in
-    rw (c.new-source.ensures, c.new-screen.ensures) (run_prefix_at_first c.args.player.now input c.args.rules (choices_of trial) c.in_ok-machine.machine taken kept (c.in_ok-machine.ensures.first input c.args.rules.choose))
 
 pub returns-then-len-planned-clause-opens : goal.returns-then-len-planned-clause-opens
 returns-then-len-planned-clause-opens c =
     let p = c.args.player.now in
     let input = c.args.lines.now in
     let plan = c.args.trial.now.answers in
-    let new = c.play_on.new.trial in
-    let planned = c.in_ok-play_on.ensures.plan ∙ fresh_plan c.args.trial.now c.requires.fresh in
-    let lines : c.new-source.result.lines ≡ input = ap (λ (s : LineList). s.lines) c.new-source.ensures in
-    let ends = subst (λ (ls : List (List ℕ)). PlayEnds (play p ls c.args.rules) (choices_of new) c.play_on.new.machine.steps c.play_on.new.screen c.in_ok-play_on.field-0) lines c.in_ok-play_on.ensures.ends in
+    let new = c.play_from_start.new.trial in
+    let planned = c.in_ok-steps.ensures.plan in
+    let ends = c.in_ok-steps.ensures.ends in
     let all : length plan.items ≤ length new.bounds.items = omega (arith, c.if-len-planned.true, new.bounds.ok.0, plan.ok.0) in
-    (begun_opens (play p input c.args.rules) new c.play_on.new.machine.steps c.play_on.new.screen (most_answers p input c.args.rules.limit) (c.run_laws.ensures.reads p input c.args.rules) plan.items planned all c.in_ok-play_on.field-0 ends).0
+    (begun_opens (play p input c.args.rules) new c.in_ok-steps.steps c.play_from_start.new.screen (most_answers p input c.args.rules.limit) (c.run_laws.ensures.reads p input c.args.rules) plan.items planned all ends.0 ends.1).0
 
 pub returns-then-len-planned-clause-bounds : goal.returns-then-len-planned-clause-bounds
 returns-then-len-planned-clause-bounds c =
     let p = c.args.player.now in
     let input = c.args.lines.now in
     let plan = c.args.trial.now.answers in
-    let new = c.play_on.new.trial in
-    let planned = c.in_ok-play_on.ensures.plan ∙ fresh_plan c.args.trial.now c.requires.fresh in
-    let lines : c.new-source.result.lines ≡ input = ap (λ (s : LineList). s.lines) c.new-source.ensures in
-    let ends = subst (λ (ls : List (List ℕ)). PlayEnds (play p ls c.args.rules) (choices_of new) c.play_on.new.machine.steps c.play_on.new.screen c.in_ok-play_on.field-0) lines c.in_ok-play_on.ensures.ends in
+    let new = c.play_from_start.new.trial in
+    let planned = c.in_ok-steps.ensures.plan in
+    let ends = c.in_ok-steps.ensures.ends in
     let all : length plan.items ≤ length new.bounds.items = omega (arith, c.if-len-planned.true, new.bounds.ok.0, plan.ok.0) in
-    (begun_opens (play p input c.args.rules) new c.play_on.new.machine.steps c.play_on.new.screen (most_answers p input c.args.rules.limit) (c.run_laws.ensures.reads p input c.args.rules) plan.items planned all c.in_ok-play_on.field-0 ends).1
+    (begun_opens (play p input c.args.rules) new c.in_ok-steps.steps c.play_from_start.new.screen (most_answers p input c.args.rules.limit) (c.run_laws.ensures.reads p input c.args.rules) plan.items planned all ends.0 ends.1).1
 
 pub returns-clause-no_beginning : goal.returns-clause-no_beginning
 returns-clause-no_beginning c = λ _ opens.
     let p = c.args.player.now in
     let input = c.args.lines.now in
     let plan = c.args.trial.now.answers in
-    let new = c.play_on.new.trial in
-    let planned = c.in_ok-play_on.ensures.plan ∙ fresh_plan c.args.trial.now c.requires.fresh in
-    let lines : c.new-source.result.lines ≡ input = ap (λ (s : LineList). s.lines) c.new-source.ensures in
-    let ends = subst (λ (ls : List (List ℕ)). PlayEnds (play p ls c.args.rules) (choices_of new) c.play_on.new.machine.steps c.play_on.new.screen c.in_ok-play_on.field-0) lines c.in_ok-play_on.ensures.ends in
-    let all = open_begun (play p input c.args.rules) new c.play_on.new.machine.steps c.play_on.new.screen (most_answers p input c.args.rules.limit) (c.run_laws.ensures.reads p input c.args.rules) plan.items planned opens c.in_ok-play_on.field-0 ends in
+    let new = c.play_from_start.new.trial in
+    let planned = c.in_ok-steps.ensures.plan in
+    let ends = c.in_ok-steps.ensures.ends in
+    let all = open_begun (play p input c.args.rules) new c.in_ok-steps.steps c.play_from_start.new.screen (most_answers p input c.args.rules.limit) (c.run_laws.ensures.reads p input c.args.rules) plan.items planned opens ends.0 ends.1 in
     omega (arith, c.if-len-planned.false, new.bounds.ok.0, plan.ok.0, all)
 
 pub returns-then-len-planned-clause-played : goal.returns-then-len-planned-clause-played
@@ -65,13 +49,12 @@ returns-then-len-planned-clause-played c = λ a first f is.
     let most = most_answers p input c.args.rules.limit in
     let reads = c.run_laws.ensures.reads p input c.args.rules in
     let plan = c.args.trial.now.answers in
-    let new = c.play_on.new.trial in
-    let planned = c.in_ok-play_on.ensures.plan ∙ fresh_plan c.args.trial.now c.requires.fresh in
-    let lines : c.new-source.result.lines ≡ input = ap (λ (s : LineList). s.lines) c.new-source.ensures in
-    let ends = subst (λ (ls : List (List ℕ)). PlayEnds (play p ls c.args.rules) (choices_of new) c.play_on.new.machine.steps c.play_on.new.screen c.in_ok-play_on.field-0) lines c.in_ok-play_on.ensures.ends in
+    let new = c.play_from_start.new.trial in
+    let planned = c.in_ok-steps.ensures.plan in
+    let ends = c.in_ok-steps.ensures.ends in
     let all : length plan.items ≤ length new.bounds.items = omega (arith, c.if-len-planned.true, new.bounds.ok.0, plan.ok.0) in
-    let opens = (begun_opens game new c.play_on.new.machine.steps c.play_on.new.screen most reads plan.items planned all c.in_ok-play_on.field-0 ends).0 in
-    let end = open_ends game new c.play_on.new.machine.steps c.play_on.new.screen most reads plan.items planned opens c.in_ok-play_on.field-0 ends in
+    let opens = (begun_opens game new c.in_ok-steps.steps c.play_from_start.new.screen most reads plan.items planned all ends.0 ends.1).0 in
+    let end = open_ends game new c.in_ok-steps.steps c.play_from_start.new.screen most reads plan.items planned opens ends.0 ends.1 in
     let next = plan_ends game most reads plan.items Start plan.items new.answers.items new.bounds.items _ (start_plan game most reads plan.items opens) end in
     let same : a ≡ new.answers.items = next_same game most reads plan.items Start a new.answers.items first next in
-    c.from.ensures ∙ c.steps.ensures ∙ ap (λ (x : Finish). x.steps) (result_is _ f [] [] (sym end.outcome ∙ ap game (sym same) ∙ is))
+    c.from.ensures ∙ ap (λ (x : Finish). x.steps) (result_is _ f [] [] (sym end.outcome ∙ ap game (sym same) ∙ is))

@@ -2,7 +2,7 @@
 use Rattle.std.proofs.Common.{rules, ◌≡◌, ℕ, List, Bool, Option, Some, Result, Ok, Err, true, false, not, eqb, ap, refl, ◌∙◌, subst}
 use Rattle.std.specs.Option.{option_eq}
 use Rattle.ptb_explore.specs.declared.fault.NextFault.{NextFault}
-use Rattle.ptb_explore.specs.declared.form.Form.{Form}
+use Rattle.ptb_expr.specs.declared.form.Form.{Form}
 use Rattle.ptb_explore.specs.declared.fault.NextFault.TheVariants as next
 use Rattle.ptb_explore.specs.RunTree.{Front, runs_left}
 use Rattle.ptb_explore.specs.Report.{report}

@@ -11,9 +11,9 @@ use Rattle.std.specs.Str.Iter.{split_text, split_has_more, split_pattern}
 use Rattle.std.proofs.lemmas.List.Elements.{All-push}
 use Rattle.std.proofs.lemmas.Iterator.Splits.{YieldsList-from_str_split}
 use Rattle.std.proofs.lemmas.Iterator.Consumers.{YieldsList-turn, YieldsList-end}
-use Rattle.ptb_explore.specs.AnswerText.{unmarked, without_bound}
+use Rattle.ptb_expr.specs.AnswerText.{unmarked, without_bound}
 use Rattle.ptb_options.specs.AnswerLists.{IsItem, SpellsItem}
-use Rattle.ptb_options.proofs.AnswerTexts.{list_of_words, word_of_answers, more_words, unmarked-push}
+use Rattle.ptb_options.proofs.AnswerTexts.{list_of_words, one_list_of_answers, word_of_answers, more_words, unmarked-push}
 use Rattle.ptb_options.proofs.answers.parse_answers.Goals as goal
 
 none_is_some : (k : ℤ) → ◌≡◌ {A = Option ℤ} None (Some k) → ⊥
@@ -52,3 +52,16 @@ returns-clause-ok c =
     let words = YieldsList-from_str_split 44 text (lit< tt) (ap split_text same ∙ split.text) (ap split_has_more same ∙ split.has_more) (ap split_pattern same ∙ split.pattern) in
     let all = YieldsList-end words c.loop-word.yielded _ c.loop-word.yielded_by _ _ c.in-None.is c.next.ensures.steps in
     rw c.into-2.ensures (list_of_words text (unmarked c.loop-word.answers.items) c.loop-word.invariant.each (sym all.0 ∙ c.loop-word.invariant.words))
+
+-- a list is known by its text, whatever is returned
+pub returns-then-eq-clause-one : goal.returns-then-eq-clause-one
+returns-then-eq-clause-one c = one_list_of_answers c.args.text.now
+
+pub returns-in_err-answer-clause-one : goal.returns-in_err-answer-clause-one
+returns-in_err-answer-clause-one c = one_list_of_answers c.args.text.now
+
+pub returns-in_err-push-clause-one : goal.returns-in_err-push-clause-one
+returns-in_err-push-clause-one c = one_list_of_answers c.args.text.now
+
+pub returns-clause-one : goal.returns-clause-one
+returns-clause-one c = one_list_of_answers c.args.text.now

@@ -1,5 +1,5 @@
 -- This file answers what is left to prove of `run_on_input`.
-use Rattle.std.proofs.Common.{◌≡◌, ◌≤◌, List, ℕ, [], ◌++◌, length, Some, None, Err, IsErrOf, refl, sym, subst, ◌∙◌}
+use Rattle.std.proofs.Common.{◌≡◌, ◌≤◌, List, ℕ, [], ◌++◌, length, Some, None, Err, IsErrOf, refl, sym, ap, subst, ◌∙◌}
 use Rattle.ptb_devices.specs.Inputs.{InputState, known_lines, most_lines, ReadsOn, Refuses, asked, fault_at}
 use Rattle.ptb_devices.specs.InputLaws.{none_known}
 use Rattle.ptb_command.specs.Stops.{NotMissed}
@@ -10,7 +10,7 @@ use Rattle.ptb_machine.specs.Runs.{UnlessRunMissed}
 use Rattle.ptb_expr.specs.Outcome.{Answers}
 use Rattle.ptb_serve.specs.PlainRuns.{GoesBy, lines_taken, run_fault}
 use Rattle.ptb_serve.proofs.Playing.{IsRunBetween, IsUnreadBetween, led_run, led_run_takes, led_run_dry, run_between, unread_between, state_of}
-use Rattle.ptb_serve.proofs.Taking.{fresh, fault_without_memory, never_unread, where_ok, where_err, taken_by, shows_input, begins_input, shows_come, fault_missed, wanted_within, wanted_at_fault, reads_for, takes_within}
+use Rattle.ptb_serve.proofs.Taking.{fresh, failed_or_given, fault_unread, fault_without_memory, given_at_most, is_unreadable, reads_unfailed, takes_at_most, never_unread, where_ok, where_err, taken_by, shows_input, begins_input, shows_come, fault_missed, wanted_within, wanted_at_fault, reads_for, takes_within}
 use Rattle.ptb_serve.proofs.plain.run_on_input.Goals as goal
 use Rattle.ptb_serve.proofs.plain.run_on_input.Goals.{After-run_fault, In-None}
 
@@ -111,6 +111,40 @@ returns-in-Some-clause-taken g c = λ answers goes. rw (ends_some g c, c.run_fau
 pub returns-in-Some-clause-unfailed : goal.returns-in-Some-clause-unfailed
 returns-in-Some-clause-unfailed g c = λ answers goes _. (dry_some g c answers goes).unfailed
 
+-- the run says that a line could not be read
+unread_some : (g : _) (c : After-run_fault g) → c.run_fault.result ≡ runs.Read
+unread_some g c = c.run_fault.ensures ∙ fault_unread (line_input c.run-ended.new.source).end c.in-Some.fault (fault_is g c)
+
+pub returns-in-Some-clause-ok : goal.returns-in-Some-clause-ok
+returns-in-Some-clause-ok g c = λ answers goes. tt
+
+pub returns-in-Some-clause-within : goal.returns-in-Some-clause-within
+returns-in-Some-clause-within g c = tt
+
+pub returns-in-Some-clause-failed : goal.returns-in-Some-clause-failed
+returns-in-Some-clause-failed g c = λ answers goes e. absurd (let told = unread_some g c in cc)
+
+pub returns-in-Some-clause-memory : goal.returns-in-Some-clause-memory
+returns-in-Some-clause-memory g c = λ answers goes e. absurd (let told = unread_some g c in cc)
+
+pub returns-in-Some-clause-unreadable : goal.returns-in-Some-clause-unreadable
+returns-in-Some-clause-unreadable g c = λ _. rw (ends_some g c) (is_unreadable _ _ _ _ _ _ (on_some g c) c.in-Some.fault (fault_is g c))
+
+pub returns-in-Some-clause-input_read : goal.returns-in-Some-clause-input_read
+returns-in-Some-clause-input_read g c = λ unread. absurd (unread (ap Err (unread_some g c)))
+
+pub returns-in-Some-clause-unspent : goal.returns-in-Some-clause-unspent
+returns-in-Some-clause-unspent g c = λ answers goes e. absurd (let told = unread_some g c in cc)
+
+pub returns-in-Some-clause-bounded : goal.returns-in-Some-clause-bounded
+returns-in-Some-clause-bounded g c = rw (ends_some g c) (takes_at_most _ _ _ _ _ _ (on_some g c))
+
+pub returns-in-Some-clause-given : goal.returns-in-Some-clause-given
+returns-in-Some-clause-given g c = rw (ends_some g c) (given_at_most _ _ _ _ _ _ (on_some g c))
+
+pub returns-in-Some-clause-failed_or_given : goal.returns-in-Some-clause-failed_or_given
+returns-in-Some-clause-failed_or_given g c = λ _. rw (ends_some g c) (failed_or_given _ _ _ _ _ _ (on_some g c) c.in-Some.fault (fault_is g c))
+
 -- ---- where it has come to none
 
 abbrev Goes_none : (g : _) (c : In-None g) → (List (List ℕ) → Answers) → Type 0
@@ -210,3 +244,12 @@ returns-in-None-clause-unspent g c = λ answers goes. (between_none g c answers 
 
 pub returns-in-None-clause-failed_or_given : goal.returns-in-None-clause-failed_or_given
 returns-in-None-clause-failed_or_given g c = λ e. absurd (not_unread g c e)
+
+pub returns-in-None-clause-input_read : goal.returns-in-None-clause-input_read
+returns-in-None-clause-input_read g c = λ _. rw (ends_none g c) (reads_unfailed _ _ _ _ _ _ (on_none g c) (no_fault g c))
+
+pub returns-in-None-clause-bounded : goal.returns-in-None-clause-bounded
+returns-in-None-clause-bounded g c = rw (ends_none g c) (takes_at_most _ _ _ _ _ _ (on_none g c))
+
+pub returns-in-None-clause-given : goal.returns-in-None-clause-given
+returns-in-None-clause-given g c = rw (ends_none g c) (given_at_most _ _ _ _ _ _ (on_none g c))

@@ -9,6 +9,7 @@ use Rattle.ptb_command.specs.Actions.{goes_on}
 use Rattle.ptb_command.specs.Io.{io_devices}
 use Rattle.ptb_command.specs.Traces.{trace, with_due, RefinesPart}
 use Rattle.ptb_command.proofs.Actions.{stops_unrefused}
+use Rattle.ptb_command.proofs.Borrows.{devices_then}
 use Rattle.ptb_command.proofs.Inputting.{chosen_value, chosen_stops, instead_value_stops, instead_digits_stops, instead_newline_stops, instead_stored}
 use Rattle.ptb_command.proofs.Letting.{store_refines_part}
 use Rattle.ptb_command.proofs.Stops.{comes_err}
@@ -56,3 +57,20 @@ returns-clause-comes g c given =
     (c.in_ok-show-2.ensures.comes given c.args.store.now)
     (subst (λ (z : ℤ). RefinesPart n (with_due c.show-2.new.gathering (trace d c.show-2.new.self.fresh c.store_value.new.store)) (store c.args.target z) (goes_on tt)) same
     (store_refines_part d c.show-2.new.self.fresh c.show-2.new.gathering c.args.store.now c.store_value.new.store c.args.target _ c.store_value.ensures))
+
+-- ---- what stays
+
+pub returns-in_err-value-clause-same : goal.returns-in_err-value-clause-same
+returns-in_err-value-clause-same g c = record { chooser = refl; screen = refl; source = refl; choose = refl }
+
+pub returns-in_err-show-clause-same : goal.returns-in_err-show-clause-same
+returns-in_err-show-clause-same g c = devices_then (record { chooser = refl; screen = refl; source = refl; choose = refl }) c.show.ensures.same
+
+pub returns-in_err-show-2-clause-same : goal.returns-in_err-show-2-clause-same
+returns-in_err-show-2-clause-same g c = devices_then (devices_then (record { chooser = refl; screen = refl; source = refl; choose = refl }) c.show.ensures.same) c.show-2.ensures.same
+
+pub returns-clause-same : goal.returns-clause-same
+returns-clause-same g c = devices_then (devices_then (record { chooser = refl; screen = refl; source = refl; choose = refl }) c.show.ensures.same) c.show-2.ensures.same
+
+pub store_value-requires : goal.store_value-requires
+store_value-requires g c = c.requires.target

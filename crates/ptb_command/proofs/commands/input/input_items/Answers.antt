@@ -6,6 +6,7 @@ use Rattle.ptb_command.specs.Commands.{input_item, end_check, parts_of}
 use Rattle.ptb_command.specs.Io.{due_trace}
 use Rattle.ptb_command.specs.Traces.{still_due}
 use Rattle.ptb_command.specs.Stops.{NotMissed}
+use Rattle.ptb_command.proofs.Borrows.{borrows_on}
 use Rattle.ptb_command.proofs.Comings.{if_ok_both, comes_unrefused}
 use Rattle.ptb_command.proofs.Commas.{comma_closed, comma_ended, comma_on, comma_first}
 use Rattle.ptb_command.proofs.Going.{item_in_front, going_start, going_last, last_closes, going_on, going_first}
@@ -48,14 +49,13 @@ items-preserved g c =
     let t = c.args.cursor.now.text in
     let was = c.items.invariant in
     let one = c.in_ok-input_item.ensures.comes in
-    let same = c.in_ok-input_item.ensures.same in
     let text = c.in_ok-input_item.ensures.text ∙ was.text in
     let item = rw was.text at c.in_ok-input_item.ensures.read in
     let comma = rw text at c.if-not-token.ensures.value in
     let ahead = c.finding_laws.ensures.token _ _ _ _ comma in
     record {
       text = c.token.ensures.text ∙ text;
-      same = record { chooser = same.chooser ∙ was.same.chooser; screen = same.screen ∙ was.same.screen; source = same.source ∙ was.same.source; choose = same.choose ∙ was.same.choose };
+      same = borrows_on was.same c.in_ok-input_item.ensures.same;
       given = was.given ++ one.0;
       gives = g.met.L.LineSource.gives_more _ _ _ _ _ was.gives one.1.0;
       missed = not_missed_then _ _ _ _ _ _ (fewer_lines g.L.LineSource.gives g.L.LineSource.most g.met.L.LineSource.falls _ _ _ one.1.0) was.missed (rw was.same.choose at c.in_ok-input_item.ensures.missed);
@@ -117,3 +117,17 @@ returns-in_err-input_item-clause-missed g c =
 
 pub returns-then-not-token-clause-missed : goal.returns-then-not-token-clause-missed
 returns-then-not-token-clause-missed g c = unmissed (g.L.LineSource.refused c.input_item.new.io.source.now) _ (not_missed_then _ _ _ _ _ _ (fewer_lines g.L.LineSource.gives g.L.LineSource.most g.met.L.LineSource.falls _ _ _ c.in_ok-input_item.ensures.comes.1.0) c.items.invariant.missed (rw c.items.invariant.same.choose at c.in_ok-input_item.ensures.missed)) c.check_end.result
+
+-- ---- what stays
+
+pub returns-in_err-input_item-clause-text : goal.returns-in_err-input_item-clause-text
+returns-in_err-input_item-clause-text g c = c.input_item.ensures.text ∙ c.items.invariant.text
+
+pub returns-in_err-input_item-clause-same : goal.returns-in_err-input_item-clause-same
+returns-in_err-input_item-clause-same g c = borrows_on c.items.invariant.same c.input_item.ensures.same
+
+pub returns-then-not-token-clause-text : goal.returns-then-not-token-clause-text
+returns-then-not-token-clause-text g c = c.token.ensures.text ∙ c.input_item.ensures.text ∙ c.items.invariant.text
+
+pub returns-then-not-token-clause-same : goal.returns-then-not-token-clause-same
+returns-then-not-token-clause-same g c = borrows_on c.items.invariant.same c.input_item.ensures.same

@@ -102,3 +102,26 @@ returns-clause-closed g c =
       within = closed.within;
       ends = closed.ends;
     }
+
+-- ---- the text stays
+
+pub returns-in_default-clause-text : goal.returns-in_default-clause-text
+returns-in_default-clause-text g c = c.letter.ensures.text
+
+pub returns-then-not-token-clause-text : goal.returns-then-not-token-clause-text
+returns-then-not-token-clause-text g c = c.token.ensures.text ∙ c.letter.ensures.text
+
+pub returns-in_err-first-clause-text : goal.returns-in_err-first-clause-text
+returns-in_err-first-clause-text g c = c.value.ensures.text ∙ c.token.ensures.text ∙ c.letter.ensures.text
+
+pub returns-then-is_none-clause-text : goal.returns-then-is_none-clause-text
+returns-then-is_none-clause-text g c = c.word.ensures.text ∙ c.value.ensures.text ∙ c.token.ensures.text ∙ c.letter.ensures.text
+
+pub returns-in_err-limit-clause-text : goal.returns-in_err-limit-clause-text
+returns-in_err-limit-clause-text g c = c.value-2.ensures.text ∙ c.word.ensures.text ∙ c.value.ensures.text ∙ c.token.ensures.text ∙ c.letter.ensures.text
+
+pub returns-in_err-step-clause-text : goal.returns-in_err-step-clause-text
+returns-in_err-step-clause-text g c = c.step.ensures.text ∙ c.value-2.ensures.text ∙ c.word.ensures.text ∙ c.value.ensures.text ∙ c.token.ensures.text ∙ c.letter.ensures.text
+
+pub returns-clause-text : goal.returns-clause-text
+returns-clause-text g c = c.step.ensures.text ∙ c.value-2.ensures.text ∙ c.word.ensures.text ∙ c.value.ensures.text ∙ c.token.ensures.text ∙ c.letter.ensures.text

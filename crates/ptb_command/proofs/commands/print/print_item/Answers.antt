@@ -2,6 +2,7 @@
 use Rattle.std.proofs.Common.{◌≡◌, ◌∙◌, ap, arith, refl, rules, to_z, of_z, w16}
 use Rattle.ptb_expr.specs.Reading.{item_of}
 use Rattle.ptb_command.specs.Io.{due_trace}
+use Rattle.ptb_command.proofs.Borrows.{devices_then}
 use Rattle.ptb_command.proofs.Comings.{if_ok_always, say_comes, show_comes}
 use Rattle.ptb_command.proofs.Actions.{stops_unrefused, stops_fault}
 use Rattle.ptb_command.proofs.Going.{is_whole}
@@ -90,3 +91,44 @@ returns-in_ok-value-in-Absent-clause-read g c =
       whole = is_whole _ _ _ (item_whole_value c.args.cursor.now.text c.args.cursor.now.place _ c.if-token.ensures.value none read.whole);
       ahead = read.ahead;
     })
+
+-- ---- what stays
+
+pub returns-in_err-value-clause-text : goal.returns-in_err-value-clause-text
+returns-in_err-value-clause-text g c = c.value.ensures.text ∙ c.token.ensures.text
+
+pub returns-in_err-value-clause-same : goal.returns-in_err-value-clause-same
+returns-in_err-value-clause-same g c = c.value.ensures.same
+
+pub returns-in_err-width-clause-text : goal.returns-in_err-width-clause-text
+returns-in_err-width-clause-text g c = c.value.ensures.text ∙ c.token.ensures.text
+
+pub returns-in_err-width-clause-same : goal.returns-in_err-width-clause-same
+returns-in_err-width-clause-same g c = c.value.ensures.same
+
+pub returns-then-token-clause-text : goal.returns-then-token-clause-text
+returns-then-token-clause-text g c = c.value.ensures.text ∙ c.token.ensures.text
+
+pub returns-then-token-clause-same : goal.returns-then-token-clause-same
+returns-then-token-clause-same g c = c.value.ensures.same
+
+pub returns-in-Text-clause-text : goal.returns-in-Text-clause-text
+returns-in-Text-clause-text g c = c.literal.ensures.text ∙ c.token.ensures.text
+
+pub returns-in-Text-clause-same : goal.returns-in-Text-clause-same
+returns-in-Text-clause-same g c = c.show.ensures.same
+
+pub returns-in-Unclosed-clause-text : goal.returns-in-Unclosed-clause-text
+returns-in-Unclosed-clause-text g c = c.literal.ensures.text ∙ c.token.ensures.text
+
+pub returns-in_err-value-in-Absent-clause-text : goal.returns-in_err-value-in-Absent-clause-text
+returns-in_err-value-in-Absent-clause-text g c = c.value-in-Absent.ensures.text ∙ c.literal.ensures.text ∙ c.token.ensures.text
+
+pub returns-in_err-value-in-Absent-clause-same : goal.returns-in_err-value-in-Absent-clause-same
+returns-in_err-value-in-Absent-clause-same g c = c.value-in-Absent.ensures.same
+
+pub returns-in_ok-value-in-Absent-clause-text : goal.returns-in_ok-value-in-Absent-clause-text
+returns-in_ok-value-in-Absent-clause-text g c = c.value-in-Absent.ensures.text ∙ c.literal.ensures.text ∙ c.token.ensures.text
+
+pub returns-in_ok-value-in-Absent-clause-same : goal.returns-in_ok-value-in-Absent-clause-same
+returns-in_ok-value-in-Absent-clause-same g c = devices_then c.value-in-Absent.ensures.same c.show_value.ensures.same

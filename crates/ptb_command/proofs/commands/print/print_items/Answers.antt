@@ -4,6 +4,7 @@ use Rattle.ptb_expr.specs.Reading.{item_of}
 use Rattle.ptb_command.specs.Act.{first_width}
 use Rattle.ptb_command.specs.Commands.{NewLine, at_end, end_check}
 use Rattle.ptb_command.specs.Io.{due_trace}
+use Rattle.ptb_command.proofs.Borrows.{devices_then}
 use Rattle.ptb_command.proofs.Comings.{if_ok_always, if_ok_both, comes_unrefused, newline_comes}
 use Rattle.ptb_command.proofs.Actions.{stops_unrefused}
 use Rattle.ptb_command.proofs.Going.{is_whole, going_start, going_last, last_closes, going_on, going_first}
@@ -46,11 +47,9 @@ items-preserved g c =
     let item = rw c.items.invariant.text at c.in_ok-print_item.ensures.read in
     let comma = rw text at c.if-not-token.ensures.value in
     let ahead = c.finding_laws.ensures.token _ _ _ _ comma in
-    let was = c.items.invariant.same in
-    let same = c.print_item.ensures.same in
     record {
       text = c.token.ensures.text ∙ text;
-      same = record { chooser = same.chooser ∙ was.chooser; screen = same.screen ∙ was.screen; source = same.source ∙ was.source; choose = same.choose ∙ was.choose };
+      same = devices_then c.items.invariant.same c.print_item.ensures.same;
       going = going_on _ _ _ _ _ _ _ _ c.items.invariant.going _ _ _ _
           (round_on c.args.cursor.now.text c.items.cursor.place _ _ item.whole comma (rw (c.token.ensures.text ∙ text) at (sym c.at_end-in-items.ensures ∙ c.if-at_end-2.false)))
           (omega (arith, item.ahead.after, ahead.after)) ahead.within
@@ -126,3 +125,32 @@ returns-then-at_end-2-clause-closed g c =
       within = ahead.within;
       ends = ends;
     }
+
+-- ---- what stays
+
+pub returns-then-at_end-clause-same : goal.returns-then-at_end-clause-same
+returns-then-at_end-clause-same g c = c.show.ensures.same
+
+pub returns-in_err-print_item-clause-text : goal.returns-in_err-print_item-clause-text
+returns-in_err-print_item-clause-text g c = c.print_item.ensures.text ∙ c.items.invariant.text
+
+pub returns-in_err-print_item-clause-same : goal.returns-in_err-print_item-clause-same
+returns-in_err-print_item-clause-same g c = devices_then c.items.invariant.same c.print_item.ensures.same
+
+pub returns-in_err-show-clause-text : goal.returns-in_err-show-clause-text
+returns-in_err-show-clause-text g c = c.token.ensures.text ∙ c.print_item.ensures.text ∙ c.items.invariant.text
+
+pub returns-then-not-token-clause-text : goal.returns-then-not-token-clause-text
+returns-then-not-token-clause-text g c = c.token.ensures.text ∙ c.print_item.ensures.text ∙ c.items.invariant.text
+
+pub returns-then-at_end-2-clause-text : goal.returns-then-at_end-2-clause-text
+returns-then-at_end-2-clause-text g c = c.token.ensures.text ∙ c.print_item.ensures.text ∙ c.items.invariant.text
+
+pub returns-in_err-show-clause-same : goal.returns-in_err-show-clause-same
+returns-in_err-show-clause-same g c = devices_then (devices_then c.items.invariant.same c.print_item.ensures.same) c.show-then-not-token.ensures.same
+
+pub returns-then-not-token-clause-same : goal.returns-then-not-token-clause-same
+returns-then-not-token-clause-same g c = devices_then (devices_then c.items.invariant.same c.print_item.ensures.same) c.show-then-not-token.ensures.same
+
+pub returns-then-at_end-2-clause-same : goal.returns-then-at_end-2-clause-same
+returns-then-at_end-2-clause-same g c = devices_then c.items.invariant.same c.print_item.ensures.same

@@ -2,7 +2,7 @@
 use Rattle.std.proofs.Common.{rules, ◌≡◌, ◌∙◌, ap, sym, true, false, length, take}
 use Rattle.ptb_expr.specs.Outcome.{Answers, bounds, is_open}
 use Rattle.ptb_machine.specs.Play.{play}
-use Rattle.ptb_explore.specs.AnswerText.{answers_of}
+use Rattle.ptb_expr.specs.AnswerText.{answers_of}
 use Rattle.ptb_explore.specs.Exploring.{Exploration, IsPlayed}
 use Rattle.ptb_explore.specs.MarkedRuns.{states_bounds}
 use Rattle.ptb_explore.specs.RunTree.{Start, IsNextRun}

@@ -10,9 +10,9 @@ use Rattle.std.specs.Prelude.{ℕ, List, [], ◌∷◌, ◌++◌, map, zip, code
 use Rattle.std.specs.Fmt.{signed_decimal}
 use Rattle.std.specs.List.{flat_map}
 use Rattle.ptb_expr.specs.Outcome.{Answers}
-use Rattle.ptb_explore.specs.declared.form.Form.{Form}
-use Rattle.ptb_explore.specs.declared.form.Form.TheVariants.{One, Two}
-use Rattle.ptb_explore.specs.declared.form.Marked.{Marked}
+use Rattle.ptb_expr.specs.declared.form.Form.{Form}
+use Rattle.ptb_expr.specs.declared.form.Form.TheVariants.{One, Two}
+use Rattle.ptb_expr.specs.declared.form.Marked.{Marked}
 
 -- ---- text
 

@@ -1,0 +1,30 @@
+-- This file proves that borrows which stay the same stay so.
+use Rattle.std.proofs.Common.{◌∙◌, ap}
+use Rattle.ptb_command.specs.declared.io.Io.{Io}
+use Rattle.ptb_command.specs.Io.{SameBorrows, SameDevices}
+
+module _ {C S L : Type 0} {a b c : Io C S L} where
+  pub devices_then : SameDevices a b → SameDevices b c → SameDevices a c
+  devices_then h k = record {
+    chooser = k.chooser ∙ h.chooser;
+    screen = k.screen ∙ h.screen;
+    source = k.source ∙ h.source;
+    choose = k.choose ∙ h.choose;
+  }
+
+  pub borrows_on : SameBorrows a b → SameBorrows b c → SameBorrows a c
+  borrows_on h k = record {
+    chooser = k.chooser ∙ h.chooser;
+    screen = k.screen ∙ h.screen;
+    source = k.source ∙ h.source;
+    choose = k.choose ∙ h.choose;
+  }
+
+  -- where no line was asked for since then
+  pub borrows_then : SameBorrows a b → SameDevices b c → SameBorrows a c
+  borrows_then h k = record {
+    chooser = k.chooser ∙ h.chooser;
+    screen = k.screen ∙ h.screen;
+    source = ap (λ s. s.ghost_name) k.source ∙ h.source;
+    choose = k.choose ∙ h.choose;
+  }

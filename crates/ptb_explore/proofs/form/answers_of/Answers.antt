@@ -1,0 +1,20 @@
+-- This file answers that the answers so far are those of a list's front.
+use Rattle.std.proofs.Common.{rules, ◌≡◌, ◌∙◌, ap, sym, ℤ, List, [], ◌∷◌, ◌++◌, take, take_all, pos, get_or, FitsSigned, w16, to_z-of_z}
+use Rattle.std.proofs.lemmas.List.{map-append, take_more}
+use Rattle.ptb_expr.specs.declared.form.Marked.{Marked}
+use Rattle.ptb_expr.specs.AnswerText.{answers_of, without_bound}
+use Rattle.ptb_explore.proofs.form.answers_of.Goals as goal
+
+pub loop-item-preserved : goal.loop-item-preserved
+loop-item-preserved c =
+    let list = c.args.list.now in
+    let k = c.loop-item.item-index in
+    let item : Marked = get_or list k (without_bound (pos 0)) in
+    let fits : FitsSigned w16 item.answer = search rules in
+    c.in_ok-push.ensures.items
+    ∙ ap (λ (n : ℤ). c.loop-item.answers.items ++ n ∷ []) (to_z-of_z fits)
+    ∙ ap (λ (a : List ℤ). a ++ item.answer ∷ []) c.loop-item.invariant
+    ∙ sym (ap answers_of (take_more list k (without_bound (pos 0)) c.loop-item-test.true) ∙ map-append (λ (m : Marked). m.answer) (take k list) (item ∷ []))
+
+pub returns : goal.returns
+returns c = c.loop-item.invariant ∙ ap answers_of (take_all c.loop-item.item-index c.args.list.now c.loop-item-test.false)

@@ -1,0 +1,36 @@
+-- This file answers that a run is played from its beginning.
+use Rattle.std.proofs.Common.{◌≡◌, List, ℕ, [], ◌∙◌, take, Some, length, ap, subst}
+use Rattle.std.specs.Prelude.{ℤ}
+use Rattle.ptb_devices.specs.Sources.{LineList}
+use Rattle.ptb_machine.specs.Play.{play}
+use Rattle.ptb_explore.specs.Copies.{AreCopies}
+use Rattle.ptb_explore.specs.Playing.{PlayEnds}
+use Rattle.ptb_explore.specs.Recording.{choices_of}
+use Rattle.ptb_explore.proofs.RunPrefix.{run_prefix_at_first}
+use Rattle.ptb_explore.proofs.Trial.{fresh_plan}
+use Rattle.ptb_explore.proofs.playing.play_from_start.Goals as goal
+
+pub play_on-requires-clause-run_prefix : goal.play_on-requires-clause-run_prefix
+play_on-requires-clause-run_prefix c =
+    let trial = c.args.trial.now in
+    let input = c.args.lines.now in
+    let taken : (choices_of trial).taken ≡ [] = ap (λ (bs : List ℤ). take (length bs) trial.answers.items) c.requires.fresh.none_given in
+    let kept : (choices_of trial).kept ≡ Some [] = ap Some c.requires.fresh.none_given in
+    rw (c.new-source.ensures, c.requires.shown) (run_prefix_at_first c.args.player.now input c.args.rules (choices_of trial) c.in_ok-machine.machine taken kept (c.in_ok-machine.ensures.first input c.args.rules.choose))
+
+pub returns-clause-plan : goal.returns-clause-plan
+returns-clause-plan c = c.in_ok-play_on.ensures.plan ∙ fresh_plan c.args.trial.now c.requires.fresh
+
+pub returns-clause-ends : goal.returns-clause-ends
+returns-clause-ends c =
+    let p = c.args.player.now in
+    let new = choices_of c.play_on.new.trial in
+    let lines : c.new-source.result.lines ≡ c.args.lines.now = ap (λ (s : LineList). s.lines) c.new-source.ensures in
+    let ends = subst (λ (ls : List (List ℕ)). PlayEnds (play p ls c.args.rules) new c.play_on.new.machine.steps c.play_on.new.screen c.in_ok-play_on.field-0) lines c.in_ok-play_on.ensures.ends in
+    (c.in_ok-play_on.field-0, rw c.steps.ensures ends)
+
+pub returns-clause-copies : goal.returns-clause-copies
+returns-clause-copies c =
+    let new = choices_of c.play_on.new.trial in
+    let lines : c.new-source.result.lines ≡ c.args.lines.now = ap (λ (s : LineList). s.lines) c.new-source.ensures in
+    subst (λ (ls : List (List ℕ)). AreCopies c.args.player.now ls c.args.rules new.taken c.play_on.new.screen c.play_on.new.copies.kept.items) lines c.in_ok-play_on.ensures.copies
