@@ -26,7 +26,7 @@ LOOKS_LIKE_COMMAND = re.compile(r"    (\./|rt |tests/|tools/|ptb-|cd |cat |diff 
 # Programs that a reader may do without.
 OPTIONAL = ["parallel"]
 # What is tried elsewhere: the first in a copy of the repository, by tests/installing.sh; the second has this script as a part.
-TRIED_ELSEWHERE = {"./install ~/.local", "rt ci && tests/all.sh"}
+TRIED_ELSEWHERE = {"./install ~/.local", "RT_JOBS=4 rt ci && tests/all.sh"}
 
 
 class Command:

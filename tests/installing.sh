@@ -119,7 +119,7 @@ make_copy() {
     rm -rf "$folder/copy"
     mkdir -p "$folder/copy/crates/ptb/out"
     while read -r crate; do mkdir -p "$folder/copy/crates/$crate/src"; done < <(sed -n 's/^\([a-z_]*\):.*/\1/p' "$root/crates.txt")
-    cp -R "$root/ptb" "$root/crates.txt" "$root/install" "$root/LICENSE" "$root/completions" "$root/docs" "$root/tools" \
+    cp -R "$root/ptb" "$root/build" "$root/crates.txt" "$root/install" "$root/LICENSE" "$root/completions" "$root/docs" "$root/tools" \
         "$folder/copy/"
     case $ptb in
     "$root/ptb") cp "$root/crates/ptb/out/ptb" "$folder/copy/crates/ptb/out/ptb" ;;
