@@ -1,10 +1,10 @@
 -- This file proves that the parts of a command and the commands of a statement lie ahead, and within the text.
 use Rattle.std.proofs.Common.{◌≡◌, ℕ, zero, suc, Bool, true, false, cond, List, [], length, Option, Some, None, refl, subst, arith}
-use Rattle.ptb_text.specs.declared.word.Table.TheVariants.{Commands, To, Step}
-use Rattle.ptb_text.specs.declared.word.Word.{Word}
-use Rattle.ptb_text.specs.declared.word.Word.TheVariants.{NextKw, LetKw, IfKw, GotoKw, GosubKw, ReturnKw, RemKw, ForKw, InputKw, PrintKw, StopKw}
-use Rattle.ptb_text.specs.Words.{is_over, word_at, token_at, letter_at, Quotation, NoQuote, OpenQuote, QuotedText, quotation_at}
-use Rattle.ptb_text.specs.Finding.{LiesAhead, FindingLaws}
+use Rattle.ptb_words.specs.declared.word.Table.TheVariants.{Commands, To, Step}
+use Rattle.ptb_words.specs.declared.word.Word.{Word}
+use Rattle.ptb_words.specs.declared.word.Word.TheVariants.{NextKw, LetKw, IfKw, GotoKw, GosubKw, ReturnKw, RemKw, ForKw, InputKw, PrintKw, StopKw}
+use Rattle.ptb_words.specs.Words.{is_over, word_at, token_at, letter_at, Quotation, NoQuote, OpenQuote, QuotedText, quotation_at}
+use Rattle.ptb_words.specs.Finding.{LiesAhead, FindingLaws}
 use Rattle.ptb_expr.specs.Tree.{Tree}
 use Rattle.ptb_expr.specs.Reading.{Reading, Whole, Malformed, after, map_reading, expression, variable_tree}
 use Rattle.ptb_expr.specs.Spells.{SpellingLaws}

@@ -1,9 +1,9 @@
 -- This file proves what a command comes to by its word.
 use Rattle.std.proofs.Common.{◌≡◌, ◌≢◌, ℕ, List, [], ◌++◌, Option, Result, Ok, Err, ℤ, refl, sym, subst, append-nil}
-use Rattle.ptb_text.specs.declared.word.Word.{Word}
-use Rattle.ptb_text.specs.declared.word.Word.TheVariants as words
+use Rattle.ptb_words.specs.declared.word.Word.{Word}
+use Rattle.ptb_words.specs.declared.word.Word.TheVariants as words
 use Rattle.ptb_text.specs.Statements.{Statements}
-use Rattle.ptb_text.specs.Words.{IsCommand}
+use Rattle.ptb_words.specs.Words.{IsCommand}
 use Rattle.ptb_expr.specs.declared.pause.Pause.{Pause}
 use Rattle.ptb_expr.specs.Choices.{Choices}
 use Rattle.ptb_devices.specs.declared.fault.ReadFault.{ReadFault}

@@ -1,10 +1,10 @@
 -- This file proves what stands at a place of a statement, by what is found there.
 use Rattle.std.proofs.Common.{◌≡◌, ℕ, List, [], ◌∷◌, Some, None, ap, ◌∙◌, ◌≤◌, length, arith, unwrap_or}
-use Rattle.ptb_text.specs.declared.word.Table.TheVariants.{Commands}
-use Rattle.ptb_text.specs.declared.word.Word.{Word}
-use Rattle.ptb_text.specs.declared.word.Word.TheVariants.{LetKw}
-use Rattle.ptb_text.specs.Words.{word_at, token_at, Quotation, QuotedText, quotation_at}
-use Rattle.ptb_text.specs.Finding.{LiesAhead}
+use Rattle.ptb_words.specs.declared.word.Table.TheVariants.{Commands}
+use Rattle.ptb_words.specs.declared.word.Word.{Word}
+use Rattle.ptb_words.specs.declared.word.Word.TheVariants.{LetKw}
+use Rattle.ptb_words.specs.Words.{word_at, token_at, Quotation, QuotedText, quotation_at}
+use Rattle.ptb_words.specs.Finding.{LiesAhead}
 use Rattle.ptb_command.specs.Commands.{or_quotation, string_at, command_by, command_at}
 use Rattle.ptb_command.specs.Reads.{IsFirstWord}
 

@@ -2,10 +2,10 @@
 use Rattle.std.proofs.Common.{◌≡◌, ℕ, ◌+◌, Bool, true, false, List, Some, None, refl, sym, ap, subst, ◌∙◌, inl, inr}
 use Rattle.std.specs.Prelude.{◌||◌, is_some}
 use Rattle.std.proofs.lemmas.Bool.{false≢true}
-use Rattle.ptb_text.specs.declared.word.Word.{Word}
-use Rattle.ptb_text.specs.declared.word.Word.TheVariants.{NextKw, LetKw, GosubKw, ForKw, InputKw, PrintKw}
+use Rattle.ptb_words.specs.declared.word.Word.{Word}
+use Rattle.ptb_words.specs.declared.word.Word.TheVariants.{NextKw, LetKw, GosubKw, ForKw, InputKw, PrintKw}
 use Rattle.ptb_text.specs.Statements.{Statements}
-use Rattle.ptb_text.specs.Words.{is_over, token_at}
+use Rattle.ptb_words.specs.Words.{is_over, token_at}
 use Rattle.ptb_expr.specs.Evaluate.{IsWhole}
 use Rattle.ptb_command.specs.Commands.{Command, command_of, parts_of, next_begin, command_and, after_command, command_unless, command_round}
 use Rattle.ptb_command.specs.State.{Place, next_index}

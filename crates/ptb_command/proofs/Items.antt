@@ -1,6 +1,6 @@
 -- This file proves what the items of PRINT are, by what stands there.
 use Rattle.std.proofs.Common.{◌≡◌, ℕ, Bool, true, false, List, [], ◌∷◌, Option, Some, None, refl, ap, ◌∙◌}
-use Rattle.ptb_text.specs.Words.{token_at, NoQuote, OpenQuote, QuotedText}
+use Rattle.ptb_words.specs.Words.{token_at, NoQuote, OpenQuote, QuotedText}
 use Rattle.ptb_expr.specs.declared.fault.FaultKind.TheVariants.{What}
 use Rattle.ptb_expr.specs.Tree.{Tree}
 use Rattle.ptb_expr.specs.Reading.{Reading, Whole, Malformed, item_of, after, map_reading, expression}

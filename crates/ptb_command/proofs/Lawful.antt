@@ -1,5 +1,5 @@
 -- This file has the laws of commands as the contract names them.
-use Rattle.ptb_text.specs.Finding.{FindingLaws}
+use Rattle.ptb_words.specs.Finding.{FindingLaws}
 use Rattle.ptb_expr.specs.Spells.{SpellingLaws}
 use Rattle.ptb_command.specs.Commands.{command_round}
 use Rattle.ptb_command.proofs.Sequences.{enough_rounds, items_by_round}

@@ -2,7 +2,7 @@
 use Rattle.std.proofs.Common.{◌≡◌, ℕ, zero, suc, ◌<◌, true, false, List, [], ◌∷◌, length, length-drop, Option, Some, None, ℤ, refl, sym, ap, subst, ◌∙◌, arith}
 use Rattle.std.specs.Prelude.{slice_get}
 use Rattle.ptb_text.specs.Statements.{Statements}
-use Rattle.ptb_text.specs.Words.{is_over}
+use Rattle.ptb_words.specs.Words.{is_over}
 use Rattle.ptb_command.specs.declared.location.Location.{Location}
 use Rattle.ptb_command.specs.Commands.{Command, commands}
 use Rattle.ptb_command.specs.State.{Place, place_after, text_of, command_there, placed_at, first_command, command_or_next, next_command}

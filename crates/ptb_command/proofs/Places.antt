@@ -1,8 +1,8 @@
 -- This file proves which byte place stands for which index among the commands of a statement.
 use Rattle.std.proofs.Common.{◌≡◌, ℕ, zero, suc, ◌+◌, Bool, true, false, List, [], ◌∷◌, drop, slice_get, Option, Some, None, refl, sym, ap, subst, ◌∙◌, arith, add-one}
 use Rattle.std.specs.Option.{option_and_then}
-use Rattle.ptb_text.specs.Words.{is_over}
-use Rattle.ptb_text.specs.Finding.{FindingLaws}
+use Rattle.ptb_words.specs.Words.{is_over}
+use Rattle.ptb_words.specs.Finding.{FindingLaws}
 use Rattle.ptb_expr.specs.Reading.{Reading, Whole, Malformed, item_of}
 use Rattle.ptb_expr.specs.Spells.{SpellingLaws}
 use Rattle.ptb_command.specs.Items.{Round, Last, Onward, in_front, with_others, items}

@@ -6,8 +6,8 @@ use Rattle.std.specs.Prelude.{ℕ, ◌+◌, ◌-◌, Bool, true, false, not, ◌
 use Rattle.std.specs.List.{slice_index_or}
 use Rattle.std.specs.Ordering.{int_eq}
 use Rattle.std.specs.Fmt.{signed_decimal}
-use Rattle.ptb_text.specs.declared.word.Word.{Word}
-use Rattle.ptb_text.specs.declared.word.Word.TheVariants.{NextKw, IfKw, GotoKw, GosubKw, ReturnKw, RemKw, ForKw, StopKw}
+use Rattle.ptb_words.specs.declared.word.Word.{Word}
+use Rattle.ptb_words.specs.declared.word.Word.TheVariants.{NextKw, IfKw, GotoKw, GosubKw, ReturnKw, RemKw, ForKw, StopKw}
 use Rattle.ptb_text.specs.Statements.{Statements, text_at}
 use Rattle.ptb_expr.specs.declared.fault.Fault.{Fault}
 use Rattle.ptb_expr.specs.declared.fault.FaultKind.{FaultKind}

@@ -5,7 +5,7 @@
 --     take_action t k a          all that is done for it
 --     IsItem t i item j          the item that stands at place i, and the place after what of it was taken
 use Rattle.std.specs.Prelude.{◌≡◌, ◌≤◌, ℕ, Bool, true, false, List, [], ◌∷◌, ◌++◌, length}
-use Rattle.ptb_text.specs.Finding.{LiesAhead}
+use Rattle.ptb_words.specs.Finding.{LiesAhead}
 use Rattle.ptb_expr.specs.declared.fault.FaultKind.TheVariants.{What}
 use Rattle.ptb_expr.specs.declared.store.Target.{Target}
 use Rattle.ptb_expr.specs.Tree.{Tree}

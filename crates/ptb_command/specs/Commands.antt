@@ -4,11 +4,11 @@
 --     command_at t i           the command at place i; LET where no word stands
 --     parts_of word t i        the parts of a command whose word ends at i
 use Rattle.std.specs.Prelude.{ℕ, Bool, true, false, ◌||◌, is_some, if◌then◌else◌, List, [], ◌∷◌, ◌++◌, reverse, Option, Some, None, slice_range, pos}
-use Rattle.ptb_text.specs.declared.word.Table.TheVariants.{Commands, To, Step}
-use Rattle.ptb_text.specs.declared.word.Word.{Word}
-use Rattle.ptb_text.specs.declared.word.Word.TheVariants.{NextKw, LetKw, IfKw, GotoKw, GosubKw, ReturnKw, RemKw, ForKw, InputKw, PrintKw, StopKw}
+use Rattle.ptb_words.specs.declared.word.Table.TheVariants.{Commands, To, Step}
+use Rattle.ptb_words.specs.declared.word.Word.{Word}
+use Rattle.ptb_words.specs.declared.word.Word.TheVariants.{NextKw, LetKw, IfKw, GotoKw, GosubKw, ReturnKw, RemKw, ForKw, InputKw, PrintKw, StopKw}
 use Rattle.ptb_text.specs.Statements.{trim_start}
-use Rattle.ptb_text.specs.Words.{past_blanks, is_over, word_at, token_at, letter_at, Quotation, NoQuote, OpenQuote, QuotedText, quotation_at}
+use Rattle.ptb_words.specs.Words.{past_blanks, is_over, word_at, token_at, letter_at, Quotation, NoQuote, OpenQuote, QuotedText, quotation_at}
 use Rattle.ptb_expr.specs.declared.fault.FaultKind.{FaultKind}
 use Rattle.ptb_expr.specs.declared.fault.FaultKind.TheVariants.{What}
 use Rattle.ptb_expr.specs.Tree.{Tree, Num, Var, Bad}

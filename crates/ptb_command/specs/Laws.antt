@@ -1,7 +1,7 @@
 -- This file states how the parts of a command and the commands of a statement follow one another.
 use Rattle.std.specs.Prelude.{◌≡◌, ℕ, ◌+◌, ◌-◌, ◌<◌, true, false, List, [], ◌∷◌, length, Some, None, slice_get}
-use Rattle.ptb_text.specs.declared.word.Word.{Word}
-use Rattle.ptb_text.specs.Words.{is_over}
+use Rattle.ptb_words.specs.declared.word.Word.{Word}
+use Rattle.ptb_words.specs.Words.{is_over}
 use Rattle.ptb_expr.specs.Reading.{Whole}
 use Rattle.ptb_command.specs.Items.{Round, Last, Onward, with_others, items_within, items, Advances, LiesOn}
 use Rattle.ptb_command.specs.Commands.{Part, Command, comma_round, assignment, print_item, item_round, input_item, parts_of, command_at, command_round, commands_from, commands}

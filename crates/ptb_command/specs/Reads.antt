@@ -5,11 +5,11 @@
 --     IsNext t i letter j           a letter stands at i, and the command ends behind it, with the next one at j
 --     IsFirstWord t i word j     the word with which a command begins, and the place after it
 use Rattle.std.specs.Prelude.{◌≡◌, ◌≤◌, ◌⊎◌, ℕ, true, List, length, Some, None, unwrap_or}
-use Rattle.ptb_text.specs.declared.word.Table.TheVariants.{Commands}
-use Rattle.ptb_text.specs.declared.word.Word.{Word}
-use Rattle.ptb_text.specs.declared.word.Word.TheVariants.{LetKw}
-use Rattle.ptb_text.specs.Words.{word_at, token_at, letter_at}
-use Rattle.ptb_text.specs.Finding.{LiesAhead}
+use Rattle.ptb_words.specs.declared.word.Table.TheVariants.{Commands}
+use Rattle.ptb_words.specs.declared.word.Word.{Word}
+use Rattle.ptb_words.specs.declared.word.Word.TheVariants.{LetKw}
+use Rattle.ptb_words.specs.Words.{word_at, token_at, letter_at}
+use Rattle.ptb_words.specs.Finding.{LiesAhead}
 use Rattle.ptb_expr.specs.Reading.{Reading}
 use Rattle.ptb_expr.specs.Evaluate.{IsWhole}
 use Rattle.ptb_command.specs.Commands.{Part, at_end, parts_of, command_of, command_at}

@@ -6,9 +6,9 @@
 --     NextIs p q here t        the command that is next at a place, by its byte place and its text
 --     Begun p q k t word i     a command is begun: its word, which ends at i, was read
 use Rattle.std.specs.Prelude.{◌≡◌, ◌≤◌, ℕ, false, List, [], ◌∷◌, length, Option, Some, None, ℤ, pos, slice_get}
-use Rattle.ptb_text.specs.declared.word.Word.{Word}
+use Rattle.ptb_words.specs.declared.word.Word.{Word}
 use Rattle.ptb_text.specs.Statements.{Statements}
-use Rattle.ptb_text.specs.Words.{is_over}
+use Rattle.ptb_words.specs.Words.{is_over}
 use Rattle.ptb_command.specs.declared.location.Location.{Location}
 use Rattle.ptb_command.specs.declared.stack.OpenLoop.{OpenLoop}
 use Rattle.ptb_command.specs.declared.stack.Open.{Open}

@@ -14,7 +14,7 @@ use crate::reads::value;
 use crate::stop::Stop;
 use ptb_devices::{LineSource, Screen};
 use ptb_expr::{Chooser, Store};
-use ptb_text::Cursor;
+use ptb_words::Cursor;
 
 /// What a command asks, shows and reads.
 #[derive(Drop)]

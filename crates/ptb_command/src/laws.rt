@@ -3,7 +3,7 @@
 ghost use Rattle.ptb_command.specs.Laws.{CommandLaws};
 
 use ptb_expr::spelling_laws;
-use ptb_text::finding_laws;
+use ptb_words::finding_laws;
 
 /// The parts of a command and the commands of a statement are read one after the other, and each
 /// command has a byte place.

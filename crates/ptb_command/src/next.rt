@@ -7,7 +7,8 @@ ghost use Rattle.ptb_command.specs.State.{Place, next_command};
 use crate::laws::command_laws;
 use crate::location::Location;
 use crate::statements::{line_at, place_after};
-use ptb_text::{Cursor, Program};
+use ptb_text::Program;
+use ptb_words::Cursor;
 
 /// The place of the next command's statement, and a cursor at the command's beginning. None where
 /// no command is left.

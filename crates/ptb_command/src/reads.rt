@@ -2,8 +2,8 @@
 
 ghost use Rattle.std.specs.Prelude.{◌≡◌, ◌≤◌, ℕ, ℤ, Bool, true, List, [], length};
 ghost use Rattle.std.specs.Prelude.{IfOk, OnOk, IsTrue, IsFalse};
-ghost use Rattle.ptb_text.specs.Words.{quotation_of, is_text, IsCommand};
-ghost use Rattle.ptb_text.specs.Finding.{LiesAhead};
+ghost use Rattle.ptb_words.specs.Words.{quotation_of, is_text, IsCommand};
+ghost use Rattle.ptb_words.specs.Finding.{LiesAhead};
 ghost use Rattle.ptb_expr.specs.Evaluate.{IsTarget};
 ghost use Rattle.ptb_expr.specs.Reading.{Whole, item_of, expression, variable_tree};
 ghost use Rattle.ptb_command.specs.Act.{parts_action, value_action, target_action};
@@ -16,7 +16,7 @@ ghost use Rattle.ptb_command.specs.Stops.{Comes};
 
 use crate::stop::{Stop, fault};
 use ptb_expr::{Chooser, FaultKind, Store, Target};
-use ptb_text::{Cursor, Quoted, Table, Word, finding_laws};
+use ptb_words::{Cursor, Quoted, Table, Word, finding_laws};
 
 /// Whether a command ends at the cursor: the text is over, or `;` stands next.
 pub fn at_end(cursor: &Cursor) -> bool

@@ -13,7 +13,8 @@ use crate::reads::pass_separator;
 use crate::stack::Stack;
 use crate::statements::first_place;
 use ptb_expr::Store;
-use ptb_text::{Cursor, Program};
+use ptb_text::Program;
+use ptb_words::Cursor;
 use std::alloc::{AllocError, Global};
 
 /// What commands change.

@@ -8,7 +8,7 @@ ghost use Rattle.ptb_command.specs.State.{nesting_limit};
 
 use crate::location::Location;
 use arrayvec::ArrayVec;
-use ptb_text::Letter;
+use ptb_words::Letter;
 use std::marker::Model;
 
 /// How many loops and calls may be open together.

@@ -1,13 +1,14 @@
 // This file tests what each command does and where a run stands, and has what the tests share.
 
 ghost use Rattle.std.specs.Prelude.{◌≡◌, IsTrue};
-ghost use Rattle.ptb_text.specs.Words.{is_letter};
+ghost use Rattle.ptb_words.specs.Words.{is_letter};
 
 use super::*;
 use crate::stop::DeviceError;
 use ptb_devices::{Line, Lines, TextScreen};
 use ptb_expr::{Listed, Pause, Store};
-use ptb_text::{Cursor, Letter, LoadFault, Program, Word};
+use ptb_text::{LoadFault, Program};
+use ptb_words::{Cursor, Letter, Word};
 use std::alloc::{AllocError, Global};
 use std::fmt::Debug;
 use std::io;

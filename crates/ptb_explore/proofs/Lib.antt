@@ -17,4 +17,3 @@ pub mod Gathering
 pub mod Stated
 pub mod ReportText
 pub mod Progress
-pub mod Worked

@@ -9,5 +9,4 @@ pub mod Report
 pub mod Listing
 pub mod Exploring
 pub mod Lending
-pub mod Rows
 pub mod Laws

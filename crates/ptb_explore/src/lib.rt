@@ -17,7 +17,6 @@ mod plan;
 mod playing;
 mod recorder;
 mod report;
-mod rows;
 
 pub use explorer::Explorer;
 pub use fault::{AfterFault, ExploreFault, UnderFault};
@@ -25,4 +24,3 @@ pub use laws::{listing_laws, program_laws, share_laws, tree_laws};
 pub use listing::write_all_runs;
 pub use ptb_expr::{Form, Marked};
 pub use report::Report;
-pub use rows::{report_rows, run_rows};

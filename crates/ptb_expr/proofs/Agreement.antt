@@ -1,12 +1,12 @@
 -- This file proves that to work out while reading is to read first and to work out what was read.
 use Rattle.std.proofs.Common.{◌≡◌, ℕ, zero, suc, List, ◌∙◌, sym, ap, subst, refl, ℤ, Option, Some, None, Result, Ok, Err, length}
 use Rattle.std.proofs.Math.Path.{fun_ext}
-use Rattle.ptb_text.specs.declared.word.Number.{Number}
-use Rattle.ptb_text.specs.declared.word.Number.TheVariants.{Absent, Value, TooBig}
-use Rattle.ptb_text.specs.declared.word.Table.TheVariants.{Functions}
-use Rattle.ptb_text.specs.declared.word.Word.{Word}
-use Rattle.ptb_text.specs.declared.word.Word.TheVariants.{RndKw, AbsKw, SizeKw}
-use Rattle.ptb_text.specs.Words.{token_at, letter_at, word_at, number_at}
+use Rattle.ptb_words.specs.declared.word.Number.{Number}
+use Rattle.ptb_words.specs.declared.word.Number.TheVariants.{Absent, Value, TooBig}
+use Rattle.ptb_words.specs.declared.word.Table.TheVariants.{Functions}
+use Rattle.ptb_words.specs.declared.word.Word.{Word}
+use Rattle.ptb_words.specs.declared.word.Word.TheVariants.{RndKw, AbsKw, SizeKw}
+use Rattle.ptb_words.specs.Words.{token_at, letter_at, word_at, number_at}
 use Rattle.ptb_expr.specs.declared.fault.Fault.{Fault}
 use Rattle.ptb_expr.specs.declared.fault.FaultKind.{FaultKind}
 use Rattle.ptb_expr.specs.declared.fault.FaultKind.TheVariants.{What, How}

@@ -10,7 +10,6 @@ pub mod Seeds
 pub mod Spelling
 pub mod Taking
 pub mod Uniqueness
-pub mod Worked
 pub mod PlainValues
 pub mod Readers
 pub mod Zeros

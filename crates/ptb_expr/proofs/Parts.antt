@@ -1,10 +1,10 @@
 -- This file proves the steps of the parts of an expression.
 use Rattle.std.specs.Prelude.{if◌then◌else◌, IsFalse}
 use Rattle.std.proofs.Common.{◌≡◌, ℕ, zero, suc, Bool, true, false, ◌<◌, ◌≤◌, List, ◌∙◌, sym, ap, subst, refl, arith, ℤ, Option, Some, None, Result, Ok, Err, length}
-use Rattle.ptb_text.specs.declared.word.Number.TheVariants.{Absent, Value, TooBig}
-use Rattle.ptb_text.specs.declared.word.Table.TheVariants.{Functions}
-use Rattle.ptb_text.specs.declared.word.Word.TheVariants.{RndKw, AbsKw, SizeKw}
-use Rattle.ptb_text.specs.Words.{token_at, letter_at, word_at, number_at}
+use Rattle.ptb_words.specs.declared.word.Number.TheVariants.{Absent, Value, TooBig}
+use Rattle.ptb_words.specs.declared.word.Table.TheVariants.{Functions}
+use Rattle.ptb_words.specs.declared.word.Word.TheVariants.{RndKw, AbsKw, SizeKw}
+use Rattle.ptb_words.specs.Words.{token_at, letter_at, word_at, number_at}
 use Rattle.ptb_expr.specs.declared.fault.FaultKind.{FaultKind}
 use Rattle.ptb_expr.specs.declared.fault.FaultKind.TheVariants.{How}
 use Rattle.ptb_expr.specs.declared.fault.Stop.{Stop}

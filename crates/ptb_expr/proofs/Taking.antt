@@ -2,10 +2,10 @@
 use Rattle.std.proofs.Common.{◌≡◌, ℕ, ◌+◌, ◌≤◌, ◌∙◌, Bool, true, false, List, refl, ap, eqb, leb, sym, Option, Some, None, arith}
 use Rattle.std.specs.Prelude.{IsFalse, ◌&&◌, if◌then◌else◌}
 use Rattle.std.proofs.lemmas.Bool.{ne_eqb, and_parts, false≢true, leb-true, lt-leb}
-use Rattle.ptb_text.specs.declared.word.Table.TheVariants.{Functions}
-use Rattle.ptb_text.specs.Statements.{is_digit}
-use Rattle.ptb_text.specs.Words.{past_blanks, next_byte_at, letter_at, number_at, is_number, token_at, pair_at, word_at}
-use Rattle.ptb_text.specs.Finding.{StandsNext, FindingLaws, is_next, past_byte}
+use Rattle.ptb_words.specs.declared.word.Table.TheVariants.{Functions}
+use Rattle.ptb_words.specs.Digits.{is_digit}
+use Rattle.ptb_words.specs.Words.{past_blanks, next_byte_at, letter_at, number_at, is_number, token_at, pair_at, word_at}
+use Rattle.ptb_words.specs.Finding.{StandsNext, FindingLaws, is_next, past_byte}
 use Rattle.ptb_expr.specs.declared.operator.Operator.TheVariants.{Plus, Minus, Times, Over, AtLeast, NotEqual, Above, Equals, AtMost, Below}
 use Rattle.ptb_expr.specs.Operators.{product_operator, sum_operator, comparison}
 

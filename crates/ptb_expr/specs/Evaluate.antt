@@ -6,7 +6,7 @@
 --     IsTarget c v                                   a value can be stored there
 --     IsMarkedWithin t result                        a fault is marked inside the text
 use Rattle.std.specs.Prelude.{◌≡◌, ℕ, ◌≤◌, List, length, ℤ, Result, Ok, Err}
-use Rattle.ptb_text.specs.CursorState.{CursorState}
+use Rattle.ptb_words.specs.CursorState.{CursorState}
 use Rattle.ptb_expr.specs.declared.fault.Stop.{Stop}
 use Rattle.ptb_expr.specs.declared.fault.Stop.TheVariants as stops
 use Rattle.ptb_expr.specs.declared.pause.Pause.{Pause}

@@ -14,8 +14,7 @@ pub mod Evaluate
 pub mod Code
 pub mod Working
 pub mod Works
-pub mod Rows
 pub mod Laws
-pub use Rattle.ptb_text.specs.CursorState
-pub use Rattle.ptb_text.specs.Words
-pub use Rattle.ptb_text.specs.Finding
+pub use Rattle.ptb_words.specs.CursorState
+pub use Rattle.ptb_words.specs.Words
+pub use Rattle.ptb_words.specs.Finding

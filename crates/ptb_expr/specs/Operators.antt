@@ -3,7 +3,7 @@ use Rattle.std.specs.Prelude.{ℕ, List, Option, option_map}
 use Rattle.ptb_expr.specs.declared.operator.Operator.{Operator}
 use Rattle.ptb_expr.specs.declared.operator.Operator.TheVariants.{Plus, Minus, Times, Over, AtLeast, NotEqual, Above, Equals, AtMost, Below}
 use Rattle.std.specs.Option.{option_or}
-use Rattle.ptb_text.specs.Words.{token_at, pair_at}
+use Rattle.ptb_words.specs.Words.{token_at, pair_at}
 
 -- an operator of one byte, and the place after it
 abbrev pub of_byte : Operator → ℕ → List ℕ → ℕ → Option (Operator × ℕ)

@@ -2,8 +2,8 @@
 -- That is the code's own order, and the contracts of private functions alone cite it.
 -- The promise is `Evaluates`: to read first, and to work out what was read.
 use Rattle.std.specs.Prelude.{ℕ, zero, suc, List, length, ℤ, Option, Result, Ok, Err}
-use Rattle.ptb_text.specs.declared.word.Table.TheVariants.{Functions}
-use Rattle.ptb_text.specs.Words.{token_at, letter_at, word_at, number_at}
+use Rattle.ptb_words.specs.declared.word.Table.TheVariants.{Functions}
+use Rattle.ptb_words.specs.Words.{token_at, letter_at, word_at, number_at}
 use Rattle.ptb_expr.specs.declared.fault.FaultKind.{FaultKind}
 use Rattle.ptb_expr.specs.declared.fault.FaultKind.TheVariants.{What, How}
 use Rattle.ptb_expr.specs.declared.operator.Operator.{Operator}

@@ -1,7 +1,7 @@
 -- This file defines what a private function of `evaluate` does with the cursor and the chooser, by the code's own order.
 -- The promise is `Evaluates`.
 use Rattle.std.specs.Prelude.{◌≡◌, ℕ, ◌≤◌, List, ℤ, Result, Ok, Err}
-use Rattle.ptb_text.specs.CursorState.{CursorState, bytes_left}
+use Rattle.ptb_words.specs.CursorState.{CursorState, bytes_left}
 use Rattle.ptb_expr.specs.declared.fault.FaultKind.{FaultKind}
 use Rattle.ptb_expr.specs.declared.fault.Stop.{Stop}
 use Rattle.ptb_expr.specs.declared.fault.Stop.TheVariants as stops

@@ -1,7 +1,7 @@
 //! Expressions of Tiny BASIC: the store of variables and array, the choosers that answer RND, and
 //! the evaluation of an expression while it is read.
 //!
-//! It stands on `ptb_text`, on `rand_core` and `rand_pcg` for the answers of a seed, and on
+//! It stands on `ptb_words`, on `rand_core` and `rand_pcg` for the answers of a seed, and on
 //! `arrayvec` and `thiserror`. The crate above may rely on `evaluate` and `target`: whoever answers, they come to
 //! what `specs/Value` makes of the tree that `specs/Spells` reads at the cursor, be it a value, a
 //! fault with its mark or a question; on the laws of `Chooser`; on `Seeded`, whose answers are those
@@ -19,7 +19,6 @@ mod form;
 mod laws;
 mod operator;
 mod pause;
-mod rows;
 mod rules;
 mod seeded;
 mod store;
@@ -33,7 +32,6 @@ pub use form::{Form, Marked};
 pub use laws::{mark_laws, spelling_laws, value_laws};
 pub use operator::Operator;
 pub use pause::Pause;
-pub use rows::value_rows;
 pub use rules::Rules;
 pub use seeded::Seeded;
 pub use store::{Store, Target};

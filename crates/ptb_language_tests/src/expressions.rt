@@ -1,14 +1,14 @@
 // This file tests expressions, variables, the store, the choosers and codes, by worked rows.
 
 ghost use Rattle.std.specs.Prelude.{◌≡◌, ◌≤◌, ◌≤ℤ◌, length, pos, take, Some, IsTrue};
-ghost use Rattle.ptb_text.specs.Words.{is_letter};
+ghost use Rattle.ptb_words.specs.Words.{is_letter};
 
 use crate::shared::expect_same;
 use ptb_expr::{
     Chooser, Code, Codes, Fault, FaultKind, Listed, Pause, Seeded, Stop, Store, Target, answer_to,
     evaluate, target,
 };
-use ptb_text::{Cursor, Letter};
+use ptb_words::{Cursor, Letter};
 use rand_core::utils::NextWord;
 use rand_pcg::Lcg64Xsh32;
 use std::alloc::{AllocError, Global};

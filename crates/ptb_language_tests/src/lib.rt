@@ -1,7 +1,7 @@
 //! Tests of texts and expressions of the language, over their public names: loading, entering and
 //! listing, the cursor, and what an expression comes to.
 //!
-//! It stands on `ptb_text` and `ptb_expr`, and on `rand_core` and `rand_pcg` for the words that a
+//! It stands on `ptb_words`, `ptb_text` and `ptb_expr`, and on `rand_core` and `rand_pcg` for the words that a
 //! seed draws. No crate stands on it: a crate with tests is proved once more together with them, so
 //! these stand apart from what they test.
 #![tactic(auto)]

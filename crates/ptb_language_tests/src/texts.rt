@@ -1,10 +1,7 @@
 // This file tests loading, entering and listing, also over devices that fail.
 
 use crate::shared::expect_same;
-use ptb_text::{
-    Device, DeviceFault, LoadFault, Program, Read, Write, WriteFault, list, load, loading_rows,
-    word_rows,
-};
+use ptb_text::{Device, DeviceFault, LoadFault, Program, Read, Write, WriteFault, list, load};
 use std::alloc::{AllocError, Global};
 use std::collections::BTreeMap;
 use std::fmt::Display;
@@ -579,10 +576,4 @@ fn faults_print(rt: HostRuntime) {
 fn faults_of_devices_print(rt: HostRuntime) {
     expect_text(&rt, rt.alloc(), &WriteFault, "cannot write");
     expect_text(&rt, rt.alloc(), &DeviceFault, "the device failed");
-}
-
-#[test]
-fn rows_hold() {
-    loading_rows();
-    word_rows();
 }

@@ -17,4 +17,3 @@ pub mod Runs
 pub mod Spending
 pub mod Steps
 pub mod Turns
-pub mod Worked

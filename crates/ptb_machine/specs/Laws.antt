@@ -2,7 +2,7 @@
 --     EffectLaws       what actions, commands, turns and runs may change
 --     RunLaws          how a run goes on
 use Rattle.std.specs.Prelude.{◌≡◌, ℕ, ◌+◌, ◌-◌, ◌<◌, ◌≤◌, List, Option, ℤ}
-use Rattle.ptb_text.specs.declared.word.Word.{Word}
+use Rattle.ptb_words.specs.declared.word.Word.{Word}
 use Rattle.ptb_text.specs.Statements.{Statements, StoredProgram}
 use Rattle.ptb_expr.specs.Tree.{Tree}
 use Rattle.ptb_expr.specs.Outcome.{Answers, Done, go_on, IsReader}

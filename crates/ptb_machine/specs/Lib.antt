@@ -7,5 +7,4 @@ pub mod Steps
 pub mod Instructions
 pub mod Beginnings
 pub mod Runs
-pub mod Rows
 pub mod RunEffects

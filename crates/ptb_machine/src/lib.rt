@@ -12,7 +12,6 @@ mod kept;
 mod laws;
 mod machine;
 mod report;
-mod rows;
 mod running;
 mod stop_result;
 
@@ -26,9 +25,6 @@ pub use ptb_devices::{
     WriterScreen, read_lines,
 };
 pub use ptb_expr::Rules;
-pub use rows::{
-    answer_rows, array_rows, fault_rows, input_rows, long_rows, loop_rows, print_rows, step_rows,
-};
 pub use running::run;
 
 #[cfg(test)]

@@ -1,15 +1,9 @@
 -- This file names the files of lemmas.
-pub mod Blanks
-pub mod Pairs
-pub mod Digits
-pub mod Words
-pub mod Finding
 pub mod ByteTests
 pub mod Edits
 pub mod Entries
 pub mod LineParts
 pub mod Listed
-pub mod Lone
 pub mod Loaded
 pub mod Numbers
 pub mod Pieces
@@ -19,5 +13,4 @@ pub mod Sound
 pub mod Stored
 pub mod Taking
 pub mod Counting
-pub mod Worked
 pub mod NextByte

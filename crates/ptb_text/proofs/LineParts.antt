@@ -1,5 +1,5 @@
 -- This file proves what entering a line does by the parts that the line was taken apart into.
-use Rattle.std.proofs.Common.{◌≡◌, ℕ, ◌+◌, ◌<◌, ◌≤◌, Bool, true, false, not, ◌==◌, List, [], ◌∷◌, length, take, drop, Option, Some, None, Result, Ok, Err, refl, sym, ap, subst, ◌∙◌, arith, length-drop, ℤ, pos, inl, inr}
+use Rattle.std.proofs.Common.{◌≡◌, ℕ, ◌+◌, ◌<◌, ◌≤◌, ◌⊎◌, Bool, true, false, not, ◌==◌, List, [], ◌∷◌, length, take, drop, Option, Some, None, Result, Ok, Err, refl, sym, ap, subst, ◌∙◌, arith, length-drop, ℤ, pos, inl, inr}
 use Rattle.std.specs.Prelude.{position, nat_le, nat_lt, if◌then◌else◌}
 use Rattle.std.specs.List.{prefix_len}
 use Rattle.std.proofs.lemmas.Bool.{eqb-true, false≢true, leb-true, leb-false}
@@ -8,13 +8,13 @@ use Rattle.std.proofs.lemmas.Bool.Decides.{nat_tests}
 use Rattle.ptb_text.specs.declared.fault.LoadFault.{LoadFault}
 use Rattle.ptb_text.specs.declared.fault.LoadFault.TheVariants.{NoNumber, NumberTooBig, TextTooLong, BadByte, Full, Memory}
 use Rattle.ptb_text.specs.Lines.{is_printable}
-use Rattle.ptb_text.specs.Statements.{Statements, after_line, after_trimmed, after_statement, unless_bad_byte, number_limit, digits_value, is_digit, is_blank, trim_start, with_text}
+use Rattle.ptb_text.specs.Statements.{Statements, after_line, after_trimmed, after_statement, unless_bad_byte, trim_start, with_text}
+use Rattle.ptb_words.specs.Digits.{number_limit, digits_value, is_digit, is_blank}
 use Rattle.ptb_text.specs.Entry.{EntersNothing, IsRefused, IsNumbered}
-use Rattle.ptb_text.specs.CursorState.{CursorState}
-use Rattle.ptb_text.specs.declared.word.Number.{Number}
-use Rattle.ptb_text.specs.declared.word.Number.TheVariants.{Absent, Value, TooBig}
-use Rattle.ptb_text.specs.Words.{past_blanks, is_over, number_at, is_number, small_number}
-use Rattle.ptb_text.proofs.Finding.{number_ahead, number_cases, small_number_is, small_number_value}
+use Rattle.ptb_words.specs.CursorState.{CursorState}
+use Rattle.ptb_words.specs.declared.word.Number.{Number}
+use Rattle.ptb_words.specs.declared.word.Number.TheVariants.{Absent, Value, TooBig}
+use Rattle.ptb_words.specs.Words.{past_blanks, is_over, number_at, is_number, small_number}
 use Rattle.ptb_text.proofs.ByteTests.{list_all-from_none, list_all-drop, prefix_len-behind}
 
 -- a text without the blanks in front has none in front
@@ -121,6 +121,31 @@ some_in_front line e = omega (arith, leb-false _ _ e, length-drop (past_blanks l
 pub none_in_front : (line : List ℕ) → nat_le (length line) (past_blanks line 0) ≡ true → in_front line ≡ []
 none_in_front line e = drop_all (past_blanks line 0) line (leb-true _ _ e)
 
+-- what a number in front is: none, or what the digits there write
+number_cases : (line : List ℕ) (n : Number) (j : ℕ) → number_at line 0 ≡ (n, j)
+    → ((prefix_len is_digit (in_front line) ≡ 0) × (n ≡ Absent))
+    ⊎ ((small_number (digits_value (digits_of (in_front line))) ≡ n) × (past_blanks line (past_blanks line 0 + prefix_len is_digit (in_front line)) ≡ j))
+unfolding number_at
+number_cases line n j e = go (k == 0) refl e
+  where
+    k : ℕ
+    k = prefix_len is_digit (in_front line)
+
+    x : Number
+    x = small_number (digits_value (digits_of (in_front line)))
+
+    go : (b : Bool) → (k == 0) ≡ b → ◌≡◌ {A = Number × ℕ} (if b then (Absent, 0) else (x, past_blanks line (past_blanks line 0 + k))) (n, j) → ((k ≡ 0) × (n ≡ Absent)) ⊎ ((x ≡ n) × (past_blanks line (past_blanks line 0 + k) ≡ j))
+    go true h e = inl (eqb-true k 0 h, sym (ap (λ (p : Number × ℕ). p.0) e))
+    go false h e = inr (ap (λ (p : Number × ℕ). p.0) e, ap (λ (p : Number × ℕ). p.1) e)
+
+-- what digits write is a number, and it tells whether it is small
+absent_is : (v : ℕ) → small_number v ≡ Absent → ⊥
+absent_is v e = go (nat_le v number_limit) e
+  where
+    go : (b : Bool) → (if b then Value (pos v) else TooBig) ≡ Absent → ⊥
+    go true e = absurd cc
+    go false e = absurd cc
+
 too_big_is : (v : ℕ) → small_number v ≡ TooBig → number_limit < v
 too_big_is v e = go (nat_le v number_limit) refl e
   where
@@ -128,27 +153,33 @@ too_big_is v e = go (nat_le v number_limit) refl e
     go true h e = absurd (cc e)
     go false h e = omega (arith, leb-false _ _ h)
 
+value_is : (n : ℕ) (v : ℤ) → small_number n ≡ Value v → (n ≤ number_limit) × (pos n ≡ v)
+value_is n v e = go (nat_le n number_limit) refl e
+  where
+    go : (b : Bool) → nat_le n number_limit ≡ b → (if b then Value (pos n) else TooBig) ≡ Value v → (n ≤ number_limit) × (pos n ≡ v)
+    go true h e = (leb-true n number_limit h, cc)
+    go false h e = absurd cc
+
 -- the digits in front have no value where there are none
 no_digits : (t : List ℕ) → prefix_len is_digit t ≡ 0 → digits_value (digits_of t) ≡ 0
 no_digits t e = ap (λ k. digits_value (take k t)) e
 
 pub number_too_big : (line : List ℕ) (j : ℕ) → number_at line 0 ≡ (TooBig, j) → number_limit < digits_value (digits_of (in_front line))
-number_too_big line j e = elim (number_cases line 0 TooBig j e) [
+number_too_big line j e = elim (number_cases line TooBig j e) [
   | inl h ↦ absurd (cc h.1)
-  | inr h ↦ too_big_is _ h.1
+  | inr h ↦ too_big_is _ h.0
 ]
 
 pub number_absent : (line : List ℕ) (j : ℕ) → number_at line 0 ≡ (Absent, j) → digits_value (digits_of (in_front line)) ≡ 0
-number_absent line j e = elim (number_cases line 0 Absent j e) [
+number_absent line j e = elim (number_cases line Absent j e) [
   | inl h ↦ no_digits (in_front line) h.0
-  | inr h ↦ absurd (false≢true (sym (ap is_number h.1) ∙ small_number_is _))
+  | inr h ↦ absurd (absent_is _ h.0)
 ]
 
 -- what a number that isn't too big says of the line
 pub record HasNumber (line : List ℕ) (v : ℤ) (j : ℕ) : Type 0 where
   pub value : pos (digits_value (digits_of (in_front line))) ≡ v
   pub high : digits_value (digits_of (in_front line)) ≤ number_limit
-  pub within : j ≤ length line
   pub text : drop j line ≡ trim_start (behind_digits (in_front line))
 
 behind : (line : List ℕ) → drop (past_blanks line (past_blanks line 0 + prefix_len is_digit (in_front line))) line ≡ trim_start (behind_digits (in_front line))
@@ -160,15 +191,14 @@ behind line =
     ∙ ap (λ u. drop (prefix_len is_blank u) u) (sym (drop-drop k b line))
 
 pub number_value : (line : List ℕ) (v : ℤ) (j : ℕ) → number_at line 0 ≡ (Value v, j) → HasNumber line v j
-number_value line v j e = elim (number_cases line 0 (Value v) j e) [
+number_value line v j e = elim (number_cases line (Value v) j e) [
   | inl h ↦ absurd (cc h.1)
   | inr h ↦
-      let n = small_number_value _ v h.1 in
+      let n = value_is _ v h.0 in
       record {
         value = n.1;
         high = n.0;
-        within = (number_ahead line 0 (Value v) j e refl).within;
-        text = ap (λ m. drop m line) (sym h.2) ∙ behind line;
+        text = ap (λ m. drop m line) (sym h.1) ∙ behind line;
       }
 ]
 

@@ -16,7 +16,8 @@ use Rattle.ptb_text.specs.declared.fault.LoadFault.{LoadFault}
 use Rattle.ptb_text.specs.Lines.{pieces, onto_first, program_lines, is_printable, tab_as_space}
 use Rattle.ptb_text.specs.Loading.{GivesProgram}
 use Rattle.ptb_text.specs.Places.{IsGapFor, statement_number}
-use Rattle.ptb_text.specs.Statements.{Statements, after_line, after_lines, after_statement, cost, digits_value, is_blank, is_digit, is_program, is_statement, line_of, listing, text_limit, trim_start, with_text, IsText}
+use Rattle.ptb_text.specs.Statements.{Statements, after_line, after_lines, after_statement, cost, is_program, is_statement, line_of, listing, text_limit, trim_start, with_text, IsText}
+use Rattle.ptb_words.specs.Digits.{digits_value, is_blank, is_digit}
 use Rattle.ptb_text.proofs.ByteTests.{none_from_list_all, prefix_len-whole}
 use Rattle.ptb_text.proofs.Edits.{both, one_cost}
 use Rattle.ptb_text.proofs.Entries.{with_text-gap}

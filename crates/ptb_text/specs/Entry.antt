@@ -9,7 +9,8 @@ use Rattle.std.specs.List.{list_all}
 use Rattle.ptb_text.specs.declared.fault.LoadFault.{LoadFault}
 use Rattle.ptb_text.specs.declared.fault.LoadFault.TheVariants.{NoNumber, NumberTooBig, TextTooLong, BadByte, Full, Memory, Read, TooLong}
 use Rattle.ptb_text.specs.Lines.{is_printable}
-use Rattle.ptb_text.specs.Statements.{Statements, StoredProgram, after_line, after_statement, number_limit, text_behind_number, trim_start}
+use Rattle.ptb_text.specs.Statements.{Statements, StoredProgram, after_line, after_statement, text_behind_number, trim_start}
+use Rattle.ptb_words.specs.Digits.{number_limit}
 
 abbrev pub EntersNothing : List ℕ → Type 0
 EntersNothing line = (p : Statements) (memory : ℕ) → after_line p memory line ≡ Ok p

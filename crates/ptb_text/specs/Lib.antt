@@ -6,8 +6,7 @@ pub mod Loading
 pub mod Places
 pub mod Program
 pub mod Statements
-pub mod CursorState
-pub mod Words
-pub mod WordSearch
-pub mod Finding
-pub mod Rows
+pub use Rattle.ptb_words.specs.Digits
+pub use Rattle.ptb_words.specs.CursorState
+pub use Rattle.ptb_words.specs.Words
+pub use Rattle.ptb_words.specs.Finding

@@ -20,6 +20,7 @@ use Rattle.std.specs.FinMap.Entries.{where_key}
 use Rattle.ptb_text.specs.declared.fault.LoadFault.{LoadFault}
 use Rattle.ptb_text.specs.declared.fault.LoadFault.TheVariants.{NoNumber, NumberTooBig, TextTooLong, BadByte, Full}
 use Rattle.ptb_text.specs.Lines.{is_printable, program_lines}
+use Rattle.ptb_words.specs.Digits.{is_blank, is_digit, digits_value, number_limit}
 
 -- ---- the map
 
@@ -58,9 +59,6 @@ cost p = sum_by (λ s. length s.1 + 3) p
 
 -- ---- limits
 
-abbrev pub number_limit : ℕ
-number_limit = 32767
-
 abbrev pub text_limit : ℕ
 text_limit = 255
 
@@ -73,19 +71,9 @@ IsMemorySize memory = (64 ≤ memory) × (memory ≤ 32767)
 
 -- ---- entering a line
 
-abbrev pub is_blank : ℕ → Bool
-is_blank b = b == 32
-
 -- a text without the blanks in front of it
 abbrev pub trim_start : List ℕ → List ℕ
 trim_start t = drop (prefix_len is_blank t) t
-
-abbrev pub is_digit : ℕ → Bool
-is_digit b = nat_le 48 b && nat_le b 57
-
--- the number that digits write
-abbrev pub digits_value : List ℕ → ℕ
-digits_value digits = fold (λ n d. n * 10 + (d - 48)) 0 digits
 
 -- a map that the memory has room for
 abbrev pub if_room : ℕ → Statements → Result Statements LoadFault

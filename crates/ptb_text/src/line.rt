@@ -5,7 +5,8 @@ ghost use Rattle.std.specs.Prelude.{length, not, position};
 ghost use Rattle.ptb_text.specs.Entry.{EntersNothing, IsNumbered, IsRefused};
 ghost use Rattle.ptb_text.specs.Lines.{is_printable};
 
-use crate::{Cursor, LoadFault, Number};
+use crate::LoadFault;
+use ptb_words::{Cursor, Number, finding_laws};
 
 /// A line with a number: its text is stored under the number, or deletes the statement if empty.
 #[derive(Clone, Copy)]
@@ -31,6 +32,7 @@ pub(crate) fn numbered_line(line: &[u8]) -> Result<Option<NumberedLine<'_>>, Loa
     if let Some(place) = first_unprintable(line) {
         return Err(LoadFault::BadByte(place + 1));
     }
+    finding_laws();
     let mut cursor = Cursor::new(line, 0);
     if cursor.at_end() {
         return Ok(None);

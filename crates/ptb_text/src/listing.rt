@@ -5,7 +5,8 @@ ghost use Rattle.std.specs.Io.KnownBytes.{Appends};
 ghost use Rattle.ptb_text.specs.Device.{HasFailed, TakesSome};
 ghost use Rattle.ptb_text.specs.Loading.{GivesProgram};
 ghost use Rattle.ptb_text.specs.Statements.{Statements, cost, is_program, line_of, listing};
-ghost use Rattle.ptb_text.specs.Statements.{number_limit, text_limit};
+ghost use Rattle.ptb_text.specs.Statements.{text_limit};
+ghost use Rattle.ptb_words.specs.Digits.{number_limit};
 
 use crate::{Program, Write};
 use itoa::Buffer;

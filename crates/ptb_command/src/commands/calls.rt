@@ -2,7 +2,7 @@
 
 ghost use Rattle.std.specs.Prelude.{◌≡◌, ◌≤◌, ℕ, Bool, List, length};
 ghost use Rattle.ptb_text.specs.Statements.{Statements};
-ghost use Rattle.ptb_text.specs.declared.word.Word.TheVariants.{GosubKw, ReturnKw};
+ghost use Rattle.ptb_words.specs.declared.word.Word.TheVariants.{GosubKw, ReturnKw};
 ghost use Rattle.ptb_command.specs.Act.{command_action};
 ghost use Rattle.ptb_command.specs.Acts.{Acts};
 ghost use Rattle.ptb_command.specs.Commands.{command_of, parts_of};
@@ -19,7 +19,8 @@ use crate::registers::Registers;
 use crate::statements::beginning_of;
 use crate::stop::{Stop, fault};
 use ptb_expr::{Chooser, FaultKind};
-use ptb_text::{Cursor, Program};
+use ptb_text::Program;
+use ptb_words::Cursor;
 
 impl Registers {
     /// Does a GOSUB of this statement, behind whose word the cursor stands.

@@ -1,7 +1,7 @@
 // This file does the commands that say where a run goes on: REM, STOP, GOTO and IF.
 
 ghost use Rattle.std.specs.Prelude.{◌≡◌, ◌≤◌, ℕ, Bool, List, length, Some, slice_get};
-ghost use Rattle.ptb_text.specs.declared.word.Word.TheVariants.{RemKw, StopKw, GotoKw, IfKw};
+ghost use Rattle.ptb_words.specs.declared.word.Word.TheVariants.{RemKw, StopKw, GotoKw, IfKw};
 ghost use Rattle.ptb_text.specs.Statements.{Statements};
 ghost use Rattle.ptb_command.specs.Act.{command_action};
 ghost use Rattle.ptb_command.specs.Acts.{Acts, Refines, RefinesTo};
@@ -21,7 +21,8 @@ use crate::registers::Registers;
 use crate::statements::{beginning_of, is_zero, place_after};
 use crate::stop::{Stop, fault};
 use ptb_expr::{Chooser, FaultKind};
-use ptb_text::{Cursor, Program};
+use ptb_text::Program;
+use ptb_words::Cursor;
 
 /// Why a run doesn't go on behind a STOP, behind whose word the cursor stands.
 pub(crate) fn do_stop(cursor: &Cursor) -> Stop

@@ -23,7 +23,7 @@ use crate::stop::{Stop, fault, still_shows};
 use itoa::Buffer;
 use ptb_devices::{LineSource, Screen};
 use ptb_expr::{Chooser, FaultKind, Store};
-use ptb_text::{Cursor, Quoted, finding_laws};
+use ptb_words::{Cursor, Quoted, finding_laws};
 
 /// The width of the values at the start of each PRINT.
 pub const FIRST_WIDTH: u8 = 6;
@@ -192,7 +192,7 @@ pub(crate) fn print<C: Chooser, S: Screen, L: LineSource>(
 }
 
 impl Registers {
-    ghost use Rattle.ptb_text.specs.declared.word.Word.TheVariants.{PrintKw};
+    ghost use Rattle.ptb_words.specs.declared.word.Word.TheVariants.{PrintKw};
     ghost use Rattle.ptb_text.specs.Statements.{Statements};
     ghost use Rattle.ptb_command.specs.Act.{command_action};
     ghost use Rattle.ptb_command.specs.Acts.{Acts};

@@ -1,6 +1,6 @@
 -- At a place that a machine has: its own command, the first of the statement behind it, or none.
 use Rattle.std.proofs.Common.{◌≡◌, ◌∙◌, Option, None, true, false, sym, subst, rules}
-use Rattle.ptb_text.specs.Words.{is_over}
+use Rattle.ptb_words.specs.Words.{is_over}
 use Rattle.ptb_command.specs.Representation.{PlacesAre, NextIs}
 use Rattle.ptb_command.specs.State.{Place, next_command}
 use Rattle.ptb_command.proofs.Placed.{not_placed}

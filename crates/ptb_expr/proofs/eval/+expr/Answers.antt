@@ -3,10 +3,10 @@ use Rattle.std.proofs.Common.{rules, arith, ◌≡◌, ◌∙◌, sym, ap, lengt
 use Rattle.std.proofs.lemmas.Int.{to_z-of_z}
 use Rattle.std.proofs.lemmas.Result.{err_from_is_err_and}
 use mir.Syntax.{w16}
-use Rattle.ptb_text.specs.declared.word.Table.TheVariants.{Functions}
-use Rattle.ptb_text.specs.declared.word.Word.TheVariants.{RndKw, AbsKw, SizeKw}
-use Rattle.ptb_text.specs.Words.{token_at, word_at, number_at, is_number, letter_at}
-use Rattle.ptb_text.specs.Finding.{lone_letter_at}
+use Rattle.ptb_words.specs.declared.word.Table.TheVariants.{Functions}
+use Rattle.ptb_words.specs.declared.word.Word.TheVariants.{RndKw, AbsKw, SizeKw}
+use Rattle.ptb_words.specs.Words.{token_at, word_at, number_at, is_number, letter_at}
+use Rattle.ptb_words.specs.Finding.{lone_letter_at}
 use Rattle.ptb_expr.specs.Operators.{product_operator, sum_operator, comparison}
 use Rattle.ptb_expr.specs.Store.{element_of}
 use Rattle.ptb_expr.specs.Value.{negation, absolute_value}

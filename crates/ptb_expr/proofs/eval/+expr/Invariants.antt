@@ -1,6 +1,6 @@
 -- This file says what the loops over operators keep, and why reading ends.
 use Rattle.std.proofs.Common.{◌≡◌, ℕ, ◌+◌, ◌*◌, ◌≤◌, List}
-use Rattle.ptb_text.specs.CursorState.{bytes_left}
+use Rattle.ptb_words.specs.CursorState.{bytes_left}
 use Rattle.ptb_expr.specs.Operators.{product_operator, sum_operator}
 use Rattle.ptb_expr.specs.Choices.{Reaches}
 use Rattle.ptb_expr.specs.Working.{expr, more, factor, product, sum}

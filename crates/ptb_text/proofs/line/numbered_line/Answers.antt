@@ -1,6 +1,6 @@
 -- This file answers what is left to prove of `numbered_line`.
 use Rattle.std.proofs.Common.{rules, arith, ◌≤◌, ◌∙◌, sym, ap, length, drop, ◌-◌}
-use Rattle.std.specs.Prelude.{unsigned_abs}
+use Rattle.std.specs.Prelude.{unsigned_abs, refl}
 use Rattle.std.proofs.lemmas.List.{take_all, length-drop}
 use Rattle.std.proofs.lemmas.Int.{to_z-of_z}
 use mir.Syntax.{w16}
@@ -40,12 +40,12 @@ returns-then-number-eq0 c =
 pub slice_bounds-result-count : goal.slice_bounds-result-count
 slice_bounds-result-count c =
     let here = number_in_front _ c.args.line.now _ _ c.new-cursor.ensures c.in-Value.ensures.value in
-    omega (arith, c.place.ensures, (number_value c.args.line.now _ _ here).within)
+    omega (arith, c.place.ensures, (c.finding_laws.ensures.number c.args.line.now 0 _ _ here refl).within)
 
 pub slice_bounds-result-start : goal.slice_bounds-result-start
 slice_bounds-result-start c =
     let here = number_in_front _ c.args.line.now _ _ c.new-cursor.ensures c.in-Value.ensures.value in
-    let within : c.place.result ≤ length c.args.line.now = omega (arith, c.place.ensures, (number_value c.args.line.now _ _ here).within) in
+    let within : c.place.result ≤ length c.args.line.now = omega (arith, c.place.ensures, (c.finding_laws.ensures.number c.args.line.now 0 _ _ here refl).within) in
     search rules
 
 pub returns : goal.returns

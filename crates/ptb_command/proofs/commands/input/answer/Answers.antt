@@ -1,6 +1,6 @@
 -- This file answers what is left to prove of `answer`.
 use Rattle.std.proofs.Common.{Ok, Err, rules, subst}
-use Rattle.ptb_text.specs.CursorState.{CursorState}
+use Rattle.ptb_words.specs.CursorState.{CursorState}
 use Rattle.ptb_expr.specs.Evaluate.{WorkComes, expression_value}
 use Rattle.ptb_command.proofs.Inputting.{line_values, line_faults, line_pauses}
 use Rattle.ptb_command.proofs.commands.input.answer.Goals as goal

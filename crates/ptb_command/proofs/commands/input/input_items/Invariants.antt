@@ -1,6 +1,6 @@
 -- This file says what the loops of `input_items` keep.
 use Rattle.std.proofs.Common.{◌≡◌, ◌-◌, List, ℕ, ◌++◌, length, []}
-use Rattle.ptb_text.specs.declared.word.Word.TheVariants.{InputKw}
+use Rattle.ptb_words.specs.declared.word.Word.TheVariants.{InputKw}
 use Rattle.ptb_expr.specs.Reading.{item_of}
 use Rattle.ptb_command.specs.Act.{action_of, first_width}
 use Rattle.ptb_command.specs.Commands.{input_item, comma_round, parts_of}

@@ -1,6 +1,6 @@
 -- This file answers what is left to prove of `take_answer`.
 use Rattle.std.proofs.Common.{◌≡◌, ◌∙◌, ◌++◌, [], ◌∷◌, Ok, Some, None, IfErr, IfOk, IfNone, ap, append_assoc, arith, refl, rules, subst, sym, to_z, of_z, w16}
-use Rattle.ptb_text.specs.CursorState.{CursorState}
+use Rattle.ptb_words.specs.CursorState.{CursorState}
 use Rattle.ptb_expr.specs.Reading.{item_of, variable_tree}
 use Rattle.ptb_command.specs.declared.stop.Stop.TheVariants as stops
 use Rattle.ptb_command.specs.Asking.{prompt_there}

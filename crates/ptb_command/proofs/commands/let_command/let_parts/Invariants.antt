@@ -1,6 +1,6 @@
 -- This file says what the loops of `let_parts` keep.
 use Rattle.std.proofs.Common.{◌≡◌, ◌-◌, Bool, length, []}
-use Rattle.ptb_text.specs.declared.word.Word.TheVariants.{LetKw}
+use Rattle.ptb_words.specs.declared.word.Word.TheVariants.{LetKw}
 use Rattle.ptb_expr.specs.Reading.{item_of}
 use Rattle.ptb_command.specs.Act.{action_of, first_width}
 use Rattle.ptb_command.specs.Commands.{assignment, comma_round, parts_of}

@@ -1,6 +1,6 @@
 -- This file answers the goals of the parts of FOR.
 use Rattle.std.proofs.Common.{◌≡◌, ◌∷◌, ◌∙◌, [], arith, refl, rules, to_z, of_z, w16}
-use Rattle.ptb_text.specs.declared.word.Table.TheVariants.{To}
+use Rattle.ptb_words.specs.declared.word.Table.TheVariants.{To}
 use Rattle.ptb_command.specs.Act.{first_width}
 use Rattle.ptb_command.proofs.Actions.{stops_fault}
 use Rattle.ptb_command.proofs.PartRefinement.{refines_part_then}

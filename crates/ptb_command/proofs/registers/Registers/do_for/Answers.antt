@@ -1,7 +1,7 @@
 -- This file answers the goals of FOR.
 use Rattle.std.proofs.Common.{◌≡◌, sym, length, refl, rules, to_z, of_z, w16}
 use Rattle.std.proofs.lemmas.Bool.{le-leb, lt-leb}
-use Rattle.ptb_text.specs.declared.word.Word.TheVariants.{ForKw}
+use Rattle.ptb_words.specs.declared.word.Word.TheVariants.{ForKw}
 use Rattle.ptb_command.specs.Commands.{parts_of}
 use Rattle.ptb_command.specs.Configuration.{configuration}
 use Rattle.ptb_command.specs.Stacks.{without}

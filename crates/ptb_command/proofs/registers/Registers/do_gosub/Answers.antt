@@ -1,7 +1,7 @@
 -- This file answers the goals of GOSUB.
 use Rattle.std.proofs.Common.{◌≡◌, ◌∙◌, [], ℕ, List, true, refl, length, ap, sym, subst, rules, to_z, of_z, w16, arith}
 use Rattle.std.proofs.lemmas.Bool.{le-leb, lt-leb}
-use Rattle.ptb_text.specs.declared.word.Word.TheVariants.{GosubKw}
+use Rattle.ptb_words.specs.declared.word.Word.TheVariants.{GosubKw}
 use Rattle.ptb_expr.specs.declared.fault.FaultKind.TheVariants.{How, Sorry}
 use Rattle.ptb_expr.specs.Value.{fault}
 use Rattle.ptb_command.specs.declared.stop.Stop.TheVariants as stops

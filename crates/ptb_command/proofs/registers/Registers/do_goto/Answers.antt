@@ -1,6 +1,6 @@
 -- This file answers what is left to prove of `Registers::do_goto`.
 use Rattle.std.proofs.Common.{◌≡◌, ◌∙◌, [], refl, sym, ap, rules, to_z, of_z, w16}
-use Rattle.ptb_text.specs.declared.word.Word.TheVariants.{GotoKw}
+use Rattle.ptb_words.specs.declared.word.Word.TheVariants.{GotoKw}
 use Rattle.ptb_command.specs.Act.{statement}
 use Rattle.ptb_command.specs.Commands.{over_check}
 use Rattle.ptb_command.specs.Configuration.{configuration}

@@ -1,7 +1,7 @@
 -- This file answers what is left to prove of `Registers::do_if`.
 use Rattle.std.proofs.Common.{◌≡◌, ◌∙◌, sym, ap, rules, to_z, of_z, w16, pos, [], Some, refl}
 use Rattle.std.specs.Ordering.{int_eq}
-use Rattle.ptb_text.specs.declared.word.Word.TheVariants.{IfKw}
+use Rattle.ptb_words.specs.declared.word.Word.TheVariants.{IfKw}
 use Rattle.ptb_expr.specs.Reading.{Whole}
 use Rattle.ptb_command.specs.Configuration.{configuration}
 use Rattle.ptb_command.proofs.Doing.{parts_stopped}

@@ -1,6 +1,6 @@
 -- This file answers what is left to prove of `Registers::do_let`.
 use Rattle.std.proofs.Common.{[], ap, refl}
-use Rattle.ptb_text.specs.declared.word.Word.TheVariants.{LetKw}
+use Rattle.ptb_words.specs.declared.word.Word.TheVariants.{LetKw}
 use Rattle.ptb_command.specs.declared.registers.Registers.{Registers}
 use Rattle.ptb_command.specs.Configuration.{configuration}
 use Rattle.ptb_command.proofs.Doing.{parts_stopped, plain_done, let_plain}

@@ -1,6 +1,6 @@
 -- This file answers what is left to prove of `Registers::do_print`.
 use Rattle.std.proofs.Common.{[], ap, refl}
-use Rattle.ptb_text.specs.declared.word.Word.TheVariants.{PrintKw}
+use Rattle.ptb_words.specs.declared.word.Word.TheVariants.{PrintKw}
 use Rattle.ptb_command.specs.Commands.{parts_of}
 use Rattle.ptb_command.specs.Configuration.{configuration}
 use Rattle.ptb_command.proofs.Doing.{parts_stopped, plain_done, print_plain}

@@ -1,0 +1,6 @@
+-- This file names the files of lemmas.
+pub mod OnPrograms
+pub mod TextRows
+pub mod ExpressionRows
+pub mod PlayRows
+pub mod TreeRows

@@ -1,0 +1,5 @@
+-- This file names the files of definitions.
+pub mod TextRows
+pub mod ExpressionRows
+pub mod PlayRows
+pub mod TreeRows

@@ -1,0 +1,13 @@
+//! Worked rows of the language and of reports: what texts, words, expressions, plain runs and trees
+//! of runs come to, by the definitions.
+//!
+//! It stands on `ptb_explore` and the crates below it. No crate stands on it: neither a build of the
+//! program nor the trial of a wrong body computes its rows.
+#![tactic(auto)]
+
+mod rows;
+
+pub use rows::{
+    answer_rows, array_rows, fault_rows, input_rows, loading_rows, long_rows, loop_rows,
+    print_rows, report_rows, run_rows, step_rows, value_rows, word_rows,
+};

@@ -1,0 +1,7 @@
+-- This file names the files of lemmas.
+pub mod Blanks
+pub mod Pairs
+pub mod Digits
+pub mod Words
+pub mod Lone
+pub mod Finding

@@ -1,0 +1,55 @@
+-- This file proves that the command words that the first byte leaves are the ones to try.
+use Rattle.ptb_words.specs.declared.word.Table.TheVariants.{Commands}
+use Rattle.std.proofs.Common.{◌≡◌, ℕ, [], ◌∷◌, get_or, Some, None, false, rules, arith}
+use Rattle.std.specs.Prelude.{codes}
+use Rattle.std.proofs.lemmas.Bool.Decides.{nat_tests}
+use Rattle.ptb_words.specs.declared.word.Word.{Word}
+use Rattle.ptb_words.specs.declared.word.Word.TheVariants.{InputKw, GosubKw, RemKw}
+use Rattle.ptb_words.specs.Words.{begins_word}
+use Rattle.ptb_words.specs.WordSearch.{FindsWord}
+use Rattle.ptb_words.proofs.Words.{finds_begins, finds_second, finds_none}
+use Rattle.ptb_words.proofs.spelling.command_at.Goals as goal
+
+pub returns-in-78-clause-value : goal.returns-in-78-clause-value
+returns-in-78-clause-value c = finds_begins Commands 78 _ _ _ c.requires c.in-78.is c.spelled_word.ensures.value
+
+pub returns-in-76-clause-value : goal.returns-in-76-clause-value
+returns-in-76-clause-value c = finds_begins Commands 76 _ _ _ c.requires c.in-76.is c.spelled_word-in-76.ensures.value
+
+pub returns-in-73-clause-value : goal.returns-in-73-clause-value
+returns-in-73-clause-value c =
+    let r = c.spelled_word-found_if.result in
+    let s = c.or_else.result in
+    let two : r ≡ None → FindsWord ((InputKw, codes "INPUT") ∷ []) c.args.text.now c.args.place s = search rules in
+    let same : (x : Word × ℕ) → r ≡ Some x → s ≡ Some x = search rules in
+    finds_begins Commands 73 _ _ _ c.requires c.in-73.is (finds_second _ _ _ _ _ _ c.spelled_word-found_if.ensures.value two same)
+
+pub returns-in-71-clause-value : goal.returns-in-71-clause-value
+returns-in-71-clause-value c =
+    let r = c.spelled_word-found_goto.result in
+    let s = c.or_else-in-71.result in
+    let two : r ≡ None → FindsWord ((GosubKw, codes "GOSUB") ∷ []) c.args.text.now c.args.place s = search rules in
+    let same : (x : Word × ℕ) → r ≡ Some x → s ≡ Some x = search rules in
+    finds_begins Commands 71 _ _ _ c.requires c.in-71.is (finds_second _ _ _ _ _ _ c.spelled_word-found_goto.ensures.value two same)
+
+pub returns-in-82-clause-value : goal.returns-in-82-clause-value
+returns-in-82-clause-value c =
+    let r = c.spelled_word-found_return.result in
+    let s = c.or_else-in-82.result in
+    let two : r ≡ None → FindsWord ((RemKw, codes "REM") ∷ []) c.args.text.now c.args.place s = search rules in
+    let same : (x : Word × ℕ) → r ≡ Some x → s ≡ Some x = search rules in
+    finds_begins Commands 82 _ _ _ c.requires c.in-82.is (finds_second _ _ _ _ _ _ c.spelled_word-found_return.ensures.value two same)
+
+pub returns-in-70-clause-value : goal.returns-in-70-clause-value
+returns-in-70-clause-value c = finds_begins Commands 70 _ _ _ c.requires c.in-70.is c.spelled_word-in-70.ensures.value
+
+pub returns-in-80-clause-value : goal.returns-in-80-clause-value
+returns-in-80-clause-value c = finds_begins Commands 80 _ _ _ c.requires c.in-80.is c.spelled_word-in-80.ensures.value
+
+pub returns-in-83-clause-value : goal.returns-in-83-clause-value
+returns-in-83-clause-value c = finds_begins Commands 83 _ _ _ c.requires c.in-83.is c.spelled_word-in-83.ensures.value
+
+pub returns-in_default-clause-value : goal.returns-in_default-clause-value
+returns-in_default-clause-value c =
+    let none : begins_word Commands (get_or c.args.text.now c.args.place 0) ≡ false = grind (arith, nat_tests) in
+    finds_none Commands _ _ c.requires none
