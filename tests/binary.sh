@@ -385,19 +385,19 @@ is_in_order() {
 PATH=$folder/bin:$PATH
 started 'help is no reason to build' 70 '' '^ptb: not built yet: ' --help
 echo 'exit 1' >"$folder/kit/behaviour"
-started 'a build tells its crate' 70 '' "^ptb: crate 1 of $crates (ptb_text)\$" --all
+started 'a build tells its crate' 70 '' "^ptb: crate 1 of $crates (ptb_words)\$" --all
 log=$(sed -n 's/^ptb: not built; what was said of it: //p' "$folder/errors")
 count_if 'and the log of one that fails' [ -n "$log" ]
-count_if 'the log is there' grep -q '^checked ptb_text::first, 3 of 9$' "$log"
+count_if 'the log is there' grep -q '^checked ptb_words::first, 3 of 9$' "$log"
 rm -rf "$(dirname "$log")"
-count_if 'nothing is begun above a crate that is not proved' [ "$(sort -u "$folder/kit/calls")" = 'begins ptb_text' ]
+count_if 'nothing is begun above a crate that is not proved' [ "$(sort -u "$folder/kit/calls")" = 'begins ptb_words' ]
 
 echo 'case $words in *" --jobs 1 "*) ;; *) if [ "$name" = ptb_expr ]; then kill -9 $$; fi ;; esac' >"$folder/kit/behaviour"
 rm "$folder/kit/calls"
 started 'a program that is built is run' 0 'said --all a' "^ptb: crate $crates of $crates (ptb)\$" --all a
 count_if 'a prover that was killed is started once more' [ "$(grep -c 'begins ptb_expr' "$folder/kit/calls")" = 2 ]
 count_if 'each crate is begun behind those that it stands on' is_in_order
-count_if 'crates are proved side by side' comes_before 'begins ptb_expr' 'ends ptb_devices'
+count_if 'crates are proved side by side' comes_before 'begins ptb_expr' 'ends ptb_text'
 count_if 'also where one is much lower' comes_before 'begins ptb_options' 'ends ptb_command'
 
 rm "$folder/kit/calls"
@@ -410,7 +410,7 @@ count_if 'but for what stands below' [ "$(sed -n 's/begins //p' "$folder/kit/cal
 # Whether a build that is interrupted takes its provers with it.
 is_interrupted_whole() {
     local build
-    touch "$folder/a copy/crates/ptb_text/src/lib.rt"
+    touch "$folder/a copy/crates/ptb_words/src/lib.rt"
     echo 'sleep 31.4159' >"$folder/kit/behaviour"
     "$folder/a copy/build" </dev/null >/dev/null 2>&1 &
     build=$!
