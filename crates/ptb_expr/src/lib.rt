@@ -2,12 +2,12 @@
 //! the evaluation of an expression while it is read.
 //!
 //! It stands on `ptb_words`, on `rand_core` and `rand_pcg` for the answers of a seed, and on
-//! `arrayvec` and `thiserror`. The crate above may rely on `evaluate` and `target`: whoever answers, they come to
-//! what `specs/Value` makes of the tree that `specs/Spells` reads at the cursor, be it a value, a
-//! fault with its mark or a question; on the laws of `Chooser`; on `Seeded`, whose answers are those
-//! of `specs/Seeds`; and on `Code` and `Codes`, expressions without RND that are read once and worked
-//! out often. It also has what the command line and the machine share: the `Rules` of a run, and
-//! how lists of answers are written (`Form`, `Marked` and `specs/AnswerText`).
+//! `arrayvec` and `thiserror`. The crate above may rely on `evaluate` and `target`: whoever answers,
+//! they come to what `specs/Value` makes of the tree that `specs/Spells` reads at the cursor, be it a
+//! value, a fault with its mark or a question; on the laws of `Chooser`; on `Seeded`, whose answers
+//! are those of `specs/Seeds`; and on `Code` and `Codes`, expressions without RND that are read once
+//! and worked out often. It also has what the command line and the machine share: the `Rules` of a
+//! run, and how lists of answers are written (`Form`, `Marked` and `specs/AnswerText`).
 #![tactic(auto)]
 
 mod chooser;

@@ -21,3 +21,6 @@ returns-in_ok-report-in-Err-Fault-clause-comes g c given cells n text at =
     result_reported _ _ n text c.in-Err-Fault.fault c.args.done _ (Ok tt)
     (c.in-Err-Fault.is ∙ ap Err (rw c.in-Err-Fault.is at c.in-Err-Fault.field-0-is)) (ap (λ e. Ok (Some e)) c.ending_of.ensures)
     (rw line.1 at (c.in_ok-report-in-Err-Fault.ensures (io_devices g.C.Chooser.choices g.S.Screen g.L.LineSource.most c.args.io.now given) cells n (number ∙ line.0)))
+
+pub returns-in-Err-Pause-Ended-clause-comes : goal.returns-in-Err-Pause-Ended-clause-comes
+returns-in-Err-Pause-Ended-clause-comes g c = search rules
