@@ -1,7 +1,7 @@
 //! The machine of Tiny BASIC: the steps of a run, one command after another, and whole runs.
 //!
-//! It stands on `ptb_command`, `ptb_devices`, `ptb_expr`, `ptb_text`, `arrayvec`, `itoa` and
-//! `thiserror`. The crate above may rely on `Machine::step` (one turn of `specs/Play`: the state
+//! It stands on `ptb_command`, `ptb_devices`, `ptb_expr`, `ptb_text`, `ptb_words`, `arrayvec`, `itoa`
+//! and `thiserror`. The crate above may rely on `Machine::step` (one turn of `specs/Play`: the state
 //! after it, what it shows, the lines and answers it takes), on `Player::step` (the same, sooner
 //! where a command was done before), on `run` (all turns), on `run_laws` (answers are taken one by
 //! one, a limited number of them), and on the devices of the crate below, which it passes on.
