@@ -338,17 +338,15 @@ words=" $* "
 name=${words#* --crate-name }
 name=${name%% *}
 for made; do :; done
-if [ "$1" = check ]; then
-    echo "begins $name" >>"$kit/calls"
-    echo "checked $name::first, 3 of 9"
-    sleep 0.5
-    . "$kit/behaviour"
-    mkdir -p "$made"
-else
-    [ -d out/proved/checked ] || exit 1
-    case $made in *.rlib) mkdir -p "$made" ;; *) : >"$made" ;; esac
-    echo "ends $name" >>"$kit/calls"
-fi
+echo "begins $name" >>"$kit/calls"
+mkdir -p "$TMPDIR/kept" || exit 1
+for function in first second third; do : >"$TMPDIR/kept/$name-proofs.$function.Met.oantt"; done
+: >"$TMPDIR/kept/$name-proofs.Kind.TheImpl.Met.oantt"
+echo "says of $name what is not proved"
+sleep 0.5
+. "$kit/behaviour"
+case $made in *.rlib) mkdir -p "$made" ;; *) : >"$made" ;; esac
+echo "ends $name" >>"$kit/calls"
 END
 cat >"$folder/kit/bin/rattle-link" <<'END'
 #!/bin/sh
@@ -388,7 +386,7 @@ echo 'exit 1' >"$folder/kit/behaviour"
 started 'a build tells its crate' 70 '' "^ptb: crate 1 of $crates (ptb_words)\$" --all
 log=$(sed -n 's/^ptb: not built; what was said of it: //p' "$folder/errors")
 count_if 'and the log of one that fails' [ -n "$log" ]
-count_if 'the log is there' grep -q '^checked ptb_words::first, 3 of 9$' "$log"
+count_if 'the log is there' grep -q '^says of ptb_words what is not proved$' "$log"
 rm -rf "$(dirname "$log")"
 count_if 'nothing is begun above a crate that is not proved' [ "$(sort -u "$folder/kit/calls")" = 'begins ptb_words' ]
 
@@ -406,6 +404,16 @@ count_if 'and nothing is proved' [ ! -e "$folder/kit/calls" ]
 touch "$folder/a copy/crates/ptb_explore/src/lib.rt"
 started 'it is built again where a source is newer' 0 'said --all' '^ptb: proving and building' --all
 count_if 'but for what stands below' [ "$(sed -n 's/begins //p' "$folder/kit/calls" | xargs)" = 'ptb_explore ptb_serve ptb' ]
+
+# Whether a build tells at a terminal, in one line, what it is at and how far.
+tells_in_one_line() {
+    touch "$folder/a copy/crates/ptb_words/src/lib.rt"
+    echo 'sleep 0.6' >"$folder/kit/behaviour"
+    script -qec "'$folder/a copy/build'" /dev/null </dev/null >"$folder/screen"
+    grep -q 'ptb_words 3 of [0-9]* functions, 0 of [0-9]* crates built, 0 minutes so far' "$folder/screen" &&
+        [ "$(wc -l <"$folder/screen")" = 1 ]
+}
+count_if 'at a terminal a build tells its functions in one line' tells_in_one_line
 
 # Whether a build that is interrupted takes its provers with it.
 is_interrupted_whole() {
