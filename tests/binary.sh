@@ -408,7 +408,7 @@ count_if 'but for what stands below' [ "$(sed -n 's/begins //p' "$folder/kit/cal
 # Whether a build tells at a terminal, in one line, what it is at and how far.
 tells_in_one_line() {
     touch "$folder/a copy/crates/ptb_words/src/lib.rt"
-    echo 'sleep 0.6' >"$folder/kit/behaviour"
+    echo 'if [ "$name" = ptb_words ]; then sleep 2; fi' >"$folder/kit/behaviour"
     script -qec "'$folder/a copy/build'" /dev/null </dev/null >"$folder/screen"
     grep -q 'ptb_words 3 of [0-9]* functions, 0 of [0-9]* crates built, 0 minutes so far' "$folder/screen" &&
         [ "$(wc -l <"$folder/screen")" = 1 ]
