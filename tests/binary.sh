@@ -388,6 +388,8 @@ log=$(sed -n 's/^ptb: not built; what was said of it: //p' "$folder/errors")
 count_if 'and the log of one that fails' [ -n "$log" ]
 count_if 'the log is there' grep -q '^says of ptb_words what is not proved$' "$log"
 rm -rf "$(dirname "$log")"
+mkdir "$folder/files"
+TMPDIR=$folder/files started 'a folder for temporary files is heeded' 70 '' "^ptb: not built; what was said of it: $folder/files/" --all
 count_if 'nothing is begun above a crate that is not proved' [ "$(sort -u "$folder/kit/calls")" = 'begins ptb_words' ]
 
 echo 'case $words in *" --jobs 1 "*) ;; *) if [ "$name" = ptb_expr ]; then kill -9 $$; fi ;; esac' >"$folder/kit/behaviour"
