@@ -39,3 +39,6 @@ loop-left-preserved g c =
       room = omega (arith, c.loop-left.invariant.room);
       read = rw (← size) (IsReadUpTo_more _ _ _ _ _ _ _ _ _ _ fits_here c.loop-left.invariant.read c.in_ok-count.ensures.bytes.0 adds);
     }
+
+pub loop-left-init : goal.loop-left-init
+loop-left-init g c = search rules fits 50 depth 2

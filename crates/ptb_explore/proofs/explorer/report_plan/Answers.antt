@@ -49,7 +49,7 @@ returns-clause-played c =
     (c.go_back-machine.new.copies.kept.items, c.in_ok-machine.ensures.back, c.saturating_add.ensures ∙ ap (λ n. more_played c.args.played.now n) (c.from.ensures ∙ c.saturating_sub.ensures ∙ ap (λ n. c.steps-steps.result - n) first))
 
 pub returns-in_err-report-clause-answers : goal.returns-in_err-report-clause-answers
-returns-in_err-report-clause-answers c = search rules
+returns-in_err-report-clause-answers c = search rules fits 50 depth 2
 
 pub returns-in_err-report-clause-bounds : goal.returns-in_err-report-clause-bounds
-returns-in_err-report-clause-bounds c = search rules
+returns-in_err-report-clause-bounds c = search rules fits 50 depth 2

@@ -14,4 +14,4 @@ write_report-requires g c =
     ∙ ap length (sym c.deref-in-Ok-Some.ensures.value)
 
 pub returns-in-Ok-clause-writes : goal.returns-in-Ok-clause-writes
-returns-in-Ok-clause-writes g c = search rules
+returns-in-Ok-clause-writes g c = search rules fits 50 depth 2

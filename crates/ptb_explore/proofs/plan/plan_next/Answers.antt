@@ -13,3 +13,12 @@ returns-in_ok-restart-in-Some-clause-plan c =
     let raised : to_z w16 (of_z w16 (to_z w16 (of_z w16 answer) +ℤ pos 1)) ≡ answer +ℤ pos 1 = omega (arith, ints, room) in
     let plan = c.in_ok-restart-in-Some.ensures.answers ∙ ap (λ k. take i answers ++ k ∷ []) raised in
     rw c.in-AtRun.is (c.in-Some.ensures.place, plan)
+
+pub returns-in-AtEnd-clause-plan : goal.returns-in-AtEnd-clause-plan
+returns-in-AtEnd-clause-plan c = search rules fits 50 depth 2
+
+pub returns-in-AtEnd-clause-fresh : goal.returns-in-AtEnd-clause-fresh
+returns-in-AtEnd-clause-fresh c = search rules fits 50 depth 2
+
+pub returns-in-AtEnd-clause-ended : goal.returns-in-AtEnd-clause-ended
+returns-in-AtEnd-clause-ended c = search rules fits 50 depth 2

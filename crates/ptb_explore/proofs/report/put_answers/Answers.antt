@@ -1,5 +1,6 @@
 -- This file answers that answers are gathered one after the other, each but the first behind a comma.
 use Rattle.std.proofs.Common.{rules, ◌≡◌, ℕ, ◌<◌, ◌≤◌, List, [], ◌++◌, ◌∙◌, take, length, ap, sym, subst, arith, ℤ, pos, get_or, codes}
+use Rattle.std.proofs.lemmas.Grind.{common_steps}
 use Rattle.std.specs.Prelude.{◌==◌, if◌then◌else◌}
 use Rattle.std.specs.List.{flat_map}
 use Rattle.std.proofs.lemmas.Result.{err_from_is_err_and}
@@ -68,3 +69,6 @@ returns-clause-ok g c =
     let same : length answers ≡ length bounds = c.requires in
     let some : 0 < length answers = grind (arith, c.if-is_empty.ensures) in
     gathers_same (all form answers bounds same c.args.pending.now.items c.loop-k.k some c.loop-k-test.false) c.loop-k.invariant.gathered
+
+pub returns-then-is_empty-clause-ok : goal.returns-then-is_empty-clause-ok
+returns-then-is_empty-clause-ok g c = grind (arith, common_steps)

@@ -23,4 +23,4 @@ returns-in_ok-report-in-Err-Fault-clause-comes g c given cells n text at =
     (rw line.1 at (c.in_ok-report-in-Err-Fault.ensures (io_devices g.C.Chooser.choices g.S.Screen g.L.LineSource.most c.args.io.now given) cells n (number ∙ line.0)))
 
 pub returns-in-Err-Pause-Ended-clause-comes : goal.returns-in-Err-Pause-Ended-clause-comes
-returns-in-Err-Pause-Ended-clause-comes g c = search rules
+returns-in-Err-Pause-Ended-clause-comes g c = search rules fits 50 depth 2

@@ -58,3 +58,6 @@ returns c =
     let is = c.unsigned_abs-number.ensures.value ∙ ap unsigned_abs (ev ∙ sym parts.value) in
     let text = take_all (length line - c.place.result) (drop c.place.result line) (omega (arith, length-drop c.place.result line)) ∙ ap (λ j. drop j line) c.place.ensures ∙ parts.text in
     rw text (after_number line (in_front line) (sym c.in_default.ensures.value) (in_front-trim_start line) _ (some_in_front line over) (sym is) (omega arith) (omega (arith, is, parts.high)))
+
+pub returns-in-Some : goal.returns-in-Some
+returns-in-Some c = search rules fits 50 depth 2

@@ -1,5 +1,5 @@
 -- This file answers what is left to prove of `list`.
-use Rattle.std.proofs.Common.{◌≡◌, ◌+◌, ◌++◌, drop, take, sym, ap, ◌∙◌}
+use Rattle.std.proofs.Common.{rules, ◌≡◌, ◌+◌, ◌++◌, drop, take, sym, ap, ◌∙◌}
 use Rattle.std.proofs.lemmas.Result.{err_from_is_err_and}
 use Rattle.ptb_text.specs.Statements.{listing}
 use Rattle.ptb_text.proofs.Listed.{GivesProgram-listing, listing-drop}
@@ -36,3 +36,6 @@ loop-at-preserved g c =
       taken = IsTakenUpTo_piece _ _ _ next c.loop-at.invariant.taken all;
       room = c.put_line-end.auto.buffer ∙ c.loop-at.invariant.room;
     }
+
+pub loop-at-init : goal.loop-at-init
+loop-at-init g c = search rules fits 50 depth 2

@@ -1,4 +1,5 @@
 -- This file answers that the runs of the program have their laws.
+use Rattle.std.proofs.Common.{rules}
 use Rattle.ptb_explore.proofs.RunPrefix.{program_laws}
 use Rattle.ptb_explore.proofs.explorer.Explorer.after_under.Goals as goal
 
@@ -10,3 +11,21 @@ returns-in_err-answers_of-clause-laws c = program_laws c.run_laws.ensures c.args
 
 pub returns-clause-laws : goal.returns-clause-laws
 returns-clause-laws c = program_laws c.run_laws.ensures c.args.program.now c.args.lines.now c.args.rules
+
+pub returns-clause-after : goal.returns-clause-after
+returns-clause-after c = search rules fits 50 depth 2
+
+pub returns-clause-run : goal.returns-clause-run
+returns-clause-run c = search rules fits 50 depth 2
+
+pub returns-clause-begins : goal.returns-clause-begins
+returns-clause-begins c = search rules fits 50 depth 2
+
+pub returns-clause-kept : goal.returns-clause-kept
+returns-clause-kept c = search rules fits 50 depth 2
+
+pub returns-clause-played : goal.returns-clause-played
+returns-clause-played c = search rules fits 50 depth 2
+
+pub returns-clause-not_a_run : goal.returns-clause-not_a_run
+returns-clause-not_a_run c = search rules fits 50 depth 2

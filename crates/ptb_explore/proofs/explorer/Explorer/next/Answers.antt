@@ -26,7 +26,13 @@ returns-in-Ok-true c =
     ((refl, (λ _. tt), subst (λ (x : Exploration). FoundNext x r (record { program = new.player; input = e.lines.now; rules = e.rules; under = e.under.items; front = At r.answers.items; kept = runs; played = new.played })) c.self.view_is found), search rules)
 
 pub invariant_of-self-in-Ok-false : goal.invariant_of-self-in-Ok-false
-invariant_of-self-in-Ok-false c = search rules
+invariant_of-self-in-Ok-false c = search rules fits 50 depth 2
 
 pub returns-in-Ok-false : goal.returns-in-Ok-false
-returns-in-Ok-false c = search rules
+returns-in-Ok-false c = search rules fits 50 depth 2
+
+pub invariant_of-self-in-Err : goal.invariant_of-self-in-Err
+invariant_of-self-in-Err c = search rules fits 50 depth 2
+
+pub returns-in-Err : goal.returns-in-Err
+returns-in-Err c = search rules fits 50 depth 2

@@ -27,3 +27,6 @@ invariant_of-self-in-Ok-push-2-clause-later_one c =
     let t = ones_push self.answers.items self.planned (omega (arith, self.answers.ok.0, self.within)) old in
     let n : vec_len now ≡ length (self.answers.items ++ pos 1 ∷ []) = now.ok.0 ∙ ap length e in
     e ∙ t ∙ sym (ap (λ xs. take self.planned xs ++ replicate (vec_len now - self.planned) (pos 1)) e ∙ ap (λ k. take self.planned (self.answers.items ++ pos 1 ∷ []) ++ replicate (k - self.planned) (pos 1)) n)
+
+pub returns-in-Ok-clause-answer : goal.returns-in-Ok-clause-answer
+returns-in-Ok-clause-answer c = search rules fits 50 depth 2

@@ -1,5 +1,6 @@
 -- This file answers that an answer is the next that is drawn from the seed.
 use Rattle.std.proofs.Common.{rules, ◌≡◌, ◌∙◌, sym, ap, refl, [], ◌∷◌, ◌++◌, length, length-append, ◌-◌, to_z, of_z, w16, arith}
+use Rattle.std.proofs.lemmas.Grind.{common_steps}
 use Rattle.std.proofs.Math.Seq.{set-append_seam}
 use Rattle.rand_pcg.specs.Pcg.{pcg32}
 use Rattle.ptb_expr.specs.Seeds.{drawn_answer}
@@ -29,3 +30,9 @@ returns-clause-grown c =
     let before = drawn_so_far _ _ _ _ c.self.invariant in
     let after = drawn_so_far _ _ _ _ (drawn_one_more c.self.inside.seed c.self.inside.bounds.items c.self.inside.answers.items c.self.inside.generator c.args.bound c.self.invariant) in
     rw (sym c.self.view_is, bounds, drawn) (rw (sym after, sym before) refl)
+
+pub invariant_of-self-then-is_err-2 : goal.invariant_of-self-then-is_err-2
+invariant_of-self-then-is_err-2 c = grind (arith, common_steps)
+
+pub returns-then-is_err-2-clause-same : goal.returns-then-is_err-2-clause-same
+returns-then-is_err-2-clause-same c = grind (arith, common_steps)

@@ -1,5 +1,5 @@
 -- This file answers what is left to prove of `Program::replace`.
-use Rattle.std.proofs.Common.{◌≡◌, ◌+◌, ◌-◌, ◌≤◌, ◌++◌, [], length, take, drop, get_or, set, refl, sym, ap, ◌∙◌, arith}
+use Rattle.std.proofs.Common.{rules, ◌≡◌, ◌+◌, ◌-◌, ◌≤◌, ◌++◌, [], length, take, drop, get_or, set, refl, sym, ap, ◌∙◌, arith}
 use Rattle.std.specs.List.{splice}
 use Rattle.std.specs.Vec.{with_item, with_items}
 use Rattle.std.proofs.lemmas.List.Sums.{sum_by-set}
@@ -104,3 +104,6 @@ returns c =
     let q = with_text p.lines c.args.number c.args.text.now in
     let memory = memory_shown c.self.inside p c.self.view_is in
     Enters-ok q p (stored_program (after g.After-lay_out)) (lines_shown (after g.After-lay_out) q (layout g.After-lay_out (entry g.After-from))) memory (omega (arith, size, c.if-cost-self.false))
+
+pub put_text-requires-clause-room : goal.put_text-requires-clause-room
+put_text-requires-clause-room c = search rules fits 50 depth 2

@@ -1,0 +1,6 @@
+-- This file proves goals of `new` by short searches, so that a wrong body is refused soon.
+use Rattle.std.proofs.Common.{rules}
+use Rattle.ptb_devices.proofs.screen.WriterScreen.new.Goals as goal
+
+pub returns-clause-writer : goal.returns-clause-writer
+returns-clause-writer g c = search rules fits 50 depth 2

@@ -1,0 +1,9 @@
+-- This file proves goals of `write` by short searches, so that a wrong body is refused soon.
+use Rattle.std.proofs.Common.{rules}
+use Rattle.ptb_serve.proofs.flushing.FlushingWrite.write.Goals as goal
+
+pub returns-clause-count : goal.returns-clause-count
+returns-clause-count g c = search rules fits 50 depth 2
+
+pub returns-clause-bytes : goal.returns-clause-bytes
+returns-clause-bytes g c = search rules fits 50 depth 2

@@ -1,0 +1,6 @@
+-- This file proves goals of `from` by short searches, so that a wrong body is refused soon.
+use Rattle.std.proofs.Common.{rules}
+use Rattle.ptb_serve.proofs.note.NoteFromExploreFault.from.Goals as goal
+
+pub returns-in-Write : goal.returns-in-Write
+returns-in-Write c = search rules fits 50 depth 2

@@ -1,0 +1,6 @@
+-- This file proves goals of `get` by short searches, so that a wrong body is refused soon.
+use Rattle.std.proofs.Common.{rules}
+use Rattle.ptb_text.proofs.program.Program.get.Goals as goal
+
+pub returns-clause-value : goal.returns-clause-value
+returns-clause-value c = search rules fits 50 depth 2

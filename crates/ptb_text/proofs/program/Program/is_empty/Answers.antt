@@ -1,0 +1,7 @@
+-- This file proves goals of `is_empty` by short searches, so that a wrong body is refused soon.
+use Rattle.std.proofs.Common.{arith}
+use Rattle.std.proofs.lemmas.Grind.{common_steps}
+use Rattle.ptb_text.proofs.program.Program.is_empty.Goals as goal
+
+pub returns-clause-value : goal.returns-clause-value
+returns-clause-value c = grind (arith, common_steps)
