@@ -1,5 +1,6 @@
 -- This file answers that a run goes on from where the newest copy that is left stands, or begins.
-use Rattle.std.proofs.Common.{◌≡◌, List, [], take, length, sym, ap, subst, ◌∙◌, Some, None}
+use Rattle.std.proofs.Common.{arith, ◌≡◌, List, [], take, length, sym, ap, subst, ◌∙◌, Some, None}
+use Rattle.std.proofs.lemmas.Grind.{common_steps}
 use Rattle.std.specs.Prelude.{ℤ, option_map}
 use Rattle.std.proofs.lemmas.List.{length-take-le}
 use Rattle.std.proofs.lemmas.Result.{IfOk-weaker}
@@ -86,3 +87,6 @@ unreachable-requires c =
     let none : machine_of c.in-Some.copy ≡ None = ap (option_map (λ b. b.value)) c.in-None-machine.is in
     let some : machine_of c.in-Some.copy ≡ Some on.stands.machine = on.stands.machine_is in
     absurd cc
+
+pub skip-requires-clause-within : goal.skip-requires-clause-within
+skip-requires-clause-within c = grind (arith, common_steps)

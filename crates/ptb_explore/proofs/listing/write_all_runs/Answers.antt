@@ -1,5 +1,6 @@
 -- This file answers that the reports that are written are those of the runs that were left, in their order.
-use Rattle.std.proofs.Common.{rules, ◌≡◌, ℕ, List, Bool, Option, Some, Result, Ok, Err, true, false, not, eqb, ap, refl, ◌∙◌, subst}
+use Rattle.std.proofs.Common.{arith, rules, ◌≡◌, ℕ, List, Bool, Option, Some, Result, Ok, Err, true, false, not, eqb, ap, refl, ◌∙◌, subst}
+use Rattle.std.proofs.lemmas.Grind.{common_steps}
 use Rattle.std.specs.Option.{option_eq}
 use Rattle.ptb_explore.specs.declared.fault.NextFault.{NextFault}
 use Rattle.ptb_expr.specs.declared.form.Form.{Form}
@@ -75,3 +76,6 @@ returns-in-Err-Write-clause-unfailed g c = λ h. absurd (h _ refl)
 
 pub loop-form-init : goal.loop-form-init
 loop-form-init g c = search rules
+
+pub returns-clause-writes : goal.returns-clause-writes
+returns-clause-writes g c = grind (arith, common_steps)

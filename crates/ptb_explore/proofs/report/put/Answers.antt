@@ -1,5 +1,6 @@
 -- This file answers that what doesn't fit a line is written behind it.
-use Rattle.std.proofs.Common.{rules, ◌≡◌, []}
+use Rattle.std.proofs.Common.{arith, rules, ◌≡◌, []}
+use Rattle.std.proofs.lemmas.Grind.{common_steps}
 use Rattle.std.proofs.lemmas.Result.{on_ok_weaker, on_err_weaker}
 use Rattle.ptb_explore.proofs.Gathering.{gathers_written, gathers_more, some_after}
 use Rattle.ptb_explore.proofs.report.put.Goals as goal
@@ -16,3 +17,6 @@ returns-clause-fault g c =
     let same : c.as_slice.result.now ≡ c.args.pending.now.items = search rules in
     let whole = gathers_written _ _ c.args.pending.now.items (rw same at c.in_ok-write_all.ensures.ok) in
     on_err_weaker c.write_all-2.result (λ e. some_after _ _ _ c.args.pending.now.items [] c.args.bytes.now whole e) c.write_all-2.ensures.fault
+
+pub returns-in_err-write_all-clause-fault : goal.returns-in_err-write_all-clause-fault
+returns-in_err-write_all-clause-fault g c = grind (arith, common_steps)

@@ -72,3 +72,6 @@ returns-clause-ok g c =
 
 pub returns-then-is_empty-clause-ok : goal.returns-then-is_empty-clause-ok
 returns-then-is_empty-clause-ok g c = grind (arith, common_steps)
+
+pub returns-then-is_empty-clause-fault : goal.returns-then-is_empty-clause-fault
+returns-then-is_empty-clause-fault g c = grind (arith, common_steps)

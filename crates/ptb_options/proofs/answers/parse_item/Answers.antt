@@ -1,5 +1,6 @@
 -- This file answers that a word is cut at its `/`, if it has one.
 use Rattle.std.proofs.Common.{rules, ◌≡◌, ◌∙◌, ap, ap₂, sym, arith, ℤ, Option, Some, None, FitsSigned, w16, to_z-of_z}
+use Rattle.std.proofs.lemmas.Grind.{common_steps}
 use Rattle.std.proofs.lemmas.Str.Pattern.{split_parts}
 use Rattle.ptb_expr.specs.AnswerText.{with_bound, without_bound}
 use Rattle.ptb_options.proofs.AnswerTexts.{item_is_number, item_is_numbers}
@@ -49,3 +50,6 @@ returns-clause-only c m h =
     let answer : k ≡ m.answer = some_number k m.answer (c.in_ok-parse_number-2.ensures.only m.answer numbers.1) in
     let bound : n ≡ numbers.0 = some_number n numbers.0 (c.in_ok-parse_number-3.ensures.only numbers.0 numbers.2) in
     ap₂ (λ (i j : ℤ). Some (with_bound i j)) (to_z-of_z fits ∙ answer) (to_z-of_z bound_fits ∙ bound) ∙ ap Some (sym numbers.3)
+
+pub returns-clause-some : goal.returns-clause-some
+returns-clause-some c = grind (arith, common_steps)

@@ -18,3 +18,12 @@ returns-clause-too_long g c = grind (arith, common_steps)
 
 pub returns-clause-given_too_long : goal.returns-clause-given_too_long
 returns-clause-given_too_long g c = search rules fits 50 depth 2
+
+pub returns-in_default-clause-bounded : goal.returns-in_default-clause-bounded
+returns-in_default-clause-bounded g c = grind (arith, common_steps)
+
+pub returns-then-taken-eq0-clause-bounded : goal.returns-then-taken-eq0-clause-bounded
+returns-then-taken-eq0-clause-bounded g c = grind (arith, common_steps)
+
+pub loop-piece-preserved : goal.loop-piece-preserved
+loop-piece-preserved g c = grind (arith, common_steps)

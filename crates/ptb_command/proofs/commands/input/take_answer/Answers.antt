@@ -1,5 +1,6 @@
 -- This file answers what is left to prove of `take_answer`.
 use Rattle.std.proofs.Common.{◌≡◌, ◌∙◌, ◌++◌, [], ◌∷◌, Ok, Some, None, IfErr, IfOk, IfNone, ap, append_assoc, arith, refl, rules, subst, sym, to_z, of_z, w16}
+use Rattle.std.proofs.lemmas.Grind.{common_steps}
 use Rattle.ptb_words.specs.CursorState.{CursorState}
 use Rattle.ptb_expr.specs.Reading.{item_of, variable_tree}
 use Rattle.ptb_command.specs.declared.stop.Stop.TheVariants as stops
@@ -255,3 +256,12 @@ returns-in_err-store_answer-clause-missed g c =
 
 pub returns-then-branch-clause-missed : goal.returns-then-branch-clause-missed
 returns-then-branch-clause-missed g c = not_missed _ _ _ _ (given_missed g.L.LineSource.missed c.args.io.now.source.now c.ask.new.io.source.now c.next.follows.lender-at-none c.in-Some.line c.next.result (c.in_ok-line.was ∙ ap Ok c.in-Some.is) (rw c.ask.ensures.same.source c.answers.invariant.missed) c.next.follows.holds-at-none.3)
+
+pub answer_instead-requires-clause-bound : goal.answer_instead-requires-clause-bound
+answer_instead-requires-clause-bound g c = grind (arith, common_steps)
+
+pub returns-in_err-store_answer-clause-read : goal.returns-in_err-store_answer-clause-read
+returns-in_err-store_answer-clause-read g c = grind (arith, common_steps)
+
+pub answers-smaller : goal.answers-smaller
+answers-smaller g c = grind (arith, common_steps)

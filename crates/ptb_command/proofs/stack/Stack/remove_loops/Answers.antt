@@ -11,3 +11,15 @@ returns-in_default c =
     let k = c.levels.k in
     let whole = ap (λ (xs : List Open). reverse xs) (sym (take-append-drop k s)) ∙ reverse-append (take k s) (drop k s) in
     grind (arith, common_steps)
+
+pub levels-init : goal.levels-init
+levels-init c = grind (arith, common_steps)
+
+pub levels-preserved-then-eq : goal.levels-preserved-then-eq
+levels-preserved-then-eq c = grind (arith, common_steps)
+
+pub levels-preserved : goal.levels-preserved
+levels-preserved c = grind (arith, common_steps)
+
+pub returns-clause-few : goal.returns-clause-few
+returns-clause-few c = grind (arith, common_steps)

@@ -1,5 +1,6 @@
 -- This file answers what is left to prove of `LineBuffer::fill`.
 use Rattle.std.proofs.Common.{◌≡◌, ◌-◌, ◌<◌, ◌≤◌, [], ◌++◌, length, take, drop, slice_range, sym, subst, ap, ◌∙◌, rules, arith}
+use Rattle.std.proofs.lemmas.Grind.{common_steps}
 use Rattle.std.proofs.lemmas.List.{length-take-le}
 use Rattle.std.specs.Io.KnownBytes.{IsAtEnd}
 use Rattle.ptb_devices.specs.declared.line_buffer.InputEnd.TheVariants.{Open, Ended, Failed, Exceeded}
@@ -71,3 +72,15 @@ returns-in-Ok-2-clause-on g c =
     (ReadsOn_more_bytes _ _ _ _ _ _ _ _ _ _ _ c.in-Ok.ensures.bytes.0 (omega (arith, long, less, more)) (omega (arith, less, more)) c.in-Ok.ensures.count.1
     (omega (arith, long, some)) (omega (arith, long, fits))
     (subst (λ k. IsCounted (g.R.Read.given c.args.reader.now) (g.R.Read.given c.read.new.self) k) (sym long) (IsCounted_read _ _ _ c.in-Ok.ensures.given.0 c.in-Ok.ensures.given.1)))
+
+pub invariant_of-self : goal.invariant_of-self
+invariant_of-self g c = grind (arith, common_steps)
+
+pub invariant_of-self-in-Ok-eq0 : goal.invariant_of-self-in-Ok-eq0
+invariant_of-self-in-Ok-eq0 g c = grind (arith, common_steps)
+
+pub invariant_of-self-then-self-eq1 : goal.invariant_of-self-then-self-eq1
+invariant_of-self-then-self-eq1 g c = grind (arith, common_steps)
+
+pub invariant_of-self-in-Ok-2 : goal.invariant_of-self-in-Ok-2
+invariant_of-self-in-Ok-2 g c = grind (arith, common_steps)

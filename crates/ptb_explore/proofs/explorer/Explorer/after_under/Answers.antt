@@ -1,5 +1,6 @@
 -- This file answers that the runs of the program have their laws.
-use Rattle.std.proofs.Common.{rules}
+use Rattle.std.proofs.Common.{arith, rules}
+use Rattle.std.proofs.lemmas.Grind.{common_steps}
 use Rattle.ptb_explore.proofs.RunPrefix.{program_laws}
 use Rattle.ptb_explore.proofs.explorer.Explorer.after_under.Goals as goal
 
@@ -29,3 +30,6 @@ returns-clause-played c = search rules fits 50 depth 2
 
 pub returns-clause-not_a_run : goal.returns-clause-not_a_run
 returns-clause-not_a_run c = search rules fits 50 depth 2
+
+pub at_plan-requires-clause-within : goal.at_plan-requires-clause-within
+at_plan-requires-clause-within c = grind (arith, common_steps)

@@ -1,5 +1,6 @@
 -- This file answers that an explorer stands before the runs that begin with a list, if its bounds are as they are stated.
-use Rattle.std.proofs.Common.{rules, ◌≡◌, ◌∙◌, ap, sym, true, false, length, take}
+use Rattle.std.proofs.Common.{arith, rules, ◌≡◌, ◌∙◌, ap, sym, true, false, length, take}
+use Rattle.std.proofs.lemmas.Grind.{common_steps}
 use Rattle.ptb_expr.specs.Outcome.{Answers, bounds, is_open}
 use Rattle.ptb_machine.specs.Play.{play}
 use Rattle.ptb_expr.specs.AnswerText.{answers_of}
@@ -62,3 +63,15 @@ returns-clause-played c =
     let is : plan ≡ answers_of list = c.in_ok-replay.ensures.answers ∙ c.deref.ensures.value ∙ c.in_ok-under.ensures in
     let first : (a : Answers) → IsNextRun all (answers_of list) Start a → IsPlayed all a c.in_ok-played.played = rw (← is, ← c.in_ok-player.ensures) c.in_ok-played.ensures.played in
     λ a next f ran. ap (λ (e : Exploration). e.played) c.at_start.ensures ∙ first a next f ran
+
+pub returns-in_err-played-clause-no_beginning : goal.returns-in_err-played-clause-no_beginning
+returns-in_err-played-clause-no_beginning c = grind (arith, common_steps)
+
+pub states_bounds-requires : goal.states_bounds-requires
+states_bounds-requires c = grind (arith, common_steps)
+
+pub at_start-requires-clause-opens : goal.at_start-requires-clause-opens
+at_start-requires-clause-opens c = grind (arith, common_steps)
+
+pub returns-clause-under : goal.returns-clause-under
+returns-clause-under c = grind (arith, common_steps)

@@ -1,5 +1,6 @@
 -- This file answers that a recorder refuses only what its plan has next, and that ones stand behind the plan.
 use Rattle.std.proofs.Common.{rules, ◌≡◌, ◌-◌, ◌<◌, [], ◌∷◌, ◌++◌, length, get_or, take, replicate, vec_len, arith, ap, sym, ◌∙◌, inl, inr, pos, FitsSigned, w16, to_z-of_z}
+use Rattle.std.proofs.lemmas.Grind.{common_steps}
 use Rattle.std.proofs.lemmas.Bool.{cases_lt}
 use Rattle.ptb_explore.proofs.Recording.{next_planned, ones_push}
 use Rattle.ptb_explore.proofs.recorder.RecorderChooser.choose.Goals as goal
@@ -30,3 +31,15 @@ invariant_of-self-in-Ok-push-2-clause-later_one c =
 
 pub returns-in-Ok-clause-answer : goal.returns-in-Ok-clause-answer
 returns-in-Ok-clause-answer c = search rules fits 50 depth 2
+
+pub invariant_of-self-in-Err-push-2 : goal.invariant_of-self-in-Err-push-2
+invariant_of-self-in-Err-push-2 c = grind (arith, common_steps)
+
+pub returns-in-Ok-clause-grown : goal.returns-in-Ok-clause-grown
+returns-in-Ok-clause-grown c = grind (arith, common_steps)
+
+pub returns-in-Ok-push-2-clause-grown : goal.returns-in-Ok-push-2-clause-grown
+returns-in-Ok-push-2-clause-grown c = grind (arith, common_steps)
+
+pub returns-in-Err-push-2-clause-same : goal.returns-in-Err-push-2-clause-same
+returns-in-Err-push-2-clause-same c = grind (arith, common_steps)

@@ -36,3 +36,6 @@ invariant_of-self-then-is_err-2 c = grind (arith, common_steps)
 
 pub returns-then-is_err-2-clause-same : goal.returns-then-is_err-2-clause-same
 returns-then-is_err-2-clause-same c = grind (arith, common_steps)
+
+pub returns-clause-answer : goal.returns-clause-answer
+returns-clause-answer c = grind (arith, common_steps)

@@ -1,5 +1,6 @@
 -- This file answers what is left to prove of `Program::delete`.
 use Rattle.std.proofs.Common.{◌≡◌, ◌+◌, ◌-◌, ◌++◌, length, take, drop, sym, ap, ◌∙◌, arith}
+use Rattle.std.proofs.lemmas.Grind.{common_steps}
 use Rattle.std.specs.List.{remove, remove_range}
 use Rattle.std.specs.Vec.{with_items}
 use Rattle.std.proofs.lemmas.List.Sums.{sum_by-remove}
@@ -67,3 +68,15 @@ returns-in-Ok-clause-lines c = lines_shown (after (goal.at.returns-in-Ok-clause-
 
 pub returns-in_default-clause-lines : goal.returns-in_default-clause-lines
 returns-in_default-clause-lines c = sym (without_number-gap c.args.self.now.lines c.args.number _ c.in_default.ensures.absent)
+
+pub remove-deleted-requires : goal.remove-deleted-requires
+remove-deleted-requires c = grind (arith, common_steps)
+
+pub offset_bounds-deref_mut-at : goal.offset_bounds-deref_mut-at
+offset_bounds-deref_mut-at c = grind (arith, common_steps)
+
+pub slice_bounds-lay_out-count : goal.slice_bounds-lay_out-count
+slice_bounds-lay_out-count c = grind (arith, common_steps)
+
+pub slice_bounds-lay_out-start : goal.slice_bounds-lay_out-start
+slice_bounds-lay_out-start c = grind (arith, common_steps)

@@ -1,5 +1,6 @@
 -- This file answers what is left to prove of `Program::insert`.
 use Rattle.std.proofs.Common.{◌≡◌, ◌+◌, ◌-◌, ◌≤◌, ◌++◌, length, take, drop, refl, sym, ap, ◌∙◌, arith}
+use Rattle.std.proofs.lemmas.Grind.{common_steps}
 use Rattle.std.specs.List.{insert, splice}
 use Rattle.std.specs.Vec.{with_items}
 use Rattle.std.proofs.lemmas.List.Sums.{sum_by-insert, sum_by-take-le}
@@ -113,3 +114,24 @@ returns c =
     let q = with_text p.lines c.args.number c.args.text.now in
     let memory = memory_shown c.self.inside p c.self.view_is in
     Enters-ok q p (stored_program (after g.After-lay_out)) (lines_shown (after g.After-lay_out) q (layout g.After-lay_out (place g.After-place_of-place) (edit g.After-unwrap))) memory (omega (arith, size, c.if-cost-self.false))
+
+pub invariant_of-self : goal.invariant_of-self
+invariant_of-self c = grind (arith, common_steps)
+
+pub invariant_of-self-then-is_err-2 : goal.invariant_of-self-then-is_err-2
+invariant_of-self-then-is_err-2 c = grind (arith, common_steps)
+
+pub invariant_of-self-2 : goal.invariant_of-self-2
+invariant_of-self-2 c = grind (arith, common_steps)
+
+pub insert-requires : goal.insert-requires
+insert-requires c = grind (arith, common_steps)
+
+pub offset_bounds-deref_mut-at : goal.offset_bounds-deref_mut-at
+offset_bounds-deref_mut-at c = grind (arith, common_steps)
+
+pub slice_bounds-lay_out-count : goal.slice_bounds-lay_out-count
+slice_bounds-lay_out-count c = grind (arith, common_steps)
+
+pub slice_bounds-lay_out-start : goal.slice_bounds-lay_out-start
+slice_bounds-lay_out-start c = grind (arith, common_steps)

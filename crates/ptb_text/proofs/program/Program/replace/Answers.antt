@@ -1,5 +1,6 @@
 -- This file answers what is left to prove of `Program::replace`.
 use Rattle.std.proofs.Common.{rules, ◌≡◌, ◌+◌, ◌-◌, ◌≤◌, ◌++◌, [], length, take, drop, get_or, set, refl, sym, ap, ◌∙◌, arith}
+use Rattle.std.proofs.lemmas.Grind.{common_steps}
 use Rattle.std.specs.List.{splice}
 use Rattle.std.specs.Vec.{with_item, with_items}
 use Rattle.std.proofs.lemmas.List.Sums.{sum_by-set}
@@ -107,3 +108,21 @@ returns c =
 
 pub put_text-requires-clause-room : goal.put_text-requires-clause-room
 put_text-requires-clause-room c = search rules fits 50 depth 2
+
+pub index-requires : goal.index-requires
+index-requires c = grind (arith, common_steps)
+
+pub invariant_of-self : goal.invariant_of-self
+invariant_of-self c = search rules
+
+pub index_mut-requires : goal.index_mut-requires
+index_mut-requires c = grind (arith, common_steps)
+
+pub offset_bounds-deref_mut-at : goal.offset_bounds-deref_mut-at
+offset_bounds-deref_mut-at c = grind (arith, common_steps)
+
+pub slice_bounds-lay_out-count : goal.slice_bounds-lay_out-count
+slice_bounds-lay_out-count c = grind (arith, common_steps)
+
+pub slice_bounds-lay_out-start : goal.slice_bounds-lay_out-start
+slice_bounds-lay_out-start c = grind (arith, common_steps)
