@@ -5,3 +5,4 @@ pub mod Digits
 pub mod Words
 pub mod Lone
 pub mod Finding
+pub mod Taking

@@ -1,6 +1,6 @@
 -- This file proves how the words of a table are found.
 use Rattle.std.proofs.Common.{◌≡◌, ℕ, ◌+◌, ◌<◌, ◌≤◌, ◌∙◌, ap, sym, subst, Bool, true, false, cond, List, [], ◌∷◌, map, length, drop, get_or, eqb, arith, refl, Option, Some, None, inl, inr}
-use Rattle.std.specs.Prelude.{◌&&◌, ◌==◌, not, nat_eq, nat_lt, find, filter, option_map}
+use Rattle.std.specs.Prelude.{◌&&◌, ◌==◌, not, nat_eq, nat_lt, find, filter, option_map, IfSome}
 use Rattle.std.specs.Option.{option_or}
 use Rattle.std.specs.List.{starts_with, list_any, list_all}
 use Rattle.std.proofs.lemmas.Bool.{or_parts, and_parts, cases_eq, eq-eqb, ne_eqb, eqb-false, not-true, false≢true, lt-ltb}
@@ -206,6 +206,11 @@ finds_second v w t place None s one two same = record {
 finds_second v w t place (Some x) s one two same =
     let found : FindsWord (v ∷ w ∷ []) t place (Some x) = record { first = or_first _ _ _ one.first; ahead = one.ahead } in
     subst (λ r. FindsWord (v ∷ w ∷ []) t place r) (sym (same x refl)) found
+
+-- what holds of a word holds of what is found, if that is the word
+pub is_of : (P : Word → Type 0) (r : Option (Word × ℕ)) (w : Word) → IfSome r (λ found. found.0 ≡ w) → P w → IfSome r (λ found. P found.0)
+is_of P None w e h = tt
+is_of P (Some x) w e h = subst P (sym e) h
 
 pub word_at_end : (table : Table) (t : List ℕ) (i : ℕ) → length t ≤ past_blanks t i → word_at table t i ≡ None
 unfolding word_at

@@ -42,7 +42,6 @@ impl<'a> Model for Cursor<'a> {
 }
 
 // Where the blanks that stand at `place` end.
-#[tactic(auto, using(crate::proofs::Blanks::past_blanks_more, crate::proofs::Blanks::past_blanks_stop, crate::proofs::Blanks::past_blanks_end))]
 fn after_blanks(text: &[u8], place: usize) -> usize
     requires { place ≤ length text.now }
     ensures value { result ≡ past_blanks text.now place }
@@ -232,7 +231,6 @@ impl<'a> Cursor<'a> {
     /// Takes the longest run of digits that stands next.
     ///
     /// A number over 32767 is taken too. Where no digit stands, nothing is taken.
-    #[tactic(auto, unfolding(crate::specs::Words::number_at))]
     pub fn number(&mut self) -> Number
         ensures value { number_at self.old.text self.old.place ≡ (result, self.new.place) }
         ensures text { self.new.text ≡ self.old.text }
@@ -253,7 +251,6 @@ impl<'a> Cursor<'a> {
 
     /// Takes the first word of the table that stands next, whole or cut with a period.
     #[inline(always)]
-    #[tactic(auto, using(crate::proofs::Words::word_at_end), unfolding(crate::specs::Words::word_at))]
     pub fn word(&mut self, table: Table) -> Option<Word>
         ensures value { word_at table self.old.text self.old.place
             ≡ option_map (λ w. (w, self.new.place)) result }
@@ -274,7 +271,6 @@ impl<'a> Cursor<'a> {
     /// Takes a string with its quotes, which are alike: `'` or `"`.
     ///
     /// Its text borrows from the source. Where a quote has no partner, nothing is taken.
-    #[tactic(auto, unfolding(crate::specs::Words::quotation_at))]
     pub fn quoted(&mut self) -> Quoted<'a>
         ensures value { quotation_at self.old.text self.old.place
             ≡ quotation_of result self.new.place }

@@ -1,53 +1,94 @@
 -- This file proves that the command words that the first byte leaves are the ones to try.
 use Rattle.ptb_words.specs.declared.word.Table.TheVariants.{Commands}
-use Rattle.std.proofs.Common.{◌≡◌, ℕ, [], ◌∷◌, get_or, Some, None, false, rules, arith}
+use Rattle.std.proofs.Common.{◌≡◌, ℕ, [], ◌∷◌, get_or, Some, None, false, rules, arith, refl}
 use Rattle.std.specs.Prelude.{codes}
+use Rattle.std.proofs.Math.Nat.{le_of_lt}
+use Rattle.std.proofs.lemmas.Bool.{ltb-true}
 use Rattle.std.proofs.lemmas.Bool.Decides.{nat_tests}
 use Rattle.ptb_words.specs.declared.word.Word.{Word}
 use Rattle.ptb_words.specs.declared.word.Word.TheVariants.{InputKw, GosubKw, RemKw}
-use Rattle.ptb_words.specs.Words.{begins_word}
+use Rattle.ptb_words.specs.Words.{begins_word, IsCommand}
 use Rattle.ptb_words.specs.WordSearch.{FindsWord}
-use Rattle.ptb_words.proofs.Words.{finds_begins, finds_second, finds_none}
+use Rattle.ptb_words.proofs.Words.{is_of, finds_begins, finds_second, finds_none}
 use Rattle.ptb_words.proofs.spelling.command_at.Goals as goal
 
-pub returns-in-78-clause-value : goal.returns-in-78-clause-value
-returns-in-78-clause-value c = finds_begins Commands 78 _ _ _ c.requires c.in-78.is c.spelled_word.ensures.value
+pub spelled_word-requires : goal.spelled_word-requires
+spelled_word-requires c = record { within = le_of_lt c.requires; some = ltb-true 0 _ refl; no_period = refl }
 
-pub returns-in-76-clause-value : goal.returns-in-76-clause-value
-returns-in-76-clause-value c = finds_begins Commands 76 _ _ _ c.requires c.in-76.is c.spelled_word-in-76.ensures.value
+pub spelled_word-requires-in-76 : goal.spelled_word-requires-in-76
+spelled_word-requires-in-76 c = record { within = le_of_lt c.requires; some = ltb-true 0 _ refl; no_period = refl }
+
+pub spelled_word-found_if-requires : goal.spelled_word-found_if-requires
+spelled_word-found_if-requires c = record { within = le_of_lt c.requires; some = ltb-true 0 _ refl; no_period = refl }
+
+pub spelled_word-found_goto-requires : goal.spelled_word-found_goto-requires
+spelled_word-found_goto-requires c = record { within = le_of_lt c.requires; some = ltb-true 0 _ refl; no_period = refl }
+
+pub spelled_word-found_return-requires : goal.spelled_word-found_return-requires
+spelled_word-found_return-requires c = record { within = le_of_lt c.requires; some = ltb-true 0 _ refl; no_period = refl }
+
+pub spelled_word-requires-in-70 : goal.spelled_word-requires-in-70
+spelled_word-requires-in-70 c = record { within = le_of_lt c.requires; some = ltb-true 0 _ refl; no_period = refl }
+
+pub spelled_word-requires-in-80 : goal.spelled_word-requires-in-80
+spelled_word-requires-in-80 c = record { within = le_of_lt c.requires; some = ltb-true 0 _ refl; no_period = refl }
+
+pub spelled_word-requires-in-83 : goal.spelled_word-requires-in-83
+spelled_word-requires-in-83 c = record { within = le_of_lt c.requires; some = ltb-true 0 _ refl; no_period = refl }
+
+pub returns-in-78 : goal.returns-in-78
+returns-in-78 c = record {
+  value = finds_begins Commands 78 _ _ _ c.requires c.in-78.is c.spelled_word.ensures.value;
+  word = is_of IsCommand _ _ c.spelled_word.ensures.word tt;
+}
+
+pub returns-in-76 : goal.returns-in-76
+returns-in-76 c = record {
+  value = finds_begins Commands 76 _ _ _ c.requires c.in-76.is c.spelled_word-in-76.ensures.value;
+  word = is_of IsCommand _ _ c.spelled_word-in-76.ensures.word tt;
+}
 
 pub returns-in-73-clause-value : goal.returns-in-73-clause-value
 returns-in-73-clause-value c =
     let r = c.spelled_word-found_if.result in
     let s = c.or_else.result in
-    let two : r ≡ None → FindsWord ((InputKw, codes "INPUT") ∷ []) c.args.text.now c.args.place s = search rules in
-    let same : (x : Word × ℕ) → r ≡ Some x → s ≡ Some x = search rules in
+    let two : r ≡ None → FindsWord ((InputKw, codes "INPUT") ∷ []) c.args.text.now c.args.place s = search rules fits 50 depth 2 in
+    let same : (x : Word × ℕ) → r ≡ Some x → s ≡ Some x = search rules fits 50 depth 2 in
     finds_begins Commands 73 _ _ _ c.requires c.in-73.is (finds_second _ _ _ _ _ _ c.spelled_word-found_if.ensures.value two same)
 
 pub returns-in-71-clause-value : goal.returns-in-71-clause-value
 returns-in-71-clause-value c =
     let r = c.spelled_word-found_goto.result in
     let s = c.or_else-in-71.result in
-    let two : r ≡ None → FindsWord ((GosubKw, codes "GOSUB") ∷ []) c.args.text.now c.args.place s = search rules in
-    let same : (x : Word × ℕ) → r ≡ Some x → s ≡ Some x = search rules in
+    let two : r ≡ None → FindsWord ((GosubKw, codes "GOSUB") ∷ []) c.args.text.now c.args.place s = search rules fits 50 depth 2 in
+    let same : (x : Word × ℕ) → r ≡ Some x → s ≡ Some x = search rules fits 50 depth 2 in
     finds_begins Commands 71 _ _ _ c.requires c.in-71.is (finds_second _ _ _ _ _ _ c.spelled_word-found_goto.ensures.value two same)
 
 pub returns-in-82-clause-value : goal.returns-in-82-clause-value
 returns-in-82-clause-value c =
     let r = c.spelled_word-found_return.result in
     let s = c.or_else-in-82.result in
-    let two : r ≡ None → FindsWord ((RemKw, codes "REM") ∷ []) c.args.text.now c.args.place s = search rules in
-    let same : (x : Word × ℕ) → r ≡ Some x → s ≡ Some x = search rules in
+    let two : r ≡ None → FindsWord ((RemKw, codes "REM") ∷ []) c.args.text.now c.args.place s = search rules fits 50 depth 2 in
+    let same : (x : Word × ℕ) → r ≡ Some x → s ≡ Some x = search rules fits 50 depth 2 in
     finds_begins Commands 82 _ _ _ c.requires c.in-82.is (finds_second _ _ _ _ _ _ c.spelled_word-found_return.ensures.value two same)
 
-pub returns-in-70-clause-value : goal.returns-in-70-clause-value
-returns-in-70-clause-value c = finds_begins Commands 70 _ _ _ c.requires c.in-70.is c.spelled_word-in-70.ensures.value
+pub returns-in-70 : goal.returns-in-70
+returns-in-70 c = record {
+  value = finds_begins Commands 70 _ _ _ c.requires c.in-70.is c.spelled_word-in-70.ensures.value;
+  word = is_of IsCommand _ _ c.spelled_word-in-70.ensures.word tt;
+}
 
-pub returns-in-80-clause-value : goal.returns-in-80-clause-value
-returns-in-80-clause-value c = finds_begins Commands 80 _ _ _ c.requires c.in-80.is c.spelled_word-in-80.ensures.value
+pub returns-in-80 : goal.returns-in-80
+returns-in-80 c = record {
+  value = finds_begins Commands 80 _ _ _ c.requires c.in-80.is c.spelled_word-in-80.ensures.value;
+  word = is_of IsCommand _ _ c.spelled_word-in-80.ensures.word tt;
+}
 
-pub returns-in-83-clause-value : goal.returns-in-83-clause-value
-returns-in-83-clause-value c = finds_begins Commands 83 _ _ _ c.requires c.in-83.is c.spelled_word-in-83.ensures.value
+pub returns-in-83 : goal.returns-in-83
+returns-in-83 c = record {
+  value = finds_begins Commands 83 _ _ _ c.requires c.in-83.is c.spelled_word-in-83.ensures.value;
+  word = is_of IsCommand _ _ c.spelled_word-in-83.ensures.word tt;
+}
 
 pub returns-in_default-clause-value : goal.returns-in_default-clause-value
 returns-in_default-clause-value c =

@@ -1,7 +1,48 @@
--- This file proves goals of `quoted` by short searches, so that a wrong body is refused soon.
-use Rattle.std.proofs.Common.{rules}
+-- This file proves what stands between two quotes.
+use Rattle.std.proofs.Common.{◌≡◌, ℕ, true, sym, refl, rules, arith, inl, inr}
+use Rattle.std.proofs.Math.Nat.{le_refl, le_of_lt}
+use Rattle.std.proofs.lemmas.Bool.{false≢true}
+use Rattle.ptb_words.specs.Words.{is_quote}
+use Rattle.ptb_words.proofs.Finding.{quotation_ahead}
+use Rattle.ptb_words.proofs.Taking.{text_is, next_is, ahead_left, quotation_closed, quotation_open, quoted_piece}
 use Rattle.ptb_words.proofs.cursor.Cursor.quoted.Goals as goal
 
-pub returns-in_default-bytes_before-clause-absent :
-    goal.returns-in_default-bytes_before-clause-absent
-returns-in_default-bytes_before-clause-absent c = search rules fits 50 depth 2
+pub returns-in_default : goal.returns-in_default
+returns-in_default c = record {
+  value = search rules fits 50 depth 2;
+  piece = tt;
+  text = refl;
+  taken = λ h. absurd (false≢true h);
+  left = le_refl _;
+  absent = λ _. refl;
+}
+
+pub returns-in_default-bytes_before : goal.returns-in_default-bytes_before
+returns-in_default-bytes_before c =
+    let quote : is_quote c.in-Some.byte ≡ true = elim c.if-byte-eq39.either [ inl e ↦ rw e refl | inr e ↦ rw e.1 refl ] in
+    record {
+      value = quotation_open _ _ _ _ _ (text_is c.self.view_is) (next_is c.self.view_is c.self.invariant.0) c.in-Some.ensures.byte quote (sym c.in_default-bytes_before.ensures.value);
+      piece = tt;
+      text = refl;
+      taken = λ h. absurd (false≢true h);
+      left = le_refl _;
+      absent = λ _. refl;
+    }
+
+pub returns-clause-value : goal.returns-clause-value
+returns-clause-value c =
+    let same = text_is c.self.view_is in
+    let at = next_is c.self.view_is c.self.invariant.0 in
+    let again = next_is c.pass_to.view_is c.pass_to.invariant.0 in
+    let quote : is_quote c.in-Some.byte ≡ true = elim c.if-byte-eq39.either [ inl e ↦ rw e refl | inr e ↦ rw e.1 refl ] in
+    let closed = λ (k p : ℕ). quotation_closed _ _ _ _ _ c.in-Some.byte k p same at again c.in-Some.ensures.byte quote in
+    grind (arith, closed)
+
+pub returns-clause-piece : goal.returns-clause-piece
+returns-clause-piece c = quoted_piece _ _ _ _ _ (text_is c.self.view_is) (next_is c.self.view_is c.self.invariant.0) c.in-Some-bytes_before.ensures.within
+
+pub returns-clause-taken : goal.returns-clause-taken
+returns-clause-taken c = λ _. ahead_left _ _ c.pass_to-2.ensures.text (quotation_ahead _ _ _ _ (returns-clause-value c))
+
+pub returns-clause-left : goal.returns-clause-left
+returns-clause-left c = le_of_lt (ahead_left _ _ c.pass_to-2.ensures.text (quotation_ahead _ _ _ _ (returns-clause-value c)))
