@@ -21,8 +21,6 @@ use Rattle.ptb_command.specs.declared.commands.input.Asking.{Asking}
 use Rattle.ptb_command.specs.declared.ending.Ending.TheVariants as endings
 use Rattle.ptb_devices.specs.declared.fault.ReadFault.{ReadFault}
 use Rattle.ptb_devices.specs.declared.fault.ReadFault.TheVariants as reads
-use Rattle.ptb_command.specs.declared.io.Io.{Io}
-use Rattle.ptb_devices.specs.declared.screen.Screen.{Ghosts}
 use Rattle.ptb_command.specs.declared.stop.DeviceError.{DeviceError}
 use Rattle.ptb_command.specs.declared.stop.DeviceError.TheVariants as errors
 use Rattle.ptb_command.specs.declared.stop.Stop.{Stop}
@@ -36,7 +34,6 @@ use Rattle.ptb_command.specs.Reads.{IsRead}
 use Rattle.ptb_command.specs.Effects.{action_state}
 use Rattle.ptb_devices.specs.Sources.{given_lines}
 use Rattle.ptb_command.specs.Devices.{Devices, Exchanges, no_exchange, with_choices, Refusal, Unanswered, Unread, NoLine, refused_answers, refused_by, HasBroken}
-use Rattle.ptb_command.specs.Io.{io_devices, due_trace}
 use Rattle.ptb_command.specs.Traces.{Trace, trace, with_due, still_due, after, once_shown, RefinesPart}
 use Rattle.ptb_command.specs.Stops.{stop_of, stop_of_read, LacksLine, WantsLine, Stops, RefinesPartTo, Comes}
 use Rattle.ptb_command.proofs.Effects.{takes_joined, ask_lines, input_part, input_takes}
@@ -507,15 +504,6 @@ module _ {L : Type 0} (gives : L → List (List ℕ) → L → Type 0) (more : (
 pub none_given : {A : Type 0} (o : Trace) (f : Action A) → RefinesPart o (record o { devices = record o.devices { given = o.devices.given ++ [] } }) f f
 none_given o f =
     subst (λ (ks : List (List ℕ)). RefinesPart o (record o { devices = record o.devices { given = ks } }) f f) (sym (append-nil o.devices.given)) (refines_part_refl o f)
-
--- lines that are given after others
-module _ {C S L : Type 0} (choices : C → Choices) (screen : Ghosts S) (most : L → ℕ) (io : Io C S L) (cells : Cells) (due : List ℕ) (before xs ys : List (List ℕ)) where
-  pub refines_part_joined : {A : Type 0} {m : Trace} {f g : Action A} → RefinesPart m (due_trace choices screen most io ((before ++ xs) ++ ys) cells due) f g → RefinesPart m (due_trace choices screen most io (before ++ (xs ++ ys)) cells due) f g
-  refines_part_joined {m = m} {f = f} {g = g} h = subst (λ (ks : List (List ℕ)). RefinesPart m (due_trace choices screen most io ks cells due) f g) (append_assoc before xs ys) h
-
-  pub stops_joined : {A : Type 0} (refused : Refusal → Type 0) (m : Trace) (f : Action A) (e : Stop) → Stops refused (RefinesPartTo m (due_trace choices screen most io ((before ++ xs) ++ ys) cells due) f) (io_devices choices screen most io ((before ++ xs) ++ ys)) e → Stops refused (RefinesPartTo m (due_trace choices screen most io (before ++ (xs ++ ys)) cells due) f) (io_devices choices screen most io (before ++ (xs ++ ys))) e
-  stops_joined refused m f e h =
-      subst (λ (ks : List (List ℕ)). Stops refused (RefinesPartTo m (due_trace choices screen most io ks cells due) f) (io_devices choices screen most io ks) e) (append_assoc before xs ys) h
 
 -- whoever may refuse a line too refuses answers
 pub answers_too : (refused : Pause → ℤ → Type 0) (unread : ReadFault → Type 0) (lines : Option (List (List ℕ))) (r : Refusal) → refused_answers refused r → refused_by refused unread lines r

@@ -10,9 +10,11 @@ pub mod Doing
 pub mod Effects
 pub mod Due
 pub mod Gathered
+pub mod Entering
 pub mod Exchanges
 pub mod Finding
 pub mod Following
+pub mod ForReading
 pub mod Going
 pub mod Inputting
 pub mod Items
@@ -21,6 +23,7 @@ pub mod Lawful
 pub mod PartRefinement
 pub mod Nexts
 pub mod Parts
+pub mod Printing
 pub mod Prompts
 pub mod Placed
 pub mod Pieces
@@ -29,6 +32,7 @@ pub mod Reporting
 pub mod Sequences
 pub mod Shown
 pub mod Stops
+pub mod Taking
 pub mod Calling
 pub mod Missed
 pub mod Nesting

@@ -1,20 +1,16 @@
 -- This file answers what is left to prove of `input_items`.
-use Rattle.std.proofs.Common.{◌∙◌, ◌++◌, [], arith, refl}
-use Rattle.ptb_expr.specs.Reading.{item_of}
+use Rattle.std.proofs.Common.{◌∙◌, ◌++◌, [], append_assoc, arith, refl}
 use Rattle.ptb_command.specs.Act.{first_width}
-use Rattle.ptb_command.specs.Commands.{input_item, end_check, parts_of}
+use Rattle.ptb_command.specs.Commands.{input_item, parts_of}
 use Rattle.ptb_command.specs.Io.{due_trace}
-use Rattle.ptb_command.specs.Traces.{still_due}
 use Rattle.ptb_command.specs.Stops.{NotMissed}
 use Rattle.ptb_command.proofs.Borrows.{borrows_on}
-use Rattle.ptb_command.proofs.Comings.{if_ok_both, comes_unrefused}
-use Rattle.ptb_command.proofs.Commas.{comma_closed, comma_ended, comma_on, comma_first}
-use Rattle.ptb_command.proofs.Going.{item_in_front, going_start, going_last, last_closes, going_on, going_first}
-use Rattle.ptb_command.proofs.Inputting.{none_given, refines_part_joined, stops_joined}
+use Rattle.ptb_command.proofs.Comings.{if_ok_both}
+use Rattle.ptb_command.proofs.Commas.{comma_ended, comma_on}
+use Rattle.ptb_command.proofs.Entering.{item_moves, item_fails, items_end}
+use Rattle.ptb_command.proofs.Going.{going_start, last_closes, going_on}
+use Rattle.ptb_command.proofs.Inputting.{none_given}
 use Rattle.ptb_command.proofs.Missed.{unmissed, missed_err, stop_missed_from, not_missed, not_missed_then, fewer_lines}
-use Rattle.ptb_command.proofs.PartRefinement.{refines_part_then}
-use Rattle.ptb_command.proofs.Parts.{refines_part_parts}
-use Rattle.ptb_command.proofs.Stops.{comes_err, comes_after, stops_after}
 use Rattle.ptb_command.proofs.commands.input.input_items.Goals as goal
 
 pub items-init : goal.items-init
@@ -30,17 +26,14 @@ items-init g c = record {
 
 pub returns-in_err-input_item-clause-comes : goal.returns-in_err-input_item-clause-comes
 returns-in_err-input_item-clause-comes g c =
-    let t = c.args.cursor.now.text in
     let was = c.items.invariant in
-    let one = c.in_err-input_item.ensures.comes in
-    let first = going_first _ _ _ _ _ _ _ _ was.going _ (comma_first t (input_item t c.items.cursor.place)) in (
+    let one = c.in_err-input_item.ensures.comes in (
       was.given ++ one.0,
       (
         g.met.L.LineSource.gives_more _ _ _ _ _ was.gives one.1.0,
-        λ before. comes_err _ _ _ _ _ _ _ c.from_residual.ensures.1
-            (stops_after _ _ (first.1 before) _
-            (stops_joined g.C.Chooser.choices g.S.Screen g.L.LineSource.most c.input_item.new.io c.input_item.new.store (still_due c.input_item.new.gathering _) before was.given one.0 _ _ _ _
-            (rw was.text at (one.1.1 (before ++ was.given) first.0 first_width [])))),
+        λ before. item_fails _ _ _ _ _ was.going _ was.text (λ k p. p before)
+            (due_trace g.C.Chooser.choices g.S.Screen g.L.LineSource.most c.input_item.new.io ((before ++ was.given) ++ one.0) c.input_item.new.store c.input_item.new.gathering) _ (append_assoc before was.given one.0)
+            _ _ _ _ c.from_residual.ensures.1 (λ rest. one.1.1 (before ++ was.given) rest first_width []),
       ),
     )
 
@@ -62,30 +55,23 @@ items-preserved g c =
       going = going_on _ _ _ _ _ _ _ _ was.going _ _ _ _
           (comma_on t (input_item t c.items.cursor.place) _ _ item.whole comma)
           (omega (arith, item.ahead.after, ahead.after)) ahead.within
-          (λ rest p before. refines_part_then (p before)
-          (refines_part_joined g.C.Chooser.choices g.S.Screen g.L.LineSource.most c.input_item.new.io c.input_item.new.store c.input_item.new.gathering before was.given one.0 (rw was.text at (one.1.1 (before ++ was.given) rest first_width []))));
+          (λ rest p before. item_moves _ _ _ was.text
+          (due_trace g.C.Chooser.choices g.S.Screen g.L.LineSource.most c.input_item.new.io ((before ++ was.given) ++ one.0) c.input_item.new.store c.input_item.new.gathering) _ (append_assoc before was.given one.0)
+          rest (p before) (one.1.1 (before ++ was.given) rest first_width []));
     }
 
 pub returns-then-not-token-clause-comes : goal.returns-then-not-token-clause-comes
 returns-then-not-token-clause-comes g c =
-    let t = c.args.cursor.now.text in
     let was = c.items.invariant in
-    let one = c.in_ok-input_item.ensures.comes in
-    let text = c.in_ok-input_item.ensures.text ∙ was.text in
-    let item = rw was.text at c.in_ok-input_item.ensures.read in
-    let rest = end_check t c.input_item.new.cursor.place in
-    let last = going_last _ _ _ _ _ _ _ _ was.going _
-    (comma_closed t (input_item t c.items.cursor.place) _ item.whole (rw text at c.if-not-token.ensures.value)) in (
+    let one = c.in_ok-input_item.ensures.comes in (
       was.given ++ one.0,
       (
         g.met.L.LineSource.gives_more _ _ _ _ _ was.gives one.1.0,
-        λ before.
-            let n = due_trace g.C.Chooser.choices g.S.Screen g.L.LineSource.most c.input_item.new.io (before ++ (was.given ++ one.0)) c.input_item.new.store c.input_item.new.gathering in
-            comes_after _ n _
-            (refines_part_then (last before)
-            (refines_part_parts first_width [] _ _ (item_in_front _ rest)
-            (refines_part_joined g.C.Chooser.choices g.S.Screen g.L.LineSource.most c.input_item.new.io c.input_item.new.store c.input_item.new.gathering before was.given one.0 (rw was.text at (one.1.1 (before ++ was.given) (item_of rest) first_width [])))))
-            _ (comes_unrefused _ _ _ _ _ _ (rw (c.token.ensures.text ∙ text) at (rw (c.if-not-token.ensures.absent refl) at (c.check_end.ensures.comes n first_width [])))),
+        λ before. items_end _ _ _ _ _ was.going _ was.text (λ k p. p before)
+            (due_trace g.C.Chooser.choices g.S.Screen g.L.LineSource.most c.input_item.new.io ((before ++ was.given) ++ one.0) c.input_item.new.store c.input_item.new.gathering) _ (append_assoc before was.given one.0)
+            _ _ _ c.in_ok-input_item.ensures.read _ c.in_ok-input_item.ensures.text c.if-not-token.ensures.value
+            (λ rest. one.1.1 (before ++ was.given) rest first_width [])
+            _ c.token.ensures.text _ (c.if-not-token.ensures.absent refl) (λ l. c.check_end.ensures.comes l first_width []),
       ),
     )
 

@@ -1,20 +1,18 @@
 -- This file answers what is left to prove of `take_answer`.
-use Rattle.std.proofs.Common.{◌≡◌, ◌∙◌, ◌++◌, [], ◌∷◌, Ok, Some, None, IfErr, IfOk, IfNone, ap, append_assoc, arith, refl, rules, subst, sym, to_z, of_z, w16}
+use Rattle.std.proofs.Common.{◌≡◌, ◌∙◌, ◌++◌, [], ◌∷◌, Ok, Some, None, IfErr, ap, append_assoc, arith, refl, rules, subst, sym, to_z, of_z, w16}
 use Rattle.std.proofs.lemmas.Grind.{common_steps}
 use Rattle.ptb_words.specs.CursorState.{CursorState}
 use Rattle.ptb_expr.specs.Reading.{item_of, variable_tree}
 use Rattle.ptb_command.specs.declared.stop.Stop.TheVariants as stops
 use Rattle.ptb_command.specs.Asking.{prompt_there}
-use Rattle.ptb_command.specs.Devices.{devices, screen_state, refused_answers, refused_by}
+use Rattle.ptb_command.specs.Devices.{devices, screen_state}
 use Rattle.ptb_command.specs.Stops.{NotMissed}
-use Rattle.ptb_devices.specs.Sources.{given_lines, NoneLeft}
+use Rattle.ptb_devices.specs.Sources.{given_lines}
 use Rattle.ptb_command.proofs.Borrows.{borrows_then}
 use Rattle.ptb_command.proofs.Comings.{if_ok_always}
-use Rattle.ptb_command.proofs.Due.{stops_none}
-use Rattle.ptb_command.proofs.Inputting.{take_ask_stops, take_unread, take_dry, take_instead, line_asked, gives_no_more, gives_one_more, none_given, answers_too}
+use Rattle.ptb_command.proofs.Inputting.{gives_no_more, gives_one_more, none_given}
 use Rattle.ptb_command.proofs.Missed.{stop_unmissed, unmissed, missed_err, missed_read, given_missed, not_missed, not_missed_instead, fewer_lines, falls_one, none_more}
-use Rattle.ptb_command.proofs.PartRefinement.{refines_part_then}
-use Rattle.ptb_command.proofs.Stops.{comes_err, comes_after, comes_more, stops_after, stops_more}
+use Rattle.ptb_command.proofs.Taking.{taking_stops, taking_unread, taking_ends, taking_instead, taking_fails, taking_done, taking_again}
 use Rattle.ptb_command.proofs.commands.input.take_answer.Goals as goal
 
 pub answers-init : goal.answers-init
@@ -36,11 +34,8 @@ returns-in_err-target-clause-comes g c =
       was.given,
       (
         rw c.ask.ensures.same.source was.gives,
-        λ before. comes_err _ _ _ _ _ _ _ c.from_residual.ensures.1
-            (stops_after _ _ (was.refines before) _
-            (take_ask_stops _ _ _ _ _ _ _
-            (stops_more (refused_answers _) _ (answers_too _ _ _) _ _ _ _
-            (rw was.place at (rw was.text at (c.in_err-target.ensures.comes (before ++ was.given))))))),
+        λ before. taking_stops c.args.item.now c.args.cursor.now.text c.args.cursor.now.place _ _ was.text was.place (was.refines before) _ _ _
+            _ _ _ _ c.from_residual.ensures.1 (c.in_err-target.ensures.comes (before ++ was.given)),
       ),
     )
 
@@ -51,12 +46,10 @@ returns-in_err-line-clause-comes g c =
       was.given,
       (
         gives_no_more g.L.LineSource.gives g.met.L.LineSource.gives_more _ _ _ _ c.next.result (ap given_lines c.in_err-line.was) gives c.next.follows.holds-at-none.0,
-        λ before. comes_err _ _ _ _ _ _ _ c.from_residual-in_err-line.ensures.1
-            (stops_none _ _ _ _ _ c.in_ok-target.ensures.empty (stops_after _ _ (was.refines before) _
-            (take_unread _ _ _ _ _ c.in_ok-target.target c.in_err-line.field-0.0
+        λ before. taking_unread c.args.item.now c.args.cursor.now.text c.args.cursor.now.place _ _ was.text was.place (was.refines before)
+            c.in_ok-target.target (c.in_ok-target.ensures.comes (before ++ was.given)) _ _ _ _ _ _ c.in_err-line.field-0.0 c.from_residual-in_err-line.ensures.1 c.in_ok-target.ensures.empty
             (fewer_lines g.L.LineSource.gives g.L.LineSource.most g.met.L.LineSource.falls _ _ _ c.next.follows.holds-at-none.0)
-            (rw was.place at (rw was.text at (c.in_ok-target.ensures.comes (before ++ was.given))))
-            (subst (λ r. IfErr r (g.L.LineSource.refused c.next.follows.lender-at-none)) c.in_err-line.was c.next.follows.holds-at-none.1)))),
+            c.next.result c.in_err-line.was c.next.follows.holds-at-none.1,
       ),
     )
 
@@ -68,10 +61,9 @@ returns-in_default-choose-clause-comes g c =
       was.given,
       (
         gives_no_more g.L.LineSource.gives g.met.L.LineSource.gives_more _ _ _ _ c.next.result (ap given_lines none) gives c.next.follows.holds-at-none.0,
-        λ before. stops_none _ _ _ _ stops.NoInput c.in_ok-target.ensures.empty (stops_after _ _ (was.refines before) stops.NoInput
-            (take_dry _ _ _ _ _ c.in_ok-target.target (none_more g.L.LineSource.most c.next.result none c.next.follows.holds-at-none.4) c.in_default-choose.is
-            (rw was.place at (rw was.text at (c.in_ok-target.ensures.comes (before ++ was.given))))
-            (subst (λ r. IfOk r (λ line. IfNone line (NoneLeft (g.L.LineSource.lines c.next.follows.lender-at-none)))) none c.next.follows.holds-at-none.2))),
+        λ before. taking_ends c.args.item.now c.args.cursor.now.text c.args.cursor.now.place _ _ was.text was.place (was.refines before)
+            c.in_ok-target.target (c.in_ok-target.ensures.comes (before ++ was.given)) _ c.next.result none c.next.follows.holds-at-none.4
+            _ _ _ c.in_ok-target.ensures.empty c.in_default-choose.is c.next.follows.holds-at-none.2,
       ),
     )
 
@@ -86,12 +78,10 @@ returns-in_default-clause-comes g c =
         λ before.
             let bound : to_z w16 (of_z w16 c.in-Some-choose.bound) ≡ c.in-Some-choose.bound = search rules in
             let source = c.answer_instead.new.io.source.now in
-            comes_after (refused_by (g.C.Chooser.refused c.answer_instead.new.io.chooser.now) (g.L.LineSource.refused source) (g.L.LineSource.lines source)) _ _
-            (refines_part_then (was.refines before)
-            (take_instead _ _ _ _ (to_z w16 (of_z w16 c.in-Some-choose.bound)) c.in_ok-target.target (none_more g.L.LineSource.most c.next.result none c.next.follows.holds-at-none.4) (c.in-Some-choose.is ∙ ap Some (sym bound))
-            (rw was.place at (rw was.text at (c.in_ok-target.ensures.comes (before ++ was.given))))))
-            c.answer_instead.result
-            (comes_more (refused_answers (g.C.Chooser.refused c.answer_instead.new.io.chooser.now)) _ (answers_too _ _ _) _ _ _ _ c.answer_instead.result (c.answer_instead.ensures.comes (before ++ was.given))),
+            taking_instead c.args.item.now c.args.cursor.now.text c.args.cursor.now.place _ _ was.text was.place (was.refines before)
+            c.in_ok-target.target (c.in_ok-target.ensures.comes (before ++ was.given)) _ c.next.result none c.next.follows.holds-at-none.4
+            (g.C.Chooser.refused c.answer_instead.new.io.chooser.now) (g.L.LineSource.refused source) (g.L.LineSource.lines source) _ (to_z w16 (of_z w16 c.in-Some-choose.bound)) (c.in-Some-choose.is ∙ ap Some (sym bound)) c.answer_instead.result
+            (c.answer_instead.ensures.comes (before ++ was.given)),
       ),
     )
 
@@ -109,12 +99,11 @@ returns-in_err-store_answer-clause-comes g c =
             let prompt = prompt_there c.args.cursor.now.text c.args.cursor.now.place c.args.item.now in
             let lines = before ++ (was.given ++ c.in-Some.line.now ∷ []) in
             let d = devices (g.C.Chooser.choices c.ask.new.io.chooser.now) (screen_state g.S.Screen c.ask.new.io.screen.now) (g.L.LineSource.most c.next.follows.lender-at-none) c.ask.new.io.choose lines in
-            comes_err _ _ _ _ _ _ _ c.from_residual-in_err-store_answer.ensures.1
-            (stops_after _ _ (line_asked c.args.item.now.said.now x prompt (g.L.LineSource.most c.next.follows.lender-at-none) c.in_ok-target.target c.in-Some.line.now lines (was.refines before)
-            (rw was.place at (rw was.text at (c.in_ok-target.ensures.comes (before ++ was.given))))
+            taking_fails c.args.item.now c.args.cursor.now.text c.args.cursor.now.place _ _ was.text was.place (was.refines before)
+            c.in_ok-target.target (c.in_ok-target.ensures.comes (before ++ was.given)) (g.L.LineSource.most c.next.follows.lender-at-none) c.in-Some.line.now lines
             (falls_one g.L.LineSource.gives g.L.LineSource.most g.met.L.LineSource.falls c.ask.new.io.source.now c.next.follows.lender-at-none c.next.result c.in-Some.line.now (ap given_lines some) c.next.follows.holds-at-none.0)
-            (sym (append_assoc before was.given (c.in-Some.line.now ∷ []))))
-            _ (stops_more (refused_answers _) _ (answers_too _ _ _) _ _ _ _ (c.in_err-store_answer.ensures d c.args.item.now.said.now x prompt))),
+            (sym (append_assoc before was.given (c.in-Some.line.now ∷ [])))
+            _ _ _ _ _ _ _ c.from_residual-in_err-store_answer.ensures.1 (c.in_err-store_answer.ensures d c.args.item.now.said.now x prompt),
       ),
     )
 
@@ -130,11 +119,11 @@ returns-then-branch-clause-comes g c =
             let prompt = prompt_there c.args.cursor.now.text c.args.cursor.now.place c.args.item.now in
             let lines = before ++ (was.given ++ c.in-Some.line.now ∷ []) in
             let d = devices (g.C.Chooser.choices c.ask.new.io.chooser.now) (screen_state g.S.Screen c.ask.new.io.screen.now) (g.L.LineSource.most c.next.follows.lender-at-none) c.ask.new.io.choose lines in
-            refines_part_then (line_asked c.args.item.now.said.now x prompt (g.L.LineSource.most c.next.follows.lender-at-none) c.in_ok-target.target c.in-Some.line.now lines (was.refines before)
-            (rw was.place at (rw was.text at (c.in_ok-target.ensures.comes (before ++ was.given))))
+            taking_done c.args.item.now c.args.cursor.now.text c.args.cursor.now.place _ _ was.text was.place (was.refines before)
+            c.in_ok-target.target (c.in_ok-target.ensures.comes (before ++ was.given)) (g.L.LineSource.most c.next.follows.lender-at-none) c.in-Some.line.now lines
             (falls_one g.L.LineSource.gives g.L.LineSource.most g.met.L.LineSource.falls c.ask.new.io.source.now c.next.follows.lender-at-none c.next.result c.in-Some.line.now (ap given_lines some) c.next.follows.holds-at-none.0)
-            (sym (append_assoc before was.given (c.in-Some.line.now ∷ []))))
-            (rw c.if-branch.true at (c.in_ok-store_answer.ensures d c.args.item.now.said.now x prompt)),
+            (sym (append_assoc before was.given (c.in-Some.line.now ∷ [])))
+            _ _ c.if-branch.true (c.in_ok-store_answer.ensures d c.args.item.now.said.now x prompt),
       ),
     )
 
@@ -159,11 +148,11 @@ answers-preserved g c =
           let prompt = prompt_there c.args.cursor.now.text c.args.cursor.now.place c.args.item.now in
           let lines = before ++ (was.given ++ c.in-Some.line.now ∷ []) in
           let d = devices (g.C.Chooser.choices c.ask.new.io.chooser.now) (screen_state g.S.Screen c.ask.new.io.screen.now) (g.L.LineSource.most c.next.follows.lender-at-none) c.ask.new.io.choose lines in
-          refines_part_then (line_asked c.args.item.now.said.now x prompt (g.L.LineSource.most c.next.follows.lender-at-none) c.in_ok-target.target c.in-Some.line.now lines (was.refines before)
-          (rw was.place at (rw was.text at (c.in_ok-target.ensures.comes (before ++ was.given))))
+          taking_again c.args.item.now c.args.cursor.now.text c.args.cursor.now.place _ _ was.text was.place (was.refines before)
+          c.in_ok-target.target (c.in_ok-target.ensures.comes (before ++ was.given)) (g.L.LineSource.most c.next.follows.lender-at-none) c.in-Some.line.now lines
           (falls_one g.L.LineSource.gives g.L.LineSource.most g.met.L.LineSource.falls c.ask.new.io.source.now c.next.follows.lender-at-none c.next.result c.in-Some.line.now (ap given_lines some) c.next.follows.holds-at-none.0)
-          (sym (append_assoc before was.given (c.in-Some.line.now ∷ []))))
-          (rw c.if-branch.false at (c.in_ok-store_answer.ensures d c.args.item.now.said.now x prompt));
+          (sym (append_assoc before was.given (c.in-Some.line.now ∷ [])))
+          _ _ c.if-branch.false (c.in_ok-store_answer.ensures d c.args.item.now.said.now x prompt);
     }
 
 -- ---- what stays, and what was read

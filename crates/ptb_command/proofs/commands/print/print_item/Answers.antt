@@ -3,31 +3,27 @@ use Rattle.std.proofs.Common.{◌≡◌, ◌∙◌, ap, arith, refl, rules, to_z
 use Rattle.ptb_expr.specs.Reading.{item_of}
 use Rattle.ptb_command.specs.Io.{due_trace}
 use Rattle.ptb_command.proofs.Borrows.{devices_then}
-use Rattle.ptb_command.proofs.Comings.{if_ok_always, say_comes, show_comes}
-use Rattle.ptb_command.proofs.Actions.{stops_unrefused, stops_fault}
+use Rattle.ptb_command.proofs.Comings.{if_ok_always, say_comes}
+use Rattle.ptb_command.proofs.Actions.{stops_fault}
 use Rattle.ptb_command.proofs.Going.{is_whole}
-use Rattle.ptb_command.proofs.Items.{item_width, item_whole_width, item_text, item_open, item_value, item_whole_value}
-use Rattle.ptb_command.proofs.Parts.{show_value_stops, width_refines_part, width_value_stops, width_stops, defect_refines_part, refines_part_part, stops_part}
-use Rattle.ptb_command.proofs.Stops.{comes_err}
+use Rattle.ptb_command.proofs.Items.{item_whole_width, item_text, item_open, item_whole_value}
+use Rattle.ptb_command.proofs.Parts.{width_refines_part, defect_refines_part, refines_part_part}
+use Rattle.ptb_command.proofs.Printing.{width_fails, width_refused, value_fails, value_shown}
 use Rattle.ptb_command.proofs.commands.print.print_item.Goals as goal
 
 -- ---- a width
 
 pub returns-in_err-value-clause-comes : goal.returns-in_err-value-clause-comes
 returns-in_err-value-clause-comes g c given rest operands =
-    let width = item_width c.args.cursor.now.text c.args.cursor.now.place _ c.if-token.ensures.value in
-    comes_err _ _ _ _ _ _ _ c.from_residual.ensures.1
-    (stops_part rest _ operands _ _ _ _ _ width.1 _ (width_value_stops rest _ operands _ _ _ _ width.0 _
-    (rw c.token.ensures.text at (c.in_err-value.ensures.comes given c.args.gathering.now))))
+    width_fails rest _ operands c.args.cursor.now.text c.args.cursor.now.place _ c.token.ensures.text _ c.if-token.ensures.value
+    _ _ _ _ _ _ c.from_residual.ensures.1 (c.in_err-value.ensures.comes given c.args.gathering.now)
 
 pub returns-in_err-width-clause-comes : goal.returns-in_err-width-clause-comes
 returns-in_err-width-clause-comes g c given rest operands =
     let same : to_z w16 (of_z w16 c.in_ok-value.value) ≡ c.in_ok-value.value = search rules in
-    let width = ap item_of (item_whole_width c.args.cursor.now.text c.args.cursor.now.place c.token.new.self.place c.value.new.cursor.place c.if-token.ensures.value (rw c.token.ensures.text at c.in_ok-value.ensures.read.whole)) in
-    comes_err _ _ _ _ _ _ _ c.from_residual-in_err-width.ensures.1
-    (stops_part rest _ operands _ _ _ _ _ width _ (width_stops rest _ operands _ _ _ _ _ _ same _
-    (rw c.token.ensures.text at (c.in_ok-value.ensures.comes given c.args.gathering.now))
-    (stops_unrefused _ _ _ _ _ (rw c.place.ensures at (c.in_err-width.ensures (due_trace g.C.Chooser.choices g.S.Screen g.L.LineSource.most c.value.new.self given c.args.store.now c.args.gathering.now))))))
+    width_refused rest _ operands c.args.cursor.now.text c.args.cursor.now.place _ c.token.ensures.text _ c.if-token.ensures.value
+    _ _ _ _ c.from_residual-in_err-width.ensures.1 _ c.in_ok-value.ensures.read _ _ same (c.in_ok-value.ensures.comes given c.args.gathering.now)
+    _ c.place.ensures c.in_err-width.ensures
 
 pub returns-then-token-clause-comes : goal.returns-then-token-clause-comes
 returns-then-token-clause-comes g c given rest operands =
@@ -70,18 +66,16 @@ returns-in-Unclosed-clause-comes g c given rest operands =
 
 pub returns-in_err-value-in-Absent-clause-comes : goal.returns-in_err-value-in-Absent-clause-comes
 returns-in_err-value-in-Absent-clause-comes g c given rest operands =
-    let none = rw c.token.ensures.text at (rw (c.if-token.ensures.absent refl) at c.in-Absent.ensures.value) in
-    comes_err _ _ _ _ _ _ _ c.from_residual-in_err-value-in-Absent.ensures.1
-    (stops_part rest _ operands _ _ _ _ _ (item_value c.args.cursor.now.text c.args.cursor.now.place c.if-token.ensures.value none) _ (show_value_stops rest _ operands _ _ _ _ _
-    (rw (c.literal.ensures.text ∙ c.token.ensures.text) at (rw (c.in-Absent.ensures.absent refl ∙ c.if-token.ensures.absent refl) at (c.in_err-value-in-Absent.ensures.comes given c.args.gathering.now)))))
+    value_fails rest _ operands c.args.cursor.now.text c.args.cursor.now.place _ c.token.ensures.text
+    c.if-token.ensures.value _ (c.if-token.ensures.absent refl) c.in-Absent.ensures.value _ c.literal.ensures.text _ (c.in-Absent.ensures.absent refl)
+    _ _ _ _ _ _ c.from_residual-in_err-value-in-Absent.ensures.1 (c.in_err-value-in-Absent.ensures.comes given c.args.gathering.now)
 
 pub returns-in_ok-value-in-Absent-clause-comes : goal.returns-in_ok-value-in-Absent-clause-comes
 returns-in_ok-value-in-Absent-clause-comes g c given rest operands =
     let same : to_z w16 (of_z w16 c.in_ok-value-in-Absent.value) ≡ c.in_ok-value-in-Absent.value = search rules in
-    let none = rw c.token.ensures.text at (rw (c.if-token.ensures.absent refl) at c.in-Absent.ensures.value) in
-    show_comes _ _ _ rest _ operands _ _ _ _ _ (item_value c.args.cursor.now.text c.args.cursor.now.place c.if-token.ensures.value none) same
-    (rw (c.literal.ensures.text ∙ c.token.ensures.text) at (rw (c.in-Absent.ensures.absent refl ∙ c.if-token.ensures.absent refl) at (c.in_ok-value-in-Absent.ensures.comes given c.args.gathering.now)))
-    _ (c.show_value.ensures.comes given c.args.store.now)
+    value_shown rest _ operands c.args.cursor.now.text c.args.cursor.now.place _ c.token.ensures.text
+    c.if-token.ensures.value _ (c.if-token.ensures.absent refl) c.in-Absent.ensures.value _ c.literal.ensures.text _ (c.in-Absent.ensures.absent refl)
+    _ _ _ _ same (c.in_ok-value-in-Absent.ensures.comes given c.args.gathering.now) _ (c.show_value.ensures.comes given c.args.store.now)
 
 pub returns-in_ok-value-in-Absent-clause-read : goal.returns-in_ok-value-in-Absent-clause-read
 returns-in_ok-value-in-Absent-clause-read g c =

@@ -1,17 +1,16 @@
 -- This file answers what is left to prove of `print_items`.
-use Rattle.std.proofs.Common.{◌≡◌, ◌∙◌, [], ◌∷◌, true, ap, arith, refl, sym}
+use Rattle.std.proofs.Common.{◌≡◌, ◌∙◌, [], true, ap, arith, refl, sym}
 use Rattle.ptb_expr.specs.Reading.{item_of}
 use Rattle.ptb_command.specs.Act.{first_width}
-use Rattle.ptb_command.specs.Commands.{NewLine, at_end, end_check}
+use Rattle.ptb_command.specs.Commands.{at_end}
 use Rattle.ptb_command.specs.Io.{due_trace}
 use Rattle.ptb_command.proofs.Borrows.{devices_then}
-use Rattle.ptb_command.proofs.Comings.{if_ok_always, if_ok_both, comes_unrefused, newline_comes}
-use Rattle.ptb_command.proofs.Actions.{stops_unrefused}
-use Rattle.ptb_command.proofs.Going.{is_whole, going_start, going_last, last_closes, going_on, going_first}
-use Rattle.ptb_command.proofs.Items.{print_nothing, print_something, round_first, round_closed, round_ended, round_open, round_on, closed_list}
+use Rattle.ptb_command.proofs.Comings.{if_ok_always, if_ok_both, newline_comes}
+use Rattle.ptb_command.proofs.Going.{is_whole, going_start, going_last, last_closes, going_on}
+use Rattle.ptb_command.proofs.Items.{print_nothing, print_something, round_ended, round_open, round_on}
 use Rattle.ptb_command.proofs.PartRefinement.{refines_part_refl, refines_part_then}
-use Rattle.ptb_command.proofs.Parts.{refines_part_parts, stops_parts, refines_part_end, newline_refines_part, newline_stops}
-use Rattle.ptb_command.proofs.Stops.{comes_err, comes_after, stops_after}
+use Rattle.ptb_command.proofs.Printing.{item_fails, newline_fails, newline_ends}
+use Rattle.ptb_command.proofs.Parts.{refines_part_end}
 use Rattle.ptb_command.proofs.commands.print.print_items.Goals as goal
 
 -- ---- a newline alone
@@ -37,9 +36,8 @@ items-init g c = record {
 
 pub returns-in_err-print_item-clause-comes : goal.returns-in_err-print_item-clause-comes
 returns-in_err-print_item-clause-comes g c given =
-    let first = going_first _ _ _ _ _ _ _ _ c.items.invariant.going _ (round_first c.args.cursor.now.text c.items.cursor.place) in
-    comes_err _ _ _ _ _ _ _ c.from_residual.ensures.1
-    (stops_after _ _ (first.1 given) _ (rw c.items.invariant.text at (c.in_err-print_item.ensures.comes given first.0 [])))
+    item_fails _ _ _ _ _ _ c.items.invariant.going _ c.items.invariant.text (λ k p. p given)
+    _ _ _ _ _ c.from_residual.ensures.1 (λ rest. c.in_err-print_item.ensures.comes given rest [])
 
 pub items-preserved : goal.items-preserved
 items-preserved g c =
@@ -60,30 +58,17 @@ items-preserved g c =
 
 pub returns-in_err-show-clause-comes : goal.returns-in_err-show-clause-comes
 returns-in_err-show-clause-comes g c given =
-    let text = c.print_item.ensures.text ∙ c.items.invariant.text in
-    let rest = item_of (end_check c.args.cursor.now.text c.print_item.new.cursor.place) in
-    let item = rw c.items.invariant.text at c.in_ok-print_item.ensures.read in
-    let last = going_last _ _ _ _ _ _ _ _ c.items.invariant.going _ (round_closed c.args.cursor.now.text c.items.cursor.place _ item.whole (rw text at c.if-not-token.ensures.value)) in
-    comes_err _ _ _ _ _ _ _ c.from_residual-in_err-show.ensures.1
-    (stops_after _ _ (last given) _
-    (stops_parts _ _ _ _ [] _ _ (closed_list _ _) _
-    (stops_after _ _ (rw c.items.invariant.text at (c.in_ok-print_item.ensures.comes given (NewLine ∷ rest) [])) _
-    (newline_stops rest _ [] _ _ _ _
-    (stops_unrefused _ _ _ _ _ (c.in_err-show.ensures.comes given c.args.store.now))))))
+    newline_fails _ _ _ _ _ _ c.items.invariant.going _ c.items.invariant.text (λ k p. p given)
+    _ _ c.in_ok-print_item.ensures.read (λ rest. c.in_ok-print_item.ensures.comes given rest []) _ c.print_item.ensures.text c.if-not-token.ensures.value
+    _ _ _ _ _ c.from_residual-in_err-show.ensures.1 (c.in_err-show.ensures.comes given c.args.store.now)
 
 pub returns-then-not-token-clause-comes : goal.returns-then-not-token-clause-comes
 returns-then-not-token-clause-comes g c given =
-    let text = c.print_item.ensures.text ∙ c.items.invariant.text in
-    let rest = item_of (end_check c.args.cursor.now.text c.print_item.new.cursor.place) in
-    let item = rw c.items.invariant.text at c.in_ok-print_item.ensures.read in
-    let last = going_last _ _ _ _ _ _ _ _ c.items.invariant.going _ (round_closed c.args.cursor.now.text c.items.cursor.place _ item.whole (rw text at c.if-not-token.ensures.value)) in
     let n = due_trace g.C.Chooser.choices g.S.Screen g.L.LineSource.most c.show-then-not-token.new.self given c.args.store.now c.show-then-not-token.new.gathering in
-    comes_after _ n _
-    (refines_part_then (last given)
-    (refines_part_parts _ [] _ _ (closed_list _ _)
-    (refines_part_then (rw c.items.invariant.text at (c.in_ok-print_item.ensures.comes given (NewLine ∷ rest) []))
-    (newline_refines_part rest _ [] (c.in_ok-show.ensures.comes given c.args.store.now)))))
-    _ (comes_unrefused _ _ _ _ _ _ (rw (c.token.ensures.text ∙ text) at (rw (c.if-not-token.ensures.absent refl) at (c.check_end.ensures.comes n c.print_item.new.width []))))
+    newline_ends _ _ _ _ _ _ c.items.invariant.going _ c.items.invariant.text (λ k p. p given)
+    _ _ c.in_ok-print_item.ensures.read (λ rest. c.in_ok-print_item.ensures.comes given rest []) _ c.print_item.ensures.text c.if-not-token.ensures.value
+    _ _ (c.in_ok-show.ensures.comes given c.args.store.now)
+    _ c.token.ensures.text _ (c.if-not-token.ensures.absent refl) (c.check_end.ensures.comes n c.print_item.new.width [])
 
 pub returns-then-not-token-clause-closed : goal.returns-then-not-token-clause-closed
 returns-then-not-token-clause-closed g c =
