@@ -1,7 +1,7 @@
 -- This file proves how the input lines come about while an input is read in pieces.
-use Rattle.std.proofs.Common.{◌≡◌, ℕ, ◌+◌, ◌-◌, ◌≤◌, List, [], ◌∷◌, ◌++◌, length, Option, None, IfSome, refl, sym, ap, ◌∙◌, append-nil, arith, length-append}
-use Rattle.std.specs.Io.KnownBytes.{Consumes, IsAtEnd}
-use Rattle.std.proofs.KnownBytes.{Consumes-nil, Consumes-trans, Consumes-whole}
+use Rattle.std.proofs.Common.{◌≡◌, ℕ, zero, suc, ◌+◌, ◌-◌, ◌<◌, ◌≤◌, List, take, [], ◌∷◌, ◌++◌, length, Option, None, Some, IfSome, refl, sym, ap, ◌∙◌, append-nil, arith, length-append}
+use Rattle.std.specs.Io.KnownBytes.{Consumes, Keeps, IsAtEnd}
+use Rattle.std.proofs.KnownBytes.{Consumes-nil, Consumes-trans, Consumes-kept, Consumes-whole}
 use Rattle.ptb_text.specs.Lines.{input_lines}
 use Rattle.ptb_devices.specs.Cutting.{last_line, whole_lines, Cuts, AddsLines}
 use Rattle.ptb_devices.specs.Sources.{ConsumesAtMost}
@@ -34,6 +34,24 @@ pub IsReadUpTo_bounded : (a b c : Option (List ℕ)) (ls : List (List ℕ)) (q :
     → IsReadUpTo a b ls q room left → Consumes b c piece → ConsumesAtMost a c room
 IsReadUpTo_bounded a b c ls q room left piece fits before took =
     (before.bytes ++ piece, omega (arith, before.size, length-append before.bytes piece), Consumes-trans a b c before.bytes piece before.taken took)
+
+-- a call that takes none: it failed, or gave no byte
+pub IsReadUpTo_kept : (a b c : Option (List ℕ)) (ls : List (List ℕ)) (q : Option (List ℕ)) (room left : ℕ)
+    → IsReadUpTo a b ls q room left → Keeps b c → ConsumesAtMost a c room
+IsReadUpTo_kept a b c ls q room left before kept =
+    (before.bytes, omega (arith, before.size), Consumes-kept a b c before.bytes before.taken kept)
+
+pub no_piece : (n : ℕ) (bs : List ℕ) (left : ℕ) → n ≡ 0 → length (take n bs) ≤ left
+no_piece zero bs left none = omega arith
+no_piece (suc n) bs left none = absurd (omega arith)
+
+-- more bytes were there than the limit, where all that may be taken were taken
+pub IsReadUpTo_long : (a b : Option (List ℕ)) (ls : List (List ℕ)) (q : Option (List ℕ)) (limit left : ℕ) → left ≤ 0
+    → IsReadUpTo a b ls q (limit + 1) left → IfSome a (λ all. limit < length all)
+IsReadUpTo_long None b ls q limit left all_taken before = tt
+IsReadUpTo_long (Some xs) None ls q limit left all_taken before = absurd before.taken
+IsReadUpTo_long (Some xs) (Some ys) ls q limit left all_taken before =
+    omega (arith, before.size, ap length before.taken, length-append before.bytes ys)
 
 -- at the end of the bytes, the lines are all of theirs
 pub IsReadUpTo_end : (a b c : Option (List ℕ)) (ls ms : List (List ℕ)) (q : Option (List ℕ)) (room left : ℕ) (piece : List ℕ) → length piece ≡ 0

@@ -1,5 +1,5 @@
 -- This file answers what is left to prove of the functions that read an expression.
-use Rattle.std.proofs.Common.{rules, arith, ◌≡◌, ◌∙◌, sym, ap, length, Ok, Some, None, refl}
+use Rattle.std.proofs.Common.{rules, arith, ◌≡◌, ◌≤◌, ◌<◌, ◌∙◌, ℕ, sym, ap, length, Ok, Some, None, refl, le_trans, lt_of_lt_of_le, lt_of_le_of_lt}
 use Rattle.std.proofs.lemmas.Int.{to_z-of_z}
 use Rattle.std.proofs.lemmas.Result.{err_from_is_err_and}
 use mir.Syntax.{w16}
@@ -15,40 +15,67 @@ use Rattle.ptb_expr.proofs.Parts.{part_ok, part_err, operated, applied, marked, 
 use Rattle.ptb_expr.proofs.Taking.{number_alone}
 use Rattle.ptb_expr.proofs.eval.+expr.Goals as goal
 
-pub expr-returns-in_err-x-clause-value : goal.expr-returns-in_err-x-clause-value
-expr-returns-in_err-x-clause-value g m c = λ t n same enough.
-    let p = err_from_is_err_and c.from_residual.result c.from_residual.ensures.1 in
-    stopped p.1 p.2 (part_err _ _ _ _ _ _ _ _ _ _ _ (reaches_same _ _) (expr_is _ _ _ _) (c.in_err-x.ensures.value t n same enough))
+-- what is left after a part that stands behind an operator
+left_behind : {a b c d : ℕ} → a ≤ b → b < c → c ≤ d → a ≤ d
+left_behind p q r = omega arith
 
-pub expr-returns-in_default-clause-value : goal.expr-returns-in_default-clause-value
-expr-returns-in_default-clause-value g m c = λ t n same enough.
-    let ex = to_z-of_z w16 c.in_ok-x.x (search rules) in
-    let none : comparison t c.sum.new.cursor.place ≡ None = at_text (λ u. comparison u c.sum.new.cursor.place) (c.in_ok-x.ensures.text ∙ same) c.in_default.ensures.value in
-    valued ex (part_ends _ _ _ _ _ _ _ _ (part_ok _ _ _ _ _ _ _ _ _ _ (reaches_same _ _) (expr_is _ _ _ _) (c.in_ok-x.ensures.value t n same enough)) (compared_ends _ _ _ _ none) (c.in_default.ensures.absent refl))
+-- what is left behind an operator, and that some was left before it
+less_behind : {a b n : ℕ} → a < b → b ≤ n → a ≤ n
+less_behind p q = omega arith
 
-pub expr-returns-in_err-y-clause-value : goal.expr-returns-in_err-y-clause-value
-expr-returns-in_err-y-clause-value g m c = λ t n same enough.
-    let here : comparison t c.sum.new.cursor.place ≡ Some (c.in-Some.op, c.take_comparison.new.cursor.place) = at_text (λ u. comparison u c.sum.new.cursor.place) (c.in_ok-x.ensures.text ∙ same) c.in-Some.ensures.value in
-    let same' : c.take_comparison.new.cursor.text ≡ t = c.in-Some.ensures.text ∙ c.in_ok-x.ensures.text ∙ same in
-    let left' = c.in_ok-x.ensures.left in
-    let taken' = c.in-Some.ensures.taken refl in
-    let p = err_from_is_err_and c.from_residual-in_err-y.result c.from_residual-in_err-y.ensures.1 in
-    stopped p.1 p.2 (part_err _ _ _ _ _ _ _ _ _ _ _ (part_ok _ _ _ _ _ _ _ _ _ _ (reaches_same _ _) (expr_is _ _ _ _) (c.in_ok-x.ensures.value t n same enough)) (compared_goes _ _ _ _ _ here) (c.in_err-y.ensures.value t n same' (omega arith)))
+some_left : {a b : ℕ} → a < b → 0 < b
+some_left p = omega arith
 
-pub expr-returns-clause-value : goal.expr-returns-clause-value
-expr-returns-clause-value g m c = λ t n same enough.
-    let ex = to_z-of_z w16 c.in_ok-x.x (search rules) in
-    let ey = to_z-of_z w16 c.in_ok-y.y (search rules) in
-    let here : comparison t c.sum.new.cursor.place ≡ Some (c.in-Some.op, c.take_comparison.new.cursor.place) = at_text (λ u. comparison u c.sum.new.cursor.place) (c.in_ok-x.ensures.text ∙ same) c.in-Some.ensures.value in
-    let same' : c.take_comparison.new.cursor.text ≡ t = c.in-Some.ensures.text ∙ c.in_ok-x.ensures.text ∙ same in
-    let left' = c.in_ok-x.ensures.left in
-    let taken' = c.in-Some.ensures.taken refl in
-    operated _ _ _ _ _ _ _ _ _ _ _ _ _ (part_ok _ _ _ _ _ _ _ _ _ _ (reaches_same _ _) (expr_is _ _ _ _) (c.in_ok-x.ensures.value t n same enough)) (compared_goes _ _ _ _ _ here) (c.in_ok-y.ensures.value t n same' (omega arith)) (applied c.in-Some.op c.apply.ensures ex ey) c.place.ensures c.at_mark.ensures
+pub expr-returns-in_err-x : goal.expr-returns-in_err-x
+expr-returns-in_err-x g m c = record {
+  text = c.sum.ensures.text;
+  left = c.sum.ensures.left;
+  value = λ t n same enough.
+      let p = err_from_is_err_and c.from_residual.result c.from_residual.ensures.1 in
+      stopped p.1 p.2 (part_err _ _ _ _ _ _ _ _ _ _ _ (reaches_same _ _) (expr_is _ _ _ _) (c.in_err-x.ensures.value t n same enough));
+}
 
-pub product-returns-in_err-x-clause-value : goal.product-returns-in_err-x-clause-value
-product-returns-in_err-x-clause-value g m c = λ t n same enough.
-    let p = err_from_is_err_and c.from_residual.result c.from_residual.ensures.1 in
-    stopped p.1 p.2 (part_err _ _ _ _ _ _ _ _ _ _ _ (reaches_same _ _) (product_is _ _ _ _) (c.in_err-x.ensures.value t n same enough))
+pub expr-returns-in_default : goal.expr-returns-in_default
+expr-returns-in_default g m c = record {
+  text = c.take_comparison.ensures.text ∙ c.sum.ensures.text;
+  left = search rules fits 50 depth 2;
+  value = λ t n same enough.
+      let ex = to_z-of_z w16 c.in_ok-x.x (search rules) in
+      let none : comparison t c.sum.new.cursor.place ≡ None = at_text (λ u. comparison u c.sum.new.cursor.place) (c.in_ok-x.ensures.text ∙ same) c.in_default.ensures.value in
+      valued ex (part_ends _ _ _ _ _ _ _ _ (part_ok _ _ _ _ _ _ _ _ _ _ (reaches_same _ _) (expr_is _ _ _ _) (c.in_ok-x.ensures.value t n same enough)) (compared_ends _ _ _ _ none) (c.in_default.ensures.absent refl));
+}
+
+pub expr-returns-in_err-y : goal.expr-returns-in_err-y
+expr-returns-in_err-y g m c = record {
+  text = c.sum-2.ensures.text ∙ c.take_comparison.ensures.text ∙ c.sum.ensures.text;
+  left = left_behind c.sum-2.ensures.left (c.in-Some.ensures.taken refl) c.sum.ensures.left;
+  value = λ t n same enough.
+      let here : comparison t c.sum.new.cursor.place ≡ Some (c.in-Some.op, c.take_comparison.new.cursor.place) = at_text (λ u. comparison u c.sum.new.cursor.place) (c.in_ok-x.ensures.text ∙ same) c.in-Some.ensures.value in
+      let same' : c.take_comparison.new.cursor.text ≡ t = c.in-Some.ensures.text ∙ c.in_ok-x.ensures.text ∙ same in
+      let p = err_from_is_err_and c.from_residual-in_err-y.result c.from_residual-in_err-y.ensures.1 in
+      stopped p.1 p.2 (part_err _ _ _ _ _ _ _ _ _ _ _ (part_ok _ _ _ _ _ _ _ _ _ _ (reaches_same _ _) (expr_is _ _ _ _) (c.in_ok-x.ensures.value t n same enough)) (compared_goes _ _ _ _ _ here) (c.in_err-y.ensures.value t n same' (less_behind (c.in-Some.ensures.taken refl) (le_trans c.in_ok-x.ensures.left enough))));
+}
+
+pub expr-returns : goal.expr-returns
+expr-returns g m c = record {
+  text = c.sum-2.ensures.text ∙ c.take_comparison.ensures.text ∙ c.sum.ensures.text;
+  left = left_behind c.sum-2.ensures.left (c.in-Some.ensures.taken refl) c.sum.ensures.left;
+  value = λ t n same enough.
+      let ex = to_z-of_z w16 c.in_ok-x.x (search rules) in
+      let ey = to_z-of_z w16 c.in_ok-y.y (search rules) in
+      let here : comparison t c.sum.new.cursor.place ≡ Some (c.in-Some.op, c.take_comparison.new.cursor.place) = at_text (λ u. comparison u c.sum.new.cursor.place) (c.in_ok-x.ensures.text ∙ same) c.in-Some.ensures.value in
+      let same' : c.take_comparison.new.cursor.text ≡ t = c.in-Some.ensures.text ∙ c.in_ok-x.ensures.text ∙ same in
+      operated _ _ _ _ _ _ _ _ _ _ _ _ _ (part_ok _ _ _ _ _ _ _ _ _ _ (reaches_same _ _) (expr_is _ _ _ _) (c.in_ok-x.ensures.value t n same enough)) (compared_goes _ _ _ _ _ here) (c.in_ok-y.ensures.value t n same' (less_behind (c.in-Some.ensures.taken refl) (le_trans c.in_ok-x.ensures.left enough))) (applied c.in-Some.op c.apply.ensures ex ey) c.place.ensures c.at_mark.ensures;
+}
+
+pub product-returns-in_err-x : goal.product-returns-in_err-x
+product-returns-in_err-x g m c = record {
+  text = c.factor.ensures.text;
+  left = c.factor.ensures.left;
+  value = λ t n same enough.
+      let p = err_from_is_err_and c.from_residual.result c.from_residual.ensures.1 in
+      stopped p.1 p.2 (part_err _ _ _ _ _ _ _ _ _ _ _ (reaches_same _ _) (product_is _ _ _ _) (c.in_err-x.ensures.value t n same enough));
+}
 
 pub product-loop-op-init : goal.product-loop-op-init
 product-loop-op-init g m c = record {
@@ -62,52 +89,62 @@ product-loop-op-init g m c = record {
       );
 }
 
-pub product-returns-in_err-y-clause-value : goal.product-returns-in_err-y-clause-value
-product-returns-in_err-y-clause-value g m c = λ t n same enough.
-    let i = c.loop-op.invariant.reaches t n same enough in
-    let here : product_operator t c.loop-op.cursor.place ≡ Some (c.in-Some.op, c.take_product_operator.new.cursor.place) = at_text (λ u. product_operator u c.loop-op.cursor.place) (c.loop-op.invariant.text ∙ same) c.in-Some.ensures.value in
-    let same' : c.take_product_operator.new.cursor.text ≡ t = c.in-Some.ensures.text ∙ c.loop-op.invariant.text ∙ same in
-    let fewer = c.loop-op.invariant.fewer in
-    let taken' = c.in-Some.ensures.taken refl in
-    let p = err_from_is_err_and c.from_residual-in_err-y.result c.from_residual-in_err-y.ensures.1 in
-    stopped p.1 p.2 (more_err _ _ _ _ _ _ _ _ _ _ _ _ _ _ i.1 (omega arith) i.2 here (c.in_err-y.ensures.value t n same' (omega arith)))
+pub product-returns-in_err-y : goal.product-returns-in_err-y
+product-returns-in_err-y g m c = record {
+  text = c.factor-in-Some.ensures.text ∙ c.take_product_operator.ensures.text ∙ c.loop-op.invariant.text;
+  left = left_behind c.factor-in-Some.ensures.left (c.in-Some.ensures.taken refl) c.loop-op.invariant.fewer;
+  value = λ t n same enough.
+      let i = c.loop-op.invariant.reaches t n same enough in
+      let here : product_operator t c.loop-op.cursor.place ≡ Some (c.in-Some.op, c.take_product_operator.new.cursor.place) = at_text (λ u. product_operator u c.loop-op.cursor.place) (c.loop-op.invariant.text ∙ same) c.in-Some.ensures.value in
+      let same' : c.take_product_operator.new.cursor.text ≡ t = c.in-Some.ensures.text ∙ c.loop-op.invariant.text ∙ same in
+      let p = err_from_is_err_and c.from_residual-in_err-y.result c.from_residual-in_err-y.ensures.1 in
+      stopped p.1 p.2 (more_err _ _ _ _ _ _ _ _ _ _ _ _ _ _ i.1 (some_left (c.in-Some.ensures.taken refl)) i.2 here (c.in_err-y.ensures.value t n same' (less_behind (c.in-Some.ensures.taken refl) (le_trans c.loop-op.invariant.fewer enough))));
+}
 
-pub product-returns-in_err-x-2-clause-value : goal.product-returns-in_err-x-2-clause-value
-product-returns-in_err-x-2-clause-value g m c = λ t n same enough.
-    let i = c.loop-op.invariant.reaches t n same enough in
-    let here : product_operator t c.loop-op.cursor.place ≡ Some (c.in-Some.op, c.take_product_operator.new.cursor.place) = at_text (λ u. product_operator u c.loop-op.cursor.place) (c.loop-op.invariant.text ∙ same) c.in-Some.ensures.value in
-    let same' : c.take_product_operator.new.cursor.text ≡ t = c.in-Some.ensures.text ∙ c.loop-op.invariant.text ∙ same in
-    let fewer = c.loop-op.invariant.fewer in
-    let taken' = c.in-Some.ensures.taken refl in
-    let ey = to_z-of_z w16 c.in_ok-y.y (search rules) in
-    let p = err_from_is_err_and c.from_residual-in_err-x-2.result c.from_residual-in_err-x-2.ensures.1 in
-    stopped p.1 p.2 (more_how _ _ _ _ _ _ _ _ _ _ _ _ _ _ _ i.1 (omega arith) i.2 here (c.in_ok-y.ensures.value t n same' (omega arith)) (marked c.in-Some.op _ _ (applied c.in-Some.op c.apply.ensures refl ey) c.place.ensures c.at_mark.ensures c.in_err-x-2.was))
+pub product-returns-in_err-x-2 : goal.product-returns-in_err-x-2
+product-returns-in_err-x-2 g m c = record {
+  text = c.factor-in-Some.ensures.text ∙ c.take_product_operator.ensures.text ∙ c.loop-op.invariant.text;
+  left = left_behind c.factor-in-Some.ensures.left (c.in-Some.ensures.taken refl) c.loop-op.invariant.fewer;
+  value = λ t n same enough.
+      let i = c.loop-op.invariant.reaches t n same enough in
+      let here : product_operator t c.loop-op.cursor.place ≡ Some (c.in-Some.op, c.take_product_operator.new.cursor.place) = at_text (λ u. product_operator u c.loop-op.cursor.place) (c.loop-op.invariant.text ∙ same) c.in-Some.ensures.value in
+      let same' : c.take_product_operator.new.cursor.text ≡ t = c.in-Some.ensures.text ∙ c.loop-op.invariant.text ∙ same in
+      let ey = to_z-of_z w16 c.in_ok-y.y (search rules) in
+      let p = err_from_is_err_and c.from_residual-in_err-x-2.result c.from_residual-in_err-x-2.ensures.1 in
+      stopped p.1 p.2 (more_how _ _ _ _ _ _ _ _ _ _ _ _ _ _ _ i.1 (some_left (c.in-Some.ensures.taken refl)) i.2 here (c.in_ok-y.ensures.value t n same' (less_behind (c.in-Some.ensures.taken refl) (le_trans c.loop-op.invariant.fewer enough))) (marked c.in-Some.op _ _ (applied c.in-Some.op c.apply.ensures refl ey) c.place.ensures c.at_mark.ensures c.in_err-x-2.was));
+}
 
 pub product-loop-op-preserved : goal.product-loop-op-preserved
 product-loop-op-preserved g m c = record {
   text = c.in_ok-y.ensures.text ∙ c.in-Some.ensures.text ∙ c.loop-op.invariant.text;
-  fewer = omega (arith, c.in_ok-y.ensures.left, c.in-Some.ensures.taken refl, c.loop-op.invariant.fewer);
+  fewer = left_behind c.in_ok-y.ensures.left (c.in-Some.ensures.taken refl) c.loop-op.invariant.fewer;
   reaches = λ t n same enough.
       let ex = to_z-of_z w16 c.in_ok-x-2.x (search rules) in
       let ey = to_z-of_z w16 c.in_ok-y.y (search rules) in
       let i = c.loop-op.invariant.reaches t n same enough in
       let here : product_operator t c.loop-op.cursor.place ≡ Some (c.in-Some.op, c.take_product_operator.new.cursor.place) = at_text (λ u. product_operator u c.loop-op.cursor.place) (c.loop-op.invariant.text ∙ same) c.in-Some.ensures.value in
       let same' : c.take_product_operator.new.cursor.text ≡ t = c.in-Some.ensures.text ∙ c.loop-op.invariant.text ∙ same in
-      let fewer = c.loop-op.invariant.fewer in
-      let taken' = c.in-Some.ensures.taken refl in
-      more_ok _ _ _ _ _ _ _ _ _ _ _ _ _ _ _ i.1 (omega (arith, c.in_ok-y.ensures.left)) i.2 here (c.in_ok-y.ensures.value t n same' (omega arith)) (marked c.in-Some.op _ _ (applied c.in-Some.op c.apply.ensures refl ey) c.place.ensures c.at_mark.ensures (c.in_ok-x-2.was ∙ ap Ok (sym ex)));
+      more_ok _ _ _ _ _ _ _ _ _ _ _ _ _ _ _ i.1 (lt_of_le_of_lt c.in_ok-y.ensures.left (c.in-Some.ensures.taken refl)) i.2 here (c.in_ok-y.ensures.value t n same' (less_behind (c.in-Some.ensures.taken refl) (le_trans c.loop-op.invariant.fewer enough))) (marked c.in-Some.op _ _ (applied c.in-Some.op c.apply.ensures refl ey) c.place.ensures c.at_mark.ensures (c.in_ok-x-2.was ∙ ap Ok (sym ex)));
 }
 
-pub product-returns-clause-value : goal.product-returns-clause-value
-product-returns-clause-value g m c = λ t n same enough.
-    let i = c.loop-op.invariant.reaches t n same enough in
-    let none : product_operator t c.loop-op.cursor.place ≡ None = at_text (λ u. product_operator u c.loop-op.cursor.place) (c.loop-op.invariant.text ∙ same) c.in_default.ensures.value in
-    part_ends _ _ _ _ _ _ _ _ i.2 (more_ends _ _ _ _ none) (c.in_default.ensures.absent refl)
+pub product-returns : goal.product-returns
+product-returns g m c = record {
+  text = c.take_product_operator.ensures.text ∙ c.loop-op.invariant.text;
+  left = search rules fits 50 depth 2;
+  value = λ t n same enough.
+      let i = c.loop-op.invariant.reaches t n same enough in
+      let none : product_operator t c.loop-op.cursor.place ≡ None = at_text (λ u. product_operator u c.loop-op.cursor.place) (c.loop-op.invariant.text ∙ same) c.in_default.ensures.value in
+      part_ends _ _ _ _ _ _ _ _ i.2 (more_ends _ _ _ _ none) (c.in_default.ensures.absent refl);
+}
 
-pub sum-returns-in_err-x-clause-value : goal.sum-returns-in_err-x-clause-value
-sum-returns-in_err-x-clause-value g m c = λ t n same enough.
-    let p = err_from_is_err_and c.from_residual.result c.from_residual.ensures.1 in
-    stopped p.1 p.2 (part_err _ _ _ _ _ _ _ _ _ _ _ (reaches_same _ _) (sum_is _ _ _ _) (c.in_err-x.ensures.value t n same enough))
+pub sum-returns-in_err-x : goal.sum-returns-in_err-x
+sum-returns-in_err-x g m c = record {
+  text = c.first_product.ensures.text;
+  left = c.first_product.ensures.left;
+  value = λ t n same enough.
+      let p = err_from_is_err_and c.from_residual.result c.from_residual.ensures.1 in
+      stopped p.1 p.2 (part_err _ _ _ _ _ _ _ _ _ _ _ (reaches_same _ _) (sum_is _ _ _ _) (c.in_err-x.ensures.value t n same enough));
+}
 
 pub sum-loop-op-init : goal.sum-loop-op-init
 sum-loop-op-init g m c = record {
@@ -121,216 +158,290 @@ sum-loop-op-init g m c = record {
       );
 }
 
-pub sum-returns-in_err-y-clause-value : goal.sum-returns-in_err-y-clause-value
-sum-returns-in_err-y-clause-value g m c = λ t n same enough.
-    let i = c.loop-op.invariant.reaches t n same enough in
-    let here : sum_operator t c.loop-op.cursor.place ≡ Some (c.in-Some.op, c.take_sum_operator.new.cursor.place) = at_text (λ u. sum_operator u c.loop-op.cursor.place) (c.loop-op.invariant.text ∙ same) c.in-Some.ensures.value in
-    let same' : c.take_sum_operator.new.cursor.text ≡ t = c.in-Some.ensures.text ∙ c.loop-op.invariant.text ∙ same in
-    let fewer = c.loop-op.invariant.fewer in
-    let taken' = c.in-Some.ensures.taken refl in
-    let p = err_from_is_err_and c.from_residual-in_err-y.result c.from_residual-in_err-y.ensures.1 in
-    stopped p.1 p.2 (more_err _ _ _ _ _ _ _ _ _ _ _ _ _ _ i.1 (omega arith) i.2 here (c.in_err-y.ensures.value t n same' (omega arith)))
+pub sum-returns-in_err-y : goal.sum-returns-in_err-y
+sum-returns-in_err-y g m c = record {
+  text = c.product.ensures.text ∙ c.take_sum_operator.ensures.text ∙ c.loop-op.invariant.text;
+  left = left_behind c.product.ensures.left (c.in-Some.ensures.taken refl) c.loop-op.invariant.fewer;
+  value = λ t n same enough.
+      let i = c.loop-op.invariant.reaches t n same enough in
+      let here : sum_operator t c.loop-op.cursor.place ≡ Some (c.in-Some.op, c.take_sum_operator.new.cursor.place) = at_text (λ u. sum_operator u c.loop-op.cursor.place) (c.loop-op.invariant.text ∙ same) c.in-Some.ensures.value in
+      let same' : c.take_sum_operator.new.cursor.text ≡ t = c.in-Some.ensures.text ∙ c.loop-op.invariant.text ∙ same in
+      let p = err_from_is_err_and c.from_residual-in_err-y.result c.from_residual-in_err-y.ensures.1 in
+      stopped p.1 p.2 (more_err _ _ _ _ _ _ _ _ _ _ _ _ _ _ i.1 (some_left (c.in-Some.ensures.taken refl)) i.2 here (c.in_err-y.ensures.value t n same' (less_behind (c.in-Some.ensures.taken refl) (le_trans c.loop-op.invariant.fewer enough))));
+}
 
-pub sum-returns-in_err-x-2-clause-value : goal.sum-returns-in_err-x-2-clause-value
-sum-returns-in_err-x-2-clause-value g m c = λ t n same enough.
-    let i = c.loop-op.invariant.reaches t n same enough in
-    let here : sum_operator t c.loop-op.cursor.place ≡ Some (c.in-Some.op, c.take_sum_operator.new.cursor.place) = at_text (λ u. sum_operator u c.loop-op.cursor.place) (c.loop-op.invariant.text ∙ same) c.in-Some.ensures.value in
-    let same' : c.take_sum_operator.new.cursor.text ≡ t = c.in-Some.ensures.text ∙ c.loop-op.invariant.text ∙ same in
-    let fewer = c.loop-op.invariant.fewer in
-    let taken' = c.in-Some.ensures.taken refl in
-    let ey = to_z-of_z w16 c.in_ok-y.y (search rules) in
-    let p = err_from_is_err_and c.from_residual-in_err-x-2.result c.from_residual-in_err-x-2.ensures.1 in
-    stopped p.1 p.2 (more_how _ _ _ _ _ _ _ _ _ _ _ _ _ _ _ i.1 (omega arith) i.2 here (c.in_ok-y.ensures.value t n same' (omega arith)) (marked c.in-Some.op _ _ (applied c.in-Some.op c.apply.ensures refl ey) c.place.ensures c.at_mark.ensures c.in_err-x-2.was))
+pub sum-returns-in_err-x-2 : goal.sum-returns-in_err-x-2
+sum-returns-in_err-x-2 g m c = record {
+  text = c.product.ensures.text ∙ c.take_sum_operator.ensures.text ∙ c.loop-op.invariant.text;
+  left = left_behind c.product.ensures.left (c.in-Some.ensures.taken refl) c.loop-op.invariant.fewer;
+  value = λ t n same enough.
+      let i = c.loop-op.invariant.reaches t n same enough in
+      let here : sum_operator t c.loop-op.cursor.place ≡ Some (c.in-Some.op, c.take_sum_operator.new.cursor.place) = at_text (λ u. sum_operator u c.loop-op.cursor.place) (c.loop-op.invariant.text ∙ same) c.in-Some.ensures.value in
+      let same' : c.take_sum_operator.new.cursor.text ≡ t = c.in-Some.ensures.text ∙ c.loop-op.invariant.text ∙ same in
+      let ey = to_z-of_z w16 c.in_ok-y.y (search rules) in
+      let p = err_from_is_err_and c.from_residual-in_err-x-2.result c.from_residual-in_err-x-2.ensures.1 in
+      stopped p.1 p.2 (more_how _ _ _ _ _ _ _ _ _ _ _ _ _ _ _ i.1 (some_left (c.in-Some.ensures.taken refl)) i.2 here (c.in_ok-y.ensures.value t n same' (less_behind (c.in-Some.ensures.taken refl) (le_trans c.loop-op.invariant.fewer enough))) (marked c.in-Some.op _ _ (applied c.in-Some.op c.apply.ensures refl ey) c.place.ensures c.at_mark.ensures c.in_err-x-2.was));
+}
 
 pub sum-loop-op-preserved : goal.sum-loop-op-preserved
 sum-loop-op-preserved g m c = record {
   text = c.in_ok-y.ensures.text ∙ c.in-Some.ensures.text ∙ c.loop-op.invariant.text;
-  fewer = omega (arith, c.in_ok-y.ensures.left, c.in-Some.ensures.taken refl, c.loop-op.invariant.fewer);
+  fewer = left_behind c.in_ok-y.ensures.left (c.in-Some.ensures.taken refl) c.loop-op.invariant.fewer;
   reaches = λ t n same enough.
       let ex = to_z-of_z w16 c.in_ok-x-2.x (search rules) in
       let ey = to_z-of_z w16 c.in_ok-y.y (search rules) in
       let i = c.loop-op.invariant.reaches t n same enough in
       let here : sum_operator t c.loop-op.cursor.place ≡ Some (c.in-Some.op, c.take_sum_operator.new.cursor.place) = at_text (λ u. sum_operator u c.loop-op.cursor.place) (c.loop-op.invariant.text ∙ same) c.in-Some.ensures.value in
       let same' : c.take_sum_operator.new.cursor.text ≡ t = c.in-Some.ensures.text ∙ c.loop-op.invariant.text ∙ same in
-      let fewer = c.loop-op.invariant.fewer in
-      let taken' = c.in-Some.ensures.taken refl in
-      more_ok _ _ _ _ _ _ _ _ _ _ _ _ _ _ _ i.1 (omega (arith, c.in_ok-y.ensures.left)) i.2 here (c.in_ok-y.ensures.value t n same' (omega arith)) (marked c.in-Some.op _ _ (applied c.in-Some.op c.apply.ensures refl ey) c.place.ensures c.at_mark.ensures (c.in_ok-x-2.was ∙ ap Ok (sym ex)));
+      more_ok _ _ _ _ _ _ _ _ _ _ _ _ _ _ _ i.1 (lt_of_le_of_lt c.in_ok-y.ensures.left (c.in-Some.ensures.taken refl)) i.2 here (c.in_ok-y.ensures.value t n same' (less_behind (c.in-Some.ensures.taken refl) (le_trans c.loop-op.invariant.fewer enough))) (marked c.in-Some.op _ _ (applied c.in-Some.op c.apply.ensures refl ey) c.place.ensures c.at_mark.ensures (c.in_ok-x-2.was ∙ ap Ok (sym ex)));
 }
 
-pub sum-returns-clause-value : goal.sum-returns-clause-value
-sum-returns-clause-value g m c = λ t n same enough.
-    let i = c.loop-op.invariant.reaches t n same enough in
-    let none : sum_operator t c.loop-op.cursor.place ≡ None = at_text (λ u. sum_operator u c.loop-op.cursor.place) (c.loop-op.invariant.text ∙ same) c.in_default.ensures.value in
-    part_ends _ _ _ _ _ _ _ _ i.2 (more_ends _ _ _ _ none) (c.in_default.ensures.absent refl)
+pub sum-returns : goal.sum-returns
+sum-returns g m c = record {
+  text = c.take_sum_operator.ensures.text ∙ c.loop-op.invariant.text;
+  left = search rules fits 50 depth 2;
+  value = λ t n same enough.
+      let i = c.loop-op.invariant.reaches t n same enough in
+      let none : sum_operator t c.loop-op.cursor.place ≡ None = at_text (λ u. sum_operator u c.loop-op.cursor.place) (c.loop-op.invariant.text ∙ same) c.in_default.ensures.value in
+      part_ends _ _ _ _ _ _ _ _ i.2 (more_ends _ _ _ _ none) (c.in_default.ensures.absent refl);
+}
 
-pub first_product-returns-in_err-x-clause-value : goal.first_product-returns-in_err-x-clause-value
-first_product-returns-in_err-x-clause-value g m c = λ t n same enough.
-    let here : token_at 45 t c.args.cursor.now.place ≡ Some c.token.new.self.place = at_text (λ u. token_at 45 u c.args.cursor.now.place) same c.if-token.ensures.value in
-    let left' = c.if-token.ensures.left in
-    let text' : c.token.new.self.text ≡ t = c.if-token.ensures.text ∙ same in
-    let p = err_from_is_err_and c.from_residual.result c.from_residual.ensures.1 in
-    stopped p.1 p.2 (part_err _ _ _ _ _ _ _ _ _ _ _ (reaches_same _ _) (first_product_minus _ _ _ _ _ here) (c.in_err-x.ensures.value t n text' (omega arith)))
+pub first_product-returns-in_err-x : goal.first_product-returns-in_err-x
+first_product-returns-in_err-x g m c = record {
+  text = c.product.ensures.text ∙ c.token.ensures.text;
+  left = le_trans c.product.ensures.left c.token.ensures.left;
+  value = λ t n same enough.
+      let here : token_at 45 t c.args.cursor.now.place ≡ Some c.token.new.self.place = at_text (λ u. token_at 45 u c.args.cursor.now.place) same c.if-token.ensures.value in
+      let text' : c.token.new.self.text ≡ t = c.if-token.ensures.text ∙ same in
+      let p = err_from_is_err_and c.from_residual.result c.from_residual.ensures.1 in
+      stopped p.1 p.2 (part_err _ _ _ _ _ _ _ _ _ _ _ (reaches_same _ _) (first_product_minus _ _ _ _ _ here) (c.in_err-x.ensures.value t n text' (le_trans c.if-token.ensures.left enough)));
+}
 
-pub first_product-returns-then-token-clause-value : goal.first_product-returns-then-token-clause-value
-first_product-returns-then-token-clause-value g m c = λ t n same enough.
-    let ex = to_z-of_z w16 c.in_ok-x.x (search rules) in
-    let here : token_at 45 t c.args.cursor.now.place ≡ Some c.token.new.self.place = at_text (λ u. token_at 45 u c.args.cursor.now.place) same c.if-token.ensures.value in
-    let left' = c.if-token.ensures.left in
-    let text' : c.token.new.self.text ≡ t = c.if-token.ensures.text ∙ same in
-    operated _ _ _ _ _ _ _ _ _ _ _ _ _ (reaches_same _ _) (first_product_minus _ _ _ _ _ here) (c.in_ok-x.ensures.value t n text' (omega arith)) (c.negate.ensures ∙ ap negation ex) c.place.ensures c.at_mark.ensures
+pub first_product-returns-then-token : goal.first_product-returns-then-token
+first_product-returns-then-token g m c = record {
+  text = c.product.ensures.text ∙ c.token.ensures.text;
+  left = le_trans c.product.ensures.left c.token.ensures.left;
+  value = λ t n same enough.
+      let ex = to_z-of_z w16 c.in_ok-x.x (search rules) in
+      let here : token_at 45 t c.args.cursor.now.place ≡ Some c.token.new.self.place = at_text (λ u. token_at 45 u c.args.cursor.now.place) same c.if-token.ensures.value in
+      let text' : c.token.new.self.text ≡ t = c.if-token.ensures.text ∙ same in
+      operated _ _ _ _ _ _ _ _ _ _ _ _ _ (reaches_same _ _) (first_product_minus _ _ _ _ _ here) (c.in_ok-x.ensures.value t n text' (le_trans c.if-token.ensures.left enough)) (c.negate.ensures ∙ ap negation ex) c.place.ensures c.at_mark.ensures;
+}
 
-pub first_product-returns-clause-value : goal.first_product-returns-clause-value
-first_product-returns-clause-value g m c = λ t n same enough.
-    let none : token_at 45 t c.args.cursor.now.place ≡ None = at_text (λ u. token_at 45 u c.args.cursor.now.place) same c.if-token.ensures.value in
-    let left' = c.if-token.ensures.left in
-    let text' : c.token.new.self.text ≡ t = c.if-token.ensures.text ∙ same in
-    let place' : c.token.new.self.place ≡ c.args.cursor.now.place = c.if-token.ensures.absent refl in
-    let plus = at_place (λ u i. token_at 43 u i) text' place' c.token-2.ensures.value in
-    part_is _ _ _ _ _ _ _ (first_product_plain _ _ _ _ _ c.token-2.result none plus (λ no. c.token-2.ensures.absent no ∙ place')) (c.product-2.ensures.value t n (c.token-2.ensures.text ∙ text') (omega (arith, c.token-2.ensures.left)))
+pub first_product-returns : goal.first_product-returns
+first_product-returns g m c = record {
+  text = c.product-2.ensures.text ∙ c.token-2.ensures.text ∙ c.token.ensures.text;
+  left = le_trans c.product-2.ensures.left (le_trans c.token-2.ensures.left c.token.ensures.left);
+  value = λ t n same enough.
+      let none : token_at 45 t c.args.cursor.now.place ≡ None = at_text (λ u. token_at 45 u c.args.cursor.now.place) same c.if-token.ensures.value in
+      let text' : c.token.new.self.text ≡ t = c.if-token.ensures.text ∙ same in
+      let place' : c.token.new.self.place ≡ c.args.cursor.now.place = c.if-token.ensures.absent refl in
+      let plus = at_place (λ u i. token_at 43 u i) text' place' c.token-2.ensures.value in
+      part_is _ _ _ _ _ _ _ (first_product_plain _ _ _ _ _ c.token-2.result none plus (λ no. c.token-2.ensures.absent no ∙ place')) (c.product-2.ensures.value t n (c.token-2.ensures.text ∙ text') (le_trans c.token-2.ensures.left (le_trans c.if-token.ensures.left enough)));
+}
 
-pub paren-returns-then-not-token-clause-value : goal.paren-returns-then-not-token-clause-value
-paren-returns-then-not-token-clause-value g m c = λ t n same enough.
-    let none : token_at 40 t c.args.cursor.now.place ≡ None = at_text (λ u. token_at 40 u c.args.cursor.now.place) same c.if-not-token.ensures.value in
-    part_faults _ _ _ _ _ _ _ _ _ _ (reaches_same _ _) (paren_missing _ _ _ _ none) c.fault_at.ensures (c.place.ensures ∙ c.if-not-token.ensures.absent refl)
+pub paren-returns-then-not-token : goal.paren-returns-then-not-token
+paren-returns-then-not-token g m c = record {
+  text = c.token.ensures.text;
+  left = c.token.ensures.left;
+  value = λ t n same enough.
+      let none : token_at 40 t c.args.cursor.now.place ≡ None = at_text (λ u. token_at 40 u c.args.cursor.now.place) same c.if-not-token.ensures.value in
+      part_faults _ _ _ _ _ _ _ _ _ _ (reaches_same _ _) (paren_missing _ _ _ _ none) c.fault_at.ensures (c.place.ensures ∙ c.if-not-token.ensures.absent refl);
+}
 
-pub paren-returns-in_err-x-clause-value : goal.paren-returns-in_err-x-clause-value
-paren-returns-in_err-x-clause-value g m c = λ t n same enough.
-    let here : token_at 40 t c.args.cursor.now.place ≡ Some c.token.new.self.place = at_text (λ u. token_at 40 u c.args.cursor.now.place) same c.if-not-token.ensures.value in
-    let taken' = c.if-not-token.ensures.taken refl in
-    let text' : c.token.new.self.text ≡ t = c.if-not-token.ensures.text ∙ same in
-    let p = err_from_is_err_and c.from_residual.result c.from_residual.ensures.1 in
-    stopped p.1 p.2 (part_err _ _ _ _ _ _ _ _ _ _ _ (reaches_same _ _) (paren_opens _ _ _ _ _ here) (within_runs _ t c.args.store.now n _ _ _ _ _ _ (omega arith) (λ k h. c.in_err-x.ensures.value t k text' h)))
+pub paren-returns-in_err-x : goal.paren-returns-in_err-x
+paren-returns-in_err-x g m c = record {
+  text = c.expr.ensures.text ∙ c.token.ensures.text;
+  left = le_trans c.expr.ensures.left c.token.ensures.left;
+  value = λ t n same enough.
+      let here : token_at 40 t c.args.cursor.now.place ≡ Some c.token.new.self.place = at_text (λ u. token_at 40 u c.args.cursor.now.place) same c.if-not-token.ensures.value in
+      let text' : c.token.new.self.text ≡ t = c.if-not-token.ensures.text ∙ same in
+      let p = err_from_is_err_and c.from_residual.result c.from_residual.ensures.1 in
+      stopped p.1 p.2 (part_err _ _ _ _ _ _ _ _ _ _ _ (reaches_same _ _) (paren_opens _ _ _ _ _ here) (within_runs _ t c.args.store.now n _ _ _ _ _ _ (lt_of_lt_of_le (c.if-not-token.ensures.taken refl) enough) (λ k h. c.in_err-x.ensures.value t k text' h)));
+}
 
-pub paren-returns-then-not-token-2-clause-value : goal.paren-returns-then-not-token-2-clause-value
-paren-returns-then-not-token-2-clause-value g m c = λ t n same enough.
-    let here : token_at 40 t c.args.cursor.now.place ≡ Some c.token.new.self.place = at_text (λ u. token_at 40 u c.args.cursor.now.place) same c.if-not-token.ensures.value in
-    let taken' = c.if-not-token.ensures.taken refl in
-    let text' : c.token.new.self.text ≡ t = c.if-not-token.ensures.text ∙ same in
-    let none : token_at 41 t c.expr.new.cursor.place ≡ None = at_text (λ u. token_at 41 u c.expr.new.cursor.place) (c.in_ok-x.ensures.text ∙ text') c.if-not-token-2.ensures.value in
-    part_faults _ _ _ _ _ _ _ _ _ _ (part_ok _ _ _ _ _ _ _ _ _ _ (reaches_same _ _) (paren_opens _ _ _ _ _ here) (within_runs _ t c.args.store.now n _ _ _ _ _ _ (omega arith) (λ k h. c.in_ok-x.ensures.value t k text' h))) (close_missing _ _ _ _ none) c.fault_at-then-not-token-2.ensures (c.place-then-not-token-2.ensures ∙ c.if-not-token-2.ensures.absent refl)
+pub paren-returns-then-not-token-2 : goal.paren-returns-then-not-token-2
+paren-returns-then-not-token-2 g m c = record {
+  text = c.token-2.ensures.text ∙ c.expr.ensures.text ∙ c.token.ensures.text;
+  left = le_trans c.token-2.ensures.left (le_trans c.expr.ensures.left c.token.ensures.left);
+  value = λ t n same enough.
+      let here : token_at 40 t c.args.cursor.now.place ≡ Some c.token.new.self.place = at_text (λ u. token_at 40 u c.args.cursor.now.place) same c.if-not-token.ensures.value in
+      let text' : c.token.new.self.text ≡ t = c.if-not-token.ensures.text ∙ same in
+      let none : token_at 41 t c.expr.new.cursor.place ≡ None = at_text (λ u. token_at 41 u c.expr.new.cursor.place) (c.in_ok-x.ensures.text ∙ text') c.if-not-token-2.ensures.value in
+      part_faults _ _ _ _ _ _ _ _ _ _ (part_ok _ _ _ _ _ _ _ _ _ _ (reaches_same _ _) (paren_opens _ _ _ _ _ here) (within_runs _ t c.args.store.now n _ _ _ _ _ _ (lt_of_lt_of_le (c.if-not-token.ensures.taken refl) enough) (λ k h. c.in_ok-x.ensures.value t k text' h))) (close_missing _ _ _ _ none) c.fault_at-then-not-token-2.ensures (c.place-then-not-token-2.ensures ∙ c.if-not-token-2.ensures.absent refl);
+}
 
-pub paren-returns-clause-value : goal.paren-returns-clause-value
-paren-returns-clause-value g m c = λ t n same enough.
-    let here : token_at 40 t c.args.cursor.now.place ≡ Some c.token.new.self.place = at_text (λ u. token_at 40 u c.args.cursor.now.place) same c.if-not-token.ensures.value in
-    let taken' = c.if-not-token.ensures.taken refl in
-    let text' : c.token.new.self.text ≡ t = c.if-not-token.ensures.text ∙ same in
-    let ex = to_z-of_z w16 c.in_ok-x.x (search rules) in
-    let shut : token_at 41 t c.expr.new.cursor.place ≡ Some c.token-2.new.self.place = at_text (λ u. token_at 41 u c.expr.new.cursor.place) (c.in_ok-x.ensures.text ∙ text') c.if-not-token-2.ensures.value in
-    valued ex (part_ends _ _ _ _ _ _ _ _ (part_ok _ _ _ _ _ _ _ _ _ _ (reaches_same _ _) (paren_opens _ _ _ _ _ here) (within_runs _ t c.args.store.now n _ _ _ _ _ _ (omega arith) (λ k h. c.in_ok-x.ensures.value t k text' h))) (close_closes _ _ _ _ _ shut) refl)
+pub paren-returns : goal.paren-returns
+paren-returns g m c = record {
+  text = c.token-2.ensures.text ∙ c.expr.ensures.text ∙ c.token.ensures.text;
+  left = le_trans c.token-2.ensures.left (le_trans c.expr.ensures.left c.token.ensures.left);
+  value = λ t n same enough.
+      let here : token_at 40 t c.args.cursor.now.place ≡ Some c.token.new.self.place = at_text (λ u. token_at 40 u c.args.cursor.now.place) same c.if-not-token.ensures.value in
+      let text' : c.token.new.self.text ≡ t = c.if-not-token.ensures.text ∙ same in
+      let ex = to_z-of_z w16 c.in_ok-x.x (search rules) in
+      let shut : token_at 41 t c.expr.new.cursor.place ≡ Some c.token-2.new.self.place = at_text (λ u. token_at 41 u c.expr.new.cursor.place) (c.in_ok-x.ensures.text ∙ text') c.if-not-token-2.ensures.value in
+      valued ex (part_ends _ _ _ _ _ _ _ _ (part_ok _ _ _ _ _ _ _ _ _ _ (reaches_same _ _) (paren_opens _ _ _ _ _ here) (within_runs _ t c.args.store.now n _ _ _ _ _ _ (lt_of_lt_of_le (c.if-not-token.ensures.taken refl) enough) (λ k h. c.in_ok-x.ensures.value t k text' h))) (close_closes _ _ _ _ _ shut) refl);
+}
 
-pub factor-returns-in-Some-clause-value : goal.factor-returns-in-Some-clause-value
-factor-returns-in-Some-clause-value g m c = λ t n same enough.
-    let here = at_text (λ u. lone_letter_at u c.args.cursor.now.place) same c.in-Some.ensures.value in
-    let at = at_text (λ u. letter_at u c.args.cursor.now.place) same c.in-Some.ensures.letter in
-    let none = c.finding_laws.ensures.lone_letter Functions t _ _ _ here in
-    let ev = to_z-of_z w16 c.get.result (search rules) in
-    valued (ev ∙ c.get.ensures) (part_ends _ _ _ _ _ _ _ _ (reaches_same _ _) (factor_letter _ _ _ _ _ _ none at) refl)
+pub factor-returns-in-Some : goal.factor-returns-in-Some
+factor-returns-in-Some g m c = record {
+  text = c.lone_letter.ensures.text;
+  left = c.lone_letter.ensures.left;
+  value = λ t n same enough.
+      let here = at_text (λ u. lone_letter_at u c.args.cursor.now.place) same c.in-Some.ensures.value in
+      let at = at_text (λ u. letter_at u c.args.cursor.now.place) same c.in-Some.ensures.letter in
+      let none = c.finding_laws.ensures.lone_letter Functions t _ _ _ here in
+      let ev = to_z-of_z w16 c.get.result (search rules) in
+      valued (ev ∙ c.get.ensures) (part_ends _ _ _ _ _ _ _ _ (reaches_same _ _) (factor_letter _ _ _ _ _ _ none at) refl);
+}
 
-pub factor-returns-in-Value-clause-value : goal.factor-returns-in-Value-clause-value
-factor-returns-in-Value-clause-value g m c = λ t n same enough.
-    let text1 : c.lone_letter.new.self.text ≡ t = c.in_default.ensures.text ∙ same in
-    let place1 : c.lone_letter.new.self.place ≡ c.args.cursor.now.place = c.in_default.ensures.absent refl in
-    let here = at_place number_at text1 place1 c.in-Value.ensures.value in
-    let ev = to_z-of_z w16 c.in-Value.value (search rules) in
-    valued ev (part_ends _ _ _ _ _ _ _ _ (reaches_same _ _) (factor_number _ _ _ _ _ _ (number_alone c.finding_laws.ensures t _ (ap (λ r. is_number r.0) here)) here) refl)
+pub factor-returns-in-Value : goal.factor-returns-in-Value
+factor-returns-in-Value g m c = record {
+  text = c.number.ensures.text ∙ c.lone_letter.ensures.text;
+  left = le_trans c.number.ensures.left c.lone_letter.ensures.left;
+  value = λ t n same enough.
+      let text1 : c.lone_letter.new.self.text ≡ t = c.in_default.ensures.text ∙ same in
+      let place1 : c.lone_letter.new.self.place ≡ c.args.cursor.now.place = c.in_default.ensures.absent refl in
+      let here = at_place number_at text1 place1 c.in-Value.ensures.value in
+      let ev = to_z-of_z w16 c.in-Value.value (search rules) in
+      valued ev (part_ends _ _ _ _ _ _ _ _ (reaches_same _ _) (factor_number _ _ _ _ _ _ (number_alone c.finding_laws.ensures t _ (ap (λ r. is_number r.0) here)) here) refl);
+}
 
-pub factor-returns-in-TooBig-clause-value : goal.factor-returns-in-TooBig-clause-value
-factor-returns-in-TooBig-clause-value g m c = λ t n same enough.
-    let text1 : c.lone_letter.new.self.text ≡ t = c.in_default.ensures.text ∙ same in
-    let place1 : c.lone_letter.new.self.place ≡ c.args.cursor.now.place = c.in_default.ensures.absent refl in
-    let here = at_place number_at text1 place1 c.in-TooBig.ensures.value in
-    part_faults _ _ _ _ _ _ _ _ _ _ (reaches_same _ _) (factor_too_big _ _ _ _ _ (number_alone c.finding_laws.ensures t _ (ap (λ r. is_number r.0) here)) here) c.fault_at.ensures c.place.ensures
+pub factor-returns-in-TooBig : goal.factor-returns-in-TooBig
+factor-returns-in-TooBig g m c = record {
+  text = c.number.ensures.text ∙ c.lone_letter.ensures.text;
+  left = le_trans c.number.ensures.left c.lone_letter.ensures.left;
+  value = λ t n same enough.
+      let text1 : c.lone_letter.new.self.text ≡ t = c.in_default.ensures.text ∙ same in
+      let place1 : c.lone_letter.new.self.place ≡ c.args.cursor.now.place = c.in_default.ensures.absent refl in
+      let here = at_place number_at text1 place1 c.in-TooBig.ensures.value in
+      part_faults _ _ _ _ _ _ _ _ _ _ (reaches_same _ _) (factor_too_big _ _ _ _ _ (number_alone c.finding_laws.ensures t _ (ap (λ r. is_number r.0) here)) here) c.fault_at.ensures c.place.ensures;
+}
 
-pub factor-returns-in-Absent-clause-value : goal.factor-returns-in-Absent-clause-value
-factor-returns-in-Absent-clause-value g m c = λ t n same enough.
-    let text1 : c.lone_letter.new.self.text ≡ t = c.in_default.ensures.text ∙ same in
-    let place : c.number.new.self.place ≡ c.args.cursor.now.place = c.in-Absent.ensures.absent refl ∙ c.in_default.ensures.absent refl in
-    rw place at (c.other_factor.ensures.value t n (c.in-Absent.ensures.text ∙ text1) (omega (arith, c.in-Absent.ensures.left, c.in_default.ensures.left)))
+pub factor-returns-in-Absent : goal.factor-returns-in-Absent
+factor-returns-in-Absent g m c = record {
+  text = c.other_factor.ensures.text ∙ c.number.ensures.text ∙ c.lone_letter.ensures.text;
+  left = le_trans c.other_factor.ensures.left (le_trans c.number.ensures.left c.lone_letter.ensures.left);
+  value = λ t n same enough.
+      let text1 : c.lone_letter.new.self.text ≡ t = c.in_default.ensures.text ∙ same in
+      let place : c.number.new.self.place ≡ c.args.cursor.now.place = c.in-Absent.ensures.absent refl ∙ c.in_default.ensures.absent refl in
+      rw place at (c.other_factor.ensures.value t n (c.in-Absent.ensures.text ∙ text1) (le_trans c.in-Absent.ensures.left (le_trans c.in_default.ensures.left enough)));
+}
 
-pub other_factor-returns-in_err-bound-in-Some-RndKw-clause-value : goal.other_factor-returns-in_err-bound-in-Some-RndKw-clause-value
-other_factor-returns-in_err-bound-in-Some-RndKw-clause-value g m c = λ t n same enough.
-    let here : word_at Functions t c.args.cursor.now.place ≡ Some (RndKw, c.take_function.new.cursor.place) = at_text (λ u. word_at Functions u c.args.cursor.now.place) same (c.in-Some-RndKw.ensures.value ∙ ap (λ w. Some (w, c.take_function.new.cursor.place)) c.in-Some-RndKw.field-0-is) in
-    let left' = c.in-Some-RndKw.ensures.left in
-    let text' : c.take_function.new.cursor.text ≡ t = c.in-Some-RndKw.ensures.text ∙ same in
-    let p = err_from_is_err_and c.from_residual.result c.from_residual.ensures.1 in
-    stopped p.1 p.2 (part_err _ _ _ _ _ _ _ _ _ _ _ (reaches_same _ _) (factor_rnd _ _ _ _ _ here) (c.in_err-bound-in-Some-RndKw.ensures.value t n text' (omega arith)))
+pub other_factor-returns-in_err-bound-in-Some-RndKw : goal.other_factor-returns-in_err-bound-in-Some-RndKw
+other_factor-returns-in_err-bound-in-Some-RndKw g m c = record {
+  text = c.paren.ensures.text ∙ c.take_function.ensures.text;
+  left = le_trans c.paren.ensures.left c.take_function.ensures.left;
+  value = λ t n same enough.
+      let here : word_at Functions t c.args.cursor.now.place ≡ Some (RndKw, c.take_function.new.cursor.place) = at_text (λ u. word_at Functions u c.args.cursor.now.place) same (c.in-Some-RndKw.ensures.value ∙ ap (λ w. Some (w, c.take_function.new.cursor.place)) c.in-Some-RndKw.field-0-is) in
+      let text' : c.take_function.new.cursor.text ≡ t = c.in-Some-RndKw.ensures.text ∙ same in
+      let p = err_from_is_err_and c.from_residual.result c.from_residual.ensures.1 in
+      stopped p.1 p.2 (part_err _ _ _ _ _ _ _ _ _ _ _ (reaches_same _ _) (factor_rnd _ _ _ _ _ here) (c.in_err-bound-in-Some-RndKw.ensures.value t n text' (le_trans c.in-Some-RndKw.ensures.left enough)));
+}
 
-pub other_factor-returns-in_err-x-in-Some-AbsKw-clause-value : goal.other_factor-returns-in_err-x-in-Some-AbsKw-clause-value
-other_factor-returns-in_err-x-in-Some-AbsKw-clause-value g m c = λ t n same enough.
-    let here : word_at Functions t c.args.cursor.now.place ≡ Some (AbsKw, c.take_function.new.cursor.place) = at_text (λ u. word_at Functions u c.args.cursor.now.place) same (c.in-Some-AbsKw.ensures.value ∙ ap (λ w. Some (w, c.take_function.new.cursor.place)) c.in-Some-AbsKw.field-0-is) in
-    let left' = c.in-Some-AbsKw.ensures.left in
-    let text' : c.take_function.new.cursor.text ≡ t = c.in-Some-AbsKw.ensures.text ∙ same in
-    let p = err_from_is_err_and c.from_residual-in_err-x-in-Some-AbsKw.result c.from_residual-in_err-x-in-Some-AbsKw.ensures.1 in
-    stopped p.1 p.2 (part_err _ _ _ _ _ _ _ _ _ _ _ (reaches_same _ _) (factor_abs _ _ _ _ _ here) (c.in_err-x-in-Some-AbsKw.ensures.value t n text' (omega arith)))
+pub other_factor-returns-in_err-x-in-Some-AbsKw : goal.other_factor-returns-in_err-x-in-Some-AbsKw
+other_factor-returns-in_err-x-in-Some-AbsKw g m c = record {
+  text = c.paren-in-Some-AbsKw.ensures.text ∙ c.take_function.ensures.text;
+  left = le_trans c.paren-in-Some-AbsKw.ensures.left c.take_function.ensures.left;
+  value = λ t n same enough.
+      let here : word_at Functions t c.args.cursor.now.place ≡ Some (AbsKw, c.take_function.new.cursor.place) = at_text (λ u. word_at Functions u c.args.cursor.now.place) same (c.in-Some-AbsKw.ensures.value ∙ ap (λ w. Some (w, c.take_function.new.cursor.place)) c.in-Some-AbsKw.field-0-is) in
+      let text' : c.take_function.new.cursor.text ≡ t = c.in-Some-AbsKw.ensures.text ∙ same in
+      let p = err_from_is_err_and c.from_residual-in_err-x-in-Some-AbsKw.result c.from_residual-in_err-x-in-Some-AbsKw.ensures.1 in
+      stopped p.1 p.2 (part_err _ _ _ _ _ _ _ _ _ _ _ (reaches_same _ _) (factor_abs _ _ _ _ _ here) (c.in_err-x-in-Some-AbsKw.ensures.value t n text' (le_trans c.in-Some-AbsKw.ensures.left enough)));
+}
 
-pub other_factor-returns-in_ok-bound-in-Some-RndKw-clause-value : goal.other_factor-returns-in_ok-bound-in-Some-RndKw-clause-value
-other_factor-returns-in_ok-bound-in-Some-RndKw-clause-value g m c = λ t n same enough.
-    let here : word_at Functions t c.args.cursor.now.place ≡ Some (RndKw, c.take_function.new.cursor.place) = at_text (λ u. word_at Functions u c.args.cursor.now.place) same (c.in-Some-RndKw.ensures.value ∙ ap (λ w. Some (w, c.take_function.new.cursor.place)) c.in-Some-RndKw.field-0-is) in
-    let left' = c.in-Some-RndKw.ensures.left in
-    let text' : c.take_function.new.cursor.text ≡ t = c.in-Some-RndKw.ensures.text ∙ same in
-    let eb = to_z-of_z w16 c.in_ok-bound-in-Some-RndKw.bound (search rules) in
-    runs_then _ _ _ _ _ _ _ _ (part_ok _ _ _ _ _ _ _ _ _ _ (reaches_same _ _) (factor_rnd _ _ _ _ _ here) (c.in_ok-bound-in-Some-RndKw.ensures.value t n text' (omega arith))) (rw (eb, c.place.ensures) at c.ask.ensures)
+pub other_factor-returns-in_ok-bound-in-Some-RndKw : goal.other_factor-returns-in_ok-bound-in-Some-RndKw
+other_factor-returns-in_ok-bound-in-Some-RndKw g m c = record {
+  text = c.paren.ensures.text ∙ c.take_function.ensures.text;
+  left = le_trans c.paren.ensures.left c.take_function.ensures.left;
+  value = λ t n same enough.
+      let here : word_at Functions t c.args.cursor.now.place ≡ Some (RndKw, c.take_function.new.cursor.place) = at_text (λ u. word_at Functions u c.args.cursor.now.place) same (c.in-Some-RndKw.ensures.value ∙ ap (λ w. Some (w, c.take_function.new.cursor.place)) c.in-Some-RndKw.field-0-is) in
+      let text' : c.take_function.new.cursor.text ≡ t = c.in-Some-RndKw.ensures.text ∙ same in
+      let eb = to_z-of_z w16 c.in_ok-bound-in-Some-RndKw.bound (search rules) in
+      runs_then _ _ _ _ _ _ _ _ (part_ok _ _ _ _ _ _ _ _ _ _ (reaches_same _ _) (factor_rnd _ _ _ _ _ here) (c.in_ok-bound-in-Some-RndKw.ensures.value t n text' (le_trans c.in-Some-RndKw.ensures.left enough))) (rw (eb, c.place.ensures) at c.ask.ensures);
+}
 
-pub other_factor-returns-in_ok-x-in-Some-AbsKw-clause-value : goal.other_factor-returns-in_ok-x-in-Some-AbsKw-clause-value
-other_factor-returns-in_ok-x-in-Some-AbsKw-clause-value g m c = λ t n same enough.
-    let here : word_at Functions t c.args.cursor.now.place ≡ Some (AbsKw, c.take_function.new.cursor.place) = at_text (λ u. word_at Functions u c.args.cursor.now.place) same (c.in-Some-AbsKw.ensures.value ∙ ap (λ w. Some (w, c.take_function.new.cursor.place)) c.in-Some-AbsKw.field-0-is) in
-    let left' = c.in-Some-AbsKw.ensures.left in
-    let text' : c.take_function.new.cursor.text ≡ t = c.in-Some-AbsKw.ensures.text ∙ same in
-    let ex = to_z-of_z w16 c.in_ok-x-in-Some-AbsKw.x (search rules) in
-    operated _ _ _ _ _ _ _ _ _ _ _ _ _ (reaches_same _ _) (factor_abs _ _ _ _ _ here) (c.in_ok-x-in-Some-AbsKw.ensures.value t n text' (omega arith)) (c.absolute.ensures ∙ ap absolute_value ex) c.place-in-Some-AbsKw.ensures c.at_mark.ensures
+pub other_factor-returns-in_ok-x-in-Some-AbsKw : goal.other_factor-returns-in_ok-x-in-Some-AbsKw
+other_factor-returns-in_ok-x-in-Some-AbsKw g m c = record {
+  text = c.paren-in-Some-AbsKw.ensures.text ∙ c.take_function.ensures.text;
+  left = le_trans c.paren-in-Some-AbsKw.ensures.left c.take_function.ensures.left;
+  value = λ t n same enough.
+      let here : word_at Functions t c.args.cursor.now.place ≡ Some (AbsKw, c.take_function.new.cursor.place) = at_text (λ u. word_at Functions u c.args.cursor.now.place) same (c.in-Some-AbsKw.ensures.value ∙ ap (λ w. Some (w, c.take_function.new.cursor.place)) c.in-Some-AbsKw.field-0-is) in
+      let text' : c.take_function.new.cursor.text ≡ t = c.in-Some-AbsKw.ensures.text ∙ same in
+      let ex = to_z-of_z w16 c.in_ok-x-in-Some-AbsKw.x (search rules) in
+      operated _ _ _ _ _ _ _ _ _ _ _ _ _ (reaches_same _ _) (factor_abs _ _ _ _ _ here) (c.in_ok-x-in-Some-AbsKw.ensures.value t n text' (le_trans c.in-Some-AbsKw.ensures.left enough)) (c.absolute.ensures ∙ ap absolute_value ex) c.place-in-Some-AbsKw.ensures c.at_mark.ensures;
+}
 
-pub other_factor-returns-in-Some-SizeKw-clause-value : goal.other_factor-returns-in-Some-SizeKw-clause-value
-other_factor-returns-in-Some-SizeKw-clause-value g m c = λ t n same enough.
-    let here : word_at Functions t c.args.cursor.now.place ≡ Some (SizeKw, c.take_function.new.cursor.place) = at_text (λ u. word_at Functions u c.args.cursor.now.place) same (c.in-Some-SizeKw.ensures.value ∙ ap (λ w. Some (w, c.take_function.new.cursor.place)) c.in-Some-SizeKw.field-0-is) in
-    let left' = c.in-Some-SizeKw.ensures.left in
-    let text' : c.take_function.new.cursor.text ≡ t = c.in-Some-SizeKw.ensures.text ∙ same in
-    let es = to_z-of_z w16 c.size.result (search rules) in
-    valued (es ∙ c.size.ensures) (part_ends _ _ _ _ _ _ _ _ (reaches_same _ _) (factor_size _ _ _ _ _ here) refl)
+pub other_factor-returns-in-Some-SizeKw : goal.other_factor-returns-in-Some-SizeKw
+other_factor-returns-in-Some-SizeKw g m c = record {
+  text = c.take_function.ensures.text;
+  left = c.take_function.ensures.left;
+  value = λ t n same enough.
+      let here : word_at Functions t c.args.cursor.now.place ≡ Some (SizeKw, c.take_function.new.cursor.place) = at_text (λ u. word_at Functions u c.args.cursor.now.place) same (c.in-Some-SizeKw.ensures.value ∙ ap (λ w. Some (w, c.take_function.new.cursor.place)) c.in-Some-SizeKw.field-0-is) in
+      let left' = c.in-Some-SizeKw.ensures.left in
+      let text' : c.take_function.new.cursor.text ≡ t = c.in-Some-SizeKw.ensures.text ∙ same in
+      let es = to_z-of_z w16 c.size.result (search rules) in
+      valued (es ∙ c.size.ensures) (part_ends _ _ _ _ _ _ _ _ (reaches_same _ _) (factor_size _ _ _ _ _ here) refl);
+}
 
-pub other_factor-returns-in-None-clause-value : goal.other_factor-returns-in-None-clause-value
-other_factor-returns-in-None-clause-value g m c = λ t n same enough.
-    let none : word_at Functions t c.args.cursor.now.place ≡ None = at_text (λ u. word_at Functions u c.args.cursor.now.place) same c.in-None.ensures.value in
-    part_is _ _ _ _ _ _ _ (factor_plain _ _ _ _ none) (rw (c.in-None.ensures.absent refl) at (c.plain.ensures.value t n (c.in-None.ensures.text ∙ same) (omega (arith, c.in-None.ensures.left))))
+pub other_factor-returns-in-None : goal.other_factor-returns-in-None
+other_factor-returns-in-None g m c = record {
+  text = c.plain.ensures.text ∙ c.take_function.ensures.text;
+  left = le_trans c.plain.ensures.left c.take_function.ensures.left;
+  value = λ t n same enough.
+      let none : word_at Functions t c.args.cursor.now.place ≡ None = at_text (λ u. word_at Functions u c.args.cursor.now.place) same c.in-None.ensures.value in
+      part_is _ _ _ _ _ _ _ (factor_plain _ _ _ _ none) (rw (c.in-None.ensures.absent refl) at (c.plain.ensures.value t n (c.in-None.ensures.text ∙ same) (le_trans c.in-None.ensures.left enough)));
+}
 
-pub plain-returns-in-Some-clause-value : goal.plain-returns-in-Some-clause-value
-plain-returns-in-Some-clause-value g m c = λ t n same enough.
-    let at = at_text (λ u. letter_at u c.args.cursor.now.place) same c.in-Some.ensures.value in
-    let ev = to_z-of_z w16 c.get.result (search rules) in
-    valued (ev ∙ c.get.ensures) (part_ends _ _ _ _ _ _ _ _ (reaches_same _ _) (plain_letter _ _ _ _ _ _ at) refl)
+pub plain-returns-in-Some : goal.plain-returns-in-Some
+plain-returns-in-Some g m c = record {
+  text = c.letter.ensures.text;
+  left = c.letter.ensures.left;
+  value = λ t n same enough.
+      let at = at_text (λ u. letter_at u c.args.cursor.now.place) same c.in-Some.ensures.value in
+      let ev = to_z-of_z w16 c.get.result (search rules) in
+      valued (ev ∙ c.get.ensures) (part_ends _ _ _ _ _ _ _ _ (reaches_same _ _) (plain_letter _ _ _ _ _ _ at) refl);
+}
 
-pub plain-returns-in_err-i-clause-value : goal.plain-returns-in_err-i-clause-value
-plain-returns-in_err-i-clause-value g m c = λ t n same enough.
-    let no = at_text (λ u. letter_at u c.args.cursor.now.place) same c.in_default.ensures.value in
-    let left1 = c.in_default.ensures.left in
-    let text1 : c.letter.new.self.text ≡ t = c.in_default.ensures.text ∙ same in
-    let place1 : c.letter.new.self.place ≡ c.args.cursor.now.place = c.in_default.ensures.absent refl in
-    let here = at_place (λ u i. token_at 64 u i) text1 place1 c.if-token.ensures.value in
-    let left2 = c.if-token.ensures.left in
-    let text2 : c.token.new.self.text ≡ t = c.if-token.ensures.text ∙ text1 in
-    let p = err_from_is_err_and c.from_residual.result c.from_residual.ensures.1 in
-    stopped p.1 p.2 (part_err _ _ _ _ _ _ _ _ _ _ _ (reaches_same _ _) (plain_element _ _ _ _ _ no here) (c.in_err-i.ensures.value t n text2 (omega arith)))
+pub plain-returns-in_err-i : goal.plain-returns-in_err-i
+plain-returns-in_err-i g m c = record {
+  text = c.paren.ensures.text ∙ c.token.ensures.text ∙ c.letter.ensures.text;
+  left = le_trans c.paren.ensures.left (le_trans c.token.ensures.left c.letter.ensures.left);
+  value = λ t n same enough.
+      let no = at_text (λ u. letter_at u c.args.cursor.now.place) same c.in_default.ensures.value in
+      let text1 : c.letter.new.self.text ≡ t = c.in_default.ensures.text ∙ same in
+      let place1 : c.letter.new.self.place ≡ c.args.cursor.now.place = c.in_default.ensures.absent refl in
+      let here = at_place (λ u i. token_at 64 u i) text1 place1 c.if-token.ensures.value in
+      let text2 : c.token.new.self.text ≡ t = c.if-token.ensures.text ∙ text1 in
+      let p = err_from_is_err_and c.from_residual.result c.from_residual.ensures.1 in
+      stopped p.1 p.2 (part_err _ _ _ _ _ _ _ _ _ _ _ (reaches_same _ _) (plain_element _ _ _ _ _ no here) (c.in_err-i.ensures.value t n text2 (le_trans c.if-token.ensures.left (le_trans c.in_default.ensures.left enough))));
+}
 
-pub plain-returns-then-token-clause-value : goal.plain-returns-then-token-clause-value
-plain-returns-then-token-clause-value g m c = λ t n same enough.
-    let no = at_text (λ u. letter_at u c.args.cursor.now.place) same c.in_default.ensures.value in
-    let left1 = c.in_default.ensures.left in
-    let text1 : c.letter.new.self.text ≡ t = c.in_default.ensures.text ∙ same in
-    let place1 : c.letter.new.self.place ≡ c.args.cursor.now.place = c.in_default.ensures.absent refl in
-    let here = at_place (λ u i. token_at 64 u i) text1 place1 c.if-token.ensures.value in
-    let left2 = c.if-token.ensures.left in
-    let text2 : c.token.new.self.text ≡ t = c.if-token.ensures.text ∙ text1 in
-    let ei = to_z-of_z w16 c.in_ok-i.i (search rules) in
-    operated _ _ _ _ _ _ _ _ _ _ _ _ _ (reaches_same _ _) (plain_element _ _ _ _ _ no here) (c.in_ok-i.ensures.value t n text2 (omega arith)) (c.element.ensures ∙ ap (element_of c.args.store.now) ei) c.place.ensures c.at_mark.ensures
+pub plain-returns-then-token : goal.plain-returns-then-token
+plain-returns-then-token g m c = record {
+  text = c.paren.ensures.text ∙ c.token.ensures.text ∙ c.letter.ensures.text;
+  left = le_trans c.paren.ensures.left (le_trans c.token.ensures.left c.letter.ensures.left);
+  value = λ t n same enough.
+      let no = at_text (λ u. letter_at u c.args.cursor.now.place) same c.in_default.ensures.value in
+      let text1 : c.letter.new.self.text ≡ t = c.in_default.ensures.text ∙ same in
+      let place1 : c.letter.new.self.place ≡ c.args.cursor.now.place = c.in_default.ensures.absent refl in
+      let here = at_place (λ u i. token_at 64 u i) text1 place1 c.if-token.ensures.value in
+      let text2 : c.token.new.self.text ≡ t = c.if-token.ensures.text ∙ text1 in
+      let ei = to_z-of_z w16 c.in_ok-i.i (search rules) in
+      operated _ _ _ _ _ _ _ _ _ _ _ _ _ (reaches_same _ _) (plain_element _ _ _ _ _ no here) (c.in_ok-i.ensures.value t n text2 (le_trans c.if-token.ensures.left (le_trans c.in_default.ensures.left enough))) (c.element.ensures ∙ ap (element_of c.args.store.now) ei) c.place.ensures c.at_mark.ensures;
+}
 
-pub plain-returns-clause-value : goal.plain-returns-clause-value
-plain-returns-clause-value g m c = λ t n same enough.
-    let no = at_text (λ u. letter_at u c.args.cursor.now.place) same c.in_default.ensures.value in
-    let left1 = c.in_default.ensures.left in
-    let text1 : c.letter.new.self.text ≡ t = c.in_default.ensures.text ∙ same in
-    let place1 : c.letter.new.self.place ≡ c.args.cursor.now.place = c.in_default.ensures.absent refl in
-    let none = at_place (λ u i. token_at 64 u i) text1 place1 c.if-token.ensures.value in
-    let left2 = c.if-token.ensures.left in
-    let text2 : c.token.new.self.text ≡ t = c.if-token.ensures.text ∙ text1 in
-    let place2 : c.token.new.self.place ≡ c.args.cursor.now.place = c.if-token.ensures.absent refl ∙ place1 in
-    let absent = at_text (λ u. number_at u c.args.cursor.now.place) same c.requires in
-    part_is _ _ _ _ _ _ _ (plain_paren _ _ _ _ _ no none absent) (rw place2 at (c.paren-2.ensures.value t n text2 (omega arith)))
+pub plain-returns : goal.plain-returns
+plain-returns g m c = record {
+  text = c.paren-2.ensures.text ∙ c.token.ensures.text ∙ c.letter.ensures.text;
+  left = le_trans c.paren-2.ensures.left (le_trans c.token.ensures.left c.letter.ensures.left);
+  value = λ t n same enough.
+      let no = at_text (λ u. letter_at u c.args.cursor.now.place) same c.in_default.ensures.value in
+      let text1 : c.letter.new.self.text ≡ t = c.in_default.ensures.text ∙ same in
+      let place1 : c.letter.new.self.place ≡ c.args.cursor.now.place = c.in_default.ensures.absent refl in
+      let none = at_place (λ u i. token_at 64 u i) text1 place1 c.if-token.ensures.value in
+      let text2 : c.token.new.self.text ≡ t = c.if-token.ensures.text ∙ text1 in
+      let place2 : c.token.new.self.place ≡ c.args.cursor.now.place = c.if-token.ensures.absent refl ∙ place1 in
+      let absent = at_text (λ u. number_at u c.args.cursor.now.place) same c.requires in
+      part_is _ _ _ _ _ _ _ (plain_paren _ _ _ _ _ no none absent) (rw place2 at (c.paren-2.ensures.value t n text2 (le_trans c.if-token.ensures.left (le_trans c.in_default.ensures.left enough))));
+}

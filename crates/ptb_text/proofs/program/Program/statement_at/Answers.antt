@@ -1,5 +1,6 @@
 -- This file answers what is left to prove of `Program::statement_at`.
-use Rattle.std.proofs.Common.{arith}
+use Rattle.std.proofs.Common.{[], Some, ap, ◌∙◌, arith}
+use Rattle.std.proofs.lemmas.Option.{slice_get-get_or}
 use Rattle.ptb_text.proofs.Pool.{IsEntry}
 use Rattle.ptb_text.proofs.Sound.{StatementFacts, StatementFacts_at}
 use Rattle.ptb_text.specs.Program.{text_in}
@@ -28,3 +29,9 @@ returns-clause-number c = (facts (goal.at.returns-clause-number c).After-index).
 
 pub returns-clause-text : goal.returns-clause-text
 returns-clause-text c = rw (c.deref.ensures.value, c.from.ensures, c.end.ensures) (facts (goal.at.returns-clause-text c).After-index).text.short
+
+pub returns-clause-line : goal.returns-clause-line
+returns-clause-line c =
+    let p = c.args.self.now in
+    let line = line_read c.self.inside p c.self.view_is c.args.at c.index.result.now c.requires c.index.ensures in
+    rw (c.deref.ensures.value, c.from.ensures, c.end.ensures) (slice_get-get_or p.lines c.args.at (0, []) c.requires ∙ ap Some line)
