@@ -4,8 +4,8 @@ use Rattle.ptb_words.specs.declared.word.Word.{Word}
 use Rattle.ptb_words.specs.declared.word.Word.TheVariants as words
 use Rattle.ptb_text.specs.Statements.{Statements}
 use Rattle.ptb_words.specs.Words.{IsCommand}
-use Rattle.ptb_expr.specs.declared.pause.Pause.{Pause}
-use Rattle.ptb_expr.specs.Choices.{Choices}
+use Rattle.ptb_answers.specs.declared.pause.Pause.{Pause}
+use Rattle.ptb_answers.specs.Choices.{Choices}
 use Rattle.ptb_devices.specs.declared.fault.ReadFault.{ReadFault}
 use Rattle.ptb_command.specs.declared.location.Location.{Location}
 use Rattle.ptb_command.specs.declared.stop.Stop.{Stop}

@@ -3,13 +3,13 @@ use Rattle.std.proofs.Common.{◌≡◌, ℕ, List, [], ◌∷◌, ◌++◌, len
 use Rattle.std.specs.Prelude.{IsTrue}
 use Rattle.std.specs.Io.KnownBytes.{Appends}
 use Rattle.ptb_text.specs.Device.{HasFailed}
-use Rattle.ptb_expr.specs.Outcome.{Answers}
-use Rattle.ptb_expr.specs.Choices.{Choices, with_answers, with_bounds}
+use Rattle.ptb_answers.specs.Outcome.{Answers}
+use Rattle.ptb_answers.specs.Choices.{Choices, with_answers, with_bounds}
 use Rattle.ptb_command.specs.declared.stop.DeviceError.{DeviceError}
 use Rattle.ptb_command.specs.declared.stop.DeviceError.TheVariants as errors
 use Rattle.ptb_devices.specs.declared.fault.ReadFault.TheVariants as faults
 use Rattle.ptb_command.specs.Devices.{ScreenState, Devices, Exchange, no_exchange, both_exchanges, Shows, Exchanges, MayFollow, Refusal, Unanswered, Unread, HasNoMemory, IsUnread, HasBroken}
-use Rattle.ptb_expr.specs.declared.pause.Pause.TheVariants as pauses
+use Rattle.ptb_answers.specs.declared.pause.Pause.TheVariants as pauses
 
 -- ---- choices
 

@@ -8,11 +8,11 @@ use Rattle.std.proofs.Math.Path.{fun_ext}
 use Rattle.ptb_expr.specs.declared.fault.Fault.{Fault}
 use Rattle.ptb_expr.specs.declared.fault.Stop.{Stop as NoValue}
 use Rattle.ptb_expr.specs.declared.fault.Stop.TheVariants as values
-use Rattle.ptb_expr.specs.declared.pause.Pause.{Pause}
+use Rattle.ptb_answers.specs.declared.pause.Pause.{Pause}
 use Rattle.ptb_expr.specs.declared.store.Target.{Target}
-use Rattle.ptb_expr.specs.Choices.{Choices}
+use Rattle.ptb_answers.specs.Choices.{Choices}
 use Rattle.ptb_expr.specs.Evaluate.{WorkComes}
-use Rattle.ptb_expr.specs.Outcome.{Answers, Outcome, Done, Asks, Out, go_on, map_outcome, failure, answer}
+use Rattle.ptb_answers.specs.Outcome.{Answers, Outcome, Done, Asks, Out, go_on, map_outcome, failure, answer}
 use Rattle.ptb_expr.specs.Reading.{item_of, expression, variable_tree}
 use Rattle.ptb_expr.specs.Store.{Cells}
 use Rattle.ptb_expr.specs.Tree.{Tree}

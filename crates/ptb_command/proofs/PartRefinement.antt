@@ -1,8 +1,8 @@
 -- This file proves how moves are put together.
 use Rattle.std.proofs.Common.{◌≡◌, ℕ, Bool, List, [], ◌∷◌, ◌++◌, ℤ, refl, sym, ap, subst, ◌∙◌, append_assoc, append-nil}
 use Rattle.std.proofs.Math.Path.{fun_ext}
-use Rattle.ptb_expr.specs.Outcome.{Answers, Outcome, Asks, go_on}
-use Rattle.ptb_expr.specs.Choices.{Asked}
+use Rattle.ptb_answers.specs.Outcome.{Answers, Outcome, Asks, go_on}
+use Rattle.ptb_answers.specs.Choices.{Asked}
 use Rattle.ptb_expr.specs.Store.{Cells}
 use Rattle.ptb_command.specs.State.{State}
 use Rattle.ptb_command.specs.Actions.{Action, on_progress, and_then}

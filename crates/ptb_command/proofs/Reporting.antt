@@ -4,7 +4,7 @@ use Rattle.std.specs.Prelude.{if◌then◌else◌, take, drop, codes, decimal}
 use Rattle.std.specs.Result.{IsErrAnd}
 use Rattle.std.proofs.lemmas.Result.{err_from_is_err_and}
 use Rattle.ptb_expr.specs.declared.fault.Fault.{Fault}
-use Rattle.ptb_expr.specs.Outcome.{Answers}
+use Rattle.ptb_answers.specs.Outcome.{Answers}
 use Rattle.ptb_devices.specs.declared.fault.ScreenFault.{ScreenFault}
 use Rattle.ptb_command.specs.Actions.{and_then, goes_on, show}
 use Rattle.ptb_command.specs.Act.{newline, word_of, report_bytes}

@@ -13,7 +13,7 @@ use Rattle.ptb_expr.specs.declared.fault.Fault.{Fault}
 use Rattle.ptb_expr.specs.declared.fault.FaultKind.{FaultKind}
 use Rattle.ptb_expr.specs.declared.fault.FaultKind.TheVariants as kinds
 use Rattle.ptb_expr.specs.declared.store.Target.{Target}
-use Rattle.ptb_expr.specs.Outcome.{Answers, Outcome, map_outcome}
+use Rattle.ptb_answers.specs.Outcome.{Answers, Outcome, map_outcome}
 use Rattle.ptb_expr.specs.Store.{value_at, with_value}
 use Rattle.ptb_expr.specs.Tree.{Tree}
 use Rattle.ptb_expr.specs.Reading.{Reading, Whole, Malformed, item_of, expression}

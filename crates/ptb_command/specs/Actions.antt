@@ -5,7 +5,7 @@
 --     attempt m, work_action m  something is worked out; its fault is a result, or halts
 use Rattle.std.specs.Prelude.{ℕ, List, ◌++◌, Result, Ok, Err}
 use Rattle.ptb_expr.specs.declared.fault.Fault.{Fault}
-use Rattle.ptb_expr.specs.Outcome.{Answers, Outcome, Done, go_on, map_outcome}
+use Rattle.ptb_answers.specs.Outcome.{Answers, Outcome, Done, go_on, map_outcome}
 use Rattle.ptb_expr.specs.Store.{Cells}
 use Rattle.ptb_expr.specs.Value.{Work}
 use Rattle.ptb_command.specs.declared.ending.Ending.{Ending}

@@ -3,7 +3,7 @@
 --     Acts refused p old new o n f r   f comes to the result r
 use Rattle.std.specs.Prelude.{◌≡◌, ℕ, List, ◌++◌, Result, Ok, Err}
 use Rattle.ptb_text.specs.Statements.{Statements}
-use Rattle.ptb_expr.specs.Outcome.{Answers, Outcome}
+use Rattle.ptb_answers.specs.Outcome.{Answers, Outcome}
 use Rattle.ptb_command.specs.declared.stop.Stop.{Stop}
 use Rattle.ptb_command.specs.State.{State}
 use Rattle.ptb_command.specs.Actions.{Action, goes_on}

@@ -10,10 +10,10 @@ use Rattle.std.specs.Prelude.{◌≡◌, ◌≤◌, ◌+◌, ◌⊎◌, ℕ, Boo
 use Rattle.std.specs.Borrow.{GName}
 use Rattle.std.specs.Io.KnownBytes.{Appends}
 use Rattle.ptb_text.specs.Device.{HasFailed}
-use Rattle.ptb_expr.specs.declared.pause.Pause.{Pause}
-use Rattle.ptb_expr.specs.declared.pause.Pause.TheVariants as pauses
-use Rattle.ptb_expr.specs.Outcome.{Answers}
-use Rattle.ptb_expr.specs.Choices.{Choices, with_answers}
+use Rattle.ptb_answers.specs.declared.pause.Pause.{Pause}
+use Rattle.ptb_answers.specs.declared.pause.Pause.TheVariants as pauses
+use Rattle.ptb_answers.specs.Outcome.{Answers}
+use Rattle.ptb_answers.specs.Choices.{Choices, with_answers}
 use Rattle.ptb_devices.specs.declared.fault.ReadFault.{ReadFault}
 use Rattle.ptb_devices.specs.declared.fault.ReadFault.TheVariants as faults
 use Rattle.ptb_devices.specs.declared.screen.Screen.{Ghosts}

@@ -6,7 +6,7 @@
 --     EndChange S T                    what a command may change once its parts are done
 --     CommandChange S T                what a whole command may change
 use Rattle.std.specs.Prelude.{◌≡◌, ℕ, ◌≤◌, List, ◌++◌}
-use Rattle.ptb_expr.specs.Outcome.{Outcome, Done, Asks, Out}
+use Rattle.ptb_answers.specs.Outcome.{Outcome, Done, Asks, Out}
 use Rattle.ptb_command.specs.State.{State, nesting, nesting_limit}
 use Rattle.ptb_command.specs.Actions.{Progress, Goes, Halts}
 use Rattle.ptb_command.specs.Act.{StepResult, Next, Over}

@@ -5,7 +5,7 @@
 --     SameBorrows old new                             the borrows are the same, and the bound
 --     SameDevices old new                             so is the source, which gave nothing
 use Rattle.std.specs.Prelude.{◌≡◌, ℕ, List}
-use Rattle.ptb_expr.specs.Choices.{Choices}
+use Rattle.ptb_answers.specs.Choices.{Choices}
 use Rattle.ptb_expr.specs.Store.{Cells}
 use Rattle.ptb_command.specs.declared.io.Io.{Io}
 use Rattle.ptb_devices.specs.declared.screen.Screen.{Ghosts}

@@ -11,10 +11,10 @@
 use Rattle.std.specs.Prelude.{◌≡◌, ◌≤◌, ◌⊎◌, ℕ, Bool, true, false, List, [], ◌++◌, Option, Some, None, Result, Ok, Err, ℤ, pos, ◌≤ℤ◌}
 use Rattle.ptb_expr.specs.declared.fault.Stop.{Stop as NoValue}
 use Rattle.ptb_expr.specs.declared.fault.Stop.TheVariants as values
-use Rattle.ptb_expr.specs.declared.pause.Pause.{Pause}
-use Rattle.ptb_expr.specs.declared.pause.Pause.TheVariants as pauses
-use Rattle.ptb_expr.specs.Outcome.{Answers, Outcome, Done, Asks}
-use Rattle.ptb_expr.specs.Choices.{SaysOut}
+use Rattle.ptb_answers.specs.declared.pause.Pause.{Pause}
+use Rattle.ptb_answers.specs.declared.pause.Pause.TheVariants as pauses
+use Rattle.ptb_answers.specs.Outcome.{Answers, Outcome, Done, Asks}
+use Rattle.ptb_answers.specs.Choices.{SaysOut}
 use Rattle.ptb_command.specs.declared.ending.Ending.TheVariants as endings
 use Rattle.ptb_devices.specs.declared.fault.ReadFault.{ReadFault}
 use Rattle.ptb_devices.specs.declared.fault.ReadFault.TheVariants as reads

@@ -7,8 +7,8 @@
 --     once_shown due S         such a state once what is due is shown
 --     RefinesPart o n f g            from trace o to trace n, what f does is what is left to do for g
 use Rattle.std.specs.Prelude.{◌≡◌, ◌==◌, ◌-◌, ℕ, Bool, if◌then◌else◌, List, [], ◌∷◌, ◌++◌, length, slice_index, ℤ}
-use Rattle.ptb_expr.specs.Outcome.{Answers, Outcome}
-use Rattle.ptb_expr.specs.Choices.{Asked}
+use Rattle.ptb_answers.specs.Outcome.{Answers, Outcome}
+use Rattle.ptb_answers.specs.Choices.{Asked}
 use Rattle.ptb_expr.specs.Store.{Cells}
 use Rattle.ptb_command.specs.declared.stop.Stop.{Stop}
 use Rattle.ptb_command.specs.declared.stop.Stop.TheVariants as stops

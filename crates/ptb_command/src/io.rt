@@ -12,8 +12,9 @@ ghost use Rattle.ptb_command.specs.Stops.{Comes};
 use crate::gathering::Gathering;
 use crate::reads::value;
 use crate::stop::Stop;
+use ptb_answers::Chooser;
 use ptb_devices::{LineSource, Screen};
-use ptb_expr::{Chooser, Store};
+use ptb_expr::Store;
 use ptb_words::Cursor;
 
 /// What a command asks, shows and reads.

@@ -15,7 +15,8 @@ ghost use Rattle.ptb_command.specs.Traces.{Trace, trace, with_due};
 ghost use Rattle.ptb_command.specs.Stops.{Comes};
 
 use crate::stop::{Stop, fault};
-use ptb_expr::{Chooser, FaultKind, Store, Target};
+use ptb_answers::Chooser;
+use ptb_expr::{FaultKind, Store, Target};
 use ptb_words::{Cursor, Quoted, Table, Word, finding_laws};
 
 /// Whether a command ends at the cursor: the text is over, or `;` stands next.

@@ -4,8 +4,9 @@ ghost use Rattle.std.specs.Prelude.{◌≡◌};
 ghost use Rattle.ptb_expr.specs.Value.{fault};
 ghost use Rattle.ptb_command.specs.Stops.{still_shows};
 
+use ptb_answers::Pause;
 use ptb_devices::{ReadFault, ScreenFault};
-use ptb_expr::{Fault, FaultKind, Pause};
+use ptb_expr::{Fault, FaultKind};
 
 /// Why a device doesn't do what it is asked for.
 #[derive(Clone, Copy, Debug, PartialEq, Eq)]

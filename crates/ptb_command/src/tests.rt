@@ -5,8 +5,9 @@ ghost use Rattle.ptb_words.specs.Words.{is_letter};
 
 use super::*;
 use crate::stop::DeviceError;
+use ptb_answers::{Listed, Pause};
 use ptb_devices::{Line, Lines, TextScreen};
-use ptb_expr::{Listed, Pause, Store};
+use ptb_expr::Store;
 use ptb_text::{LoadFault, Program};
 use ptb_words::{Cursor, Letter, Word};
 use std::alloc::{AllocError, Global};

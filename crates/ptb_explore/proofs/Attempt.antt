@@ -4,8 +4,8 @@ use Rattle.std.specs.Prelude.{ℤ, pos}
 use Rattle.std.proofs.lemmas.Bool.{cases_lt}
 use Rattle.std.proofs.lemmas.List.{take-append-drop, length-take-le}
 use Rattle.std.proofs.Math.Seq.{take-length}
-use Rattle.ptb_expr.specs.Outcome.{Answers, Outcome, Done, Asks, Out, IsReader, is_answer, is_open, is_whole, bounds}
-use Rattle.ptb_expr.proofs.Readers.{whole_is}
+use Rattle.ptb_answers.specs.Outcome.{Answers, Outcome, Done, Asks, Out, IsReader, is_answer, is_open, is_whole, bounds}
+use Rattle.ptb_answers.proofs.Readers.{whole_is}
 use Rattle.ptb_explore.specs.RunTree.{IsRun}
 use Rattle.ptb_explore.specs.Plans.{AllOnes, EndsAt}
 use Rattle.ptb_explore.proofs.Tree.{run_apart}

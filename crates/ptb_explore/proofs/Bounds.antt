@@ -1,8 +1,8 @@
 -- This file proves laws of the bounds of answers.
 use Rattle.std.proofs.Common.{◌≡◌, List, [], ◌∷◌, ◌++◌, length, refl, ap, sym, ◌∙◌, arith, append_assoc, append-nil}
 use Rattle.std.specs.Prelude.{ℤ, Some}
-use Rattle.ptb_expr.specs.Outcome.{Answers, Outcome, bound_of, bounds, bounds_after}
-use Rattle.ptb_expr.specs.Choices.{Choices, with_bounds, Asked, Reaches}
+use Rattle.ptb_answers.specs.Outcome.{Answers, Outcome, bound_of, bounds, bounds_after}
+use Rattle.ptb_answers.specs.Choices.{Choices, with_bounds, Asked, Reaches}
 use Rattle.ptb_explore.specs.Playing.{Holds}
 
 module _ {A W : Type 0} (play : Answers → Outcome A W) where

@@ -4,7 +4,7 @@ use Rattle.std.specs.Prelude.{ℤ, pos, negsuc, ◌<ℤ◌, int_le, Contains, sl
 use Rattle.std.specs.List.{filter, flat_map, range_with_len, AllByRecursion}
 use Rattle.std.proofs.lemmas.Bool.{cases_Bool, cases_lt, and_parts, and_from, leb-true, le-leb}
 use Rattle.std.proofs.lemmas.Int.{ints}
-use Rattle.ptb_expr.specs.Outcome.{Answers, is_answer}
+use Rattle.ptb_answers.specs.Outcome.{Answers, is_answer}
 use Rattle.ptb_explore.specs.RunTree.{Before, IsRising, answers_to}
 
 -- ---- members

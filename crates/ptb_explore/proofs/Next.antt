@@ -4,7 +4,7 @@ use Rattle.std.specs.Prelude.{ℤ, pos, ◌+ℤ◌, ◌≤ℤ◌, int_le}
 use Rattle.std.proofs.lemmas.Bool.{false_from_ne_true, and_parts, and_from}
 use Rattle.std.proofs.lemmas.Int.{ints}
 use Rattle.std.specs.List.{filter}
-use Rattle.ptb_expr.specs.Outcome.{Answers, Outcome, IsReader, bound_of, is_answer}
+use Rattle.ptb_answers.specs.Outcome.{Answers, Outcome, IsReader, bound_of, is_answer}
 use Rattle.ptb_explore.specs.RunTree.{IsRun, IsRising, tree, is_before, Before, Front, Start, At, End, is_after, is_left, begins_with, runs_after, IsNextRun, IsLast}
 use Rattle.ptb_explore.specs.Plans.{AllOnes}
 use Rattle.ptb_explore.proofs.Lists.{IsIn, all_at}

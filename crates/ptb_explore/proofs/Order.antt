@@ -6,7 +6,7 @@ use Rattle.std.specs.Cmp.Lexicographic.{pointwise}
 use Rattle.std.proofs.lemmas.Bool.{cases_Bool, false_from_ne_true, or_cases, and_parts, and_from, or_left, or_right}
 use Rattle.std.proofs.lemmas.Bool.Decides.{Decides-int_eq}
 use Rattle.std.proofs.lemmas.Int.{ints, by_lt_z}
-use Rattle.ptb_expr.specs.Outcome.{Answers}
+use Rattle.ptb_answers.specs.Outcome.{Answers}
 use Rattle.ptb_explore.specs.RunTree.{is_before, Before, begins_with}
 
 -- ---- tests of numbers

@@ -5,7 +5,7 @@ use Rattle.std.proofs.lemmas.Bool.{and_from, and_parts}
 use Rattle.std.specs.Ordering.{int_eq}
 use Rattle.std.proofs.lemmas.Int.{ints}
 use Rattle.std.proofs.lemmas.List.{length-take-le}
-use Rattle.ptb_expr.specs.Outcome.{Answers, Outcome, Asks, IsReader, is_open, is_answer, bound_of, bounds, bounds_after}
+use Rattle.ptb_answers.specs.Outcome.{Answers, Outcome, Asks, IsReader, is_open, is_answer, bound_of, bounds, bounds_after}
 use Rattle.ptb_explore.specs.RunTree.{Front, Start, At, End, IsRun, IsNextRun, IsLast, Before, begins_with}
 use Rattle.ptb_explore.specs.declared.plan.Position.{Position}
 use Rattle.ptb_explore.specs.declared.plan.Position.TheVariants.{AtStart, AtRun, AtEnd}

@@ -4,11 +4,11 @@ use Rattle.std.specs.Prelude.{ℤ, Bool, ◌==◌, if◌then◌else◌}
 use Rattle.std.proofs.lemmas.Bool.{ne_eqb}
 use Rattle.std.specs.List.{flat_map}
 use Rattle.std.proofs.lemmas.List.{get_or-map}
-use Rattle.ptb_expr.specs.Outcome.{Answers}
-use Rattle.ptb_expr.specs.declared.form.Form.{Form}
-use Rattle.ptb_expr.specs.declared.form.Form.TheVariants.{One, Two}
-use Rattle.ptb_expr.specs.declared.form.Marked.{Marked}
-use Rattle.ptb_expr.specs.AnswerText.{spelling, item_text, in_form, items_in}
+use Rattle.ptb_answers.specs.Outcome.{Answers}
+use Rattle.ptb_answers.specs.declared.form.Form.{Form}
+use Rattle.ptb_answers.specs.declared.form.Form.TheVariants.{One, Two}
+use Rattle.ptb_answers.specs.declared.form.Marked.{Marked}
+use Rattle.ptb_answers.specs.AnswerText.{spelling, item_text, in_form, items_in}
 use Rattle.ptb_explore.specs.Report.{report_text}
 
 -- what stands behind the answers, in the order in which it is written

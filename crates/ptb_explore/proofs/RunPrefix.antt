@@ -2,10 +2,10 @@
 use Rattle.std.proofs.Common.{◌≡◌, ℕ, ◌+◌, ◌-◌, ◌<◌, ◌≤◌, List, [], ◌∷◌, ◌++◌, true, Option, Some, None, Result, Ok, Err, ℤ, inl, inr, refl, sym, ap, subst, ◌∙◌, arith, append_assoc, append-nil, length, drop, length-append, length-drop}
 use Rattle.std.proofs.Math.Path.{fun_ext}
 use Rattle.ptb_text.specs.Statements.{StoredProgram}
-use Rattle.ptb_expr.specs.declared.pause.Pause.TheVariants as pauses
+use Rattle.ptb_answers.specs.declared.pause.Pause.TheVariants as pauses
 use Rattle.ptb_devices.specs.Sources.{LineList, Gives}
-use Rattle.ptb_expr.specs.Outcome.{Answers, Outcome, Done, Asks, Out, go_on, map_outcome, bounds}
-use Rattle.ptb_expr.specs.Choices.{Choices, Asked, Reaches}
+use Rattle.ptb_answers.specs.Outcome.{Answers, Outcome, Done, Asks, Out, go_on, map_outcome, bounds}
+use Rattle.ptb_answers.specs.Choices.{Choices, Asked, Reaches}
 use Rattle.ptb_command.specs.declared.ending.Ending.{Ending}
 use Rattle.ptb_command.specs.declared.ending.Ending.TheVariants as endings
 use Rattle.ptb_machine.specs.declared.fault.RunFault.{RunFault}
@@ -20,7 +20,7 @@ use Rattle.ptb_command.specs.Effects.{act_state}
 use Rattle.ptb_command.specs.Representation.{Represents}
 use Rattle.ptb_command.specs.Stops.{Waits, IsDry}
 use Rattle.ptb_machine.specs.Steps.{StepsTo, goes, ends, StepComes, Steps}
-use Rattle.ptb_expr.specs.declared.rules.Rules.{Rules}
+use Rattle.ptb_answers.specs.declared.rules.Rules.{Rules}
 use Rattle.ptb_machine.specs.Questions.{most_answers}
 use Rattle.ptb_explore.specs.Laws.{TreeLaws}
 use Rattle.ptb_explore.specs.Playing.{Holds, NextIsOutside, PlayEnds, run_from, IsRunPrefix}

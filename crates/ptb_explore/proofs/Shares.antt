@@ -5,8 +5,8 @@ use Rattle.std.proofs.lemmas.Bool.{and_from}
 use Rattle.std.proofs.lemmas.Int.{ints}
 use Rattle.std.specs.List.{flat_map, AllByRecursion}
 use Rattle.std.proofs.lemmas.Grind.{flat_map-append}
-use Rattle.ptb_expr.specs.Outcome.{Answers, Outcome, Asks, IsReader, is_answer, is_open}
-use Rattle.ptb_expr.proofs.Readers.{open_is, whole_is}
+use Rattle.ptb_answers.specs.Outcome.{Answers, Outcome, Asks, IsReader, is_answer, is_open}
+use Rattle.ptb_answers.proofs.Readers.{open_is, whole_is}
 use Rattle.ptb_explore.specs.Laws.{ShareLaws}
 use Rattle.ptb_explore.specs.Listing.{text}
 use Rattle.ptb_explore.specs.RunTree.{Front, Start, IsRun, IsRising, Before, answers_to, begins_with, is_after, is_left, runs_after, tree}

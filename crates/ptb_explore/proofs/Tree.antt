@@ -3,8 +3,8 @@ use Rattle.std.proofs.Common.{◌≡◌, ℕ, zero, suc, ◌+◌, ◌≤◌, [],
 use Rattle.std.specs.Prelude.{ℤ}
 use Rattle.std.proofs.lemmas.Bool.{cases_Bool}
 use Rattle.std.specs.List.{flat_map}
-use Rattle.ptb_expr.specs.Outcome.{Answers, Outcome, Done, Asks, IsReader, is_open, is_answer}
-use Rattle.ptb_expr.proofs.Readers.{whole_is, open_is, closed_is}
+use Rattle.ptb_answers.specs.Outcome.{Answers, Outcome, Done, Asks, IsReader, is_open, is_answer}
+use Rattle.ptb_answers.proofs.Readers.{whole_is, open_is, closed_is}
 use Rattle.ptb_explore.specs.RunTree.{IsRun, IsRising, answers_to, leaves, leaves_of, tree, Before}
 use Rattle.ptb_explore.specs.Laws.{TreeLaws}
 use Rattle.ptb_explore.proofs.Lists.{IsIn, in_contained, contained_in, in_answers, answers_in, rising_answers}

@@ -3,9 +3,9 @@ use Rattle.std.proofs.Common.{◌≡◌, ℕ, zero, suc, ◌-◌, ◌≤◌, Lis
 use Rattle.std.proofs.lemmas.List.{length-take-le, take-append-drop, take-append-le}
 use Rattle.std.proofs.Math.Seq.{take-length}
 use Rattle.std.specs.Prelude.{ℤ, pos}
-use Rattle.ptb_expr.specs.declared.pause.Pause.TheVariants.{OutOfRange}
-use Rattle.ptb_expr.specs.Outcome.{Answers, Outcome, Done, Asks, IsReader, is_open, is_whole, bounds, bounds_after}
-use Rattle.ptb_expr.specs.Choices.{Choices, Pauses}
+use Rattle.ptb_answers.specs.declared.pause.Pause.TheVariants.{OutOfRange}
+use Rattle.ptb_answers.specs.Outcome.{Answers, Outcome, Done, Asks, IsReader, is_open, is_whole, bounds, bounds_after}
+use Rattle.ptb_answers.specs.Choices.{Choices, Pauses}
 use Rattle.ptb_explore.specs.declared.recorder.Recorder.{Recorder}
 use Rattle.ptb_explore.specs.RunTree.{IsRun}
 use Rattle.ptb_explore.specs.Plans.{IsFresh, EndsAt}

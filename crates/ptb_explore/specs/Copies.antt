@@ -13,10 +13,10 @@
 --     PlaysOn common old played steps new    so many steps are played after a run that goes on from what is left of the copies
 use Rattle.std.specs.Prelude.{◌≡◌, ℕ, ◌+◌, ◌-◌, ◌^◌, min, ◌<◌, ◌≤◌, List, [], ◌∷◌, ◌++◌, length, take, drop, map, false, if◌then◌else◌, ◌⊎◌, Option, Some, None, option_map, ℤ}
 use Rattle.std.specs.List.{AllByRecursion}
-use Rattle.ptb_expr.specs.declared.rules.Rules.{Rules}
+use Rattle.ptb_answers.specs.declared.rules.Rules.{Rules}
 use Rattle.ptb_text.specs.Statements.{StoredProgram}
-use Rattle.ptb_expr.specs.Outcome.{Answers, Outcome, bounds}
-use Rattle.ptb_expr.specs.Choices.{Choices}
+use Rattle.ptb_answers.specs.Outcome.{Answers, Outcome, bounds}
+use Rattle.ptb_answers.specs.Choices.{Choices}
 use Rattle.ptb_command.specs.Configuration.{Configuration}
 use Rattle.ptb_machine.specs.Play.{play}
 use Rattle.ptb_explore.specs.declared.copies.KeptCopy.{KeptCopy}

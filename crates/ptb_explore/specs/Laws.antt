@@ -4,7 +4,7 @@
 --     ShareLaws       the runs that begin with some answers are those of its shares, one behind the other
 use Rattle.std.specs.Prelude.{◌≡◌, ℕ, ◌<◌, List, [], ◌∷◌, ◌++◌, length, true, ℤ, ◌↔◌, Contains}
 use Rattle.std.specs.List.{filter, flat_map}
-use Rattle.ptb_expr.specs.Outcome.{Answers, Outcome, Asks, is_open}
+use Rattle.ptb_answers.specs.Outcome.{Answers, Outcome, Asks, is_open}
 use Rattle.ptb_explore.specs.Listing.{text}
 use Rattle.ptb_explore.specs.RunTree.{Front, Start, At, Before, IsRun, IsRising, answers_to, begins_with, is_after, is_left, runs_after, tree}
 

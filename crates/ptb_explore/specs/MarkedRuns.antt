@@ -4,9 +4,9 @@
 --     IsMarkedBeginning play list  a run begins with the answers, and each bound that is stated is that of its question
 use Rattle.std.specs.Prelude.{◌≡◌, List, [], ◌∷◌, Bool, true, false, ◌&&◌, Option, Some, None, ℤ}
 use Rattle.std.specs.Ordering.{int_eq}
-use Rattle.ptb_expr.specs.Outcome.{Answers, Outcome, bounds, is_open}
-use Rattle.ptb_expr.specs.declared.form.Marked.{Marked}
-use Rattle.ptb_expr.specs.AnswerText.{answers_of}
+use Rattle.ptb_answers.specs.Outcome.{Answers, Outcome, bounds, is_open}
+use Rattle.ptb_answers.specs.declared.form.Marked.{Marked}
+use Rattle.ptb_answers.specs.AnswerText.{answers_of}
 use Rattle.ptb_explore.specs.RunTree.{IsRun}
 
 -- where none is stated, any is right

@@ -7,7 +7,7 @@
 --     EndsAt play plan answers bounds result      the plan and then ones are a run, with these bounds and this result
 use Rattle.std.specs.Prelude.{◌≡◌, ℕ, ◌<◌, ◌≤◌, List, [], ◌∷◌, ◌++◌, length, take, true, Option, Some, None, ℤ, pos, ◌+ℤ◌, ◌<ℤ◌, ◌≤ℤ◌, slice_index_or, vec_len}
 use Rattle.std.specs.List.{AllByRecursion}
-use Rattle.ptb_expr.specs.Outcome.{Answers, Outcome, Done, is_open, bounds}
+use Rattle.ptb_answers.specs.Outcome.{Answers, Outcome, Done, is_open, bounds}
 use Rattle.ptb_explore.specs.declared.plan.Position.{Position}
 use Rattle.ptb_explore.specs.declared.plan.Position.TheVariants.{AtStart, AtRun, AtEnd}
 use Rattle.ptb_explore.specs.declared.recorder.Recorder.{Recorder}

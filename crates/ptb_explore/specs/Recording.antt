@@ -2,10 +2,10 @@
 --     choices_of r                 a recorder as a chooser: its plan, what it gave, and with which bounds
 --     RefusedByPlan c z n          it pauses at a question with bound n
 use Rattle.std.specs.Prelude.{◌≡◌, List, ◌∷◌, ◌++◌, length, take, false, Some, ℤ}
-use Rattle.ptb_expr.specs.declared.pause.Pause.{Pause}
-use Rattle.ptb_expr.specs.declared.pause.Pause.TheVariants.{Ended, OutOfRange, Memory}
-use Rattle.ptb_expr.specs.Outcome.{is_answer}
-use Rattle.ptb_expr.specs.Choices.{Choices}
+use Rattle.ptb_answers.specs.declared.pause.Pause.{Pause}
+use Rattle.ptb_answers.specs.declared.pause.Pause.TheVariants.{Ended, OutOfRange, Memory}
+use Rattle.ptb_answers.specs.Outcome.{is_answer}
+use Rattle.ptb_answers.specs.Choices.{Choices}
 use Rattle.ptb_explore.specs.declared.recorder.Recorder.{Recorder}
 
 abbrev pub choices_of : Recorder → Choices

@@ -6,13 +6,13 @@
 --     Gathers old new bytes pending           a beginning of the bytes was taken, and the others are pending
 use Rattle.std.specs.Prelude.{◌≡◌, ℕ, List, [], ◌++◌, length, codes, decimal, Option}
 use Rattle.std.specs.Io.KnownBytes.{Appends}
-use Rattle.ptb_expr.specs.Outcome.{Answers, Outcome, Done, Asks, Out, bounds}
+use Rattle.ptb_answers.specs.Outcome.{Answers, Outcome, Done, Asks, Out, bounds}
 use Rattle.ptb_command.specs.declared.ending.Ending.{Ending}
 use Rattle.ptb_command.specs.declared.ending.Ending.TheVariants as endings
 use Rattle.ptb_machine.specs.Play.{Finish}
-use Rattle.ptb_expr.specs.declared.form.Form.{Form}
-use Rattle.ptb_expr.specs.declared.form.Marked.{Marked}
-use Rattle.ptb_expr.specs.AnswerText.{spelling, items_in}
+use Rattle.ptb_answers.specs.declared.form.Form.{Form}
+use Rattle.ptb_answers.specs.declared.form.Marked.{Marked}
+use Rattle.ptb_answers.specs.AnswerText.{spelling, items_in}
 
 -- ---- text
 

@@ -12,7 +12,7 @@
 use Rattle.std.specs.Prelude.{◌≡◌, ℕ, zero, suc, List, [], ◌∷◌, ◌++◌, take, map, Bool, true, false, ◌&&◌, ◌||◌, Option, Some, None, ℤ, pos, negsuc, int_lt}
 use Rattle.std.specs.Ordering.{int_eq}
 use Rattle.std.specs.List.{filter, flat_map, range_with_len, AllByRecursion}
-use Rattle.ptb_expr.specs.Outcome.{Answers, Outcome, Done, Asks, Out, is_whole}
+use Rattle.ptb_answers.specs.Outcome.{Answers, Outcome, Done, Asks, Out, is_whole}
 
 -- ---- runs
 

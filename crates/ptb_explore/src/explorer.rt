@@ -2,10 +2,10 @@
 
 ghost use Rattle.std.specs.Prelude.{◌≡◌, ◌≤◌, ◌≤ℤ◌, pos, true, false, Ok, None, [], length, take, drop};
 ghost use Rattle.std.specs.Prelude.{IfOk, OnOk, OnErr, IfSome, IfNone, IsErrOf, IsTrue};
-ghost use Rattle.ptb_expr.specs.Outcome.{Answers, is_open, bounds as bounds_of};
+ghost use Rattle.ptb_answers.specs.Outcome.{Answers, is_open, bounds as bounds_of};
 ghost use Rattle.ptb_machine.specs.Play.{play};
 ghost use Rattle.ptb_machine.specs.Questions.{most_answers};
-ghost use Rattle.ptb_expr.specs.AnswerText.{answers_of};
+ghost use Rattle.ptb_answers.specs.AnswerText.{answers_of};
 ghost use Rattle.ptb_explore.specs.Copies.{Agrees, AreBeginnings, AreCopies, PlaysOn, WentBack};
 ghost use Rattle.ptb_explore.specs.Copies.{kept_runs, last_steps};
 ghost use Rattle.ptb_explore.specs.Exploring.{play_of, most_of, finish_of, Reports, NextReports};
@@ -24,7 +24,7 @@ use crate::plan::{Position, plan_next};
 use crate::playing::{play_from_start, play_on};
 use crate::recorder::Recorder;
 use crate::report::Report;
-use ptb_expr::Marked;
+use ptb_answers::Marked;
 use ptb_machine::{Line, Lines, Machine, Player, Rules, TextScreen, run_laws};
 use ptb_text::Program;
 use std::alloc::{AllocError, Global};

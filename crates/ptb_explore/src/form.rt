@@ -1,11 +1,11 @@
 // This file compares lists of answers, which may have bounds, with a run, and writes an answer as a form has it.
 
 ghost use Rattle.std.specs.Prelude.{◌≡◌, ◌≤◌, length, IfOk};
-ghost use Rattle.ptb_expr.specs.AnswerText.{answers_of, in_form};
+ghost use Rattle.ptb_answers.specs.AnswerText.{answers_of, in_form};
 ghost use Rattle.ptb_explore.specs.MarkedRuns.{states_bounds};
 ghost use Rattle.ptb_explore.specs.RunTree.{begins_with};
 
-use ptb_expr::{Form, Marked};
+use ptb_answers::{Form, Marked};
 use std::alloc::{AllocError, Global};
 
 /// An answer as a form has it.

@@ -2,8 +2,8 @@
 
 ghost use Rattle.std.specs.Prelude.{ℕ, List};
 ghost use Rattle.ptb_text.specs.Statements.{StoredProgram};
-ghost use Rattle.ptb_expr.specs.Outcome.{Answers, Outcome, IsReader};
-ghost use Rattle.ptb_expr.specs.declared.rules.Rules.{Rules};
+ghost use Rattle.ptb_answers.specs.Outcome.{Answers, Outcome, IsReader};
+ghost use Rattle.ptb_answers.specs.declared.rules.Rules.{Rules};
 ghost use Rattle.ptb_machine.specs.Play.{play};
 ghost use Rattle.ptb_machine.specs.Questions.{most_answers};
 ghost use Rattle.ptb_explore.specs.Laws.{ListingLaws, ShareLaws, TreeLaws};

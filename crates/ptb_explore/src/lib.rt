@@ -1,6 +1,6 @@
 //! All runs of a Tiny BASIC program, in the order of their answers, and their reports.
 //!
-//! It stands on `ptb_machine`, on definitions of the two crates below that, on `ptb_expr`,
+//! It stands on `ptb_machine`, on definitions of the two crates below that, on `ptb_answers`,
 //! `ptb_text`, `arrayvec`, `itoa` and `thiserror`. The crate above may rely on `Explorer::start`
 //! `after` and `after_marked` (where a listing begins, or that the answers are no run), on `under`
 //! and `after_under` (the same for the runs that begin with a list of answers), on `write_all_runs` (the
@@ -22,5 +22,5 @@ pub use explorer::Explorer;
 pub use fault::{AfterFault, ExploreFault, UnderFault};
 pub use laws::{listing_laws, program_laws, share_laws, tree_laws};
 pub use listing::write_all_runs;
-pub use ptb_expr::{Form, Marked};
+pub use ptb_answers::{Form, Marked};
 pub use report::Report;

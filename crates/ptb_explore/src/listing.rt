@@ -10,7 +10,7 @@ ghost use Rattle.ptb_explore.specs.RunTree.{runs_left};
 use crate::explorer::Explorer;
 use crate::fault::{ExploreFault, NextFault};
 use crate::report::{word, write_report};
-use ptb_expr::Form;
+use ptb_answers::Form;
 use ptb_machine::run_laws;
 use ptb_text::Write;
 

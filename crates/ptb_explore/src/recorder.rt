@@ -3,7 +3,7 @@
 ghost use Rattle.std.specs.Prelude.{◌≡◌, ◌+◌, ◌-◌, ◌<◌, ◌≤◌, pos, OnOk, OnErr};
 ghost use Rattle.std.specs.Prelude.{[], ◌∷◌, ◌++◌, length, take, replicate, vec_len};
 
-use ptb_expr::{Chooser, Pause};
+use ptb_answers::{Chooser, Pause};
 use std::alloc::{AllocError, Global};
 use std::mem;
 

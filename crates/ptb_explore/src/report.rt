@@ -4,13 +4,13 @@ ghost use Rattle.std.specs.Prelude.{◌≡◌, ◌==◌, [], ◌++◌, length, O
 ghost use Rattle.std.specs.Io.KnownBytes.{Appends};
 ghost use Rattle.std.specs.List.{flat_map};
 ghost use Rattle.ptb_text.specs.Device.{TakesSome, HasFailed};
-ghost use Rattle.ptb_expr.specs.AnswerText.{item_text, items_in, spelling};
+ghost use Rattle.ptb_answers.specs.AnswerText.{item_text, items_in, spelling};
 ghost use Rattle.ptb_explore.specs.Report.{report_text, word_of, Gathers};
 
 use crate::form::item;
 use arrayvec::ArrayVec;
 use itoa::Buffer;
-use ptb_expr::{Form, Marked};
+use ptb_answers::{Form, Marked};
 use ptb_machine::Ending;
 use ptb_text::{DeviceFault, Write};
 use std::alloc::Global;

@@ -6,11 +6,9 @@ pub mod Evaluation
 pub mod Marks
 pub mod Parts
 pub mod Reaching
-pub mod Seeds
 pub mod Spelling
 pub mod Taking
 pub mod Uniqueness
 pub mod PlainValues
-pub mod Readers
 pub mod Zeros
 pub mod ValueReads

@@ -10,7 +10,7 @@ use Rattle.ptb_expr.specs.declared.fault.FaultKind.{FaultKind}
 use Rattle.ptb_expr.specs.declared.fault.FaultKind.TheVariants.{What, How}
 use Rattle.ptb_expr.specs.declared.store.Target.{Target}
 use Rattle.ptb_expr.specs.declared.store.Target.TheVariants as targets
-use Rattle.ptb_expr.specs.Outcome.{Answers, Outcome, Done, Asks, Out, go_on, unless_error, ◌>>=◌, success, failure, answer, is_answer}
+use Rattle.ptb_answers.specs.Outcome.{Answers, Outcome, Done, Asks, Out, go_on, unless_error, ◌>>=◌, success, failure, answer, is_answer}
 use Rattle.ptb_expr.specs.Store.{Cells, index_of, element_of, map_ok}
 use Rattle.ptb_expr.specs.Tree.{Tree, Num, Var, Size, Elem, Rnd, Abs, Neg, Bin, Bad, Unclosed}
 use Rattle.ptb_expr.specs.Value.{Work, fault, or_fault, operation, negation, absolute_value, random_number, value, target_of}

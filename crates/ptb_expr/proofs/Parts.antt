@@ -10,11 +10,11 @@ use Rattle.ptb_expr.specs.declared.fault.FaultKind.TheVariants.{How}
 use Rattle.ptb_expr.specs.declared.fault.Stop.{Stop}
 use Rattle.ptb_expr.specs.declared.fault.Stop.TheVariants as stops
 use Rattle.ptb_expr.specs.declared.operator.Operator.{Operator}
-use Rattle.ptb_expr.specs.declared.pause.Pause.{Pause}
+use Rattle.ptb_answers.specs.declared.pause.Pause.{Pause}
 use Rattle.ptb_expr.specs.declared.store.Target.TheVariants as targets
 use Rattle.ptb_expr.specs.Operators.{product_operator, sum_operator, comparison}
-use Rattle.ptb_expr.specs.Outcome.{unless_error, ◌>>=◌, success, failure}
-use Rattle.ptb_expr.specs.Choices.{Choices, Reaches}
+use Rattle.ptb_answers.specs.Outcome.{unless_error, ◌>>=◌, success, failure}
+use Rattle.ptb_answers.specs.Choices.{Choices, Reaches}
 use Rattle.ptb_expr.specs.Store.{Cells, value_at, index_of, element_of, map_ok}
 use Rattle.ptb_expr.specs.Value.{Work, fault, operation, negation, absolute_value}
 use Rattle.ptb_expr.specs.Working.{Placed, result_at, after_operation, random_at, missing_work, more, closing, paren, variable, plain, factor, product, first_product, sum, comparison_after, expr_with, expr}

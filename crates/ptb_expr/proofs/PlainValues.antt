@@ -4,7 +4,7 @@ use Rattle.std.specs.Prelude.{pos, int_le, if◌then◌else◌}
 use Rattle.ptb_expr.specs.declared.fault.Fault.{Fault}
 use Rattle.ptb_expr.specs.declared.fault.FaultKind.{FaultKind}
 use Rattle.ptb_expr.specs.declared.fault.FaultKind.TheVariants.{What, How}
-use Rattle.ptb_expr.specs.Outcome.{Answers, Outcome, Done, Asks, Out, answer, go_on, unless_error, success, failure, ◌>>=◌}
+use Rattle.ptb_answers.specs.Outcome.{Answers, Outcome, Done, Asks, Out, answer, go_on, unless_error, success, failure, ◌>>=◌}
 use Rattle.ptb_expr.specs.Store.{Cells, element_of}
 use Rattle.ptb_expr.specs.Tree.{Tree, Num, Var, Size, Elem, Rnd, Abs, Neg, Bin, Bad, Unclosed}
 use Rattle.ptb_expr.specs.Value.{Work, fault, chosen, random_number, operation, negation, absolute_value, value, plain_value, or_fault, if_ok, if_value, if_values}

@@ -9,11 +9,11 @@ use Rattle.std.specs.Prelude.{◌≡◌, ℕ, ◌≤◌, List, length, ℤ, Resu
 use Rattle.ptb_words.specs.CursorState.{CursorState}
 use Rattle.ptb_expr.specs.declared.fault.Stop.{Stop}
 use Rattle.ptb_expr.specs.declared.fault.Stop.TheVariants as stops
-use Rattle.ptb_expr.specs.declared.pause.Pause.{Pause}
+use Rattle.ptb_answers.specs.declared.pause.Pause.{Pause}
 use Rattle.ptb_expr.specs.declared.store.Target.{Target}
 use Rattle.ptb_expr.specs.declared.store.Target.TheVariants as targets
-use Rattle.ptb_expr.specs.Outcome.{success, failure}
-use Rattle.ptb_expr.specs.Choices.{Choices, Reaches, Pauses}
+use Rattle.ptb_answers.specs.Outcome.{success, failure}
+use Rattle.ptb_answers.specs.Choices.{Choices, Reaches, Pauses}
 use Rattle.ptb_expr.specs.Store.{Cells, index_of}
 use Rattle.ptb_expr.specs.Tree.{Tree}
 use Rattle.ptb_expr.specs.Value.{Work, value, target_of}

@@ -1,8 +1,4 @@
 -- This file names the files of definitions.
-pub mod Outcome
-pub mod Choices
-pub mod Seeds
-pub mod AnswerText
 pub mod Store
 pub mod Tree
 pub mod Value

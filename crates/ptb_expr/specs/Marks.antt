@@ -3,7 +3,7 @@
 --     MarkLaws             so it is with what is read of a text, and with the fault of each tree
 use Rattle.std.specs.Prelude.{◌≡◌, ℕ, ◌≤◌, List, length, Err}
 use Rattle.ptb_expr.specs.declared.fault.Fault.{Fault}
-use Rattle.ptb_expr.specs.Outcome.{Answers, Done}
+use Rattle.ptb_answers.specs.Outcome.{Answers, Done}
 use Rattle.ptb_expr.specs.Store.{Cells}
 use Rattle.ptb_expr.specs.Tree.{Tree, Num, Var, Size, Elem, Rnd, Abs, Neg, Bin, Bad, Unclosed}
 use Rattle.ptb_expr.specs.Value.{value, target_of}

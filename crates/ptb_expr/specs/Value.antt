@@ -15,7 +15,7 @@ use Rattle.ptb_expr.specs.declared.fault.FaultKind.{FaultKind}
 use Rattle.ptb_expr.specs.declared.fault.FaultKind.TheVariants.{What, How}
 use Rattle.ptb_expr.specs.Tree.{Tree, Num, Var, Size, Elem, Rnd, Abs, Neg, Bin, Bad, Unclosed}
 use Rattle.ptb_expr.specs.Store.{Cells, value_at, index_of, element_of, map_ok, with_value, with_element}
-use Rattle.ptb_expr.specs.Outcome.{Answers, Outcome, go_on, ◌>>=◌, success, failure, answer}
+use Rattle.ptb_answers.specs.Outcome.{Answers, Outcome, go_on, ◌>>=◌, success, failure, answer}
 
 -- what is worked out from answers: a value or a fault
 abbrev pub Work : Type 0 → Type 0

@@ -10,7 +10,7 @@ use Rattle.ptb_expr.specs.declared.operator.Operator.{Operator}
 use Rattle.ptb_expr.specs.declared.store.Target.{Target}
 use Rattle.ptb_expr.specs.declared.store.Target.TheVariants as targets
 use Rattle.ptb_expr.specs.Operators.{product_operator, sum_operator, comparison}
-use Rattle.ptb_expr.specs.Outcome.{◌>>=◌, success, failure}
+use Rattle.ptb_answers.specs.Outcome.{◌>>=◌, success, failure}
 use Rattle.ptb_expr.specs.Store.{Cells, value_at, index_of, element_of, map_ok}
 use Rattle.ptb_expr.specs.Value.{Work, fault, operation, negation, absolute_value, random_number}
 use Rattle.ptb_expr.specs.Reading.{if_there, if_number, if_function}

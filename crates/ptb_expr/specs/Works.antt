@@ -5,8 +5,8 @@ use Rattle.ptb_words.specs.CursorState.{CursorState, bytes_left}
 use Rattle.ptb_expr.specs.declared.fault.FaultKind.{FaultKind}
 use Rattle.ptb_expr.specs.declared.fault.Stop.{Stop}
 use Rattle.ptb_expr.specs.declared.fault.Stop.TheVariants as stops
-use Rattle.ptb_expr.specs.declared.pause.Pause.{Pause}
-use Rattle.ptb_expr.specs.Choices.{Choices}
+use Rattle.ptb_answers.specs.declared.pause.Pause.{Pause}
+use Rattle.ptb_answers.specs.Choices.{Choices}
 use Rattle.ptb_expr.specs.Store.{Cells, map_ok}
 use Rattle.ptb_expr.specs.Value.{Work, fault}
 use Rattle.ptb_expr.specs.Evaluate.{WorkComes}

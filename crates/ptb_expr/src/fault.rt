@@ -1,6 +1,6 @@
 // This file says what can be wrong with an expression, and why it has no value.
 
-use crate::pause::Pause;
+use ptb_answers::Pause;
 use thiserror::Error;
 
 /// Which word a fault shows.

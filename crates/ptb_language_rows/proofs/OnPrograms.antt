@@ -3,7 +3,7 @@ use Rattle.std.specs.Prelude.{⊤}
 use Rattle.std.specs.Fmt.{digits}
 use Rattle.ptb_text.specs.Statements.{after_lines}
 use Rattle.ptb_words.specs.Words.{past_blanks, spelling_in_front, word_at, bytes_at, letter_at, number_at, quotation_at}
-use Rattle.ptb_expr.specs.Outcome.{answer}
+use Rattle.ptb_answers.specs.Outcome.{answer}
 use Rattle.ptb_expr.specs.Value.{random_number, value, target_of}
 use Rattle.ptb_expr.specs.Operators.{product_operator, sum_operator, comparison}
 use Rattle.ptb_expr.specs.Reading.{more, paren, variable_or, variable, plain, factor, product, first_product, sum, expr_with, expr, expression, variable_tree}

@@ -2,7 +2,7 @@
 use Rattle.std.specs.Prelude.{◌≡◌, ℕ, List, [], ◌∷◌, ℤ, pos, negsuc, codes, Result, Ok, Err}
 use Rattle.ptb_expr.specs.declared.fault.Fault.{Fault}
 use Rattle.ptb_expr.specs.declared.fault.FaultKind.TheVariants.{What, How, Sorry}
-use Rattle.ptb_expr.specs.Outcome.{Answers, Outcome, Done, Asks, Out}
+use Rattle.ptb_answers.specs.Outcome.{Answers, Outcome, Done, Asks, Out}
 use Rattle.ptb_expr.specs.Store.{empty_cells}
 use Rattle.ptb_expr.specs.Value.{value, fault}
 use Rattle.ptb_expr.specs.Reading.{Reading, Whole, Malformed, item_of, expression}

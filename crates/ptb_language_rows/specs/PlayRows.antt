@@ -2,7 +2,7 @@
 use Rattle.std.specs.Prelude.{◌≡◌, ℕ, List, [], ◌∷◌, ◌++◌, Option, Some, None, Ok, Err, pos, codes, replicate}
 use Rattle.ptb_text.specs.Lines.{input_lines}
 use Rattle.ptb_text.specs.Statements.{program}
-use Rattle.ptb_expr.specs.Outcome.{Answers, Outcome, Done, Asks, Out}
+use Rattle.ptb_answers.specs.Outcome.{Answers, Outcome, Done, Asks, Out}
 use Rattle.ptb_command.specs.declared.ending.Ending.{Ending}
 use Rattle.ptb_command.specs.declared.ending.Ending.TheVariants.{End, Stop, What, How, Sorry, Limit, NoInput, NoAnswer, BadAnswer}
 use Rattle.ptb_machine.specs.Play.{Finish, play, plain}

@@ -1,9 +1,9 @@
 -- This file has worked rows of runs and of their reports.
 use Rattle.std.specs.Prelude.{◌≡◌, ℕ, [], ◌∷◌, ◌++◌, codes, false, true, Some, None, pos}
-use Rattle.ptb_expr.specs.Outcome.{Answers, is_whole, bounds}
+use Rattle.ptb_answers.specs.Outcome.{Answers, is_whole, bounds}
 use Rattle.ptb_language_rows.specs.ExpressionRows.{worth}
 use Rattle.ptb_explore.specs.RunTree.{At, End, is_before, tree, runs_left}
-use Rattle.ptb_expr.specs.AnswerText.{answers_of, marked, spelling, unmarked}
+use Rattle.ptb_answers.specs.AnswerText.{answers_of, marked, spelling, unmarked}
 use Rattle.ptb_explore.specs.MarkedRuns.{states_bounds}
 use Rattle.ptb_explore.specs.Report.{report_text}
 

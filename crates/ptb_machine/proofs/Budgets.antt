@@ -2,8 +2,8 @@
 --     Budget f most left       f takes at most so many answers, and with each result x it leaves enough for `left x` more
 --     then_budget, map_budget, ..      budgets of what is made of parts
 use Rattle.std.proofs.Common.{◌≡◌, ℕ, ◌+◌, ◌≤◌, length, refl, ap, sym, ◌∙◌, subst, arith}
-use Rattle.ptb_expr.specs.Outcome.{Answers, Outcome, Done, go_on, map_outcome, IsReader}
-use Rattle.ptb_expr.proofs.Readers.{Came, Gave, Asked, Refused, came, done_reader, then_reader_by, map_reader, wider_reader}
+use Rattle.ptb_answers.specs.Outcome.{Answers, Outcome, Done, go_on, map_outcome, IsReader}
+use Rattle.ptb_answers.proofs.Readers.{Came, Gave, Asked, Refused, came, done_reader, then_reader_by, map_reader, wider_reader}
 
 pub record Budget {A W : Type 0} (f : Answers → Outcome A W) (most : ℕ) (left : A → ℕ) : Type 0 where
   pub reads : IsReader f most

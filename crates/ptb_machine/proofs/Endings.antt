@@ -10,7 +10,7 @@ use Rattle.ptb_expr.specs.declared.fault.FaultKind.{FaultKind}
 use Rattle.ptb_expr.specs.declared.fault.FaultKind.TheVariants as kinds
 use Rattle.ptb_expr.specs.declared.store.Target.{Target}
 use Rattle.ptb_expr.specs.Tree.{Tree}
-use Rattle.ptb_expr.specs.Outcome.{Answers, Outcome, Done, Asks, Out, go_on, map_outcome}
+use Rattle.ptb_answers.specs.Outcome.{Answers, Outcome, Done, Asks, Out, go_on, map_outcome}
 use Rattle.ptb_expr.specs.Store.{Cells, value_at, with_value}
 use Rattle.ptb_expr.specs.Reading.{item_of, expression}
 use Rattle.ptb_expr.specs.Value.{Work, in_range, random_number, value}
@@ -19,7 +19,7 @@ use Rattle.ptb_command.specs.State.{State, Place, Loop, Call, first_state, text_
 use Rattle.ptb_command.specs.Actions.{Halt, Faults, Ends, Progress, Goes, Halts, Action, on_progress, and_then, goes_on, halt, change, show, attempt, or_halt, work_action}
 use Rattle.ptb_command.specs.Act.{newline, fails, is_full, if_room, goto_action, gosub_action, return_action, without_loop, with_loop, with_call, for_action, loops_from, is_past, loop_end, loop_turn, after_sum, next_action, finish, end_of, letter_of, first_width, command_action, StepResult, Next, Over, step_result_of, ending_of, with_step, act, value_action, target_action, store, take_line, ask_for, store_or_again, without_line, input_action, parts_action}
 use Rattle.ptb_machine.specs.Play.{act_unless, turn_by, turn, Last, after_turn, turns_within, all_turns, Finish, finish_of, turns, play}
-use Rattle.ptb_expr.specs.declared.rules.Rules.{Rules}
+use Rattle.ptb_answers.specs.declared.rules.Rules.{Rules}
 use Rattle.ptb_machine.specs.EndingLaws.{IsRunEnding, EndingLaws}
 
 -- ---- how an action halts

@@ -7,11 +7,11 @@ use Rattle.ptb_expr.specs.declared.fault.Fault.{Fault}
 use Rattle.ptb_expr.specs.declared.fault.FaultKind.{FaultKind}
 use Rattle.ptb_expr.specs.declared.store.Target.{Target}
 use Rattle.ptb_expr.specs.Tree.{Tree, questions}
-use Rattle.ptb_expr.specs.Outcome.{IsReader}
+use Rattle.ptb_answers.specs.Outcome.{IsReader}
 use Rattle.ptb_expr.specs.Store.{Cells}
 use Rattle.ptb_expr.specs.Reading.{item_of, expression}
 use Rattle.ptb_expr.specs.Value.{Work, fault, random_number, value, target_of, or_fault}
-use Rattle.ptb_expr.proofs.Readers.{success_reader, failure_reader}
+use Rattle.ptb_answers.proofs.Readers.{success_reader, failure_reader}
 use Rattle.ptb_expr.proofs.ValueReads.{random_number_reader}
 use Rattle.ptb_expr.specs.Laws.{ValueLaws}
 use Rattle.ptb_command.specs.Commands.{Part, Assign, Say, Width, Show, NewLine, Take, Letter, Operand, Defect}

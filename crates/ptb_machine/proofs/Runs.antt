@@ -6,10 +6,10 @@ use Rattle.std.proofs.lemmas.Bool.{false≢true}
 use Rattle.std.proofs.lemmas.List.{append_cancel_left}
 use Rattle.std.proofs.lemmas.Result.{err_from_is_err_and}
 use Rattle.ptb_text.specs.Statements.{StoredProgram}
-use Rattle.ptb_expr.specs.declared.pause.Pause.{Pause}
-use Rattle.ptb_expr.specs.declared.pause.Pause.TheVariants as pauses
-use Rattle.ptb_expr.specs.Outcome.{Answers, Outcome, Done, Asks, Out, go_on, map_outcome}
-use Rattle.ptb_expr.specs.Choices.{SaysOut}
+use Rattle.ptb_answers.specs.declared.pause.Pause.{Pause}
+use Rattle.ptb_answers.specs.declared.pause.Pause.TheVariants as pauses
+use Rattle.ptb_answers.specs.Outcome.{Answers, Outcome, Done, Asks, Out, go_on, map_outcome}
+use Rattle.ptb_answers.specs.Choices.{SaysOut}
 use Rattle.ptb_command.specs.declared.ending.Ending.{Ending}
 use Rattle.ptb_command.specs.declared.ending.Ending.TheVariants as endings
 use Rattle.ptb_machine.specs.declared.fault.RunFault.{RunFault}
@@ -23,7 +23,7 @@ use Rattle.ptb_command.specs.Effects.{act_state, Begins, TakesLines}
 use Rattle.ptb_command.specs.Devices.{ScreenState, Devices, with_screen, Shows, Exchange, no_exchange, both_exchanges, Exchanges, MayFollow, Refusal}
 use Rattle.ptb_command.specs.Traces.{Leaves}
 use Rattle.ptb_command.specs.Stops.{LacksLine, Waits, IsDry, Breaks}
-use Rattle.ptb_expr.specs.declared.rules.Rules.{Rules}
+use Rattle.ptb_answers.specs.declared.rules.Rules.{Rules}
 use Rattle.ptb_command.specs.Configuration.{Configuration}
 use Rattle.ptb_command.specs.Representation.{Represents}
 use Rattle.ptb_machine.specs.Steps.{StepsTo, goes, ends, StepComes, Steps}

@@ -5,7 +5,7 @@ use Rattle.std.proofs.Common.{◌≡◌, ℕ, ◌+◌, ◌≤◌, List, ◌∷�
 use Rattle.std.specs.Prelude.{sum_by}
 use Rattle.std.proofs.lemmas.List.Sums.{sum_by-cons}
 use Rattle.ptb_expr.specs.declared.fault.Fault.{Fault}
-use Rattle.ptb_expr.specs.Outcome.{Outcome, Done, Asks, Out, go_on, map_outcome, IsReader}
+use Rattle.ptb_answers.specs.Outcome.{Outcome, Done, Asks, Out, go_on, map_outcome, IsReader}
 use Rattle.ptb_expr.specs.Store.{Cells}
 use Rattle.ptb_expr.specs.Value.{Work}
 use Rattle.ptb_command.specs.State.{State}

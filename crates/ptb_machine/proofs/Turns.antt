@@ -2,7 +2,7 @@
 use Rattle.std.proofs.Common.{◌≡◌, ℕ, zero, suc, ◌+◌, ◌-◌, ◌<◌, ◌≤◌, Bool, true, false, leb, Option, Some, None, refl, sym, ap, subst, ◌∙◌, arith}
 use Rattle.std.proofs.lemmas.Bool.{leb-false}
 use Rattle.ptb_text.specs.Statements.{StoredProgram}
-use Rattle.ptb_expr.specs.Outcome.{Answers, Outcome, Done, Asks, Out, go_on, map_outcome}
+use Rattle.ptb_answers.specs.Outcome.{Answers, Outcome, Done, Asks, Out, go_on, map_outcome}
 use Rattle.ptb_command.specs.Commands.{Command}
 use Rattle.ptb_command.specs.State.{Place, State, next_command}
 use Rattle.ptb_command.specs.Act.{StepResult, Next, Over, with_step}

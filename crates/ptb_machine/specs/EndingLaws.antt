@@ -3,10 +3,10 @@
 --     EndingLaws               play ends in no other way, whatever the answers
 use Rattle.std.specs.Prelude.{◌≡◌, ℕ, List, ℤ, Option, None}
 use Rattle.ptb_text.specs.Statements.{StoredProgram}
-use Rattle.ptb_expr.specs.Outcome.{Answers, Done}
+use Rattle.ptb_answers.specs.Outcome.{Answers, Done}
 use Rattle.ptb_command.specs.declared.ending.Ending.{Ending}
 use Rattle.ptb_command.specs.declared.ending.Ending.TheVariants as endings
-use Rattle.ptb_expr.specs.declared.rules.Rules.{Rules}
+use Rattle.ptb_answers.specs.declared.rules.Rules.{Rules}
 use Rattle.ptb_machine.specs.Play.{Finish, play}
 
 -- all but those of a plain run that has no answer, or a bad one; and for want of a line only where no answers stand in place of lines

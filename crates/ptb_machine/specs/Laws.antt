@@ -5,11 +5,11 @@ use Rattle.std.specs.Prelude.{◌≡◌, ℕ, ◌+◌, ◌-◌, ◌<◌, ◌≤�
 use Rattle.ptb_words.specs.declared.word.Word.{Word}
 use Rattle.ptb_text.specs.Statements.{Statements, StoredProgram}
 use Rattle.ptb_expr.specs.Tree.{Tree}
-use Rattle.ptb_expr.specs.Outcome.{Answers, Done, go_on, IsReader}
+use Rattle.ptb_answers.specs.Outcome.{Answers, Done, go_on, IsReader}
 use Rattle.ptb_command.specs.Commands.{Part, Command}
 use Rattle.ptb_command.specs.State.{State, Place, first_state, nesting, nesting_limit}
 use Rattle.ptb_command.specs.Act.{Next, input_action, parts_action, finish, command_action, with_step, act}
-use Rattle.ptb_expr.specs.declared.rules.Rules.{Rules}
+use Rattle.ptb_answers.specs.declared.rules.Rules.{Rules}
 use Rattle.ptb_machine.specs.Play.{turn, after_turn, turns_within, all_turns, last_state, after_step_result, turns, play}
 use Rattle.ptb_machine.specs.Questions.{most_answers, answers_left}
 use Rattle.ptb_command.specs.Effects.{action_state, act_state, Begins, PartChange, EndChange, CommandChange}

@@ -2,7 +2,7 @@
 --     run_shown o, run_steps o         what a run has shown, and how many commands it has begun, where it is over or asks
 --     TurnChange limit S T             what a turn of a run may change
 use Rattle.std.specs.Prelude.{ℕ, ◌≤◌, List}
-use Rattle.ptb_expr.specs.Outcome.{Outcome, Done, Asks, Out}
+use Rattle.ptb_answers.specs.Outcome.{Outcome, Done, Asks, Out}
 use Rattle.ptb_command.specs.State.{State, nesting, nesting_limit}
 use Rattle.ptb_command.specs.Effects.{Begins, TakesLines}
 use Rattle.ptb_machine.specs.Play.{Finish}

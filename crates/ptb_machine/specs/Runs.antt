@@ -7,17 +7,17 @@
 --     UnlessRunMissed refused P r     P holds, unless a line was wanted and the source gave none
 use Rattle.std.specs.Prelude.{◌≡◌, ◌⊎◌, ℕ, ◌≤◌, List, [], ◌∷◌, ◌++◌, Result, Ok, Err, ℤ, Option, Some, None, pos, ◌≤ℤ◌}
 use Rattle.ptb_text.specs.Statements.{StoredProgram}
-use Rattle.ptb_expr.specs.declared.pause.Pause.{Pause}
-use Rattle.ptb_expr.specs.declared.pause.Pause.TheVariants as pauses
-use Rattle.ptb_expr.specs.Outcome.{Answers, Outcome, Done, Asks, Out}
-use Rattle.ptb_expr.specs.Choices.{SaysOut}
+use Rattle.ptb_answers.specs.declared.pause.Pause.{Pause}
+use Rattle.ptb_answers.specs.declared.pause.Pause.TheVariants as pauses
+use Rattle.ptb_answers.specs.Outcome.{Answers, Outcome, Done, Asks, Out}
+use Rattle.ptb_answers.specs.Choices.{SaysOut}
 use Rattle.ptb_command.specs.declared.ending.Ending.{Ending}
 use Rattle.ptb_command.specs.declared.ending.Ending.TheVariants as endings
 use Rattle.ptb_machine.specs.declared.fault.RunFault.{RunFault}
 use Rattle.ptb_machine.specs.declared.fault.RunFault.TheVariants as faults
 use Rattle.ptb_command.specs.declared.stop.DeviceError.{DeviceError}
 use Rattle.ptb_command.specs.declared.stop.DeviceError.TheVariants as errors
-use Rattle.ptb_expr.specs.declared.rules.Rules.{Rules}
+use Rattle.ptb_answers.specs.declared.rules.Rules.{Rules}
 use Rattle.ptb_machine.specs.Play.{Finish, play, unasked_lines}
 use Rattle.ptb_command.specs.Effects.{Begins}
 use Rattle.ptb_command.specs.Devices.{Devices, with_failures, Exchange, Exchanges, MayFollow, Refusal, Unanswered, NoLine, HasBroken}

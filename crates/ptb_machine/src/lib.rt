@@ -1,10 +1,11 @@
 //! The machine of Tiny BASIC: the steps of a run, one command after another, and whole runs.
 //!
-//! It stands on `ptb_command`, `ptb_devices`, `ptb_expr`, `ptb_text`, `ptb_words`, `arrayvec`, `itoa`
-//! and `thiserror`. The crate above may rely on `Machine::step` (one turn of `specs/Play`: the state
-//! after it, what it shows, the lines and answers it takes), on `Player::step` (the same, sooner
-//! where a command was done before), on `run` (all turns), on `run_laws` (answers are taken one by
-//! one, a limited number of them), and on the devices of the crate below, which it passes on.
+//! It stands on `ptb_command`, `ptb_devices`, `ptb_expr`, `ptb_answers`, `ptb_text`, `ptb_words`,
+//! `arrayvec`, `itoa` and `thiserror`. The crate above may rely on `Machine::step` (one turn of
+//! `specs/Play`: the state after it, what it shows, the lines and answers it takes), on `Player::step`
+//! (the same, sooner where a command was done before), on `run` (all turns), on `run_laws` (answers
+//! are taken one by one, a limited number of them), and on the devices of the crate below, which it
+//! passes on.
 #![tactic(auto)]
 
 mod fault;
@@ -19,12 +20,12 @@ pub use fault::RunFault;
 pub use kept::Player;
 pub use laws::{effect_laws, ending_laws, run_laws};
 pub use machine::Machine;
+pub use ptb_answers::Rules;
 pub use ptb_command::{Ending, command_laws};
 pub use ptb_devices::{
     INPUT_LIMIT, Line, LineSource, Lines, ReadFault, ReaderLines, Screen, ScreenFault, TextScreen,
     WriterScreen, read_lines,
 };
-pub use ptb_expr::Rules;
 pub use running::run;
 
 #[cfg(test)]

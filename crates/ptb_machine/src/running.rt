@@ -7,9 +7,9 @@ ghost use Rattle.ptb_machine.specs.Runs.{Runs, UnlessRunMissed};
 
 use crate::fault::RunFault;
 use crate::kept::Player;
+use ptb_answers::{Chooser, Rules};
 use ptb_command::Ending;
 use ptb_devices::{LineSource, Screen};
-use ptb_expr::{Chooser, Rules};
 use ptb_text::Program;
 use std::alloc::Global;
 

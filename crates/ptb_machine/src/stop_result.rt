@@ -7,9 +7,9 @@ ghost use Rattle.ptb_machine.specs.Steps.{fault_of, IsResultOf};
 
 use crate::fault::RunFault;
 use crate::report::{ending_of, report};
+use ptb_answers::{Chooser, Pause};
 use ptb_command::{DeviceError, Ending, Io, Stop, line_at};
 use ptb_devices::{LineSource, Screen};
-use ptb_expr::{Chooser, Pause};
 use ptb_text::Program;
 
 // A device's error as a fault of a step.

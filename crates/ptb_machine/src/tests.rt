@@ -5,8 +5,9 @@ ghost use Rattle.ptb_machine.specs.Steps.{FitsProgram};
 
 use super::*;
 use crate::report::report;
+use ptb_answers::Listed;
 use ptb_command::first_place;
-use ptb_expr::{Fault, FaultKind, Listed};
+use ptb_expr::{Fault, FaultKind};
 use ptb_text::{Device, Program, load};
 use std::alloc::Global;
 use std::fmt::Debug;

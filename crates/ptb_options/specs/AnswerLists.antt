@@ -10,8 +10,8 @@
 use Rattle.std.specs.Prelude.{◌≡◌, ℕ, List, ℤ, pos, ◌≤ℤ◌, All}
 use Rattle.std.specs.Fmt.{signed_decimal}
 use Rattle.std.specs.Option.{ForSome}
-use Rattle.ptb_expr.specs.declared.form.Marked.{Marked}
-use Rattle.ptb_expr.specs.AnswerText.{item_text, spelling, unmarked}
+use Rattle.ptb_answers.specs.declared.form.Marked.{Marked}
+use Rattle.ptb_answers.specs.AnswerText.{item_text, spelling, unmarked}
 
 -- an answer is from 1 to 32767, and so is a bound
 abbrev pub IsAnswer : ℤ → Type 0

@@ -18,10 +18,10 @@ use Rattle.clap.specs.declared.parser.ArgMatches.{ArgMatches}
 use Rattle.clap.specs.declared.parser.ValueSource.{ValueSource}
 use Rattle.clap.specs.declared.parser.ValueSource.TheVariants.{CommandLine}
 use Rattle.ptb_text.specs.Statements.{IsMemorySize}
-use Rattle.ptb_expr.specs.declared.rules.Rules.{Rules}
-use Rattle.ptb_expr.specs.declared.form.Form.{Form}
-use Rattle.ptb_expr.specs.declared.form.Form.TheVariants.{One, Two}
-use Rattle.ptb_expr.specs.declared.form.Marked.{Marked}
+use Rattle.ptb_answers.specs.declared.rules.Rules.{Rules}
+use Rattle.ptb_answers.specs.declared.form.Form.{Form}
+use Rattle.ptb_answers.specs.declared.form.Form.TheVariants.{One, Two}
+use Rattle.ptb_answers.specs.declared.form.Marked.{Marked}
 use Rattle.ptb_options.specs.AnswerLists.{SpellsList, SpellsAnswers, IsMisspelled, HasNoAnswers}
 use Rattle.ptb_options.specs.declared.answers.ListFault.{ListFault}
 use Rattle.ptb_options.specs.declared.answers.ListFault.TheVariants as lists

@@ -1,13 +1,13 @@
 // This file has lists of answers, and how they are read from a word of the command line.
 
 ghost use Rattle.std.specs.Prelude.{◌≡◌, List, ℤ, IfOk, IfSome};
-ghost use Rattle.ptb_expr.specs.AnswerText.{without_bound};
-ghost use Rattle.ptb_expr.specs.declared.form.Marked.{Marked};
+ghost use Rattle.ptb_answers.specs.AnswerText.{without_bound};
+ghost use Rattle.ptb_answers.specs.declared.form.Marked.{Marked};
 ghost use Rattle.ptb_options.specs.AnswerLists.{HasNoAnswers, IsMisspelled, SpellsAnswers};
 ghost use Rattle.ptb_options.specs.AnswerLists.{SpellsItem, SpellsList, SpellsNumber};
 ghost use Rattle.ptb_options.specs.declared.answers.ListFault.TheVariants.{Memory};
 
-use ptb_expr::Marked;
+use ptb_answers::Marked;
 use std::alloc::{AllocFailed, Global};
 use std::marker::Model;
 use thiserror::Error;
@@ -62,7 +62,7 @@ pub struct MarkedAnswers {
 
 impl Model for MarkedAnswers {
     ghost use Rattle.std.specs.Prelude.{List};
-    ghost use Rattle.ptb_expr.specs.declared.form.Marked.{Marked};
+    ghost use Rattle.ptb_answers.specs.declared.form.Marked.{Marked};
 
     ghost Value = { List Marked };
 

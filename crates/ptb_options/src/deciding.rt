@@ -13,7 +13,7 @@ use crate::request::{DEFAULT_MEMORY, DEFAULT_STEPS, Mode, Request};
 use crate::usage::UsageFault;
 use clap::ArgMatches;
 use clap::parser::ValueSource;
-use ptb_expr::{Form, Rules};
+use ptb_answers::{Form, Rules};
 use std::alloc::Global;
 use std::marker::Model;
 

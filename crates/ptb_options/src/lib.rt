@@ -1,6 +1,6 @@
 //! What the words of the command line ask for.
 //!
-//! It stands on `ptb_expr`, of which it takes the rules of a run, the forms of reports and how lists
+//! It stands on `ptb_answers`, of which it takes the rules of a run, the forms of reports and how lists
 //! of answers are written, on a definition of `ptb_text`, and on `clap` and `thiserror`. The crates
 //! above may rely on `parse` (what clap finds in the words, or its error) and on `decide` (the
 //! request that the options make, or the first fault of them).

@@ -1,7 +1,7 @@
 // This file says what the tool is asked to do.
 
 use crate::answers::{Answers, MarkedAnswers};
-use ptb_expr::{Form, Rules};
+use ptb_answers::{Form, Rules};
 
 /// The most commands that a run begins, where `--steps` is left out.
 pub const DEFAULT_STEPS: u32 = 10_000;

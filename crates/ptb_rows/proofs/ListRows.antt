@@ -7,8 +7,8 @@ use Rattle.std.proofs.lemmas.Int.{ints}
 use Rattle.std.proofs.lemmas.List.Elements.{All-nil, All-cons}
 use Rattle.std.proofs.lemmas.Fmt.{signed_decimal_injective}
 use Rattle.clap.proofs.CutLemmas.{Lacks}
-use Rattle.ptb_expr.specs.declared.form.Marked.{Marked}
-use Rattle.ptb_expr.specs.AnswerText.{with_bound, without_bound}
+use Rattle.ptb_answers.specs.declared.form.Marked.{Marked}
+use Rattle.ptb_answers.specs.AnswerText.{with_bound, without_bound}
 use Rattle.ptb_options.specs.AnswerLists.{IsAnswer, IsItem, SpellsNumber, SpellsItem, IsMisspelled, HasNoAnswers}
 use Rattle.ptb_rows.specs.Rows.{ListRows}
 use Rattle.ptb_options.proofs.AnswerTexts.{SpellsNumber-first, SpellsItem-first, item_is_number, item_is_numbers, one_item, word_of_answers, word_of_list}

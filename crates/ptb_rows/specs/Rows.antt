@@ -13,13 +13,13 @@ use Rattle.ptb_options.specs.declared.request.Mode.TheVariants as modes
 use Rattle.ptb_options.specs.declared.request.Request.{Request}
 use Rattle.ptb_serve.specs.Replies.{Reply, refusal, success, reply_to}
 use Rattle.ptb_text.specs.Statements.{program}
-use Rattle.ptb_expr.specs.Outcome.{is_whole}
-use Rattle.ptb_expr.specs.declared.rules.Rules.{Rules}
+use Rattle.ptb_answers.specs.Outcome.{is_whole}
+use Rattle.ptb_answers.specs.declared.rules.Rules.{Rules}
 use Rattle.ptb_machine.specs.Play.{play}
-use Rattle.ptb_expr.specs.declared.form.Form.{Form}
-use Rattle.ptb_expr.specs.declared.form.Form.TheVariants.{One, Two}
-use Rattle.ptb_expr.specs.declared.form.Marked.{Marked}
-use Rattle.ptb_expr.specs.AnswerText.{unmarked, with_bound, without_bound}
+use Rattle.ptb_answers.specs.declared.form.Form.{Form}
+use Rattle.ptb_answers.specs.declared.form.Form.TheVariants.{One, Two}
+use Rattle.ptb_answers.specs.declared.form.Marked.{Marked}
+use Rattle.ptb_answers.specs.AnswerText.{unmarked, with_bound, without_bound}
 use Rattle.ptb_explore.specs.Report.{report}
 
 -- a text of these lines

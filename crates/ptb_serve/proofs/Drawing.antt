@@ -6,12 +6,12 @@ use Rattle.std.specs.Prelude.{ℤ, pos, negsuc, ◌≤ℤ◌, Some}
 use Rattle.rand_pcg.specs.Lcg.{Lcg}
 use Rattle.rand_pcg.specs.Pcg.{pcg32}
 use Rattle.ptb_text.specs.Statements.{StoredProgram}
-use Rattle.ptb_expr.specs.Outcome.{Answers, Outcome, Done, Asks, IsReader, bounds, bounds_after, bound_of, is_answer, is_whole}
-use Rattle.ptb_expr.proofs.Readers.{open_is, whole_is}
-use Rattle.ptb_expr.specs.Choices.{Asked, with_answers}
-use Rattle.ptb_expr.specs.Seeds.{SeededAnswers, RefusedForMemory, drawn_answer, drawn_answers, drawn_from, generator_of, seeded_choices}
+use Rattle.ptb_answers.specs.Outcome.{Answers, Outcome, Done, Asks, IsReader, bounds, bounds_after, bound_of, is_answer, is_whole}
+use Rattle.ptb_answers.proofs.Readers.{open_is, whole_is}
+use Rattle.ptb_answers.specs.Choices.{Asked, with_answers}
+use Rattle.ptb_answers.specs.Seeds.{SeededAnswers, RefusedForMemory, drawn_answer, drawn_answers, drawn_from, generator_of, seeded_choices}
 use Rattle.ptb_machine.specs.Laws.{RunLaws}
-use Rattle.ptb_expr.specs.declared.rules.Rules.{Rules}
+use Rattle.ptb_answers.specs.declared.rules.Rules.{Rules}
 use Rattle.ptb_machine.specs.Play.{play}
 use Rattle.ptb_machine.specs.Questions.{most_answers}
 use Rattle.ptb_serve.specs.PlainRuns.{GoesBy}

@@ -2,14 +2,14 @@
 use Rattle.std.proofs.Common.{◌≡◌, ◌⊎◌, inl, inr, refl, ap, ap₂, List, [], Bool, true, false, Option, Some, None}
 use Rattle.std.specs.Prelude.{ℕ, ◌&&◌}
 use Rattle.std.proofs.lemmas.Bool.{false_from_ne_true}
-use Rattle.ptb_expr.specs.Outcome.{Answers, Outcome}
+use Rattle.ptb_answers.specs.Outcome.{Answers, Outcome}
 use Rattle.ptb_machine.specs.Play.{Finish}
 use Rattle.ptb_explore.specs.declared.fault.AfterFault.{AfterFault}
 use Rattle.ptb_explore.specs.declared.fault.AfterFault.TheVariants as afters
 use Rattle.ptb_explore.specs.declared.fault.UnderFault.{UnderFault}
 use Rattle.ptb_explore.specs.declared.fault.UnderFault.TheVariants as unders
-use Rattle.ptb_expr.specs.declared.form.Marked.{Marked}
-use Rattle.ptb_expr.specs.AnswerText.{answers_of}
+use Rattle.ptb_answers.specs.declared.form.Marked.{Marked}
+use Rattle.ptb_answers.specs.AnswerText.{answers_of}
 use Rattle.ptb_explore.specs.MarkedRuns.{IsMarkedBeginning, IsMarkedRun}
 use Rattle.ptb_explore.specs.RunTree.{begins_with}
 use Rattle.ptb_serve.specs.declared.note.Note.{Note}

@@ -6,18 +6,18 @@ use Rattle.std.proofs.lemmas.List.Concat.{flat_map-append}
 use Rattle.ptb_text.specs.Device.{GivesAtMost, GivesExactly, HasFailed, TakesSome}
 use Rattle.ptb_text.specs.Lines.{input_lines}
 use Rattle.ptb_text.specs.Statements.{StoredProgram}
-use Rattle.ptb_expr.specs.Outcome.{Answers, Outcome}
+use Rattle.ptb_answers.specs.Outcome.{Answers, Outcome}
 use Rattle.ptb_devices.specs.declared.fault.ReadFault.{ReadFault}
 use Rattle.ptb_devices.specs.declared.fault.ReadFault.TheVariants as reads
 use Rattle.ptb_devices.specs.Sources.{ConsumesAtMost}
 use Rattle.ptb_command.specs.Effects.{Begins}
-use Rattle.ptb_expr.specs.declared.rules.Rules.{Rules}
+use Rattle.ptb_answers.specs.declared.rules.Rules.{Rules}
 use Rattle.ptb_machine.specs.Play.{Finish, play}
 use Rattle.ptb_machine.specs.Questions.{most_answers}
 use Rattle.ptb_explore.specs.declared.fault.ExploreFault.{ExploreFault}
 use Rattle.ptb_explore.specs.declared.fault.ExploreFault.TheVariants as explores
-use Rattle.ptb_expr.specs.declared.form.Form.{Form}
-use Rattle.ptb_expr.specs.declared.form.Marked.{Marked}
+use Rattle.ptb_answers.specs.declared.form.Form.{Form}
+use Rattle.ptb_answers.specs.declared.form.Marked.{Marked}
 use Rattle.ptb_explore.specs.Exploring.{Exploration, play_of, most_of}
 use Rattle.ptb_explore.specs.Listing.{text, WritesRuns}
 use Rattle.ptb_explore.specs.Report.{report}

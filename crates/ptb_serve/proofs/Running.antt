@@ -6,7 +6,7 @@ use Rattle.ptb_text.specs.Lines.{input_lines}
 use Rattle.ptb_text.specs.Loading.{IsLoaded}
 use Rattle.ptb_text.specs.Statements.{StoredProgram}
 use Rattle.ptb_command.specs.declared.ending.Ending.{Ending}
-use Rattle.ptb_expr.specs.Outcome.{Answers}
+use Rattle.ptb_answers.specs.Outcome.{Answers}
 use Rattle.ptb_devices.specs.Sources.{ConsumesAtMost}
 use Rattle.ptb_machine.specs.declared.fault.RunFault.{RunFault}
 use Rattle.ptb_machine.specs.declared.fault.RunFault.TheVariants as faults

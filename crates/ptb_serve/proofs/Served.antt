@@ -12,7 +12,7 @@ use Rattle.ptb_text.specs.Lines.{input_lines}
 use Rattle.ptb_command.specs.declared.ending.Ending.{Ending}
 use Rattle.ptb_command.specs.declared.ending.Ending.TheVariants as endings
 use Rattle.ptb_machine.specs.declared.fault.RunFault.{RunFault}
-use Rattle.ptb_expr.specs.Outcome.{Answers}
+use Rattle.ptb_answers.specs.Outcome.{Answers}
 use Rattle.ptb_machine.specs.Play.{status}
 use Rattle.ptb_devices.specs.Sources.{ConsumesAtMost}
 use Rattle.ptb_options.specs.declared.request.Mode.{Mode}

@@ -18,11 +18,11 @@ use Rattle.ptb_devices.specs.Readers.{line_input, line_reader, input_of, GivesFr
 use Rattle.ptb_devices.specs.Sources.{Loses, NoneLeft, ConsumesAtMost}
 use Rattle.ptb_devices.proofs.Cutting.{input_lines-cut}
 use Rattle.ptb_text.specs.Statements.{StoredProgram}
-use Rattle.ptb_expr.specs.declared.pause.Pause.{Pause}
-use Rattle.ptb_expr.specs.Outcome.{Answers}
+use Rattle.ptb_answers.specs.declared.pause.Pause.{Pause}
+use Rattle.ptb_answers.specs.Outcome.{Answers}
 use Rattle.ptb_command.specs.Devices.{Devices, refused_by}
 use Rattle.ptb_machine.specs.declared.fault.RunFault.TheVariants as runs
-use Rattle.ptb_expr.specs.declared.rules.Rules.{Rules}
+use Rattle.ptb_answers.specs.declared.rules.Rules.{Rules}
 use Rattle.ptb_command.specs.Stops.{NotMissed}
 use Rattle.ptb_machine.specs.Runs.{RunComes, UnlessRunMissed}
 use Rattle.ptb_command.specs.declared.ending.Ending.{Ending}

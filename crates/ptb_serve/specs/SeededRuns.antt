@@ -7,10 +7,10 @@ use Rattle.std.specs.Prelude.{◌≡◌, ℕ, zero, suc, List, [], ◌∷◌, �
 use Rattle.rand_pcg.specs.Lcg.{Lcg}
 use Rattle.rand_pcg.specs.Pcg.{pcg32}
 use Rattle.ptb_text.specs.Statements.{StoredProgram}
-use Rattle.ptb_expr.specs.Outcome.{Answers, Outcome, Done, Asks, Out, bounds}
-use Rattle.ptb_expr.specs.Seeds.{drawn_answer, drawn_answers, generator_of}
+use Rattle.ptb_answers.specs.Outcome.{Answers, Outcome, Done, Asks, Out, bounds}
+use Rattle.ptb_answers.specs.Seeds.{drawn_answer, drawn_answers, generator_of}
 use Rattle.ptb_command.specs.declared.ending.Ending.{Ending}
-use Rattle.ptb_expr.specs.declared.rules.Rules.{Rules}
+use Rattle.ptb_answers.specs.declared.rules.Rules.{Rules}
 use Rattle.ptb_machine.specs.Play.{play, plain}
 use Rattle.ptb_machine.specs.Questions.{most_answers}
 use Rattle.ptb_explore.specs.RunTree.{IsRun}

@@ -1,7 +1,7 @@
 //! How a request is served: a run of a program, a listing of its runs, or one of its text.
 //!
 //! It stands on `ptb_options`, `ptb_explore`, `ptb_machine`, on definitions of the two crates below
-//! that, on `ptb_expr` and `ptb_text`. The crate above may rely on `serve` (bytes, status and note
+//! that, on `ptb_answers` and `ptb_text`. The crate above may rely on `serve` (bytes, status and note
 //! are those of `specs/Replies`, or the note says what failed), on `Flushing` (a writer whose bytes are
 //! those of the one behind it, which it flushes) and on `reply_laws`.
 #![tactic(auto)]

@@ -12,7 +12,7 @@ ghost use Rattle.ptb_serve.specs.PlainRuns.{ShowsUnread};
 ghost use Rattle.ptb_serve.specs.PlainRuns.{input_limit, lines_come, lines_taken, lines_wanted, run_fault};
 ghost use Rattle.ptb_serve.specs.SeededRuns.{seeded_answers, seeded_run};
 
-use ptb_expr::{Chooser, Listed, Pause, Seeded};
+use ptb_answers::{Chooser, Listed, Pause, Seeded};
 use ptb_machine::{Ending, ReadFault, ReaderLines, Rules, RunFault, WriterScreen, run, run_laws};
 use ptb_text::{Program, Read, Write};
 use std::alloc::Global;

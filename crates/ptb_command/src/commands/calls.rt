@@ -18,7 +18,8 @@ use crate::reads::{check_end, pass_separator, value};
 use crate::registers::Registers;
 use crate::statements::beginning_of;
 use crate::stop::{Stop, fault};
-use ptb_expr::{Chooser, FaultKind};
+use ptb_answers::Chooser;
+use ptb_expr::FaultKind;
 use ptb_text::Program;
 use ptb_words::Cursor;
 

@@ -20,7 +20,8 @@ use crate::reads::value;
 use crate::registers::Registers;
 use crate::statements::{beginning_of, is_zero, place_after};
 use crate::stop::{Stop, fault};
-use ptb_expr::{Chooser, FaultKind};
+use ptb_answers::Chooser;
+use ptb_expr::FaultKind;
 use ptb_text::Program;
 use ptb_words::Cursor;
 

@@ -21,8 +21,9 @@ use crate::reads::{at_end, check_end, literal};
 use crate::registers::Registers;
 use crate::stop::{Stop, fault, still_shows};
 use itoa::Buffer;
+use ptb_answers::Chooser;
 use ptb_devices::{LineSource, Screen};
-use ptb_expr::{Chooser, FaultKind, Store};
+use ptb_expr::{FaultKind, Store};
 use ptb_words::{Cursor, Quoted, finding_laws};
 
 /// The width of the values at the start of each PRINT.

@@ -4,8 +4,8 @@ ghost use Rattle.std.specs.Prelude.{◌≤ℤ◌, pos, IfSome};
 
 use super::*;
 use crate::tests::{Counted, UNWRITTEN, expect_same, fault, letter};
+use ptb_answers::{Listed, Pause};
 use ptb_devices::{Line, Lines, TextScreen, WriterScreen};
-use ptb_expr::{Listed, Pause};
 use ptb_text::Device;
 use std::alloc::{AllocError, Global};
 use std::test::Fail;

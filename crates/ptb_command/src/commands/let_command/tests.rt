@@ -2,7 +2,7 @@
 
 use super::*;
 use crate::tests::{expect_same, fault, letter};
-use ptb_expr::Listed;
+use ptb_answers::Listed;
 use std::test::Fail;
 
 // Does the assignments of a text, and gives the place after them.

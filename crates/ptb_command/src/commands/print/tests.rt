@@ -2,8 +2,8 @@
 
 use super::*;
 use crate::tests::{Counted, UNWRITTEN, expect_same, fault};
+use ptb_answers::{Listed, Pause};
 use ptb_devices::{Lines, WriterScreen};
-use ptb_expr::{Listed, Pause};
 use ptb_text::Device;
 use std::test::Fail;
 

@@ -1,6 +1,6 @@
 -- This file answers that answers are a run exactly where all of them are taken, and nothing more.
 use Rattle.std.proofs.Common.{rules, ◌≡◌, [], ◌∙◌, length, refl, ap, sym, arith}
-use Rattle.ptb_expr.specs.Outcome.{bounds}
+use Rattle.ptb_answers.specs.Outcome.{bounds}
 use Rattle.ptb_machine.specs.Play.{Finish, play}
 use Rattle.ptb_machine.specs.Questions.{most_answers}
 use Rattle.ptb_explore.specs.Recording.{choices_of}

@@ -1,7 +1,7 @@
 -- This file answers that the bounds that are stated are looked at one after the other.
 use Rattle.std.proofs.Common.{rules, ◌≡◌, ◌∙◌, ap, sym, refl, ℤ, pos, true, get_or, FitsSigned, w16, to_z, to_z-of_z}
-use Rattle.ptb_expr.specs.declared.form.Marked.{Marked}
-use Rattle.ptb_expr.specs.AnswerText.{without_bound}
+use Rattle.ptb_answers.specs.declared.form.Marked.{Marked}
+use Rattle.ptb_answers.specs.AnswerText.{without_bound}
 use Rattle.ptb_explore.specs.MarkedRuns.{is_bound}
 use Rattle.ptb_explore.proofs.Order.{same_from}
 use Rattle.ptb_explore.proofs.Stated.{right_bound}

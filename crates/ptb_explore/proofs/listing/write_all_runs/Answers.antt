@@ -3,7 +3,7 @@ use Rattle.std.proofs.Common.{arith, rules, ◌≡◌, ℕ, List, Bool, Option, 
 use Rattle.std.proofs.lemmas.Grind.{common_steps}
 use Rattle.std.specs.Option.{option_eq}
 use Rattle.ptb_explore.specs.declared.fault.NextFault.{NextFault}
-use Rattle.ptb_expr.specs.declared.form.Form.{Form}
+use Rattle.ptb_answers.specs.declared.form.Form.{Form}
 use Rattle.ptb_explore.specs.declared.fault.NextFault.TheVariants as next
 use Rattle.ptb_explore.specs.RunTree.{Front, runs_left}
 use Rattle.ptb_explore.specs.Report.{report}

@@ -1,6 +1,6 @@
 -- This file answers that a run has as many bounds as answers.
 use Rattle.std.proofs.Common.{rules, ◌≡◌, ◌∙◌, ap, sym, length, []}
-use Rattle.ptb_expr.specs.Outcome.{bounds}
+use Rattle.ptb_answers.specs.Outcome.{bounds}
 use Rattle.ptb_explore.proofs.Bounds.{length-bounds}
 use Rattle.ptb_explore.specs.Exploring.{Reports, play_of}
 use Rattle.ptb_explore.proofs.listing.write_next.Goals as goal

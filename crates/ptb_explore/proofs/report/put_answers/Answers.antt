@@ -6,10 +6,10 @@ use Rattle.std.specs.List.{flat_map}
 use Rattle.std.proofs.lemmas.Result.{err_from_is_err_and}
 use Rattle.std.proofs.lemmas.List.{take_all}
 use Rattle.ptb_text.specs.Device.{TakesSome}
-use Rattle.ptb_expr.specs.Outcome.{Answers}
-use Rattle.ptb_expr.specs.declared.form.Form.{Form}
-use Rattle.ptb_expr.specs.declared.form.Marked.{Marked}
-use Rattle.ptb_expr.specs.AnswerText.{item_text, in_form, items_in, spelling}
+use Rattle.ptb_answers.specs.Outcome.{Answers}
+use Rattle.ptb_answers.specs.declared.form.Form.{Form}
+use Rattle.ptb_answers.specs.declared.form.Marked.{Marked}
+use Rattle.ptb_answers.specs.AnswerText.{item_text, in_form, items_in, spelling}
 use Rattle.ptb_explore.proofs.Gathering.{gathers_same, gathers_piece, some_piece}
 use Rattle.ptb_explore.proofs.ReportText.{pieces_of, whole_piece, piece_at, item_at, spelling_in_pieces, length-pieces_of, length-items_in}
 use Rattle.ptb_explore.proofs.report.put_answers.Goals as goal

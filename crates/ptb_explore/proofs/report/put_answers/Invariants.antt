@@ -1,7 +1,7 @@
 -- This file says what is gathered after some of the answers.
 use Rattle.std.proofs.Common.{◌≡◌, ◌++◌, take}
 use Rattle.std.specs.List.{flat_map}
-use Rattle.ptb_expr.specs.AnswerText.{items_in}
+use Rattle.ptb_answers.specs.AnswerText.{items_in}
 use Rattle.ptb_explore.specs.Report.{Gathers}
 use Rattle.ptb_explore.proofs.ReportText.{pieces_of, whole_piece}
 use Rattle.ptb_explore.proofs.report.put_answers.Given as goal

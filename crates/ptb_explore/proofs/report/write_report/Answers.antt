@@ -2,7 +2,7 @@
 use Rattle.std.proofs.Common.{◌≡◌, ◌++◌, ◌∙◌, subst, codes, decimal, length}
 use Rattle.std.proofs.lemmas.Result.{err_from_is_err_and, on_ok_weaker, on_err_weaker}
 use Rattle.ptb_text.specs.Device.{TakesSome}
-use Rattle.ptb_expr.specs.AnswerText.{spelling, items_in}
+use Rattle.ptb_answers.specs.AnswerText.{spelling, items_in}
 use Rattle.ptb_explore.specs.Report.{Gathers}
 use Rattle.ptb_explore.proofs.Gathering.{gathers_same, gathers_more, some_more, some_after, all_after, some_rest}
 use Rattle.ptb_explore.proofs.ReportText.{behind_answers, report_in_pieces}

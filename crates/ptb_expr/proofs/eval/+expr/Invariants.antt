@@ -2,7 +2,7 @@
 use Rattle.std.proofs.Common.{◌≡◌, ℕ, ◌+◌, ◌*◌, ◌≤◌, List}
 use Rattle.ptb_words.specs.CursorState.{bytes_left}
 use Rattle.ptb_expr.specs.Operators.{product_operator, sum_operator}
-use Rattle.ptb_expr.specs.Choices.{Reaches}
+use Rattle.ptb_answers.specs.Choices.{Reaches}
 use Rattle.ptb_expr.specs.Working.{expr, more, factor, product, sum}
 use Rattle.ptb_expr.proofs.eval.+expr.Given as goal
 

@@ -2,8 +2,8 @@
 use Rattle.std.proofs.Common.{rules, ◌≡◌, ◌∙◌, ap, sym, Option, Some, None, FitsSigned, w16, to_z-of_z}
 use Rattle.std.specs.Prelude.{is_some}
 use Rattle.std.proofs.lemmas.Bool.{false≢true}
-use Rattle.ptb_expr.specs.declared.form.Marked.{Marked}
-use Rattle.ptb_expr.specs.AnswerText.{without_bound}
+use Rattle.ptb_answers.specs.declared.form.Marked.{Marked}
+use Rattle.ptb_answers.specs.AnswerText.{without_bound}
 use Rattle.ptb_options.proofs.answers.parse_answer.Goals as goal
 
 none_is_some : (m : Marked) → ◌≡◌ {A = Option Marked} None (Some m) → ⊥

@@ -11,7 +11,7 @@ use Rattle.std.specs.Str.Iter.{split_text, split_has_more, split_pattern}
 use Rattle.std.proofs.lemmas.List.Elements.{All-push}
 use Rattle.std.proofs.lemmas.Iterator.Splits.{YieldsList-from_str_split}
 use Rattle.std.proofs.lemmas.Iterator.Consumers.{YieldsList-turn, YieldsList-end}
-use Rattle.ptb_expr.specs.AnswerText.{unmarked, without_bound}
+use Rattle.ptb_answers.specs.AnswerText.{unmarked, without_bound}
 use Rattle.ptb_options.specs.AnswerLists.{IsItem, SpellsItem}
 use Rattle.ptb_options.proofs.AnswerTexts.{list_of_words, one_list_of_answers, word_of_answers, more_words, unmarked-push}
 use Rattle.ptb_options.proofs.answers.parse_answers.Goals as goal

@@ -1,7 +1,7 @@
 -- This file says what the loops of `parse_answers` keep.
 use Rattle.std.proofs.Common.{◌≡◌, map}
 use Rattle.std.specs.Prelude.{All}
-use Rattle.ptb_expr.specs.AnswerText.{item_text, unmarked}
+use Rattle.ptb_answers.specs.AnswerText.{item_text, unmarked}
 use Rattle.ptb_options.specs.AnswerLists.{IsItem}
 use Rattle.ptb_options.proofs.answers.parse_answers.Given as goal
 

@@ -2,7 +2,7 @@
 use Rattle.std.proofs.Common.{rules, ◌≡◌, ◌∙◌, ap, ap₂, sym, arith, ℤ, Option, Some, None, FitsSigned, w16, to_z-of_z}
 use Rattle.std.proofs.lemmas.Grind.{common_steps}
 use Rattle.std.proofs.lemmas.Str.Pattern.{split_parts}
-use Rattle.ptb_expr.specs.AnswerText.{with_bound, without_bound}
+use Rattle.ptb_answers.specs.AnswerText.{with_bound, without_bound}
 use Rattle.ptb_options.proofs.AnswerTexts.{item_is_number, item_is_numbers}
 use Rattle.ptb_options.proofs.answers.parse_item.Goals as goal
 

@@ -8,7 +8,7 @@ use Rattle.std.specs.Str.Iter.{split_text, split_has_more, split_pattern}
 use Rattle.std.proofs.lemmas.List.Elements.{All-push}
 use Rattle.std.proofs.lemmas.Iterator.Splits.{YieldsList-from_str_split}
 use Rattle.std.proofs.lemmas.Iterator.Consumers.{YieldsList-turn, YieldsList-end}
-use Rattle.ptb_expr.specs.declared.form.Marked.{Marked}
+use Rattle.ptb_answers.specs.declared.form.Marked.{Marked}
 use Rattle.ptb_options.specs.AnswerLists.{IsItem, SpellsItem}
 use Rattle.ptb_options.proofs.AnswerTexts.{list_of_words, one_list, word_of_list, more_words}
 use Rattle.ptb_options.proofs.answers.parse_list.Goals as goal

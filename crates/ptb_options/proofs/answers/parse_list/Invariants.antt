@@ -1,7 +1,7 @@
 -- This file says what the loops of `parse_list` keep.
 use Rattle.std.proofs.Common.{◌≡◌, map}
 use Rattle.std.specs.Prelude.{All}
-use Rattle.ptb_expr.specs.AnswerText.{item_text}
+use Rattle.ptb_answers.specs.AnswerText.{item_text}
 use Rattle.ptb_options.specs.AnswerLists.{IsItem}
 use Rattle.ptb_options.proofs.answers.parse_list.Given as goal
 

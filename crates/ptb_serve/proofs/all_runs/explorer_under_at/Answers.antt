@@ -2,7 +2,7 @@
 use Rattle.std.proofs.Common.{Some, Err, ap, ap₂}
 use Rattle.std.proofs.lemmas.Result.{err_from_is_err_and}
 use Rattle.ptb_machine.specs.Play.{play}
-use Rattle.ptb_expr.specs.AnswerText.{answers_of}
+use Rattle.ptb_answers.specs.AnswerText.{answers_of}
 use Rattle.ptb_serve.specs.Replies.{note_of}
 use Rattle.ptb_serve.proofs.Fronts.{front_true, unbegun_after}
 use Rattle.ptb_serve.proofs.all_runs.explorer_under_at.Goals as goal

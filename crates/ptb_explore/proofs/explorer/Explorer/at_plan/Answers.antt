@@ -1,6 +1,6 @@
 -- This file answers that an explorer stands at the run of a plan, if its bounds are as they are stated.
 use Rattle.std.proofs.Common.{◌≡◌, ap, sym, ◌∙◌, subst, length, [], arith}
-use Rattle.ptb_expr.specs.Outcome.{Answers, bounds}
+use Rattle.ptb_answers.specs.Outcome.{Answers, bounds}
 use Rattle.ptb_machine.specs.Play.{play}
 use Rattle.ptb_explore.specs.Copies.{AreBeginnings, AreCopies, kept_runs}
 use Rattle.ptb_explore.proofs.Bounds.{length-bounds}

@@ -1,9 +1,9 @@
 -- This file answers that an explorer stands before the runs that begin with a list, if its bounds are as they are stated.
 use Rattle.std.proofs.Common.{arith, rules, ◌≡◌, ◌∙◌, ap, sym, true, false, length, take}
 use Rattle.std.proofs.lemmas.Grind.{common_steps}
-use Rattle.ptb_expr.specs.Outcome.{Answers, bounds, is_open}
+use Rattle.ptb_answers.specs.Outcome.{Answers, bounds, is_open}
 use Rattle.ptb_machine.specs.Play.{play}
-use Rattle.ptb_expr.specs.AnswerText.{answers_of}
+use Rattle.ptb_answers.specs.AnswerText.{answers_of}
 use Rattle.ptb_explore.specs.Exploring.{Exploration, IsPlayed}
 use Rattle.ptb_explore.specs.MarkedRuns.{states_bounds}
 use Rattle.ptb_explore.specs.RunTree.{Start, IsNextRun}

@@ -1,0 +1,3 @@
+-- This file names the files of lemmas.
+pub mod Seeds
+pub mod Readers

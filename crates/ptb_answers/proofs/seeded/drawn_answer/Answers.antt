@@ -1,0 +1,6 @@
+-- This file proves goals of `drawn_answer` by short searches, so that a wrong body is refused soon.
+use Rattle.std.proofs.Common.{rules}
+use Rattle.ptb_answers.proofs.seeded.drawn_answer.Goals as goal
+
+pub returns : goal.returns
+returns c = search rules fits 50 depth 2

@@ -1,0 +1,5 @@
+-- This file names the files of definitions.
+pub mod Outcome
+pub mod Choices
+pub mod Seeds
+pub mod AnswerText
