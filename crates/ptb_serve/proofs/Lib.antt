@@ -3,8 +3,5 @@ pub mod Replying
 pub mod Fronts
 pub mod Served
 pub mod Running
-pub mod Playing
 pub mod Listed
-pub mod Taking
-pub mod Drawing
-pub mod Answering
+pub mod Drawn

@@ -28,11 +28,11 @@ use Rattle.ptb_options.specs.declared.request.Mode.{Mode}
 use Rattle.ptb_options.specs.declared.request.Mode.TheVariants as modes
 use Rattle.ptb_options.specs.declared.request.Request.{Request}
 use Rattle.ptb_serve.specs.Loaded.{ReadsInput, ServesProgram}
-use Rattle.ptb_serve.specs.PlainRuns.{IsUnreadable, input_limit}
+use Rattle.ptb_plain.specs.PlainRuns.{IsUnreadable, input_limit}
 use Rattle.ptb_serve.specs.Replies.{Reply, refusal, success, answers_under, first_front, front_note, is_front, is_share, listed_runs, listing_reply, runs_reply, all_reply}
 use Rattle.ptb_serve.specs.Serving.{outcome_of, input_note, reports_note, IsUnloaded, Serves, SilentBy}
 use Rattle.ptb_serve.proofs.Fronts.{note_is}
-use Rattle.ptb_serve.proofs.Playing.{takes_beginning}
+use Rattle.ptb_plain.proofs.Playing.{takes_beginning}
 use Rattle.ptb_serve.proofs.Served.{at_known, consumes_nothing, nothing_told, serves_loaded, takes_nothing, replies_refusal}
 
 -- ---- nothing was written but the front of what is due

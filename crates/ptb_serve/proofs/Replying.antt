@@ -21,8 +21,8 @@ use Rattle.ptb_serve.specs.declared.note.Note.TheVariants as notes
 use Rattle.ptb_options.specs.declared.request.Mode.{Mode}
 use Rattle.ptb_options.specs.declared.request.Mode.TheVariants as modes
 use Rattle.ptb_options.specs.declared.request.Request.{Request}
-use Rattle.ptb_serve.specs.SeededRuns.{seeded_answers}
-use Rattle.ptb_serve.proofs.Drawing.{one_is_drawn}
+use Rattle.ptb_plain.specs.SeededRuns.{seeded_answers}
+use Rattle.ptb_serve.proofs.Drawn.{one_is_drawn}
 use Rattle.ptb_serve.specs.Replies.{Reply, refusal, plain_reply, seeded_reply, answers_under, first_front, front_note, is_front, note_of, all_reply, listing_reply, program_of_text, reply_or_refusal, program_reply, reply_in_mode}
 use Rattle.ptb_serve.specs.ReplyLaws.{ListsRuns, RunReplies, RunsBySeed, ReplyLaws}
 use Rattle.ptb_serve.proofs.Fronts.{begun_after, begun_both, begun_under, both_parts, both_true, no_front, no_share, share_true}

@@ -18,9 +18,9 @@ use Rattle.ptb_serve.specs.declared.note.Note.{Note}
 use Rattle.ptb_serve.specs.declared.note.Note.TheVariants as notes
 use Rattle.ptb_serve.specs.declared.service.Outcome.{Outcome}
 use Rattle.ptb_serve.specs.Loaded.{IsRunStatus, ReadsInput, ServesProgram, TellsFailures}
-use Rattle.ptb_serve.specs.PlainRuns.{IsUnreadable, ReadsFor, ShowsRun, ShowsUnread, ending_wanted, input_limit, lines_come, lines_taken, lines_wanted}
+use Rattle.ptb_plain.specs.PlainRuns.{IsUnreadable, ReadsFor, ShowsRun, ShowsUnread, ending_wanted, input_limit, lines_come, lines_taken, lines_wanted}
 use Rattle.ptb_serve.specs.Replies.{Reply, program_reply, program_reply_in_mode, run_reply}
-use Rattle.ptb_serve.specs.SeededRuns.{seeded_answers}
+use Rattle.ptb_plain.specs.SeededRuns.{seeded_answers}
 use Rattle.ptb_serve.specs.Serving.{EndsUnread, IsInput, IsPlainRun, IsUnloaded, NeedsInput, NeedsWholeInput, ReadsBy, ReadsForRun, Serves, ServesUnread, SilentBy, outcome_of, outcome_wanted}
 use Rattle.ptb_serve.proofs.Served.{at_known, each_known, reads_loaded, serves_ended, serves_loaded, status_within, unread_loaded, wanted_ended}
 

@@ -22,7 +22,7 @@ use Rattle.ptb_serve.specs.declared.note.Note.{Note}
 use Rattle.ptb_serve.specs.declared.note.Note.TheVariants as notes
 use Rattle.ptb_serve.specs.declared.service.Outcome.{Outcome}
 use Rattle.ptb_serve.specs.Statuses.{note_status}
-use Rattle.ptb_serve.specs.PlainRuns.{ShowsRun, lines_come, ShowsUnread, ending_wanted, lines_taken, lines_wanted, ReadsFor}
+use Rattle.ptb_plain.specs.PlainRuns.{ShowsRun, lines_come, ShowsUnread, ending_wanted, lines_taken, lines_wanted, ReadsFor}
 use Rattle.ptb_serve.specs.Replies.{Reply, refusal, run_reply, program_of_text, reply_or_refusal, program_reply}
 use Rattle.ptb_serve.specs.Serving.{outcome_of, EndsUnread, ReadsBy, outcome_wanted, wanted_by, load_note, IsUnloaded, ReadsForRun, Replies, Serves, SilentBy, SilentWithoutMemory, TellsLength, TellsRefusal, load_fault_note, seeded_taken}
 

@@ -3,7 +3,5 @@ pub mod Statuses
 pub mod Replies
 pub mod ReplyLaws
 pub mod Flushed
-pub mod PlainRuns
-pub mod SeededRuns
 pub mod Serving
 pub mod Loaded

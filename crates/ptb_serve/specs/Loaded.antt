@@ -16,7 +16,7 @@ use Rattle.ptb_options.specs.declared.request.Mode.{Mode}
 use Rattle.ptb_options.specs.declared.request.Request.{Request}
 use Rattle.ptb_serve.specs.declared.note.Note.{Note}
 use Rattle.ptb_serve.specs.declared.note.Note.TheVariants as notes
-use Rattle.ptb_serve.specs.PlainRuns.{IsUnreadable, input_limit}
+use Rattle.ptb_plain.specs.PlainRuns.{IsUnreadable, input_limit}
 use Rattle.ptb_serve.specs.Replies.{reply_in_mode}
 use Rattle.ptb_serve.specs.Serving.{IsInput, IsPlainRun, IsUnloaded, NeedsInput, NeedsWholeInput, ReadsForRun, Serves, ServesUnread, SilentBy, outcome_of}
 

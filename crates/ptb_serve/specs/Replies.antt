@@ -23,7 +23,7 @@ use Rattle.ptb_serve.specs.declared.note.Note.TheVariants as notes
 use Rattle.ptb_options.specs.declared.request.Mode.{Mode}
 use Rattle.ptb_options.specs.declared.request.Mode.TheVariants as modes
 use Rattle.ptb_options.specs.declared.request.Request.{Request}
-use Rattle.ptb_serve.specs.SeededRuns.{seeded_run}
+use Rattle.ptb_plain.specs.SeededRuns.{seeded_run}
 use Rattle.ptb_serve.specs.Statuses.{note_status}
 
 -- ---- replies

@@ -1,5 +1,6 @@
 -- This file states the laws of replies.
 --     ListsRuns play IsListed reply    the replies to a listing are the reports of these runs, or of the first n of them
+--     IsDrawn seed play a              a is a run, and its answers are drawn from the seed for the bounds of its questions
 --     RunsBySeed seed play reply       the reply to a run by a seed is that to one plain run, whose answers are drawn from the seed
 --     RunReplies play reply            what the replies are where a program is run, once or with all answers
 --     ReplyLaws                        what a reply is for every program text and every input
@@ -14,6 +15,7 @@ use Rattle.ptb_machine.specs.Play.{Finish, play, plain_of}
 use Rattle.ptb_answers.specs.declared.form.Form.{Form}
 use Rattle.ptb_answers.specs.declared.form.Marked.{Marked}
 use Rattle.ptb_answers.specs.AnswerText.{answers_of, items_in}
+use Rattle.ptb_answers.specs.Seeds.{drawn_answers}
 use Rattle.ptb_explore.specs.Listing.{text}
 use Rattle.ptb_explore.specs.MarkedRuns.{IsMarkedBeginning, IsMarkedRun}
 use Rattle.ptb_explore.specs.Report.{report, report_text, word_of}
@@ -22,7 +24,6 @@ use Rattle.ptb_serve.specs.declared.note.Note.TheVariants as notes
 use Rattle.ptb_options.specs.declared.request.Mode.{Mode}
 use Rattle.ptb_options.specs.declared.request.Mode.TheVariants as modes
 use Rattle.ptb_options.specs.declared.request.Request.{Request}
-use Rattle.ptb_serve.specs.SeededRuns.{IsDrawn}
 use Rattle.ptb_serve.specs.Replies.{Reply, refusal, success, run_reply, program_of_text, reply_to}
 
 -- One list of runs stands behind all replies of a listing, whatever number of them is asked for, and in whatever form.
@@ -36,6 +37,10 @@ pub record ListsRuns (play : Answers → Outcome Finish (List ℕ)) (IsListed : 
   pub all : (form : Form) → reply None form ≡ success (text (report form play) runs)
   -- with a number n, the reports of the first n of them, or of all where there are fewer
   pub first : (n : ℕ) (form : Form) → reply (Some n) form ≡ success (text (report form play) (take n runs))
+
+pub record IsDrawn {A W : Type 0} (seed : ℕ) (play : Answers → Outcome A W) (a : Answers) : Type 0 where
+  pub run : IsRun play a
+  pub drawn : a ≡ drawn_answers seed (bounds play a)
 
 -- A seed gives the answers of one run: each is drawn from the seed for the bound of its question. No other list of answers is drawn so.
 pub record RunsBySeed (seed : ℕ) (play : Answers → Outcome Finish (List ℕ)) (reply : Mode → Reply) : Type 0 where

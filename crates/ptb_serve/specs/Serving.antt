@@ -44,9 +44,9 @@ use Rattle.ptb_options.specs.declared.request.Mode.TheVariants as modes
 use Rattle.ptb_serve.specs.declared.service.Outcome.{Outcome}
 use Rattle.ptb_serve.specs.Statuses.{note_status}
 use Rattle.ptb_options.specs.declared.request.Request.{Request}
-use Rattle.ptb_serve.specs.PlainRuns.{ReadsFor, lines_come, lines_taken}
+use Rattle.ptb_plain.specs.PlainRuns.{ReadsFor, lines_come, lines_taken}
 use Rattle.ptb_serve.specs.Replies.{Reply, lines_reply, seeded_lines_reply, program_of_text, program_reply}
-use Rattle.ptb_serve.specs.SeededRuns.{seeded_answers}
+use Rattle.ptb_plain.specs.SeededRuns.{seeded_answers}
 
 -- ---- outcomes
 

@@ -10,11 +10,10 @@ mod all_runs;
 mod flushing;
 mod laws;
 mod note;
-mod plain;
 mod service;
 
 pub use flushing::Flushing;
 pub use laws::reply_laws;
 pub use note::Note;
-pub use plain::{run_plain, run_seeded};
+pub use ptb_plain::{run_plain, run_seeded};
 pub use service::{Outcome, serve};

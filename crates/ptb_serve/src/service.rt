@@ -8,7 +8,7 @@ ghost use Rattle.ptb_machine.specs.Play.{status};
 ghost use Rattle.ptb_devices.specs.Sources.{ConsumesAtMost};
 ghost use Rattle.ptb_serve.specs.declared.note.Note.TheVariants.{Load};
 ghost use Rattle.ptb_serve.specs.Loaded.{IsRunStatus, ReadsInput, ServesProgram, TellsFailures};
-ghost use Rattle.ptb_serve.specs.PlainRuns.{IsUnreadable, input_limit};
+ghost use Rattle.ptb_plain.specs.PlainRuns.{IsUnreadable, input_limit};
 ghost use Rattle.ptb_serve.specs.Replies.{program_of_text, refusal, reply_to};
 ghost use Rattle.ptb_serve.specs.Serving.{IsInput, IsPlainRun, IsUnloaded, NeedsInput};
 ghost use Rattle.ptb_serve.specs.Serving.{NeedsWholeInput, ReadsForRun, Serves, ServesUnread, SilentBy};
@@ -18,9 +18,9 @@ ghost use Rattle.ptb_serve.specs.Statuses.{note_status};
 
 use crate::all_runs::list_runs;
 use crate::note::Note;
-use crate::plain::{run_plain, run_seeded};
 use ptb_machine::{Ending, RunFault};
 use ptb_options::{Mode, Request};
+use ptb_plain::{run_plain, run_seeded};
 use ptb_text::{Program, Read, Write, list, load};
 use std::alloc::Global;
 

@@ -5,7 +5,7 @@ use Rattle.ptb_options.specs.declared.request.Mode.{Mode}
 use Rattle.ptb_options.specs.declared.request.Mode.TheVariants as modes
 use Rattle.ptb_serve.specs.declared.note.Note.TheVariants as notes
 use Rattle.ptb_serve.specs.Loaded.{ServesProgram}
-use Rattle.ptb_serve.specs.SeededRuns.{seeded_answers}
+use Rattle.ptb_plain.specs.SeededRuns.{seeded_answers}
 use Rattle.ptb_serve.proofs.Listed.{text_reads, text_serves}
 use Rattle.ptb_serve.proofs.Running.{Ran, plain_reads, plain_serves, run_failures, seeded_reads, seeded_serves}
 use Rattle.ptb_serve.proofs.service.serve_program.Goals as goal

@@ -7,10 +7,10 @@ ghost use Rattle.ptb_text.specs.Device.{GivesAtMost, GivesExactly, HasFailed, Ta
 ghost use Rattle.ptb_text.specs.Lines.{input_lines};
 ghost use Rattle.ptb_machine.specs.Play.{plain};
 ghost use Rattle.ptb_devices.specs.Sources.{ConsumesAtMost};
-ghost use Rattle.ptb_serve.specs.PlainRuns.{GoesBy, IsUnreadable, ReadsFor, ShowsRun};
-ghost use Rattle.ptb_serve.specs.PlainRuns.{ShowsUnread};
-ghost use Rattle.ptb_serve.specs.PlainRuns.{input_limit, lines_come, lines_taken, lines_wanted, run_fault};
-ghost use Rattle.ptb_serve.specs.SeededRuns.{seeded_answers, seeded_run};
+ghost use Rattle.ptb_plain.specs.PlainRuns.{GoesBy, IsUnreadable, ReadsFor, ShowsRun};
+ghost use Rattle.ptb_plain.specs.PlainRuns.{ShowsUnread};
+ghost use Rattle.ptb_plain.specs.PlainRuns.{input_limit, lines_come, lines_taken, lines_wanted, run_fault};
+ghost use Rattle.ptb_plain.specs.SeededRuns.{seeded_answers, seeded_run};
 
 use ptb_answers::{Chooser, Listed, Pause, Seeded};
 use ptb_machine::{Ending, ReadFault, ReaderLines, Rules, RunFault, WriterScreen, run, run_laws};

@@ -2,18 +2,16 @@
 --     answers_by most g f              what a generator draws for the questions of f, one after the other
 --     seeded_answers seed p input rules     the answers of the run of a program by a seed
 --     seeded_run seed p input rules    the bytes and the ending of this run
---     IsDrawn seed play a              a is a run, and its answers are drawn from the seed for the bounds of its questions
-use Rattle.std.specs.Prelude.{◌≡◌, ℕ, zero, suc, List, [], ◌∷◌, ℤ}
+use Rattle.std.specs.Prelude.{ℕ, zero, suc, List, [], ◌∷◌, ℤ}
 use Rattle.rand_pcg.specs.Lcg.{Lcg}
 use Rattle.rand_pcg.specs.Pcg.{pcg32}
 use Rattle.ptb_text.specs.Statements.{StoredProgram}
-use Rattle.ptb_answers.specs.Outcome.{Answers, Outcome, Done, Asks, Out, bounds}
-use Rattle.ptb_answers.specs.Seeds.{drawn_answer, drawn_answers, generator_of}
+use Rattle.ptb_answers.specs.Outcome.{Answers, Outcome, Done, Asks, Out}
+use Rattle.ptb_answers.specs.Seeds.{drawn_answer, generator_of}
 use Rattle.ptb_command.specs.declared.ending.Ending.{Ending}
 use Rattle.ptb_answers.specs.declared.rules.Rules.{Rules}
 use Rattle.ptb_machine.specs.Play.{play, plain}
 use Rattle.ptb_machine.specs.Questions.{most_answers}
-use Rattle.ptb_explore.specs.RunTree.{IsRun}
 
 -- where a question is left open, it is answered
 abbrev pub to_question : {A W : Type 0} → (ℤ → Answers) → Outcome A W → Answers
@@ -33,7 +31,3 @@ seeded_answers seed p input rules = answers_by (most_answers p input rules.limit
 
 abbrev pub seeded_run : ℕ → StoredProgram → List (List ℕ) → Rules → List ℕ × Ending
 seeded_run seed p input rules = plain p input rules (seeded_answers seed p input rules)
-
-pub record IsDrawn {A W : Type 0} (seed : ℕ) (play : Answers → Outcome A W) (a : Answers) : Type 0 where
-  pub run : IsRun play a
-  pub drawn : a ≡ drawn_answers seed (bounds play a)

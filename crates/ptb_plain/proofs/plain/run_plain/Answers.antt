@@ -1,6 +1,6 @@
 -- This file answers that a run with a list of answers is the plain run with this list.
-use Rattle.ptb_serve.proofs.Answering.{goes_by_list, none_refused}
-use Rattle.ptb_serve.proofs.plain.run_plain.Goals as goal
+use Rattle.ptb_plain.proofs.Answering.{goes_by_list, none_refused}
+use Rattle.ptb_plain.proofs.plain.run_plain.Goals as goal
 
 pub returns-clause-ok : goal.returns-clause-ok
 returns-clause-ok g c = c.run_on_input.ensures.ok (λ _. c.args.answers.now)

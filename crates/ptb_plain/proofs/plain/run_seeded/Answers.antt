@@ -1,7 +1,7 @@
 -- This file answers that a run by a seed is the plain run with the answers that are drawn from the seed.
-use Rattle.ptb_serve.specs.SeededRuns.{seeded_answers}
-use Rattle.ptb_serve.proofs.Drawing.{goes_by_seed}
-use Rattle.ptb_serve.proofs.plain.run_seeded.Goals as goal
+use Rattle.ptb_plain.specs.SeededRuns.{seeded_answers}
+use Rattle.ptb_plain.proofs.Drawing.{goes_by_seed}
+use Rattle.ptb_plain.proofs.plain.run_seeded.Goals as goal
 
 pub returns-clause-ok : goal.returns-clause-ok
 returns-clause-ok g c = c.run_on_input.ensures.ok (λ lines. seeded_answers c.args.seed c.args.program.now lines c.args.rules)

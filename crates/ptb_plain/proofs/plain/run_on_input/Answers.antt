@@ -8,11 +8,11 @@ use Rattle.ptb_devices.specs.Sources.{NoneLeft}
 use Rattle.ptb_machine.specs.declared.fault.RunFault.TheVariants as runs
 use Rattle.ptb_machine.specs.Runs.{UnlessRunMissed}
 use Rattle.ptb_answers.specs.Outcome.{Answers}
-use Rattle.ptb_serve.specs.PlainRuns.{GoesBy, lines_taken, run_fault}
-use Rattle.ptb_serve.proofs.Playing.{IsRunBetween, IsUnreadBetween, led_run, led_run_takes, led_run_dry, run_between, unread_between, state_of}
-use Rattle.ptb_serve.proofs.Taking.{fresh, failed_or_given, fault_unread, fault_without_memory, given_at_most, is_unreadable, reads_unfailed, takes_at_most, never_unread, where_ok, where_err, taken_by, shows_input, begins_input, shows_come, fault_missed, wanted_within, wanted_at_fault, reads_for, takes_within}
-use Rattle.ptb_serve.proofs.plain.run_on_input.Goals as goal
-use Rattle.ptb_serve.proofs.plain.run_on_input.Goals.{After-run_fault, In-None}
+use Rattle.ptb_plain.specs.PlainRuns.{GoesBy, lines_taken, run_fault}
+use Rattle.ptb_plain.proofs.Playing.{IsRunBetween, IsUnreadBetween, led_run, led_run_takes, led_run_dry, run_between, unread_between, state_of}
+use Rattle.ptb_plain.proofs.Taking.{fresh, failed_or_given, fault_unread, fault_without_memory, given_at_most, is_unreadable, reads_unfailed, takes_at_most, never_unread, where_ok, where_err, taken_by, shows_input, begins_input, shows_come, fault_missed, wanted_within, wanted_at_fault, reads_for, takes_within}
+use Rattle.ptb_plain.proofs.plain.run_on_input.Goals as goal
+use Rattle.ptb_plain.proofs.plain.run_on_input.Goals.{After-run_fault, In-None}
 
 -- ---- where the source has come to a fault
 

@@ -29,8 +29,8 @@ use Rattle.ptb_command.specs.declared.ending.Ending.{Ending}
 use Rattle.ptb_command.specs.declared.ending.Ending.TheVariants as endings
 use Rattle.ptb_machine.specs.declared.fault.RunFault.{RunFault}
 use Rattle.ptb_machine.specs.Play.{plain}
-use Rattle.ptb_serve.specs.PlainRuns.{IsUnreadable, ShowsRun, ShowsUnread, run_fault, lines_come, lines_taken, ending_wanted, lines_wanted, ReadsFor}
-use Rattle.ptb_serve.proofs.Playing.{IsRunBetween, IsUnreadBetween}
+use Rattle.ptb_plain.specs.PlainRuns.{IsUnreadable, ShowsRun, ShowsUnread, run_fault, lines_come, lines_taken, ending_wanted, lines_wanted, ReadsFor}
+use Rattle.ptb_plain.proofs.Playing.{IsRunBetween, IsUnreadBetween}
 
 abbrev pub fresh : Option (List ℕ) → ℕ → ℕ → InputNow
 fresh known x f = record { state = fresh_input; bytes = known; given = x; failures = f }

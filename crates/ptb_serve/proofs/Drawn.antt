@@ -1,50 +1,19 @@
--- This file proves that the answers of a run by a seed are those that are drawn for the bounds of its questions.
-use Rattle.std.proofs.Common.{◌≡◌, ◌∙◌, ℕ, zero, suc, ◌<◌, ◌%◌, ◌⊎◌, true, List, [], ◌∷◌, ◌++◌, length, refl, sym, ap, subst, arith, inl, inr}
+-- This file proves that a seed gives the answers of one run, each drawn for the bound of its question, and that no other list is drawn so.
+use Rattle.std.proofs.Common.{◌≡◌, ◌∙◌, ℕ, zero, suc, ◌<◌, ◌%◌, ◌⊎◌, true, List, [], ◌∷◌, refl, sym, ap, subst, arith, inl, inr}
 use Rattle.std.proofs.lemmas.Int.{ints}
 use Rattle.std.proofs.lemmas.Nat.{mod_below}
-use Rattle.std.specs.Prelude.{ℤ, pos, negsuc, ◌≤ℤ◌, Some}
+use Rattle.std.specs.Prelude.{ℤ, pos, negsuc, ◌≤ℤ◌}
 use Rattle.rand_pcg.specs.Lcg.{Lcg}
 use Rattle.rand_pcg.specs.Pcg.{pcg32}
-use Rattle.ptb_text.specs.Statements.{StoredProgram}
 use Rattle.ptb_answers.specs.Outcome.{Answers, Outcome, Done, Asks, IsReader, bounds, bounds_after, bound_of, is_answer, is_whole}
+use Rattle.ptb_answers.specs.Seeds.{drawn_answer, drawn_from, generator_of}
 use Rattle.ptb_answers.proofs.Readers.{open_is, whole_is}
-use Rattle.ptb_answers.specs.Choices.{Asked, with_answers}
-use Rattle.ptb_answers.specs.Seeds.{SeededAnswers, RefusedForMemory, drawn_answer, drawn_answers, drawn_from, generator_of, seeded_choices}
-use Rattle.ptb_machine.specs.Laws.{RunLaws}
-use Rattle.ptb_answers.specs.declared.rules.Rules.{Rules}
-use Rattle.ptb_machine.specs.Play.{play}
-use Rattle.ptb_machine.specs.Questions.{most_answers}
-use Rattle.ptb_serve.specs.PlainRuns.{GoesBy}
 use Rattle.ptb_explore.specs.RunTree.{IsRun}
 use Rattle.ptb_explore.proofs.Bounds.{bounds_from}
 use Rattle.ptb_explore.proofs.Tree.{run_asks}
-use Rattle.ptb_serve.specs.SeededRuns.{IsDrawn, answers_by, seeded_answers, to_question}
-
--- where something is asked, fewer answers were given
-abbrev pub Few : {A W : Type 0} → (Answers → Outcome A W) → ℕ → Type 0
-Few {W = W} f most = (q : Answers) (n : ℤ) (w : W) → f q ≡ Asks n w → length q < most
-
-few_behind : {A W : Type 0} (f : Answers → Outcome A W) (most : ℕ) (k : ℤ) → Few f (suc most) → Few (λ a. f (k ∷ a)) most
-few_behind f most k few = λ q n w e. let l = few (k ∷ q) n w e in omega (arith, l)
-
--- what is answered begins with what was taken, where that was drawn for its bounds
-pub drawn_first : {A W : Type 0} (most : ℕ) (g : Lcg) (f : Answers → Outcome A W) (ts : Answers) (bs : List ℤ) → Few f most → Asked f ts bs → ts ≡ drawn_from g bs
-    → (rest : Answers) × (answers_by most g f ≡ ts ++ rest)
-drawn_first most g f [] [] few asked e = (answers_by most g f, refl)
-drawn_first most g f [] (n ∷ bs) few asked e = absurd asked
-drawn_first most g f (k ∷ ts) [] few asked e = absurd asked
-drawn_first zero g f (k ∷ ts) (n ∷ bs) few asked e = let l = few [] n asked.0.0 asked.0.1 in absurd (omega (arith, l))
-drawn_first (suc most) g f (k ∷ ts) (n ∷ bs) few asked e =
-    let first : k ≡ drawn_answer (pcg32 g).0 n = cc in
-    let others : ts ≡ drawn_from (pcg32 g).1 bs = cc in
-    let behind = drawn_first most (pcg32 g).1 (λ a. f (k ∷ a)) ts bs (few_behind f most k few) asked.1 others in
-    let answered : answers_by (suc most) g f ≡ drawn_answer (pcg32 g).0 n ∷ answers_by most (pcg32 g).1 (λ a. f (drawn_answer (pcg32 g).0 n ∷ a)) =
-    ap (to_question (λ n. drawn_answer (pcg32 g).0 n ∷ answers_by most (pcg32 g).1 (λ a. f (drawn_answer (pcg32 g).0 n ∷ a)))) asked.0.1 in (
-      behind.0,
-      answered ∙ ap (λ x. x ∷ answers_by most (pcg32 g).1 (λ a. f (x ∷ a))) (sym first) ∙ ap (λ l. k ∷ l) behind.1,
-    )
-
--- ---- the one list that is drawn
+use Rattle.ptb_plain.specs.SeededRuns.{answers_by, to_question}
+use Rattle.ptb_plain.proofs.Drawing.{few_behind}
+use Rattle.ptb_serve.specs.ReplyLaws.{IsDrawn}
 
 -- what an answer leaves takes answers as before, one fewer
 reader_behind : {A W : Type 0} (f : Answers → Outcome A W) (most : ℕ) (n k : ℤ) (w : W) → IsReader f (suc most) → f [] ≡ Asks n w → is_answer n k ≡ true → IsReader (λ a. f (k ∷ a)) most
@@ -112,24 +81,3 @@ pub one_is_drawn : {A W : Type 0} (seed most : ℕ) (f : Answers → Outcome A W
 one_is_drawn seed most f reads =
     let h = answers_by-drawn most (generator_of seed) f reads in
     (record { run = h.0; drawn = h.1 }, λ b d. drawn_alone most (generator_of seed) f b reads (d.run, d.drawn))
-
--- ---- a chooser by a seed
-
--- what it has answered was drawn for the bounds of what it was asked
-taken_drawn : (seed : ℕ) (s t : SeededAnswers) (taken : Answers) (bounds : List ℤ) → s ≡ record { seed = seed; bounds = [] }
-    → seeded_choices t ≡ with_answers taken bounds (seeded_choices s) → taken ≡ drawn_answers seed bounds
-taken_drawn seed s t taken bounds begins e =
-    let choices : seeded_choices t ≡ with_answers taken bounds (seeded_choices (record { seed = seed; bounds = [] })) = e ∙ ap (λ x. with_answers taken bounds (seeded_choices x)) begins in
-    let plan : pos t.seed ∷ [] ≡ pos seed ∷ [] = ap (λ c. c.plan) choices in
-    let answers : drawn_answers t.seed t.bounds ≡ taken = ap (λ c. c.taken) choices in
-    let kept : Some t.bounds ≡ Some bounds = ap (λ c. c.kept) choices in
-    let same_seed : t.seed ≡ seed = cc in
-    let same_bounds : t.bounds ≡ bounds = cc in
-    sym answers ∙ ap (λ x. drawn_answers x t.bounds) same_seed ∙ ap (drawn_answers seed) same_bounds
-
-pub goes_by_seed : RunLaws → (seed : ℕ) (s t : SeededAnswers) (p : StoredProgram) (rules : Rules) → s ≡ record { seed = seed; bounds = [] }
-    → GoesBy RefusedForMemory (seeded_choices s) (seeded_choices t) (λ lines. seeded_answers seed p lines rules) p rules
-goes_by_seed laws seed s t p rules begins lines taken bounds asked grown =
-    let few = (laws.reads p lines rules).few in
-    let first = drawn_first (most_answers p lines rules.limit) (generator_of seed) (play p lines rules) taken bounds few asked (taken_drawn seed s t taken bounds begins grown) in
-    record { rest = first.0; whole = first.1; ended = λ n h. absurd h; outside = λ k n h. absurd h }

@@ -25,7 +25,7 @@ use Rattle.ptb_command.specs.declared.stop.DeviceError.TheVariants as errors
 use Rattle.ptb_command.specs.Devices.{ScreenState, Devices, devices, with_failures, Exchange, Refusal, refused_by}
 use Rattle.ptb_machine.specs.Runs.{played_bytes, Plays, refused_answers, IsFinished, IsUnanswered, IsUnfinished, LacksInput, RunComes, Runs, UnlessRunMissed}
 use Rattle.ptb_machine.proofs.Endings.{HasRunEnding, play_ends}
-use Rattle.ptb_serve.specs.PlainRuns.{ShowsRun, ShowsUnread, lines_taken, IsLed, GoesBy}
+use Rattle.ptb_plain.specs.PlainRuns.{ShowsRun, ShowsUnread, lines_taken, IsLed, GoesBy}
 
 -- ---- lists
 

@@ -1,0 +1,5 @@
+-- This file names the files of lemmas.
+pub mod Playing
+pub mod Taking
+pub mod Drawing
+pub mod Answering

@@ -1,0 +1,3 @@
+-- This file names the files of definitions.
+pub mod PlainRuns
+pub mod SeededRuns

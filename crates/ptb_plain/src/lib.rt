@@ -1,0 +1,11 @@
+//! A program played once: with a list of answers, or with those of a seed.
+//!
+//! It stands on `ptb_machine`, on definitions of the two crates below that, on `ptb_answers` and
+//! `ptb_text`, and on a definition of `rand_pcg`. The crate above may rely on `run_plain` and
+//! `run_seeded` (the bytes and the ending of the run, what is read of its input, and which fault it
+//! was).
+#![tactic(auto)]
+
+mod plain;
+
+pub use plain::{run_plain, run_seeded};
