@@ -3,3 +3,4 @@ pub mod Playing
 pub mod Taking
 pub mod Drawing
 pub mod Answering
+pub mod LinesRun

@@ -5,3 +5,6 @@ pub mod Served
 pub mod Running
 pub mod Listed
 pub mod Drawn
+pub mod Telling
+pub mod Listing
+pub mod Modes
