@@ -15,5 +15,6 @@ pub mod ProgramQuestions
 pub mod Results
 pub mod Runs
 pub mod Spending
+mod Stepping
 pub mod Steps
 pub mod Turns

@@ -24,6 +24,15 @@ use Rattle.ptb_command.specs.Stops.{UnlessStopMissed, UnlessMissed}
 use Rattle.ptb_machine.specs.Steps.{fault_of, reported, IsResultOf, UnlessEndingMissed, UnlessFaultMissed, UnlessStepMissed}
 use Rattle.ptb_machine.specs.Runs.{UnlessRunMissed}
 
+-- nothing is shown where it was done, or stopped by s
+pub result_done : (o : Trace) (number : ℕ) (text : List ℕ) (done : Result (Unit {0}) Stop) (x : Unit {0}) → done ≡ Ok x → IsResultOf o o number text done (Ok None)
+result_done o number text done x e =
+    subst (λ (y : Result (Unit {0}) Stop). IsResultOf o o number text y (Ok None)) (sym e) (record { is = refl; same = refl })
+
+pub result_stopped : (o : Trace) (number : ℕ) (text : List ℕ) (done : Result (Unit {0}) Stop) (s : Stop) (r : Result (Option Ending) RunFault) → IsResultOf o o number text (Err s) r → done ≡ Err s → IsResultOf o o number text done r
+result_stopped o number text done s r is e =
+    subst (λ (y : Result (Unit {0}) Stop). IsResultOf o o number text y r) (sym e) is
+
 -- a fault that was reported, or not
 pub result_reported : (o n : Trace) (number : ℕ) (text : List ℕ) (f : Fault) (done : Result (Unit {0}) Stop) (r : Result (Option Ending) RunFault) (shown : Result (Unit {0}) ScreenFault) → done ≡ Err (stops.Fault f) → r ≡ reported f.kind shown → IsShown o n (report_bytes o.fresh number text f) shown → IsResultOf o n number text done r
 result_reported o n number text f done r shown e is shows =
@@ -154,10 +163,6 @@ pub step_missed_at : (refused : ReadFault → Type 0) (P : Type 0) (x y : Option
 step_missed_at refused P x y e h = subst (λ (z : Option Ending). UnlessStepMissed refused P (Ok z)) e h
 
 -- ---- devices
-
--- what holds of a source that is the same
-pub at_source : {L : Type 0} (P : L → Type 0) {x : L} (l : L) → x ≡ l → P l → P x
-at_source P l e p = subst P (sym e) p
 
 -- what holds of devices that are the same
 pub at_devices : {C S L : Type 0} (P : C → S → L → Type 0) {x : C} {y : S} {z : L} (c : C) (s : S) (l : L) → x ≡ c → y ≡ s → z ≡ l → P c s l → P x y z
