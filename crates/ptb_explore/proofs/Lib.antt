@@ -12,8 +12,14 @@ pub mod Recording
 pub mod Trial
 pub mod RunPrefix
 pub mod Keep
+pub mod Exits
+pub mod Planned
+pub mod GoingBack
 pub mod GoingOn
 pub mod Gathering
 pub mod Stated
+pub mod Begun
 pub mod ReportText
+pub mod Reporting
 pub mod Progress
+pub mod Writing

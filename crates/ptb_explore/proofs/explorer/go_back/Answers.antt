@@ -1,31 +1,58 @@
 -- This file answers that a run goes on from where the newest copy that is left stands, or begins.
-use Rattle.std.proofs.Common.{arith, ◌≡◌, List, [], take, length, sym, ap, subst, ◌∙◌, Some, None}
+use Rattle.std.proofs.Common.{arith, ◌≡◌, take, refl, sym, ap, subst, ◌∙◌, Some, None}
 use Rattle.std.proofs.lemmas.Grind.{common_steps}
-use Rattle.std.specs.Prelude.{ℤ, option_map}
+use Rattle.std.specs.Prelude.{option_map}
 use Rattle.std.proofs.lemmas.List.{length-take-le}
-use Rattle.std.proofs.lemmas.Result.{IfOk-weaker}
+use Rattle.std.proofs.lemmas.Result.{IfOk-from_err}
 use Rattle.ptb_command.specs.Configuration.{Configuration}
+use Rattle.ptb_devices.specs.Sources.{LineList}
 use Rattle.ptb_explore.specs.Copies.{GoesBackTo, machine_of, steps_or_none}
-use Rattle.ptb_explore.specs.Recording.{choices_of}
 use Rattle.ptb_explore.proofs.GoingOn.{on_copies, on_len, on_prefix}
-use Rattle.ptb_explore.proofs.Keep.{goes_on, stands_machine}
-use Rattle.ptb_explore.proofs.RunPrefix.{run_prefix_at_first}
+use Rattle.ptb_explore.proofs.Keep.{goes_on, kept_none, stands_machine}
+use Rattle.ptb_explore.proofs.Exits.{on_ok_always}
+use Rattle.ptb_explore.proofs.GoingBack.{same_plan, none_taken, no_copies, begun_prefix, begun_steps, copy_left}
+use Rattle.ptb_explore.proofs.Trial.{fresh_plan}
 use Rattle.ptb_explore.proofs.explorer.go_back.Goals as goal
 
-pub returns-in-None-clause-run_prefix : goal.returns-in-None-clause-run_prefix
-returns-in-None-clause-run_prefix c =
-    let trial = c.args.trial.now in
-    let input = c.args.source.now.lines in
-    let taken : (choices_of trial).taken ≡ [] = ap (λ (bs : List ℤ). take (length bs) trial.answers.items) c.requires.fresh.none_given in
-    let kept : (choices_of trial).kept ≡ Some [] = ap Some c.requires.fresh.none_given in
-    IfOk-weaker c.begin.result _ _
-    (λ b first. rw (c.requires.begins, c.cut.ensures) (run_prefix_at_first c.args.player.now input c.args.rules (choices_of trial) b.value taken kept (first input c.args.rules.choose)))
-    c.begin.ensures.first
+pub returns-in_err-go_back : goal.returns-in_err-go_back
+returns-in_err-go_back c = record {
+  program = refl;
+  plan = fresh_plan c.args.trial.now c.requires.fresh;
+  same_lines = refl;
+  within = IfOk-from_err _ _ c.from_residual.ensures.0;
+  unspent = IfOk-from_err _ _ c.from_residual.ensures.0;
+  run_prefix = IfOk-from_err _ _ c.from_residual.ensures.0;
+  copies = IfOk-from_err _ _ c.from_residual.ensures.0;
+  back = IfOk-from_err _ _ c.from_residual.ensures.0;
+  steps = IfOk-from_err _ _ c.from_residual.ensures.0;
+}
 
-pub returns-in-None-clause-steps : goal.returns-in-None-clause-steps
-returns-in-None-clause-steps c =
-    let back = subst (GoesBackTo c.args.common c.args.copies.now.kept.items c.go_back.new.self.kept.items) c.in-None.is c.in_ok-go_back.ensures in
-    IfOk-weaker c.begin.result _ _ (λ b first. rw (c.begin.ensures.kept, back.1) (sym (first [] None).steps)) c.begin.ensures.first
+pub returns-in_err-skip-in-Some : goal.returns-in_err-skip-in-Some
+returns-in_err-skip-in-Some c = record {
+  program = refl;
+  plan = same_plan c.args.trial.now c.skip.new.self c.requires.fresh c.in_err-skip-in-Some.ensures.answers c.in_err-skip-in-Some.ensures.planned;
+  same_lines = refl;
+  within = IfOk-from_err _ _ c.from_residual-in_err-skip-in-Some.ensures.0;
+  unspent = IfOk-from_err _ _ c.from_residual-in_err-skip-in-Some.ensures.0;
+  run_prefix = IfOk-from_err _ _ c.from_residual-in_err-skip-in-Some.ensures.0;
+  copies = IfOk-from_err _ _ c.from_residual-in_err-skip-in-Some.ensures.0;
+  back = IfOk-from_err _ _ c.from_residual-in_err-skip-in-Some.ensures.0;
+  steps = IfOk-from_err _ _ c.from_residual-in_err-skip-in-Some.ensures.0;
+}
+
+pub returns-in-None : goal.returns-in-None
+returns-in-None c =
+    let left = no_copies _ _ _ _ c.in-None.is c.in_ok-go_back.ensures c.begin.new.self.kept.items (ap (λ k. k.items) c.begin.ensures.kept) in record {
+      program = refl;
+      plan = fresh_plan c.args.trial.now c.requires.fresh;
+      same_lines = refl;
+      within = on_ok_always c.begin.result (none_taken c.args.source.now c.requires.begins);
+      unspent = c.begin.ensures.unspent;
+      run_prefix = begun_prefix c.begin.result (λ b. b.value) c.args.player.now c.args.source.now c.args.rules c.args.trial.now c.requires.fresh c.requires.begins _ c.cut.ensures c.begin.ensures.first;
+      copies = on_ok_always c.begin.result (kept_none c.args.player.now c.args.source.now.lines c.args.rules _ _ _ left.0);
+      back = on_ok_always c.begin.result left.1;
+      steps = begun_steps c.begin.result (λ b. b.value) c.args.player.now _ left.0 c.begin.ensures.first;
+    }
 
 pub slice_bounds-skip-end : goal.slice_bounds-skip-end
 slice_bounds-skip-end c =
@@ -90,3 +117,15 @@ unreachable-requires c =
 
 pub skip-requires-clause-within : goal.skip-requires-clause-within
 skip-requires-clause-within c = grind (arith, common_steps)
+
+pub returns-in-Some-machine-clause-program : goal.returns-in-Some-machine-clause-program
+returns-in-Some-machine-clause-program c = refl
+
+pub returns-in-Some-machine-clause-plan : goal.returns-in-Some-machine-clause-plan
+returns-in-Some-machine-clause-plan c = same_plan c.args.trial.now c.skip.new.self c.requires.fresh c.in_ok-skip-in-Some.ensures.answers c.in_ok-skip-in-Some.ensures.planned
+
+pub returns-in-Some-machine-clause-same_lines : goal.returns-in-Some-machine-clause-same_lines
+returns-in-Some-machine-clause-same_lines c = ap (λ (s : LineList). s.lines) c.go.ensures
+
+pub returns-in-Some-machine-clause-back : goal.returns-in-Some-machine-clause-back
+returns-in-Some-machine-clause-back c = copy_left _ _ _ _ _ c.in-Some.is c.in_ok-go_back.ensures

@@ -1,8 +1,10 @@
 -- This file answers that the run of the next plan is the next run.
-use Rattle.std.proofs.Common.{Some, None}
+use Rattle.std.proofs.Common.{Some, None, refl}
+use Rattle.std.proofs.lemmas.Result.{IfOk-from_err}
 use Rattle.ptb_machine.specs.Play.{play}
 use Rattle.ptb_machine.specs.Questions.{most_answers}
 use Rattle.ptb_explore.specs.Plans.{front_at, PlansNext}
+use Rattle.ptb_explore.proofs.Exits.{on_err_always, err_no_ok, some_no_none, on_some_at}
 use Rattle.ptb_explore.proofs.GoingOn.{next_agrees, next_played, position_copies}
 use Rattle.ptb_explore.proofs.Raising.{position_lengths, next_plan, last_plan, plan_ends}
 use Rattle.ptb_explore.proofs.explorer.report_next.Goals as goal
@@ -59,3 +61,34 @@ returns-in_ok-report_plan-in-Some-clause-played c =
     let plans : PlansNext c.args.under.now c.args.position report.answers.items report.bounds.items plan (Some c.in-Some.common) = rw (← c.deref.ensures.value, ← c.deref-2.ensures.value, ← c.in-Some.is) c.in_ok-plan_next.ensures.plan in
     let run = c.in_ok-report_plan-in-Some.ensures.ends in
     next_played c.args.player.now c.args.lines.now c.args.rules c.args.under.now c.args.position report plan run.ones _ c.in-Some.common c.args.copies.now.kept.items _ _ _ plans c.requires.copies run.answers_are c.in_ok-report_plan-in-Some.ensures.played
+
+pub returns-in_err-plan_next : goal.returns-in_err-plan_next
+returns-in_err-plan_next c = record {
+  program = refl;
+  next = IfOk-from_err _ _ c.from_residual.ensures.0;
+  answers = on_err_always _ refl;
+  bounds = on_err_always _ refl;
+  ended = λ end. err_no_ok (c.in_err-plan_next.ensures.ended end);
+  copies = IfOk-from_err _ _ c.from_residual.ensures.0;
+  played = IfOk-from_err _ _ c.from_residual.ensures.0;
+}
+
+pub returns-in_err-report_plan-in-Some : goal.returns-in_err-report_plan-in-Some
+returns-in_err-report_plan-in-Some c = record {
+  program = c.report_plan.ensures.program;
+  next = IfOk-from_err _ _ c.from_residual-in_err-report_plan-in-Some.ensures.0;
+  answers = on_err_always _ c.in_err-report_plan-in-Some.ensures.answers;
+  bounds = on_err_always _ c.in_err-report_plan-in-Some.ensures.bounds;
+  ended = λ end. some_no_none c.in-Some.is (c.in_ok-plan_next.ensures.ended end);
+  copies = IfOk-from_err _ _ c.from_residual-in_err-report_plan-in-Some.ensures.0;
+  played = IfOk-from_err _ _ c.from_residual-in_err-report_plan-in-Some.ensures.0;
+}
+
+pub returns-in_ok-report_plan-in-Some-clause-ended : goal.returns-in_ok-report_plan-in-Some-clause-ended
+returns-in_ok-report_plan-in-Some-clause-ended c = λ end. some_no_none c.in-Some.is (c.in_ok-plan_next.ensures.ended end)
+
+pub returns-in_ok-report_plan-in-Some-clause-copies : goal.returns-in_ok-report_plan-in-Some-clause-copies
+returns-in_ok-report_plan-in-Some-clause-copies c = λ _. c.in_ok-report_plan-in-Some.ensures.copies
+
+pub report_plan-requires-clause-fresh : goal.report_plan-requires-clause-fresh
+report_plan-requires-clause-fresh c = on_some_at c.in-Some.is c.in_ok-plan_next.ensures.fresh

@@ -1,5 +1,6 @@
 -- This file answers that a plan that is open ends at a run, whose report is made, and that the copies that are kept are of it.
-use Rattle.std.proofs.Common.{rules, ◌≡◌, ℕ, ◌-◌, List, ◌∙◌, ap, sym, subst}
+use Rattle.std.proofs.Common.{◌≡◌, ℕ, ◌-◌, List, ◌∙◌, ap, refl, sym, subst}
+use Rattle.std.proofs.lemmas.Result.{IfOk-from_err}
 use Rattle.ptb_text.specs.Statements.{StoredProgram}
 use Rattle.ptb_command.specs.Configuration.{Configuration}
 use Rattle.ptb_devices.specs.Sources.{LineList}
@@ -8,6 +9,8 @@ use Rattle.ptb_machine.specs.Questions.{most_answers}
 use Rattle.ptb_explore.specs.Copies.{more_played}
 use Rattle.ptb_explore.specs.Playing.{PlayEnds}
 use Rattle.ptb_explore.specs.Recording.{choices_of}
+use Rattle.ptb_explore.proofs.Exits.{on_err_always}
+use Rattle.ptb_explore.proofs.GoingBack.{agrees_same, prefix_of_same}
 use Rattle.ptb_explore.proofs.Keep.{kept_same}
 use Rattle.ptb_explore.proofs.Trial.{all_given, open_ends}
 use Rattle.ptb_explore.proofs.explorer.report_plan.Goals as goal
@@ -48,8 +51,43 @@ returns-clause-played c =
     let first = c.steps-first.ensures ∙ ap (λ (m : Configuration). m.steps) c.deref.ensures ∙ c.in_ok-machine.ensures.steps in
     (c.go_back-machine.new.copies.kept.items, c.in_ok-machine.ensures.back, c.saturating_add.ensures ∙ ap (λ n. more_played c.args.played.now n) (c.from.ensures ∙ c.saturating_sub.ensures ∙ ap (λ n. c.steps-steps.result - n) first))
 
-pub returns-in_err-report-clause-answers : goal.returns-in_err-report-clause-answers
-returns-in_err-report-clause-answers c = search rules fits 50 depth 2
+pub returns-clause-program : goal.returns-clause-program
+returns-clause-program c = c.play_on-ending.ensures.program ∙ c.go_back-machine.ensures.program
 
-pub returns-in_err-report-clause-bounds : goal.returns-in_err-report-clause-bounds
-returns-in_err-report-clause-bounds c = search rules fits 50 depth 2
+pub returns-in_err-machine : goal.returns-in_err-machine
+returns-in_err-machine c = record {
+  program = c.go_back-machine.ensures.program;
+  ends = IfOk-from_err _ _ c.from_residual.ensures.0;
+  answers = on_err_always _ refl;
+  bounds = on_err_always _ refl;
+  copies = IfOk-from_err _ _ c.from_residual.ensures.0;
+  played = IfOk-from_err _ _ c.from_residual.ensures.0;
+}
+
+pub returns-in_err-report : goal.returns-in_err-report
+returns-in_err-report c = record {
+  program = c.play_on-ending.ensures.program ∙ c.go_back-machine.ensures.program;
+  ends = IfOk-from_err _ _ c.from_residual-in_err-report.ensures.0;
+  answers = on_err_always _ refl;
+  bounds = on_err_always _ refl;
+  copies = IfOk-from_err _ _ c.from_residual-in_err-report.ensures.0;
+  played = IfOk-from_err _ _ c.from_residual-in_err-report.ensures.0;
+}
+
+pub go_back-machine-requires : goal.go_back-machine-requires
+go_back-machine-requires c =
+    let lines = ap (λ (s : LineList). s.lines) c.new-source.ensures in record {
+      fresh = c.requires.fresh;
+      begins = ap (λ (s : LineList). s.taken) c.new-source.ensures;
+      agrees = agrees_same c.args.player.now c.args.rules c.args.common _ _ _ c.args.lines.now _ lines c.requires.agrees;
+      copies = kept_same c.args.player.now c.args.player.now c.args.lines.now _ c.args.rules _ _ _ _ _ _ refl lines refl (c.from_vec-screen.ensures ∙ ap (λ v. v.items) c.replace.ensures.value) refl c.requires.copies;
+    }
+
+pub play_on-ending-requires : goal.play_on-ending-requires
+play_on-ending-requires c = record {
+  choose = c.requires.choose;
+  unspent = ap (λ (m : Configuration). m.spent) c.deref_mut.ensures.value ∙ c.in_ok-machine.ensures.unspent;
+  within = c.in_ok-machine.ensures.within;
+  run_prefix = prefix_of_same _ _ c.go_back-machine.ensures.program _ _ c.go_back-machine.ensures.same_lines c.args.rules _ _ _ _ _ c.deref_mut.ensures.value c.in_ok-machine.ensures.run_prefix;
+  copies = kept_same _ _ _ _ c.args.rules _ _ _ _ _ _ c.go_back-machine.ensures.program c.go_back-machine.ensures.same_lines refl refl refl c.in_ok-machine.ensures.copies;
+}

@@ -1,81 +1,58 @@
 -- This file answers that the reports that are written are those of the runs that were left, in their order.
-use Rattle.std.proofs.Common.{arith, rules, ◌≡◌, ℕ, List, Bool, Option, Some, Result, Ok, Err, true, false, not, eqb, ap, refl, ◌∙◌, subst}
-use Rattle.std.proofs.lemmas.Grind.{common_steps}
-use Rattle.std.specs.Option.{option_eq}
-use Rattle.ptb_explore.specs.declared.fault.NextFault.{NextFault}
-use Rattle.ptb_answers.specs.declared.form.Form.{Form}
-use Rattle.ptb_explore.specs.declared.fault.NextFault.TheVariants as next
-use Rattle.ptb_explore.specs.RunTree.{Front, runs_left}
-use Rattle.ptb_explore.specs.Report.{report}
-use Rattle.ptb_explore.specs.Listing.{NextWrites}
-use Rattle.ptb_explore.specs.Exploring.{Exploration, play_of, most_of}
-use Rattle.ptb_explore.proofs.Progress.{progress_more, progress_last, progress_into, fewer_left}
+use Rattle.std.proofs.Common.{rules, ◌∙◌, ap, refl, Err}
+use Rattle.ptb_explore.proofs.Exits.{ok_no_err}
+use Rattle.ptb_explore.proofs.Reporting.{failed_after}
+use Rattle.ptb_explore.proofs.Writing.{memory_no_write, memory_told, same_after, all_wanted, none_next, list_refused, part_written, one_fewer, one_more}
 use Rattle.ptb_explore.proofs.listing.write_all_runs.Goals as goal
-
--- a number that isn't used up
-goes_on : (r : Option ℕ) → true ≡ not (option_eq eqb r (Some 0)) → r ≡ Some 0 → ⊥
-goes_on r h e = let f : true ≡ not (option_eq eqb (Some 0) (Some 0)) = rw e at h in absurd cc
-
--- what is played stays the same
-of_first : (form : Form) (first e : Exploration) (f : Front) (old new : Option (List ℕ)) (r : Result Bool NextFault) → e ≡ record first { front = e.front; kept = e.kept; played = e.played } → NextWrites (play_of e) e.under (report form (play_of e)) e.front f old new r → NextWrites (play_of first) first.under (report form (play_of first)) e.front f old new r
-of_first form first e f old new r same h = subst (λ (x : Exploration). NextWrites (play_of x) x.under (report form (play_of x)) e.front f old new r) same h
-
-pub returns-in-Ok-false-clause-writes : goal.returns-in-Ok-false-clause-writes
-returns-in-Ok-false-clause-writes g c =
-    let first = c.args.explorer.now in
-    let play = play_of first in
-    let reads = c.run_laws.ensures.reads first.program first.input first.rules in
-    let l = c.loop-form in
-    let new = c.write_next.new in
-    let said : NextWrites (play_of l.explorer) l.explorer.under (report c.args.form (play_of l.explorer)) l.explorer.front new.explorer.front (g.W.Write.contents l.writer) (g.W.Write.contents new.writer) (Ok false) = rw c.in-Ok-false.field-0-test at c.in-Ok-false.ensures.writes in
-    let last = of_first c.args.form first l.explorer new.explorer.front (g.W.Write.contents l.writer) (g.W.Write.contents new.writer) (Ok false) l.invariant.same said in
-    rw (last.1, last.2)
-    (progress_last play (most_of first) reads first.under (report c.args.form play) (runs_left play (most_of first) first.under first.front c.args.first) first.front (g.W.Write.contents c.args.writer.now) l.explorer.front l.remaining (g.W.Write.contents l.writer) l.written l.invariant.progress last.0)
-
-pub returns-in-Err-Write-clause-writes : goal.returns-in-Err-Write-clause-writes
-returns-in-Err-Write-clause-writes g c =
-    let first = c.args.explorer.now in
-    let play = play_of first in
-    let reads = c.run_laws.ensures.reads first.program first.input first.rules in
-    let l = c.loop-form in
-    let new = c.write_next.new in
-    let said : NextWrites (play_of l.explorer) l.explorer.under (report c.args.form (play_of l.explorer)) l.explorer.front new.explorer.front (g.W.Write.contents l.writer) (g.W.Write.contents new.writer) (Err next.Write) = rw c.in-Err-Write.field-0-is at c.in-Err-Write.ensures.writes in
-    let part = of_first c.args.form first l.explorer new.explorer.front (g.W.Write.contents l.writer) (g.W.Write.contents new.writer) (Err next.Write) l.invariant.same said in
-    rw part.2
-    (progress_into play (most_of first) reads first.under (report c.args.form play) (runs_left play (most_of first) first.under first.front c.args.first) first.front (g.W.Write.contents c.args.writer.now) l.explorer.front l.remaining (g.W.Write.contents l.writer) (g.W.Write.contents new.writer) l.written part.0 l.invariant.progress (goes_on l.remaining c.loop-form-test.ensures) part.1 part.3)
-
-pub loop-form-smaller : goal.loop-form-smaller
-loop-form-smaller g c =
-    let first = c.args.explorer.now in
-    let play = play_of first in
-    let reads = c.run_laws.ensures.reads first.program first.input first.rules in
-    let l = c.loop-form in
-    let new = c.write_next.new in
-    let said : NextWrites (play_of l.explorer) l.explorer.under (report c.args.form (play_of l.explorer)) l.explorer.front new.explorer.front (g.W.Write.contents l.writer) (g.W.Write.contents new.writer) (Ok true) = rw c.in-Ok-true.field-0-test at c.in-Ok-true.ensures.writes in
-    let one = of_first c.args.form first l.explorer new.explorer.front (g.W.Write.contents l.writer) (g.W.Write.contents new.writer) (Ok true) l.invariant.same said in
-    rw one.2 (fewer_left play (most_of first) reads first.under l.explorer.front one.0 one.1)
-
-pub loop-form-preserved : goal.loop-form-preserved
-loop-form-preserved g c =
-    let first = c.args.explorer.now in
-    let play = play_of first in
-    let reads = c.run_laws.ensures.reads first.program first.input first.rules in
-    let l = c.loop-form in
-    let new = c.write_next.new in
-    let said : NextWrites (play_of l.explorer) l.explorer.under (report c.args.form (play_of l.explorer)) l.explorer.front new.explorer.front (g.W.Write.contents l.writer) (g.W.Write.contents new.writer) (Ok true) = rw c.in-Ok-true.field-0-test at c.in-Ok-true.ensures.writes in
-    let one = of_first c.args.form first l.explorer new.explorer.front (g.W.Write.contents l.writer) (g.W.Write.contents new.writer) (Ok true) l.invariant.same said in
-    let more = progress_more play (most_of first) reads first.under (report c.args.form play) (runs_left play (most_of first) first.under first.front c.args.first) first.front (g.W.Write.contents c.args.writer.now) l.explorer.front new.explorer.front l.remaining (g.W.Write.contents l.writer) (g.W.Write.contents new.writer) l.written c.saturating_add-written.result one.0 l.invariant.progress (goes_on l.remaining c.loop-form-test.ensures) one.1 one.2 one.3 c.saturating_add-written.ensures in
-    record {
-      same = c.in-Ok-true.ensures.same ∙ ap (λ (x : Exploration). record x { front = new.explorer.front; kept = new.explorer.kept; played = new.explorer.played }) l.invariant.same;
-      unfailed = c.in-Ok-true.ensures.unfailed (λ h. absurd cc) ∙ l.invariant.unfailed;
-      progress = rw c.one_less-remaining.ensures more;
-    }
-
-pub returns-in-Err-Write-clause-unfailed : goal.returns-in-Err-Write-clause-unfailed
-returns-in-Err-Write-clause-unfailed g c = λ h. absurd (h _ refl)
 
 pub loop-form-init : goal.loop-form-init
 loop-form-init g c = search rules
 
-pub returns-clause-writes : goal.returns-clause-writes
-returns-clause-writes g c = grind (arith, common_steps)
+pub loop-form-smaller : goal.loop-form-smaller
+loop-form-smaller g c =
+    one_fewer c.args.form c.args.explorer.now c.loop-form.explorer c.loop-form.invariant.same (c.run_laws.ensures.reads c.args.explorer.now.program c.args.explorer.now.input c.args.explorer.now.rules) _ _ _ _ _ c.loop-form.invariant.progress
+    c.write_next.new.explorer.front _ c.loop-form-test.ensures _ c.in-Ok-true.field-0-test c.in-Ok-true.ensures.writes
+
+pub loop-form-preserved : goal.loop-form-preserved
+loop-form-preserved g c = record {
+  same = same_after c.args.form c.args.explorer.now c.loop-form.explorer c.loop-form.invariant.same _ c.in-Ok-true.ensures.same;
+  unfailed = c.in-Ok-true.ensures.unfailed (λ fault. ok_no_err fault) ∙ c.loop-form.invariant.unfailed;
+  progress = one_more c.args.form c.args.explorer.now c.loop-form.explorer c.loop-form.invariant.same (c.run_laws.ensures.reads c.args.explorer.now.program c.args.explorer.now.input c.args.explorer.now.rules) _ _ _ _ _ c.loop-form.invariant.progress
+      c.write_next.new.explorer.front _ c.loop-form-test.ensures _ c.in-Ok-true.field-0-test c.in-Ok-true.ensures.writes
+      _ c.one_less-remaining.ensures _ c.saturating_add-written.ensures;
+}
+
+pub returns-in-Ok-false : goal.returns-in-Ok-false
+returns-in-Ok-false g c = record {
+  same = same_after c.args.form c.args.explorer.now c.loop-form.explorer c.loop-form.invariant.same _ c.in-Ok-false.ensures.same;
+  writes = none_next c.args.form c.args.explorer.now c.loop-form.explorer c.loop-form.invariant.same (c.run_laws.ensures.reads c.args.explorer.now.program c.args.explorer.now.input c.args.explorer.now.rules) _ _ _ _ _ c.loop-form.invariant.progress
+      c.write_next.new.explorer.front _ _ c.in-Ok-false.field-0-test c.in-Ok-false.ensures.writes;
+  failed = λ n fault. ok_no_err fault;
+  unfailed = λ _. c.in-Ok-false.ensures.unfailed (λ fault. ok_no_err fault) ∙ c.loop-form.invariant.unfailed;
+}
+
+pub returns-in-Err-Memory : goal.returns-in-Err-Memory
+returns-in-Err-Memory g c = record {
+  same = same_after c.args.form c.args.explorer.now c.loop-form.explorer c.loop-form.invariant.same _ c.in-Err-Memory.ensures.same;
+  writes = list_refused c.args.form c.args.explorer.now c.loop-form.explorer c.loop-form.invariant.same (c.run_laws.ensures.reads c.args.explorer.now.program c.args.explorer.now.input c.args.explorer.now.rules) _ _ _ _ _ c.loop-form.invariant.progress
+      c.write_next.new.explorer.front _ _ c.in-Err-Memory.field-0-is c.in-Err-Memory.ensures.writes;
+  failed = λ n fault. memory_told fault;
+  unfailed = λ _. c.in-Err-Memory.ensures.unfailed (λ fault. memory_no_write c.in-Err-Memory.field-0-is fault) ∙ c.loop-form.invariant.unfailed;
+}
+
+pub returns-in-Err-Write : goal.returns-in-Err-Write
+returns-in-Err-Write g c = record {
+  same = same_after c.args.form c.args.explorer.now c.loop-form.explorer c.loop-form.invariant.same _ c.in-Err-Write.ensures.same;
+  writes = part_written c.args.form c.args.explorer.now c.loop-form.explorer c.loop-form.invariant.same (c.run_laws.ensures.reads c.args.explorer.now.program c.args.explorer.now.input c.args.explorer.now.rules) _ _ _ _ _ c.loop-form.invariant.progress
+      c.write_next.new.explorer.front _ c.loop-form-test.ensures _ c.in-Err-Write.field-0-is c.in-Err-Write.ensures.writes;
+  failed = λ n fault. failed_after _ _ _ c.loop-form.invariant.unfailed (c.in-Err-Write.ensures.failed (ap Err c.in-Err-Write.field-0-is));
+  unfailed = λ none. absurd (none _ refl);
+}
+
+pub returns : goal.returns
+returns g c = record {
+  same = c.loop-form.invariant.same;
+  writes = all_wanted c.args.form c.args.explorer.now c.loop-form.explorer c.loop-form.invariant.same (c.run_laws.ensures.reads c.args.explorer.now.program c.args.explorer.now.input c.args.explorer.now.rules) _ _ _ _ _ c.loop-form.invariant.progress c.loop-form-test.ensures;
+  failed = λ n fault. ok_no_err fault;
+  unfailed = λ _. c.loop-form.invariant.unfailed;
+}

@@ -1,25 +1,75 @@
 -- This file answers that an explorer stands at the run of a plan, if its bounds are as they are stated.
-use Rattle.std.proofs.Common.{◌≡◌, ap, sym, ◌∙◌, subst, length, [], arith}
-use Rattle.ptb_answers.specs.Outcome.{Answers, bounds}
-use Rattle.ptb_machine.specs.Play.{play}
-use Rattle.ptb_explore.specs.Copies.{AreBeginnings, AreCopies, kept_runs}
-use Rattle.ptb_explore.proofs.Bounds.{length-bounds}
-use Rattle.ptb_explore.proofs.Keep.{kept_beginnings}
+use Rattle.std.proofs.Common.{◌≡◌, true, rules}
+use Rattle.std.proofs.lemmas.Result.{IfOk-from_err}
+use Rattle.ptb_explore.specs.RunTree.{begins_with}
+use Rattle.ptb_explore.proofs.Exits.{ok_no_err, memory_no_run, same_no_run}
+use Rattle.ptb_explore.proofs.Planned.{wrong_says, planned_run, planned_played, no_run_played, planned_within, planned_stated, planned_unstated, planned_invariant, planned_view, planned_kept}
 use Rattle.ptb_explore.proofs.explorer.Explorer.at_plan.Goals as goal
-
-pub returns-clause-kept : goal.returns-clause-kept
-returns-clause-kept c =
-    let p = c.in_ok-player.player in
-    let input = c.args.lines.now in
-    let t = c.hand_over.new.answers.items in
-    let w = c.check_run.new.screen in
-    let ks = c.check_run.new.copies.kept.items in
-    let there : t ≡ c.args.trial.answers.items = c.hand_over.ensures.answers ∙ c.in_ok-check_run.ensures.answers in
-    let copies : AreCopies p input c.args.rules t w ks = subst (λ (a : Answers). AreCopies p input c.args.rules a w ks) (sym there) c.in_ok-check_run.ensures.copies in
-    subst (λ (a : Answers). AreBeginnings 0 a (kept_runs t ks)) there (kept_beginnings p input c.args.rules t w ks copies)
 
 pub states_bounds-requires : goal.states_bounds-requires
 states_bounds-requires c =
-    let all = play c.args.program.now c.args.lines.now c.args.rules in
-    let given : c.deref-3.result.now ≡ bounds all c.args.trial.answers.items = c.deref-3.ensures.value ∙ c.in_ok-check_run.ensures.bounds ∙ ap (λ p. bounds (play p c.args.lines.now c.args.rules) c.args.trial.answers.items) c.in_ok-player.ensures in
-    omega (arith, c.requires.within, ap length given, length-bounds all [] c.args.trial.answers.items)
+    planned_within c.args.program.now c.args.lines.now c.args.rules c.args.trial.answers.items _ c.in_ok-player.ensures
+    _ c.in_ok-check_run.ensures.bounds c.args.stated.now _ (search rules fits 50 depth 2) c.requires.within
+
+pub check_run-requires : goal.check_run-requires
+check_run-requires c = record {
+  choose = c.requires.choose;
+  fresh = c.requires.fresh;
+  shown = c.new-screen.ensures;
+  none = c.new-copies.ensures;
+}
+
+pub returns-then-not-begins_with-clause-not_a_run : goal.returns-then-not-begins_with-clause-not_a_run
+returns-then-not-begins_with-clause-not_a_run c =
+    let says : c.begins_with.result ≡ begins_with c.args.trial.answers.items c.args.under.items = search rules in
+    λ _ _ _ begins. wrong_says _ _ says c.if-not-begins_with.true begins
+
+pub returns-in_err-player : goal.returns-in_err-player
+returns-in_err-player c = record {
+  after = IfOk-from_err _ _ c.from_residual.ensures.0;
+  run = IfOk-from_err _ _ c.from_residual.ensures.0;
+  stated = IfOk-from_err _ _ c.from_residual.ensures.0;
+  begins = IfOk-from_err _ _ c.from_residual.ensures.0;
+  kept = IfOk-from_err _ _ c.from_residual.ensures.0;
+  played = IfOk-from_err _ _ c.from_residual.ensures.0;
+  not_a_run = λ fault _ _ _. memory_no_run _ c.from_residual.ensures.1 fault;
+}
+
+pub returns-in_err-check_run : goal.returns-in_err-check_run
+returns-in_err-check_run c = record {
+  after = IfOk-from_err _ _ c.from_residual-in_err-check_run.ensures.0;
+  run = IfOk-from_err _ _ c.from_residual-in_err-check_run.ensures.0;
+  stated = IfOk-from_err _ _ c.from_residual-in_err-check_run.ensures.0;
+  begins = IfOk-from_err _ _ c.from_residual-in_err-check_run.ensures.0;
+  kept = IfOk-from_err _ _ c.from_residual-in_err-check_run.ensures.0;
+  played = IfOk-from_err _ _ c.from_residual-in_err-check_run.ensures.0;
+  not_a_run = λ fault run _ _. no_run_played c.args.program.now c.args.lines.now c.args.rules c.args.trial.answers.items _ c.in_ok-player.ensures
+      (same_no_run _ _ c.from_residual-in_err-check_run.ensures.1 c.in_err-check_run.ensures.not_a_run fault) run;
+}
+
+pub returns-then-not-states_bounds-clause-not_a_run : goal.returns-then-not-states_bounds-clause-not_a_run
+returns-then-not-states_bounds-clause-not_a_run c = λ _ _ stated _.
+    planned_unstated c.args.program.now c.args.lines.now c.args.rules c.args.trial.answers.items _ c.in_ok-player.ensures
+    _ c.in_ok-check_run.ensures.bounds c.args.stated.now _ _ c.states_bounds.ensures (search rules fits 50 depth 2) c.if-not-states_bounds.true stated
+
+pub invariant_of-result : goal.invariant_of-result
+invariant_of-result c =
+    let begins : begins_with c.args.trial.answers.items c.args.under.items ≡ true = search rules in
+    planned_invariant c.args.program.now c.args.lines.now c.args.rules c.args.trial.answers.items _ c.in_ok-player.ensures
+    _ c.check_run.ensures.program _ c.in_ok-check_run.ensures.answers _ c.hand_over.ensures.answers
+    c.args.under.items _ _ _ _ _ c.in_ok-check_run.ensures.run c.in_ok-check_run.ensures.bounds c.hand_over.ensures.bounds begins
+    c.in_ok-check_run.ensures.copies c.into_vec.ensures c.requires.choose
+
+pub returns : goal.returns
+returns c = record {
+  after = planned_view c.args.program.now c.args.lines.now c.args.rules c.args.trial.answers.items _ c.in_ok-player.ensures
+      _ c.check_run.ensures.program _ c.in_ok-check_run.ensures.answers _ c.hand_over.ensures.answers _ _ _;
+  run = planned_run c.args.program.now c.args.lines.now c.args.rules c.args.trial.answers.items _ c.in_ok-player.ensures c.in_ok-check_run.ensures.run;
+  stated = planned_stated c.args.program.now c.args.lines.now c.args.rules c.args.trial.answers.items _ c.in_ok-player.ensures
+      _ c.in_ok-check_run.ensures.bounds c.args.stated.now _ _ c.states_bounds.ensures (search rules fits 50 depth 2) c.if-not-states_bounds.false;
+  begins = search rules;
+  kept = planned_kept c.args.program.now c.args.lines.now c.args.rules c.args.trial.answers.items _ c.in_ok-player.ensures
+      _ c.check_run.ensures.program _ c.in_ok-check_run.ensures.answers _ c.hand_over.ensures.answers _ _ c.in_ok-check_run.ensures.copies;
+  played = planned_played c.args.program.now c.args.lines.now c.args.rules c.args.trial.answers.items _ c.in_ok-player.ensures _ c.in_ok-check_run.ensures.played;
+  not_a_run = λ fault _ _ _. ok_no_err fault;
+}

@@ -1,0 +1,62 @@
+-- This file proves what was written of a report, from what is known of each of its pieces.
+use Rattle.std.proofs.Common.{◌≡◌, ◌∙◌, ap, subst, ℕ, List, [], ◌++◌, length, codes, decimal, Option, Result}
+use Rattle.std.specs.Result.{OnOk, OnErr}
+use Rattle.std.proofs.lemmas.Result.{on_ok_weaker, on_err_weaker}
+use Rattle.std.specs.Io.KnownBytes.{Appends}
+use Rattle.ptb_text.specs.Device.{TakesSome, HasFailed}
+use Rattle.ptb_answers.specs.AnswerText.{spelling}
+use Rattle.ptb_answers.specs.declared.form.Marked.{Marked}
+use Rattle.ptb_explore.specs.Report.{Gathers, report_text}
+use Rattle.ptb_explore.proofs.Gathering.{gathers_more, gathers_same, some_more, some_after, all_after, some_rest}
+use Rattle.ptb_explore.proofs.ReportText.{behind_answers, report_in_pieces}
+
+-- a fault behind calls that counted none
+pub failed_after : (a b c : ℕ) → b ≡ a → HasFailed b c → HasFailed a c
+failed_after a b c same h = subst (λ (n : ℕ). HasFailed n c) same h
+
+-- The device held a before; `none` is what was pending then, and p, q and r what is behind each of the pieces.
+module _ (items : List Marked) (word : List ℕ) (steps : ℕ) (shown : List ℕ) (a : Option (List ℕ)) (none : List ℕ) (is : none ≡ []) where
+  -- what stands behind the answers
+  abbrev behind : List ℕ
+  behind = behind_answers word (decimal steps) (decimal (length shown)) shown
+
+  pub first_fails : (b : Option (List ℕ)) → TakesSome a b (none ++ codes "RUN ") → TakesSome a b (report_text items word steps shown)
+  first_fails b t =
+      let some : TakesSome a b (codes "RUN ") = subst (λ (z : List ℕ). TakesSome a b (z ++ codes "RUN ")) is t in
+      subst (TakesSome a b) (report_in_pieces items word steps shown)
+      (some_more a b (codes "RUN " ++ spelling items) behind (some_more a b (codes "RUN ") (spelling items) some))
+
+  module _ (b : Option (List ℕ)) (p : List ℕ) (first : Gathers a b (none ++ codes "RUN ") p) where
+    begun : Gathers a b (codes "RUN ") p
+    begun = gathers_same (ap (λ (z : List ℕ). z ++ codes "RUN ") is) first
+
+    pub answers_fail : (c : Option (List ℕ)) → TakesSome b c (p ++ spelling items) → TakesSome a c (report_text items word steps shown)
+    answers_fail c t =
+        subst (TakesSome a c) (report_in_pieces items word steps shown)
+        (some_more a c (codes "RUN " ++ spelling items) behind (some_after a b c (codes "RUN ") p (spelling items) begun t))
+
+    module _ (c : Option (List ℕ)) (q : List ℕ) (second : Gathers b c (p ++ spelling items) q) (counted : List ℕ) (count : counted ≡ decimal steps) (sized : List ℕ) (size : sized ≡ decimal (length shown)) where
+      listed : Gathers a c (codes "RUN " ++ spelling items) q
+      listed = gathers_more a b c (codes "RUN ") p (spelling items) q begun second
+
+      same_behind : q ++ behind_answers word counted sized shown ≡ q ++ behind
+      same_behind =
+          ap (λ (z : List ℕ). q ++ behind_answers word z sized shown) count
+          ∙ ap (λ (z : List ℕ). q ++ behind_answers word (decimal steps) z shown) size
+
+      pub pieces_fail : (d : Option (List ℕ)) → TakesSome c d (q ++ behind_answers word counted sized shown) → TakesSome a d (report_text items word steps shown)
+      pieces_fail d t =
+          subst (TakesSome a d) (report_in_pieces items word steps shown)
+          (some_after a c d (codes "RUN " ++ spelling items) q behind listed (subst (TakesSome c d) same_behind t))
+
+      module _ (d : Option (List ℕ)) (r : List ℕ) (third : Gathers c d (q ++ behind_answers word counted sized shown) r) (last : List ℕ) (rest : last ≡ r) (e : Option (List ℕ)) {T E : Type 0} (result : Result T E) where
+        whole : Gathers a d (report_text items word steps shown) r
+        whole =
+            gathers_same (report_in_pieces items word steps shown)
+            (gathers_more a c d (codes "RUN " ++ spelling items) q behind r listed (gathers_same same_behind third))
+
+        pub all_written : OnOk result (Appends d e last) → OnOk result (Appends a e (report_text items word steps shown))
+        all_written h = on_ok_weaker result (λ t. all_after a d e (report_text items word steps shown) r whole (subst (Appends d e) rest t)) h
+
+        pub rest_fails : OnErr result (TakesSome d e last) → OnErr result (TakesSome a e (report_text items word steps shown))
+        rest_fails h = on_err_weaker result (λ t. some_rest a d e (report_text items word steps shown) r whole (subst (TakesSome d e) rest t)) h
