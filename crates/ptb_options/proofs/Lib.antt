@@ -2,3 +2,5 @@
 pub mod AnswerTexts
 pub mod NumberRanges
 pub mod OptionReads
+pub mod ListedArgs
+pub mod Decisions

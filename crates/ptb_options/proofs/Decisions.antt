@@ -1,0 +1,114 @@
+-- This file joins what is told of the request that the words make, or of why there is none.
+use Rattle.std.proofs.Common.{◌≡◌, ◌∙◌, ◌≤◌, ◌≤ℤ◌, ℕ, pos, Bool, true, false, Option, Some, None, Result, Ok, Err, IfErr, IfOk, IfSome, ap, arith, refl, subst, sym}
+use Rattle.std.specs.Prelude.{if◌then◌else◌, option_map, unwrap_or}
+use Rattle.std.specs.Option.{ForSome}
+use Rattle.std.specs.Result.{IsErrAnd}
+use Rattle.std.proofs.lemmas.Int.{ints}
+use Rattle.std.proofs.lemmas.Result.{err_from_is_err_and}
+use Rattle.ptb_text.specs.Statements.{IsMemorySize}
+use Rattle.ptb_answers.specs.declared.rules.Rules.{Rules}
+use Rattle.ptb_options.specs.declared.answers.ListFault.{ListFault}
+use Rattle.ptb_options.specs.declared.answers.ListFault.TheVariants as lists
+use Rattle.ptb_options.specs.declared.request.Mode.{Mode}
+use Rattle.ptb_options.specs.declared.request.Request.{Request}
+use Rattle.ptb_options.specs.declared.usage.UsageFault.{UsageFault}
+use Rattle.ptb_options.specs.declared.usage.UsageFault.TheVariants.{ListWithOther, AfterWithoutAll, FirstWithoutAll, FormWithoutAll, UnderWithoutAll, AnswersWithAll, SeedWithAll, SeedWithAnswers, BadList, Memory}
+use Rattle.ptb_options.specs.Options.{Asks, AsksMode, HasBound, HasMemorySize, Options, Refuses, RefusesLists, clash, rules_of, usage_fault}
+
+-- the first of these faults whose test is true
+abbrev first_fault : Bool → Bool → Bool → Bool → Bool → Bool → Bool → Bool → Option UsageFault
+first_fault a b c d e f g h =
+    if a then Some ListWithOther
+    else (if b then Some AfterWithoutAll
+    else (if c then Some FirstWithoutAll
+    else (if d then Some FormWithoutAll
+    else (if e then Some UnderWithoutAll
+    else (if f then Some AnswersWithAll else (if g then Some SeedWithAll else (if h then Some SeedWithAnswers else None)))))))
+
+not_bad : (a b c d e f g h : Bool) → first_fault a b c d e f g h ≡ Some BadList → ⊥
+not_bad true b c d e f g h is = cc
+not_bad false true c d e f g h is = cc
+not_bad false false true d e f g h is = cc
+not_bad false false false true e f g h is = cc
+not_bad false false false false true f g h is = cc
+not_bad false false false false false true g h is = cc
+not_bad false false false false false false true h is = cc
+not_bad false false false false false false false true is = cc
+not_bad false false false false false false false false is = cc
+
+not_memory : (a b c d e f g h : Bool) → first_fault a b c d e f g h ≡ Some Memory → ⊥
+not_memory true b c d e f g h is = cc
+not_memory false true c d e f g h is = cc
+not_memory false false true d e f g h is = cc
+not_memory false false false true e f g h is = cc
+not_memory false false false false true f g h is = cc
+not_memory false false false false false true g h is = cc
+not_memory false false false false false false true h is = cc
+not_memory false false false false false false false true is = cc
+not_memory false false false false false false false false is = cc
+
+-- why options clash
+Refuses-clash : (o : Options) (fault : UsageFault) → clash o ≡ Some fault → Refuses o fault
+Refuses-clash o ListWithOther e = e
+Refuses-clash o AfterWithoutAll e = e
+Refuses-clash o FirstWithoutAll e = e
+Refuses-clash o FormWithoutAll e = e
+Refuses-clash o UnderWithoutAll e = e
+Refuses-clash o AnswersWithAll e = e
+Refuses-clash o SeedWithAll e = e
+Refuses-clash o SeedWithAnswers e = e
+Refuses-clash o BadList e = absurd (not_bad _ _ _ _ _ _ _ _ e)
+Refuses-clash o Memory e = absurd (not_memory _ _ _ _ _ _ _ _ e)
+
+-- o are the options that stand in the words, and l is how the code has them
+module _ (o l : Options) (same : l ≡ o) where
+  -- what is told of the request, or of why there is none
+  pub record IsDecided (result : Result Request UsageFault) : Type 0 where
+    pub ok : IfOk result (Asks o)
+    pub fault : IfErr result (Refuses o)
+    pub memory : IfOk result (λ r. IsMemorySize r.memory)
+    pub bound : IfOk result (λ r. IfSome r.rules.choose (λ n. pos 1 ≤ℤ n))
+
+  refused : (fault : UsageFault) → Refuses l fault → IsDecided (Err fault)
+  refused fault h = record { ok = tt; fault = subst (λ (x : Options). Refuses x fault) same h; memory = tt; bound = tt }
+
+  -- they clash
+  pub decided_clash : (found : Option UsageFault) (fault : UsageFault) → found ≡ clash l → found ≡ Some fault → IsDecided (Err fault)
+  decided_clash found fault told is = refused fault (Refuses-clash l fault (sym told ∙ is))
+
+  -- they don't
+  module _ (found : Option UsageFault) (told : found ≡ clash l) (none : found ≡ None) where
+    unclashed : clash l ≡ None
+    unclashed = sym told ∙ none
+
+    lists_refused : (fault : ListFault) → RefusesLists l fault → Refuses l (usage_fault fault)
+    lists_refused lists.Bad h = (unclashed, h)
+    lists_refused lists.Memory h = (unclashed, h)
+
+    -- a list is refused
+    pub decided_list : (result : Result Request UsageFault) (fault : ListFault) → IsErrAnd result (λ y. y ≡ usage_fault fault) → RefusesLists l fault → IsDecided result
+    decided_list result fault is h =
+        let e = err_from_is_err_and result is in
+        subst IsDecided (sym (e.1 ∙ ap Err e.2)) (refused (usage_fault fault) (lists_refused fault h))
+
+    -- nothing is
+    module _ (size : HasMemorySize o) (positive : HasBound o) where
+      size_of : (kept : Option ℕ) (memory : ℕ) → ForSome kept IsMemorySize → memory ≡ unwrap_or kept 4096 → IsMemorySize memory
+      size_of None memory h is = subst IsMemorySize (sym is) (omega arith, omega arith)
+      size_of (Some n) memory h is = subst IsMemorySize (sym is) (h n refl)
+
+      bound_of : (choose : Option ℕ) → ForSome choose (λ n. (1 ≤ n) × (n ≤ 32767)) → IfSome (option_map pos choose) (λ n. pos 1 ≤ℤ n)
+      bound_of None h = tt
+      bound_of (Some n) h = let least = (h n refl).0 in omega (arith, ints)
+
+      pub decided : (kept : Option ℕ) (rules : Rules) (memory : ℕ) (mode : Mode) → kept ≡ l.memory → rules ≡ rules_of l → memory ≡ unwrap_or kept 4096 → AsksMode l mode
+          → IsDecided (Ok (record { rules = rules; memory = memory; mode = mode }))
+      decided kept rules memory mode given ruled held asked =
+          let there : kept ≡ o.memory = given ∙ ap (λ (x : Options). x.memory) same in
+          record {
+            ok = subst (λ (x : Options). Asks x (record { rules = rules; memory = memory; mode = mode })) same
+                (record { clash = unclashed; rules = ruled; memory = held ∙ ap (λ (k : Option ℕ). unwrap_or k 4096) given; mode = asked });
+            fault = tt;
+            memory = size_of kept memory (subst (λ (k : Option ℕ). ForSome k IsMemorySize) (sym there) size) held;
+            bound = subst (λ (r : Rules). IfSome r.choose (λ n. pos 1 ≤ℤ n)) (sym (ruled ∙ ap rules_of same)) (bound_of o.choose positive);
+          }
