@@ -33,6 +33,10 @@ gives_err r e h =
     let p = err_from_is_err_and r h in
     p.1 ∙ ap Err p.2
 
+-- and what is no error is none of a kind
+pub no_fault : {T E : Type 0} (t : T) (e : E) → IsErrOf (Ok t) e → ⊥
+no_fault t e is = cc
+
 module _ (request : Request) (p : StoredProgram) (memory : p.memory ≡ request.memory) (under after : Option (List Marked)) (first : Option ℕ) (form : Form) where
   -- ---- the lines can't be read
 

@@ -1,6 +1,6 @@
 -- This file answers that a listing of all runs is served as is due, and how its input is read.
 use Rattle.ptb_serve.proofs.Listed.{listing_reads}
-use Rattle.ptb_serve.proofs.Listing.{listing_unread}
+use Rattle.ptb_serve.proofs.Listing.{listing_unread, no_fault}
 use Rattle.ptb_serve.proofs.all_runs.list_runs.Goals as goal
 
 -- the lines can't be read
@@ -23,6 +23,6 @@ returns g c =
       serves = c.list_runs_on.ensures.serves _ _ (rw c.deref.ensures.value lines.lines);
       reads =
           listing_reads c.args.request.now c.args.program.now c.requires.memory c.args.under.now c.args.after.now c.args.first c.args.form _ _ _ _ _ _ c.list_runs_on.result
-          lines.within lines.bounded lines.given (lines.unfailed (λ x. absurd cc)) c.list_runs_on.ensures.read;
+          lines.within lines.bounded lines.given (lines.unfailed (no_fault _ _)) c.list_runs_on.ensures.read;
       failures = c.list_runs_on.ensures.failures;
     }

@@ -1,5 +1,5 @@
 -- This file answers that the runs on the lines of an input are listed as is due.
-use Rattle.ptb_serve.proofs.Listing.{listing_broken, listing_unbegun, listing_written}
+use Rattle.ptb_serve.proofs.Listing.{listing_broken, listing_unbegun, listing_written, no_fault}
 use Rattle.ptb_serve.proofs.all_runs.list_runs_on.Goals as goal
 
 -- no listing begins so
@@ -31,6 +31,6 @@ returns g c =
     listing_written c.args.request.now c.args.program.now c.requires.memory c.args.under.now c.args.after.now c.args.first c.args.form c.args.lines.now
     (g.W.Write.contents c.args.out.now) (g.W.Write.contents c.write_all_runs.new.writer) (g.W.Write.failures c.args.out.now) (g.W.Write.failures c.write_all_runs.new.writer)
     c.in_ok-explorer.explorer c.write_all_runs.new.explorer.front c.in_ok-explorer.ensures.explorer c.in_ok-explorer.ensures.begun
-    c.in_ok-write_all_runs.field-0 writes.writes (writes.unfailed (λ n x. absurd cc))
+    c.in_ok-write_all_runs.field-0 writes.writes (writes.unfailed (λ n. no_fault _ _))
     in
     record { serves = told.serves; read = told.read; failures = told.failures }
