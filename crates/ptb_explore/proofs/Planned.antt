@@ -28,7 +28,7 @@ module _ (p : StoredProgram) (input : List (List ℕ)) (rules : Rules) (plan : A
   pub planned_played : (n : ℕ) → IsPlayed (play player input rules) plan n → IsPlayed (play p input rules) plan n
   planned_played n h = subst (λ (q : StoredProgram). IsPlayed (play q input rules) plan n) plays h
 
-  -- of another program's player that is the same
+  -- where the player has no such run, the program has none
   pub no_run_played : {P : Type 0} → (IsRun (play player input rules) plan → P) → IsRun (play p input rules) plan → P
   no_run_played f run = f (subst (λ (q : StoredProgram). IsRun (play q input rules) plan) (sym plays) run)
 

@@ -14,7 +14,7 @@ use Rattle.ptb_explore.proofs.ReportText.{behind_answers, report_in_pieces}
 pub failed_after : (a b c : ℕ) → b ≡ a → HasFailed b c → HasFailed a c
 failed_after a b c same h = subst (λ (n : ℕ). HasFailed n c) same h
 
--- The device held a before; `none` is what was pending then, and p, q and r what is behind each of the pieces.
+-- The device held a before; `none` is what was pending then, and p, q and r are what is pending behind each of the pieces.
 module _ (items : List Marked) (word : List ℕ) (steps : ℕ) (shown : List ℕ) (a : Option (List ℕ)) (none : List ℕ) (is : none ≡ []) where
   -- what stands behind the answers
   abbrev behind : List ℕ
