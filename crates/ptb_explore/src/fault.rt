@@ -59,7 +59,7 @@ impl From<AllocError> for UnderFault {
 }
 
 /// Why the next report was not written.
-#[derive(Clone, Copy, Debug, PartialEq, Eq)]
+#[derive(Clone, Copy)]
 pub(crate) enum NextFault {
     /// A growth was refused memory.
     Memory,
