@@ -38,6 +38,3 @@ pub use showing::put;
 pub use stack::{NESTING_LIMIT, Open, OpenLoop, Stack};
 pub use statements::{beginning_of, first_place, is_zero, line_at, place_after};
 pub use stop::{DeviceError, Stop};
-
-#[cfg(test)]
-mod tests;

@@ -234,6 +234,3 @@ fn newest_loop(opens: &[Open], letter: Letter) -> Option<(usize, OpenLoop)>
     }
     None
 }
-
-#[cfg(test)]
-mod tests;

@@ -19,6 +19,3 @@ pub use lines::{Line, LineSource, Lines};
 pub use reader_lines::ReaderLines;
 pub use screen::{Screen, TextScreen, WriterScreen};
 pub use whole_input::{INPUT_LIMIT, read_lines};
-
-#[cfg(test)]
-mod tests;

@@ -189,6 +189,3 @@ impl<'a> LineSource for Lines<'a> {
         Ok(Some(line))
     }
 }
-
-#[cfg(test)]
-mod tests;

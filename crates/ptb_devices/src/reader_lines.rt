@@ -79,6 +79,3 @@ impl<'a, R: Read> LineSource for ReaderLines<'a, R> {
         Ok(Some(self.buffer.kept()))
     }
 }
-
-#[cfg(test)]
-mod tests;

@@ -156,6 +156,3 @@ impl Screen for TextScreen {
         Ok(())
     }
 }
-
-#[cfg(test)]
-mod tests;

@@ -96,6 +96,3 @@ fn push_last(alloc: Global, lines: &mut Vec<Line>, cutter: &LineCutter) -> Resul
     }
     Ok(())
 }
-
-#[cfg(test)]
-mod tests;

@@ -227,6 +227,3 @@ impl Registers {
         Ok(())
     }
 }
-
-#[cfg(test)]
-mod tests;

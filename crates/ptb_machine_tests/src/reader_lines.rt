@@ -1,8 +1,8 @@
 // This file tests how lines are read when they are asked for, to the end or a fault.
 
-use super::*;
-use crate::tests::{Long, expect_same, scripted};
-use ptb_text::Device;
+use crate::shared::{Long, expect_same, scripted};
+use ptb_devices::{LineSource, ReadFault, ReaderLines};
+use ptb_text::{Device, Read};
 use std::process::Abort;
 
 // Each input, and its lines.

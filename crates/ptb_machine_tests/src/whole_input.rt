@@ -1,8 +1,9 @@
 // This file tests how a whole input is read: in pieces, to a fault, and without an end.
 
-use super::*;
-use crate::tests::{Long, expect_same, scripted};
+use crate::shared::{Long, expect_same, scripted};
+use ptb_devices::{Line, ReadFault, read_lines};
 use ptb_text::Device;
+use std::alloc::Global;
 use std::process::Abort;
 use std::test::Fail;
 

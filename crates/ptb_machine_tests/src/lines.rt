@@ -1,7 +1,8 @@
 // This file tests how lines are cleaned, and how a list of them is taken.
 
-use super::*;
-use crate::tests::expect_same;
+use crate::shared::expect_same;
+use ptb_devices::{Line, LineSource, Lines, ReadFault};
+use std::alloc::{AllocError, Global};
 use std::process::Abort;
 use std::test::Fail;
 

@@ -1,10 +1,11 @@
 // This file tests how many writes a PRINT takes, and what it has shown where it stops.
 
-use super::*;
-use crate::tests::{Counted, UNWRITTEN, expect_same, fault};
-use ptb_answers::{Listed, Pause};
+use crate::shared::{Counted, UNWRITTEN, expect_same, fault, without_lines};
+use ptb_command::{Gathering, Io, Registers, Stop, gather_value};
 use ptb_devices::{Lines, WriterScreen};
-use ptb_text::Device;
+use ptb_expr::{Listed, Pause};
+use ptb_text::{Device, Program};
+use ptb_words::{Cursor, Word};
 use std::test::Fail;
 
 // Each PRINT with its answers and a writer that takes so many writes: how it is done, how what is
@@ -51,7 +52,8 @@ const NO_ANSWER: Result<usize, Stop> = Err(Stop::Pause(Pause::Ended));
 fn written(
     text: &str,
     answers: &[i16],
-    store: &Store,
+    program: &Program,
+    registers: &mut Registers,
     taken: &mut Vec<u8>,
     mut writes_left: usize,
 ) -> (Result<usize, Stop>, usize) {
@@ -64,19 +66,26 @@ fn written(
     let mut chooser = Listed::new(answers);
     let mut cursor = Cursor::new(text.as_bytes(), 0);
     let mut io = Io::new(&mut chooser, &mut screen, &mut source, true, None);
-    let result = print(&mut cursor, store, &mut io).map(|()| cursor.place());
+    let result = registers.do_command(program, 0, Word::PrintKw, &mut cursor, &mut io);
     drop(io);
     drop(screen);
     drop(writer);
-    (result, writes_left)
+    (result.map(|()| cursor.place()), writes_left)
 }
 
 #[test]
 fn writes(rt: HostRuntime) -> Result<(), Fail> {
     for &(text, answers, writes, want, begins, count, left) in WRITES {
-        let store = Store::new(rt.alloc(), 54)?;
+        let (program, mut registers) = without_lines(rt.alloc())?;
         let mut taken = Vec::new(rt.alloc());
-        let (result, writes_left) = written(text, answers, &store, &mut taken, writes);
+        let (result, writes_left) = written(
+            text,
+            answers,
+            &program,
+            &mut registers,
+            &mut taken,
+            writes,
+        );
         let is_begun = taken.as_slice().starts_with(begins);
         let found = (result, is_begun, taken.len(), writes_left);
         expect_same(&rt, text, found, (want, true, count, left));

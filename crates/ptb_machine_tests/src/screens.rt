@@ -1,7 +1,7 @@
 // This file tests screens over writers that take little and fail, and the screen in memory.
 
-use super::*;
-use crate::tests::expect_same;
+use crate::shared::expect_same;
+use ptb_devices::{Screen, ScreenFault, TextScreen, WriterScreen};
 use ptb_text::Device;
 use std::io;
 use std::io::ErrorKind;

@@ -1,79 +1,17 @@
-// This file tests what each command does and where a run stands, and has what the tests share.
+// This file tests what each command does, and where a run stands.
 
-ghost use Rattle.std.specs.Prelude.{◌≡◌, IsTrue};
-ghost use Rattle.ptb_words.specs.Words.{is_letter};
-
-use super::*;
-use crate::stop::DeviceError;
-use ptb_answers::{Listed, Pause};
+use crate::shared::{MEMORY, expect_same, fault, letter};
+use ptb_command::{
+    Io, Location, OpenLoop, Registers, Stack, Stop, at_end, beginning_of, end_turn, first_place,
+    first_word, is_zero, line_at, next_command, pass_separator, place_after, put,
+};
 use ptb_devices::{Line, Lines, TextScreen};
 use ptb_expr::Store;
 use ptb_text::{LoadFault, Program};
 use ptb_words::{Cursor, Letter, Word};
 use std::alloc::{AllocError, Global};
-use std::fmt::Debug;
-use std::io;
-use std::io::ErrorKind;
 use std::process::Abort;
 use std::test::Fail;
-
-/// The memory of the programs.
-const MEMORY: u16 = 4096;
-
-/// The letter of a byte that is one.
-pub(crate) fn letter(byte: u8) -> Letter
-    requires { IsTrue (is_letter byte) }
-    ensures { result ≡ byte }
-{
-    Letter::new(byte).unwrap()
-}
-
-// Takes all bytes of a write, until it fails.
-#[derive(Drop)]
-pub(crate) struct Counted<'a> {
-    pub(crate) taken: &'a mut Vec<u8>,
-    pub(crate) writes_left: &'a mut usize,
-}
-
-impl<'a> io::Write for Counted<'a> {
-    fn write(&mut self, buf: &[u8]) -> io::Result<usize> {
-        if *self.writes_left == 0 {
-            return Err(io::Error::from(ErrorKind::BrokenPipe));
-        }
-        *self.writes_left -= 1;
-        self.taken.extend_from_slice(buf)?;
-        Ok(buf.len())
-    }
-
-    fn flush(&mut self) -> io::Result<()> {
-        Ok(())
-    }
-}
-
-// A fault with its mark, for tables that are constants.
-macro_rules! fault {
-    ($kind:ident, $mark:literal) => {
-        Err($crate::Stop::Fault(ptb_expr::Fault {
-            kind: ptb_expr::FaultKind::$kind,
-            mark: $mark,
-        }))
-    };
-}
-
-pub(crate) use fault;
-
-// A command that was stopped by a write that failed.
-pub(crate) const UNWRITTEN: Result<usize, Stop> = Err(Stop::Broke(DeviceError::Write));
-
-// Two values that must be the same; `what` says of what they are.
-pub(crate) fn expect_same<T: Copy + PartialEq + Debug>(
-    rt: &impl Abort,
-    what: &str,
-    found: T,
-    wanted: T,
-) {
-    assert_eq!(rt; found, wanted, "{what}");
-}
 
 // The program of two lines, of which each may be empty.
 fn program(alloc: Global, first: &[u8], second: &[u8]) -> Result<Program, LoadFault> {

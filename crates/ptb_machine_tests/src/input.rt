@@ -2,11 +2,12 @@
 
 ghost use Rattle.std.specs.Prelude.{◌≤ℤ◌, pos, IfSome};
 
-use super::*;
-use crate::tests::{Counted, UNWRITTEN, expect_same, fault, letter};
-use ptb_answers::{Listed, Pause};
-use ptb_devices::{Line, Lines, TextScreen, WriterScreen};
-use ptb_text::Device;
+use crate::shared::{Counted, UNWRITTEN, expect_same, fault, letter, without_lines};
+use ptb_command::{Io, Registers, Stop};
+use ptb_devices::{Line, Lines, Screen, TextScreen, WriterScreen};
+use ptb_expr::{Listed, Pause};
+use ptb_text::{Device, Program};
+use ptb_words::{Cursor, Word};
 use std::alloc::{AllocError, Global};
 use std::test::Fail;
 
@@ -26,7 +27,8 @@ fn done<S: Screen>(
     lines: &[Line],
     answers: &[i16],
     choose: Option<i16>,
-    store: &mut Store,
+    program: &Program,
+    registers: &mut Registers,
     screen: &mut S,
 ) -> (Result<usize, Stop>, bool)
     requires { IfSome choose (λ n. pos 1 ≤ℤ n) }
@@ -35,8 +37,8 @@ fn done<S: Screen>(
     let mut chooser = Listed::new(answers);
     let mut cursor = Cursor::new(text.as_bytes(), 0);
     let mut io = Io::new(&mut chooser, screen, &mut source, true, choose);
-    let result = super::input(&mut cursor, store, &mut io).map(|()| cursor.place());
-    (result, io.fresh)
+    let result = registers.do_command(program, 0, Word::InputKw, &mut cursor, &mut io);
+    (result.map(|()| cursor.place()), io.fresh)
 }
 
 // Each INPUT with its lines, where RND is answered by 1 and 2: how it is done, what is shown, and A.
@@ -69,10 +71,19 @@ const ITEMS: &[(&str, &[&[u8]], Result<usize, Stop>, &[u8], i16)] = &[
 fn items(rt: HostRuntime) -> Result<(), Fail> {
     for &(text, input, want, shown, a) in ITEMS {
         let lines = lines_of(rt.alloc(), input)?;
-        let mut store = Store::new(rt.alloc(), 54)?;
+        let (program, mut registers) = without_lines(rt.alloc())?;
         let mut screen = TextScreen::new(rt.alloc());
-        let (result, fresh) = done(text, &lines, &[1, 2], None, &mut store, &mut screen);
-        let found = (result, screen.bytes(), store.get(letter(b'A')), fresh);
+        let (result, fresh) = done(
+            text,
+            &lines,
+            &[1, 2],
+            None,
+            &program,
+            &mut registers,
+            &mut screen,
+        );
+        let a_then = registers.store.get(letter(b'A'));
+        let found = (result, screen.bytes(), a_then, fresh);
         let is_fresh = shown.last() == Some(&b'\n');
         expect_same(&rt, text, found, (want, shown, a, is_fresh));
     }
@@ -91,10 +102,19 @@ const ANSWERED: &[(&str, &[i16], Result<usize, Stop>, &[u8], i16)] = &[
 #[test]
 fn answers_where_no_line_is_left(rt: HostRuntime) -> Result<(), Fail> {
     for &(text, answers, want, shown, a) in ANSWERED {
-        let mut store = Store::new(rt.alloc(), 54)?;
+        let (program, mut registers) = without_lines(rt.alloc())?;
         let mut screen = TextScreen::new(rt.alloc());
-        let (result, _) = done(text, &[], answers, Some(2), &mut store, &mut screen);
-        let found = (result, screen.bytes(), store.get(letter(b'A')));
+        let (result, _) = done(
+            text,
+            &[],
+            answers,
+            Some(2),
+            &program,
+            &mut registers,
+            &mut screen,
+        );
+        let a_then = registers.store.get(letter(b'A'));
+        let found = (result, screen.bytes(), a_then);
         expect_same(&rt, text, found, (want, shown, a));
     }
     Ok(())
@@ -119,7 +139,8 @@ const WRITES: &[(&str, &[&[u8]], usize, Result<usize, Stop>, &[u8], usize)] = &[
 fn written(
     text: &str,
     lines: &[Line],
-    store: &mut Store,
+    program: &Program,
+    registers: &mut Registers,
     taken: &mut Vec<u8>,
     mut writes_left: usize,
 ) -> (Result<usize, Stop>, usize) {
@@ -128,7 +149,7 @@ fn written(
         writes_left: &mut writes_left,
     });
     let mut screen = WriterScreen::new(&mut writer);
-    let (result, _) = done(text, lines, &[], None, store, &mut screen);
+    let (result, _) = done(text, lines, &[], None, program, registers, &mut screen);
     drop(screen);
     drop(writer);
     (result, writes_left)
@@ -138,9 +159,9 @@ fn written(
 fn writes(rt: HostRuntime) -> Result<(), Fail> {
     for &(text, input, writes, want, shown, left) in WRITES {
         let lines = lines_of(rt.alloc(), input)?;
-        let mut store = Store::new(rt.alloc(), 54)?;
+        let (program, mut registers) = without_lines(rt.alloc())?;
         let mut taken = Vec::new(rt.alloc());
-        let (result, count) = written(text, &lines, &mut store, &mut taken, writes);
+        let (result, count) = written(text, &lines, &program, &mut registers, &mut taken, writes);
         let found = (result, taken.as_slice(), count);
         expect_same(&rt, text, found, (want, shown, left));
     }

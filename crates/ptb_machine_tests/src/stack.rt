@@ -1,7 +1,8 @@
 // This file tests the control stack: what FOR, NEXT, GOSUB and RETURN leave open.
 
-use super::*;
-use crate::tests::{expect_same, letter};
+use crate::shared::{expect_same, letter};
+use ptb_command::{Location, NESTING_LIMIT, OpenLoop, Stack};
+use ptb_words::Letter;
 use std::process::Abort;
 
 // A loop of this variable.
@@ -40,21 +41,37 @@ fn change(stack: &mut Stack, byte: u8) -> bool {
     }
 }
 
-// Takes the newest: `(` for a call, and the letter of a loop.
-fn newest(stack: &mut Stack) -> Option<u8> {
-    match stack.opens.pop() {
-        Some(Open::Loop(item)) => Some(b"ABCDEFGHIJKLMNOPQRSTUVWXYZ"[item.letter.index()]),
-        Some(Open::Call(_)) => Some(b'('),
-        None => None,
+// How many loops and calls are open.
+fn count_of(stack: &Stack) -> usize {
+    let mut copy = stack.copy();
+    for count in 0..NESTING_LIMIT {
+        if copy.is_empty() {
+            return count;
+        }
+        copy.close_newest();
     }
+    NESTING_LIMIT
+}
+
+// Whether this is the newest: `(` for a call, with which it alone is closed, and the letter of a
+// loop, above which nothing is closed.
+fn is_newest(stack: &Stack, byte: u8) -> bool {
+    let mut copy = stack.copy();
+    let (found, closed) = match Letter::new(byte) {
+        Some(letter) => (copy.close_newer(letter).is_some(), 0),
+        None => (copy.close_call().is_some(), 1),
+    };
+    found && count_of(&copy).saturating_add(closed) == count_of(stack)
 }
 
 // What is open, newest first; it is closed.
 fn expect_open(rt: &impl Abort, what: &str, stack: &mut Stack, open: &[u8]) {
     for &byte in open {
-        expect_same(rt, what, newest(stack), Some(byte));
+        let found = (byte, is_newest(stack, byte));
+        expect_same(rt, what, found, (byte, true));
+        stack.close_newest();
     }
-    expect_same(rt, what, newest(stack), None);
+    expect_same(rt, what, stack.is_empty(), true);
 }
 
 // Whether the last change was done, and what is open then, newest first.

@@ -1,0 +1,28 @@
+//! Tests of devices and commands, over their public names: lines and how they are read, screens, the
+//! stack of what is open, and what each command does.
+//!
+//! It stands on `ptb_devices` and `ptb_command`, and on `ptb_expr`, `ptb_text` and `ptb_words`, whose
+//! stores, programs and cursors commands work on. No crate stands on it: a crate with tests is proved
+//! once more together with them, so these stand apart from what they test.
+#![tactic(auto)]
+
+#[cfg(test)]
+mod assignments;
+#[cfg(test)]
+mod commands;
+#[cfg(test)]
+mod input;
+#[cfg(test)]
+mod lines;
+#[cfg(test)]
+mod print;
+#[cfg(test)]
+mod reader_lines;
+#[cfg(test)]
+mod screens;
+#[cfg(test)]
+mod shared;
+#[cfg(test)]
+mod stack;
+#[cfg(test)]
+mod whole_input;

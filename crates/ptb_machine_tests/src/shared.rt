@@ -1,0 +1,137 @@
+// This file has what several tests use: devices, faults, registers, and values that must be the same.
+
+ghost use Rattle.std.specs.Prelude.{◌≡◌, IsTrue};
+ghost use Rattle.ptb_words.specs.Words.{is_letter};
+
+use ptb_command::{DeviceError, Registers, Stack, Stop};
+use ptb_expr::Store;
+use ptb_text::Program;
+use ptb_words::Letter;
+use std::alloc::{AllocError, Global};
+use std::fmt::Debug;
+use std::io;
+use std::io::ErrorKind;
+use std::process::Abort;
+
+// Two values that must be the same; `what` says of what they are.
+pub(crate) fn expect_same<T: Copy + PartialEq + Debug>(
+    rt: &impl Abort,
+    what: &str,
+    found: T,
+    wanted: T,
+) {
+    assert_eq!(rt; found, wanted, "{what}");
+}
+
+// Gives some bytes a call, and then the end or a fault, and counts its calls.
+#[derive(Drop)]
+pub(crate) struct Script<'a> {
+    bytes: &'a [u8],
+    piece: usize,
+    fails: bool,
+    pub(crate) calls: usize,
+}
+
+impl<'a> io::Read for Script<'a> {
+    fn read(&mut self, buf: &mut [u8]) -> io::Result<usize> {
+        self.calls = self.calls.saturating_add(1);
+        if self.fails && self.bytes.is_empty() {
+            return Err(io::Error::from(ErrorKind::BrokenPipe));
+        }
+        let count = buf.len().min(self.piece);
+        self.bytes.read(&mut buf[..count])
+    }
+}
+
+pub(crate) fn scripted(bytes: &[u8], piece: usize, fails: bool) -> Script<'_> {
+    Script {
+        bytes,
+        piece,
+        fails,
+        calls: 0,
+    }
+}
+
+// Gives the byte 65 so many times, but a newline at one place.
+#[derive(Drop)]
+pub(crate) struct Long {
+    pub(crate) left: usize,
+    pub(crate) newline_at: usize,
+    pub(crate) given: usize,
+}
+
+impl io::Read for Long {
+    fn read(&mut self, buf: &mut [u8]) -> io::Result<usize> {
+        let count = buf.len().min(self.left);
+        for byte in &mut buf[..count] {
+            *byte = 65;
+        }
+        if let Some(at) = self.newline_at.checked_sub(self.given) {
+            if at < count {
+                buf[at] = b'\n';
+            }
+        }
+        self.left -= count;
+        self.given = self.given.saturating_add(count);
+        Ok(count)
+    }
+}
+
+// Takes all bytes of a write, until it fails.
+#[derive(Drop)]
+pub(crate) struct Counted<'a> {
+    pub(crate) taken: &'a mut Vec<u8>,
+    pub(crate) writes_left: &'a mut usize,
+}
+
+impl<'a> io::Write for Counted<'a> {
+    fn write(&mut self, buf: &[u8]) -> io::Result<usize> {
+        if *self.writes_left == 0 {
+            return Err(io::Error::from(ErrorKind::BrokenPipe));
+        }
+        *self.writes_left -= 1;
+        self.taken.extend_from_slice(buf)?;
+        Ok(buf.len())
+    }
+
+    fn flush(&mut self) -> io::Result<()> {
+        Ok(())
+    }
+}
+
+// The letter of a byte that is one.
+pub(crate) fn letter(byte: u8) -> Letter
+    requires { IsTrue (is_letter byte) }
+    ensures { result ≡ byte }
+{
+    Letter::new(byte).unwrap()
+}
+
+// A fault with its mark, for tables that are constants.
+macro_rules! fault {
+    ($kind:ident, $mark:literal) => {
+        Err(ptb_command::Stop::Fault(ptb_expr::Fault {
+            kind: ptb_expr::FaultKind::$kind,
+            mark: $mark,
+        }))
+    };
+}
+
+pub(crate) use fault;
+
+// A command that was stopped by a write that failed.
+pub(crate) const UNWRITTEN: Result<usize, Stop> = Err(Stop::Broke(DeviceError::Write));
+
+// The memory of the programs.
+pub(crate) const MEMORY: u16 = 4096;
+
+// A program without a line, and registers with a small array, for commands that need no more of a
+// program.
+pub(crate) fn without_lines(alloc: Global) -> Result<(Program, Registers), AllocError> {
+    let registers = Registers {
+        place: None,
+        store: Store::new(alloc, 54)?,
+        stack: Stack::new(),
+    };
+    Ok((Program::new(alloc, MEMORY), registers))
+}
