@@ -27,6 +27,3 @@ pub use ptb_devices::{
     WriterScreen, read_lines,
 };
 pub use running::run;
-
-#[cfg(test)]
-mod tests;

@@ -113,3 +113,6 @@ pub(crate) fn report<S: Screen>(
     put_joined(screen, fresh, before, b"?", behind)?;
     put(screen, fresh, b"\n")
 }
+
+#[cfg(test)]
+mod tests;

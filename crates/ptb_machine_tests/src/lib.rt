@@ -1,9 +1,9 @@
-//! Tests of devices and commands, over their public names: lines and how they are read, screens, the
-//! stack of what is open, and what each command does.
+//! Tests of devices, commands and the machine, over their public names: lines and how they are read,
+//! screens, the stack of what is open, what each command does, steps, and whole runs.
 //!
-//! It stands on `ptb_devices` and `ptb_command`, and on `ptb_expr`, `ptb_text` and `ptb_words`, whose
-//! stores, programs and cursors commands work on. No crate stands on it: a crate with tests is proved
-//! once more together with them, so these stand apart from what they test.
+//! It stands on `ptb_devices`, `ptb_command` and `ptb_machine`, and on `ptb_expr`, `ptb_text` and
+//! `ptb_words`, whose stores, programs and cursors commands work on. No crate stands on it: a crate with
+//! tests is proved once more together with them, so these stand apart from what they test.
 #![tactic(auto)]
 
 #[cfg(test)]
@@ -15,9 +15,13 @@ mod input;
 #[cfg(test)]
 mod lines;
 #[cfg(test)]
+mod players;
+#[cfg(test)]
 mod print;
 #[cfg(test)]
 mod reader_lines;
+#[cfg(test)]
+mod runs;
 #[cfg(test)]
 mod screens;
 #[cfg(test)]

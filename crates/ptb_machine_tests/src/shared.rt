@@ -1,17 +1,20 @@
 // This file has what several tests use: devices, faults, registers, and values that must be the same.
 
-ghost use Rattle.std.specs.Prelude.{◌≡◌, IsTrue};
+ghost use Rattle.std.specs.Prelude.{◌≡◌, None, Ok, IfOk, IsTrue};
+ghost use Rattle.ptb_text.specs.Statements.{program};
 ghost use Rattle.ptb_words.specs.Words.{is_letter};
 
 use ptb_command::{DeviceError, Registers, Stack, Stop};
 use ptb_expr::Store;
-use ptb_text::Program;
+use ptb_machine::Rules;
+use ptb_text::{Device, Program, load};
 use ptb_words::Letter;
 use std::alloc::{AllocError, Global};
 use std::fmt::Debug;
 use std::io;
 use std::io::ErrorKind;
 use std::process::Abort;
+use std::test::Fail;
 
 // Two values that must be the same; `what` says of what they are.
 pub(crate) fn expect_same<T: Copy + PartialEq + Debug>(
@@ -134,4 +137,22 @@ pub(crate) fn without_lines(alloc: Global) -> Result<(Program, Registers), Alloc
         stack: Stack::new(),
     };
     Ok((Program::new(alloc, MEMORY), registers))
+}
+
+// Rules by which a run ends where no line is left.
+pub(crate) fn plain_rules(limit: u32) -> Rules
+    ensures { result ≡ record { limit = limit; choose = None } }
+{
+    Rules {
+        limit,
+        choose: None,
+    }
+}
+
+// The program of a text.
+pub(crate) fn loaded(alloc: Global, text: &[u8]) -> Result<Program, Fail>
+    ensures { IfOk result (λ p. program 4096 text.now ≡ Ok p.lines) }
+{
+    let mut text = text;
+    Ok(load(alloc, MEMORY, &mut Device::new(&mut text))?)
 }

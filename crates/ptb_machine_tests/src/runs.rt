@@ -1,47 +1,16 @@
 // This file tests runs and steps: worked rows, and what a run shows of faults.
 
-ghost use Rattle.std.specs.Prelude.{◌≡◌, ◌≤ℤ◌, None, pos, IfSome, IsTrue};
+ghost use Rattle.std.specs.Prelude.{◌≤ℤ◌, pos, IfSome};
 ghost use Rattle.ptb_machine.specs.Steps.{FitsProgram};
+ghost use Rattle.ptb_machine_tests.specs.Programs.{IsCounting, IsPrinting};
 
-use super::*;
-use crate::report::report;
-use ptb_answers::Listed;
-use ptb_command::first_place;
-use ptb_expr::{Fault, FaultKind};
-use ptb_text::{Device, Program, load};
+use crate::shared::{expect_same, loaded, plain_rules};
+use ptb_expr::Listed;
+use ptb_machine::{Ending, Lines, Machine, ReaderLines, Rules, RunFault, TextScreen, run};
+use ptb_text::{Device, Program};
 use std::alloc::Global;
-use std::fmt::Debug;
 use std::process::Abort;
 use std::test::Fail;
-
-/// The memory of the programs.
-const MEMORY: u16 = 4096;
-
-// Rules by which a run ends where no line is left.
-pub(crate) fn plain_rules(limit: u32) -> Rules
-    ensures { result ≡ record { limit = limit; choose = None } }
-{
-    Rules {
-        limit,
-        choose: None,
-    }
-}
-
-// Two values that must be the same; `what` says of what they are.
-pub(crate) fn expect_same<T: Copy + PartialEq + Debug>(
-    rt: &impl Abort,
-    what: &str,
-    found: T,
-    wanted: T,
-) {
-    assert_eq!(rt; found, wanted, "{what}");
-}
-
-// The program of a text.
-pub(crate) fn loaded(alloc: Global, text: &[u8]) -> Result<Program, Fail> {
-    let mut text = text;
-    Ok(load(alloc, MEMORY, &mut Device::new(&mut text))?)
-}
 
 // How a run of a program without input ends.
 fn ending_of(
@@ -417,81 +386,19 @@ fn copies(rt: HostRuntime) -> Result<(), Fail> {
     expect_copies(&rt, rt.alloc(), &program)
 }
 
-// Reports HOW? on a text of this length; whether it is shown, and the next line is fresh.
-fn is_reported(screen: &mut TextScreen, fresh: bool, length: usize, mark: usize) -> bool {
-    let kind = FaultKind::How;
-    let text = [b'A'; 400];
-    let Some(text) = text.get(..length) else {
-        return false;
-    };
-    let mut fresh = fresh;
-    report(screen, &mut fresh, 10, text, Fault { kind, mark }).is_ok() && fresh
-}
+// A sum that is done again and again, which shows nothing.
+const COUNTS: &[u8] = b"10 A=A+1\n20 GOTO 10";
 
-// What the report is: its front, the text with the mark, and a newline.
-fn report_due(alloc: Global, fresh: bool, length: usize, mark: usize) -> Result<Vec<u8>, Fail> {
-    let front = if fresh { "HOW?\n10 " } else { "\nHOW?\n10 " };
-    let mut due = Vec::from_slice(alloc, front.as_bytes())?;
-    due.resize(front.len().saturating_add(mark), b'A')?;
-    due.push(b'?')?;
-    let whole = due.len().saturating_add(length.saturating_sub(mark));
-    due.resize(whole, b'A')?;
-    due.push(b'\n')?;
-    Ok(due)
-}
+// An empty line that is shown again and again. Its commands stand where those of the sum stand.
+const PRINTS: &[u8] = b"10 PRINT\n20 GOTO 10";
 
-const REPORTS: &[(bool, usize, usize)] = &[
-    (true, 0, 0),
-    (false, 0, 0),
-    (true, 255, 0),
-    (false, 255, 255),
-    (true, 400, 0),
-    (true, 400, 200),
-    (false, 400, 400),
-];
-
-// A report of HOW? is this one.
-fn expect_report(
-    rt: &impl Abort,
-    alloc: Global,
-    (fresh, length, mark): (bool, usize, usize),
-    due: &[u8],
-) {
-    let mut screen = TextScreen::new(alloc);
-    let is_reported = is_reported(&mut screen, fresh, length, mark);
-    let found = (is_reported, screen.bytes());
-    expect_same(rt, "a report", found, (true, due));
-}
-
-// A report is whole, and has its mark, also where the text is longer than that of a statement.
-#[test]
-fn reports(rt: HostRuntime) -> Result<(), Fail> {
-    for &row in REPORTS {
-        let due = report_due(rt.alloc(), row.0, row.1, row.2)?;
-        expect_report(&rt, rt.alloc(), row, due.as_slice());
-    }
-    Ok(())
-}
-
-// Whether a machine stands where a run of the program begins, with nothing open and a fresh line:
-// such a machine fits the program, whichever one it was made for.
-fn stands_at_beginning(machine: &Machine, program: &Program) -> bool
-    ensures { IsTrue result → FitsProgram program.now machine.now }
-{
-    let Some(first) = first_place(program) else {
-        return false;
-    };
-    let Some(here) = machine.registers.place else {
-        return false;
-    };
-    if here.statement != first.statement || here.at != first.at {
-        return false;
-    }
-    if !machine.registers.stack.is_empty() {
-        return false;
-    }
-    machine.fresh
-}
+// A machine that fits the one program fits the other.
+fn fits_prints(machine: &Machine, counts: &Program, prints: &Program)
+    requires fits { FitsProgram counts.now machine.now }
+    requires counts { IsCounting counts.now }
+    requires prints { IsPrinting prints.now }
+    ensures { FitsProgram prints.now machine.now }
+{}
 
 // Does a command that shows nothing; whether the run goes on.
 fn goes_on(machine: &mut Machine, program: &Program, screen: &mut TextScreen) -> bool
@@ -513,8 +420,8 @@ fn four_go_on(machine: &mut Machine, program: &Program, screen: &mut TextScreen)
     first && second && third && fourth
 }
 
-// A machine of a program that shows nothing is where another one begins that prints, after eight
-// commands, and then prints.
+// A machine of a program that shows nothing fits another one that prints, after eight commands, and
+// then prints.
 fn expect_print(
     rt: &impl Abort,
     machine: &mut Machine,
@@ -522,15 +429,17 @@ fn expect_print(
     prints: &Program,
     screen: &mut TextScreen,
 )
-    requires { FitsProgram counts.now machine.old }
+    requires fits { FitsProgram counts.now machine.old }
+    requires counts { IsCounting counts.now }
+    requires prints { IsPrinting prints.now }
 {
     let first = four_go_on(machine, counts, screen);
     let second = four_go_on(machine, counts, screen);
     let is_quiet = screen.bytes().is_empty();
-    let stands = stands_at_beginning(machine, prints);
-    let goes_on = stands && goes_on(machine, prints, screen);
-    let found = (first && second, is_quiet, stands, goes_on);
-    expect_same(rt, "commands", found, (true, true, true, true));
+    fits_prints(machine, counts, prints);
+    let goes_on = goes_on(machine, prints, screen);
+    let found = (first && second, is_quiet, goes_on);
+    expect_same(rt, "commands", found, (true, true, true));
     let found = (machine.steps(), screen.bytes());
     expect_same(rt, "a print", found, (9, b"\n".as_slice()));
 }
@@ -541,7 +450,10 @@ fn expect_same_places(
     alloc: Global,
     counts: &Program,
     prints: &Program,
-) -> Result<(), Fail> {
+) -> Result<(), Fail>
+    requires counts { IsCounting counts.now }
+    requires prints { IsPrinting prints.now }
+{
     let mut machine = Machine::new(alloc, counts)?;
     let mut screen = TextScreen::new(alloc);
     expect_print(rt, &mut machine, counts, prints, &mut screen);
@@ -552,8 +464,8 @@ fn expect_same_places(
 // it fits a program that prints there, and prints.
 #[test]
 fn programs_with_the_same_places(rt: HostRuntime) -> Result<(), Fail> {
-    let counts = loaded(rt.alloc(), b"10 A=A+1\n20 GOTO 10")?;
-    let prints = loaded(rt.alloc(), b"10 PRINT\n20 GOTO 10")?;
+    let counts = loaded(rt.alloc(), COUNTS)?;
+    let prints = loaded(rt.alloc(), PRINTS)?;
     expect_same_places(&rt, rt.alloc(), &counts, &prints)
 }
 
