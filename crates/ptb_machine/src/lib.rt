@@ -26,4 +26,5 @@ pub use ptb_devices::{
     INPUT_LIMIT, Line, LineSource, Lines, ReadFault, ReaderLines, Screen, ScreenFault, TextScreen,
     WriterScreen, read_lines,
 };
+pub use report::report;
 pub use running::run;

@@ -92,8 +92,15 @@ fn put_joined<S: Screen>(
     put(screen, fresh, third)
 }
 
-/// Reports a fault of the statement of this number and text.
-pub(crate) fn report<S: Screen>(
+/// Shows what is wrong with the statement of this number and text: the word of the fault on a line of
+/// its own, and the statement with a question mark where its mark is, or behind it where that is
+/// past its end.
+///
+/// # Errors
+///
+/// [`ScreenFault`] where the screen could not be written. A beginning of the report may have been
+/// shown then.
+pub fn report<S: Screen>(
     screen: &mut S,
     fresh: &mut bool,
     number: i16,
@@ -113,6 +120,3 @@ pub(crate) fn report<S: Screen>(
     put_joined(screen, fresh, before, b"?", behind)?;
     put(screen, fresh, b"\n")
 }
-
-#[cfg(test)]
-mod tests;

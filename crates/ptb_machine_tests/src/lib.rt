@@ -1,5 +1,6 @@
 //! Tests of devices, commands and the machine, over their public names: lines and how they are read,
-//! screens, the stack of what is open, what each command does, steps, and whole runs.
+//! screens, the stack of what is open, what each command does, reports of faults, steps, and whole
+//! runs.
 //!
 //! It stands on `ptb_devices`, `ptb_command` and `ptb_machine`, and on `ptb_expr`, `ptb_text` and
 //! `ptb_words`, whose stores, programs and cursors commands work on. No crate stands on it: a crate with
@@ -20,6 +21,8 @@ mod players;
 mod print;
 #[cfg(test)]
 mod reader_lines;
+#[cfg(test)]
+mod reports;
 #[cfg(test)]
 mod runs;
 #[cfg(test)]

@@ -1,7 +1,7 @@
 // This file tests reports of faults, also on texts that are longer than those of statements.
 
-use super::*;
-use ptb_devices::TextScreen;
+use ptb_expr::{Fault, FaultKind};
+use ptb_machine::{TextScreen, report};
 use std::alloc::Global;
 use std::process::Abort;
 use std::test::Fail;
