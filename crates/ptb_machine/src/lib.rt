@@ -12,7 +12,7 @@ mod fault;
 mod kept;
 mod laws;
 mod machine;
-mod report;
+mod reports;
 mod running;
 mod stop_result;
 
@@ -26,5 +26,5 @@ pub use ptb_devices::{
     INPUT_LIMIT, Line, LineSource, Lines, ReadFault, ReaderLines, Screen, ScreenFault, TextScreen,
     WriterScreen, read_lines,
 };
-pub use report::report;
+pub use reports::report;
 pub use running::run;

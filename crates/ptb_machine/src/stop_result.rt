@@ -6,7 +6,7 @@ ghost use Rattle.ptb_command.specs.Io.{io_trace, SameDevices};
 ghost use Rattle.ptb_machine.specs.Steps.{fault_of, IsResultOf};
 
 use crate::fault::RunFault;
-use crate::report::{ending_of, report};
+use crate::reports::{ending_of, report};
 use ptb_answers::{Chooser, Pause};
 use ptb_command::{DeviceError, Ending, Io, Stop, line_at};
 use ptb_devices::{LineSource, Screen};

@@ -3,7 +3,7 @@ use Rattle.std.proofs.Common.{◌≡◌, ◌∙◌, refl, ap, rules, to_z, of_z,
 use Rattle.std.specs.Fmt.{signed_decimal}
 use Rattle.ptb_command.specs.Act.{newline}
 use Rattle.ptb_command.proofs.Reporting.{shown_then, unshown_first, statement_line, report_shown, three_same}
-use Rattle.ptb_machine.proofs.report.report.Goals as goal
+use Rattle.ptb_machine.proofs.reports.report.Goals as goal
 
 pub returns-in_err-put_joined : goal.returns-in_err-put_joined
 returns-in_err-put_joined g c d cells n e =

@@ -1,7 +1,7 @@
 -- This file answers what is left to prove of `put_joined`.
 use Rattle.std.proofs.Common.{◌∙◌, ◌++◌, refl}
 use Rattle.ptb_command.proofs.Reporting.{shown_then, unshown_first, three_shown, shown_same}
-use Rattle.ptb_machine.proofs.report.put_joined.Goals as goal
+use Rattle.ptb_machine.proofs.reports.put_joined.Goals as goal
 
 pub returns-in-Ok : goal.returns-in-Ok
 returns-in-Ok g c d cells = shown_same _ _ _ _ _ (c.as_slice.ensures.value ∙ c.in-Ok.ensures) (c.put.ensures d cells)
