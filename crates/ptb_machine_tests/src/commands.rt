@@ -6,7 +6,7 @@ use ptb_command::{
     first_word, is_zero, line_at, next_command, pass_separator, place_after, put,
 };
 use ptb_devices::{Line, Lines, TextScreen};
-use ptb_expr::Store;
+use ptb_expr::{Listed, Pause, Store};
 use ptb_text::{LoadFault, Program};
 use ptb_words::{Cursor, Letter, Word};
 use std::alloc::{AllocError, Global};

@@ -1,5 +1,6 @@
 // This file tests reports of faults, also on texts that are longer than those of statements.
 
+use crate::shared::expect_same;
 use ptb_expr::{Fault, FaultKind};
 use ptb_machine::{TextScreen, report};
 use std::alloc::Global;
@@ -49,7 +50,7 @@ fn expect_report(
     let mut screen = TextScreen::new(alloc);
     let is_reported = is_reported(&mut screen, fresh, length, mark);
     let found = (is_reported, screen.bytes());
-    assert_eq!(rt; found, (true, due), "a report");
+    expect_same(rt, "a report", found, (true, due));
 }
 
 // A report is whole, and has its mark, also where the text is longer than that of a statement.
