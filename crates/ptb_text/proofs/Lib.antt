@@ -12,5 +12,6 @@ pub mod Searching
 pub mod Sound
 pub mod Stored
 pub mod Taking
+pub mod WholeText
 pub mod Counting
 pub mod NextByte

@@ -1,16 +1,17 @@
 -- This file proves what entering a line does by the parts that the line was taken apart into.
-use Rattle.std.proofs.Common.{◌≡◌, ℕ, ◌+◌, ◌<◌, ◌≤◌, ◌⊎◌, Bool, true, false, not, ◌==◌, List, [], ◌∷◌, length, take, drop, Option, Some, None, Result, Ok, Err, refl, sym, ap, subst, ◌∙◌, arith, length-drop, ℤ, pos, inl, inr}
+use Rattle.std.proofs.Common.{◌≡◌, ℕ, ◌+◌, ◌<◌, ◌≤◌, ◌⊎◌, Bool, true, false, not, ◌==◌, List, [], ◌∷◌, length, take, drop, Option, Some, None, Result, Ok, Err, IfErr, IsErrOf, refl, sym, ap, subst, ◌∙◌, arith, length-drop, ℤ, pos, inl, inr}
 use Rattle.std.specs.Prelude.{position, nat_le, nat_lt, if◌then◌else◌}
 use Rattle.std.specs.List.{prefix_len}
+use Rattle.std.specs.Result.{IsErrAnd}
 use Rattle.std.proofs.lemmas.Bool.{eqb-true, false≢true, leb-true, leb-false}
 use Rattle.std.proofs.lemmas.List.{drop-drop, drop_all}
 use Rattle.std.proofs.lemmas.Bool.Decides.{nat_tests}
 use Rattle.ptb_text.specs.declared.fault.LoadFault.{LoadFault}
 use Rattle.ptb_text.specs.declared.fault.LoadFault.TheVariants.{NoNumber, NumberTooBig, TextTooLong, BadByte, Full, Memory}
 use Rattle.ptb_text.specs.Lines.{is_printable}
-use Rattle.ptb_text.specs.Statements.{Statements, after_line, after_trimmed, after_statement, unless_bad_byte, trim_start, with_text}
+use Rattle.ptb_text.specs.Statements.{HasText, Statements, StoredProgram, after_line, after_trimmed, after_statement, unless_bad_byte, trim_start, with_text, cost, if_room, text_limit}
 use Rattle.ptb_words.specs.Digits.{number_limit, digits_value, is_digit, is_blank}
-use Rattle.ptb_text.specs.Entry.{EntersNothing, IsRefused, IsNumbered}
+use Rattle.ptb_text.specs.Entry.{Enters, EntersNothing, IsLineFault, IsRefused, IsNumbered}
 use Rattle.ptb_words.specs.CursorState.{CursorState}
 use Rattle.ptb_words.specs.declared.word.Number.{Number}
 use Rattle.ptb_words.specs.declared.word.Number.TheVariants.{Absent, Value, TooBig}
@@ -75,33 +76,59 @@ module _ (line t : List ℕ) (clean : position (λ b. not (is_printable b)) line
     enters = λ p memory. by_trimmed p memory ∙ numbered t p memory n some is low high;
   }
 
--- ---- a line is not refused for want of memory
+-- ---- what a line is refused for is a fault that a line can have
 
-abbrev refusal : LoadFault → Result Statements LoadFault
-refusal fault = Err fault
+chosen : (t : Bool) (x y : Result Statements LoadFault) → IfErr x IsLineFault → IfErr y IsLineFault → IfErr (if t then x else y) IsLineFault
+chosen true x y of_x of_y = of_x
+chosen false x y of_x of_y = of_y
 
-chosen : (t : Bool) (x y : Result Statements LoadFault) → (x ≡ Err Memory → ⊥) → (y ≡ Err Memory → ⊥) → (if t then x else y) ≡ Err Memory → ⊥
-chosen true x y no_x no_y = no_x
-chosen false x y no_x no_y = no_y
+after_statement-fault : (p : Statements) (memory n : ℕ) (t : List ℕ) → IfErr (after_statement p memory n t) IsLineFault
+after_statement-fault p memory n [] = tt
+after_statement-fault p memory n (b ∷ bs) =
+    let q = with_text p n (b ∷ bs) in
+    chosen (nat_lt text_limit (length (b ∷ bs))) (Err TextTooLong) (if_room memory q) tt (chosen (nat_lt memory (cost q)) (Err Full) (Ok q) tt tt)
 
-after_statement-memory : (p : Statements) (memory n : ℕ) (t : List ℕ) → after_statement p memory n t ≡ Err Memory → ⊥
-after_statement-memory p memory n [] = λ e. absurd cc
-after_statement-memory p memory n (b ∷ bs) = chosen _ _ _ (λ (e : refusal TextTooLong ≡ refusal Memory). absurd cc) (chosen _ _ _ (λ (e : refusal Full ≡ refusal Memory). absurd cc) (λ (e : Ok (with_text p n (b ∷ bs)) ≡ refusal Memory). absurd cc))
-
-after_trimmed-memory : (p : Statements) (memory : ℕ) (t : List ℕ) → after_trimmed p memory t ≡ Err Memory → ⊥
-after_trimmed-memory p memory [] = λ e. absurd cc
-after_trimmed-memory p memory (b ∷ bs) =
+after_trimmed-fault : (p : Statements) (memory : ℕ) (t : List ℕ) → IfErr (after_trimmed p memory t) IsLineFault
+after_trimmed-fault p memory [] = tt
+after_trimmed-fault p memory (b ∷ bs) =
     let n = digits_value (digits_of (b ∷ bs)) in
-    chosen (n == 0) _ _ (λ (e : refusal NoNumber ≡ refusal Memory). absurd cc)
-    (chosen (nat_lt number_limit n) _ _ (λ (e : refusal NumberTooBig ≡ refusal Memory). absurd cc)
-    (after_statement-memory p memory n (trim_start (behind_digits (b ∷ bs)))))
+    let t = trim_start (behind_digits (b ∷ bs)) in
+    chosen (n == 0) (Err NoNumber) (if nat_lt number_limit n then Err NumberTooBig else after_statement p memory n t) tt
+    (chosen (nat_lt number_limit n) (Err NumberTooBig) (after_statement p memory n t) tt (after_statement-fault p memory n t))
 
-unless_bad_byte-memory : (o : Option ℕ) (p : Statements) (memory : ℕ) (line : List ℕ) → unless_bad_byte o p memory line ≡ Err Memory → ⊥
-unless_bad_byte-memory (Some k) p memory line = λ e. absurd cc
-unless_bad_byte-memory None p memory line = after_trimmed-memory p memory (trim_start line)
+unless_bad_byte-fault : (o : Option ℕ) (p : Statements) (memory : ℕ) (line : List ℕ) → IfErr (unless_bad_byte o p memory line) IsLineFault
+unless_bad_byte-fault (Some k) p memory line = tt
+unless_bad_byte-fault None p memory line = after_trimmed-fault p memory (trim_start line)
 
-pub IsRefused-memory : (line : List ℕ) → IsRefused line Memory → ⊥
-IsRefused-memory line h = unless_bad_byte-memory _ [] 0 line (h [] 0)
+IsRefused-fault : (line : List ℕ) (fault : LoadFault) → IsRefused line fault → IsLineFault fault
+IsRefused-fault line fault h = subst (λ (r : Result Statements LoadFault). IfErr r IsLineFault) (h [] 0) (unless_bad_byte-fault _ [] 0 line)
+
+-- what is told of a line that was entered
+pub record IsEntered (line : List ℕ) (old new : StoredProgram) (result : Result (Unit {0}) LoadFault) : Type 0 where
+  pub enters : Enters (after_line old.lines old.memory line) old new result
+  pub memory_text : IsErrOf result Memory → HasText line
+
+not_memory : (f : LoadFault) → IsLineFault f → f ≡ Memory → ⊥
+not_memory f h e = subst IsLineFault e h
+
+memory_fault : (f : LoadFault) → IsErrOf {T = Unit {0}} (Err f) Memory → f ≡ Memory
+memory_fault f e = cc e
+
+-- it is refused for what each program refuses it for
+pub line_refused : (line : List ℕ) (p : StoredProgram) (result : Result (Unit {0}) LoadFault) (fault : LoadFault) → IsErrAnd result (λ f. f ≡ fault) → IsRefused line fault → IsEntered line p p result
+line_refused line p (Ok u) fault is refused = absurd is
+line_refused line p (Err f) fault is refused =
+    let line_fault : IsLineFault f = subst IsLineFault (sym is) (IsRefused-fault line fault refused) in
+    record {
+      enters = record {
+        ok = tt;
+        refused = λ _. refused p.lines p.memory ∙ ap Err (sym is);
+        memory_last = λ other. absurd (other line_fault);
+        err = refl;
+        memory = refl;
+      };
+      memory_text = λ e. absurd (not_memory f line_fault (memory_fault f e));
+    }
 
 -- ---- the number that stands in front
 

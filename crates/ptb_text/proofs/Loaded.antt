@@ -1,11 +1,12 @@
 -- This file proves what entering the lines of a text one after the other gives.
 use Rattle.std.specs.Prelude.{slice_index_or}
-use Rattle.std.proofs.Common.{◌≡◌, ℕ, suc, ◌+◌, ◌-◌, ◌<◌, ◌≤◌, List, [], ◌∷◌, ◌++◌, length, map, take, drop, Option, Some, None, IfSome, Result, Ok, Err, IsOk, IfOk, IfErr, refl, sym, ap, ◌∙◌, arith, append-nil, length-take, length-drop}
+use Rattle.std.proofs.Common.{◌≡◌, ◌≢◌, ℕ, suc, ◌+◌, ◌-◌, ◌<◌, ◌≤◌, List, [], ◌∷◌, ◌++◌, length, map, take, drop, Option, Some, None, IfSome, Result, Ok, Err, IsOk, IfOk, IfErr, OnOk, refl, subst, sym, ap, ◌∙◌, arith, append-nil, length-take, length-drop}
 use Rattle.std.proofs.lemmas.List.{take-append-drop, drop-drop, get_or-drop}
 use Rattle.std.proofs.Math.Seq.{take-add}
 use Rattle.std.specs.Result.{is_ok}
 use Rattle.ptb_text.specs.declared.fault.LoadFault.{LoadFault}
-use Rattle.ptb_text.specs.declared.fault.LoadFault.TheVariants.{Memory}
+use Rattle.ptb_text.specs.declared.fault.LoadFault.TheVariants.{Memory, Read, TooLong}
+use Rattle.ptb_text.specs.Device.{GivesAtMost, GivesExactly, HasFailed}
 use Rattle.ptb_text.specs.Entry.{IsLineFault}
 use Rattle.ptb_text.specs.Lines.{lines, program_lines, tab_as_space}
 use Rattle.ptb_text.specs.Loading.{AcceptsLines, HasTextAt, IsLoaded, IsRefusedAt, StoresTextAt}
@@ -136,3 +137,72 @@ pub AcceptsLines-none : (known : Option (List ℕ)) (memory : ℕ) → IfSome kn
 unfolding after_lines
 AcceptsLines-none None memory = tt
 AcceptsLines-none (Some b) memory = refl
+
+pub nothing : 0 < 0 → ⊥
+nothing h = omega arith
+
+not_too_long : TooLong ≡ Memory → ⊥
+not_too_long e = cc e
+
+not_read : Read ≡ Memory → ⊥
+not_read e = cc e
+
+-- ---- what loading a text comes to
+
+module _ (bytes0 : Option (List ℕ)) (failed0 failed1 given0 given1 memory : ℕ) where
+  pub record IsLoad (result : Result StoredProgram (ℕ × LoadFault)) : Type 0 where
+    pub memory_is : IfOk result (λ p. p.memory ≡ memory)
+    pub ok : IfOk result (λ p. IfSome bytes0 (λ b. IsLoaded memory b p.lines))
+    pub refused : IfErr result (λ e. IsLineFault e.1 → IfSome bytes0 (λ b. IsRefusedAt memory b e))
+    pub too_long : IfErr result (λ e. e.1 ≡ TooLong → (e.0 ≡ 0) × IfSome bytes0 (λ b. program_limit < length b))
+    pub read : IfErr result (λ e. e.1 ≡ Read → (e.0 ≡ 0) × HasFailed failed0 failed1)
+    pub memory_last : IfErr result (λ e. e.1 ≡ Memory → IfSome bytes0 (λ b. AcceptsLines memory b e.0))
+    pub memory_line : IfErr result (λ e. e.1 ≡ Memory → 0 < e.0 → IfSome bytes0 (λ b. StoresTextAt b e.0))
+    pub given : GivesAtMost given0 given1 (program_limit + 1)
+    pub given_ok : OnOk result (GivesAtMost given0 given1 program_limit)
+    pub given_line : IfErr result (λ e. 0 < e.0 → GivesAtMost given0 given1 program_limit)
+    pub given_too_long : IfErr result (λ e. e.1 ≡ TooLong → GivesExactly given0 given1 (program_limit + 1))
+    pub unfailed : IfErr result (λ e. e.1 ≢ Read → failed1 ≡ failed0)
+    pub unfailed_ok : OnOk result (failed1 ≡ failed0)
+
+  -- the text was read, and its lines were entered
+  module _ (text spaced : List ℕ) (is : IfSome bytes0 (λ b. b ≡ text)) (written_over : spaced ≡ map tab_as_space text) (short : length text ≤ program_limit)
+      (given : GivesAtMost given0 given1 (program_limit + 1)) (given_text : GivesAtMost given0 given1 program_limit) (unfailed : failed1 ≡ failed0) (room : ℕ) (same : room ≡ memory) where
+    pub loaded : (result : Result StoredProgram (ℕ × LoadFault)) → IfOk result (λ p. p.memory ≡ room)
+        → IfOk result (λ p. after_lines (lines spaced) 1 [] room ≡ Ok p.lines)
+        → IfErr result (λ e. IsLineFault e.1 → after_lines (lines spaced) 1 [] room ≡ Err e)
+        → IfErr result (λ e. ¬ IsLineFault e.1 → (e.1 ≡ Memory) × IsOk (after_lines (take e.0 (lines spaced)) 1 [] room))
+        → IfErr result (λ e. e.1 ≡ Memory → HasTextAt (lines spaced) e.0)
+        → IsLoad result
+    loaded (Ok p) memory_kept ok refusal accepts stores = record {
+      memory_is = memory_kept ∙ same;
+      ok = IsLoaded-from_lines bytes0 text spaced memory is written_over (Ok p) short (subst (λ (m : ℕ). after_lines (lines spaced) 1 [] m ≡ Ok p.lines) same ok);
+      refused = tt;
+      too_long = tt;
+      read = tt;
+      memory_last = tt;
+      memory_line = tt;
+      given = given;
+      given_ok = given_text;
+      given_line = tt;
+      given_too_long = tt;
+      unfailed = tt;
+      unfailed_ok = unfailed;
+    }
+    loaded (Err e) memory_kept ok refusal accepts stores =
+        let other : (f : LoadFault) → e.1 ≡ f → ¬ IsLineFault f → f ≡ Memory = λ f h no. sym h ∙ (accepts (subst (λ (g : LoadFault). ¬ IsLineFault g) (sym h) no)).0 in
+        record {
+          memory_is = tt;
+          ok = tt;
+          refused = IsRefusedAt-from_lines bytes0 text spaced memory is written_over (Err e) short (subst (λ (m : ℕ). IsLineFault e.1 → after_lines (lines spaced) 1 [] m ≡ Err e) same refusal);
+          too_long = λ h. absurd (not_too_long (other TooLong h (λ l. l)));
+          read = λ h. absurd (not_read (other Read h (λ l. l)));
+          memory_last = AcceptsLines-from_lines bytes0 text spaced memory is written_over (Err e) (subst (λ (m : ℕ). ¬ IsLineFault e.1 → (e.1 ≡ Memory) × IsOk (after_lines (take e.0 (lines spaced)) 1 [] m)) same accepts);
+          memory_line = StoresTextAt-from_lines bytes0 text spaced memory is written_over (Err e) short stores;
+          given = given;
+          given_ok = tt;
+          given_line = λ _. given_text;
+          given_too_long = λ h. absurd (not_too_long (other TooLong h (λ l. l)));
+          unfailed = λ _. unfailed;
+          unfailed_ok = tt;
+        }

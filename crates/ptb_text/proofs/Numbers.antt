@@ -1,5 +1,5 @@
 -- This file proves what is known of a number with a sign once it was converted to one without.
-use Rattle.std.proofs.Common.{◌≡◌, ℕ, ◌+◌, ℤ, pos, negsuc, nat_abs, Result, Ok, Err, Option, Some, None, List, [], IfSome, IsNone, option_map, slice_get, add-one, IfOk, IfErr, refl, sym, ap, ◌∙◌}
+use Rattle.std.proofs.Common.{◌≡◌, ℕ, ◌+◌, ℤ, pos, negsuc, nat_abs, Result, Ok, Err, Option, Some, None, List, [], IfSome, IsNone, option_map, slice_get, add-one, IfOk, IfErr, OnSome, refl, sym, subst, ap, ◌∙◌, arith}
 use Rattle.std.specs.Result.{OkIff, result_ok}
 use Rattle.std.specs.Int.{FitsUnsignedBits}
 use mir.Syntax.{w16}
@@ -18,6 +18,22 @@ converted (Err x) n m is e = cc
 -- a number that could be converted has no sign
 pub is_whole : {E : Type 0} (r : Result ℕ E) (n : ℤ) (m : ℕ) → SFits w16 n → OkIff r (FitsUnsignedBits 16 (to_z w16 (of_z w16 n))) (nat_abs (to_z w16 (of_z w16 n))) → result_ok r ≡ Some m → n ≡ pos m
 is_whole r n m fits is = converted r n m (simp to_z-of_z at is)
+
+-- and under one that couldn't be there is nothing
+unconverted : {E : Type 0} (p : Statements) (r : Result ℕ E) (n : ℤ) (v : ℕ) → SFits w16 n → OkIff r (FitsUnsignedBits 16 n) v → result_ok r ≡ None → text_under p n ≡ None
+unconverted p (Ok x) n v fits is e = cc
+unconverted p (Err x) (pos k) v fits is e = absurd (is (omega (arith, fits)))
+unconverted p (Err x) (negsuc k) v fits is e = refl
+
+pub text_under-unconverted : {E : Type 0} (p : Statements) (r : Result ℕ E) (n : ℤ) → SFits w16 n → OkIff r (FitsUnsignedBits 16 (to_z w16 (of_z w16 n))) (nat_abs (to_z w16 (of_z w16 n))) → result_ok r ≡ None → text_under p n ≡ None
+text_under-unconverted p r n fits is e = unconverted p r n _ fits (simp to_z-of_z at is) e
+
+-- where nothing is answered nothing is to be shown
+pub on_none : {T : Type 0} (X : Type 0) (o : Option T) → o ≡ None → OnSome o X
+on_none X o e = subst (λ (x : Option _). OnSome x X) (sym e) tt
+
+pub if_none : {T : Type 0} (P : T → Type 0) (o : Option T) → o ≡ None → IfSome o P
+if_none P o e = subst (λ (x : Option _). IfSome x P) (sym e) tt
 
 -- a search that finds nothing
 pub text_under-absent : (p : Statements) (n : ℤ) (m : ℕ) (r : Result ℕ ℕ) → n ≡ pos m → IfErr r (IsGapFor p m) → result_ok r ≡ None → text_under p n ≡ None

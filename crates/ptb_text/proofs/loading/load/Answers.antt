@@ -1,13 +1,31 @@
 -- This file answers what is left to prove of `load`.
-use Rattle.std.proofs.Common.{◌≡◌, map, ap, ◌∙◌, arith}
+use Rattle.std.proofs.Common.{◌≡◌, map, refl, ap, ◌∙◌, arith}
 use Rattle.std.proofs.lemmas.List.{take_at}
 use Rattle.ptb_text.specs.Lines.{tab_as_space}
-use Rattle.ptb_text.proofs.Loaded.{IsLoaded-from_lines, IsRefusedAt-from_lines, AcceptsLines-from_lines, AcceptsLines-none, StoresTextAt-from_lines}
+use Rattle.ptb_text.proofs.Loaded.{AcceptsLines-none, loaded, nothing}
 use Rattle.ptb_text.proofs.loading.load.Goals as goal
 use Rattle.ptb_text.proofs.loading.load.Goals.{After-enter_lines}
 
-pub returns-in-Err-clause-memory_last : goal.returns-in-Err-clause-memory_last
-returns-in-Err-clause-memory_last g c = λ _. AcceptsLines-none _ c.args.memory
+-- the text could not be read
+pub returns-in-Err : goal.returns-in-Err
+returns-in-Err g c =
+    let e = c.in-Err.ensures in
+    record {
+      memory = tt;
+      ok = tt;
+      refused = λ line_fault. absurd (e.line_fault line_fault);
+      too_long = λ is. (refl, e.too_long is);
+      read = λ is. (refl, e.read is);
+      memory_last = λ _. AcceptsLines-none _ c.args.memory;
+      memory_line = λ _. λ some. absurd (nothing some);
+      given = e.given;
+      given_ok = tt;
+      given_line = λ some. absurd (nothing some);
+      given_too_long = e.given_too_long;
+      bounded = e.bounded;
+      unfailed = e.unfailed;
+      unfailed_ok = tt;
+    }
 
 -- the lines that are entered are those of the text with its tabs written over
 spaces : (g : _) (c : After-enter_lines g) → c.deref.result.now ≡ map tab_as_space c.in-Ok.text.items
@@ -15,29 +33,28 @@ spaces g c =
     c.deref.ensures.value ∙ take_at c.tabs_to_spaces.new.text _ c.in-Ok.text.len (c.tabs_to_spaces.auto.text ∙ c.deref_mut.ensures.len)
     ∙ c.tabs_to_spaces.ensures ∙ ap (map tab_as_space) c.deref_mut.ensures.value
 
--- they are entered into the memory that is asked for
-memory_is : (g : _) (c : After-enter_lines g) → c.new.result.memory ≡ c.args.memory
-memory_is g c = ap (λ p. p.memory) c.new.ensures
-
-pub returns-clause-ok : goal.returns-clause-ok
-returns-clause-ok g c =
-    let e = (goal.at.returns-clause-ok g c).After-enter_lines in
-    let ok = rw (memory_is g e) at c.enter_lines.ensures.ok in
-    IsLoaded-from_lines _ c.in-Ok.text.items c.deref.result.now c.args.memory c.in-Ok.ensures.ok (spaces g e) c.enter_lines.result (omega (arith, c.in-Ok.ensures.short, c.in-Ok.text.ok.0)) ok
-
-pub returns-clause-refused : goal.returns-clause-refused
-returns-clause-refused g c =
-    let e = (goal.at.returns-clause-refused g c).After-enter_lines in
-    let refused = rw (memory_is g e) at c.enter_lines.ensures.refused in
-    IsRefusedAt-from_lines _ c.in-Ok.text.items c.deref.result.now c.args.memory c.in-Ok.ensures.ok (spaces g e) c.enter_lines.result (omega (arith, c.in-Ok.ensures.short, c.in-Ok.text.ok.0)) refused
-
-pub returns-clause-memory_last : goal.returns-clause-memory_last
-returns-clause-memory_last g c =
-    let e = (goal.at.returns-clause-memory_last g c).After-enter_lines in
-    let accepts = rw (memory_is g e) at c.enter_lines.ensures.memory_last in
-    AcceptsLines-from_lines _ c.in-Ok.text.items c.deref.result.now c.args.memory c.in-Ok.ensures.ok (spaces g e) c.enter_lines.result accepts
-
-pub returns-clause-memory_line : goal.returns-clause-memory_line
-returns-clause-memory_line g c =
-    let e = (goal.at.returns-clause-memory_line g c).After-enter_lines in
-    StoresTextAt-from_lines _ c.in-Ok.text.items c.deref.result.now c.args.memory c.in-Ok.ensures.ok (spaces g e) c.enter_lines.result (omega (arith, c.in-Ok.ensures.short, c.in-Ok.text.ok.0)) c.enter_lines.ensures.memory_line
+-- its lines were entered
+pub returns : goal.returns
+returns g c =
+    let e = c.in-Ok.ensures in
+    let lines = c.enter_lines.ensures in
+    let told =
+    loaded _ _ _ _ _ c.args.memory c.in-Ok.text.items c.deref.result.now e.ok (spaces g (goal.at.returns g c).After-enter_lines) (omega (arith, e.short, c.in-Ok.text.ok.0))
+    e.given e.given_ok e.unfailed_ok c.new.result.memory (ap (λ p. p.memory) c.new.ensures) c.enter_lines.result lines.memory lines.ok lines.refused lines.memory_last lines.memory_line
+    in
+    record {
+      memory = told.memory_is;
+      ok = told.ok;
+      refused = told.refused;
+      too_long = told.too_long;
+      read = told.read;
+      memory_last = told.memory_last;
+      memory_line = told.memory_line;
+      given = told.given;
+      given_ok = told.given_ok;
+      given_line = told.given_line;
+      given_too_long = told.given_too_long;
+      bounded = e.bounded;
+      unfailed = told.unfailed;
+      unfailed_ok = told.unfailed_ok;
+    }

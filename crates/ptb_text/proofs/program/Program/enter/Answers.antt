@@ -1,14 +1,14 @@
 -- This file answers what is left to prove of `Program::enter`.
-use Rattle.std.proofs.Common.{rules, ◌≡◌}
-use Rattle.std.proofs.lemmas.Result.{err_from_is_err_and}
-use Rattle.ptb_text.specs.declared.fault.LoadFault.TheVariants.{Memory}
-use Rattle.ptb_text.proofs.LineParts.{IsRefused-memory}
+use Rattle.std.proofs.Common.{rules}
+use Rattle.ptb_text.proofs.LineParts.{line_refused}
 use Rattle.ptb_text.proofs.program.Program.enter.Goals as goal
 
-pub returns-in_err-line-clause-memory_text : goal.returns-in_err-line-clause-memory_text
-returns-in_err-line-clause-memory_text c =
-    let p = err_from_is_err_and c.from_residual.result c.from_residual.ensures.1 in
-    rw (p.1, p.2) (λ (is : _). absurd (let f : c.in_err-line.field-0.0 ≡ Memory = cc in IsRefused-memory c.args.line.now (rw f at c.in_err-line.ensures)))
+-- its number is wrong, or it has none
+pub returns-in_err-line : goal.returns-in_err-line
+returns-in_err-line c =
+    let told = line_refused c.args.line.now c.args.self.now c.from_residual.result c.in_err-line.field-0.0 c.from_residual.ensures.1 c.in_err-line.ensures in
+    let enters = told.enters in
+    record { ok = enters.ok; refused = enters.refused; memory_last = enters.memory_last; memory_text = told.memory_text; err = enters.err; memory = enters.memory }
 
 pub returns-then-is_empty-clause-ok : goal.returns-then-is_empty-clause-ok
 returns-then-is_empty-clause-ok c = search rules fits 50 depth 2
