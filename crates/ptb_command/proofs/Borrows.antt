@@ -20,6 +20,15 @@ module _ {C S L : Type 0} {a b c : Io C S L} where
     choose = k.choose ∙ h.choose;
   }
 
+  -- where a line was asked for since then, or a part was lent
+  pub borrows_lent : {d : Io C S L} → SameBorrows a b → SameDevices b c → SameBorrows c d → SameBorrows a d
+  borrows_lent h k l = record {
+    chooser = l.chooser ∙ k.chooser ∙ h.chooser;
+    screen = l.screen ∙ k.screen ∙ h.screen;
+    source = l.source ∙ ap (λ s. s.ghost_name) k.source ∙ h.source;
+    choose = l.choose ∙ k.choose ∙ h.choose;
+  }
+
   -- where no line was asked for since then
   pub borrows_then : SameBorrows a b → SameDevices b c → SameBorrows a c
   borrows_then h k = record {

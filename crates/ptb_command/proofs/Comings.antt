@@ -1,6 +1,7 @@
 -- This file proves what a part of a command comes to, whether it is done or stops.
 use Rattle.std.proofs.Common.{◌≡◌, ℕ, List, [], ◌∷◌, Result, Ok, Err, ℤ, subst, sym}
 use Rattle.std.specs.Prelude.{IfOk, OnOk}
+use Rattle.std.specs.Result.{IsErrAnd}
 use Rattle.ptb_expr.specs.Tree.{Tree}
 use Rattle.ptb_command.specs.declared.stop.Stop.{Stop}
 use Rattle.ptb_command.specs.Act.{value_action, padded_decimal, newline, parts_action}
@@ -16,6 +17,11 @@ use Rattle.ptb_command.proofs.Parts.{say_refines_part, say_stops, show_refines_p
 pub if_ok_always : {X E : Type 0} (P : Type 0) (r : Result X E) → P → IfOk r (λ x. P)
 if_ok_always P (Ok x) p = p
 if_ok_always P (Err e) p = tt
+
+-- nothing is done at the exit of a `?`
+pub if_ok_never : {X E : Type 0} (P : X → Type 0) (r : Result X E) (e : E) → IsErrAnd r (λ y. y ≡ e) → IfOk r P
+if_ok_never P (Ok x) e h = absurd h
+if_ok_never P (Err y) e h = tt
 
 -- what follows from what holds there
 pub if_ok_both : {X E A B C : Type 0} (r : Result X E) → (A → B → C) → OnOk r A → OnOk r B → IfOk r (λ x. C)

@@ -1,19 +1,22 @@
 -- This file proves what the items of INPUT come to, from what their taker knows of each step.
-use Rattle.std.proofs.Common.{◌≡◌, ℕ, List, [], ◌∷◌, None, Result, ℤ, subst, ◌∙◌}
+use Rattle.std.proofs.Common.{◌≡◌, ℕ, true, List, [], ◌∷◌, Some, None, Result, IfOk, ℤ, arith, subst, sym, ◌∙◌}
+use Rattle.std.specs.Prelude.{OnOk}
 use Rattle.std.specs.Result.{IsErrAnd}
+use Rattle.ptb_words.specs.Finding.{FindingLaws}
 use Rattle.ptb_words.specs.Words.{token_at}
-use Rattle.ptb_expr.specs.Reading.{Reading, item_of}
+use Rattle.ptb_expr.specs.Evaluate.{IsWhole}
+use Rattle.ptb_expr.specs.Reading.{Reading, Whole, item_of}
 use Rattle.ptb_command.specs.declared.stop.Stop.{Stop}
 use Rattle.ptb_command.specs.Act.{first_width, parts_action}
 use Rattle.ptb_command.specs.Actions.{Action, goes_on}
-use Rattle.ptb_command.specs.Commands.{Part, end_check, input_item, comma_round}
+use Rattle.ptb_command.specs.Commands.{Part, at_end, end_check, input_item, comma_round}
 use Rattle.ptb_command.specs.Devices.{Refusal, nothing_refused}
-use Rattle.ptb_command.specs.Reads.{IsRead}
+use Rattle.ptb_command.specs.Reads.{IsRead, IsClosed}
 use Rattle.ptb_command.specs.Stops.{Stops, RefinesPartTo, Comes}
 use Rattle.ptb_command.specs.Traces.{Trace, with_due, still_due, RefinesPart}
-use Rattle.ptb_command.proofs.Commas.{comma_first, comma_closed}
-use Rattle.ptb_command.proofs.Comings.{comes_unrefused}
-use Rattle.ptb_command.proofs.Going.{Going, item_in_front, going_first, going_last}
+use Rattle.ptb_command.proofs.Commas.{comma_first, comma_closed, comma_ended, comma_on}
+use Rattle.ptb_command.proofs.Comings.{if_ok_both, comes_unrefused}
+use Rattle.ptb_command.proofs.Going.{Going, item_in_front, going_first, going_last, last_closes, going_on}
 use Rattle.ptb_command.proofs.Inputting.{with_given}
 use Rattle.ptb_command.proofs.PartRefinement.{refines_part_refl, refines_part_then}
 use Rattle.ptb_command.proofs.Parts.{refines_part_parts}
@@ -51,3 +54,35 @@ module _ (t : List ℕ) (whole : Reading (List Part)) (start i : ℕ) (P : Actio
       r (comes_unrefused refused l l (parts_action rest first_width []) (λ u. goes_on []) r
       (subst (λ (k : ℕ). Comes nothing_refused l l (parts_action (item_of (end_check t k)) first_width []) (λ u. goes_on []) r) there
       (subst (λ (s : List ℕ). Comes nothing_refused l l (parts_action (item_of (end_check s p)) first_width []) (λ u. goes_on []) r) (behind ∙ after ∙ text) (h l))))
+
+-- ---- the place behind an item
+
+-- The next item ends at j, and the taker then has the text as t2.
+module _ (t : List ℕ) (whole : Reading (List Part)) (start i : ℕ) (P : Action (List ℤ) → Type 0) (going : Going t (λ j. comma_round t (input_item t j)) whole start i first_width [] P) (t1 : List ℕ) (text : t1 ≡ t) (j : ℕ) (read : IsRead t1 i (input_item t1 i) j) (t2 : List ℕ) (after : t2 ≡ t1) where
+  -- so it does in t
+  item_read : IsRead t i (input_item t i) j
+  item_read = subst (λ (s : List ℕ). IsRead s i (input_item s i) j) text read
+
+  -- without a comma behind it the command ends there, where it may
+  pub items_closed : token_at 44 t2 j ≡ None → (t3 : List ℕ) → t3 ≡ t2 → (p : ℕ) → p ≡ j → {X : Type 0} (r : Result X Stop) → OnOk r (end_check t3 p ≡ Whole [] p) → OnOk r (at_end t3 p ≡ true) → IfOk r (λ x. IsClosed t start whole p)
+  items_closed none t3 behind p there r =
+      let same = behind ∙ after ∙ text in
+      if_ok_both r
+      (λ e a. record {
+        whole = subst (IsWhole whole) (sym there)
+            (last_closes t (λ k. comma_round t (input_item t k)) whole start i first_width [] P going _ j
+            (comma_ended t (input_item t i) j item_read.whole (subst (λ (s : List ℕ). token_at 44 s j ≡ None) (after ∙ text) none)
+            (subst (λ (k : ℕ). end_check t k ≡ Whole [] k) there (subst (λ (s : List ℕ). end_check s p ≡ Whole [] p) same e))));
+        from = omega (arith, item_read.ahead.after, going.from, there);
+        within = omega (arith, item_read.ahead.within, there);
+        ends = subst (λ (s : List ℕ). at_end s p ≡ true) same a;
+      })
+
+  -- behind a comma the next item stands
+  pub next_items : FindingLaws → (k : ℕ) → token_at 44 t2 j ≡ Some k → (Q : Action (List ℤ) → Type 0) → ((rest : List Part) → P (parts_action (item_of (input_item t i) ∷ rest) first_width []) → Q (parts_action rest first_width [])) → Going t (λ l. comma_round t (input_item t l)) whole start k first_width [] Q
+  next_items laws k comma Q done =
+      let there : token_at 44 t j ≡ Some k = subst (λ (s : List ℕ). token_at 44 s j ≡ Some k) (after ∙ text) comma in
+      let ahead = laws.token 44 t j k there in
+      going_on t (λ l. comma_round t (input_item t l)) whole start i first_width [] P going _ k first_width Q
+      (comma_on t (input_item t i) j k item_read.whole there)
+      (omega (arith, item_read.ahead.after, ahead.after)) ahead.within done

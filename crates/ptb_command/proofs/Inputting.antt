@@ -491,6 +491,10 @@ take_read t i a k j (Err e) asked read = tt
 
 -- ---- the lines that a source gives
 
+-- a source that is the same has given the same
+pub gives_same : {L : Type 0} (gives : L → List (List ℕ) → L → Type 0) (s : L) (xs : List (List ℕ)) (u t : L) → t ≡ u → gives s xs u → gives s xs t
+gives_same gives s xs u t e = subst (gives s xs) (sym e)
+
 module _ {L : Type 0} (gives : L → List (List ℕ) → L → Type 0) (more : (s t u : L) (xs ys : List (List ℕ)) → gives s xs t → gives t ys u → gives s (xs ++ ys) u) where
   -- a call that gave none
   pub gives_no_more : (s t u : L) (xs : List (List ℕ)) (r : Result (Option (Bor (List ℕ))) ReadFault) → given_lines r ≡ [] → gives s xs t → gives t (given_lines r) u → gives s xs u

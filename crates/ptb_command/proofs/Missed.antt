@@ -1,5 +1,6 @@
 -- This file proves what is known of lines that were asked for in vain.
-use Rattle.std.proofs.Common.{◌≡◌, true, ◌≤◌, ◌+◌, length, inl, inr, ℕ, List, Option, Some, None, ℤ, Result, Ok, Err, IfOk, IfSome, IfNone, [], ◌∷◌, sym, ap, subst, ◌∙◌, arith, Bor}
+use Rattle.std.proofs.Common.{◌≡◌, true, ◌≤◌, ◌+◌, length, inl, inr, ℕ, List, Option, Some, None, ℤ, Result, Ok, Err, IfErr, IfOk, IfSome, IfNone, [], ◌∷◌, sym, ap, subst, ◌∙◌, arith, Bor}
+use Rattle.std.proofs.Math.Nat.{le_refl}
 use Rattle.std.specs.Result.{IsErrAnd}
 use Rattle.std.proofs.lemmas.Result.{err_from_is_err_and}
 use Rattle.ptb_devices.specs.declared.fault.ReadFault.{ReadFault}
@@ -91,3 +92,47 @@ pub given_missed : {L : Type 0} (missed : L → ℕ) (s t u : L) (line : Bor (Li
 given_missed missed s t u line r e h k =
     let last : missed u ≤ missed t = subst (λ (x : Result (Option (Bor (List ℕ))) ReadFault). IfOk x (λ l. IfSome l (λ _. missed u ≤ missed t))) e k in
     omega (arith, h, last)
+
+-- ---- a source that has come from s to t
+
+module _ {L : Type 0} (refused : L → ReadFault → Type 0) (missed most : L → ℕ) (choose : Option ℤ) (s : L) where
+  -- no line more was asked for in vain
+  pub fewer_missed : {X : Type 0} (t : L) → missed t ≤ missed s → (r : Result X Stop) → UnlessMissed (refused t) (NotMissed choose (missed s) (missed t) (most t)) r
+  fewer_missed t h = unmissed (refused t) (NotMissed choose (missed s) (missed t) (most t)) (not_missed choose (missed s) (missed t) (most t) h)
+
+  -- the same by an answer that was asked for instead, once the source u said that it has no line
+  pub instead_missed : {X : Type 0} (b : Option ℤ) → b ≡ choose → (n : ℤ) → b ≡ Some n → (u t : L) → t ≡ u → most u ≡ 0 → (r : Result X Stop) → UnlessMissed (refused t) (NotMissed choose (missed s) (missed t) (most t)) r
+  instead_missed b is n e u t same none r =
+      unmissed (refused t) (NotMissed choose (missed s) (missed t) (most t)) (not_missed_instead choose n (missed s) (missed t) (most t) (sym is ∙ e) (ap most same ∙ none)) r
+
+  -- what was gathered before r is still shown, and the source is the same
+  pub shown_missed : {X Y : Type 0} (u t : L) → t ≡ u → (r : Result X Stop) → still_shows r ≡ true → UnlessMissed (refused u) (NotMissed choose (missed s) (missed u) (most u)) r → (q : Result Y Stop) → UnlessMissed (refused t) (NotMissed choose (missed s) (missed t) (most t)) q
+  shown_missed u t e r shows h =
+      unmissed (refused t) (NotMissed choose (missed s) (missed t) (most t))
+      (subst (λ (v : L). NotMissed choose (missed s) (missed v) (most v)) (sym e) (missed_none (refused u) (NotMissed choose (missed s) (missed u) (most u)) r shows h))
+
+  -- a part of a command has come from s to u, and the next one from u to t
+  module _ (u t : L) (fewer : most t ≤ most u) (h : NotMissed choose (missed s) (missed u) (most u)) (b : Option ℤ) (is : b ≡ choose) where
+    pub missed_on : NotMissed b (missed u) (missed t) (most t) → NotMissed choose (missed s) (missed t) (most t)
+    missed_on k = not_missed_then choose (missed s) (missed u) (missed t) (most u) (most t) fewer h (subst (λ (x : Option ℤ). NotMissed x (missed u) (missed t) (most t)) is k)
+
+    -- at the exit of a `?`
+    pub missed_out : {X : Type 0} (r : Result X Stop) (e : Stop) → IsErrAnd r (λ y. y ≡ e) → UnlessStopMissed (refused t) (NotMissed b (missed u) (missed t) (most t)) e → UnlessMissed (refused t) (NotMissed choose (missed s) (missed t) (most t)) r
+    missed_out r e out k =
+        missed_err (refused t) (NotMissed choose (missed s) (missed t) (most t)) r e out
+        (stop_missed_from (refused t) (NotMissed b (missed u) (missed t) (most t)) (NotMissed choose (missed s) (missed t) (most t)) missed_on e k)
+
+-- a command that takes no line from the source
+pub alone_missed : {L X : Type 0} (refused : L → ReadFault → Type 0) (missed most : L → ℕ) (choose : Option ℤ) (s t : L) → t ≡ s → (r : Result X Stop) → UnlessMissed (refused t) (NotMissed choose (missed s) (missed t) (most t)) r
+alone_missed {L = L} refused missed most choose s t e r =
+    subst (λ (u : L). UnlessMissed (refused u) (NotMissed choose (missed s) (missed u) (most u)) r) (sym e)
+    (fewer_missed refused missed most choose s s (le_refl (missed s)) r)
+
+-- what was missed stays
+pub missed_same : {L : Type 0} (missed : L → ℕ) (s u t : L) → t ≡ u → missed u ≤ missed s → missed t ≤ missed s
+missed_same missed s u t e h = omega (arith, ap missed e, h)
+
+-- a source that refused a line
+pub refused_missed : {X Y : Type 0} (refused : ReadFault → Type 0) (P : Type 0) (f : ReadFault) (line : Result Y ReadFault) → line ≡ Err f → IfErr line refused → (r : Result X Stop) → IsErrAnd r (λ y. y ≡ stop_of_read f) → UnlessMissed refused P r
+refused_missed {Y = Y} refused P f line is h r out =
+    missed_err refused P r (stop_of_read f) out (missed_read refused P f (subst (λ (l : Result Y ReadFault). IfErr l refused) is h))

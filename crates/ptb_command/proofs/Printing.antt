@@ -1,23 +1,26 @@
 -- This file proves what the items of PRINT come to, from what their taker knows of each step.
-use Rattle.std.proofs.Common.{◌≡◌, ℕ, List, [], ◌∷◌, Some, None, Result, ℤ, ap, subst, ◌∙◌}
+use Rattle.std.proofs.Common.{◌≡◌, ℕ, true, false, List, [], ◌∷◌, Some, None, Result, IfOk, ℤ, ap, arith, subst, sym, ◌∙◌}
+use Rattle.std.specs.Prelude.{OnOk}
 use Rattle.std.specs.Result.{IsErrAnd}
+use Rattle.ptb_words.specs.Finding.{FindingLaws}
 use Rattle.ptb_words.specs.Words.{token_at, NoQuote}
-use Rattle.ptb_expr.specs.Reading.{Reading, item_of, expression}
+use Rattle.ptb_expr.specs.Evaluate.{IsWhole}
+use Rattle.ptb_expr.specs.Reading.{Reading, Whole, item_of, expression}
 use Rattle.ptb_expr.specs.Value.{or_fault}
 use Rattle.ptb_command.specs.declared.stop.Stop.{Stop}
 use Rattle.ptb_command.specs.Act.{newline, parts_action, value_action, width_of, padded_decimal}
 use Rattle.ptb_command.specs.Actions.{Action, goes_on, show, work_action}
-use Rattle.ptb_command.specs.Commands.{Part, NewLine, Show, end_check, string_at, print_item, item_round}
+use Rattle.ptb_command.specs.Commands.{Part, NewLine, Show, at_end, end_check, string_at, print_item, item_round}
 use Rattle.ptb_command.specs.Devices.{Refusal, nothing_refused}
-use Rattle.ptb_command.specs.Reads.{IsRead}
+use Rattle.ptb_command.specs.Reads.{IsRead, IsClosed}
 use Rattle.ptb_command.specs.Stops.{Stops, RefinesPartTo, Comes}
 use Rattle.ptb_command.specs.Traces.{Trace, with_due, still_due, RefinesPart}
 use Rattle.ptb_command.proofs.Actions.{stops_unrefused}
-use Rattle.ptb_command.proofs.Comings.{comes_unrefused, show_comes}
-use Rattle.ptb_command.proofs.Going.{Going, going_first, going_last}
-use Rattle.ptb_command.proofs.Items.{item_width, item_whole_width, item_value, round_first, round_closed, closed_list}
+use Rattle.ptb_command.proofs.Comings.{if_ok_both, comes_unrefused, show_comes}
+use Rattle.ptb_command.proofs.Going.{Going, going_first, going_last, last_closes, going_on}
+use Rattle.ptb_command.proofs.Items.{item_width, item_whole_width, item_value, round_first, round_closed, round_ended, round_open, round_on, closed_list}
 use Rattle.ptb_command.proofs.PartRefinement.{refines_part_then}
-use Rattle.ptb_command.proofs.Parts.{refines_part_parts, stops_part, newline_refines_part, newline_stops, show_value_stops, width_value_stops, width_stops}
+use Rattle.ptb_command.proofs.Parts.{refines_part_end, refines_part_parts, stops_part, newline_refines_part, newline_stops, show_value_stops, width_value_stops, width_stops}
 use Rattle.ptb_command.proofs.Stops.{comes_err, comes_after, stops_after}
 
 -- The items from place i on are left, of which the taker has the text as t1.
@@ -56,6 +59,67 @@ module _ (t : List ℕ) (whole : Reading (List Part)) (start i w : ℕ) (P : Act
         (comes_unrefused refused l l (parts_action (item_of (end_check t j)) v []) (λ u. goes_on []) r
         (subst (λ (k : ℕ). Comes nothing_refused l l (parts_action (item_of (end_check t k)) v []) (λ u. goes_on []) r) there
         (subst (λ (s : List ℕ). Comes nothing_refused l l (parts_action (item_of (end_check s p)) v []) (λ u. goes_on []) r) (behind ∙ after ∙ text) h)))
+
+-- ---- the place behind an item
+
+-- one item, and then those after it
+pub print_moves : (t : List ℕ) (i : ℕ) (t1 : List ℕ) → t1 ≡ t → {o n m : Trace} {f : Action (List ℤ)} (w v : ℕ) (rest : List Part) → RefinesPart o n f (parts_action (item_of (print_item t i) ∷ rest) w []) → RefinesPart n m (parts_action (item_of (print_item t1 i) ∷ rest) w []) (parts_action rest v []) → RefinesPart o m f (parts_action rest v [])
+print_moves t i t1 text {n = n} {m = m} w v rest a b =
+    refines_part_then a (subst (λ (s : List ℕ). RefinesPart n m (parts_action (item_of (print_item s i) ∷ rest) w []) (parts_action rest v [])) text b)
+
+-- The next item ends at j, and the taker then has the text as t2.
+module _ (t : List ℕ) (whole : Reading (List Part)) (start i w : ℕ) (P : Action (List ℤ) → Type 0) (going : Going t (λ j. item_round t (print_item t j)) whole start i w [] P) (t1 : List ℕ) (text : t1 ≡ t) (j : ℕ) (read : IsRead t1 i (print_item t1 i) j) (t2 : List ℕ) (after : t2 ≡ t1) where
+  -- so it does in t
+  item_read : IsRead t i (print_item t i) j
+  item_read = subst (λ (s : List ℕ). IsRead s i (print_item s i) j) text read
+
+  -- without a comma behind it the command ends there, where it may
+  pub items_closed : token_at 44 t2 j ≡ None → (t3 : List ℕ) → t3 ≡ t2 → (p : ℕ) → p ≡ j → {X : Type 0} (r : Result X Stop) → OnOk r (end_check t3 p ≡ Whole [] p) → OnOk r (at_end t3 p ≡ true) → IfOk r (λ x. IsClosed t start whole p)
+  items_closed none t3 behind p there r =
+      let same = behind ∙ after ∙ text in
+      if_ok_both r
+      (λ e a. record {
+        whole = subst (IsWhole whole) (sym there)
+            (last_closes t (λ k. item_round t (print_item t k)) whole start i w [] P going _ j
+            (round_ended t i j item_read.whole (subst (λ (s : List ℕ). token_at 44 s j ≡ None) (after ∙ text) none)
+            (subst (λ (k : ℕ). end_check t k ≡ Whole [] k) there (subst (λ (s : List ℕ). end_check s p ≡ Whole [] p) same e))));
+        from = omega (arith, item_read.ahead.after, going.from, there);
+        within = omega (arith, item_read.ahead.within, there);
+        ends = subst (λ (s : List ℕ). at_end s p ≡ true) same a;
+      })
+
+  -- a comma stands behind it
+  module _ (laws : FindingLaws) (k : ℕ) (comma : token_at 44 t2 j ≡ Some k) (t3 : List ℕ) (behind : t3 ≡ t2) where
+    -- so it does in t
+    comma_there : token_at 44 t j ≡ Some k
+    comma_there = subst (λ (s : List ℕ). token_at 44 s j ≡ Some k) (after ∙ text) comma
+
+    -- the command ends there, with the line left open
+    module _ (ends : at_end t3 k ≡ true) where
+      end_there : at_end t k ≡ true
+      end_there = subst (λ (s : List ℕ). at_end s k ≡ true) (behind ∙ after ∙ text) ends
+
+      pub open_closed : IsClosed t start whole k
+      open_closed = record {
+        whole = last_closes t (λ l. item_round t (print_item t l)) whole start i w [] P going _ k (round_open t i j k item_read.whole comma_there end_there);
+        from = omega (arith, item_read.ahead.after, going.from, (laws.token 44 t j k comma_there).after);
+        within = (laws.token 44 t j k comma_there).within;
+        ends = end_there;
+      }
+
+      pub open_comes : {o n m : Trace} {f : Action (List ℤ)} (v : ℕ) → ((x : Action (List ℤ)) → P x → RefinesPart o n f x) → RefinesPart n m (parts_action (item_of (print_item t1 i) ∷ []) w []) (parts_action [] v []) → RefinesPart o m f (goes_on [])
+      open_comes v along item =
+          refines_part_end v []
+          (print_moves t i t1 text w v []
+          (along _ (going_last t (λ l. item_round t (print_item t l)) whole start i w [] P going _ (round_open t i j k item_read.whole comma_there end_there)))
+          item)
+
+    -- the next item stands there
+    pub next_items : at_end t3 k ≡ false → (v : ℕ) (Q : Action (List ℤ) → Type 0) → ((rest : List Part) → P (parts_action (item_of (print_item t i) ∷ rest) w []) → Q (parts_action rest v [])) → Going t (λ l. item_round t (print_item t l)) whole start k v [] Q
+    next_items onward v Q done =
+        going_on t (λ l. item_round t (print_item t l)) whole start i w [] P going _ k v Q
+        (round_on t i j k item_read.whole comma_there (subst (λ (s : List ℕ). at_end s k ≡ false) (behind ∙ after ∙ text) onward))
+        (omega (arith, item_read.ahead.after, (laws.token 44 t j k comma_there).after)) (laws.token 44 t j k comma_there).within done
 
 -- ---- one item
 

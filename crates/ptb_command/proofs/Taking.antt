@@ -14,6 +14,7 @@ use Rattle.ptb_command.specs.Act.{answer_instead}
 use Rattle.ptb_command.specs.Actions.{Action, goes_on}
 use Rattle.ptb_command.specs.Asking.{prompt_there, ask_action, take_action}
 use Rattle.ptb_command.specs.Devices.{refused_answers, refused_by}
+use Rattle.ptb_command.specs.Reads.{IsRead}
 use Rattle.ptb_command.specs.Stops.{stop_of_read, Stops, RefinesPartTo, Comes}
 use Rattle.ptb_command.specs.Traces.{Trace, with_due, still_due, RefinesPart}
 use Rattle.ptb_command.proofs.Due.{stops_none}
@@ -21,6 +22,11 @@ use Rattle.ptb_command.proofs.Inputting.{with_most, with_given, line_left, line_
 use Rattle.ptb_command.proofs.Missed.{none_more}
 use Rattle.ptb_command.proofs.PartRefinement.{refines_part_then}
 use Rattle.ptb_command.proofs.Stops.{comes_err, comes_after, comes_more, stops_after, stops_more}
+
+-- the variable that was read
+pub read_there : (t : List ℕ) (k : ℕ) (t1 : List ℕ) (k1 j : ℕ) → t1 ≡ t → k1 ≡ k → IsRead t1 k1 (variable_tree t1 k1) j → IsRead t k (variable_tree t k) j
+read_there t k t1 k1 j text place read =
+    subst (λ (i : ℕ). IsRead t i (variable_tree t i) j) place (subst (λ (s : List ℕ). IsRead s k1 (variable_tree s k1) j) text read)
 
 -- The item stands at place k of t, which the taker has as t1 and k1 since it went back there.
 -- The lines that were given so far had no value in front, and the item is to be done.
