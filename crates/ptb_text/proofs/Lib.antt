@@ -11,6 +11,7 @@ pub mod Pool
 pub mod Searching
 pub mod Sound
 pub mod Stored
+pub mod Storing
 pub mod Taking
 pub mod WholeText
 pub mod Counting

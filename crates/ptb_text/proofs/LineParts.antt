@@ -1,21 +1,21 @@
 -- This file proves what entering a line does by the parts that the line was taken apart into.
 use Rattle.std.proofs.Common.{◌≡◌, ℕ, ◌+◌, ◌<◌, ◌≤◌, ◌⊎◌, Bool, true, false, not, ◌==◌, List, [], ◌∷◌, length, take, drop, Option, Some, None, Result, Ok, Err, IfErr, IsErrOf, refl, sym, ap, subst, ◌∙◌, arith, length-drop, ℤ, pos, inl, inr}
-use Rattle.std.specs.Prelude.{position, nat_le, nat_lt, if◌then◌else◌}
+use Rattle.std.specs.Prelude.{MatchOption, position, nat_le, nat_lt, if◌then◌else◌}
 use Rattle.std.specs.List.{prefix_len}
 use Rattle.std.specs.Result.{IsErrAnd}
-use Rattle.std.proofs.lemmas.Bool.{eqb-true, false≢true, leb-true, leb-false}
+use Rattle.std.proofs.lemmas.Bool.{eqb-true, leb-true, leb-false}
 use Rattle.std.proofs.lemmas.List.{drop-drop, drop_all}
 use Rattle.std.proofs.lemmas.Bool.Decides.{nat_tests}
 use Rattle.ptb_text.specs.declared.fault.LoadFault.{LoadFault}
 use Rattle.ptb_text.specs.declared.fault.LoadFault.TheVariants.{NoNumber, NumberTooBig, TextTooLong, BadByte, Full, Memory}
 use Rattle.ptb_text.specs.Lines.{is_printable}
-use Rattle.ptb_text.specs.Statements.{HasText, Statements, StoredProgram, after_line, after_trimmed, after_statement, unless_bad_byte, trim_start, with_text, cost, if_room, text_limit}
+use Rattle.ptb_text.specs.Statements.{HasText, Statements, StoredProgram, after_line, after_trimmed, after_statement, unless_bad_byte, trim_start, with_text, cost, if_room, is_statement, text_limit}
 use Rattle.ptb_words.specs.Digits.{number_limit, digits_value, is_digit, is_blank}
 use Rattle.ptb_text.specs.Entry.{Enters, EntersNothing, IsLineFault, IsRefused, IsNumbered}
 use Rattle.ptb_words.specs.CursorState.{CursorState}
 use Rattle.ptb_words.specs.declared.word.Number.{Number}
 use Rattle.ptb_words.specs.declared.word.Number.TheVariants.{Absent, Value, TooBig}
-use Rattle.ptb_words.specs.Words.{past_blanks, is_over, number_at, is_number, small_number}
+use Rattle.ptb_words.specs.Words.{past_blanks, is_over, number_at, small_number}
 use Rattle.ptb_text.proofs.ByteTests.{list_all-from_none, list_all-drop, prefix_len-behind}
 
 -- a text without the blanks in front has none in front
@@ -235,3 +235,38 @@ over_in_front s line b e over = subst (λ (u : CursorState). is_over u.text u.pl
 
 pub number_in_front : (s : CursorState) (line : List ℕ) (n : Number) (j : ℕ) → s ≡ record { text = line; place = 0 } → number_at s.text s.place ≡ (n, j) → number_at line 0 ≡ (n, j)
 number_in_front s line n j e found = subst (λ (u : CursorState). number_at u.text u.place ≡ (n, j)) e found
+
+-- ---- what entering a line comes to
+
+-- what was found is what is told of it
+pub found_is : {T : Type 0} (N : Type 0) (P : T → Type 0) (o : Option T) (x : T) → MatchOption o N P → o ≡ Some x → P x
+found_is N P None x told is = cc
+found_is N P (Some y) x told is = let same : y ≡ x = cc in subst P same told
+
+after_short : (p : Statements) (memory n : ℕ) (t : List ℕ) → 0 < length t → length t ≤ text_limit → after_statement p memory n t ≡ if_room memory (with_text p n t)
+after_short p memory n [] some short = absurd (omega arith)
+after_short p memory n (b ∷ bs) some short = grind (arith, nat_tests)
+
+module _ (line : List ℕ) (p : StoredProgram) where
+  -- it is a line of blanks
+  pub line_of_blanks : {T : Type 0} (P : T → Type 0) (o : Option T) → MatchOption o (EntersNothing line) P → ((x : T) → o ≡ Some x → ⊥) → IsEntered line p p (Ok tt)
+  line_of_blanks P None nothing none = record {
+    enters = record { ok = nothing p.lines p.memory; refused = tt; memory_last = tt; err = tt; memory = refl };
+    memory_text = λ e. absurd cc;
+  }
+  line_of_blanks P (Some x) told none = absurd (none x refl)
+
+  module _ (n : ℕ) (t : List ℕ) (numbered : IsNumbered line n t) (empty : Bool) (tested : empty ≡ (length t == 0)) (not_empty : empty ≡ false) where
+    has_text : HasText line
+    has_text = subst (λ (u : List ℕ). 0 < length u) numbered.behind_number (some_bytes t empty tested not_empty)
+
+    -- its text is stored
+    module _ (short : length t ≤ text_limit) where
+      pub line_statement : is_statement (n, t) ≡ true
+      line_statement = grind (arith, nat_tests, numbered.low, numbered.high, numbered.printable, numbered.no_blank_in_front, some_bytes t empty tested not_empty)
+
+      pub line_stored : (new : StoredProgram) (result : Result (Unit {0}) LoadFault) → Enters (if_room p.memory (with_text p.lines n t)) p new result → IsEntered line p new result
+      line_stored new result enters = record {
+        enters = subst (λ (w : Result Statements LoadFault). Enters w p new result) (sym (numbered.enters p.lines p.memory ∙ after_short p.lines p.memory n t (some_bytes t empty tested not_empty) short)) enters;
+        memory_text = λ _. has_text;
+      }

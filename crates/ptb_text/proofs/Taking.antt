@@ -2,7 +2,7 @@
 use Rattle.std.proofs.Common.{◌≡◌, ℕ, ◌+◌, ◌-◌, List, [], ◌∷◌, ◌++◌, length, take, drop, Option, Result, Ok, Err, OnOk, OnErr, true, false, refl, sym, ap, ◌∙◌, subst, append_assoc, append-nil, arith, length-append, length-drop}
 use Rattle.std.proofs.Math.Seq.{take-append-add}
 use Rattle.std.proofs.lemmas.List.{take-append-drop, take-append-le, take_all}
-use Rattle.std.specs.Result.{is_ok}
+use Rattle.std.specs.Result.{IsErrAnd, is_ok}
 use Rattle.std.specs.Io.KnownBytes.{Appends}
 use Rattle.std.proofs.KnownBytes.{Appends-nil, Appends-trans}
 use Rattle.ptb_text.specs.Device.{TakesSome}
@@ -64,3 +64,12 @@ OnOk-holds (Err e) is p = cc
 pub OnErr-holds : {T E P : Type 0} (r : Result T E) → false ≡ is_ok r → OnErr r P → P
 OnErr-holds (Ok x) is p = cc
 OnErr-holds (Err e) is p = p
+
+-- what is said of a result that is an error
+pub OnOk-error : {T E : Type 0} (Q : E → Type 0) (P : Type 0) (r : Result T E) → IsErrAnd r Q → OnOk r P
+OnOk-error Q P (Ok x) is = absurd is
+OnOk-error Q P (Err e) is = tt
+
+pub OnErr-error : {T E : Type 0} (Q : E → Type 0) (P : Type 0) (r : Result T E) → IsErrAnd r Q → P → OnErr r P
+OnErr-error Q P (Ok x) is p = absurd is
+OnErr-error Q P (Err e) is p = p

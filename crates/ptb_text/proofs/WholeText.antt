@@ -1,5 +1,5 @@
 -- This file proves what reading a whole text comes to, by what was read before and what the last read did.
-use Rattle.std.proofs.Common.{◌≡◌, ◌≢◌, ◌∙◌, ◌+◌, ◌-◌, ◌<◌, ◌≤◌, ℕ, zero, suc, List, [], ◌++◌, length, take, min, Option, None, Some, IfSome, Result, Ok, Err, IfErr, IfOk, OnOk, refl, sym, ap, subst, arith, inl, inr, append-nil, length-append, length-take, vec_len}
+use Rattle.std.proofs.Common.{◌≡◌, ◌≢◌, ◌∙◌, ◌+◌, ◌-◌, ◌<◌, ◌≤◌, ℕ, zero, suc, List, [], ◌++◌, length, take, min, Option, None, Some, IfSome, Result, Ok, Err, IfErr, IfOk, OnOk, refl, ap, subst, arith, inl, inr, append-nil, length-append, length-take, vec_len}
 use Rattle.std.specs.Global.{Vec}
 use Rattle.std.specs.Io.KnownBytes.{Consumes, IsAtEnd, Keeps}
 use Rattle.std.proofs.lemmas.Bool.{cases_lt}
@@ -31,9 +31,9 @@ take_none (suc k) bs none = absurd (omega arith)
 
 failed : (old new : ℕ) → (old ≤ failure_limit) × (new ≡ min (old + 1) failure_limit) → HasFailed old new
 failed old new count = elim (cases_lt old failure_limit) [
-    | inl below ↦ inl (omega (arith, count.1))
-    | inr at ↦ inr (omega (arith, count.0))
-  ]
+  | inl below ↦ inl (omega (arith, count.1))
+  | inr at ↦ inr (omega (arith, count.0))
+]
 
 -- the reader at the beginning
 module _ (bytes0 : Option (List ℕ)) (failed0 given0 : ℕ) where

@@ -1,17 +1,12 @@
 -- This file answers what is left to prove of `list`.
-use Rattle.std.proofs.Common.{rules, ◌≡◌, ◌+◌, ◌++◌, drop, take, sym, ap, ◌∙◌}
-use Rattle.std.proofs.lemmas.Result.{err_from_is_err_and}
+use Rattle.std.proofs.Common.{rules, ◌≡◌, ◌+◌, ◌++◌, ℕ, length, drop, take, sym, ap, subst, ◌∙◌, arith}
+use Rattle.std.proofs.lemmas.List.{drop_all}
+use Rattle.ptb_text.specs.Device.{HasFailed}
 use Rattle.ptb_text.specs.Statements.{listing}
 use Rattle.ptb_text.proofs.Listed.{GivesProgram-listing, listing-drop}
-use Rattle.ptb_text.proofs.Taking.{IsTakenUpTo_piece, IsTakenUpTo_piece_fault, OnOk-holds, OnErr-holds}
+use Rattle.ptb_text.proofs.Taking.{IsTakenUpTo_all, IsTakenUpTo_piece, IsTakenUpTo_piece_fault, OnErr-error, OnErr-holds, OnOk-error, OnOk-holds}
 use Rattle.ptb_text.proofs.listing.list.Goals as goal
 use Rattle.ptb_text.proofs.listing.list.Goals.{After-put_line-end}
-
-pub returns-clause-reloads : goal.returns-clause-reloads
-returns-clause-reloads g c = GivesProgram-listing
-
-pub returns-in_err-map_err-clause-reloads : goal.returns-in_err-map_err-clause-reloads
-returns-in_err-map_err-clause-reloads g c = GivesProgram-listing
 
 -- the line that is written is the first of those that are left
 next_line : (g : _) (c : After-put_line-end g) → listing (drop c.loop-at.at c.args.program.now.lines) ≡ take c.put_line-end.result c.put_line-end.new.buffer ++ listing (drop (c.loop-at.at + 1) c.args.program.now.lines)
@@ -19,12 +14,33 @@ next_line g c =
     let p = c.args.program.now.lines in
     listing-drop p c.loop-at.at _ c.statement_at-number.ensures.line ∙ ap (λ l. l ++ listing (drop (c.loop-at.at + 1) p)) (sym c.put_line-end.ensures.line)
 
-pub returns-in_err-map_err-clause-fault : goal.returns-in_err-map_err-clause-fault
-returns-in_err-map_err-clause-fault g c =
-    let next = next_line g (goal.at.returns-in_err-map_err-clause-fault g c).After-put_line-end in
+-- a write failed
+pub returns-in_err-map_err : goal.returns-in_err-map_err
+returns-in_err-map_err g c =
+    let next = next_line g (goal.at.returns-in_err-map_err g c).After-put_line-end in
+    let is = c.from_residual.ensures.1 in
     let some = OnErr-holds c.write_all.result c.in_err-map_err.ensures.variant c.write_all.ensures.fault in
-    let p = err_from_is_err_and c.from_residual.result c.from_residual.ensures.1 in
-    rw p.1 (IsTakenUpTo_piece_fault _ _ _ next c.loop-at.invariant.taken some)
+    let failed = OnErr-holds c.write_all.result c.in_err-map_err.ensures.variant c.write_all.ensures.failed in
+    record {
+      ok = OnOk-error _ _ c.from_residual.result is;
+      fault = OnErr-error _ _ c.from_residual.result is (IsTakenUpTo_piece_fault _ _ _ next c.loop-at.invariant.taken some);
+      failed = OnErr-error _ _ c.from_residual.result is (subst (λ (k : ℕ). HasFailed k (g.W.Write.failures c.write_all.new.self)) c.loop-at.invariant.unfailed failed);
+      unfailed = OnOk-error _ _ c.from_residual.result is;
+      reloads = GivesProgram-listing;
+    }
+
+-- all lines were written
+pub returns : goal.returns
+returns g c =
+    let p = c.args.program.now.lines in
+    let none = drop_all c.loop-at.at p (omega (arith, c.loop-at-test.false, c.len-at-end.ensures.value)) in
+    record {
+      ok = IsTakenUpTo_all _ c.loop-at.invariant.taken (ap (λ ls. length (listing ls)) none);
+      fault = tt;
+      failed = tt;
+      unfailed = c.loop-at.invariant.unfailed;
+      reloads = GivesProgram-listing;
+    }
 
 pub loop-at-preserved : goal.loop-at-preserved
 loop-at-preserved g c =

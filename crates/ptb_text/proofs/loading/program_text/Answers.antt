@@ -1,8 +1,20 @@
 -- This file answers what is left to prove of `program_text`: what holds where it returns, and what its loop keeps.
-use Rattle.std.proofs.Common.{rules, ◌≡◌, length, arith}
+use Rattle.std.proofs.Common.{rules, ◌≡◌, length, refl, sym, subst, arith}
 use Rattle.std.proofs.lemmas.Grind.{common_steps}
+use Rattle.std.specs.Io.KnownBytes.{Consumes}
+use Rattle.std.proofs.KnownBytes.{Consumes-nil}
+use Rattle.ptb_text.proofs.Counting.{IsCountedUpTo, IsCountedUpTo_none}
 use Rattle.ptb_text.proofs.WholeText.{text_failed, text_read, text_too_long, text_unkept}
 use Rattle.ptb_text.proofs.loading.program_text.Goals as goal
+
+-- nothing is read yet
+pub loop-piece-init : goal.loop-piece-init
+loop-piece-init g c = record {
+  unfailed = refl;
+  given = subst (IsCountedUpTo _ _) (sym c.new-text.ensures.len) (IsCountedUpTo_none _);
+  taken = subst (Consumes _ _) (sym c.new-text.ensures.items) (Consumes-nil _);
+  bound = omega (arith, c.new-text.ensures.len);
+}
 
 pub loop-piece-preserved : goal.loop-piece-preserved
 loop-piece-preserved g c = grind (arith, common_steps)

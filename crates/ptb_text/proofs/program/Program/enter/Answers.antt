@@ -1,6 +1,7 @@
 -- This file answers what is left to prove of `Program::enter`.
-use Rattle.std.proofs.Common.{rules}
-use Rattle.ptb_text.proofs.LineParts.{line_refused}
+use Rattle.std.proofs.Common.{rules, ◌≤◌, length}
+use Rattle.ptb_text.specs.Entry.{IsNumbered}
+use Rattle.ptb_text.proofs.LineParts.{found_is, line_refused, line_statement, line_stored}
 use Rattle.ptb_text.proofs.program.Program.enter.Goals as goal
 
 -- its number is wrong, or it has none
@@ -14,13 +15,18 @@ pub returns-then-is_empty-clause-ok : goal.returns-then-is_empty-clause-ok
 returns-then-is_empty-clause-ok c = search rules fits 50 depth 2
 
 pub store-requires : goal.store-requires
-store-requires c = search rules fits 50 depth 2
+store-requires c =
+    let short : length c.in-Some.line.text.now ≤ 255 = search rules in
+    let numbered = found_is _ (λ l. IsNumbered c.args.line.now l.number l.text.now) c.in_ok-line.field-0 c.in-Some.line c.in_ok-line.ensures c.in-Some.is in
+    line_statement c.args.line.now c.args.self.now c.in-Some.line.number c.in-Some.line.text.now numbered c.is_empty.result c.is_empty.ensures c.if-is_empty.false short
 
-pub returns-clause-ok : goal.returns-clause-ok
-returns-clause-ok c = search rules fits 50 depth 2
-
-pub returns-clause-refused : goal.returns-clause-refused
-returns-clause-refused c = search rules
-
-pub returns-clause-memory_last : goal.returns-clause-memory_last
-returns-clause-memory_last c = search rules fits 50 depth 2
+-- its text is stored
+pub returns : goal.returns
+returns c =
+    let short : length c.in-Some.line.text.now ≤ 255 = search rules in
+    let numbered = found_is _ (λ l. IsNumbered c.args.line.now l.number l.text.now) c.in_ok-line.field-0 c.in-Some.line c.in_ok-line.ensures c.in-Some.is in
+    let told =
+    line_stored c.args.line.now c.args.self.now c.in-Some.line.number c.in-Some.line.text.now numbered c.is_empty.result c.is_empty.ensures c.if-is_empty.false short
+    c.store.new.self c.store.result c.store.ensures
+    in
+    record { ok = told.enters.ok; refused = told.enters.refused; memory_last = told.enters.memory_last; memory_text = told.memory_text; err = told.enters.err; memory = told.enters.memory }

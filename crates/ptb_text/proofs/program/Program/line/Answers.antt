@@ -1,5 +1,5 @@
 -- This file answers what is left to prove of `Program::line`.
-use Rattle.std.proofs.Common.{◌≡◌, ◌<◌, ◌<ℤ◌, Some, [], pos, sym, ap, subst, ◌∙◌, arith}
+use Rattle.std.proofs.Common.{Some, [], sym, ap, ◌∙◌, arith}
 use Rattle.std.specs.Option.{option_copied}
 use Rattle.std.proofs.lemmas.Int.{ints}
 use Rattle.std.proofs.lemmas.Option.{get_or_from_slice_get}
