@@ -8,6 +8,7 @@ pub mod Loaded
 pub mod Numbers
 pub mod Pieces
 pub mod Pool
+pub mod Putting
 pub mod Searching
 pub mod Sound
 pub mod Stored

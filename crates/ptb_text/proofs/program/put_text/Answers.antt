@@ -1,6 +1,7 @@
--- This file proves goals of `put_text` that the prover finds late by itself.
-use Rattle.std.proofs.Common.{arith}
+-- This file answers what is left to prove of `put_text`, and goals that the prover finds late by itself.
+use Rattle.std.proofs.Common.{rules, arith}
 use Rattle.std.proofs.lemmas.Grind.{common_steps}
+use Rattle.ptb_text.proofs.Putting.{put_items}
 use Rattle.ptb_text.proofs.program.put_text.Goals as goal
 
 pub unwrap-requires : goal.unwrap-requires
@@ -16,4 +17,6 @@ pub rotate_right-requires : goal.rotate_right-requires
 rotate_right-requires c = grind (arith, common_steps)
 
 pub returns : goal.returns
-returns c = grind (arith, common_steps)
+returns c =
+    put_items c.args.pool.now.items c.args.text.now c.args.start c.args.end c.requires.order (omega (arith, c.requires.within, c.args.pool.now.ok.0)) _
+    c.extend_from_slice.new.self c.extend_from_slice.result tt c.extend_from_slice.ensures.items (search rules fits 50 depth 2) c.unwrap.ensures c.deref_mut.result.now c.rotate_right.new.self c.deref_mut.ensures.value c.deref_mut.ensures.len c.rotate_right.ensures.after
