@@ -1,12 +1,12 @@
-//! The commands of Tiny BASIC: what each does to the store, the loops and calls that are open, and the
-//! place, and what it shows, takes and asks for.
+//! The commands of Tiny BASIC: what each does to the store, the loops and calls that are open, and
+//! the place, and what it shows, takes and asks for.
 //!
 //! It stands on `ptb_devices`, `ptb_expr`, `ptb_answers`, `ptb_text`, `ptb_words`, `arrayvec` and
-//! `itoa`. The crate above may rely on `Registers::do_command` (a command is done as `specs/Act` says), on
-//! `next_command` (which command stands at a place), on `Stack` (a list of loops and calls, newest
-//! first, of limited length), on `Gathering` and `gather_value` (bytes and values that are to be
-//! shown), and on `command_laws` (how the parts of a command and the commands of a statement follow
-//! one another).
+//! `itoa`. The crate above may rely on `Registers::do_command` (a command is done as `specs/Act`
+//! says), on `next_command` (which command stands at a place), on `Stack` (a list of loops and
+//! calls, newest first, of limited length), on `Gathering` and `gather_value` (bytes and values
+//! that are to be shown), and on `command_laws` (how the parts of a command and the commands of a
+//! statement follow one another).
 #![tactic(auto)]
 
 mod commands;

@@ -1,16 +1,11 @@
 -- This file proves what is said where a function ends with a fault.
 use Rattle.std.proofs.Common.{◌≡◌, Option, Some, None, Result, Ok, Err, ap, subst}
 use Rattle.std.specs.Option.{OnSome}
-use Rattle.std.specs.Result.{IsErrAnd, OnOk, OnErr}
+use Rattle.std.specs.Result.{IsErrAnd, OnOk}
 use Rattle.ptb_explore.specs.declared.fault.AfterFault.{AfterFault}
 use Rattle.ptb_explore.specs.declared.fault.AfterFault.TheVariants as after
 use Rattle.ptb_explore.specs.declared.fault.UnderFault.{UnderFault}
 use Rattle.ptb_explore.specs.declared.fault.UnderFault.TheVariants as under
-
--- what holds anyway holds at a fault
-pub on_err_always : {T E Q : Type 0} (r : Result T E) → Q → OnErr r Q
-on_err_always (Ok x) q = tt
-on_err_always (Err e) q = q
 
 -- a result is no fault
 pub ok_no_err : {T E P : Type 0} {x : T} {e : E} → ◌≡◌ {A = Result T E} (Ok x) (Err e) → P

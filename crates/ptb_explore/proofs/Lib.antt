@@ -16,10 +16,7 @@ pub mod Exits
 pub mod Planned
 pub mod GoingBack
 pub mod GoingOn
-pub mod Gathering
 pub mod Stated
 pub mod Begun
-pub mod ReportText
-pub mod Reporting
 pub mod Progress
 pub mod Writing

@@ -1,32 +1,15 @@
--- This file defines the text of reports, each of one run.
---     header items word steps size            the first line: RUN, the answers, how the run ended, its steps, how many bytes it showed
---     report_text items word steps shown      the header, what the run showed, and a newline
+-- This file defines the reports of runs.
 --     word_of ending                          the word of an ending
 --     report form play answers                the report of the run of these answers, in a form
---     Gathers old new bytes pending           a beginning of the bytes was taken, and the others are pending
-use Rattle.std.specs.Prelude.{◌≡◌, ℕ, List, [], ◌++◌, length, codes, decimal, Option}
-use Rattle.std.specs.Io.KnownBytes.{Appends}
+use Rattle.std.specs.Prelude.{ℕ, List, [], codes}
 use Rattle.ptb_answers.specs.Outcome.{Answers, Outcome, Done, Asks, Out, bounds}
 use Rattle.ptb_command.specs.declared.ending.Ending.{Ending}
 use Rattle.ptb_command.specs.declared.ending.Ending.TheVariants as endings
 use Rattle.ptb_machine.specs.Play.{Finish}
 use Rattle.ptb_answers.specs.declared.form.Form.{Form}
 use Rattle.ptb_answers.specs.declared.form.Marked.{Marked}
-use Rattle.ptb_answers.specs.AnswerText.{spelling, items_in}
-
--- ---- text
-
--- one space stands in front of each field
-abbrev pub field : List ℕ → List ℕ
-field bytes = codes " " ++ bytes
-
-abbrev pub header : List Marked → List ℕ → ℕ → ℕ → List ℕ
-header items word steps size = codes "RUN " ++ spelling items ++ field word ++ field (decimal steps) ++ field (decimal size) ++ codes "\n"
-
-abbrev pub report_text : List Marked → List ℕ → ℕ → List ℕ → List ℕ
-report_text items word steps shown = header items word steps (length shown) ++ shown ++ codes "\n"
-
--- ---- the report of a run
+use Rattle.ptb_answers.specs.AnswerText.{items_in}
+use Rattle.ptb_report.specs.Report.{report_text}
 
 -- a run whose answers are all taken never ends for want of one, nor with one outside its bound
 abbrev pub word_of : Ending → List ℕ
@@ -48,10 +31,3 @@ report_of items (Out n shown) = []
 
 abbrev pub report : Form → (Answers → Outcome Finish (List ℕ)) → Answers → List ℕ
 report form play answers = report_of (items_in form answers (bounds play answers)) (play answers)
-
--- ---- writing it in pieces
-
-pub record Gathers (old new : Option (List ℕ)) (bytes pending : List ℕ) : Type 0 where
-  pub front : List ℕ
-  pub whole : bytes ≡ front ++ pending
-  pub growth : Appends old new front

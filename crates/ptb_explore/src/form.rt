@@ -1,28 +1,12 @@
-// This file compares lists of answers, which may have bounds, with a run, and writes an answer as a form has it.
+// This file compares lists of answers, which may have bounds, with a run.
 
 ghost use Rattle.std.specs.Prelude.{◌≡◌, ◌≤◌, length, IfOk};
-ghost use Rattle.ptb_answers.specs.AnswerText.{answers_of, in_form};
+ghost use Rattle.ptb_answers.specs.AnswerText.{answers_of};
 ghost use Rattle.ptb_explore.specs.MarkedRuns.{states_bounds};
 ghost use Rattle.ptb_explore.specs.RunTree.{begins_with};
 
-use ptb_answers::{Form, Marked};
+use ptb_answers::Marked;
 use std::alloc::{AllocError, Global};
-
-/// An answer as a form has it.
-pub(crate) fn item(form: Form, answer: i16, bound: i16) -> Marked
-    ensures { result ≡ in_form form answer bound }
-{
-    match form {
-        Form::One => Marked {
-            answer,
-            bound: None,
-        },
-        Form::Two => Marked {
-            answer,
-            bound: Some(bound),
-        },
-    }
-}
 
 /// The answers of a list, without their bounds.
 ///

@@ -1,7 +1,7 @@
 //! All runs of a Tiny BASIC program, in the order of their answers, and their reports.
 //!
-//! It stands on `ptb_machine`, on definitions of the two crates below that, on `ptb_answers`,
-//! `ptb_text`, `arrayvec`, `itoa` and `thiserror`. The crate above may rely on `Explorer::start`
+//! It stands on `ptb_machine`, on definitions of the two crates below that, on `ptb_report`,
+//! `ptb_answers`, `ptb_text`, `arrayvec` and `thiserror`. The crate above may rely on `Explorer::start`
 //! `after` and `after_marked` (where a listing begins, or that the answers are no run), on `under`
 //! and `after_under` (the same for the runs that begin with a list of answers), on `write_all_runs` (the
 //! reports of the runs that are left), and on `program_laws`.

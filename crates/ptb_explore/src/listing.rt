@@ -9,9 +9,10 @@ ghost use Rattle.ptb_explore.specs.RunTree.{runs_left};
 
 use crate::explorer::Explorer;
 use crate::fault::{ExploreFault, NextFault};
-use crate::report::{word, write_report};
+use crate::report::word;
 use ptb_answers::Form;
 use ptb_machine::run_laws;
+use ptb_report::write_report;
 use ptb_text::Write;
 
 // Writes the report of the next run, and says whether there is one.

@@ -1,6 +1,6 @@
 // This file reports a fault.
 
-ghost use Rattle.std.specs.Prelude.{◌≡◌, ℕ, [], ◌++◌, pos, if◌then◌else◌, take, drop, IfOk};
+ghost use Rattle.std.specs.Prelude.{◌≡◌, [], ◌++◌, if◌then◌else◌, take, drop, IfOk};
 ghost use Rattle.ptb_expr.specs.Store.{Cells};
 ghost use Rattle.ptb_command.specs.Act.{newline, word_of, ending_of, report_bytes};
 ghost use Rattle.ptb_command.specs.Devices.{Devices, screen_state, with_screen};
@@ -103,14 +103,14 @@ fn put_joined<S: Screen>(
 pub fn report<S: Screen>(
     screen: &mut S,
     fresh: &mut bool,
-    number: i16,
+    number: u16,
     text: &[u8],
     fault: Fault,
 ) -> Result<(), ScreenFault>
-    ensures { (d : Devices) (cells : Cells) (n : ℕ) → number ≡ pos n → IsShown
+    ensures { (d : Devices) (cells : Cells) → IsShown
         (trace (with_screen (screen_state S.Screen screen.old) d) fresh.old cells)
         (trace (with_screen (screen_state S.Screen screen.new) d) fresh.new cells)
-        (report_bytes fresh.old n text.now fault) result }
+        (report_bytes fresh.old number text.now fault) result }
 {
     let mut buffer = Buffer::new();
     let digits = buffer.format(number).as_bytes();

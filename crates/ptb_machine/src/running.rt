@@ -1,17 +1,21 @@
 // This file does whole runs.
 
-ghost use Rattle.std.specs.Prelude.{◌≡◌, ◌≤◌, ◌≤ℤ◌, ℕ, pos, List, [], IfSome};
+ghost use Rattle.std.specs.Prelude.{◌≡◌, ◌≤◌, ◌≤ℤ◌, ℕ, ℤ, pos, List, [], Option, false, IfOk, IfSome};
 ghost use Rattle.ptb_command.specs.Devices.{devices, screen_state, refused_by};
+ghost use Rattle.ptb_command.specs.Representation.{Represents};
+ghost use Rattle.ptb_command.specs.State.{first_state};
 ghost use Rattle.ptb_command.specs.Stops.{NotMissed};
 ghost use Rattle.ptb_machine.specs.Runs.{Runs, UnlessRunMissed};
+ghost use Rattle.ptb_machine.specs.Steps.{FitsProgram};
 
 use crate::fault::RunFault;
 use crate::kept::Player;
+use crate::machine::Machine;
 use ptb_answers::{Chooser, Rules};
 use ptb_command::Ending;
 use ptb_devices::{LineSource, Screen};
 use ptb_text::Program;
-use std::alloc::Global;
+use std::alloc::{AllocError, Global};
 
 /// Runs a program from its beginning to its ending, by these rules.
 ///
@@ -40,10 +44,49 @@ pub fn run<C: Chooser, S: Screen, L: LineSource>(
     ensures missed { UnlessRunMissed (L.refused source.new) (NotMissed rules.choose
         (L.missed source.old) (L.missed source.new) (L.most source.new)) result }
 {
-    let mut player = Player::new(alloc, program)?;
-    let mut machine = player.machine(alloc)?;
+    let (mut player, mut machine) = begun(alloc, program)?;
+    play(&mut player, &mut machine, rules, chooser, screen, source)
+}
+
+// A player of a program, and a machine at the beginning of its run.
+fn begun(alloc: Global, program: &Program) -> Result<(Player<'_>, Machine), AllocError>
+    ensures player { IfOk result (λ b. b.0 ≡ program.now) }
+    ensures first { IfOk result (λ b. (input : List (List ℕ)) (choose : Option ℤ) →
+        Represents b.0.lines b.1 (first_state b.0 input choose)) }
+    ensures fits { IfOk result (λ b. FitsProgram b.0 b.1) }
+    ensures unspent { IfOk result (λ b. b.1.spent ≡ false) }
+{
+    let player = Player::new(alloc, program)?;
+    let machine = player.machine(alloc)?;
+    Ok((player, machine))
+}
+
+// Plays a machine, which stands at the beginning of a run of the player's program, to the ending.
+fn play<C: Chooser, S: Screen, L: LineSource>(
+    player: &mut Player<'_>,
+    machine: &mut Machine,
+    rules: Rules,
+    chooser: &mut C,
+    screen: &mut S,
+    source: &mut L,
+) -> Result<Ending, RunFault>
+    requires first { (input : List (List ℕ)) (choose : Option ℤ) →
+        Represents player.old.lines machine.old (first_state player.old input choose) }
+    requires fits { FitsProgram player.old machine.old }
+    requires unspent { machine.old.spent ≡ false }
+    requires choose { IfSome rules.choose (λ n. pos 1 ≤ℤ n) }
+    ensures runs { (given : List (List ℕ)) × (L.gives source.old given source.new
+        × Runs (refused_by (C.refused chooser.new) (L.refused source.new) (L.lines source.new))
+        player.old rules
+        (devices (C.choices chooser.old) (screen_state S.Screen screen.old)
+        (L.most source.old) rules.choose [])
+        (devices (C.choices chooser.new) (screen_state S.Screen screen.new)
+        (L.most source.new) rules.choose given) result) }
+    ensures missed { UnlessRunMissed (L.refused source.new) (NotMissed rules.choose
+        (L.missed source.old) (L.missed source.new) (L.most source.new)) result }
+{
     'steps: loop {
-        if let Some(ending) = player.step(&mut machine, rules, chooser, screen, source)? {
+        if let Some(ending) = player.step(machine, rules, chooser, screen, source)? {
             return Ok(ending);
         }
     }

@@ -41,7 +41,7 @@ pub(crate) fn result_of<C: Chooser, S: Screen, L: LineSource>(
         Ok(()) => Ok(None),
         Err(Stop::Fault(fault)) => {
             let (number, text) = line_at(program, statement);
-            report(io.screen, &mut io.fresh, number, text, fault)?;
+            report(io.screen, &mut io.fresh, number.unsigned_abs(), text, fault)?;
             Ok(Some(ending_of(fault.kind)))
         }
         Err(Stop::Ended) => Ok(Some(Ending::Stop)),

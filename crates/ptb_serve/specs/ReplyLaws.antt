@@ -18,7 +18,8 @@ use Rattle.ptb_answers.specs.AnswerText.{answers_of, items_in}
 use Rattle.ptb_answers.specs.Seeds.{drawn_answers}
 use Rattle.ptb_explore.specs.Listing.{text}
 use Rattle.ptb_explore.specs.MarkedRuns.{IsMarkedBeginning, IsMarkedRun}
-use Rattle.ptb_explore.specs.Report.{report, report_text, word_of}
+use Rattle.ptb_report.specs.Report.{report_text}
+use Rattle.ptb_explore.specs.Report.{report, word_of}
 use Rattle.ptb_explore.specs.RunTree.{IsRun, Before, IsRising, begins_with}
 use Rattle.ptb_serve.specs.declared.note.Note.TheVariants as notes
 use Rattle.ptb_options.specs.declared.request.Mode.{Mode}

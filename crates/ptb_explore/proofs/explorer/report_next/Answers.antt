@@ -4,7 +4,8 @@ use Rattle.std.proofs.lemmas.Result.{IfOk-from_err}
 use Rattle.ptb_machine.specs.Play.{play}
 use Rattle.ptb_machine.specs.Questions.{most_answers}
 use Rattle.ptb_explore.specs.Plans.{front_at, PlansNext}
-use Rattle.ptb_explore.proofs.Exits.{on_err_always, err_no_ok, some_no_none, on_some_at}
+use Rattle.ptb_report.proofs.Reporting.{on_err_always}
+use Rattle.ptb_explore.proofs.Exits.{err_no_ok, some_no_none, on_some_at}
 use Rattle.ptb_explore.proofs.GoingOn.{next_agrees, next_played, position_copies}
 use Rattle.ptb_explore.proofs.Raising.{position_lengths, next_plan, last_plan, plan_ends}
 use Rattle.ptb_explore.proofs.explorer.report_next.Goals as goal

@@ -9,7 +9,7 @@ use Rattle.ptb_machine.specs.Questions.{most_answers}
 use Rattle.ptb_explore.specs.Copies.{more_played}
 use Rattle.ptb_explore.specs.Playing.{PlayEnds}
 use Rattle.ptb_explore.specs.Recording.{choices_of}
-use Rattle.ptb_explore.proofs.Exits.{on_err_always}
+use Rattle.ptb_report.proofs.Reporting.{on_err_always}
 use Rattle.ptb_explore.proofs.GoingBack.{agrees_same, prefix_of_same}
 use Rattle.ptb_explore.proofs.Keep.{kept_same}
 use Rattle.ptb_explore.proofs.Trial.{all_given, open_ends}

@@ -1,7 +1,7 @@
 -- This file answers that the reports that are written are those of the runs that were left, in their order.
 use Rattle.std.proofs.Common.{rules, ◌∙◌, ap, refl, Err}
 use Rattle.ptb_explore.proofs.Exits.{ok_no_err}
-use Rattle.ptb_explore.proofs.Reporting.{failed_after}
+use Rattle.ptb_report.proofs.Reporting.{failed_after}
 use Rattle.ptb_explore.proofs.Writing.{memory_no_write, memory_told, same_after, all_wanted, none_next, list_refused, part_written, one_fewer, one_more}
 use Rattle.ptb_explore.proofs.listing.write_all_runs.Goals as goal
 

@@ -1,5 +1,6 @@
 -- This file answers what is left to prove of `result_of`.
 use Rattle.std.proofs.Common.{◌≡◌, ◌∙◌, ap, refl, Some, Ok, Err, rules, to_z, of_z, w16}
+use Rattle.std.specs.Prelude.{unsigned_abs}
 use Rattle.std.proofs.lemmas.Result.{err_from_is_err_and}
 use Rattle.ptb_answers.specs.declared.pause.Pause.TheVariants as pauses
 use Rattle.ptb_command.specs.declared.stop.Stop.TheVariants as stops
@@ -10,12 +11,13 @@ use Rattle.ptb_machine.proofs.stop_result.result_of.Goals as goal
 pub returns-in_err-report-in-Err-Fault : goal.returns-in_err-report-in-Err-Fault
 returns-in_err-report-in-Err-Fault g c = record {
   comes = λ given cells n text at.
-      let number : to_z w16 (of_z w16 c.line_at-number.result.0) ≡ c.line_at-number.result.0 = search rules in
+      let same : to_z w16 (of_z w16 c.line_at-number.result.0) ≡ c.line_at-number.result.0 = search rules in
       let line = c.line_at-number.ensures.there n text at in
+      let number = c.unsigned_abs.ensures.value ∙ ap unsigned_abs (same ∙ line.0) in
       let result = err_from_is_err_and _ c.from_residual.ensures.1 in
       result_reported _ _ n text c.in-Err-Fault.fault c.args.done _ (Err c.in_err-report-in-Err-Fault.field-0.0)
       (c.in-Err-Fault.is ∙ ap Err (rw c.in-Err-Fault.is at c.in-Err-Fault.field-0-is)) (result.1 ∙ ap Err result.2)
-      (rw line.1 at (c.in_err-report-in-Err-Fault.ensures (io_devices g.C.Chooser.choices g.S.Screen g.L.LineSource.most c.args.io.now given) cells n (number ∙ line.0)));
+      (rw (number, line.1) at (c.in_err-report-in-Err-Fault.ensures (io_devices g.C.Chooser.choices g.S.Screen g.L.LineSource.most c.args.io.now given) cells));
   chooser = refl;
   same = record { chooser = refl; screen = refl; source = refl; choose = refl };
 }
@@ -23,11 +25,12 @@ returns-in_err-report-in-Err-Fault g c = record {
 pub returns-in_ok-report-in-Err-Fault : goal.returns-in_ok-report-in-Err-Fault
 returns-in_ok-report-in-Err-Fault g c = record {
   comes = λ given cells n text at.
-      let number : to_z w16 (of_z w16 c.line_at-number.result.0) ≡ c.line_at-number.result.0 = search rules in
+      let same : to_z w16 (of_z w16 c.line_at-number.result.0) ≡ c.line_at-number.result.0 = search rules in
       let line = c.line_at-number.ensures.there n text at in
+      let number = c.unsigned_abs.ensures.value ∙ ap unsigned_abs (same ∙ line.0) in
       result_reported _ _ n text c.in-Err-Fault.fault c.args.done _ (Ok tt)
       (c.in-Err-Fault.is ∙ ap Err (rw c.in-Err-Fault.is at c.in-Err-Fault.field-0-is)) (ap (λ e. Ok (Some e)) c.ending_of.ensures)
-      (rw line.1 at (c.in_ok-report-in-Err-Fault.ensures (io_devices g.C.Chooser.choices g.S.Screen g.L.LineSource.most c.args.io.now given) cells n (number ∙ line.0)));
+      (rw (number, line.1) at (c.in_ok-report-in-Err-Fault.ensures (io_devices g.C.Chooser.choices g.S.Screen g.L.LineSource.most c.args.io.now given) cells));
   chooser = refl;
   same = record { chooser = refl; screen = refl; source = refl; choose = refl };
 }

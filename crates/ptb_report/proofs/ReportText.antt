@@ -9,7 +9,7 @@ use Rattle.ptb_answers.specs.declared.form.Form.{Form}
 use Rattle.ptb_answers.specs.declared.form.Form.TheVariants.{One, Two}
 use Rattle.ptb_answers.specs.declared.form.Marked.{Marked}
 use Rattle.ptb_answers.specs.AnswerText.{spelling, item_text, in_form, items_in}
-use Rattle.ptb_explore.specs.Report.{report_text}
+use Rattle.ptb_report.specs.Report.{report_text}
 
 -- what stands behind the answers, in the order in which it is written
 abbrev pub behind_answers : (word steps size shown : List ℕ) → List ℕ

@@ -1,14 +1,19 @@
 -- This file proves what was written of a report, from what is known of each of its pieces.
-use Rattle.std.proofs.Common.{◌≡◌, ◌∙◌, ap, subst, ℕ, List, [], ◌++◌, length, codes, decimal, Option, Result}
+use Rattle.std.proofs.Common.{◌≡◌, ◌∙◌, ap, subst, ℕ, List, [], ◌++◌, length, codes, decimal, Option, Result, Ok, Err}
 use Rattle.std.specs.Result.{OnOk, OnErr}
 use Rattle.std.proofs.lemmas.Result.{on_ok_weaker, on_err_weaker}
 use Rattle.std.specs.Io.KnownBytes.{Appends}
 use Rattle.ptb_text.specs.Device.{TakesSome, HasFailed}
 use Rattle.ptb_answers.specs.AnswerText.{spelling}
 use Rattle.ptb_answers.specs.declared.form.Marked.{Marked}
-use Rattle.ptb_explore.specs.Report.{Gathers, report_text}
-use Rattle.ptb_explore.proofs.Gathering.{gathers_more, gathers_same, some_more, some_after, all_after, some_rest}
-use Rattle.ptb_explore.proofs.ReportText.{behind_answers, report_in_pieces}
+use Rattle.ptb_report.specs.Report.{Gathers, report_text}
+use Rattle.ptb_report.proofs.Gathering.{gathers_more, gathers_same, some_more, some_after, all_after, some_rest}
+use Rattle.ptb_report.proofs.ReportText.{behind_answers, report_in_pieces}
+
+-- what holds anyway holds at a fault
+pub on_err_always : {T E Q : Type 0} (r : Result T E) → Q → OnErr r Q
+on_err_always (Ok x) q = tt
+on_err_always (Err e) q = q
 
 -- a fault behind calls that counted none
 pub failed_after : (a b c : ℕ) → b ≡ a → HasFailed b c → HasFailed a c

@@ -2,9 +2,9 @@
 use Rattle.std.proofs.Common.{◌≡◌, ◌++◌, take}
 use Rattle.std.specs.List.{flat_map}
 use Rattle.ptb_answers.specs.AnswerText.{items_in}
-use Rattle.ptb_explore.specs.Report.{Gathers}
-use Rattle.ptb_explore.proofs.ReportText.{pieces_of, whole_piece}
-use Rattle.ptb_explore.proofs.report.put_answers.Given as goal
+use Rattle.ptb_report.specs.Report.{Gathers}
+use Rattle.ptb_report.proofs.ReportText.{pieces_of, whole_piece}
+use Rattle.ptb_report.proofs.report.put_answers.Given as goal
 
 abbrev pub invariant-loop-k : goal.invariant-loop-k
 invariant-loop-k g l = record {

@@ -4,11 +4,11 @@ use Rattle.ptb_command.specs.Devices.{devices, screen_state}
 use Rattle.ptb_command.specs.Stops.{NotMissed}
 use Rattle.ptb_machine.specs.Steps.{FitsProgram}
 use Rattle.ptb_machine.proofs.Runs.{HasRun}
-use Rattle.ptb_machine.proofs.running.run.Given as goal
+use Rattle.ptb_machine.proofs.running.play.Given as goal
 
 abbrev pub invariant-steps : goal.invariant-steps
 invariant-steps g l =
-    (l.player ≡ l.program) × FitsProgram l.player l.machine × (l.machine.spent ≡ false)
+    (l.player ≡ l.fn.player) × FitsProgram l.player l.machine × (l.machine.spent ≡ false)
     × ((given : List (List ℕ)) × (g.L.LineSource.gives l.fn.source given l.source
     × HasRun l.player l.rules l.machine
     (devices (g.C.Chooser.choices l.fn.chooser) (screen_state g.S.Screen l.fn.screen) (g.L.LineSource.most l.fn.source) l.rules.choose [])

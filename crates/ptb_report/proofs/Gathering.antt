@@ -7,7 +7,7 @@ use Rattle.std.proofs.Math.Seq.{take-length}
 use Rattle.std.specs.Io.KnownBytes.{Appends}
 use Rattle.std.proofs.KnownBytes.{Appends-nil, Appends-trans}
 use Rattle.ptb_text.specs.Device.{TakesSome}
-use Rattle.ptb_explore.specs.Report.{Gathers}
+use Rattle.ptb_report.specs.Report.{Gathers}
 
 -- nothing taken, all pending
 pub gathers_none : (a : Option (List ℕ)) (s : List ℕ) → Gathers a a s s

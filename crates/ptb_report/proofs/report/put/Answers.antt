@@ -2,8 +2,8 @@
 use Rattle.std.proofs.Common.{arith, rules, ◌≡◌, []}
 use Rattle.std.proofs.lemmas.Grind.{common_steps}
 use Rattle.std.proofs.lemmas.Result.{on_ok_weaker, on_err_weaker}
-use Rattle.ptb_explore.proofs.Gathering.{gathers_written, gathers_more, some_after}
-use Rattle.ptb_explore.proofs.report.put.Goals as goal
+use Rattle.ptb_report.proofs.Gathering.{gathers_written, gathers_more, some_after}
+use Rattle.ptb_report.proofs.report.put.Goals as goal
 
 pub returns-clause-ok : goal.returns-clause-ok
 returns-clause-ok g c =

@@ -1,8 +1,8 @@
 -- This file says what is gathered after some of the pieces.
 use Rattle.std.proofs.Common.{◌≡◌, ◌++◌, take}
 use Rattle.std.specs.List.{flat_map}
-use Rattle.ptb_explore.specs.Report.{Gathers}
-use Rattle.ptb_explore.proofs.report.put_all.Given as goal
+use Rattle.ptb_report.specs.Report.{Gathers}
+use Rattle.ptb_report.proofs.report.put_all.Given as goal
 
 abbrev pub invariant-loop-piece : goal.invariant-loop-piece
 invariant-loop-piece g l = record {

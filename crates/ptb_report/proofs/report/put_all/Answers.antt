@@ -1,8 +1,8 @@
 -- This file answers that pieces are gathered one after the other.
 use Rattle.std.proofs.Common.{rules, refl}
 use Rattle.std.proofs.lemmas.Result.{err_from_is_err_and}
-use Rattle.ptb_explore.proofs.Gathering.{gathers_piece, some_piece}
-use Rattle.ptb_explore.proofs.report.put_all.Goals as goal
+use Rattle.ptb_report.proofs.Gathering.{gathers_piece, some_piece}
+use Rattle.ptb_report.proofs.report.put_all.Goals as goal
 
 pub returns-in_err-put-clause-fault : goal.returns-in_err-put-clause-fault
 returns-in_err-put-clause-fault g c =

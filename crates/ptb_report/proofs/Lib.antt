@@ -1,0 +1,4 @@
+-- This file names the files of lemmas.
+pub mod Gathering
+pub mod ReportText
+pub mod Reporting

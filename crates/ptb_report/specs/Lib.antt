@@ -1,0 +1,2 @@
+-- This file names the files of definitions.
+pub mod Report

@@ -1,0 +1,27 @@
+-- This file defines the text of a report, and how far it was written.
+--     header items word steps size            the first line: RUN, the answers, how the run ended, its steps, how many bytes it showed
+--     report_text items word steps shown      the header, what the run showed, and a newline
+--     Gathers old new bytes pending           a beginning of the bytes was taken, and the others are pending
+use Rattle.std.specs.Prelude.{◌≡◌, ℕ, List, ◌++◌, length, codes, decimal, Option}
+use Rattle.std.specs.Io.KnownBytes.{Appends}
+use Rattle.ptb_answers.specs.declared.form.Marked.{Marked}
+use Rattle.ptb_answers.specs.AnswerText.{spelling}
+
+-- ---- text
+
+-- one space stands in front of each field
+abbrev pub field : List ℕ → List ℕ
+field bytes = codes " " ++ bytes
+
+abbrev pub header : List Marked → List ℕ → ℕ → ℕ → List ℕ
+header items word steps size = codes "RUN " ++ spelling items ++ field word ++ field (decimal steps) ++ field (decimal size) ++ codes "\n"
+
+abbrev pub report_text : List Marked → List ℕ → ℕ → List ℕ → List ℕ
+report_text items word steps shown = header items word steps (length shown) ++ shown ++ codes "\n"
+
+-- ---- writing it in pieces
+
+pub record Gathers (old new : Option (List ℕ)) (bytes pending : List ℕ) : Type 0 where
+  pub front : List ℕ
+  pub whole : bytes ≡ front ++ pending
+  pub growth : Appends old new front

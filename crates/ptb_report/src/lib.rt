@@ -1,0 +1,10 @@
+//! How the report of a run is written: what it took, how it ended, and what it showed.
+//!
+//! It stands on `ptb_answers` for how answers are written, on `ptb_text` for the writer, and on
+//! `arrayvec` and `itoa`. The crate above may rely on `write_report` (the writer takes the text of
+//! `specs/Report`, or a beginning of it where it fails).
+#![tactic(auto)]
+
+mod report;
+
+pub use report::write_report;

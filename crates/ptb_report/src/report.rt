@@ -1,0 +1,176 @@
+// This file writes the report of a run.
+
+ghost use Rattle.std.specs.Prelude.{◌≡◌, ◌==◌, [], ◌++◌, length, OnOk, OnErr, codes, if◌then◌else◌};
+ghost use Rattle.std.specs.Io.KnownBytes.{Appends};
+ghost use Rattle.std.specs.List.{flat_map};
+ghost use Rattle.ptb_text.specs.Device.{TakesSome, HasFailed};
+ghost use Rattle.ptb_answers.specs.AnswerText.{in_form, item_text, items_in, spelling};
+ghost use Rattle.ptb_report.specs.Report.{report_text, Gathers};
+
+use arrayvec::ArrayVec;
+use itoa::Buffer;
+use ptb_answers::{Form, Marked};
+use ptb_text::{DeviceFault, Write};
+
+// Bytes that wait to be written: on the stack, since a report takes no memory.
+type Pending = ArrayVec<u8, 512>;
+
+// Adds bytes to the pending ones. Where they don't fit, those are written first, and bytes that
+// alone are too many are written at once.
+fn put<W: Write>(out: &mut W, pending: &mut Pending, bytes: &[u8]) -> Result<(), DeviceFault>
+    ensures ok { OnOk result (Gathers (W.contents out.old) (W.contents out.new)
+        (pending.old.items ++ bytes.now) pending.new.items) }
+    ensures fault { OnErr result (TakesSome (W.contents out.old) (W.contents out.new)
+        (pending.old.items ++ bytes.now)) }
+    ensures failed { OnErr result (HasFailed (W.failures out.old) (W.failures out.new)) }
+    ensures unfailed { OnOk result (W.failures out.new ≡ W.failures out.old) }
+{
+    if pending.try_extend_from_slice(bytes).is_ok() {
+        return Ok(());
+    }
+    out.write_all(pending.as_slice())?;
+    pending.clear();
+    if pending.try_extend_from_slice(bytes).is_ok() {
+        return Ok(());
+    }
+    out.write_all(bytes)
+}
+
+// Adds the pieces to the pending bytes, one after the other.
+fn put_all<W: Write>(
+    out: &mut W,
+    pending: &mut Pending,
+    pieces: &[&[u8]],
+) -> Result<(), DeviceFault>
+    ensures ok { OnOk result (Gathers (W.contents out.old) (W.contents out.new)
+        (pending.old.items ++ flat_map (λ p. p.now) pieces.now) pending.new.items) }
+    ensures fault { OnErr result (TakesSome (W.contents out.old) (W.contents out.new)
+        (pending.old.items ++ flat_map (λ p. p.now) pieces.now)) }
+    ensures failed { OnErr result (HasFailed (W.failures out.old) (W.failures out.new)) }
+    ensures unfailed { OnOk result (W.failures out.new ≡ W.failures out.old) }
+{
+    for piece in pieces {
+        put(out, pending, piece)?;
+    }
+    Ok(())
+}
+
+// What stands in front of the item at a place.
+fn separator(place: usize) -> &'static [u8]
+    ensures { result.now ≡ (if place == 0 then [] else codes ",") }
+{
+    if place == 0 { b"" } else { b"," }
+}
+
+// Adds an item to the pending bytes, behind a separator.
+fn put_item<W: Write>(
+    out: &mut W,
+    pending: &mut Pending,
+    separator: &[u8],
+    item: Marked,
+) -> Result<(), DeviceFault>
+    ensures ok { OnOk result (Gathers (W.contents out.old) (W.contents out.new)
+        (pending.old.items ++ (separator.now ++ item_text item)) pending.new.items) }
+    ensures fault { OnErr result (TakesSome (W.contents out.old) (W.contents out.new)
+        (pending.old.items ++ (separator.now ++ item_text item))) }
+    ensures failed { OnErr result (HasFailed (W.failures out.old) (W.failures out.new)) }
+    ensures unfailed { OnOk result (W.failures out.new ≡ W.failures out.old) }
+{
+    let (mut answer, mut bound) = (Buffer::new(), Buffer::new());
+    let answer = answer.format(item.answer).as_bytes();
+    match item.bound {
+        None => put_all(out, pending, &[separator, answer]),
+        Some(number) => {
+            let bound = bound.format(number).as_bytes();
+            put_all(out, pending, &[separator, answer, b"/", bound])
+        }
+    }
+}
+
+// An answer as a form has it.
+fn item(form: Form, answer: i16, bound: i16) -> Marked
+    ensures { result ≡ in_form form answer bound }
+{
+    match form {
+        Form::One => Marked {
+            answer,
+            bound: None,
+        },
+        Form::Two => Marked {
+            answer,
+            bound: Some(bound),
+        },
+    }
+}
+
+// Adds the answers to the pending bytes as a form has them, joined by commas.
+fn put_answers<W: Write>(
+    out: &mut W,
+    pending: &mut Pending,
+    form: Form,
+    answers: &[i16],
+    bounds: &[i16],
+) -> Result<(), DeviceFault>
+    requires { length answers.now ≡ length bounds.now }
+    ensures ok { OnOk result (Gathers (W.contents out.old) (W.contents out.new)
+        (pending.old.items ++ spelling (items_in form answers.now bounds.now))
+        pending.new.items) }
+    ensures fault { OnErr result (TakesSome (W.contents out.old) (W.contents out.new)
+        (pending.old.items ++ spelling (items_in form answers.now bounds.now))) }
+    ensures failed { OnErr result (HasFailed (W.failures out.old) (W.failures out.new)) }
+    ensures unfailed { OnOk result (W.failures out.new ≡ W.failures out.old) }
+{
+    if answers.is_empty() {
+        return put(out, pending, b"none");
+    }
+    for k in 0..answers.len() {
+        put_item(
+            out,
+            pending,
+            separator(k),
+            item(form, answers[k], bounds[k]),
+        )?;
+    }
+    Ok(())
+}
+
+/// Writes the report of a run: its answers as the form has them, the word of its ending, its steps,
+/// and what it showed. Each answer has its bound.
+///
+/// It takes no memory, and writes a short report in one piece.
+///
+/// # Errors
+///
+/// [`DeviceFault`] where the writer failed. A beginning of the report may have been taken then.
+pub fn write_report<W: Write>(
+    out: &mut W,
+    form: Form,
+    answers: &[i16],
+    bounds: &[i16],
+    word: &[u8],
+    steps: u32,
+    transcript: &[u8],
+) -> Result<(), DeviceFault>
+    requires { length answers.now ≡ length bounds.now }
+    ensures ok { OnOk result (Appends (W.contents out.old) (W.contents out.new)
+        (report_text (items_in form answers.now bounds.now) word.now steps transcript.now)) }
+    ensures fault { OnErr result (TakesSome (W.contents out.old) (W.contents out.new)
+        (report_text (items_in form answers.now bounds.now) word.now steps transcript.now)) }
+    ensures failed { OnErr result (HasFailed (W.failures out.old) (W.failures out.new)) }
+    ensures unfailed { OnOk result (W.failures out.new ≡ W.failures out.old) }
+{
+    let mut pending = Pending::new();
+    put(out, &mut pending, b"RUN ")?;
+    put_answers(out, &mut pending, form, answers, bounds)?;
+    let (mut counted, mut sized) = (Buffer::new(), Buffer::new());
+    let steps = counted.format(steps).as_bytes();
+    let size = sized.format(transcript.len()).as_bytes();
+    put_all(
+        out,
+        &mut pending,
+        &[
+            b" ", word, b" ", steps, b" ", size, b"\n", transcript, b"\n",
+        ],
+    )?;
+    out.write_all(pending.as_slice())
+}
