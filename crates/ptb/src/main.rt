@@ -82,16 +82,24 @@ fn answer<R: Runtime + AllocGlobal>(rt: &R, matches: &ArgMatches<'_>) -> u8
     requires bound { HasBound (options_of (entries_of matches.now)) }
     ensures { IsAnswerStatus (options_of (entries_of matches.now)) result }
 {
-    let request = match decide(rt.alloc(), matches) {
-        Ok(request) => request,
+    match decide(rt.alloc(), matches) {
+        Ok(request) => serve_request(rt, &request, program_path(matches)),
         Err(fault) => {
             say(rt, fault);
-            return fault.status();
+            fault.status()
         }
-    };
-    match program_path(matches) {
-        Some(path) => serve_file(rt, &request, path),
-        None => serve_standard_input(rt, &request),
+    }
+}
+
+// Serves a request for the program of a file, or of standard input.
+fn serve_request<R: Runtime + AllocGlobal>(rt: &R, request: &Request, path: Option<&str>) -> u8
+    requires memory { IsMemorySize request.now.memory }
+    requires bound { IfSome request.now.rules.choose (λ n. pos 1 ≤ℤ n) }
+    ensures { IsServedStatus request.now.mode result }
+{
+    match path {
+        Some(path) => serve_file(rt, request, path),
+        None => serve_standard_input(rt, request),
     }
 }
 

@@ -9,10 +9,8 @@ ghost use Rattle.ptb_explore.specs.RunTree.{runs_left};
 
 use crate::explorer::Explorer;
 use crate::fault::{ExploreFault, NextFault};
-use crate::report::word;
 use ptb_answers::Form;
 use ptb_machine::run_laws;
-use ptb_report::write_report;
 use ptb_text::Write;
 
 // Writes the report of the next run, and says whether there is one.
@@ -37,20 +35,10 @@ fn write_next<W: Write>(
     match explorer.next() {
         Err(_) => Err(NextFault::Memory),
         Ok(None) => Ok(false),
-        Ok(Some(run)) => {
-            match write_report(
-                writer,
-                form,
-                &run.answers,
-                &run.bounds,
-                word(run.ending),
-                run.steps,
-                &run.transcript,
-            ) {
-                Ok(()) => Ok(true),
-                Err(_) => Err(NextFault::Write),
-            }
-        }
+        Ok(Some(run)) => match run.write(form, writer) {
+            Ok(()) => Ok(true),
+            Err(_) => Err(NextFault::Write),
+        },
     }
 }
 

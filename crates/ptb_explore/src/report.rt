@@ -1,9 +1,16 @@
 // This file has the reports of runs.
 
-ghost use Rattle.std.specs.Prelude.{◌≡◌, []};
+ghost use Rattle.std.specs.Prelude.{◌≡◌, [], length, OnOk, OnErr};
+ghost use Rattle.std.specs.Io.KnownBytes.{Appends};
+ghost use Rattle.ptb_text.specs.Device.{TakesSome, HasFailed};
+ghost use Rattle.ptb_answers.specs.AnswerText.{items_in};
+ghost use Rattle.ptb_report.specs.Report.{report_text};
 ghost use Rattle.ptb_explore.specs.Report.{word_of};
 
+use ptb_answers::Form;
 use ptb_machine::Ending;
+use ptb_report::write_report;
+use ptb_text::{DeviceFault, Write};
 use std::alloc::Global;
 
 /// The report of a run.
@@ -34,10 +41,37 @@ impl Report {
             transcript: Vec::new(alloc),
         }
     }
+
+    /// Writes the report, with its answers as the form has them. Each answer has its bound.
+    ///
+    /// # Errors
+    ///
+    /// [`DeviceFault`] where the writer failed. A beginning of the report may have been taken then.
+    pub(crate) fn write<W: Write>(&self, form: Form, writer: &mut W) -> Result<(), DeviceFault>
+        requires { length self.now.answers.items ≡ length self.now.bounds.items }
+        ensures ok { OnOk result (Appends (W.contents writer.old) (W.contents writer.new)
+            (report_text (items_in form self.now.answers.items self.now.bounds.items)
+            (word_of self.now.ending) self.now.steps self.now.transcript.items)) }
+        ensures fault { OnErr result (TakesSome (W.contents writer.old) (W.contents writer.new)
+            (report_text (items_in form self.now.answers.items self.now.bounds.items)
+            (word_of self.now.ending) self.now.steps self.now.transcript.items)) }
+        ensures failed { OnErr result (HasFailed (W.failures writer.old) (W.failures writer.new)) }
+        ensures unfailed { OnOk result (W.failures writer.new ≡ W.failures writer.old) }
+    {
+        write_report(
+            writer,
+            form,
+            &self.answers,
+            &self.bounds,
+            word(self.ending),
+            self.steps,
+            &self.transcript,
+        )
+    }
 }
 
-/// The word of an ending. The two that no report has are empty.
-pub(crate) fn word(ending: Ending) -> &'static [u8]
+// The word of an ending. The two that no report has are empty.
+fn word(ending: Ending) -> &'static [u8]
     ensures { result.now ≡ word_of ending }
 {
     match ending {

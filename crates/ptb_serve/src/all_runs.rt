@@ -2,14 +2,19 @@
 
 ghost use Rattle.std.specs.Prelude.{◌≡◌, ◌⊎◌, ◌≤ℤ◌, ℕ, pos, true, false, List, [], Option, None, Some};
 ghost use Rattle.std.specs.Prelude.{IfErr, IfOk, IfSome, IsErrOf, OnOk};
+ghost use Rattle.ptb_text.specs.Device.{HasFailed};
 ghost use Rattle.ptb_text.specs.Lines.{input_lines};
 ghost use Rattle.ptb_machine.specs.Play.{play};
+ghost use Rattle.ptb_explore.specs.Exploring.{play_of, most_of};
+ghost use Rattle.ptb_explore.specs.Listing.{WritesRuns};
+ghost use Rattle.ptb_explore.specs.Report.{report};
+ghost use Rattle.ptb_explore.specs.RunTree.{Front, runs_left};
 ghost use Rattle.ptb_options.specs.declared.request.Mode.TheVariants.{All};
 ghost use Rattle.ptb_serve.specs.Loaded.{ReadsInput, ServesProgram, TellsFailures};
 ghost use Rattle.ptb_serve.specs.Replies.{answers_under, first_front, front_note, is_share};
 
 use crate::note::Note;
-use ptb_explore::{Explorer, Form, Marked, write_all_runs};
+use ptb_explore::{ExploreFault, Explorer, Form, Marked, write_all_runs};
 use ptb_machine::{Line, Rules, read_lines};
 use ptb_options::{MarkedAnswers, Request};
 use ptb_text::{Program, Read, Write};
@@ -77,9 +82,29 @@ fn list_runs_on<W: Write>(
     ensures read { ¬ IsErrOf result Note.InputUnread }
     ensures failures { TellsFailures (W.failures out.old) (W.failures out.new) result }
 {
-    let mut explorer = explorer_behind(alloc, program, lines, request.rules, under, after)?;
-    write_all_runs(&mut explorer, first, form, out)?;
+    let explorer = explorer_behind(alloc, program, lines, request.rules, under, after)?;
+    write_reports(explorer, first, form, out)?;
     Ok(0)
+}
+
+// Writes the reports of the runs that an explorer has left, or of the first of them, and drops it.
+fn write_reports<W: Write>(
+    mut explorer: Explorer<'_>,
+    first: Option<u64>,
+    form: Form,
+    out: &mut W,
+) -> Result<u64, ExploreFault>
+    ensures writes { (front : Front) × WritesRuns (play_of explorer.entry) explorer.entry.under
+        (report form (play_of explorer.entry))
+        (runs_left (play_of explorer.entry) (most_of explorer.entry) explorer.entry.under
+        explorer.entry.front first)
+        explorer.entry.front front (W.contents out.old) (W.contents out.new) result }
+    ensures failed { (n : ℕ) → IsErrOf result (ExploreFault.Write n)
+        → HasFailed (W.failures out.old) (W.failures out.new) }
+    ensures unfailed { ((n : ℕ) → ¬ IsErrOf result (ExploreFault.Write n))
+        → W.failures out.new ≡ W.failures out.old }
+{
+    write_all_runs(&mut explorer, first, form, out)
 }
 
 // An explorer of the runs that begin with the answers `under`, or of all: before the first of them, or

@@ -118,17 +118,28 @@ impl From<ExploreFault> for Note {
     }
 }
 
+// Writes why a program's text was refused, and at which line where it is not the text as a whole.
+fn write_refusal<W: fmt::Write>(
+    line: u32,
+    fault: LoadFault,
+    f: &mut fmt::Formatter<W>,
+) -> fmt::Result {
+    if line == 0 {
+        return write!(f, "ptb: {fault}");
+    }
+    write!(f, "ptb: line {line}: {fault}")
+}
+
 impl fmt::Display for Note {
     fn fmt<W: fmt::Write>(&self, f: &mut fmt::Formatter<W>) -> fmt::Result {
-        match self {
-            Note::Load(0, fault) => write!(f, "ptb: {fault}"),
-            Note::Load(line, fault) => write!(f, "ptb: line {line}: {fault}"),
-            Note::ProgramUnread => f.write_str("ptb: cannot read the program"),
-            Note::InputUnread => f.write_str("ptb: cannot read the input"),
-            Note::NoBeginning => f.write_str("ptb: no run begins so"),
-            Note::NoRun => f.write_str("ptb: not a run"),
-            Note::OutOfMemory => f.write_str("ptb: out of memory"),
-            Note::Unwritten => f.write_str("ptb: cannot write"),
-        }
+        f.write_str(match self {
+            Note::Load(line, fault) => return write_refusal(*line, *fault, f),
+            Note::ProgramUnread => "ptb: cannot read the program",
+            Note::InputUnread => "ptb: cannot read the input",
+            Note::NoBeginning => "ptb: no run begins so",
+            Note::NoRun => "ptb: not a run",
+            Note::OutOfMemory => "ptb: out of memory",
+            Note::Unwritten => "ptb: cannot write",
+        })
     }
 }

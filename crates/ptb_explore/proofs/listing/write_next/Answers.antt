@@ -5,13 +5,12 @@ use Rattle.ptb_explore.proofs.Bounds.{length-bounds}
 use Rattle.ptb_explore.specs.Exploring.{Reports, play_of}
 use Rattle.ptb_explore.proofs.listing.write_next.Goals as goal
 
-pub write_report-requires : goal.write_report-requires
-write_report-requires g c =
+pub write-requires : goal.write-requires
+write-requires g c =
     let run = c.in-Ok-Some.run'.now in
     let reports : Reports (play_of c.args.explorer.now) run = rw c.in-Ok-Some.field-0-is at c.in-Ok-Some.ensures.report in
     let their : run.bounds.items ≡ bounds (play_of c.args.explorer.now) run.answers.items = reports.bounds_are in
-    ap length c.deref.ensures.value ∙ sym (length-bounds (play_of c.args.explorer.now) [] run.answers.items) ∙ ap length (sym their)
-    ∙ ap length (sym c.deref-in-Ok-Some.ensures.value)
+    sym (length-bounds (play_of c.args.explorer.now) [] run.answers.items) ∙ ap length (sym their)
 
 pub returns-in-Ok-clause-writes : goal.returns-in-Ok-clause-writes
 returns-in-Ok-clause-writes g c = search rules fits 50 depth 2

@@ -12,25 +12,25 @@ returns-in_err-explorer g c =
     record { serves = told.serves; read = told.read; failures = told.failures }
 
 -- some reports are written
-pub returns-in_err-write_all_runs : goal.returns-in_err-write_all_runs
-returns-in_err-write_all_runs g c =
-    let writes = c.in_err-write_all_runs.ensures in
+pub returns-in_err-write_reports : goal.returns-in_err-write_reports
+returns-in_err-write_reports g c =
+    let writes = c.in_err-write_reports.ensures in
     let told =
     listing_broken c.args.request.now c.args.program.now c.requires.memory c.args.under.now c.args.after.now c.args.first c.args.form c.args.lines.now
-    (g.W.Write.contents c.args.out.now) (g.W.Write.contents c.write_all_runs.new.writer) (g.W.Write.failures c.args.out.now) (g.W.Write.failures c.write_all_runs.new.writer)
-    c.in_ok-explorer.explorer c.write_all_runs.new.explorer.front c.in_ok-explorer.ensures.explorer c.in_ok-explorer.ensures.begun
-    c.from_residual-in_err-write_all_runs.result c.in_err-write_all_runs.field-0.0 c.from_residual-in_err-write_all_runs.ensures.1 writes.writes writes.failed writes.unfailed
+    (g.W.Write.contents c.args.out.now) (g.W.Write.contents c.write_reports.new.out) (g.W.Write.failures c.args.out.now) (g.W.Write.failures c.write_reports.new.out)
+    c.in_ok-explorer.explorer writes.writes.0 c.in_ok-explorer.ensures.explorer c.in_ok-explorer.ensures.begun
+    c.from_residual-in_err-write_reports.result c.in_err-write_reports.field-0.0 c.from_residual-in_err-write_reports.ensures.1 writes.writes.1 writes.failed writes.unfailed
     in
     record { serves = told.serves; read = told.read; failures = told.failures }
 
 -- all are
 pub returns : goal.returns
 returns g c =
-    let writes = c.in_ok-write_all_runs.ensures in
+    let writes = c.in_ok-write_reports.ensures in
     let told =
     listing_written c.args.request.now c.args.program.now c.requires.memory c.args.under.now c.args.after.now c.args.first c.args.form c.args.lines.now
-    (g.W.Write.contents c.args.out.now) (g.W.Write.contents c.write_all_runs.new.writer) (g.W.Write.failures c.args.out.now) (g.W.Write.failures c.write_all_runs.new.writer)
-    c.in_ok-explorer.explorer c.write_all_runs.new.explorer.front c.in_ok-explorer.ensures.explorer c.in_ok-explorer.ensures.begun
-    c.in_ok-write_all_runs.field-0 writes.writes (writes.unfailed (λ n. no_fault _ _))
+    (g.W.Write.contents c.args.out.now) (g.W.Write.contents c.write_reports.new.out) (g.W.Write.failures c.args.out.now) (g.W.Write.failures c.write_reports.new.out)
+    c.in_ok-explorer.explorer writes.writes.0 c.in_ok-explorer.ensures.explorer c.in_ok-explorer.ensures.begun
+    c.in_ok-write_reports.field-0 writes.writes.1 (writes.unfailed (λ n. no_fault _ _))
     in
     record { serves = told.serves; read = told.read; failures = told.failures }
