@@ -1,15 +1,17 @@
 //! Tests of texts and expressions of the language, over their public names: loading, entering and
-//! listing, the cursor, and what an expression comes to.
+//! listing, the cursor, and what an expression comes to; and of reports as they are written.
 //!
-//! It stands on `ptb_words`, `ptb_text` and `ptb_expr`, and on `rand_core` and `rand_pcg` for the words that a
-//! seed draws. No crate stands on it: a crate with tests is proved once more together with them, so
-//! these stand apart from what they test.
+//! It stands on `ptb_words`, `ptb_text`, `ptb_expr` and `ptb_report`, and on `rand_core` and
+//! `rand_pcg` for the words that a seed draws. No crate stands on it: a crate with tests is proved
+//! once more together with them, so these stand apart from what they test.
 #![tactic(auto)]
 
 #[cfg(test)]
 mod cursor;
 #[cfg(test)]
 mod expressions;
+#[cfg(test)]
+mod reports;
 #[cfg(test)]
 mod shared;
 #[cfg(test)]
