@@ -14,24 +14,18 @@ use Rattle.std.proofs.lemmas.Iterator.Consumers.{YieldsList-turn, YieldsList-end
 use Rattle.ptb_answers.specs.AnswerText.{unmarked, without_bound}
 use Rattle.ptb_options.specs.AnswerLists.{IsItem, SpellsItem}
 use Rattle.ptb_options.proofs.AnswerTexts.{list_of_words, one_list_of_answers, word_of_answers, more_words, unmarked-push}
+use Rattle.ptb_options.proofs.ListReturns.{memory_is_bad, none_is_answers, read_is_bad, refused_is_read}
 use Rattle.ptb_options.proofs.answers.parse_answers.Goals as goal
 
 none_is_some : (k : ℤ) → ◌≡◌ {A = Option ℤ} None (Some k) → ⊥
 none_is_some k e = cc
 
-pub returns-in_err-answer-clause-bad : goal.returns-in_err-answer-clause-bad
-returns-in_err-answer-clause-bad c bad a spells =
-    let text = c.args.text.now in
-    let same = c.into_iter-word-iterator.ensures.into_iter_gives in
-    let split = c.split-word-items.ensures in
-    let words = YieldsList-from_str_split 44 text (lit< tt) (ap split_text same ∙ split.text) (ap split_has_more same ∙ split.has_more) (ap split_pattern same ∙ split.pattern) in
-    let turn = YieldsList-turn words c.loop-word.yielded _ c.loop-word.yielded_by _ _ c.in-Some.word c.in-Some.is c.next.ensures.steps in
-    let some : text ≢ codes "none" = λ e.
-    false≢true (sym c.if-eq.false ∙ c.eq.ensures ∙ ap (λ (t : List ℕ). pointwise nat_eq t (codes "none")) e)
-    in
-    let spelled = word_of_answers text a _ c.in-Some.word.now some spells turn.0 turn.1 in
-    let read = c.parse_answer.ensures.only spelled.0 spelled.1 in
-    none_is_some spelled.0 (sym (c.ok_or.ensures.ok_part ∙ ap result_ok c.in_err-answer.was) ∙ read)
+pub returns-then-eq : goal.returns-then-eq
+returns-then-eq c = record {
+  ok = none_is_answers c.args.text.now c.eq.result c.new-answers.result.items c.into.result c.eq.ensures c.if-eq.true c.new-answers.ensures.items c.into.ensures;
+  bad = read_is_bad c.into.result;
+  one = one_list_of_answers c.args.text.now;
+}
 
 pub loop-word-preserved : goal.loop-word-preserved
 loop-word-preserved c =
@@ -44,24 +38,40 @@ loop-word-preserved c =
       each = rw (pushed, unmarked-push) (All-push IsItem (unmarked c.loop-word.answers.items) (without_bound answer) c.loop-word.invariant.each spells.0);
     }
 
-pub returns-clause-ok : goal.returns-clause-ok
-returns-clause-ok c =
-    let text = c.args.text.now in
-    let same = c.into_iter-word-iterator.ensures.into_iter_gives in
-    let split = c.split-word-items.ensures in
-    let words = YieldsList-from_str_split 44 text (lit< tt) (ap split_text same ∙ split.text) (ap split_has_more same ∙ split.has_more) (ap split_pattern same ∙ split.pattern) in
-    let all = YieldsList-end words c.loop-word.yielded _ c.loop-word.yielded_by _ _ c.in-None.is c.next.ensures.steps in
-    rw c.into-2.ensures (list_of_words text (unmarked c.loop-word.answers.items) c.loop-word.invariant.each (sym all.0 ∙ c.loop-word.invariant.words))
+pub returns-in_err-answer : goal.returns-in_err-answer
+returns-in_err-answer c = record {
+  ok = refused_is_read _ c.from_residual.result _ c.from_residual.ensures.1;
+  bad = λ bad a spells.
+      let text = c.args.text.now in
+      let same = c.into_iter-word-iterator.ensures.into_iter_gives in
+      let split = c.split-word-items.ensures in
+      let words = YieldsList-from_str_split 44 text (lit< tt) (ap split_text same ∙ split.text) (ap split_has_more same ∙ split.has_more) (ap split_pattern same ∙ split.pattern) in
+      let turn = YieldsList-turn words c.loop-word.yielded _ c.loop-word.yielded_by _ _ c.in-Some.word c.in-Some.is c.next.ensures.steps in
+      let some : text ≢ codes "none" = λ e.
+      false≢true (sym c.if-eq.false ∙ c.eq.ensures ∙ ap (λ (t : List ℕ). pointwise nat_eq t (codes "none")) e)
+      in
+      let spelled = word_of_answers text a _ c.in-Some.word.now some spells turn.0 turn.1 in
+      let read = c.parse_answer.ensures.only spelled.0 spelled.1 in
+      none_is_some spelled.0 (sym (c.ok_or.ensures.ok_part ∙ ap result_ok c.in_err-answer.was) ∙ read);
+  one = one_list_of_answers c.args.text.now;
+}
 
--- a list is known by its text, whatever is returned
-pub returns-then-eq-clause-one : goal.returns-then-eq-clause-one
-returns-then-eq-clause-one c = one_list_of_answers c.args.text.now
+pub returns-in_err-push : goal.returns-in_err-push
+returns-in_err-push c = record {
+  ok = refused_is_read _ c.from_residual-in_err-push.result _ c.from_residual-in_err-push.ensures.1;
+  bad = memory_is_bad c.from_residual-in_err-push.result c.from_residual-in_err-push.ensures.1;
+  one = one_list_of_answers c.args.text.now;
+}
 
-pub returns-in_err-answer-clause-one : goal.returns-in_err-answer-clause-one
-returns-in_err-answer-clause-one c = one_list_of_answers c.args.text.now
-
-pub returns-in_err-push-clause-one : goal.returns-in_err-push-clause-one
-returns-in_err-push-clause-one c = one_list_of_answers c.args.text.now
-
-pub returns-clause-one : goal.returns-clause-one
-returns-clause-one c = one_list_of_answers c.args.text.now
+pub returns : goal.returns
+returns c = record {
+  ok =
+      let text = c.args.text.now in
+      let same = c.into_iter-word-iterator.ensures.into_iter_gives in
+      let split = c.split-word-items.ensures in
+      let words = YieldsList-from_str_split 44 text (lit< tt) (ap split_text same ∙ split.text) (ap split_has_more same ∙ split.has_more) (ap split_pattern same ∙ split.pattern) in
+      let all = YieldsList-end words c.loop-word.yielded _ c.loop-word.yielded_by _ _ c.in-None.is c.next.ensures.steps in
+      rw c.into-2.ensures (list_of_words text (unmarked c.loop-word.answers.items) c.loop-word.invariant.each (sym all.0 ∙ c.loop-word.invariant.words));
+  bad = read_is_bad c.into-2.result;
+  one = one_list_of_answers c.args.text.now;
+}

@@ -1,0 +1,35 @@
+-- This file proves what the ways out of reading a list tell, from what its reader knows of each step.
+use Rattle.std.proofs.Common.{◌≡◌, ◌∙◌, sym, ℕ, Bool, true, List, [], ℤ, Result, Ok, Err, IfOk, subst}
+use Rattle.std.specs.Prelude.{codes, nat_eq}
+use lib.Pointwise.{pointwise}
+use Rattle.std.specs.Result.{IsErrAnd}
+use Rattle.std.proofs.lemmas.List.Elements.{All-nil}
+use Rattle.std.proofs.lemmas.Slice.Eq.{bytes_eq-Decides}
+use Rattle.ptb_answers.specs.declared.form.Marked.{Marked}
+use Rattle.ptb_options.specs.AnswerLists.{IsItem, SpellsAnswers, SpellsList}
+use Rattle.ptb_options.specs.declared.answers.ListFault.{ListFault}
+use Rattle.ptb_options.specs.declared.answers.ListFault.TheVariants.{Bad, Memory}
+
+-- a list that was read is not refused
+pub read_is_bad : {T X : Type 0} (x : T) → ◌≡◌ {A = Result T ListFault} (Ok x) (Err Bad) → X
+read_is_bad x e = absurd (cc)
+
+-- nor is one refused as bad for want of memory
+pub memory_is_bad : {T X : Type 0} (r : Result T ListFault) → IsErrAnd r (λ y. y ≡ Memory) → r ≡ Err Bad → X
+memory_is_bad (Ok x) is e = absurd is
+memory_is_bad (Err fault) is e = absurd (cc)
+
+-- and a refused one is none
+pub refused_is_read : {T : Type 0} (P : T → Type 0) (r : Result T ListFault) (fault : ListFault) → IsErrAnd r (λ y. y ≡ fault) → IfOk r P
+refused_is_read P (Ok x) fault is = absurd is
+refused_is_read P (Err other) fault is = tt
+
+none_spelled : (text : List ℕ) (same : Bool) → same ≡ pointwise nat_eq text (codes "none") → same ≡ true → SpellsList text []
+none_spelled text same told is = (All-nil IsItem, sym ((bytes_eq-Decides text (codes "none")).0 (sym told ∙ is)))
+
+-- `none` is the empty list
+pub none_is_list : (text : List ℕ) (same : Bool) (items list : List Marked) → same ≡ pointwise nat_eq text (codes "none") → same ≡ true → items ≡ [] → list ≡ items → SpellsList text list
+none_is_list text same items list told is empty made = subst (SpellsList text) (sym (made ∙ empty)) (none_spelled text same told is)
+
+pub none_is_answers : (text : List ℕ) (same : Bool) (items list : List ℤ) → same ≡ pointwise nat_eq text (codes "none") → same ≡ true → items ≡ [] → list ≡ items → SpellsAnswers text list
+none_is_answers text same items list told is empty made = subst (SpellsAnswers text) (sym (made ∙ empty)) (none_spelled text same told is)
