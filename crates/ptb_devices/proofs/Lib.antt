@@ -2,4 +2,5 @@
 pub mod Cutting
 pub mod Reading
 pub mod ReadingOn
+pub mod WholeReading
 pub mod Giving

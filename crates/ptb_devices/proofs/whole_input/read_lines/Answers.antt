@@ -4,7 +4,8 @@ use Rattle.std.proofs.lemmas.List.{take-append-le, length-take-le}
 use Rattle.std.specs.Io.KnownBytes.{IsAtEnd}
 use Rattle.ptb_text.proofs.Counting.{IsCountedUpTo, IsCountedUpTo_more}
 use Rattle.ptb_devices.specs.Cutting.{AddsLines}
-use Rattle.ptb_devices.proofs.Reading.{IsReadUpTo_more, IsReadUpTo_bounded, IsReadUpTo_kept, IsReadUpTo_long, IsReadUpTo_end, no_piece}
+use Rattle.ptb_devices.proofs.Reading.{IsReadUpTo_more, no_piece}
+use Rattle.ptb_devices.proofs.WholeReading.{told_all, told_failed, told_long, told_wanting}
 use Rattle.ptb_devices.proofs.whole_input.read_lines.Goals as goal
 
 pub loop-left-preserved : goal.loop-left-preserved
@@ -30,87 +31,53 @@ pub loop-left-init : goal.loop-left-init
 loop-left-init g c = search rules fits 50 depth 2
 
 pub returns-in_err-count : goal.returns-in_err-count
-returns-in_err-count g c = record {
-  lines = search rules fits 50 depth 2;
-  within = search rules fits 50 depth 2;
-  end = search rules fits 50 depth 2;
-  too_long = search rules fits 50 depth 2;
-  read = search rules fits 50 depth 2;
-  unfailed = search rules fits 50 depth 2;
-  later = search rules fits 50 depth 2;
-  bounded =
-      IsReadUpTo_kept _ _ _ _ _ _ _ c.loop-left.invariant.read c.in_err-count.ensures.bytes;
-  given = search rules fits 50 depth 2;
-  given_ok = search rules fits 50 depth 2;
-  given_too_long = search rules fits 50 depth 2;
-}
+returns-in_err-count g c =
+    let told =
+    told_failed (λ v. v.items) 16777216 (g.R.Read.remaining c.args.reader.now) (g.R.Read.remaining c.loop-left.reader) (g.R.Read.failures c.args.reader.now) (g.R.Read.failures c.loop-left.reader) (g.R.Read.given c.args.reader.now) (g.R.Read.given c.loop-left.reader)
+    c.loop-left.lines.items c.loop-left.cutter c.loop-left.left c.loop-left.invariant.unfailed c.loop-left.invariant.read c.loop-left.invariant.given c.loop-left.invariant.room
+    (g.R.Read.remaining c.read.new.self) (g.R.Read.failures c.read.new.self) (g.R.Read.given c.read.new.self) c.in_err-count.ensures.bytes c.in_err-count.ensures.count c.in_err-count.ensures.given c.from_residual.result c.from_residual.ensures.1
+    in
+    record { lines = told.lines; within = told.within; end = told.end; too_long = told.too_long; read = told.read; unfailed = told.unfailed; later = told.later; bounded = told.bounded; given = told.given; given_ok = told.given_ok; given_too_long = told.given_too_long }
 
 pub returns-in_err-push_last : goal.returns-in_err-push_last
-returns-in_err-push_last g c = record {
-  lines = search rules fits 50 depth 2;
-  within = search rules fits 50 depth 2;
-  end = search rules fits 50 depth 2;
-  too_long = search rules fits 50 depth 2;
-  read = search rules fits 50 depth 2;
-  unfailed = search rules fits 50 depth 2;
-  later = search rules fits 50 depth 2;
-  bounded =
-      IsReadUpTo_bounded _ _ _ _ _ _ _ _ (no_piece c.in_ok-count.count c.read.new.buf c.loop-left.left c.if-count-eq0.true) c.loop-left.invariant.read c.in_ok-count.ensures.bytes.0;
-  given = search rules fits 50 depth 2;
-  given_ok = search rules fits 50 depth 2;
-  given_too_long = search rules fits 50 depth 2;
-}
+returns-in_err-push_last g c =
+    let none : length (take c.in_ok-count.count c.read.new.buf) ≤ c.loop-left.left = no_piece c.in_ok-count.count c.read.new.buf c.loop-left.left c.if-count-eq0.true in
+    let told =
+    told_wanting (λ v. v.items) 16777216 (g.R.Read.remaining c.args.reader.now) (g.R.Read.remaining c.loop-left.reader) (g.R.Read.failures c.args.reader.now) (g.R.Read.failures c.loop-left.reader) (g.R.Read.given c.args.reader.now) (g.R.Read.given c.loop-left.reader)
+    c.loop-left.lines.items c.loop-left.cutter c.loop-left.left c.loop-left.invariant.unfailed c.loop-left.invariant.read c.loop-left.invariant.given c.loop-left.invariant.room
+    (g.R.Read.remaining c.read.new.self) (g.R.Read.failures c.read.new.self) (g.R.Read.given c.read.new.self) c.in_ok-count.count (take c.in_ok-count.count c.read.new.buf) none c.in_ok-count.ensures.bytes.0 c.in_ok-count.ensures.count c.in_ok-count.ensures.given (omega (arith, c.if-count-eq0.true)) c.from_residual-in_err-push_last.result c.from_residual-in_err-push_last.ensures.1
+    in
+    record { lines = told.lines; within = told.within; end = told.end; too_long = told.too_long; read = told.read; unfailed = told.unfailed; later = told.later; bounded = told.bounded; given = told.given; given_ok = told.given_ok; given_too_long = told.given_too_long }
 
 pub returns-then-count-eq0 : goal.returns-then-count-eq0
-returns-then-count-eq0 g c = record {
-  lines =
-      let end : IsAtEnd (g.R.Read.remaining c.read.new.self) = search rules in
-      let inside : c.in_ok-count.count ≤ length c.read.new.buf = search rules in
-      let size : length (take c.in_ok-count.count c.read.new.buf) ≡ 0 = omega (arith, length-take-le c.in_ok-count.count c.read.new.buf inside) in
-      IsReadUpTo_end _ _ _ _ _ _ _ _ _ size c.loop-left.invariant.read c.in_ok-count.ensures.bytes.0 end c.in_ok-push_last.ensures;
-  within = search rules fits 50 depth 2;
-  end = search rules fits 50 depth 2;
-  too_long = search rules fits 50 depth 2;
-  read = search rules fits 50 depth 2;
-  unfailed = search rules fits 50 depth 2;
-  later = search rules fits 50 depth 2;
-  bounded =
-      IsReadUpTo_bounded _ _ _ _ _ _ _ _ (no_piece c.in_ok-count.count c.read.new.buf c.loop-left.left c.if-count-eq0.true) c.loop-left.invariant.read c.in_ok-count.ensures.bytes.0;
-  given = search rules fits 50 depth 2;
-  given_ok = search rules fits 50 depth 2;
-  given_too_long = search rules fits 50 depth 2;
-}
+returns-then-count-eq0 g c =
+    let end : IsAtEnd (g.R.Read.remaining c.read.new.self) = search rules in
+    let inside : c.in_ok-count.count ≤ length c.read.new.buf = search rules in
+    let none : length (take c.in_ok-count.count c.read.new.buf) ≤ c.loop-left.left = no_piece c.in_ok-count.count c.read.new.buf c.loop-left.left c.if-count-eq0.true in
+    let size : length (take c.in_ok-count.count c.read.new.buf) ≡ 0 = omega (arith, length-take-le c.in_ok-count.count c.read.new.buf inside) in
+    let told =
+    told_all (λ v. v.items) 16777216 (g.R.Read.remaining c.args.reader.now) (g.R.Read.remaining c.loop-left.reader) (g.R.Read.failures c.args.reader.now) (g.R.Read.failures c.loop-left.reader) (g.R.Read.given c.args.reader.now) (g.R.Read.given c.loop-left.reader)
+    c.loop-left.lines.items c.loop-left.cutter c.loop-left.left c.loop-left.invariant.unfailed c.loop-left.invariant.read c.loop-left.invariant.given c.loop-left.invariant.room
+    (g.R.Read.remaining c.read.new.self) (g.R.Read.failures c.read.new.self) (g.R.Read.given c.read.new.self) c.in_ok-count.count (take c.in_ok-count.count c.read.new.buf) none c.in_ok-count.ensures.bytes.0 c.in_ok-count.ensures.count c.in_ok-count.ensures.given (omega (arith, c.if-count-eq0.true)) c.if-count-eq0.true size c.loop-left-test.true end c.push_last.new.lines c.in_ok-push_last.ensures
+    in
+    record { lines = told.lines; within = told.within; end = told.end; too_long = told.too_long; read = told.read; unfailed = told.unfailed; later = told.later; bounded = told.bounded; given = told.given; given_ok = told.given_ok; given_too_long = told.given_too_long }
 
 pub returns-in_err-push_whole : goal.returns-in_err-push_whole
-returns-in_err-push_whole g c = record {
-  lines = search rules fits 50 depth 2;
-  within = search rules fits 50 depth 2;
-  end = search rules fits 50 depth 2;
-  too_long = search rules fits 50 depth 2;
-  read = search rules fits 50 depth 2;
-  unfailed = search rules fits 50 depth 2;
-  later = search rules fits 50 depth 2;
-  bounded =
-      let inside : c.in_ok-count.count ≤ length c.read.new.buf = search rules in
-      let fits : c.in_ok-count.count ≤ c.loop-left.left = search rules in
-      let size : length (take c.in_ok-count.count c.read.new.buf) ≤ c.loop-left.left = omega (arith, length-take-le c.in_ok-count.count c.read.new.buf inside) in
-      IsReadUpTo_bounded _ _ _ _ _ _ _ _ size c.loop-left.invariant.read c.in_ok-count.ensures.bytes.0;
-  given = search rules fits 50 depth 2;
-  given_ok = search rules fits 50 depth 2;
-  given_too_long = search rules fits 50 depth 2;
-}
+returns-in_err-push_whole g c =
+    let inside : c.in_ok-count.count ≤ length c.read.new.buf = search rules in
+    let fits : c.in_ok-count.count ≤ c.loop-left.left = search rules in
+    let size : length (take c.in_ok-count.count c.read.new.buf) ≤ c.loop-left.left = omega (arith, length-take-le c.in_ok-count.count c.read.new.buf inside) in
+    let told =
+    told_wanting (λ v. v.items) 16777216 (g.R.Read.remaining c.args.reader.now) (g.R.Read.remaining c.loop-left.reader) (g.R.Read.failures c.args.reader.now) (g.R.Read.failures c.loop-left.reader) (g.R.Read.given c.args.reader.now) (g.R.Read.given c.loop-left.reader)
+    c.loop-left.lines.items c.loop-left.cutter c.loop-left.left c.loop-left.invariant.unfailed c.loop-left.invariant.read c.loop-left.invariant.given c.loop-left.invariant.room
+    (g.R.Read.remaining c.read.new.self) (g.R.Read.failures c.read.new.self) (g.R.Read.given c.read.new.self) c.in_ok-count.count (take c.in_ok-count.count c.read.new.buf) size c.in_ok-count.ensures.bytes.0 c.in_ok-count.ensures.count c.in_ok-count.ensures.given fits c.from_residual-in_err-push_whole.result c.from_residual-in_err-push_whole.ensures.1
+    in
+    record { lines = told.lines; within = told.within; end = told.end; too_long = told.too_long; read = told.read; unfailed = told.unfailed; later = told.later; bounded = told.bounded; given = told.given; given_ok = told.given_ok; given_too_long = told.given_too_long }
 
 pub returns : goal.returns
-returns g c = record {
-  lines = tt;
-  within = tt;
-  end = tt;
-  too_long = λ _. IsReadUpTo_long _ _ _ _ 16777216 _ c.loop-left-test.false c.loop-left.invariant.read;
-  read = search rules fits 50 depth 2;
-  unfailed = search rules fits 50 depth 2;
-  later = search rules fits 50 depth 2;
-  bounded = search rules fits 50 depth 2;
-  given = search rules fits 50 depth 2;
-  given_ok = tt;
-  given_too_long = search rules fits 50 depth 2;
-}
+returns g c =
+    let told =
+    told_long (λ v. v.items) 16777216 (g.R.Read.remaining c.args.reader.now) (g.R.Read.remaining c.loop-left.reader) (g.R.Read.failures c.args.reader.now) (g.R.Read.failures c.loop-left.reader) (g.R.Read.given c.args.reader.now) (g.R.Read.given c.loop-left.reader)
+    c.loop-left.lines.items c.loop-left.cutter c.loop-left.left c.loop-left.invariant.unfailed c.loop-left.invariant.read c.loop-left.invariant.given c.loop-left.invariant.room c.loop-left-test.false
+    in
+    record { lines = told.lines; within = told.within; end = told.end; too_long = told.too_long; read = told.read; unfailed = told.unfailed; later = told.later; bounded = told.bounded; given = told.given; given_ok = told.given_ok; given_too_long = told.given_too_long }
