@@ -1,3 +1,5 @@
 -- This file names the files of lemmas.
 pub mod Seeds
+pub mod Drawing
+pub mod Refusing
 pub mod Readers
