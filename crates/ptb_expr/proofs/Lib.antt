@@ -7,6 +7,7 @@ pub mod Marks
 pub mod Parts
 pub mod Reaching
 pub mod Spelling
+pub mod Steps
 pub mod Taking
 pub mod Uniqueness
 pub mod PlainValues

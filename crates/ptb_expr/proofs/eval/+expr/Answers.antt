@@ -8,10 +8,11 @@ use Rattle.ptb_words.specs.declared.word.Word.TheVariants.{RndKw, AbsKw, SizeKw}
 use Rattle.ptb_words.specs.Words.{token_at, word_at, number_at, is_number, letter_at}
 use Rattle.ptb_words.specs.Finding.{lone_letter_at}
 use Rattle.ptb_expr.specs.Operators.{product_operator, sum_operator, comparison}
-use Rattle.ptb_expr.specs.Store.{element_of}
+use Rattle.ptb_expr.specs.Working.{factor, product, first_product, sum}
 use Rattle.ptb_expr.specs.Value.{negation, absolute_value}
 use Rattle.ptb_expr.proofs.Reaching.{reaches_same, runs_then}
 use Rattle.ptb_expr.proofs.Parts.{part_ok, part_err, operated, applied, marked, valued, stopped, part_ends, part_is, more_ok, more_err, more_how, more_ends, at_text, product_is, sum_is, first_product_minus, first_product_plain, expr_is, compared_goes, compared_ends, at_place, part_faults, within_runs, paren_opens, paren_missing, close_closes, close_missing, factor_rnd, factor_abs, factor_size, factor_plain, factor_letter, factor_number, factor_too_big, plain_letter, plain_element, plain_paren}
+use Rattle.ptb_expr.proofs.Steps.{product_whole, sum_whole, first_stops, first_done, chain_ends, operand_stops, operator_faults, operator_done, left_stops, not_compared, right_stops, compared, minus_stops, minus_done, no_minus, not_opened, inside_stops, not_closed, closed, bound_stops, asked, absolute_stops, absolute_done, no_function, index_stops, element_done}
 use Rattle.ptb_expr.proofs.Taking.{number_alone}
 use Rattle.ptb_expr.proofs.eval.+expr.Goals as goal
 
@@ -30,257 +31,184 @@ pub expr-returns-in_err-x : goal.expr-returns-in_err-x
 expr-returns-in_err-x g m c = record {
   text = c.sum.ensures.text;
   left = c.sum.ensures.left;
-  value = λ t n same enough.
-      let p = err_from_is_err_and c.from_residual.result c.from_residual.ensures.1 in
-      stopped p.1 p.2 (part_err _ _ _ _ _ _ _ _ _ _ _ (reaches_same _ _) (expr_is _ _ _ _) (c.in_err-x.ensures.value t n same enough));
+  value = left_stops _ c.args.store.now c.args.cursor.now c.sum.new.cursor _ _ c.from_residual.result _ c.from_residual.ensures.1 c.in_err-x.ensures.value;
 }
 
 pub expr-returns-in_default : goal.expr-returns-in_default
 expr-returns-in_default g m c = record {
   text = c.take_comparison.ensures.text ∙ c.sum.ensures.text;
   left = search rules fits 50 depth 2;
-  value = λ t n same enough.
-      let ex = to_z-of_z w16 c.in_ok-x.x (search rules) in
-      let none : comparison t c.sum.new.cursor.place ≡ None = at_text (λ u. comparison u c.sum.new.cursor.place) (c.in_ok-x.ensures.text ∙ same) c.in_default.ensures.value in
-      valued ex (part_ends _ _ _ _ _ _ _ _ (part_ok _ _ _ _ _ _ _ _ _ _ (reaches_same _ _) (expr_is _ _ _ _) (c.in_ok-x.ensures.value t n same enough)) (compared_ends _ _ _ _ none) (c.in_default.ensures.absent refl));
+  value = not_compared _ c.args.store.now _ c.args.cursor.now c.sum.new.cursor _ _ c.in_ok-x.x c.in_ok-x.ensures.value c.in_ok-x.ensures.text c.take_comparison.new.cursor _ (to_z-of_z w16 c.in_ok-x.x (search rules)) c.in_default.ensures.value (c.in_default.ensures.absent refl);
 }
 
 pub expr-returns-in_err-y : goal.expr-returns-in_err-y
 expr-returns-in_err-y g m c = record {
   text = c.sum-2.ensures.text ∙ c.take_comparison.ensures.text ∙ c.sum.ensures.text;
   left = left_behind c.sum-2.ensures.left (c.in-Some.ensures.taken refl) c.sum.ensures.left;
-  value = λ t n same enough.
-      let here : comparison t c.sum.new.cursor.place ≡ Some (c.in-Some.op, c.take_comparison.new.cursor.place) = at_text (λ u. comparison u c.sum.new.cursor.place) (c.in_ok-x.ensures.text ∙ same) c.in-Some.ensures.value in
-      let same' : c.take_comparison.new.cursor.text ≡ t = c.in-Some.ensures.text ∙ c.in_ok-x.ensures.text ∙ same in
-      let p = err_from_is_err_and c.from_residual-in_err-y.result c.from_residual-in_err-y.ensures.1 in
-      stopped p.1 p.2 (part_err _ _ _ _ _ _ _ _ _ _ _ (part_ok _ _ _ _ _ _ _ _ _ _ (reaches_same _ _) (expr_is _ _ _ _) (c.in_ok-x.ensures.value t n same enough)) (compared_goes _ _ _ _ _ here) (c.in_err-y.ensures.value t n same' (less_behind (c.in-Some.ensures.taken refl) (le_trans c.in_ok-x.ensures.left enough))));
+  value = right_stops _ c.args.store.now _ c.args.cursor.now c.sum.new.cursor _ _ c.in_ok-x.x c.in_ok-x.ensures.value c.in_ok-x.ensures.text c.in_ok-x.ensures.left
+      c.take_comparison.new.cursor c.in-Some.op c.in-Some.ensures.value c.in-Some.ensures.text (c.in-Some.ensures.taken refl) c.sum-2.new.cursor _ c.from_residual-in_err-y.result _ c.from_residual-in_err-y.ensures.1 c.in_err-y.ensures.value;
 }
 
 pub expr-returns : goal.expr-returns
 expr-returns g m c = record {
   text = c.sum-2.ensures.text ∙ c.take_comparison.ensures.text ∙ c.sum.ensures.text;
   left = left_behind c.sum-2.ensures.left (c.in-Some.ensures.taken refl) c.sum.ensures.left;
-  value = λ t n same enough.
-      let ex = to_z-of_z w16 c.in_ok-x.x (search rules) in
-      let ey = to_z-of_z w16 c.in_ok-y.y (search rules) in
-      let here : comparison t c.sum.new.cursor.place ≡ Some (c.in-Some.op, c.take_comparison.new.cursor.place) = at_text (λ u. comparison u c.sum.new.cursor.place) (c.in_ok-x.ensures.text ∙ same) c.in-Some.ensures.value in
-      let same' : c.take_comparison.new.cursor.text ≡ t = c.in-Some.ensures.text ∙ c.in_ok-x.ensures.text ∙ same in
-      operated _ _ _ _ _ _ _ _ _ _ _ _ _ (part_ok _ _ _ _ _ _ _ _ _ _ (reaches_same _ _) (expr_is _ _ _ _) (c.in_ok-x.ensures.value t n same enough)) (compared_goes _ _ _ _ _ here) (c.in_ok-y.ensures.value t n same' (less_behind (c.in-Some.ensures.taken refl) (le_trans c.in_ok-x.ensures.left enough))) (applied c.in-Some.op c.apply.ensures ex ey) c.place.ensures c.at_mark.ensures;
+  value = compared _ c.args.store.now _ c.args.cursor.now c.sum.new.cursor _ _ c.in_ok-x.x c.in_ok-x.ensures.value c.in_ok-x.ensures.text c.in_ok-x.ensures.left
+      c.take_comparison.new.cursor c.in-Some.op c.in-Some.ensures.value c.in-Some.ensures.text (c.in-Some.ensures.taken refl) c.sum-2.new.cursor _
+      c.in_ok-y.y c.in_ok-y.ensures.value c.apply.result _ _ c.apply.ensures (to_z-of_z w16 c.in_ok-x.x (search rules)) (to_z-of_z w16 c.in_ok-y.y (search rules)) _ c.place.ensures _ c.at_mark.ensures;
 }
 
 pub product-returns-in_err-x : goal.product-returns-in_err-x
 product-returns-in_err-x g m c = record {
   text = c.factor.ensures.text;
   left = c.factor.ensures.left;
-  value = λ t n same enough.
-      let p = err_from_is_err_and c.from_residual.result c.from_residual.ensures.1 in
-      stopped p.1 p.2 (part_err _ _ _ _ _ _ _ _ _ _ _ (reaches_same _ _) (product_is _ _ _ _) (c.in_err-x.ensures.value t n same enough));
+  value = first_stops _ c.args.store.now product factor factor product_operator (product_whole c.args.store.now) c.args.cursor.now c.factor.new.cursor _ _ c.from_residual.result _ c.from_residual.ensures.1 c.in_err-x.ensures.value;
 }
 
 pub product-loop-op-init : goal.product-loop-op-init
 product-loop-op-init g m c = record {
   text = c.in_ok-x.ensures.text;
   fewer = c.in_ok-x.ensures.left;
-  reaches = λ t n same enough.
-      let ex = to_z-of_z w16 c.in_ok-x.x (search rules) in (
-        length t,
-        omega (arith, ap length c.in_ok-x.ensures.text, ap length same),
-        part_ok _ _ _ _ _ _ _ _ _ _ (reaches_same _ _) (product_is _ _ _ _) (valued ex (c.in_ok-x.ensures.value t n same enough)),
-      );
+  reaches = first_done _ c.args.store.now product factor factor product_operator (product_whole c.args.store.now) c.args.cursor.now c.factor.new.cursor _ _ _ c.in_ok-x.x (to_z-of_z w16 c.in_ok-x.x (search rules)) c.in_ok-x.ensures.text c.in_ok-x.ensures.value;
 }
 
 pub product-returns-in_err-y : goal.product-returns-in_err-y
 product-returns-in_err-y g m c = record {
   text = c.factor-in-Some.ensures.text ∙ c.take_product_operator.ensures.text ∙ c.loop-op.invariant.text;
   left = left_behind c.factor-in-Some.ensures.left (c.in-Some.ensures.taken refl) c.loop-op.invariant.fewer;
-  value = λ t n same enough.
-      let i = c.loop-op.invariant.reaches t n same enough in
-      let here : product_operator t c.loop-op.cursor.place ≡ Some (c.in-Some.op, c.take_product_operator.new.cursor.place) = at_text (λ u. product_operator u c.loop-op.cursor.place) (c.loop-op.invariant.text ∙ same) c.in-Some.ensures.value in
-      let same' : c.take_product_operator.new.cursor.text ≡ t = c.in-Some.ensures.text ∙ c.loop-op.invariant.text ∙ same in
-      let p = err_from_is_err_and c.from_residual-in_err-y.result c.from_residual-in_err-y.ensures.1 in
-      stopped p.1 p.2 (more_err _ _ _ _ _ _ _ _ _ _ _ _ _ _ i.1 (some_left (c.in-Some.ensures.taken refl)) i.2 here (c.in_err-y.ensures.value t n same' (less_behind (c.in-Some.ensures.taken refl) (le_trans c.loop-op.invariant.fewer enough))));
+  value = operand_stops _ c.args.store.now product factor factor product_operator (product_whole c.args.store.now)
+      c.args.cursor.now c.loop-op.cursor c.take_product_operator.new.cursor _ _ _ c.in-Some.op c.loop-op.invariant.reaches c.loop-op.invariant.text c.loop-op.invariant.fewer c.in-Some.ensures.value c.in-Some.ensures.text (c.in-Some.ensures.taken refl)
+      c.factor-in-Some.new.cursor _ c.from_residual-in_err-y.result _ c.from_residual-in_err-y.ensures.1 c.in_err-y.ensures.value;
 }
 
 pub product-returns-in_err-x-2 : goal.product-returns-in_err-x-2
 product-returns-in_err-x-2 g m c = record {
   text = c.factor-in-Some.ensures.text ∙ c.take_product_operator.ensures.text ∙ c.loop-op.invariant.text;
   left = left_behind c.factor-in-Some.ensures.left (c.in-Some.ensures.taken refl) c.loop-op.invariant.fewer;
-  value = λ t n same enough.
-      let i = c.loop-op.invariant.reaches t n same enough in
-      let here : product_operator t c.loop-op.cursor.place ≡ Some (c.in-Some.op, c.take_product_operator.new.cursor.place) = at_text (λ u. product_operator u c.loop-op.cursor.place) (c.loop-op.invariant.text ∙ same) c.in-Some.ensures.value in
-      let same' : c.take_product_operator.new.cursor.text ≡ t = c.in-Some.ensures.text ∙ c.loop-op.invariant.text ∙ same in
-      let ey = to_z-of_z w16 c.in_ok-y.y (search rules) in
-      let p = err_from_is_err_and c.from_residual-in_err-x-2.result c.from_residual-in_err-x-2.ensures.1 in
-      stopped p.1 p.2 (more_how _ _ _ _ _ _ _ _ _ _ _ _ _ _ _ i.1 (some_left (c.in-Some.ensures.taken refl)) i.2 here (c.in_ok-y.ensures.value t n same' (less_behind (c.in-Some.ensures.taken refl) (le_trans c.loop-op.invariant.fewer enough))) (marked c.in-Some.op _ _ (applied c.in-Some.op c.apply.ensures refl ey) c.place.ensures c.at_mark.ensures c.in_err-x-2.was));
+  value = operator_faults _ c.args.store.now product factor factor product_operator (product_whole c.args.store.now)
+      c.args.cursor.now c.loop-op.cursor c.take_product_operator.new.cursor _ _ _ c.in-Some.op c.loop-op.invariant.reaches c.loop-op.invariant.text c.loop-op.invariant.fewer c.in-Some.ensures.value c.in-Some.ensures.text (c.in-Some.ensures.taken refl)
+      c.factor-in-Some.new.cursor _ c.in_ok-y.y c.in_ok-y.ensures.value c.apply.result _ c.apply.ensures (to_z-of_z w16 c.in_ok-y.y (search rules)) _ c.place.ensures _ c.at_mark.ensures
+      c.from_residual-in_err-x-2.result _ c.from_residual-in_err-x-2.ensures.1 c.in_err-x-2.was;
 }
 
 pub product-loop-op-preserved : goal.product-loop-op-preserved
 product-loop-op-preserved g m c = record {
   text = c.in_ok-y.ensures.text ∙ c.in-Some.ensures.text ∙ c.loop-op.invariant.text;
   fewer = left_behind c.in_ok-y.ensures.left (c.in-Some.ensures.taken refl) c.loop-op.invariant.fewer;
-  reaches = λ t n same enough.
-      let ex = to_z-of_z w16 c.in_ok-x-2.x (search rules) in
-      let ey = to_z-of_z w16 c.in_ok-y.y (search rules) in
-      let i = c.loop-op.invariant.reaches t n same enough in
-      let here : product_operator t c.loop-op.cursor.place ≡ Some (c.in-Some.op, c.take_product_operator.new.cursor.place) = at_text (λ u. product_operator u c.loop-op.cursor.place) (c.loop-op.invariant.text ∙ same) c.in-Some.ensures.value in
-      let same' : c.take_product_operator.new.cursor.text ≡ t = c.in-Some.ensures.text ∙ c.loop-op.invariant.text ∙ same in
-      more_ok _ _ _ _ _ _ _ _ _ _ _ _ _ _ _ i.1 (lt_of_le_of_lt c.in_ok-y.ensures.left (c.in-Some.ensures.taken refl)) i.2 here (c.in_ok-y.ensures.value t n same' (less_behind (c.in-Some.ensures.taken refl) (le_trans c.loop-op.invariant.fewer enough))) (marked c.in-Some.op _ _ (applied c.in-Some.op c.apply.ensures refl ey) c.place.ensures c.at_mark.ensures (c.in_ok-x-2.was ∙ ap Ok (sym ex)));
+  reaches = operator_done _ c.args.store.now product factor factor product_operator (product_whole c.args.store.now)
+      c.args.cursor.now c.loop-op.cursor c.take_product_operator.new.cursor _ _ _ c.in-Some.op c.loop-op.invariant.reaches c.loop-op.invariant.text c.loop-op.invariant.fewer c.in-Some.ensures.value c.in-Some.ensures.text (c.in-Some.ensures.taken refl)
+      c.factor-in-Some.new.cursor _ c.in_ok-y.y c.in_ok-y.ensures.value c.apply.result _ c.apply.ensures (to_z-of_z w16 c.in_ok-y.y (search rules)) _ c.place.ensures _ c.at_mark.ensures
+      c.in_ok-y.ensures.left _ c.in_ok-x-2.x (to_z-of_z w16 c.in_ok-x-2.x (search rules)) c.in_ok-x-2.was;
 }
 
 pub product-returns : goal.product-returns
 product-returns g m c = record {
   text = c.take_product_operator.ensures.text ∙ c.loop-op.invariant.text;
   left = search rules fits 50 depth 2;
-  value = λ t n same enough.
-      let i = c.loop-op.invariant.reaches t n same enough in
-      let none : product_operator t c.loop-op.cursor.place ≡ None = at_text (λ u. product_operator u c.loop-op.cursor.place) (c.loop-op.invariant.text ∙ same) c.in_default.ensures.value in
-      part_ends _ _ _ _ _ _ _ _ i.2 (more_ends _ _ _ _ none) (c.in_default.ensures.absent refl);
+  value = chain_ends _ c.args.store.now product factor factor product_operator (product_whole c.args.store.now) c.args.cursor.now c.loop-op.cursor c.take_product_operator.new.cursor _ _ _ c.loop-op.invariant.reaches c.loop-op.invariant.text c.in_default.ensures.value (c.in_default.ensures.absent refl);
 }
 
 pub sum-returns-in_err-x : goal.sum-returns-in_err-x
 sum-returns-in_err-x g m c = record {
   text = c.first_product.ensures.text;
   left = c.first_product.ensures.left;
-  value = λ t n same enough.
-      let p = err_from_is_err_and c.from_residual.result c.from_residual.ensures.1 in
-      stopped p.1 p.2 (part_err _ _ _ _ _ _ _ _ _ _ _ (reaches_same _ _) (sum_is _ _ _ _) (c.in_err-x.ensures.value t n same enough));
+  value = first_stops _ c.args.store.now sum first_product product sum_operator (sum_whole c.args.store.now) c.args.cursor.now c.first_product.new.cursor _ _ c.from_residual.result _ c.from_residual.ensures.1 c.in_err-x.ensures.value;
 }
 
 pub sum-loop-op-init : goal.sum-loop-op-init
 sum-loop-op-init g m c = record {
   text = c.in_ok-x.ensures.text;
   fewer = c.in_ok-x.ensures.left;
-  reaches = λ t n same enough.
-      let ex = to_z-of_z w16 c.in_ok-x.x (search rules) in (
-        length t,
-        omega (arith, ap length c.in_ok-x.ensures.text, ap length same),
-        part_ok _ _ _ _ _ _ _ _ _ _ (reaches_same _ _) (sum_is _ _ _ _) (valued ex (c.in_ok-x.ensures.value t n same enough)),
-      );
+  reaches = first_done _ c.args.store.now sum first_product product sum_operator (sum_whole c.args.store.now) c.args.cursor.now c.first_product.new.cursor _ _ _ c.in_ok-x.x (to_z-of_z w16 c.in_ok-x.x (search rules)) c.in_ok-x.ensures.text c.in_ok-x.ensures.value;
 }
 
 pub sum-returns-in_err-y : goal.sum-returns-in_err-y
 sum-returns-in_err-y g m c = record {
   text = c.product.ensures.text ∙ c.take_sum_operator.ensures.text ∙ c.loop-op.invariant.text;
   left = left_behind c.product.ensures.left (c.in-Some.ensures.taken refl) c.loop-op.invariant.fewer;
-  value = λ t n same enough.
-      let i = c.loop-op.invariant.reaches t n same enough in
-      let here : sum_operator t c.loop-op.cursor.place ≡ Some (c.in-Some.op, c.take_sum_operator.new.cursor.place) = at_text (λ u. sum_operator u c.loop-op.cursor.place) (c.loop-op.invariant.text ∙ same) c.in-Some.ensures.value in
-      let same' : c.take_sum_operator.new.cursor.text ≡ t = c.in-Some.ensures.text ∙ c.loop-op.invariant.text ∙ same in
-      let p = err_from_is_err_and c.from_residual-in_err-y.result c.from_residual-in_err-y.ensures.1 in
-      stopped p.1 p.2 (more_err _ _ _ _ _ _ _ _ _ _ _ _ _ _ i.1 (some_left (c.in-Some.ensures.taken refl)) i.2 here (c.in_err-y.ensures.value t n same' (less_behind (c.in-Some.ensures.taken refl) (le_trans c.loop-op.invariant.fewer enough))));
+  value = operand_stops _ c.args.store.now sum first_product product sum_operator (sum_whole c.args.store.now)
+      c.args.cursor.now c.loop-op.cursor c.take_sum_operator.new.cursor _ _ _ c.in-Some.op c.loop-op.invariant.reaches c.loop-op.invariant.text c.loop-op.invariant.fewer c.in-Some.ensures.value c.in-Some.ensures.text (c.in-Some.ensures.taken refl)
+      c.product.new.cursor _ c.from_residual-in_err-y.result _ c.from_residual-in_err-y.ensures.1 c.in_err-y.ensures.value;
 }
 
 pub sum-returns-in_err-x-2 : goal.sum-returns-in_err-x-2
 sum-returns-in_err-x-2 g m c = record {
   text = c.product.ensures.text ∙ c.take_sum_operator.ensures.text ∙ c.loop-op.invariant.text;
   left = left_behind c.product.ensures.left (c.in-Some.ensures.taken refl) c.loop-op.invariant.fewer;
-  value = λ t n same enough.
-      let i = c.loop-op.invariant.reaches t n same enough in
-      let here : sum_operator t c.loop-op.cursor.place ≡ Some (c.in-Some.op, c.take_sum_operator.new.cursor.place) = at_text (λ u. sum_operator u c.loop-op.cursor.place) (c.loop-op.invariant.text ∙ same) c.in-Some.ensures.value in
-      let same' : c.take_sum_operator.new.cursor.text ≡ t = c.in-Some.ensures.text ∙ c.loop-op.invariant.text ∙ same in
-      let ey = to_z-of_z w16 c.in_ok-y.y (search rules) in
-      let p = err_from_is_err_and c.from_residual-in_err-x-2.result c.from_residual-in_err-x-2.ensures.1 in
-      stopped p.1 p.2 (more_how _ _ _ _ _ _ _ _ _ _ _ _ _ _ _ i.1 (some_left (c.in-Some.ensures.taken refl)) i.2 here (c.in_ok-y.ensures.value t n same' (less_behind (c.in-Some.ensures.taken refl) (le_trans c.loop-op.invariant.fewer enough))) (marked c.in-Some.op _ _ (applied c.in-Some.op c.apply.ensures refl ey) c.place.ensures c.at_mark.ensures c.in_err-x-2.was));
+  value = operator_faults _ c.args.store.now sum first_product product sum_operator (sum_whole c.args.store.now)
+      c.args.cursor.now c.loop-op.cursor c.take_sum_operator.new.cursor _ _ _ c.in-Some.op c.loop-op.invariant.reaches c.loop-op.invariant.text c.loop-op.invariant.fewer c.in-Some.ensures.value c.in-Some.ensures.text (c.in-Some.ensures.taken refl)
+      c.product.new.cursor _ c.in_ok-y.y c.in_ok-y.ensures.value c.apply.result _ c.apply.ensures (to_z-of_z w16 c.in_ok-y.y (search rules)) _ c.place.ensures _ c.at_mark.ensures
+      c.from_residual-in_err-x-2.result _ c.from_residual-in_err-x-2.ensures.1 c.in_err-x-2.was;
 }
 
 pub sum-loop-op-preserved : goal.sum-loop-op-preserved
 sum-loop-op-preserved g m c = record {
   text = c.in_ok-y.ensures.text ∙ c.in-Some.ensures.text ∙ c.loop-op.invariant.text;
   fewer = left_behind c.in_ok-y.ensures.left (c.in-Some.ensures.taken refl) c.loop-op.invariant.fewer;
-  reaches = λ t n same enough.
-      let ex = to_z-of_z w16 c.in_ok-x-2.x (search rules) in
-      let ey = to_z-of_z w16 c.in_ok-y.y (search rules) in
-      let i = c.loop-op.invariant.reaches t n same enough in
-      let here : sum_operator t c.loop-op.cursor.place ≡ Some (c.in-Some.op, c.take_sum_operator.new.cursor.place) = at_text (λ u. sum_operator u c.loop-op.cursor.place) (c.loop-op.invariant.text ∙ same) c.in-Some.ensures.value in
-      let same' : c.take_sum_operator.new.cursor.text ≡ t = c.in-Some.ensures.text ∙ c.loop-op.invariant.text ∙ same in
-      more_ok _ _ _ _ _ _ _ _ _ _ _ _ _ _ _ i.1 (lt_of_le_of_lt c.in_ok-y.ensures.left (c.in-Some.ensures.taken refl)) i.2 here (c.in_ok-y.ensures.value t n same' (less_behind (c.in-Some.ensures.taken refl) (le_trans c.loop-op.invariant.fewer enough))) (marked c.in-Some.op _ _ (applied c.in-Some.op c.apply.ensures refl ey) c.place.ensures c.at_mark.ensures (c.in_ok-x-2.was ∙ ap Ok (sym ex)));
+  reaches = operator_done _ c.args.store.now sum first_product product sum_operator (sum_whole c.args.store.now)
+      c.args.cursor.now c.loop-op.cursor c.take_sum_operator.new.cursor _ _ _ c.in-Some.op c.loop-op.invariant.reaches c.loop-op.invariant.text c.loop-op.invariant.fewer c.in-Some.ensures.value c.in-Some.ensures.text (c.in-Some.ensures.taken refl)
+      c.product.new.cursor _ c.in_ok-y.y c.in_ok-y.ensures.value c.apply.result _ c.apply.ensures (to_z-of_z w16 c.in_ok-y.y (search rules)) _ c.place.ensures _ c.at_mark.ensures
+      c.in_ok-y.ensures.left _ c.in_ok-x-2.x (to_z-of_z w16 c.in_ok-x-2.x (search rules)) c.in_ok-x-2.was;
 }
 
 pub sum-returns : goal.sum-returns
 sum-returns g m c = record {
   text = c.take_sum_operator.ensures.text ∙ c.loop-op.invariant.text;
   left = search rules fits 50 depth 2;
-  value = λ t n same enough.
-      let i = c.loop-op.invariant.reaches t n same enough in
-      let none : sum_operator t c.loop-op.cursor.place ≡ None = at_text (λ u. sum_operator u c.loop-op.cursor.place) (c.loop-op.invariant.text ∙ same) c.in_default.ensures.value in
-      part_ends _ _ _ _ _ _ _ _ i.2 (more_ends _ _ _ _ none) (c.in_default.ensures.absent refl);
+  value = chain_ends _ c.args.store.now sum first_product product sum_operator (sum_whole c.args.store.now) c.args.cursor.now c.loop-op.cursor c.take_sum_operator.new.cursor _ _ _ c.loop-op.invariant.reaches c.loop-op.invariant.text c.in_default.ensures.value (c.in_default.ensures.absent refl);
 }
 
 pub first_product-returns-in_err-x : goal.first_product-returns-in_err-x
 first_product-returns-in_err-x g m c = record {
   text = c.product.ensures.text ∙ c.token.ensures.text;
   left = le_trans c.product.ensures.left c.token.ensures.left;
-  value = λ t n same enough.
-      let here : token_at 45 t c.args.cursor.now.place ≡ Some c.token.new.self.place = at_text (λ u. token_at 45 u c.args.cursor.now.place) same c.if-token.ensures.value in
-      let text' : c.token.new.self.text ≡ t = c.if-token.ensures.text ∙ same in
-      let p = err_from_is_err_and c.from_residual.result c.from_residual.ensures.1 in
-      stopped p.1 p.2 (part_err _ _ _ _ _ _ _ _ _ _ _ (reaches_same _ _) (first_product_minus _ _ _ _ _ here) (c.in_err-x.ensures.value t n text' (le_trans c.if-token.ensures.left enough)));
+  value = minus_stops _ c.args.store.now c.args.cursor.now c.token.new.self c.product.new.cursor _ _ c.if-token.ensures.value c.if-token.ensures.text c.if-token.ensures.left c.from_residual.result _ c.from_residual.ensures.1 c.in_err-x.ensures.value;
 }
 
 pub first_product-returns-then-token : goal.first_product-returns-then-token
 first_product-returns-then-token g m c = record {
   text = c.product.ensures.text ∙ c.token.ensures.text;
   left = le_trans c.product.ensures.left c.token.ensures.left;
-  value = λ t n same enough.
-      let ex = to_z-of_z w16 c.in_ok-x.x (search rules) in
-      let here : token_at 45 t c.args.cursor.now.place ≡ Some c.token.new.self.place = at_text (λ u. token_at 45 u c.args.cursor.now.place) same c.if-token.ensures.value in
-      let text' : c.token.new.self.text ≡ t = c.if-token.ensures.text ∙ same in
-      operated _ _ _ _ _ _ _ _ _ _ _ _ _ (reaches_same _ _) (first_product_minus _ _ _ _ _ here) (c.in_ok-x.ensures.value t n text' (le_trans c.if-token.ensures.left enough)) (c.negate.ensures ∙ ap negation ex) c.place.ensures c.at_mark.ensures;
+  value = minus_done _ c.args.store.now c.args.cursor.now c.token.new.self c.product.new.cursor _ _ c.if-token.ensures.value c.if-token.ensures.text c.if-token.ensures.left
+      _ c.in_ok-x.x (to_z-of_z w16 c.in_ok-x.x (search rules)) c.in_ok-x.ensures.value c.negate.result c.negate.ensures _ c.place.ensures _ c.at_mark.ensures;
 }
 
 pub first_product-returns : goal.first_product-returns
 first_product-returns g m c = record {
   text = c.product-2.ensures.text ∙ c.token-2.ensures.text ∙ c.token.ensures.text;
   left = le_trans c.product-2.ensures.left (le_trans c.token-2.ensures.left c.token.ensures.left);
-  value = λ t n same enough.
-      let none : token_at 45 t c.args.cursor.now.place ≡ None = at_text (λ u. token_at 45 u c.args.cursor.now.place) same c.if-token.ensures.value in
-      let text' : c.token.new.self.text ≡ t = c.if-token.ensures.text ∙ same in
-      let place' : c.token.new.self.place ≡ c.args.cursor.now.place = c.if-token.ensures.absent refl in
-      let plus = at_place (λ u i. token_at 43 u i) text' place' c.token-2.ensures.value in
-      part_is _ _ _ _ _ _ _ (first_product_plain _ _ _ _ _ c.token-2.result none plus (λ no. c.token-2.ensures.absent no ∙ place')) (c.product-2.ensures.value t n (c.token-2.ensures.text ∙ text') (le_trans c.token-2.ensures.left (le_trans c.if-token.ensures.left enough)));
+  value = no_minus _ c.args.store.now c.args.cursor.now c.token.new.self c.token-2.new.self c.product-2.new.cursor _ _ c.if-token.ensures.value c.if-token.ensures.text c.if-token.ensures.left (c.if-token.ensures.absent refl)
+      c.token-2.result c.token-2.ensures.value c.token-2.ensures.text c.token-2.ensures.left c.token-2.ensures.absent _ c.product-2.ensures.value;
 }
 
 pub paren-returns-then-not-token : goal.paren-returns-then-not-token
 paren-returns-then-not-token g m c = record {
   text = c.token.ensures.text;
   left = c.token.ensures.left;
-  value = λ t n same enough.
-      let none : token_at 40 t c.args.cursor.now.place ≡ None = at_text (λ u. token_at 40 u c.args.cursor.now.place) same c.if-not-token.ensures.value in
-      part_faults _ _ _ _ _ _ _ _ _ _ (reaches_same _ _) (paren_missing _ _ _ _ none) c.fault_at.ensures (c.place.ensures ∙ c.if-not-token.ensures.absent refl);
+  value = not_opened _ c.args.store.now c.args.cursor.now c.token.new.self _ c.if-not-token.ensures.value _ _ c.fault_at.ensures c.place.ensures (c.if-not-token.ensures.absent refl);
 }
 
 pub paren-returns-in_err-x : goal.paren-returns-in_err-x
 paren-returns-in_err-x g m c = record {
   text = c.expr.ensures.text ∙ c.token.ensures.text;
   left = le_trans c.expr.ensures.left c.token.ensures.left;
-  value = λ t n same enough.
-      let here : token_at 40 t c.args.cursor.now.place ≡ Some c.token.new.self.place = at_text (λ u. token_at 40 u c.args.cursor.now.place) same c.if-not-token.ensures.value in
-      let text' : c.token.new.self.text ≡ t = c.if-not-token.ensures.text ∙ same in
-      let p = err_from_is_err_and c.from_residual.result c.from_residual.ensures.1 in
-      stopped p.1 p.2 (part_err _ _ _ _ _ _ _ _ _ _ _ (reaches_same _ _) (paren_opens _ _ _ _ _ here) (within_runs _ t c.args.store.now n _ _ _ _ _ _ (lt_of_lt_of_le (c.if-not-token.ensures.taken refl) enough) (λ k h. c.in_err-x.ensures.value t k text' h)));
+  value = inside_stops _ c.args.store.now c.args.cursor.now c.token.new.self c.expr.new.cursor _ _ c.if-not-token.ensures.value c.if-not-token.ensures.text (c.if-not-token.ensures.taken refl) c.from_residual.result _ c.from_residual.ensures.1 c.in_err-x.ensures.value;
 }
 
 pub paren-returns-then-not-token-2 : goal.paren-returns-then-not-token-2
 paren-returns-then-not-token-2 g m c = record {
   text = c.token-2.ensures.text ∙ c.expr.ensures.text ∙ c.token.ensures.text;
   left = le_trans c.token-2.ensures.left (le_trans c.expr.ensures.left c.token.ensures.left);
-  value = λ t n same enough.
-      let here : token_at 40 t c.args.cursor.now.place ≡ Some c.token.new.self.place = at_text (λ u. token_at 40 u c.args.cursor.now.place) same c.if-not-token.ensures.value in
-      let text' : c.token.new.self.text ≡ t = c.if-not-token.ensures.text ∙ same in
-      let none : token_at 41 t c.expr.new.cursor.place ≡ None = at_text (λ u. token_at 41 u c.expr.new.cursor.place) (c.in_ok-x.ensures.text ∙ text') c.if-not-token-2.ensures.value in
-      part_faults _ _ _ _ _ _ _ _ _ _ (part_ok _ _ _ _ _ _ _ _ _ _ (reaches_same _ _) (paren_opens _ _ _ _ _ here) (within_runs _ t c.args.store.now n _ _ _ _ _ _ (lt_of_lt_of_le (c.if-not-token.ensures.taken refl) enough) (λ k h. c.in_ok-x.ensures.value t k text' h))) (close_missing _ _ _ _ none) c.fault_at-then-not-token-2.ensures (c.place-then-not-token-2.ensures ∙ c.if-not-token-2.ensures.absent refl);
+  value = not_closed _ c.args.store.now c.args.cursor.now c.token.new.self c.expr.new.cursor _ _ c.if-not-token.ensures.value c.if-not-token.ensures.text (c.if-not-token.ensures.taken refl)
+      c.in_ok-x.x c.in_ok-x.ensures.value c.in_ok-x.ensures.text c.token-2.new.self c.if-not-token-2.ensures.value _ _ c.fault_at-then-not-token-2.ensures c.place-then-not-token-2.ensures (c.if-not-token-2.ensures.absent refl);
 }
 
 pub paren-returns : goal.paren-returns
 paren-returns g m c = record {
   text = c.token-2.ensures.text ∙ c.expr.ensures.text ∙ c.token.ensures.text;
   left = le_trans c.token-2.ensures.left (le_trans c.expr.ensures.left c.token.ensures.left);
-  value = λ t n same enough.
-      let here : token_at 40 t c.args.cursor.now.place ≡ Some c.token.new.self.place = at_text (λ u. token_at 40 u c.args.cursor.now.place) same c.if-not-token.ensures.value in
-      let text' : c.token.new.self.text ≡ t = c.if-not-token.ensures.text ∙ same in
-      let ex = to_z-of_z w16 c.in_ok-x.x (search rules) in
-      let shut : token_at 41 t c.expr.new.cursor.place ≡ Some c.token-2.new.self.place = at_text (λ u. token_at 41 u c.expr.new.cursor.place) (c.in_ok-x.ensures.text ∙ text') c.if-not-token-2.ensures.value in
-      valued ex (part_ends _ _ _ _ _ _ _ _ (part_ok _ _ _ _ _ _ _ _ _ _ (reaches_same _ _) (paren_opens _ _ _ _ _ here) (within_runs _ t c.args.store.now n _ _ _ _ _ _ (lt_of_lt_of_le (c.if-not-token.ensures.taken refl) enough) (λ k h. c.in_ok-x.ensures.value t k text' h))) (close_closes _ _ _ _ _ shut) refl);
+  value = closed _ c.args.store.now c.args.cursor.now c.token.new.self c.expr.new.cursor _ _ c.if-not-token.ensures.value c.if-not-token.ensures.text (c.if-not-token.ensures.taken refl)
+      c.in_ok-x.x c.in_ok-x.ensures.value c.in_ok-x.ensures.text c.token-2.new.self _ (to_z-of_z w16 c.in_ok-x.x (search rules)) c.if-not-token-2.ensures.value;
 }
 
 pub factor-returns-in-Some : goal.factor-returns-in-Some
@@ -332,44 +260,32 @@ pub other_factor-returns-in_err-bound-in-Some-RndKw : goal.other_factor-returns-
 other_factor-returns-in_err-bound-in-Some-RndKw g m c = record {
   text = c.paren.ensures.text ∙ c.take_function.ensures.text;
   left = le_trans c.paren.ensures.left c.take_function.ensures.left;
-  value = λ t n same enough.
-      let here : word_at Functions t c.args.cursor.now.place ≡ Some (RndKw, c.take_function.new.cursor.place) = at_text (λ u. word_at Functions u c.args.cursor.now.place) same (c.in-Some-RndKw.ensures.value ∙ ap (λ w. Some (w, c.take_function.new.cursor.place)) c.in-Some-RndKw.field-0-is) in
-      let text' : c.take_function.new.cursor.text ≡ t = c.in-Some-RndKw.ensures.text ∙ same in
-      let p = err_from_is_err_and c.from_residual.result c.from_residual.ensures.1 in
-      stopped p.1 p.2 (part_err _ _ _ _ _ _ _ _ _ _ _ (reaches_same _ _) (factor_rnd _ _ _ _ _ here) (c.in_err-bound-in-Some-RndKw.ensures.value t n text' (le_trans c.in-Some-RndKw.ensures.left enough)));
+  value = bound_stops _ c.args.store.now c.args.cursor.now c.take_function.new.cursor c.paren.new.cursor _ _ _ c.in-Some-RndKw.ensures.value c.in-Some-RndKw.ensures.text c.in-Some-RndKw.ensures.left c.in-Some-RndKw.field-0-is
+      c.from_residual.result _ c.from_residual.ensures.1 c.in_err-bound-in-Some-RndKw.ensures.value;
 }
 
 pub other_factor-returns-in_err-x-in-Some-AbsKw : goal.other_factor-returns-in_err-x-in-Some-AbsKw
 other_factor-returns-in_err-x-in-Some-AbsKw g m c = record {
   text = c.paren-in-Some-AbsKw.ensures.text ∙ c.take_function.ensures.text;
   left = le_trans c.paren-in-Some-AbsKw.ensures.left c.take_function.ensures.left;
-  value = λ t n same enough.
-      let here : word_at Functions t c.args.cursor.now.place ≡ Some (AbsKw, c.take_function.new.cursor.place) = at_text (λ u. word_at Functions u c.args.cursor.now.place) same (c.in-Some-AbsKw.ensures.value ∙ ap (λ w. Some (w, c.take_function.new.cursor.place)) c.in-Some-AbsKw.field-0-is) in
-      let text' : c.take_function.new.cursor.text ≡ t = c.in-Some-AbsKw.ensures.text ∙ same in
-      let p = err_from_is_err_and c.from_residual-in_err-x-in-Some-AbsKw.result c.from_residual-in_err-x-in-Some-AbsKw.ensures.1 in
-      stopped p.1 p.2 (part_err _ _ _ _ _ _ _ _ _ _ _ (reaches_same _ _) (factor_abs _ _ _ _ _ here) (c.in_err-x-in-Some-AbsKw.ensures.value t n text' (le_trans c.in-Some-AbsKw.ensures.left enough)));
+  value = absolute_stops _ c.args.store.now c.args.cursor.now c.take_function.new.cursor c.paren-in-Some-AbsKw.new.cursor _ _ _ c.in-Some-AbsKw.ensures.value c.in-Some-AbsKw.ensures.text c.in-Some-AbsKw.ensures.left c.in-Some-AbsKw.field-0-is
+      c.from_residual-in_err-x-in-Some-AbsKw.result _ c.from_residual-in_err-x-in-Some-AbsKw.ensures.1 c.in_err-x-in-Some-AbsKw.ensures.value;
 }
 
 pub other_factor-returns-in_ok-bound-in-Some-RndKw : goal.other_factor-returns-in_ok-bound-in-Some-RndKw
 other_factor-returns-in_ok-bound-in-Some-RndKw g m c = record {
   text = c.paren.ensures.text ∙ c.take_function.ensures.text;
   left = le_trans c.paren.ensures.left c.take_function.ensures.left;
-  value = λ t n same enough.
-      let here : word_at Functions t c.args.cursor.now.place ≡ Some (RndKw, c.take_function.new.cursor.place) = at_text (λ u. word_at Functions u c.args.cursor.now.place) same (c.in-Some-RndKw.ensures.value ∙ ap (λ w. Some (w, c.take_function.new.cursor.place)) c.in-Some-RndKw.field-0-is) in
-      let text' : c.take_function.new.cursor.text ≡ t = c.in-Some-RndKw.ensures.text ∙ same in
-      let eb = to_z-of_z w16 c.in_ok-bound-in-Some-RndKw.bound (search rules) in
-      runs_then _ _ _ _ _ _ _ _ (part_ok _ _ _ _ _ _ _ _ _ _ (reaches_same _ _) (factor_rnd _ _ _ _ _ here) (c.in_ok-bound-in-Some-RndKw.ensures.value t n text' (le_trans c.in-Some-RndKw.ensures.left enough))) (rw (eb, c.place.ensures) at c.ask.ensures);
+  value = asked _ c.args.store.now c.args.cursor.now c.take_function.new.cursor c.paren.new.cursor _ _ _ c.in-Some-RndKw.ensures.value c.in-Some-RndKw.ensures.text c.in-Some-RndKw.ensures.left c.in-Some-RndKw.field-0-is
+      _ c.in_ok-bound-in-Some-RndKw.bound _ (to_z-of_z w16 c.in_ok-bound-in-Some-RndKw.bound (search rules)) c.in_ok-bound-in-Some-RndKw.ensures.value _ _ _ c.place.ensures c.ask.ensures;
 }
 
 pub other_factor-returns-in_ok-x-in-Some-AbsKw : goal.other_factor-returns-in_ok-x-in-Some-AbsKw
 other_factor-returns-in_ok-x-in-Some-AbsKw g m c = record {
   text = c.paren-in-Some-AbsKw.ensures.text ∙ c.take_function.ensures.text;
   left = le_trans c.paren-in-Some-AbsKw.ensures.left c.take_function.ensures.left;
-  value = λ t n same enough.
-      let here : word_at Functions t c.args.cursor.now.place ≡ Some (AbsKw, c.take_function.new.cursor.place) = at_text (λ u. word_at Functions u c.args.cursor.now.place) same (c.in-Some-AbsKw.ensures.value ∙ ap (λ w. Some (w, c.take_function.new.cursor.place)) c.in-Some-AbsKw.field-0-is) in
-      let text' : c.take_function.new.cursor.text ≡ t = c.in-Some-AbsKw.ensures.text ∙ same in
-      let ex = to_z-of_z w16 c.in_ok-x-in-Some-AbsKw.x (search rules) in
-      operated _ _ _ _ _ _ _ _ _ _ _ _ _ (reaches_same _ _) (factor_abs _ _ _ _ _ here) (c.in_ok-x-in-Some-AbsKw.ensures.value t n text' (le_trans c.in-Some-AbsKw.ensures.left enough)) (c.absolute.ensures ∙ ap absolute_value ex) c.place-in-Some-AbsKw.ensures c.at_mark.ensures;
+  value = absolute_done _ c.args.store.now c.args.cursor.now c.take_function.new.cursor c.paren-in-Some-AbsKw.new.cursor _ _ _ c.in-Some-AbsKw.ensures.value c.in-Some-AbsKw.ensures.text c.in-Some-AbsKw.ensures.left c.in-Some-AbsKw.field-0-is
+      _ c.in_ok-x-in-Some-AbsKw.x (to_z-of_z w16 c.in_ok-x-in-Some-AbsKw.x (search rules)) c.in_ok-x-in-Some-AbsKw.ensures.value c.absolute.result c.absolute.ensures _ c.place-in-Some-AbsKw.ensures _ c.at_mark.ensures;
 }
 
 pub other_factor-returns-in-Some-SizeKw : goal.other_factor-returns-in-Some-SizeKw
@@ -388,9 +304,7 @@ pub other_factor-returns-in-None : goal.other_factor-returns-in-None
 other_factor-returns-in-None g m c = record {
   text = c.plain.ensures.text ∙ c.take_function.ensures.text;
   left = le_trans c.plain.ensures.left c.take_function.ensures.left;
-  value = λ t n same enough.
-      let none : word_at Functions t c.args.cursor.now.place ≡ None = at_text (λ u. word_at Functions u c.args.cursor.now.place) same c.in-None.ensures.value in
-      part_is _ _ _ _ _ _ _ (factor_plain _ _ _ _ none) (rw (c.in-None.ensures.absent refl) at (c.plain.ensures.value t n (c.in-None.ensures.text ∙ same) (le_trans c.in-None.ensures.left enough)));
+  value = no_function _ c.args.store.now c.args.cursor.now c.take_function.new.cursor c.plain.new.cursor _ _ _ c.in-None.ensures.value c.in-None.ensures.text c.in-None.ensures.left (c.in-None.ensures.absent refl) c.plain.ensures.value;
 }
 
 pub plain-returns-in-Some : goal.plain-returns-in-Some
@@ -407,28 +321,18 @@ pub plain-returns-in_err-i : goal.plain-returns-in_err-i
 plain-returns-in_err-i g m c = record {
   text = c.paren.ensures.text ∙ c.token.ensures.text ∙ c.letter.ensures.text;
   left = le_trans c.paren.ensures.left (le_trans c.token.ensures.left c.letter.ensures.left);
-  value = λ t n same enough.
-      let no = at_text (λ u. letter_at u c.args.cursor.now.place) same c.in_default.ensures.value in
-      let text1 : c.letter.new.self.text ≡ t = c.in_default.ensures.text ∙ same in
-      let place1 : c.letter.new.self.place ≡ c.args.cursor.now.place = c.in_default.ensures.absent refl in
-      let here = at_place (λ u i. token_at 64 u i) text1 place1 c.if-token.ensures.value in
-      let text2 : c.token.new.self.text ≡ t = c.if-token.ensures.text ∙ text1 in
-      let p = err_from_is_err_and c.from_residual.result c.from_residual.ensures.1 in
-      stopped p.1 p.2 (part_err _ _ _ _ _ _ _ _ _ _ _ (reaches_same _ _) (plain_element _ _ _ _ _ no here) (c.in_err-i.ensures.value t n text2 (le_trans c.if-token.ensures.left (le_trans c.in_default.ensures.left enough))));
+  value = index_stops _ c.args.store.now c.args.cursor.now c.letter.new.self c.token.new.self c.paren.new.cursor _ _ c.in_default.ensures.value c.in_default.ensures.text c.in_default.ensures.left (c.in_default.ensures.absent refl)
+      c.if-token.ensures.value c.if-token.ensures.text c.if-token.ensures.left
+      c.from_residual.result _ c.from_residual.ensures.1 c.in_err-i.ensures.value;
 }
 
 pub plain-returns-then-token : goal.plain-returns-then-token
 plain-returns-then-token g m c = record {
   text = c.paren.ensures.text ∙ c.token.ensures.text ∙ c.letter.ensures.text;
   left = le_trans c.paren.ensures.left (le_trans c.token.ensures.left c.letter.ensures.left);
-  value = λ t n same enough.
-      let no = at_text (λ u. letter_at u c.args.cursor.now.place) same c.in_default.ensures.value in
-      let text1 : c.letter.new.self.text ≡ t = c.in_default.ensures.text ∙ same in
-      let place1 : c.letter.new.self.place ≡ c.args.cursor.now.place = c.in_default.ensures.absent refl in
-      let here = at_place (λ u i. token_at 64 u i) text1 place1 c.if-token.ensures.value in
-      let text2 : c.token.new.self.text ≡ t = c.if-token.ensures.text ∙ text1 in
-      let ei = to_z-of_z w16 c.in_ok-i.i (search rules) in
-      operated _ _ _ _ _ _ _ _ _ _ _ _ _ (reaches_same _ _) (plain_element _ _ _ _ _ no here) (c.in_ok-i.ensures.value t n text2 (le_trans c.if-token.ensures.left (le_trans c.in_default.ensures.left enough))) (c.element.ensures ∙ ap (element_of c.args.store.now) ei) c.place.ensures c.at_mark.ensures;
+  value = element_done _ c.args.store.now c.args.cursor.now c.letter.new.self c.token.new.self c.paren.new.cursor _ _ c.in_default.ensures.value c.in_default.ensures.text c.in_default.ensures.left (c.in_default.ensures.absent refl)
+      c.if-token.ensures.value c.if-token.ensures.text c.if-token.ensures.left
+      _ c.in_ok-i.i (to_z-of_z w16 c.in_ok-i.i (search rules)) c.in_ok-i.ensures.value c.element.result c.element.ensures _ c.place.ensures _ c.at_mark.ensures;
 }
 
 pub plain-returns : goal.plain-returns
