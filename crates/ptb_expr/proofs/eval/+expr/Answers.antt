@@ -1,17 +1,15 @@
 -- This file answers what is left to prove of the functions that read an expression.
-use Rattle.std.proofs.Common.{rules, arith, ◌≡◌, ◌≤◌, ◌<◌, ◌∙◌, ℕ, sym, ap, length, Ok, Some, None, refl, le_trans, lt_of_lt_of_le, lt_of_le_of_lt}
+use Rattle.std.proofs.Common.{rules, arith, ◌≡◌, ◌≤◌, ◌<◌, ◌∙◌, ℕ, ap, Some, refl, le_trans}
 use Rattle.std.proofs.lemmas.Int.{to_z-of_z}
-use Rattle.std.proofs.lemmas.Result.{err_from_is_err_and}
 use mir.Syntax.{w16}
 use Rattle.ptb_words.specs.declared.word.Table.TheVariants.{Functions}
-use Rattle.ptb_words.specs.declared.word.Word.TheVariants.{RndKw, AbsKw, SizeKw}
+use Rattle.ptb_words.specs.declared.word.Word.TheVariants.{SizeKw}
 use Rattle.ptb_words.specs.Words.{token_at, word_at, number_at, is_number, letter_at}
 use Rattle.ptb_words.specs.Finding.{lone_letter_at}
-use Rattle.ptb_expr.specs.Operators.{product_operator, sum_operator, comparison}
+use Rattle.ptb_expr.specs.Operators.{product_operator, sum_operator}
 use Rattle.ptb_expr.specs.Working.{factor, product, first_product, sum}
-use Rattle.ptb_expr.specs.Value.{negation, absolute_value}
-use Rattle.ptb_expr.proofs.Reaching.{reaches_same, runs_then}
-use Rattle.ptb_expr.proofs.Parts.{part_ok, part_err, operated, applied, marked, valued, stopped, part_ends, part_is, more_ok, more_err, more_how, more_ends, at_text, product_is, sum_is, first_product_minus, first_product_plain, expr_is, compared_goes, compared_ends, at_place, part_faults, within_runs, paren_opens, paren_missing, close_closes, close_missing, factor_rnd, factor_abs, factor_size, factor_plain, factor_letter, factor_number, factor_too_big, plain_letter, plain_element, plain_paren}
+use Rattle.ptb_expr.proofs.Reaching.{reaches_same}
+use Rattle.ptb_expr.proofs.Parts.{valued, part_ends, part_is, at_text, at_place, part_faults, factor_size, factor_letter, factor_number, factor_too_big, plain_letter, plain_paren}
 use Rattle.ptb_expr.proofs.Steps.{product_whole, sum_whole, first_stops, first_done, chain_ends, operand_stops, operator_faults, operator_done, left_stops, not_compared, right_stops, compared, minus_stops, minus_done, no_minus, not_opened, inside_stops, not_closed, closed, bound_stops, asked, absolute_stops, absolute_done, no_function, index_stops, element_done}
 use Rattle.ptb_expr.proofs.Taking.{number_alone}
 use Rattle.ptb_expr.proofs.eval.+expr.Goals as goal
@@ -43,18 +41,18 @@ expr-returns-in_default g m c = record {
 
 pub expr-returns-in_err-y : goal.expr-returns-in_err-y
 expr-returns-in_err-y g m c = record {
-  text = c.sum-2.ensures.text ∙ c.take_comparison.ensures.text ∙ c.sum.ensures.text;
-  left = left_behind c.sum-2.ensures.left (c.in-Some.ensures.taken refl) c.sum.ensures.left;
+  text = c.in_err-y.ensures.text ∙ c.take_comparison.ensures.text ∙ c.sum.ensures.text;
+  left = left_behind c.in_err-y.ensures.left (c.in-Some.ensures.taken refl) c.sum.ensures.left;
   value = right_stops _ c.args.store.now _ c.args.cursor.now c.sum.new.cursor _ _ c.in_ok-x.x c.in_ok-x.ensures.value c.in_ok-x.ensures.text c.in_ok-x.ensures.left
-      c.take_comparison.new.cursor c.in-Some.op c.in-Some.ensures.value c.in-Some.ensures.text (c.in-Some.ensures.taken refl) c.sum-2.new.cursor _ c.from_residual-in_err-y.result _ c.from_residual-in_err-y.ensures.1 c.in_err-y.ensures.value;
+      c.take_comparison.new.cursor c.in-Some.op c.in-Some.ensures.value c.in-Some.ensures.text (c.in-Some.ensures.taken refl) _ _ c.from_residual-in_err-y.result _ c.from_residual-in_err-y.ensures.1 c.in_err-y.ensures.value;
 }
 
 pub expr-returns : goal.expr-returns
 expr-returns g m c = record {
-  text = c.sum-2.ensures.text ∙ c.take_comparison.ensures.text ∙ c.sum.ensures.text;
-  left = left_behind c.sum-2.ensures.left (c.in-Some.ensures.taken refl) c.sum.ensures.left;
+  text = c.in_ok-y.ensures.text ∙ c.take_comparison.ensures.text ∙ c.sum.ensures.text;
+  left = left_behind c.in_ok-y.ensures.left (c.in-Some.ensures.taken refl) c.sum.ensures.left;
   value = compared _ c.args.store.now _ c.args.cursor.now c.sum.new.cursor _ _ c.in_ok-x.x c.in_ok-x.ensures.value c.in_ok-x.ensures.text c.in_ok-x.ensures.left
-      c.take_comparison.new.cursor c.in-Some.op c.in-Some.ensures.value c.in-Some.ensures.text (c.in-Some.ensures.taken refl) c.sum-2.new.cursor _
+      c.take_comparison.new.cursor c.in-Some.op c.in-Some.ensures.value c.in-Some.ensures.text (c.in-Some.ensures.taken refl) _ _
       c.in_ok-y.y c.in_ok-y.ensures.value c.apply.result _ _ c.apply.ensures (to_z-of_z w16 c.in_ok-x.x (search rules)) (to_z-of_z w16 c.in_ok-y.y (search rules)) _ c.place.ensures _ c.at_mark.ensures;
 }
 
@@ -74,20 +72,20 @@ product-loop-op-init g m c = record {
 
 pub product-returns-in_err-y : goal.product-returns-in_err-y
 product-returns-in_err-y g m c = record {
-  text = c.factor-in-Some.ensures.text ∙ c.take_product_operator.ensures.text ∙ c.loop-op.invariant.text;
-  left = left_behind c.factor-in-Some.ensures.left (c.in-Some.ensures.taken refl) c.loop-op.invariant.fewer;
+  text = c.in_err-y.ensures.text ∙ c.take_product_operator.ensures.text ∙ c.loop-op.invariant.text;
+  left = left_behind c.in_err-y.ensures.left (c.in-Some.ensures.taken refl) c.loop-op.invariant.fewer;
   value = operand_stops _ c.args.store.now product factor factor product_operator (product_whole c.args.store.now)
       c.args.cursor.now c.loop-op.cursor c.take_product_operator.new.cursor _ _ _ c.in-Some.op c.loop-op.invariant.reaches c.loop-op.invariant.text c.loop-op.invariant.fewer c.in-Some.ensures.value c.in-Some.ensures.text (c.in-Some.ensures.taken refl)
-      c.factor-in-Some.new.cursor _ c.from_residual-in_err-y.result _ c.from_residual-in_err-y.ensures.1 c.in_err-y.ensures.value;
+      _ _ c.from_residual-in_err-y.result _ c.from_residual-in_err-y.ensures.1 c.in_err-y.ensures.value;
 }
 
 pub product-returns-in_err-x-2 : goal.product-returns-in_err-x-2
 product-returns-in_err-x-2 g m c = record {
-  text = c.factor-in-Some.ensures.text ∙ c.take_product_operator.ensures.text ∙ c.loop-op.invariant.text;
-  left = left_behind c.factor-in-Some.ensures.left (c.in-Some.ensures.taken refl) c.loop-op.invariant.fewer;
+  text = c.in_ok-y.ensures.text ∙ c.take_product_operator.ensures.text ∙ c.loop-op.invariant.text;
+  left = left_behind c.in_ok-y.ensures.left (c.in-Some.ensures.taken refl) c.loop-op.invariant.fewer;
   value = operator_faults _ c.args.store.now product factor factor product_operator (product_whole c.args.store.now)
       c.args.cursor.now c.loop-op.cursor c.take_product_operator.new.cursor _ _ _ c.in-Some.op c.loop-op.invariant.reaches c.loop-op.invariant.text c.loop-op.invariant.fewer c.in-Some.ensures.value c.in-Some.ensures.text (c.in-Some.ensures.taken refl)
-      c.factor-in-Some.new.cursor _ c.in_ok-y.y c.in_ok-y.ensures.value c.apply.result _ c.apply.ensures (to_z-of_z w16 c.in_ok-y.y (search rules)) _ c.place.ensures _ c.at_mark.ensures
+      _ _ c.in_ok-y.y c.in_ok-y.ensures.value c.apply.result _ c.apply.ensures (to_z-of_z w16 c.in_ok-y.y (search rules)) _ c.place.ensures _ c.at_mark.ensures
       c.from_residual-in_err-x-2.result _ c.from_residual-in_err-x-2.ensures.1 c.in_err-x-2.was;
 }
 
@@ -97,8 +95,8 @@ product-loop-op-preserved g m c = record {
   fewer = left_behind c.in_ok-y.ensures.left (c.in-Some.ensures.taken refl) c.loop-op.invariant.fewer;
   reaches = operator_done _ c.args.store.now product factor factor product_operator (product_whole c.args.store.now)
       c.args.cursor.now c.loop-op.cursor c.take_product_operator.new.cursor _ _ _ c.in-Some.op c.loop-op.invariant.reaches c.loop-op.invariant.text c.loop-op.invariant.fewer c.in-Some.ensures.value c.in-Some.ensures.text (c.in-Some.ensures.taken refl)
-      c.factor-in-Some.new.cursor _ c.in_ok-y.y c.in_ok-y.ensures.value c.apply.result _ c.apply.ensures (to_z-of_z w16 c.in_ok-y.y (search rules)) _ c.place.ensures _ c.at_mark.ensures
-      c.in_ok-y.ensures.left _ c.in_ok-x-2.x (to_z-of_z w16 c.in_ok-x-2.x (search rules)) c.in_ok-x-2.was;
+      _ _ c.in_ok-y.y c.in_ok-y.ensures.value c.apply.result _ c.apply.ensures (to_z-of_z w16 c.in_ok-y.y (search rules)) _ c.place.ensures _ c.at_mark.ensures
+      _ c.in_ok-y.ensures.left _ c.in_ok-x-2.x (to_z-of_z w16 c.in_ok-x-2.x (search rules)) c.in_ok-x-2.was;
 }
 
 pub product-returns : goal.product-returns
@@ -124,20 +122,20 @@ sum-loop-op-init g m c = record {
 
 pub sum-returns-in_err-y : goal.sum-returns-in_err-y
 sum-returns-in_err-y g m c = record {
-  text = c.product.ensures.text ∙ c.take_sum_operator.ensures.text ∙ c.loop-op.invariant.text;
-  left = left_behind c.product.ensures.left (c.in-Some.ensures.taken refl) c.loop-op.invariant.fewer;
+  text = c.in_err-y.ensures.text ∙ c.take_sum_operator.ensures.text ∙ c.loop-op.invariant.text;
+  left = left_behind c.in_err-y.ensures.left (c.in-Some.ensures.taken refl) c.loop-op.invariant.fewer;
   value = operand_stops _ c.args.store.now sum first_product product sum_operator (sum_whole c.args.store.now)
       c.args.cursor.now c.loop-op.cursor c.take_sum_operator.new.cursor _ _ _ c.in-Some.op c.loop-op.invariant.reaches c.loop-op.invariant.text c.loop-op.invariant.fewer c.in-Some.ensures.value c.in-Some.ensures.text (c.in-Some.ensures.taken refl)
-      c.product.new.cursor _ c.from_residual-in_err-y.result _ c.from_residual-in_err-y.ensures.1 c.in_err-y.ensures.value;
+      _ _ c.from_residual-in_err-y.result _ c.from_residual-in_err-y.ensures.1 c.in_err-y.ensures.value;
 }
 
 pub sum-returns-in_err-x-2 : goal.sum-returns-in_err-x-2
 sum-returns-in_err-x-2 g m c = record {
-  text = c.product.ensures.text ∙ c.take_sum_operator.ensures.text ∙ c.loop-op.invariant.text;
-  left = left_behind c.product.ensures.left (c.in-Some.ensures.taken refl) c.loop-op.invariant.fewer;
+  text = c.in_ok-y.ensures.text ∙ c.take_sum_operator.ensures.text ∙ c.loop-op.invariant.text;
+  left = left_behind c.in_ok-y.ensures.left (c.in-Some.ensures.taken refl) c.loop-op.invariant.fewer;
   value = operator_faults _ c.args.store.now sum first_product product sum_operator (sum_whole c.args.store.now)
       c.args.cursor.now c.loop-op.cursor c.take_sum_operator.new.cursor _ _ _ c.in-Some.op c.loop-op.invariant.reaches c.loop-op.invariant.text c.loop-op.invariant.fewer c.in-Some.ensures.value c.in-Some.ensures.text (c.in-Some.ensures.taken refl)
-      c.product.new.cursor _ c.in_ok-y.y c.in_ok-y.ensures.value c.apply.result _ c.apply.ensures (to_z-of_z w16 c.in_ok-y.y (search rules)) _ c.place.ensures _ c.at_mark.ensures
+      _ _ c.in_ok-y.y c.in_ok-y.ensures.value c.apply.result _ c.apply.ensures (to_z-of_z w16 c.in_ok-y.y (search rules)) _ c.place.ensures _ c.at_mark.ensures
       c.from_residual-in_err-x-2.result _ c.from_residual-in_err-x-2.ensures.1 c.in_err-x-2.was;
 }
 
@@ -147,8 +145,8 @@ sum-loop-op-preserved g m c = record {
   fewer = left_behind c.in_ok-y.ensures.left (c.in-Some.ensures.taken refl) c.loop-op.invariant.fewer;
   reaches = operator_done _ c.args.store.now sum first_product product sum_operator (sum_whole c.args.store.now)
       c.args.cursor.now c.loop-op.cursor c.take_sum_operator.new.cursor _ _ _ c.in-Some.op c.loop-op.invariant.reaches c.loop-op.invariant.text c.loop-op.invariant.fewer c.in-Some.ensures.value c.in-Some.ensures.text (c.in-Some.ensures.taken refl)
-      c.product.new.cursor _ c.in_ok-y.y c.in_ok-y.ensures.value c.apply.result _ c.apply.ensures (to_z-of_z w16 c.in_ok-y.y (search rules)) _ c.place.ensures _ c.at_mark.ensures
-      c.in_ok-y.ensures.left _ c.in_ok-x-2.x (to_z-of_z w16 c.in_ok-x-2.x (search rules)) c.in_ok-x-2.was;
+      _ _ c.in_ok-y.y c.in_ok-y.ensures.value c.apply.result _ c.apply.ensures (to_z-of_z w16 c.in_ok-y.y (search rules)) _ c.place.ensures _ c.at_mark.ensures
+      _ c.in_ok-y.ensures.left _ c.in_ok-x-2.x (to_z-of_z w16 c.in_ok-x-2.x (search rules)) c.in_ok-x-2.was;
 }
 
 pub sum-returns : goal.sum-returns
@@ -160,16 +158,16 @@ sum-returns g m c = record {
 
 pub first_product-returns-in_err-x : goal.first_product-returns-in_err-x
 first_product-returns-in_err-x g m c = record {
-  text = c.product.ensures.text ∙ c.token.ensures.text;
-  left = le_trans c.product.ensures.left c.token.ensures.left;
-  value = minus_stops _ c.args.store.now c.args.cursor.now c.token.new.self c.product.new.cursor _ _ c.if-token.ensures.value c.if-token.ensures.text c.if-token.ensures.left c.from_residual.result _ c.from_residual.ensures.1 c.in_err-x.ensures.value;
+  text = c.in_err-x.ensures.text ∙ c.token.ensures.text;
+  left = le_trans c.in_err-x.ensures.left c.token.ensures.left;
+  value = minus_stops _ c.args.store.now c.args.cursor.now c.token.new.self _ _ _ c.if-token.ensures.value c.if-token.ensures.text c.if-token.ensures.left c.from_residual.result _ c.from_residual.ensures.1 c.in_err-x.ensures.value;
 }
 
 pub first_product-returns-then-token : goal.first_product-returns-then-token
 first_product-returns-then-token g m c = record {
-  text = c.product.ensures.text ∙ c.token.ensures.text;
-  left = le_trans c.product.ensures.left c.token.ensures.left;
-  value = minus_done _ c.args.store.now c.args.cursor.now c.token.new.self c.product.new.cursor _ _ c.if-token.ensures.value c.if-token.ensures.text c.if-token.ensures.left
+  text = c.in_ok-x.ensures.text ∙ c.token.ensures.text;
+  left = le_trans c.in_ok-x.ensures.left c.token.ensures.left;
+  value = minus_done _ c.args.store.now c.args.cursor.now c.token.new.self _ _ _ c.if-token.ensures.value c.if-token.ensures.text c.if-token.ensures.left
       _ c.in_ok-x.x (to_z-of_z w16 c.in_ok-x.x (search rules)) c.in_ok-x.ensures.value c.negate.result c.negate.ensures _ c.place.ensures _ c.at_mark.ensures;
 }
 
