@@ -8,9 +8,16 @@ use std::process::Abort;
 
 // What is to be reported of a run: its answers, their bounds, the word of its ending, how many
 // commands it began, and what it showed.
-type Reported = (&'static [i16], &'static [i16], &'static str, u32, &'static [u8]);
+type Reported = (
+    &'static [i16],
+    &'static [i16],
+    &'static str,
+    u32,
+    &'static [u8],
+);
 
 const NOTHING: Reported = (&[], &[], "END", 2, b"");
+
 const TWO_ANSWERS: Reported = (&[2, 1], &[2, 32767], "STOP", 4_294_967_295, b"     1\n");
 
 // More than is gathered before anything is written.
@@ -64,7 +71,10 @@ fn reports_are_written(rt: HostRuntime) {
 fn reports_without_room(rt: HostRuntime) {
     for &(form, run, due) in REPORTS {
         let mut room = [b'.'; 17];
-        let found = (write(&mut room, form, run), due.as_bytes().starts_with(&room));
+        let found = (
+            write(&mut room, form, run),
+            due.as_bytes().starts_with(&room),
+        );
         expect_same(&rt, due, found, (Err(DeviceFault), true));
     }
 }
@@ -77,5 +87,10 @@ fn long_reports_are_written(rt: HostRuntime) {
     let (header, behind) = (&room[..20], &room[20..]);
     let shown = behind.iter().take(600).all(|b| *b == b'A');
     let found = (done, header, shown, holds(&room[620..], b"\n"));
-    expect_same(&rt, "long", found, (Ok(()), &b"RUN 1/1 LIMIT 0 600\n"[..], true, true));
+    expect_same(
+        &rt,
+        "long",
+        found,
+        (Ok(()), &b"RUN 1/1 LIMIT 0 600\n"[..], true, true),
+    );
 }
