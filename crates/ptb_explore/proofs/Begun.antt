@@ -1,6 +1,5 @@
 -- This file proves what is known of an explorer of the runs that begin with a list, from what is known of each step.
-use Rattle.std.proofs.Common.{◌≡◌, ◌∙◌, ap, sym, subst, ℕ, ◌≤◌, List, [], length, take, Bool, true, false, arith}
-use Rattle.std.proofs.lemmas.List.{length-map}
+use Rattle.std.proofs.Common.{◌≡◌, ◌∙◌, ap, sym, subst, ℕ, List, [], length, take, Bool, true, false}
 use Rattle.std.specs.Prelude.{ℤ}
 use Rattle.ptb_answers.specs.AnswerText.{answers_of}
 use Rattle.ptb_answers.specs.declared.form.Marked.{Marked}
@@ -13,37 +12,20 @@ use Rattle.ptb_explore.specs.MarkedRuns.{states_bounds, IsMarkedBeginning}
 use Rattle.ptb_explore.specs.RunTree.{Start, IsNextRun}
 use Rattle.ptb_explore.proofs.Stated.{states_begun}
 
--- The player plays the program p, and the plan is the answers of the list.
-module _ (p : StoredProgram) (input : List (List ℕ)) (rules : Rules) (list : List Marked) (player : StoredProgram) (plays : player ≡ p) (plan : Answers) (is : plan ≡ answers_of list) where
-  pub list_opens : is_open (play player input rules plan) ≡ true → is_open (play p input rules (answers_of list)) ≡ true
-  list_opens h =
-      subst (λ (q : StoredProgram). is_open (play q input rules (answers_of list)) ≡ true) plays
-      (subst (λ (a : Answers). is_open (play player input rules a) ≡ true) is h)
+-- The plan is the answers of the list.
+module _ (p : StoredProgram) (input : List (List ℕ)) (rules : Rules) (list : List Marked) (plan : Answers) (is : plan ≡ answers_of list) where
+  pub list_opens : is_open (play p input rules plan) ≡ true → is_open (play p input rules (answers_of list)) ≡ true
+  list_opens h = subst (λ (a : Answers). is_open (play p input rules a) ≡ true) is h
 
   -- no run begins with them
-  pub none_begun : {P : Type 0} → (is_open (play player input rules plan) ≡ true → P) → IsMarkedBeginning (play p input rules) list → P
-  none_begun f beginning =
-      f (subst (λ (a : Answers). is_open (play player input rules a) ≡ true) (sym is)
-      (subst (λ (q : StoredProgram). is_open (play q input rules (answers_of list)) ≡ true) (sym plays) beginning.0))
-
-  pub begun_played : (n : ℕ) → ((a : Answers) → IsNextRun (play player input rules) plan Start a → IsPlayed (play player input rules) a n) → (m : ℕ) → m ≡ n → (a : Answers) → IsNextRun (play p input rules) (answers_of list) Start a → IsPlayed (play p input rules) a m
-  begun_played n h m same =
-      subst (λ (i : ℕ). (a : Answers) → IsNextRun (play p input rules) (answers_of list) Start a → IsPlayed (play p input rules) a i) (sym same)
-      (subst (λ (q : StoredProgram). (a : Answers) → IsNextRun (play q input rules) (answers_of list) Start a → IsPlayed (play q input rules) a n) plays
-      (subst (λ (b : Answers). (a : Answers) → IsNextRun (play player input rules) b Start a → IsPlayed (play player input rules) a n) is h))
+  pub none_begun : {P : Type 0} → (is_open (play p input rules plan) ≡ true → P) → IsMarkedBeginning (play p input rules) list → P
+  none_begun f beginning = f (subst (λ (a : Answers). is_open (play p input rules a) ≡ true) (sym is) beginning.0)
 
   -- bounds of the plan and of what stands behind it
   module _ (given : List ℤ) (seen : List ℤ) (same : seen ≡ given) where
-    pub begun_within : length plan ≤ length given → length list ≤ length seen
-    begun_within few =
-        let n : length plan ≡ length list = ap length is ∙ length-map list (λ (m : Marked). m.answer) in
-        omega (arith, ap length same)
-
-    module _ (front : take (length plan) given ≡ bounds (play player input rules) plan) (states : Bool) (says : states ≡ states_bounds list seen) where
+    module _ (front : take (length plan) given ≡ bounds (play p input rules) plan) (states : Bool) (says : states ≡ states_bounds list seen) where
       states_same : states ≡ states_bounds list (bounds (play p input rules) (answers_of list))
-      states_same =
-          says ∙ ap (states_bounds list) same
-          ∙ states_begun list plan given _ is (front ∙ ap (λ (q : StoredProgram). bounds (play q input rules) plan) plays ∙ ap (bounds (play p input rules)) is)
+      states_same = says ∙ ap (states_bounds list) same ∙ states_begun list plan given _ is (front ∙ ap (bounds (play p input rules)) is)
 
       pub begun_stated : states ≡ true → states_bounds list (bounds (play p input rules) (answers_of list)) ≡ true
       begun_stated right = sym states_same ∙ right
@@ -52,6 +34,21 @@ module _ (p : StoredProgram) (input : List (List ℕ)) (rules : Rules) (list : L
       begun_unstated wrong beginning =
           let x : states ≡ true = states_same ∙ beginning.1 in
           absurd cc
+
+-- The player plays the program p.
+module _ (p : StoredProgram) (input : List (List ℕ)) (rules : Rules) (list : List Marked) (player : StoredProgram) (plays : player ≡ p) where
+  pub beginning_played : IsMarkedBeginning (play player input rules) list → IsMarkedBeginning (play p input rules) list
+  beginning_played h = subst (λ (q : StoredProgram). IsMarkedBeginning (play q input rules) list) plays h
+
+  pub beginning_back : IsMarkedBeginning (play p input rules) list → IsMarkedBeginning (play player input rules) list
+  beginning_back h = subst (λ (q : StoredProgram). IsMarkedBeginning (play q input rules) list) (sym plays) h
+
+  pub begun_played : (plan : Answers) → plan ≡ answers_of list → (n : ℕ) → ((a : Answers) → IsNextRun (play player input rules) plan Start a → IsPlayed (play player input rules) a n) → (m : ℕ) → m ≡ n
+      → (a : Answers) → IsNextRun (play p input rules) (answers_of list) Start a → IsPlayed (play p input rules) a m
+  begun_played plan is n h m same =
+      subst (λ (i : ℕ). (a : Answers) → IsNextRun (play p input rules) (answers_of list) Start a → IsPlayed (play p input rules) a i) (sym same)
+      (subst (λ (q : StoredProgram). (a : Answers) → IsNextRun (play q input rules) (answers_of list) Start a → IsPlayed (play q input rules) a n) plays
+      (subst (λ (b : Answers). (a : Answers) → IsNextRun (play player input rules) b Start a → IsPlayed (play player input rules) a n) is h))
 
 -- what the explorer is
 pub begun_view : (p : StoredProgram) (input : List (List ℕ)) (rules : Rules) (list : List Marked) (player : StoredProgram) (plays : player ≡ p) (there : StoredProgram) (still : there ≡ player) (under : Answers) (is : under ≡ answers_of list) (n : ℕ) (e : Exploration)

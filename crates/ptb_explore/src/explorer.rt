@@ -1,6 +1,6 @@
 // This file has the explorer, which finds all runs of a program.
 
-ghost use Rattle.std.specs.Prelude.{◌≡◌, ◌≤◌, ◌≤ℤ◌, pos, true, false, Ok, None, [], length, take, drop};
+ghost use Rattle.std.specs.Prelude.{◌≡◌, ◌≤◌, ◌≤ℤ◌, pos, true, false, Ok, None, [], length, drop};
 ghost use Rattle.std.specs.Prelude.{IfOk, OnOk, OnErr, IfSome, IfNone, IsErrOf, IsTrue};
 ghost use Rattle.ptb_answers.specs.Outcome.{Answers, is_open, bounds as bounds_of};
 ghost use Rattle.ptb_machine.specs.Play.{play};
@@ -186,75 +186,86 @@ fn report_next(
     }
 }
 
-// Plays the answers of a trial, and says whether they are a run.
+// Plays the answers of a trial, and makes the report of their run, but for its ending, if they are
+// a run, of whose first questions these bounds are stated.
 fn check_run(
     alloc: Global,
     player: &mut Player,
     lines: &[Line],
     rules: Rules,
+    stated: &[Marked],
     trial: &mut Recorder,
-    screen: &mut TextScreen,
+    run: &mut Report,
     copies: &mut Copies,
-    played: &mut u64,
 ) -> Result<(), AfterFault>
     requires choose { IfSome rules.choose (λ n. pos 1 ≤ℤ n) }
+    requires within { length stated.now ≤ length trial.old.answers.items }
     requires fresh { IsFresh trial.old }
-    requires shown { screen.old ≡ [] }
     requires none { copies.old.kept.items ≡ [] }
     ensures program { player.new ≡ player.old }
     ensures run { OnOk result (IsRun (play player.old lines.now rules) trial.old.answers.items) }
-    ensures answers { OnOk result (trial.new.answers.items ≡ trial.old.answers.items) }
-    ensures bounds { OnOk result (trial.new.bounds.items
+    ensures stated { OnOk result (states_bounds stated.now
+        (bounds_of (play player.old lines.now rules) trial.old.answers.items) ≡ true) }
+    ensures answers { OnOk result (run.new.answers.items ≡ trial.old.answers.items) }
+    ensures bounds { OnOk result (run.new.bounds.items
         ≡ bounds_of (play player.old lines.now rules) trial.old.answers.items) }
     ensures copies { OnOk result (AreCopies player.old lines.now rules trial.old.answers.items
-        screen.new copies.new.kept.items) }
+        run.new.transcript.items copies.new.kept.items) }
     ensures played { OnOk result (IsPlayed (play player.old lines.now rules)
-        trial.old.answers.items played.new) }
+        trial.old.answers.items run.new.steps) }
     ensures not_a_run { IsErrOf result AfterFault.NotARun
-        → IsRun (play player.old lines.now rules) trial.old.answers.items → ⊥ }
+        → IsRun (play player.old lines.now rules) trial.old.answers.items
+        → states_bounds stated.now
+        (bounds_of (play player.old lines.now rules) trial.old.answers.items) ≡ true → ⊥ }
 {
     run_laws();
     let planned = trial.answers.len();
-    let steps = play_from_start(alloc, player, lines, rules, trial, screen, copies)?;
-    *played = u64::from(steps);
+    let mut screen = TextScreen::new(alloc);
+    let steps = play_from_start(alloc, player, lines, rules, trial, &mut screen, copies);
+    run.transcript = screen.into_vec();
+    run.steps = steps?;
     // An answer outside its bound isn't taken, so fewer are taken than planned where there is one.
-    if trial.bounds.len() == planned && trial.answers.len() == planned {
+    if trial.bounds.len() == planned
+        && trial.answers.len() == planned
+        && states_bounds(stated, &trial.bounds)
+    {
+        trial.hand_over(&mut run.answers, &mut run.bounds);
         Ok(())
     } else {
         Err(AfterFault::NotARun)
     }
 }
 
-// Plays the answers of a trial and then ones, and gives the number of steps if all of them are taken:
-// a run begins with them then.
+// Plays the answers of a list and then ones, and gives the number of steps if all of them are taken
+// and each bound that is stated is that of the question: a run begins with the list then.
 fn check_beginning(
     alloc: Global,
     player: &mut Player,
     lines: &[Line],
     rules: Rules,
+    list: &[Marked],
+    answers: &[i16],
     trial: &mut Recorder,
 ) -> Result<u64, UnderFault>
     requires choose { IfSome rules.choose (λ n. pos 1 ≤ℤ n) }
-    requires fresh { IsFresh trial.old }
+    requires answers { answers.now ≡ answers_of list.now }
     ensures program { player.new ≡ player.old }
-    ensures opens { OnOk result
-        (is_open (play player.old lines.now rules trial.old.answers.items) ≡ true) }
-    ensures few { OnOk result (length trial.old.answers.items ≤ length trial.new.bounds.items) }
-    ensures bounds { OnOk result
-        (take (length trial.old.answers.items) trial.new.bounds.items
-        ≡ bounds_of (play player.old lines.now rules) trial.old.answers.items) }
+    ensures beginning { OnOk result
+        (IsMarkedBeginning (play player.old lines.now rules) list.now) }
     ensures played { IfOk result (λ n. (a : Answers)
-        → IsNextRun (play player.old lines.now rules) trial.old.answers.items Start a
+        → IsNextRun (play player.old lines.now rules) answers.now Start a
         → IsPlayed (play player.old lines.now rules) a n) }
     ensures no_beginning { IsErrOf result UnderFault.NoBeginning
-        → is_open (play player.old lines.now rules trial.old.answers.items) ≡ true → ⊥ }
+        → IsMarkedBeginning (play player.old lines.now rules) list.now → ⊥ }
 {
     run_laws();
-    let planned = trial.answers.len();
-    let mut screen = TextScreen::new(alloc);
-    let mut copies = Copies::new();
-    let steps = play_from_start(alloc, player, lines, rules, trial, &mut screen, &mut copies)?;
-    if trial.bounds.len() >= planned {
+    trial.replay(answers)?;
+    let steps = {
+        let mut screen = TextScreen::new(alloc);
+        let mut copies = Copies::new();
+        play_from_start(alloc, player, lines, rules, trial, &mut screen, &mut copies)
+    }?;
+    if trial.bounds.len() >= answers.len() && states_bounds(list, &trial.bounds) {
         Ok(u64::from(steps))
     } else {
         Err(UnderFault::NoBeginning)
@@ -506,13 +517,9 @@ impl<'a> Explorer<'a> {
     {
         run_laws();
         let under = answers_of(alloc, list)?;
-        let mut trial = Recorder::new(alloc);
-        trial.replay(&under)?;
         let mut player = Player::new(alloc, program)?;
-        let played = check_beginning(alloc, &mut player, lines, rules, &mut trial)?;
-        if !states_bounds(list, &trial.bounds) {
-            return Err(UnderFault::NoBeginning);
-        }
+        let mut trial = Recorder::new(alloc);
+        let played = check_beginning(alloc, &mut player, lines, rules, list, &under, &mut trial)?;
         Ok(Explorer::at_start(alloc, player, lines, rules, under, trial, played))
     }
 
@@ -604,25 +611,19 @@ impl<'a> Explorer<'a> {
             return Err(AfterFault::NotARun);
         }
         let mut player = Player::new(alloc, program)?;
-        let mut screen = TextScreen::new(alloc);
+        let mut run = Report::new(alloc);
         let mut copies = Copies::new();
-        let mut played = 0;
         check_run(
             alloc,
             &mut player,
             lines,
             rules,
+            stated,
             &mut trial,
-            &mut screen,
+            &mut run,
             &mut copies,
-            &mut played,
         )?;
-        if !states_bounds(stated, &trial.bounds) {
-            return Err(AfterFault::NotARun);
-        }
-        let mut run = Report::new(alloc);
-        run.transcript = screen.into_vec();
-        trial.hand_over(&mut run.answers, &mut run.bounds);
+        let played = u64::from(run.steps);
         Ok(Explorer {
             player,
             lines,

@@ -3,19 +3,14 @@ use Rattle.std.proofs.Common.{◌≡◌, true, rules}
 use Rattle.std.proofs.lemmas.Result.{IfOk-from_err}
 use Rattle.ptb_explore.specs.RunTree.{begins_with}
 use Rattle.ptb_explore.proofs.Exits.{ok_no_err, memory_no_run, same_no_run}
-use Rattle.ptb_explore.proofs.Planned.{wrong_says, planned_run, planned_played, no_run_played, planned_within, planned_stated, planned_unstated, planned_invariant, planned_view, planned_kept}
+use Rattle.ptb_explore.proofs.Planned.{wrong_says, planned_run, planned_played, no_run_played, planned_stated, planned_invariant, planned_view, planned_kept}
 use Rattle.ptb_explore.proofs.explorer.Explorer.at_plan.Goals as goal
-
-pub states_bounds-requires : goal.states_bounds-requires
-states_bounds-requires c =
-    planned_within c.args.program.now c.args.lines.now c.args.rules c.args.trial.answers.items _ c.in_ok-player.ensures
-    _ c.in_ok-check_run.ensures.bounds c.args.stated.now _ (search rules fits 50 depth 2) c.requires.within
 
 pub check_run-requires : goal.check_run-requires
 check_run-requires c = record {
   choose = c.requires.choose;
+  within = c.requires.within;
   fresh = c.requires.fresh;
-  shown = c.new-screen.ensures;
   none = c.new-copies.ensures;
 }
 
@@ -43,33 +38,27 @@ returns-in_err-check_run c = record {
   begins = IfOk-from_err _ _ c.from_residual-in_err-check_run.ensures.0;
   kept = IfOk-from_err _ _ c.from_residual-in_err-check_run.ensures.0;
   played = IfOk-from_err _ _ c.from_residual-in_err-check_run.ensures.0;
-  not_a_run = λ fault run _ _. no_run_played c.args.program.now c.args.lines.now c.args.rules c.args.trial.answers.items _ c.in_ok-player.ensures
-      (same_no_run _ _ c.from_residual-in_err-check_run.ensures.1 c.in_err-check_run.ensures.not_a_run fault) run;
+  not_a_run = λ fault run stated _. no_run_played c.args.program.now c.args.lines.now c.args.rules c.args.trial.answers.items _ c.in_ok-player.ensures c.args.stated.now
+      (same_no_run _ _ c.from_residual-in_err-check_run.ensures.1 c.in_err-check_run.ensures.not_a_run fault) run stated;
 }
-
-pub returns-then-not-states_bounds-clause-not_a_run : goal.returns-then-not-states_bounds-clause-not_a_run
-returns-then-not-states_bounds-clause-not_a_run c = λ _ _ stated _.
-    planned_unstated c.args.program.now c.args.lines.now c.args.rules c.args.trial.answers.items _ c.in_ok-player.ensures
-    _ c.in_ok-check_run.ensures.bounds c.args.stated.now _ _ c.states_bounds.ensures (search rules fits 50 depth 2) c.if-not-states_bounds.true stated
 
 pub invariant_of-result : goal.invariant_of-result
 invariant_of-result c =
     let begins : begins_with c.args.trial.answers.items c.args.under.items ≡ true = search rules in
     planned_invariant c.args.program.now c.args.lines.now c.args.rules c.args.trial.answers.items _ c.in_ok-player.ensures
-    _ c.check_run.ensures.program _ c.in_ok-check_run.ensures.answers _ c.hand_over.ensures.answers
-    c.args.under.items _ _ _ _ _ c.in_ok-check_run.ensures.run c.in_ok-check_run.ensures.bounds c.hand_over.ensures.bounds begins
-    c.in_ok-check_run.ensures.copies c.into_vec.ensures c.requires.choose
+    _ c.check_run.ensures.program _ c.in_ok-check_run.ensures.answers
+    c.args.under.items _ _ _ c.in_ok-check_run.ensures.run c.in_ok-check_run.ensures.bounds begins c.in_ok-check_run.ensures.copies c.requires.choose
 
 pub returns : goal.returns
 returns c = record {
   after = planned_view c.args.program.now c.args.lines.now c.args.rules c.args.trial.answers.items _ c.in_ok-player.ensures
-      _ c.check_run.ensures.program _ c.in_ok-check_run.ensures.answers _ c.hand_over.ensures.answers _ _ _;
+      _ c.check_run.ensures.program _ c.in_ok-check_run.ensures.answers _ _ _;
   run = planned_run c.args.program.now c.args.lines.now c.args.rules c.args.trial.answers.items _ c.in_ok-player.ensures c.in_ok-check_run.ensures.run;
   stated = planned_stated c.args.program.now c.args.lines.now c.args.rules c.args.trial.answers.items _ c.in_ok-player.ensures
-      _ c.in_ok-check_run.ensures.bounds c.args.stated.now _ _ c.states_bounds.ensures (search rules fits 50 depth 2) c.if-not-states_bounds.false;
+      c.args.stated.now c.in_ok-check_run.ensures.stated;
   begins = search rules;
   kept = planned_kept c.args.program.now c.args.lines.now c.args.rules c.args.trial.answers.items _ c.in_ok-player.ensures
-      _ c.check_run.ensures.program _ c.in_ok-check_run.ensures.answers _ c.hand_over.ensures.answers _ _ c.in_ok-check_run.ensures.copies;
-  played = planned_played c.args.program.now c.args.lines.now c.args.rules c.args.trial.answers.items _ c.in_ok-player.ensures _ c.in_ok-check_run.ensures.played;
+      _ c.check_run.ensures.program _ c.in_ok-check_run.ensures.answers _ _ c.in_ok-check_run.ensures.copies;
+  played = planned_played c.args.program.now c.args.lines.now c.args.rules c.args.trial.answers.items _ c.in_ok-player.ensures _ _ c.from-played.ensures c.in_ok-check_run.ensures.played;
   not_a_run = λ fault _ _ _. ok_no_err fault;
 }
