@@ -1,10 +1,10 @@
 -- This file answers what is left to prove of `play`.
-use Rattle.std.proofs.Common.{[], ◌++◌, arith, inl, refl, ap, ◌∙◌, Ok, Err}
+use Rattle.std.proofs.Common.{[], ◌++◌, arith, refl, ap, ◌∙◌, Ok, Err}
 use Rattle.ptb_command.specs.Devices.{devices, screen_state, refused_by, nothing_refused}
 use Rattle.ptb_command.specs.Stops.{NotMissed}
 use Rattle.ptb_command.proofs.Missed.{not_missed, not_missed_then, fewer_lines}
 use Rattle.ptb_machine.proofs.Results.{run_missed_err, fault_missed_from, ending_missed_from, step_missed_at}
-use Rattle.ptb_machine.proofs.Runs.{run_begins, run_on, run_falls, run_over, run_breaks, runs_nothing, runs_err, steps_at, runs_of, not_spent}
+use Rattle.ptb_machine.proofs.Runs.{run_begins, run_on, run_falls, run_over, run_breaks, runs_err, steps_at, runs_of, not_spent}
 use Rattle.ptb_machine.proofs.running.play.Goals as goal
 
 pub steps-init : goal.steps-init
