@@ -1,21 +1,15 @@
 // This file has the devices of a command, taken together.
 
-ghost use Rattle.std.specs.Prelude.{◌≡◌, ◌≤◌, List, ℕ, [], length, IfOk};
-ghost use Rattle.ptb_expr.specs.Reading.{item_of, expression};
+ghost use Rattle.std.specs.Prelude.{◌≡◌, List, ℕ, []};
 ghost use Rattle.ptb_expr.specs.Store.{Cells};
-ghost use Rattle.ptb_command.specs.Act.{value_action};
 ghost use Rattle.ptb_command.specs.Actions.{goes_on, show as show_action};
-ghost use Rattle.ptb_command.specs.Devices.{nothing_refused, refused_answers};
-ghost use Rattle.ptb_command.specs.Reads.{IsRead};
+ghost use Rattle.ptb_command.specs.Devices.{nothing_refused};
 ghost use Rattle.ptb_command.specs.Stops.{Comes};
 
 use crate::gathering::Gathering;
-use crate::reads::value;
 use crate::stop::Stop;
 use ptb_answers::Chooser;
 use ptb_devices::{LineSource, Screen};
-use ptb_expr::Store;
-use ptb_words::Cursor;
 
 /// What a command asks, shows and reads.
 #[derive(Drop)]
@@ -84,20 +78,5 @@ impl<'a, C: Chooser, S: Screen, L: LineSource> Io<'a, C, S, L> {
         ensures same { SameDevices self.old self.new }
     {
         gathering.flush(self.screen, &mut self.fresh)
-    }
-
-    /// The value of the expression at the cursor.
-    pub(crate) fn value(&mut self, cursor: &mut Cursor, store: &Store) -> Result<i16, Stop>
-        ensures text { cursor.new.text ≡ cursor.old.text }
-        ensures comes { (given : List (List ℕ)) (due : List ℕ) → Comes
-            (refused_answers (C.refused self.new.chooser.now))
-            (due_trace C.choices S.Screen L.most self.old given store.now due)
-            (due_trace C.choices S.Screen L.most self.new given store.now due)
-            (value_action (item_of (expression cursor.old.text cursor.old.place))) goes_on result }
-        ensures read { IfOk result (λ _. IsRead cursor.old.text cursor.old.place
-            (expression cursor.old.text cursor.old.place) cursor.new.place) }
-        ensures same { SameDevices self.old self.new }
-    {
-        value(cursor, store, self.chooser)
     }
 }

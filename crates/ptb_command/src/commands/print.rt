@@ -17,7 +17,7 @@ ghost use Rattle.ptb_command.specs.Stops.{Comes};
 use crate::gathering::{GATHERING_LIMIT, Gathering};
 use crate::io::Io;
 use crate::laws::command_laws;
-use crate::reads::{at_end, check_end, literal};
+use crate::reads::{at_end, check_end, literal, value};
 use crate::registers::Registers;
 use crate::stop::{Stop, fault, still_shows};
 use itoa::Buffer;
@@ -113,7 +113,7 @@ fn print_item<C: Chooser, S: Screen, L: LineSource>(
 {
     finding_laws();
     if cursor.token(b'#') {
-        let value = io.value(cursor, store)?;
+        let value = value(cursor, store, io.chooser)?;
         *width = width_of(value, cursor.place())?;
         return Ok(());
     }
@@ -121,7 +121,7 @@ fn print_item<C: Chooser, S: Screen, L: LineSource>(
         Quoted::Text(bytes) => io.show(gathering, bytes),
         Quoted::Unclosed => Err(fault(FaultKind::What, cursor.place())),
         Quoted::Absent => {
-            let value = io.value(cursor, store)?;
+            let value = value(cursor, store, io.chooser)?;
             show_value(io, gathering, *width, value)
         }
     }

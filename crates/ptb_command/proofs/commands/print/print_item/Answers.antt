@@ -1,7 +1,9 @@
 -- This file answers what is left to prove of `print_item`.
 use Rattle.std.proofs.Common.{◌≡◌, ◌∙◌, ap, arith, refl, rules, to_z, of_z, w16}
 use Rattle.ptb_expr.specs.Reading.{item_of}
-use Rattle.ptb_command.specs.Io.{due_trace}
+use Rattle.ptb_command.specs.Devices.{with_choices}
+use Rattle.ptb_command.specs.Io.{io_devices}
+use Rattle.ptb_command.specs.Traces.{trace, with_due}
 use Rattle.ptb_command.proofs.Borrows.{devices_then}
 use Rattle.ptb_command.proofs.Comings.{if_ok_always, if_ok_never, say_comes}
 use Rattle.ptb_command.proofs.Actions.{stops_fault}
@@ -18,9 +20,9 @@ returns-in_err-value g c = record {
   text = c.value.ensures.text ∙ c.token.ensures.text;
   comes = λ given rest operands.
       width_fails rest _ operands c.args.cursor.now.text c.args.cursor.now.place _ c.token.ensures.text _ c.if-token.ensures.value
-      _ _ _ _ _ _ c.from_residual.ensures.1 (c.in_err-value.ensures.comes given c.args.gathering.now);
+      _ _ _ _ _ _ c.from_residual.ensures.1 (c.in_err-value.ensures.comes (io_devices g.C.Chooser.choices g.S.Screen g.L.LineSource.most c.args.io.now given) c.args.io.now.fresh c.args.gathering.now);
   read = if_ok_never _ _ _ c.from_residual.ensures.1;
-  same = c.value.ensures.same;
+  same = record { chooser = refl; screen = refl; source = refl; choose = refl };
 }
 
 pub returns-in_err-width : goal.returns-in_err-width
@@ -29,10 +31,10 @@ returns-in_err-width g c = record {
   comes = λ given rest operands.
       let same : to_z w16 (of_z w16 c.in_ok-value.value) ≡ c.in_ok-value.value = search rules in
       width_refused rest _ operands c.args.cursor.now.text c.args.cursor.now.place _ c.token.ensures.text _ c.if-token.ensures.value
-      _ _ _ _ c.from_residual-in_err-width.ensures.1 _ c.in_ok-value.ensures.read _ _ same (c.in_ok-value.ensures.comes given c.args.gathering.now)
+      _ _ _ _ c.from_residual-in_err-width.ensures.1 _ c.in_ok-value.ensures.read _ _ same (c.in_ok-value.ensures.comes (io_devices g.C.Chooser.choices g.S.Screen g.L.LineSource.most c.args.io.now given) c.args.io.now.fresh c.args.gathering.now)
       _ c.place.ensures c.in_err-width.ensures;
   read = if_ok_never _ _ _ c.from_residual-in_err-width.ensures.1;
-  same = c.value.ensures.same;
+  same = record { chooser = refl; screen = refl; source = refl; choose = refl };
 }
 
 pub returns-then-token : goal.returns-then-token
@@ -42,14 +44,14 @@ returns-then-token g c = record {
       let same : to_z w16 (of_z w16 c.in_ok-value.value) ≡ c.in_ok-value.value = search rules in
       let width = ap item_of (item_whole_width c.args.cursor.now.text c.args.cursor.now.place c.token.new.self.place c.value.new.cursor.place c.if-token.ensures.value (rw c.token.ensures.text at c.in_ok-value.ensures.read.whole)) in
       refines_part_part rest _ operands _ _ width (width_refines_part rest _ operands _ _ _ _ same _
-      (rw c.token.ensures.text at (c.in_ok-value.ensures.comes given c.args.gathering.now))
-      (rw c.place.ensures at (c.in_ok-width.ensures (due_trace g.C.Chooser.choices g.S.Screen g.L.LineSource.most c.value.new.self given c.args.store.now c.args.gathering.now))));
+      (rw c.token.ensures.text at (c.in_ok-value.ensures.comes (io_devices g.C.Chooser.choices g.S.Screen g.L.LineSource.most c.args.io.now given) c.args.io.now.fresh c.args.gathering.now))
+      (rw c.place.ensures at (c.in_ok-width.ensures (with_due c.args.gathering.now (trace (with_choices (g.C.Chooser.choices c.value.new.chooser) (io_devices g.C.Chooser.choices g.S.Screen g.L.LineSource.most c.args.io.now given)) c.args.io.now.fresh c.args.store.now)))));
   read = let l = rw c.token.ensures.text at c.in_ok-value.ensures.read.ahead in
       record {
         whole = is_whole _ _ _ (item_whole_width c.args.cursor.now.text c.args.cursor.now.place c.token.new.self.place c.value.new.cursor.place c.if-token.ensures.value (rw c.token.ensures.text at c.in_ok-value.ensures.read.whole));
         ahead = record { after = omega (arith, l.after, (c.finding_laws.ensures.token _ _ _ _ c.if-token.ensures.value).after); within = l.within; settled = l.settled };
       };
-  same = c.value.ensures.same;
+  same = record { chooser = refl; screen = refl; source = refl; choose = refl };
 }
 
 -- ---- a string
@@ -87,9 +89,9 @@ returns-in_err-value-in-Absent g c = record {
   comes = λ given rest operands.
       value_fails rest _ operands c.args.cursor.now.text c.args.cursor.now.place _ c.token.ensures.text
       c.if-token.ensures.value _ (c.if-token.ensures.absent refl) c.in-Absent.ensures.value _ c.literal.ensures.text _ (c.in-Absent.ensures.absent refl)
-      _ _ _ _ _ _ c.from_residual-in_err-value-in-Absent.ensures.1 (c.in_err-value-in-Absent.ensures.comes given c.args.gathering.now);
+      _ _ _ _ _ _ c.from_residual-in_err-value-in-Absent.ensures.1 (c.in_err-value-in-Absent.ensures.comes (io_devices g.C.Chooser.choices g.S.Screen g.L.LineSource.most c.args.io.now given) c.args.io.now.fresh c.args.gathering.now);
   read = if_ok_never _ _ _ c.from_residual-in_err-value-in-Absent.ensures.1;
-  same = c.value-in-Absent.ensures.same;
+  same = record { chooser = refl; screen = refl; source = refl; choose = refl };
 }
 
 pub returns-in_ok-value-in-Absent : goal.returns-in_ok-value-in-Absent
@@ -99,12 +101,12 @@ returns-in_ok-value-in-Absent g c = record {
       let same : to_z w16 (of_z w16 c.in_ok-value-in-Absent.value) ≡ c.in_ok-value-in-Absent.value = search rules in
       value_shown rest _ operands c.args.cursor.now.text c.args.cursor.now.place _ c.token.ensures.text
       c.if-token.ensures.value _ (c.if-token.ensures.absent refl) c.in-Absent.ensures.value _ c.literal.ensures.text _ (c.in-Absent.ensures.absent refl)
-      _ _ _ _ same (c.in_ok-value-in-Absent.ensures.comes given c.args.gathering.now) _ (c.show_value.ensures.comes given c.args.store.now);
+      _ _ _ _ same (c.in_ok-value-in-Absent.ensures.comes (io_devices g.C.Chooser.choices g.S.Screen g.L.LineSource.most c.args.io.now given) c.args.io.now.fresh c.args.gathering.now) _ (c.show_value.ensures.comes given c.args.store.now);
   read = let none = rw c.token.ensures.text at (rw (c.if-token.ensures.absent refl) at c.in-Absent.ensures.value) in
       let read = rw (c.literal.ensures.text ∙ c.token.ensures.text) at (rw (c.in-Absent.ensures.absent refl ∙ c.if-token.ensures.absent refl) at c.in_ok-value-in-Absent.ensures.read) in
       if_ok_always _ c.show_value.result (record {
         whole = is_whole _ _ _ (item_whole_value c.args.cursor.now.text c.args.cursor.now.place _ c.if-token.ensures.value none read.whole);
         ahead = read.ahead;
       });
-  same = devices_then c.value-in-Absent.ensures.same c.show_value.ensures.same;
+  same = devices_then (record { chooser = refl; screen = refl; source = refl; choose = refl }) c.show_value.ensures.same;
 }
