@@ -9,7 +9,7 @@ ghost use Rattle.ptb_command.specs.Commands.{Part, print_item, print_parts};
 ghost use Rattle.ptb_expr.specs.Value.{or_fault};
 ghost use Rattle.ptb_command.specs.Actions.{goes_on, work_action, show};
 ghost use Rattle.ptb_command.specs.Devices.{nothing_refused, refused_answers};
-ghost use Rattle.ptb_command.specs.Io.{io_trace, due_trace, SameDevices};
+ghost use Rattle.ptb_command.specs.Io.{due_trace, SameDevices};
 ghost use Rattle.ptb_command.specs.Reads.{IsRead, IsClosed};
 ghost use Rattle.ptb_command.specs.Traces.{Trace};
 ghost use Rattle.ptb_command.specs.Stops.{Comes};
@@ -165,33 +165,6 @@ fn print_items<C: Chooser, S: Screen, L: LineSource>(
     }
 }
 
-/// Reads the items of a PRINT, behind whose word the cursor stands, and shows them together.
-pub(crate) fn print<C: Chooser, S: Screen, L: LineSource>(
-    cursor: &mut Cursor,
-    store: &Store,
-    io: &mut Io<'_, C, S, L>,
-) -> Result<(), Stop>
-    requires { cursor.old.place ≤ length cursor.old.text }
-    ensures text { cursor.new.text ≡ cursor.old.text }
-    ensures comes { (given : List (List ℕ)) →
-        Comes (refused_answers (C.refused io.new.chooser.now))
-        (io_trace C.choices S.Screen L.most io.old given store.now)
-        (io_trace C.choices S.Screen L.most io.new given store.now)
-        (action_of (item_of (print_parts cursor.old.text cursor.old.place)))
-        (λ _. goes_on []) result }
-    ensures closed { IfOk result (λ _. IsClosed cursor.old.text cursor.old.place
-        (print_parts cursor.old.text cursor.old.place) cursor.new.place) }
-    ensures same { SameDevices io.old io.new }
-{
-    let mut gathering = Gathering::new();
-    let done = print_items(cursor, store, io, &mut gathering);
-    if !still_shows(done) {
-        return done;
-    }
-    io.flush(&mut gathering)?;
-    done
-}
-
 impl Registers {
     ghost use Rattle.ptb_words.specs.declared.word.Word.TheVariants.{PrintKw};
     ghost use Rattle.ptb_text.specs.Statements.{Statements};
@@ -203,7 +176,8 @@ impl Registers {
     ghost use Rattle.ptb_command.specs.Representation.{Begun};
     ghost use Rattle.ptb_command.specs.State.{Place};
 
-    /// Does a PRINT of this statement, behind whose word the cursor stands.
+    /// Does a PRINT of this statement, behind whose word the cursor stands. What its items show is
+    /// shown together.
     pub(crate) fn do_print<C: Chooser, S: Screen, L: LineSource>(
         &mut self,
         statement: usize,
@@ -222,7 +196,13 @@ impl Registers {
         ensures same { SameDevices io.old io.new }
     {
         command_laws();
-        print(cursor, &self.store, io)?;
+        let mut gathering = Gathering::new();
+        let done = print_items(cursor, &self.store, io, &mut gathering);
+        if !still_shows(done) {
+            return done;
+        }
+        io.flush(&mut gathering)?;
+        done?;
         self.go_behind(statement, cursor);
         Ok(())
     }
