@@ -56,12 +56,23 @@ const REPORTS: &[(Form, Reported, &str)] = &[
     ),
 ];
 
-// A report is written where there is ample room, and also where there is just enough.
+// A report is written where there is ample room, and nothing behind it.
 #[test]
 fn reports_are_written(rt: HostRuntime) {
     for &(form, run, due) in REPORTS {
         let mut room = [b'.'; 100];
         let found = (write(&mut room, form, run), holds(&room, due.as_bytes()));
+        expect_same(&rt, due, found, (Ok(()), true));
+    }
+}
+
+// A report is written where there is just enough room for it.
+#[test]
+fn reports_fill_their_room(rt: HostRuntime) {
+    for &(form, run, due) in REPORTS {
+        let mut room = [b'.'; 100];
+        let (exact, _) = room.split_at_mut(due.len());
+        let found = (write(exact, form, run), *exact == *due.as_bytes());
         expect_same(&rt, due, found, (Ok(()), true));
     }
 }
