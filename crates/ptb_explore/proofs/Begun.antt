@@ -21,19 +21,16 @@ module _ (p : StoredProgram) (input : List (List ℕ)) (rules : Rules) (list : L
   pub none_begun : {P : Type 0} → (is_open (play p input rules plan) ≡ true → P) → IsMarkedBeginning (play p input rules) list → P
   none_begun f beginning = f (subst (λ (a : Answers). is_open (play p input rules a) ≡ true) (sym is) beginning.0)
 
-  -- bounds of the plan and of what stands behind it
-  module _ (given : List ℤ) (seen : List ℤ) (same : seen ≡ given) where
-    module _ (front : take (length plan) given ≡ bounds (play p input rules) plan) (states : Bool) (says : states ≡ states_bounds list seen) where
-      states_same : states ≡ states_bounds list (bounds (play p input rules) (answers_of list))
-      states_same = says ∙ ap (states_bounds list) same ∙ states_begun list plan given _ is (front ∙ ap (bounds (play p input rules)) is)
+  -- bounds of the plan and of what stands after it
+  module _ (given : List ℤ) (front : take (length plan) given ≡ bounds (play p input rules) plan) where
+    states_same : states_bounds list given ≡ states_bounds list (bounds (play p input rules) (answers_of list))
+    states_same = states_begun list plan given _ is (front ∙ ap (bounds (play p input rules)) is)
 
-      pub begun_stated : states ≡ true → states_bounds list (bounds (play p input rules) (answers_of list)) ≡ true
-      begun_stated right = sym states_same ∙ right
+    pub begun_stated : states_bounds list given ≡ true → states_bounds list (bounds (play p input rules) (answers_of list)) ≡ true
+    begun_stated right = sym states_same ∙ right
 
-      pub begun_unstated : {P : Type 0} → states ≡ false → IsMarkedBeginning (play p input rules) list → P
-      begun_unstated wrong beginning =
-          let x : states ≡ true = states_same ∙ beginning.1 in
-          absurd cc
+    pub begun_states : IsMarkedBeginning (play p input rules) list → states_bounds list given ≡ true
+    begun_states beginning = states_same ∙ beginning.1
 
 -- The player plays the program p.
 module _ (p : StoredProgram) (input : List (List ℕ)) (rules : Rules) (list : List Marked) (player : StoredProgram) (plays : player ≡ p) where

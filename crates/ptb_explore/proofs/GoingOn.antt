@@ -13,11 +13,11 @@ use Rattle.ptb_explore.specs.declared.copies.KeptCopy.{KeptCopy}
 use Rattle.ptb_explore.specs.declared.plan.Position.{Position}
 use Rattle.ptb_explore.specs.declared.plan.Position.TheVariants.{AtStart, AtRun, AtEnd}
 use Rattle.ptb_explore.specs.declared.report.Report.{Report}
-use Rattle.ptb_explore.specs.Copies.{machine_of, taken_choices, AreCopies, Agrees, kept_runs, kept_steps, WentBack, last_steps, PlaysOn, more_played}
+use Rattle.ptb_explore.specs.Copies.{machine_of, taken_choices, AreCopies, ArePlaces, Agrees, kept_runs, kept_steps, WentBack, last_steps, PlaysOn, more_played}
 use Rattle.ptb_explore.specs.Exploring.{AreCopiesAt, AreKeptAt}
 use Rattle.ptb_explore.specs.Playing.{IsRunPrefix}
 use Rattle.ptb_explore.specs.Plans.{IsPosition, PlansNext, front_at}
-use Rattle.ptb_explore.proofs.Keep.{GoesOn, agreed_bounds, agreed_len, agreed_taken, kept_beginnings, kept_none, kept_same, stands_machine, steps_behind}
+use Rattle.ptb_explore.proofs.Keep.{GoesOn, agreed_bounds, agreed_len, agreed_taken, kept_beginnings, kept_none, kept_places, kept_same, stands_machine, steps_behind}
 use Rattle.ptb_explore.proofs.Raising.{plan_begins}
 use Rattle.ptb_explore.proofs.RunPrefix.{prefix_to}
 
@@ -49,6 +49,9 @@ module _ (p : StoredProgram) (input : List (List ℕ)) (rules : Rules) where
   kept_at AtStart r ks h = ap (kept_runs r.answers.items) h
   kept_at AtRun r ks h = kept_beginnings p input rules r.answers.items r.transcript.items ks h
   kept_at AtEnd r ks h = ap (kept_runs r.answers.items) h
+
+  pub places_at : (position : Position) (r : Report) (ks : List KeptCopy) → AreCopiesAt p input rules position r ks → ArePlaces p input rules (kept_runs r.answers.items ks)
+  places_at position r ks h = kept_places p input rules r.answers.items r.transcript.items 0 0 ks (position_copies position r ks h)
 
   -- what is left of the copies ends with the newest that the next answers begin with
   next_steps : (under : Answers) (position : Position) (r : Report) (plan ones answers : Answers) (i : ℕ) (old left : List KeptCopy) → PlansNext under position r.answers.items r.bounds.items plan (Some i) → AreCopiesAt p input rules position r old → answers ≡ plan ++ ones → WentBack i old left

@@ -1,5 +1,5 @@
 -- This file proves that copies that are kept stay sound, and which of them a run goes on from.
-use Rattle.std.proofs.Common.{◌≡◌, ℕ, zero, suc, ◌<◌, ◌≤◌, List, [], ◌∷◌, ◌++◌, length, take, drop, true, false, Some, inl, inr, refl, ap, sym, subst, ◌∙◌, arith, length-append, length-take}
+use Rattle.std.proofs.Common.{◌≡◌, ℕ, zero, suc, ◌+◌, ◌-◌, ◌<◌, ◌≤◌, List, [], ◌∷◌, ◌++◌, length, take, drop, true, false, Some, inl, inr, refl, ap, sym, subst, ◌∙◌, arith, length-append, length-take}
 use Rattle.std.specs.Prelude.{ℤ, pos, ◌<ℤ◌, slice_index_or, if◌then◌else◌}
 use Rattle.std.specs.Ordering.{int_eq}
 use Rattle.std.specs.List.{AllByRecursion}
@@ -11,7 +11,7 @@ use Rattle.ptb_text.specs.Statements.{StoredProgram}
 use Rattle.ptb_answers.specs.Outcome.{Answers, Outcome, bound_of, bounds, bounds_after}
 use Rattle.ptb_command.specs.Configuration.{Configuration}
 use Rattle.ptb_explore.specs.declared.copies.KeptCopy.{KeptCopy}
-use Rattle.ptb_explore.specs.Copies.{machine_of, steps_of, steps_or_none, IsCopyOf, IsSameCopy, Adds, GoesBackTo, StandsAt, KeptFrom, AreCopies, Agrees, kept_runs, newest_steps, kept_steps, WentBack, last_steps_of, last_steps, AreBeginnings}
+use Rattle.ptb_explore.specs.Copies.{machine_of, steps_of, steps_or_none, IsCopyOf, IsSameCopy, Adds, with_room, GoesBackTo, StandsAt, KeptFrom, AreCopies, Agrees, kept_runs, newest_steps, kept_steps, WentBack, last_steps_of, last_steps, AreBeginnings, AreTakenBy, ArePlaces}
 use Rattle.ptb_explore.specs.RunTree.{begins_with}
 use Rattle.std.proofs.lemmas.Bool.{false_from_ne_true, and_parts, and_from}
 use Rattle.ptb_explore.proofs.Bounds.{length-bounds}
@@ -83,10 +83,12 @@ module _ (p : StoredProgram) (input : List (List ℕ)) (rules : Rules) where
 
   -- one more copy may be kept, and the oldest dropped
   pub kept_more : (t u : Answers) (w v : List ℕ) (before taken shown lines : ℕ) (m : Configuration) (old new : List KeptCopy) → AreCopies p input rules t w old → before ≡ length t → taken ≡ length (t ++ u) → shown ≡ length (w ++ v)
-      → ((k : KeptCopy) → IsCopyOf m taken shown lines k → StandsAt p input rules k (t ++ u) (w ++ v)) → Adds before m taken shown lines old new → AreCopies p input rules (t ++ u) (w ++ v) new
-  kept_more t u w v before taken shown lines m old new h b e f stands (n, inl same) = rw same (kept_longer t u w v 0 0 (drop n old) (kept_drop t w n old h))
-  kept_more t u w v before taken shown lines m old new h b e f stands (n, inr (k, more, copy, is)) =
-      rw is (kept_push t u w v 0 0 (drop n old) k (kept_drop t w n old h) (omega (arith, b, more, copy.taken_is)) (copy.taken_is ∙ e) (copy.shown_is ∙ f) (stands k copy))
+      → ((k : KeptCopy) → before < taken → IsCopyOf m taken shown lines k → StandsAt p input rules k (t ++ u) (w ++ v)) → Adds before m taken shown lines old new → AreCopies p input rules (t ++ u) (w ++ v) new
+  kept_more t u w v before taken shown lines m old new h b e f stands (inl same) = rw same (kept_longer t u w v 0 0 old h)
+  kept_more t u w v before taken shown lines m old new h b e f stands (inr (inl same)) =
+      rw same (kept_longer t u w v 0 0 (with_room old) (kept_drop t w (length old + 1 - 64) old h))
+  kept_more t u w v before taken shown lines m old new h b e f stands (inr (inr (k, more, copy, is))) =
+      rw is (kept_push t u w v 0 0 (with_room old) k (kept_drop t w (length old + 1 - 64) old h) (omega (arith, b, more, copy.taken_is)) (copy.taken_is ∙ e) (copy.shown_is ∙ f) (stands k more copy))
 
   -- none are kept
   pub kept_none : (t : Answers) (w : List ℕ) (ks : List KeptCopy) → ks ≡ [] → AreCopies p input rules t w ks
@@ -109,6 +111,14 @@ module _ (p : StoredProgram) (input : List (List ℕ)) (rules : Rules) where
   pub kept_beginnings : (t : Answers) (w : List ℕ) (ks : List KeptCopy) → AreCopies p input rules t w ks → AreBeginnings 0 t (kept_runs t ks)
   kept_beginnings t w ks h = beginnings t w 0 0 ks h
 
+  -- and the steps of each are those of the command that took its last answer
+  pub kept_places : (t : Answers) (w : List ℕ) (m n : ℕ) (ks : List KeptCopy) → KeptFrom p input rules t w m n ks → ArePlaces p input rules (kept_runs t ks)
+  kept_places t w m n [] h = tt
+  kept_places t w m n (k ∷ ks) h =
+      let s = h.2 in
+      let steps : s.machine.steps ≡ steps_of k = sym (ap steps_or_none s.machine_is) in
+      (subst (λ (i : ℕ). AreTakenBy p input rules (take k.taken t) i) steps s.taken_by, kept_places t w k.taken k.shown ks h.3)
+
   -- a copy of a copy stands where it does
   same_stands : (k j : KeptCopy) (t : Answers) (w : List ℕ) → IsSameCopy k j → StandsAt p input rules k t w → StandsAt p input rules j t w
   same_stands k j t w same s = record {
@@ -116,6 +126,7 @@ module _ (p : StoredProgram) (input : List (List ℕ)) (rules : Rules) where
     machine_is = same.machine ∙ s.machine_is;
     unspent = s.unspent;
     within = rw same.lines_is s.within;
+    taken_by = s.taken_by;
     run_prefix = rw same.lines_is s.run_prefix;
   }
 

@@ -10,6 +10,7 @@ pub mod Raising
 pub mod Attempt
 pub mod Recording
 pub mod Trial
+pub mod Limits
 pub mod RunPrefix
 pub mod Keep
 pub mod Exits
@@ -20,3 +21,7 @@ pub mod Stated
 pub mod Begun
 pub mod Progress
 pub mod Writing
+pub mod Mismatches
+pub mod Taken
+pub mod Misfits
+pub mod ReportAnswers

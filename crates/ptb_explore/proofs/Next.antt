@@ -1,5 +1,5 @@
 -- This file proves what is left of a listing after its next run, and that no run is between the front and a raised plan.
-use Rattle.std.proofs.Common.{◌≡◌, ℕ, List, [], ◌∷◌, ◌++◌, Bool, true, false, ◌&&◌, inl, inr, refl, ap, sym, ◌∙◌, arith, append_assoc, append-nil}
+use Rattle.std.proofs.Common.{◌≡◌, ℕ, List, [], ◌∷◌, ◌++◌, Bool, true, false, ◌&&◌, inl, inr, refl, ap, sym, subst, ◌∙◌, arith, append_assoc, append-nil}
 use Rattle.std.specs.Prelude.{ℤ, pos, ◌+ℤ◌, ◌≤ℤ◌, int_le}
 use Rattle.std.proofs.lemmas.Bool.{false_from_ne_true, and_parts, and_from}
 use Rattle.std.proofs.lemmas.Int.{ints}
@@ -7,7 +7,7 @@ use Rattle.std.specs.List.{filter}
 use Rattle.ptb_answers.specs.Outcome.{Answers, Outcome, IsReader, bound_of, is_answer}
 use Rattle.ptb_explore.specs.RunTree.{IsRun, IsRising, tree, is_before, Before, Front, Start, At, End, is_after, is_left, begins_with, runs_after, IsNextRun, IsLast}
 use Rattle.ptb_explore.specs.Plans.{AllOnes}
-use Rattle.ptb_explore.proofs.Lists.{IsIn, all_at}
+use Rattle.ptb_explore.proofs.Lists.{IsIn, all_at, in_filter}
 use Rattle.ptb_explore.proofs.Order.{before_step, before_self, before_then, before_not_back}
 use Rattle.ptb_explore.proofs.Tree.{run_asks, tree_rises, tree_runs}
 
@@ -69,6 +69,9 @@ module _ {A W : Type 0} (play : Answers → Outcome A W) (most : ℕ) (reads : I
   -- there is one next run
   pub next_same : (under : Answers) (front : Front) (a b : Answers) → IsNextRun play under front a → IsNextRun play under front b → a ≡ b
   next_same under front a b h k = same_head a b (runs_after play most under (At a)) (runs_after play most under (At b)) (sym (left_next under front a h) ∙ left_next under front b k)
+
+  pub none_left : (under : Answers) (front : Front) → runs_after play most under front ≡ [] → IsLast play under front
+  none_left under front none b r l = subst (IsIn b) none (in_filter (is_left under front) b (tree play most) ((tree_runs play most reads b).1 r) l)
 
   pub left_none : (under : Answers) (front : Front) → IsLast play under front → runs_after play most under front ≡ []
   left_none under front none = filter_drops _ (tree play most) (λ b i. false_from_ne_true _ (λ t. none b ((tree_runs play most reads b).0 i) t))

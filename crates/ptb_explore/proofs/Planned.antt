@@ -1,23 +1,26 @@
 -- This file proves what is known of an explorer that stands at the run of a plan, from what is known of each step.
-use Rattle.std.proofs.Common.{◌≡◌, ◌∙◌, ap, sym, subst, ℕ, List, Bool, true, false}
+use Rattle.std.proofs.Common.{◌≡◌, ◌∙◌, ap, sym, subst, ℕ, List, true, Result, Ok, Err}
 use Rattle.std.specs.Prelude.{ℤ}
 use Rattle.ptb_answers.specs.declared.form.Marked.{Marked}
 use Rattle.ptb_answers.specs.declared.rules.Rules.{Rules}
-use Rattle.ptb_answers.specs.Outcome.{Answers, bounds}
+use Rattle.std.specs.Result.{OnOk}
+use Rattle.ptb_answers.specs.AnswerText.{answers_of}
+use Rattle.ptb_answers.specs.Outcome.{Answers, Outcome, bounds}
 use Rattle.ptb_text.specs.Statements.{StoredProgram}
 use Rattle.ptb_machine.specs.Play.{play}
 use Rattle.ptb_explore.specs.declared.copies.KeptCopy.{KeptCopy}
 use Rattle.ptb_explore.specs.Copies.{AreCopies, AreBeginnings, KeptRun, kept_runs}
 use Rattle.ptb_explore.specs.Exploring.{Exploration, IsPlayed}
-use Rattle.ptb_explore.specs.MarkedRuns.{states_bounds}
+use Rattle.ptb_explore.specs.MarkedRuns.{IsMarkedRun, states_bounds}
 use Rattle.ptb_explore.specs.RunTree.{At, IsRun, begins_with}
 use Rattle.ptb_explore.proofs.Keep.{kept_beginnings}
 
--- what a call says is false isn't true
-pub wrong_says : {P : Type 0} (said is : Bool) → said ≡ is → said ≡ false → is ≡ true → P
-wrong_says said is same wrong right =
-    let x : said ≡ true = same ∙ right in
-    absurd cc
+-- where the plan is the answers of a list, both facts of its play make it a run of the list
+pub marked_run : {T E A W : Type 0} (r : Result T E) (game : Answers → Outcome A W) (plan : Answers) (list : List Marked) → plan ≡ answers_of list
+    → OnOk r (IsRun game plan) → OnOk r (states_bounds list (bounds game plan) ≡ true) → OnOk r (IsMarkedRun game list)
+marked_run (Ok x) game plan list is run states =
+    (subst (λ (a : Answers). IsRun game a) is run, subst (λ (a : Answers). states_bounds list (bounds game a) ≡ true) is states)
+marked_run (Err e) game plan list is run states = tt
 
 -- The player plays the program p.
 module _ (p : StoredProgram) (input : List (List ℕ)) (rules : Rules) (plan : Answers) (player : StoredProgram) (plays : player ≡ p) where

@@ -8,7 +8,7 @@ use Rattle.ptb_text.specs.Device.{TakesSome}
 use Rattle.ptb_answers.specs.Outcome.{Answers, Outcome, IsReader}
 use Rattle.ptb_explore.specs.RunTree.{Front, At, End, IsNextRun, IsLast, runs_after, runs_left}
 use Rattle.ptb_explore.specs.Listing.{less_one, text, behind, count_of, WritesList, WritesSome, WritesInto}
-use Rattle.ptb_explore.proofs.Next.{left_next, left_none}
+use Rattle.ptb_explore.proofs.Next.{left_next, left_none, none_left}
 
 behind_push : (f : Front) (done : List Answers) (a : Answers) → behind f (done ++ a ∷ []) ≡ At a
 behind_push f [] a = refl
@@ -17,6 +17,11 @@ behind_push f (b ∷ done) a = behind_push (At b) done a
 take_one : (n : ℕ) (a : Answers) (xs : List Answers) → (n ≡ 0 → ⊥) → take n (a ∷ xs) ≡ a ∷ take (n - 1) xs
 take_one zero a xs h = absurd (h refl)
 take_one (suc n) a xs h = let e : suc n - 1 ≡ n = omega arith in rw e refl
+
+take_none : (n : ℕ) (xs : List Answers) → (n ≡ 0 → ⊥) → take n xs ≡ [] → xs ≡ []
+take_none zero xs h none = absurd (h refl)
+take_none (suc n) [] h none = refl
+take_none (suc n) (x ∷ xs) h none = absurd cc
 
 module _ {A W : Type 0} (play : Answers → Outcome A W) (most : ℕ) (reads : IsReader play most) (under : Answers) where
   left_more : (front : Front) (remaining : Option ℕ) (a : Answers) → (remaining ≡ Some 0 → ⊥) → IsNextRun play under front a → runs_left play most under front remaining ≡ a ∷ runs_left play most under (At a) (less_one remaining)
@@ -27,6 +32,11 @@ module _ {A W : Type 0} (play : Answers → Outcome A W) (most : ℕ) (reads : I
   left_last front None h = left_none play most reads under front h
   left_last front (Some zero) h = refl
   left_last front (Some (suc k)) h = ap (take (suc k)) (left_none play most reads under front h)
+
+  -- where a run is left and one more is wanted, the list isn't empty
+  left_some : (front : Front) (remaining : Option ℕ) → (remaining ≡ Some 0 → ⊥) → (IsLast play under front → ⊥) → runs_left play most under front remaining ≡ [] → ⊥
+  left_some front None h more none = more (none_left play most reads under front none)
+  left_some front (Some n) h more none = more (none_left play most reads under front (take_none n (runs_after play most under front) (λ e. h (ap Some e)) none))
 
   pub fewer_left : (front : Front) (a : Answers) → IsNextRun play under front a → length (runs_after play most under (At a)) < length (runs_after play most under front)
   fewer_left front a n = omega (arith, ap length (left_next play most reads under front a n))
@@ -67,8 +77,9 @@ module _ {A W : Type 0} (play : Answers → Outcome A W) (most : ℕ) (reads : I
         let s : front ≡ behind start list = p.front_is ∙ ap (behind start) (sym e) in
         record { bytes = subst (λ x. Appends old new (text report x)) (sym e) p.told; count = p.count ∙ ap count_of (sym e); front = inr (refl, rw s at last) }
 
-    pub progress_some : (front : Front) (remaining : Option ℕ) (new : Option (List ℕ)) (n : ℕ) → Progress play most under report list start front remaining old new n → WritesSome play under report list start front old new n
-    progress_some front remaining new n p = record { beginning = p.done; rest = runs_left play most under front remaining; split = p.split; bytes = p.told; count = p.count; front = p.front_is }
+    pub progress_some : (front : Front) (remaining : Option ℕ) (new : Option (List ℕ)) (n : ℕ) → Progress play most under report list start front remaining old new n → (remaining ≡ Some 0 → ⊥) → (IsLast play under front → ⊥)
+        → WritesSome play under report list start front old new n
+    progress_some front remaining new n p h more = record { beginning = p.done; rest = runs_left play most under front remaining; split = p.split; some_left = left_some play most reads under front remaining h more; bytes = p.told; count = p.count; front = p.front_is }
 
     pub progress_into : (front : Front) (remaining : Option ℕ) (new new' : Option (List ℕ)) (n : ℕ) (a : Answers) → Progress play most under report list start front remaining old new n → (remaining ≡ Some 0 → ⊥) → IsNextRun play under front a → TakesSome new new' (report a) → WritesInto play under report list start (At a) old new' n
     progress_into front remaining new new' n a p h next part = record {

@@ -23,8 +23,9 @@ use Rattle.ptb_machine.specs.Steps.{StepsTo, goes, ends, StepComes, Steps}
 use Rattle.ptb_answers.specs.declared.rules.Rules.{Rules}
 use Rattle.ptb_machine.specs.Questions.{most_answers}
 use Rattle.ptb_explore.specs.Laws.{TreeLaws}
-use Rattle.ptb_explore.specs.Playing.{Holds, NextIsOutside, PlayEnds, run_from, IsRunPrefix}
+use Rattle.ptb_explore.specs.Playing.{Holds, NextIsOutside, PlayEnds, limited, run_from, IsRunPrefix}
 use Rattle.ptb_explore.specs.Recording.{RefusedByPlan}
+use Rattle.ptb_explore.proofs.Limits.{turn_below}
 use Rattle.ptb_explore.proofs.Tree.{tree_laws}
 use Rattle.ptb_explore.proofs.Bounds.{holds_on, holds_at_first}
 
@@ -43,7 +44,15 @@ play-is p input rules a = refl
 pub run_prefix_at_first : (p : StoredProgram) (input : List (List ℕ)) (rules : Rules) (c : Choices) (m : Configuration) → c.taken ≡ [] → c.kept ≡ Some [] → Represents p.lines m (first_state p input rules.choose) → IsRunPrefix p input rules c [] input m
 run_prefix_at_first p input rules c m t k s =
     let h = holds_at_first (play p input rules) c t k in
-    record { state = first_state p input rules.choose; represents = s; shown_is = refl; left_is = refl; choose = refl; holds = record { bounds_are = h.bounds_are; rest = λ later. h.rest later ∙ play-is p input rules later } }
+    record {
+      state = first_state p input rules.choose;
+      represents = s;
+      shown_is = refl;
+      left_is = refl;
+      choose = refl;
+      holds = record { bounds_are = h.bounds_are; rest = λ later. h.rest later ∙ play-is p input rules later };
+      reached = λ limit within later. ap (λ a. play p input (limited rules limit) (a ++ later)) t ∙ play-is p input (limited rules limit) later;
+    }
 
 -- a turn that is put into a run asks what it asked before
 asked_in_run : (p : StoredProgram) (rules : Rules) (f : Answers → Outcome StepResult State) (ts : Answers) (bs : List ℤ) → Asked f ts bs → Asked (λ a. from_turn p rules (f a)) ts bs
@@ -85,6 +94,18 @@ module _ (laws : RunLaws) (p : StoredProgram) (input : List (List ℕ)) (rules :
 
   -- it goes on
   module _ (m new : Configuration) (c d : Choices) (s t : List ℕ) (given left rest : List (List ℕ)) (most few : ℕ) (u : IsRunPrefix p input rules c s left m) (x : StepsTo p.lines new (devices c (text_state s) most rules.choose []) u.state rest (turn p rules.limit u.state) (devices d (text_state t) few rules.choose given) goes) where
+    goes_reached : (limit : ℕ) → x.leads.state.steps ≤ limit → (later : Answers) → play p input (limited rules limit) (d.taken ++ later) ≡ run_from p (limited rules limit) x.leads.state later
+    goes_reached limit within later =
+        let ts = x.exchange.answers in
+        let one = laws.one_step p rules.limit u.state x.leads.state (ts ++ []) [] (ap (λ f. f []) x.leads.leaves.rest) in
+        let below : u.state.steps < limit = omega (arith, one.1, within) in
+        let goes_so : turn p limit u.state (ts ++ later) ≡ Done (Next x.leads.state) later = turn_below p rules.limit limit u.state (ts ++ later) one.0 below ∙ ap (λ f. f later) x.leads.leaves.rest in
+        let taken : d.taken ≡ c.taken ++ ts = ap (λ y. y.taken) x.exchanges.grown in
+        ap (λ a. play p input (limited rules limit) (a ++ later)) taken
+        ∙ ap (play p input (limited rules limit)) (append_assoc c.taken ts later)
+        ∙ u.reached limit (omega (arith, below)) (ts ++ later)
+        ∙ ap (map_outcome (λ f. f) (λ (T : State). T.shown)) (laws.by_turn p limit u.state (ts ++ later) ∙ ap (λ o. go_on o (after_step_result (turns p limit))) goes_so)
+
     goes_run_prefix : IsRunPrefix p input rules d t rest new
     goes_run_prefix = record {
       state = x.leads.state;
@@ -93,6 +114,7 @@ module _ (laws : RunLaws) (p : StoredProgram) (input : List (List ℕ)) (rules :
       left_is = x.leads.lines;
       choose = x.leads.choose ∙ u.choose;
       holds = (turn_holds m new c d s t given left rest most few u goes x).1;
+      reached = goes_reached;
     }
 
     goes_below : (m.steps < rules.limit) × (new.steps ≡ m.steps + 1)
@@ -141,6 +163,8 @@ module _ (laws : RunLaws) (p : StoredProgram) (input : List (List ℕ)) (rules :
             plan_is = w.refuses.0.1;
             bound = w.bound;
             beside = T.shown;
+            asks = asks;
+            outside = w.refuses.1;
             out = ap (play p input rules) (w.refuses.0.1 ∙ sym (append_assoc d.taken (k ∷ []) later)) ∙ all;
           },
         )
@@ -196,6 +220,7 @@ prefix_to p input rules c d s t left rest m u taken kept shown lines = record {
   left_is = u.left_is ∙ lines;
   choose = u.choose;
   holds = record { bounds_are = kept; rest = λ later. ap (λ a. play p input rules (a ++ later)) (sym taken) ∙ u.holds.rest later };
+  reached = λ limit within later. ap (λ a. play p input (limited rules limit) (a ++ later)) (sym taken) ∙ u.reached limit within later;
 }
 
 -- ---- what a step adds

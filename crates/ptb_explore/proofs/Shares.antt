@@ -9,7 +9,8 @@ use Rattle.ptb_answers.specs.Outcome.{Answers, Outcome, Asks, IsReader, is_answe
 use Rattle.ptb_answers.proofs.Readers.{open_is, whole_is}
 use Rattle.ptb_explore.specs.Laws.{ShareLaws}
 use Rattle.ptb_explore.specs.Listing.{text}
-use Rattle.ptb_explore.specs.RunTree.{Front, Start, IsRun, IsRising, Before, answers_to, begins_with, is_after, is_left, runs_after, tree}
+use Rattle.ptb_explore.specs.Plans.{AllOnes, IsPlan}
+use Rattle.ptb_explore.specs.RunTree.{Front, Start, IsLast, IsRun, IsRising, Before, answers_to, begins_with, is_after, is_left, runs_after, tree}
 use Rattle.ptb_explore.proofs.Lists.{IsIn, all_at, answers_in, contained_in, filter_in, in_answers, in_filter, rising_answers, rising_filter}
 use Rattle.ptb_explore.proofs.Next.{left_after, left_begins, left_from}
 use Rattle.ptb_explore.proofs.Order.{before_from_differ, before_more, before_not_back, before_self, begins_from, begins_is}
@@ -99,23 +100,30 @@ module _ {A W : Type 0} (play : Answers → Outcome A W) (most : ℕ) (reads : I
     question report = ap (text report) joined ∙ text_each report share (answers_to n)
 
   -- with ones behind a question, a run is reached
-  some_run : (d : ℕ) (u : Answers) → most ≤ length u + d → is_open (play u) ≡ true → (s : Answers) × IsRun play (u ++ s)
+  some_run : (d : ℕ) (u : Answers) → most ≤ length u + d → is_open (play u) ≡ true → (s : Answers) × AllOnes s × IsRun play (u ++ s)
   some_run zero u l o = elim (open_is (play u) o) [
-    | inl e ↦ ([], rw (append-nil u, e.1) refl)
+    | inl e ↦ ([], tt, rw (append-nil u, e.1) refl)
     | inr q ↦ let f = reads.few u q.0 q.1 q.2 in absurd (omega arith)
   ]
   some_run (suc d) u l o = elim (open_is (play u) o) [
-    | inl e ↦ ([], rw (append-nil u, e.1) refl)
+    | inl e ↦ ([], tt, rw (append-nil u, e.1) refl)
     | inr q ↦
         let least = reads.positive u q.0 q.1 q.2 in
         let one : is_answer q.0 (pos 1) ≡ true = and_from (int_le (pos 1) (pos 1)) (int_le (pos 1) q.0) refl (grind (arith, ints)) in
         let p = some_run d (u ++ pos 1 ∷ []) (omega (arith, length-append u (pos 1 ∷ []))) (reads.inside u q.0 (pos 1) q.1 q.2 one) in
-        (pos 1 ∷ p.0, rw (append_assoc u (pos 1 ∷ []) p.0) at p.1)
+        (pos 1 ∷ p.0, (refl, p.1), rw (append_assoc u (pos 1 ∷ []) p.0) at p.2)
   ]
+
+  -- where a run goes on from a plan, some run is left
+  pub plan_left : {P : Type 0} (under : Answers) (front : Front) (plan : Answers) → IsPlan play under front plan → IsLast play under front → P
+  plan_left under front plan p last =
+      let s = some_run most plan (omega arith) p.opens in
+      let n = p.next s.0 s.1 s.2 in
+      absurd (last (plan ++ s.0) n.run n.left)
 
   begins_some : (u : Answers) → (is_open (play u) ≡ true) ↔ ((a : Answers) × IsRun play a × (begins_with a u ≡ true))
   begins_some u = (
-    λ o. let p = some_run most u (omega arith) o in (u ++ p.0, p.1, begins_from u p.0),
+    λ o. let p = some_run most u (omega arith) o in (u ++ p.0, p.2, begins_from u p.0),
     λ r. let b = begins_is r.0 u r.2 in run_open play most reads u b.0 (rw b.1 at r.1),
   )
 

@@ -5,7 +5,12 @@ use Rattle.std.specs.Prelude.{ℤ, ◌&&◌}
 use Rattle.ptb_answers.specs.declared.form.Marked.{Marked}
 use Rattle.ptb_answers.specs.Outcome.{Answers}
 use Rattle.ptb_answers.specs.AnswerText.{answers_of}
+use Rattle.std.specs.Ordering.{int_eq}
+use Rattle.std.proofs.lemmas.Bool.{false_from_ne_true}
+use Rattle.std.proofs.Math.Bool.{and-false}
 use Rattle.ptb_explore.specs.MarkedRuns.{is_bound, states_bounds}
+use Rattle.ptb_explore.specs.RunTree.{begins_with}
+use Rattle.ptb_explore.proofs.Order.{same_from, same_is}
 
 -- the one at a place, and then those behind it
 from_place : (list : List Marked) (bounds : List ℤ) (k : ℕ) (m : Marked) (n : ℤ) → k < length list → length list ≤ length bounds
@@ -37,3 +42,31 @@ pub states_begun : (list : List Marked) (plan : Answers) (given bounds : List �
 states_begun list plan given bounds is front =
     let n : length plan ≡ length list = ap length is ∙ length-map list (λ (m : Marked). m.answer) in
     sym (states_front list given (length plan) (omega arith)) ∙ ap (states_bounds list) front
+
+-- ---- whether the answers of a list begin with those of another
+
+-- the answers at a place, and then those after it
+each_answer : (list under : List Marked) (k : ℕ) (m : Marked) → k < length under → length under ≤ length list
+    → begins_with (answers_of (drop k list)) (answers_of (drop k under)) ≡ (int_eq (get_or list k m).answer (get_or under k m).answer && begins_with (answers_of (drop (suc k) list)) (answers_of (drop (suc k) under)))
+each_answer list [] k m lt le = absurd (omega arith)
+each_answer [] (y ∷ under) k m lt le = absurd (omega arith)
+each_answer (x ∷ list) (y ∷ under) zero m lt le = refl
+each_answer (x ∷ list) (y ∷ under) (suc k) m lt le = each_answer list under k m (omega arith) (omega arith)
+
+module _ (list under : List Marked) (k : ℕ) (m : Marked) (lt : k < length under) (le : length under ≤ length list) where
+  pub same_answer : (get_or list k m).answer ≡ (get_or under k m).answer → begins_with (answers_of (drop (k + 1) list)) (answers_of (drop (k + 1) under)) ≡ begins_with (answers_of (drop k list)) (answers_of (drop k under))
+  same_answer same =
+      let next : k + 1 ≡ suc k = omega arith in
+      let right : int_eq (get_or list k m).answer (get_or under k m).answer ≡ true = rw same (same_from (get_or under k m).answer) in
+      ap (λ j. begins_with (answers_of (drop j list)) (answers_of (drop j under))) next
+      ∙ sym (each_answer list under k m lt le ∙ ap (λ b. b && begins_with (answers_of (drop (suc k) list)) (answers_of (drop (suc k) under))) right)
+
+  pub other_answer : ((get_or list k m).answer ≡ (get_or under k m).answer → ⊥) → begins_with (answers_of (drop k list)) (answers_of (drop k under)) ≡ false
+  other_answer other =
+      let wrong : int_eq (get_or list k m).answer (get_or under k m).answer ≡ false = false_from_ne_true _ (λ t. other (same_is _ _ t)) in
+      each_answer list under k m lt le ∙ ap (λ b. b && begins_with (answers_of (drop (suc k) list)) (answers_of (drop (suc k) under))) wrong
+
+pub too_short : (list under : List Marked) → length list < length under → begins_with (answers_of list) (answers_of under) ≡ false
+too_short list [] l = absurd (omega arith)
+too_short [] (y ∷ under) l = refl
+too_short (x ∷ list) (y ∷ under) l = ap (λ b. int_eq x.answer y.answer && b) (too_short list under (omega arith)) ∙ and-false (int_eq x.answer y.answer)

@@ -51,17 +51,17 @@ module _ (form : Form) (first e : Exploration) (same : e ≡ record first { fron
           let last = of_first f new new' (Ok false) (subst (λ (x : Bool). NextWrites (play_of e) e.under (report form (play_of e)) e.front f new new' (Ok x)) is h) in
           rw (last.1, last.2) (progress_last (play_of first) (most_of first) reads first.under (report form (play_of first)) list first.front old e.front remaining new n progress last.0)
 
-      -- there was no memory for it
-      pub list_refused : (x : NextFault) → x ≡ next.Memory → NextWrites (play_of e) e.under (report form (play_of e)) e.front f new new' (Err x) → WritesSome (play_of first) first.under (report form (play_of first)) list first.front f old new' n
-      list_refused x is h =
-          let stays = of_first f new new' (Err next.Memory) (subst (λ (y : NextFault). NextWrites (play_of e) e.under (report form (play_of e)) e.front f new new' (Err y)) is h) in
-          rw (stays.0, stays.1) (progress_some (play_of first) (most_of first) reads first.under (report form (play_of first)) list first.front old e.front remaining new n progress)
-
       module _ (wanted : true ≡ not (option_eq eqb remaining (Some 0))) where
         unused : remaining ≡ Some 0 → ⊥
         unused is =
             let none : true ≡ not (option_eq eqb (Some 0) (Some 0)) = rw is at wanted in
             absurd cc
+
+        -- there was no memory for it
+        pub list_refused : (x : NextFault) → x ≡ next.Memory → NextWrites (play_of e) e.under (report form (play_of e)) e.front f new new' (Err x) → WritesSome (play_of first) first.under (report form (play_of first)) list first.front f old new' n
+        list_refused x is h =
+            let stays = of_first f new new' (Err next.Memory) (subst (λ (y : NextFault). NextWrites (play_of e) e.under (report form (play_of e)) e.front f new new' (Err y)) is h) in
+            rw (stays.1, stays.2) (progress_some (play_of first) (most_of first) reads first.under (report form (play_of first)) list first.front old e.front remaining new n progress unused stays.0)
 
         -- a beginning of it was written
         pub part_written : (x : NextFault) → x ≡ next.Write → NextWrites (play_of e) e.under (report form (play_of e)) e.front f new new' (Err x) → WritesInto (play_of first) first.under (report form (play_of first)) list first.front f old new' n

@@ -2,14 +2,17 @@
 --     machine_of k, steps_of k               the machine of a copy, and how many commands it had begun
 --     IsCopyOf m taken shown lines k         a copy of this machine, which had come so far
 --     IsSameCopy k j                         j is a copy as k is
+--     with_room ks                           what is left of the copies where there is room for one more
 --     Adds before m taken shown lines old new    what keeping one more leaves of the copies
 --     GoesBack most old new                  those that took more answers than this are dropped
+--     AreTakenBy p input rules a n           by the n-th command, and no earlier one, all of the answers a are taken
 --     AreCopies p input rules t w ks         the copies, the oldest first, are of a run with the answers t that showed w
 --     Agrees play n plan answers bounds      a plan begins with n of the answers, whose bounds are right
 --     KeptRun                                what contracts see of a copy
 --     kept_runs answers ks                   what contracts see of the copies of a run with these answers
 --     kept_steps answers runs                the steps of the newest that these answers begin with
 --     AreBeginnings m answers runs           each took a beginning of the answers, longer than that of the one before it
+--     ArePlaces p input rules runs           the steps of each are those of the command that took its last answer
 --     PlaysOn common old played steps new    so many steps are played after a run that goes on from what is left of the copies
 use Rattle.std.specs.Prelude.{◌≡◌, ℕ, ◌+◌, ◌-◌, ◌^◌, min, ◌<◌, ◌≤◌, List, [], ◌∷◌, ◌++◌, length, take, drop, map, false, if◌then◌else◌, ◌⊎◌, Option, Some, None, option_map, ℤ}
 use Rattle.std.specs.List.{AllByRecursion}
@@ -20,8 +23,8 @@ use Rattle.ptb_answers.specs.Choices.{Choices}
 use Rattle.ptb_command.specs.Configuration.{Configuration}
 use Rattle.ptb_machine.specs.Play.{play}
 use Rattle.ptb_explore.specs.declared.copies.KeptCopy.{KeptCopy}
-use Rattle.ptb_explore.specs.Playing.{IsRunPrefix}
-use Rattle.ptb_explore.specs.RunTree.{begins_with}
+use Rattle.ptb_explore.specs.Playing.{IsRunPrefix, limited}
+use Rattle.ptb_explore.specs.RunTree.{IsRun, begins_with}
 
 -- ---- copies
 
@@ -48,10 +51,14 @@ pub record IsSameCopy (k j : KeptCopy) : Type 0 where
   pub shown_is : j.shown ≡ k.shown
   pub lines_is : j.lines ≡ k.lines
 
--- the oldest may be dropped; the new one is kept only where more answers were taken than before
+-- where as many are kept as can be, the one with the fewest answers is dropped
+abbrev pub with_room : List KeptCopy → List KeptCopy
+with_room ks = drop (length ks + 1 - 64) ks
+
+-- the new one is kept only where more answers were taken than before, and where it isn't refused memory
 abbrev pub Adds : ℕ → Configuration → ℕ → ℕ → ℕ → List KeptCopy → List KeptCopy → Type 0
 Adds before m taken shown lines old new =
-    (n : ℕ) × ((new ≡ drop n old) ⊎ ((k : KeptCopy) × (before < taken) × IsCopyOf m taken shown lines k × (new ≡ drop n old ++ k ∷ [])))
+    (new ≡ old) ⊎ (new ≡ with_room old) ⊎ ((k : KeptCopy) × (before < taken) × IsCopyOf m taken shown lines k × (new ≡ with_room old ++ k ∷ []))
 
 -- those that are dropped had taken more answers, and the newest that is left had not
 pub record GoesBack (most : ℕ) (old new : List KeptCopy) : Type 0 where
@@ -83,12 +90,18 @@ abbrev pub taken_choices : {A W : Type 0} → (Answers → Outcome A W) → Answ
 taken_choices play t = record { plan = t; taken = t; kept = Some (bounds play t) }
 
 module _ (p : StoredProgram) (input : List (List ℕ)) (rules : Rules) where
+  -- a run that is limited to so many commands takes them all, and one that is limited to one fewer doesn't
+  pub record AreTakenBy (answers : Answers) (steps : ℕ) : Type 0 where
+    pub all : IsRun (play p input (limited rules steps)) answers
+    pub no_sooner : IsRun (play p input (limited rules (steps - 1))) answers → ⊥
+
   -- after the answers t, with the bytes w shown, play stands where the copy does
   pub record StandsAt (k : KeptCopy) (t : Answers) (w : List ℕ) : Type 0 where
     pub machine : Configuration
     pub machine_is : machine_of k ≡ Some machine
     pub unspent : machine.spent ≡ false
     pub within : k.lines ≤ length input
+    pub taken_by : AreTakenBy t machine.steps
     pub run_prefix : IsRunPrefix p input rules (taken_choices (play p input rules) t) w (drop k.lines input) machine
 
   -- each took a beginning of the answers, longer than that of the copy before it, and showed a beginning of the bytes
@@ -125,6 +138,9 @@ abbrev pub AreBeginnings : ℕ → Answers → List KeptRun → Type 0
 AreBeginnings m answers [] = Unit {0}
 AreBeginnings m answers (k ∷ runs) =
     (m < length k.answers) × (k.answers ≡ take (length k.answers) answers) × AreBeginnings (length k.answers) answers runs
+
+abbrev pub ArePlaces : StoredProgram → List (List ℕ) → Rules → List KeptRun → Type 0
+ArePlaces p input rules runs = AllByRecursion (λ k. AreTakenBy p input rules k.answers k.steps) runs
 
 -- ---- how many steps are played
 

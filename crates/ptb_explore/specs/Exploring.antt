@@ -9,7 +9,7 @@
 --     AreKeptAt f runs             the same, of what contracts see of them
 --     IsPlayed play a n            the run of these answers has so many steps
 --     NextPlays ..                 how many steps were played after the next run
-use Rattle.std.specs.Prelude.{◌≡◌, ℕ, ◌-◌, List, [], Bool, true, false, Option, Some, None, Result, Ok, Err}
+use Rattle.std.specs.Prelude.{◌≡◌, ℕ, ◌-◌, ◌≤◌, List, [], Bool, true, false, Option, Some, None, Result, Ok, Err}
 use Rattle.std.specs.declared.alloc.AllocError.{AllocError}
 use Rattle.std.specs.Borrow.{Bor}
 use Rattle.ptb_text.specs.Statements.{StoredProgram}
@@ -68,11 +68,16 @@ pub record FoundNext (old : Exploration) (r : Report) (new : Exploration) : Type
   pub now : new ≡ record old { front = At r.answers.items; kept = new.kept; played = played_after old.kept old.played r }
   pub kept : AreBeginnings 0 r.answers.items new.kept
 
+-- no copy is kept, and the commands of the play that was refused memory count
+pub record RefusedNext (old new : Exploration) : Type 0 where
+  pub now : new ≡ record old { kept = []; played = new.played }
+  pub played : old.played ≤ new.played
+
 -- or past the last run, or where it stood
 abbrev pub NextLeaves : Exploration → Result (Option (Bor Report)) AllocError → Exploration → Type 0
 NextLeaves old (Ok (Some r)) new = FoundNext old r.now new
 NextLeaves old (Ok None) new = new ≡ record old { front = End; kept = [] }
-NextLeaves old (Err e) new = new ≡ record old { kept = []; played = new.played }
+NextLeaves old (Err e) new = RefusedNext old new
 
 -- ---- copies
 

@@ -2,10 +2,15 @@
 --     TreeLaws        the tree has the runs, each once, in order
 --     ListingLaws     what a listing has left, and that one behind a run goes on where one that ended with it stopped
 --     ShareLaws       the runs that begin with some answers are those of its shares, one behind the other
-use Rattle.std.specs.Prelude.{◌≡◌, ℕ, ◌<◌, List, [], ◌∷◌, ◌++◌, length, true, ℤ, ◌↔◌, Contains}
-use Rattle.std.specs.List.{filter, flat_map}
+--     AreNumbers a    each answer is at most 32767
+--     ReportLaws      two runs have two different reports
+use Rattle.std.specs.Prelude.{◌≡◌, ℕ, ◌<◌, List, [], ◌∷◌, ◌++◌, length, true, ℤ, pos, ◌≤ℤ◌, ◌↔◌, Contains}
+use Rattle.std.specs.List.{AllByRecursion, filter, flat_map}
 use Rattle.ptb_answers.specs.Outcome.{Answers, Outcome, Asks, is_open}
+use Rattle.ptb_answers.specs.declared.form.Form.{Form}
+use Rattle.ptb_machine.specs.Play.{Finish}
 use Rattle.ptb_explore.specs.Listing.{text}
+use Rattle.ptb_explore.specs.Report.{report}
 use Rattle.ptb_explore.specs.RunTree.{Front, Start, At, Before, IsRun, IsRising, answers_to, begins_with, is_after, is_left, runs_after, tree}
 
 pub record TreeLaws {A W : Type 0} (play : Answers → Outcome A W) (most : ℕ) : Type 0 where
@@ -44,3 +49,18 @@ pub record ShareLaws {A W : Type 0} (play : Answers → Outcome A W) (most : ℕ
   -- where one list is before another, their shares have no run in common
   pub apart :
       (u v a : Answers) (f g : Front) → Before u v → Contains (runs_after play most u f) a → Contains (runs_after play most v g) a → ⊥
+
+-- every answer that the program reads is a number of 16 bits
+abbrev pub AreNumbers : Answers → Type 0
+AreNumbers a = AllByRecursion (λ k. k ≤ℤ pos 32767) a
+
+-- a report shows the answers of its run
+pub record ReportLaws (play : Answers → Outcome Finish (List ℕ)) (most : ℕ) : Type 0 where
+  -- so two runs have two different reports
+  pub differ :
+      (form : Form) (a b : Answers) → IsRun play a → IsRun play b → AreNumbers a → AreNumbers b
+      → report form play a ≡ report form play b → a ≡ b
+  -- and where one list is before another, their shares have no report in common
+  pub apart :
+      (form : Form) (u v a b : Answers) (f g : Front) → Before u v → Contains (runs_after play most u f) a → Contains (runs_after play most v g) b
+      → AreNumbers a → AreNumbers b → report form play a ≡ report form play b → ⊥

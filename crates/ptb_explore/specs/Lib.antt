@@ -5,6 +5,7 @@ pub mod Recording
 pub mod Playing
 pub mod Copies
 pub mod MarkedRuns
+pub mod Mismatch
 pub mod Report
 pub mod Listing
 pub mod Exploring

@@ -32,11 +32,11 @@ abbrev pub count_of : List Answers → ℕ
 count_of list = min (length list) (2 ^ 64 - 1)
 
 module _ {A W : Type 0} (play : Answers → Outcome A W) (under : Answers) (report : Answers → List ℕ) where
-  -- whether there is a next run; its report was written, or there is none, or nothing was written, or a beginning of it
+  -- its report was written, or no run is left, or one is left and nothing was written, or a beginning of its report was
   abbrev pub NextWrites : Front → Front → Option (List ℕ) → Option (List ℕ) → Result Bool NextFault → Type 0
   NextWrites f f' old new (Ok true) = (a : Answers) × IsNextRun play under f a × (f' ≡ At a) × Appends old new (report a)
   NextWrites f f' old new (Ok false) = IsLast play under f × (f' ≡ End) × (new ≡ old)
-  NextWrites f f' old new (Err next.Memory) = (f' ≡ f) × (new ≡ old)
+  NextWrites f f' old new (Err next.Memory) = (IsLast play under f → ⊥) × (f' ≡ f) × (new ≡ old)
   NextWrites f f' old new (Err next.Write) = (a : Answers) × IsNextRun play under f a × (f' ≡ At a) × TakesSome old new (report a)
 
   -- the reports of the whole list were written; it stands behind the list, or past the last run
@@ -45,11 +45,12 @@ module _ {A W : Type 0} (play : Answers → Outcome A W) (under : Answers) (repo
     pub count : n ≡ count_of list
     pub front : (f' ≡ behind f list) ⊎ ((f' ≡ End) × IsLast play under (behind f list))
 
-  -- the reports of a beginning of the list were written, and nothing else; it stands behind them
+  -- the reports of a beginning of the list were written, and not the whole list; it stands after them
   pub record WritesSome (list : List Answers) (f f' : Front) (old new : Option (List ℕ)) (n : ℕ) : Type 0 where
     pub beginning : List Answers
     pub rest : List Answers
     pub split : list ≡ beginning ++ rest
+    pub some_left : rest ≡ [] → ⊥
     pub bytes : Appends old new (text report beginning)
     pub count : n ≡ count_of beginning
     pub front : f' ≡ behind f beginning

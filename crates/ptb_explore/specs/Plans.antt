@@ -2,15 +2,20 @@
 --     IsPlan play under front plan                what goes on from the plan with ones and is a run is the next run that is left
 --     IsLastBelow floor answers bounds i          the last answer from a place on that can be raised is the one at i
 --     PlansNext under position answers bounds plan o    the plan raises that answer by one and drops those behind it; `under` stays
+--     HasPlan under position answers bounds       there is such a plan
 --     IsPosition play under position answers bounds     where it stands at a run, it is that of the answers, with these bounds
 --     IsFresh recorder                            all that a recorder holds is a plan
+--     IsTakenAlone planned stated recorder        all answers of a plan were taken and no more, with the bounds that are stated
+--     IsTaken planned stated recorder             the same, and more may have been taken
 --     EndsAt play plan answers bounds result      the plan and then ones are a run, with these bounds and this result
 use Rattle.std.specs.Prelude.{◌≡◌, ℕ, ◌<◌, ◌≤◌, List, [], ◌∷◌, ◌++◌, length, take, true, Option, Some, None, ℤ, pos, ◌+ℤ◌, ◌<ℤ◌, ◌≤ℤ◌, slice_index_or, vec_len}
 use Rattle.std.specs.List.{AllByRecursion}
 use Rattle.ptb_answers.specs.Outcome.{Answers, Outcome, Done, is_open, bounds}
+use Rattle.ptb_answers.specs.declared.form.Marked.{Marked}
 use Rattle.ptb_explore.specs.declared.plan.Position.{Position}
 use Rattle.ptb_explore.specs.declared.plan.Position.TheVariants.{AtStart, AtRun, AtEnd}
 use Rattle.ptb_explore.specs.declared.recorder.Recorder.{Recorder}
+use Rattle.ptb_explore.specs.MarkedRuns.{states_bounds}
 use Rattle.ptb_explore.specs.RunTree.{Front, Start, At, End, IsRun, IsNextRun, begins_with}
 
 -- each answer is 1
@@ -45,6 +50,9 @@ PlansNext under AtRun answers bounds plan (Some i) = IsLastBelow (length under) 
 PlansNext under AtEnd answers bounds plan None = Unit {0}
 PlansNext under AtEnd answers bounds plan (Some i) = ⊥
 
+abbrev pub HasPlan : Answers → Position → Answers → List ℤ → Type 0
+HasPlan under position answers bounds = (plan : Answers) × (i : ℕ) × PlansNext under position answers bounds plan (Some i)
+
 -- ---- where a listing stands
 
 abbrev pub front_at : Position → Answers → Front
@@ -63,6 +71,15 @@ IsPosition play under AtEnd answers their_bounds = Unit {0}
 pub record IsFresh (r : Recorder) : Type 0 where
   pub none_given : r.bounds.items ≡ []
   pub all_planned : r.planned ≡ vec_len r.answers
+
+pub record IsTakenAlone (planned : ℕ) (stated : List Marked) (r : Recorder) : Type 0 where
+  pub taken : length r.bounds.items ≡ planned
+  pub alone : length r.answers.items ≡ planned
+  pub states : states_bounds stated r.bounds.items ≡ true
+
+pub record IsTaken (planned : ℕ) (stated : List Marked) (r : Recorder) : Type 0 where
+  pub taken : planned ≤ length r.bounds.items
+  pub states : states_bounds stated r.bounds.items ≡ true
 
 pub record EndsAt {A W : Type 0} (play : Answers → Outcome A W) (plan answers : Answers) (their_bounds : List ℤ) (result : A) : Type 0 where
   pub ones : Answers

@@ -3,10 +3,11 @@
 --     NextIsOutside play c                   the plan's next answer is outside its bound
 --     PlayEnds play c steps shown ending     the play has this ending
 --     run_from p rules S                     what is left of a run from the state S on
+--     limited rules n                        the same rules with the limit n
 --     IsRunPrefix p input rules c shown left m    with what a chooser holds, a run has come to where a machine stands
-use Rattle.std.specs.Prelude.{◌≡◌, ℕ, List, ◌∷◌, ◌++◌, Some, ℤ}
+use Rattle.std.specs.Prelude.{◌≡◌, ℕ, ◌≤◌, List, ◌∷◌, ◌++◌, false, Some, ℤ}
 use Rattle.ptb_text.specs.Statements.{StoredProgram}
-use Rattle.ptb_answers.specs.Outcome.{Answers, Outcome, Done, Out, bounds, map_outcome}
+use Rattle.ptb_answers.specs.Outcome.{Answers, Outcome, Done, Asks, Out, bounds, is_answer, map_outcome}
 use Rattle.ptb_answers.specs.Choices.{Choices}
 use Rattle.ptb_command.specs.declared.ending.Ending.{Ending}
 use Rattle.ptb_command.specs.declared.ending.Ending.TheVariants as endings
@@ -29,6 +30,8 @@ module _ {A W : Type 0} (play : Answers → Outcome A W) where
     pub plan_is : c.plan ≡ c.taken ++ next ∷ later
     pub bound : ℤ
     pub beside : W
+    pub asks : play c.taken ≡ Asks bound beside
+    pub outside : is_answer bound next ≡ false
     pub out : play c.plan ≡ Out bound beside
 
 -- it never lacks an answer
@@ -43,6 +46,9 @@ PlayEnds play c steps shown ending = Holds play c (λ later. Done (record { endi
 abbrev pub run_from : StoredProgram → Rules → State → Answers → Outcome Finish (List ℕ)
 run_from p rules S a = map_outcome (λ f. f) (λ (T : State). T.shown) (turns p rules.limit S a)
 
+abbrev pub limited : Rules → ℕ → Rules
+limited rules n = record rules { limit = n }
+
 -- a run was begun, and with what the chooser holds it has come to where the machine stands
 pub record IsRunPrefix (p : StoredProgram) (input : List (List ℕ)) (rules : Rules) (c : Choices) (shown : List ℕ) (left : List (List ℕ)) (m : Configuration) : Type 0 where
   pub state : State
@@ -51,3 +57,7 @@ pub record IsRunPrefix (p : StoredProgram) (input : List (List ℕ)) (rules : Ru
   pub left_is : state.lines ≡ left
   pub choose : state.choose ≡ rules.choose
   pub holds : Holds (play p input rules) c (run_from p rules state)
+  -- it is so under each limit that isn't less than the steps
+  pub reached :
+      (limit : ℕ) → state.steps ≤ limit → (later : Answers)
+      → play p input (limited rules limit) (c.taken ++ later) ≡ run_from p (limited rules limit) state later

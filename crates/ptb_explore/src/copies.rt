@@ -1,9 +1,9 @@
 // This file has the copies of a machine that are kept of a run, from which the next runs go on.
 
-ghost use Rattle.std.specs.Prelude.{◌≡◌, ℕ, ℤ, List, Option, [], drop, false, IfOk};
+ghost use Rattle.std.specs.Prelude.{◌≡◌, ℕ, ℤ, List, Option, [], false, IfOk};
 ghost use Rattle.ptb_command.specs.Representation.{Represents};
 ghost use Rattle.ptb_command.specs.State.{first_state};
-ghost use Rattle.ptb_explore.specs.Copies.{Adds, GoesBackTo, IsSameCopy};
+ghost use Rattle.ptb_explore.specs.Copies.{Adds, GoesBackTo, IsSameCopy, with_room};
 
 use arrayvec::ArrayVec;
 use ptb_machine::{Machine, Player};
@@ -112,7 +112,7 @@ impl Copies {
     // Room for one copy more: that of the one with the fewest answers, which is dropped, where there
     // are as many as can be.
     fn room(&mut self) -> Option<Box<Machine>>
-        ensures { (n : ℕ) × (self.new.kept.items ≡ drop n self.old.kept.items) }
+        ensures { self.new.kept.items ≡ with_room self.old.kept.items }
     {
         if self.kept.is_full() {
             let KeptCopy { machine, .. } = self.kept.remove(0);

@@ -15,13 +15,13 @@ ghost use Rattle.ptb_explore.specs.Playing.{IsRunPrefix};
 ghost use Rattle.ptb_explore.specs.Recording.{choices_of};
 ghost use Rattle.ptb_explore.specs.Laws.{TreeLaws};
 ghost use Rattle.ptb_explore.specs.Plans.{front_at, IsPosition, IsFresh, EndsAt};
-ghost use Rattle.ptb_explore.specs.RunTree.{Start, At, End, IsRun, IsNextRun, IsLast, begins_with};
+ghost use Rattle.ptb_explore.specs.RunTree.{Start, At, IsRun, IsNextRun, IsLast, begins_with};
 
 use crate::copies::Copies;
 use crate::fault::{AfterFault, UnderFault};
-use crate::form::{answers_of, begins_with, states_bounds};
+use crate::form::{answers_of, compare_beginning, compare_run, items_begin_with};
 use crate::plan::{Position, plan_next};
-use crate::playing::{play_from_start, play_on};
+use crate::playing::{play_counted, play_from_start};
 use crate::recorder::Recorder;
 use crate::report::Report;
 use ptb_answers::Marked;
@@ -108,6 +108,7 @@ fn report_plan(
         report.new.transcript.items copies.new.kept.items) }
     ensures played { OnOk result (PlaysOn common copies.old.kept.items played.old
         report.new.steps played.new) }
+    ensures rises { played.old ≤ played.new }
 {
     run_laws();
     let mut screen = TextScreen::from_vec(mem::replace(&mut report.transcript, Vec::new(alloc)));
@@ -124,8 +125,7 @@ fn report_plan(
         copies,
     );
     let mut machine = machine?;
-    let first = machine.steps();
-    let ending = play_on(
+    let ending = play_counted(
         alloc,
         player,
         rules,
@@ -134,10 +134,10 @@ fn report_plan(
         &mut screen,
         &mut source,
         copies,
+        played,
     );
     let steps = machine.steps();
     copies.give_back(machine);
-    *played = played.saturating_add(u64::from(steps.saturating_sub(first)));
     report.transcript = screen.into_vec();
     report.ending = ending?;
     report.steps = steps;
@@ -168,11 +168,13 @@ fn report_next(
         (front_at position report.old.answers.items) report.new) }
     ensures answers { OnErr result (report.new.answers.items ≡ report.old.answers.items) }
     ensures bounds { OnErr result (report.new.bounds.items ≡ report.old.bounds.items) }
-    ensures ended { position ≡ Position.AtEnd → result ≡ Ok false }
+    ensures ended { IsLast (play player.old lines.now rules) under.now
+        (front_at position report.old.answers.items) → result ≡ Ok false }
     ensures copies { IfOk result (λ found. IsTrue found → AreCopies player.old lines.now rules
         report.new.answers.items report.new.transcript.items copies.new.kept.items) }
     ensures played { IfOk result (NextPlays
         (kept_runs report.old.answers.items copies.old.kept.items) played.old report.new played.new) }
+    ensures rises { played.old ≤ played.new }
 {
     run_laws();
     match plan_next(position, under, &report.answers, &report.bounds, trial)? {
@@ -186,8 +188,8 @@ fn report_next(
     }
 }
 
-// Plays the answers of a trial, and makes the report of their run, but for its ending, if they are
-// a run, of whose first questions these bounds are stated.
+// Plays the answers of a trial, and makes the report of their run, except its ending, if they are a
+// run, of whose first questions these bounds are stated.
 fn check_run(
     alloc: Global,
     player: &mut Player,
@@ -224,16 +226,9 @@ fn check_run(
     let steps = play_from_start(alloc, player, lines, rules, trial, &mut screen, copies);
     run.transcript = screen.into_vec();
     run.steps = steps?;
-    // An answer outside its bound isn't taken, so fewer are taken than planned where there is one.
-    if trial.bounds.len() == planned
-        && trial.answers.len() == planned
-        && states_bounds(stated, &trial.bounds)
-    {
-        trial.hand_over(&mut run.answers, &mut run.bounds);
-        Ok(())
-    } else {
-        Err(AfterFault::NotARun)
-    }
+    compare_run(trial, planned, stated)?;
+    trial.hand_over(&mut run.answers, &mut run.bounds);
+    Ok(())
 }
 
 // Plays the answers of a list and then ones, and gives the number of steps if all of them are taken
@@ -265,11 +260,8 @@ fn check_beginning(
         let mut copies = Copies::new();
         play_from_start(alloc, player, lines, rules, trial, &mut screen, &mut copies)
     }?;
-    if trial.bounds.len() >= answers.len() && states_bounds(list, &trial.bounds) {
-        Ok(u64::from(steps))
-    } else {
-        Err(UnderFault::NoBeginning)
-    }
+    compare_beginning(trial, answers.len(), list)?;
+    Ok(u64::from(steps))
 }
 
 /// Finds the runs of a program, one after the other, in the order of their answers.
@@ -330,6 +322,7 @@ impl<'a> Model for Explorer<'a> {
 impl<'a> Explorer<'a> {
     ghost use Rattle.std.specs.Borrow.{sem};
     ghost use Rattle.ptb_explore.specs.Lending.{NextRests};
+    ghost use Rattle.ptb_explore.specs.Copies.{ArePlaces};
     ghost use Rattle.ptb_explore.specs.Exploring.{AreKeptAt};
 
     /// An explorer before the first run of a program with these input lines. Each run is played by
@@ -531,7 +524,8 @@ impl<'a> Explorer<'a> {
     ///
     /// [`AfterFault::NotARun`] where the answers of the second list are no run, or do not begin with
     /// those of the first, or a bound that stands in the second list is not that of the question;
-    /// [`AfterFault::Memory`] where a growth was refused memory.
+    /// [`AfterFault::Memory`] where a growth was refused memory, never where the second list does not
+    /// begin with the first.
     pub fn after_under(
         alloc: Global,
         program: &'a Program,
@@ -559,12 +553,17 @@ impl<'a> Explorer<'a> {
         ensures not_a_run { IsErrOf result AfterFault.NotARun
             → IsMarkedRun (play program.now lines.now rules) list.now
             → begins_with (answers_of list.now) (answers_of under.now) ≡ true → ⊥ }
+        ensures memory { IsErrOf result AfterFault.Memory
+            → begins_with (answers_of list.now) (answers_of under.now) ≡ true }
 
         // Laws of the definitions.
         ensures laws { TreeLaws (play program.now lines.now rules)
             (most_answers program.now lines.now rules.limit) }
     {
         run_laws();
+        if !items_begin_with(list, under) {
+            return Err(AfterFault::NotARun);
+        }
         let under = answers_of(alloc, under)?;
         let trial = Recorder::planning(alloc, answers_of(alloc, list)?);
         Explorer::at_plan(alloc, program, lines, rules, under, trial, list)
@@ -584,6 +583,7 @@ impl<'a> Explorer<'a> {
         requires choose { IfSome rules.choose (λ n. pos 1 ≤ℤ n) }
         requires fresh { IsFresh trial }
         requires within { length stated.now ≤ length trial.answers.items }
+        requires begins { begins_with trial.answers.items under.items ≡ true }
         ensures after { IfOk result (λ e. e ≡ record {
           program = program.now;
           input = lines.now;
@@ -596,20 +596,15 @@ impl<'a> Explorer<'a> {
         ensures run { OnOk result (IsRun (play program.now lines.now rules) trial.answers.items) }
         ensures stated { OnOk result (states_bounds stated.now
             (bounds_of (play program.now lines.now rules) trial.answers.items) ≡ true) }
-        ensures begins { OnOk result (begins_with trial.answers.items under.items ≡ true) }
         ensures kept { IfOk result (λ e. AreBeginnings 0 trial.answers.items e.kept) }
         ensures played { IfOk result (λ e.
             IsPlayed (play program.now lines.now rules) trial.answers.items e.played) }
         ensures not_a_run { IsErrOf result AfterFault.NotARun
             → IsRun (play program.now lines.now rules) trial.answers.items
             → states_bounds stated.now
-            (bounds_of (play program.now lines.now rules) trial.answers.items) ≡ true
-            → begins_with trial.answers.items under.items ≡ true → ⊥ }
+            (bounds_of (play program.now lines.now rules) trial.answers.items) ≡ true → ⊥ }
     {
         run_laws();
-        if !begins_with(&trial.answers, &under) {
-            return Err(AfterFault::NotARun);
-        }
         let mut player = Player::new(alloc, program)?;
         let mut run = Report::new(alloc);
         let mut copies = Copies::new();
@@ -643,8 +638,9 @@ impl<'a> Explorer<'a> {
     ///
     /// # Errors
     ///
-    /// Where a growth was refused memory. Its place is unchanged then, no copy of the machine is kept,
-    /// and a further call looks for that run once more.
+    /// Where a growth was refused memory, never where no run is left. Its place is unchanged then, no
+    /// copy of the machine is kept, and a further call looks for that run once more. The commands that
+    /// were played count in [`played`](Explorer::played).
     pub fn next(&mut self) -> Result<Option<&Report>, AllocError>
         ensures report { IfOk result (λ o. IfSome o (λ r. Reports (play_of self.old) r.now)) }
         ensures next { IfOk result (λ o. IfSome o (λ r.
@@ -653,7 +649,8 @@ impl<'a> Explorer<'a> {
             length r.now.answers.items ≤ most_of self.old)) }
         ensures last { IfOk result (λ o. IfNone o
             (IsLast (play_of self.old) self.old.under self.old.front)) }
-        ensures ended { self.old.front ≡ End → result ≡ Ok None }
+        ensures ended { IsLast (play_of self.old) self.old.under self.old.front
+            → result ≡ Ok None }
         ensures* leaves { sem 𝓛 (NextRests self.entry result) }
     {
         run_laws();
@@ -692,11 +689,15 @@ impl<'a> Explorer<'a> {
         ensures number { result ≡ length self.now.kept }
         ensures most { result ≤ 64 }
         ensures front { AreKeptAt self.now.front self.now.kept }
+
+        // The steps of each copy are those of the command that took the last of its answers.
+        ensures places { ArePlaces self.now.program self.now.input self.now.rules self.now.kept }
     {
         self.copies.kept.len()
     }
 
-    /// How many commands were played, in all runs so far; `u64::MAX` where there were more.
+    /// How many commands were played, in all runs so far and in those that were refused memory;
+    /// `u64::MAX` where there were more.
     pub fn played(&self) -> u64
         ensures { result ≡ self.now.played }
     {

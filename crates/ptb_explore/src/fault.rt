@@ -1,7 +1,7 @@
 // This file says why runs can't be listed, or a listing can't begin with or go on after a list of answers.
 
 ghost use Rattle.std.specs.Prelude.{◌≡◌};
-ghost use Rattle.ptb_explore.specs.declared.fault.AfterFault.TheVariants.{Memory};
+ghost use Rattle.ptb_explore.specs.declared.fault.AfterFault.TheVariants.{Memory, NotARun};
 ghost use Rattle.ptb_explore.specs.declared.fault.UnderFault.TheVariants as under;
 
 use std::alloc::AllocError;
@@ -36,6 +36,28 @@ impl From<AllocError> for AfterFault {
 
     fn from(_refusal: AllocError) -> AfterFault {
         AfterFault::Memory
+    }
+}
+
+/// The answers of a plan were not all taken, or a bound is not that of its question.
+///
+/// It is no want of memory, so what only compares can't answer that.
+#[derive(Clone, Copy)]
+pub(crate) struct NotTaken;
+
+impl From<NotTaken> for AfterFault {
+    ghost from_gives = { λ _ fault. fault ≡ NotARun };
+
+    fn from(_plan: NotTaken) -> AfterFault {
+        AfterFault::NotARun
+    }
+}
+
+impl From<NotTaken> for UnderFault {
+    ghost from_gives = { λ _ fault. fault ≡ under.NoBeginning };
+
+    fn from(_plan: NotTaken) -> UnderFault {
+        UnderFault::NoBeginning
     }
 }
 

@@ -4,9 +4,9 @@ ghost use Rattle.std.specs.Prelude.{ℕ, List};
 ghost use Rattle.ptb_text.specs.Statements.{StoredProgram};
 ghost use Rattle.ptb_answers.specs.Outcome.{Answers, Outcome, IsReader};
 ghost use Rattle.ptb_answers.specs.declared.rules.Rules.{Rules};
-ghost use Rattle.ptb_machine.specs.Play.{play};
+ghost use Rattle.ptb_machine.specs.Play.{Finish, play};
 ghost use Rattle.ptb_machine.specs.Questions.{most_answers};
-ghost use Rattle.ptb_explore.specs.Laws.{ListingLaws, ShareLaws, TreeLaws};
+ghost use Rattle.ptb_explore.specs.Laws.{ListingLaws, ReportLaws, ShareLaws, TreeLaws};
 
 use ptb_machine::run_laws;
 
@@ -32,6 +32,14 @@ pub fn share_laws<A, W>()
         → ShareLaws play most }
 {}
 
+/// Two runs have two different reports, in whatever form, and so the listings of two shares have no
+/// report in common: a report shows the answers of its run. The answers are numbers up to 32767, as
+/// every answer that the program reads is.
+pub fn report_laws()
+    ensures { (play : Answers → Outcome Finish (List ℕ)) (most : ℕ) → IsReader play most
+        → ReportLaws play most }
+{}
+
 /// The runs of each program on each input, by any rules, have these laws.
 pub fn program_laws()
     ensures tree { (p : StoredProgram) (input : List (List ℕ)) (rules : Rules)
@@ -40,6 +48,8 @@ pub fn program_laws()
         → ListingLaws (play p input rules) (most_answers p input rules.limit) }
     ensures share { (p : StoredProgram) (input : List (List ℕ)) (rules : Rules)
         → ShareLaws (play p input rules) (most_answers p input rules.limit) }
+    ensures report { (p : StoredProgram) (input : List (List ℕ)) (rules : Rules)
+        → ReportLaws (play p input rules) (most_answers p input rules.limit) }
 {
     run_laws();
 }

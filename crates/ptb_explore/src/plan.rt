@@ -1,8 +1,8 @@
 // This file has the choice of the answers that the next run begins with.
 
-ghost use Rattle.std.specs.Prelude.{◌≡◌, Ok, None, length, pos, ◌<ℤ◌, slice_index_or};
-ghost use Rattle.std.specs.Prelude.{IfOk, IfSome, OnSome, MatchOption};
-ghost use Rattle.ptb_explore.specs.Plans.{IsLastBelow, AreAtBounds, PlansNext, IsFresh};
+ghost use Rattle.std.specs.Prelude.{◌≡◌, length, pos, ◌<ℤ◌, slice_index_or};
+ghost use Rattle.std.specs.Prelude.{IfOk, IfSome, OnErr, OnSome, MatchOption};
+ghost use Rattle.ptb_explore.specs.Plans.{IsLastBelow, AreAtBounds, HasPlan, PlansNext, IsFresh};
 
 use crate::recorder::Recorder;
 use std::alloc::AllocError;
@@ -44,7 +44,7 @@ fn last_below(answers: &[i16], bounds: &[i16], floor: usize) -> Option<usize>
 ///
 /// # Errors
 ///
-/// Where the plan is refused memory.
+/// Where the plan is refused memory; never where no run is left.
 pub(crate) fn plan_next(
     position: Position,
     under: &[i16],
@@ -56,7 +56,7 @@ pub(crate) fn plan_next(
     ensures plan { IfOk result (PlansNext under.now position
         answers.now bounds.now trial.new.answers.items) }
     ensures fresh { IfOk result (λ o. OnSome o (IsFresh trial.new)) }
-    ensures ended { position ≡ Position.AtEnd → result ≡ Ok None }
+    ensures refused { OnErr result (HasPlan under.now position answers.now bounds.now) }
 {
     match position {
         Position::AtEnd => Ok(None),

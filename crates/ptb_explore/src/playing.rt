@@ -1,8 +1,8 @@
 // This file plays a program with the answers of a plan.
 
-ghost use Rattle.std.specs.Prelude.{◌≡◌, ◌≤◌, ◌≤ℤ◌, pos, false, [], length, drop, IfOk, IfSome, OnOk};
+ghost use Rattle.std.specs.Prelude.{◌≡◌, ◌-◌, ◌≤◌, ◌≤ℤ◌, pos, false, [], length, drop, IfOk, IfSome, OnOk};
 ghost use Rattle.ptb_machine.specs.Play.{play};
-ghost use Rattle.ptb_explore.specs.Copies.{AreCopies};
+ghost use Rattle.ptb_explore.specs.Copies.{AreCopies, more_played};
 ghost use Rattle.ptb_explore.specs.Plans.{IsFresh};
 ghost use Rattle.ptb_explore.specs.Playing.{PlayEnds, IsRunPrefix};
 ghost use Rattle.ptb_explore.specs.Recording.{choices_of};
@@ -62,6 +62,46 @@ pub(crate) fn play_on(
         let lines = source.taken();
         copies.keep(alloc, machine, before, taken, shown, lines);
     }
+}
+
+/// Plays a run as [`play_on`] does, and adds its commands to those played, also where memory is
+/// refused.
+///
+/// # Errors
+///
+/// As in [`play_on`].
+pub(crate) fn play_counted(
+    alloc: Global,
+    player: &mut Player,
+    rules: Rules,
+    machine: &mut Machine,
+    trial: &mut Recorder,
+    screen: &mut TextScreen,
+    source: &mut Lines,
+    copies: &mut Copies,
+    played: &mut u64,
+) -> Result<Ending, AllocError>
+    requires choose { IfSome rules.choose (λ n. pos 1 ≤ℤ n) }
+    requires unspent { machine.old.spent ≡ false }
+    requires within { source.old.taken ≤ length source.old.lines }
+    requires run_prefix { IsRunPrefix player.old source.old.lines rules (choices_of trial.old)
+        screen.old (drop source.old.taken source.old.lines) machine.old }
+    requires copies { AreCopies player.old source.old.lines rules (choices_of trial.old).taken
+        screen.old copies.old.kept.items }
+    ensures program { player.new ≡ player.old }
+    ensures plan { OnOk result ((choices_of trial.new).plan ≡ (choices_of trial.old).plan) }
+    ensures ends { IfOk result (PlayEnds (play player.old source.old.lines rules)
+        (choices_of trial.new) machine.new.steps screen.new) }
+    ensures copies { OnOk result (AreCopies player.old source.old.lines rules
+        (choices_of trial.new).taken screen.new copies.new.kept.items) }
+    ensures played { played.new
+        ≡ more_played played.old (machine.new.steps - machine.old.steps) }
+    ensures rises { played.old ≤ played.new }
+{
+    let first = machine.steps();
+    let ending = play_on(alloc, player, rules, machine, trial, screen, source, copies);
+    *played = played.saturating_add(u64::from(machine.steps().saturating_sub(first)));
+    ending
 }
 
 /// Plays a run of the player's program from its beginning, as [`play_on`] goes on with it, and gives

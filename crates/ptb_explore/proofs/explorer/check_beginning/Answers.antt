@@ -5,16 +5,15 @@ use Rattle.ptb_answers.specs.Outcome.{Answers}
 use Rattle.ptb_machine.specs.Play.{Finish, play}
 use Rattle.ptb_machine.specs.Questions.{most_answers}
 use Rattle.ptb_explore.specs.RunTree.{Start, IsNextRun}
-use Rattle.ptb_explore.proofs.Begun.{list_opens, none_begun, begun_stated, begun_unstated}
+use Rattle.ptb_explore.proofs.Begun.{list_opens, none_begun, begun_stated, begun_states}
 use Rattle.ptb_explore.proofs.Exits.{ok_no_err, memory_no_beginning}
 use Rattle.ptb_explore.proofs.Next.{next_same}
 use Rattle.ptb_explore.proofs.Raising.{plan_ends, start_plan}
 use Rattle.ptb_explore.proofs.Trial.{begun_opens, open_begun, open_ends, result_is}
 use Rattle.ptb_explore.proofs.explorer.check_beginning.Goals as goal
-use Rattle.ptb_explore.proofs.explorer.check_beginning.Goals.{else-len-answers-via-then-len-answers+else-states_bounds, else-len-answers-via-else-len-answers}
 
-pub returns-then-states_bounds : goal.returns-then-states_bounds
-returns-then-states_bounds c =
+pub returns : goal.returns
+returns c =
     let p = c.args.player.now in
     let input = c.args.lines.now in
     let game = play p input c.args.rules in
@@ -26,13 +25,14 @@ returns-then-states_bounds c =
     let planned = c.in_ok-steps.ensures.plan in
     let ends = c.in_ok-steps.ensures.ends in
     let are = c.in_ok-replay.ensures.answers in
-    let all : length plan.items ≤ length new.bounds.items = omega (arith, c.if-len-answers.true, new.bounds.ok.0, ap length are) in
+    let is = c.in_ok-compare_beginning.ensures.ok in
+    let all : length plan.items ≤ length new.bounds.items = omega (arith, is.taken, ap length are) in
     let begun = begun_opens game new c.in_ok-steps.steps shown most reads plan.items planned all ends.0 ends.1 in
     record {
       program = c.in_ok-steps.ensures.program;
       beginning = (
         list_opens p input c.args.rules c.args.list.now plan.items (are ∙ c.requires.answers) begun.0,
-        begun_stated p input c.args.rules c.args.list.now plan.items (are ∙ c.requires.answers) _ _ c.deref.ensures.value begun.1 _ c.states_bounds.ensures c.if-states_bounds.true,
+        begun_stated p input c.args.rules c.args.list.now plan.items (are ∙ c.requires.answers) new.bounds.items begun.1 is.states,
       );
       played = λ a first f is.
           let end = open_ends game new c.in_ok-steps.steps shown most reads plan.items planned begun.0 ends.0 ends.1 in
@@ -42,30 +42,32 @@ returns-then-states_bounds c =
       no_beginning = λ fault _. ok_no_err fault;
     }
 
-pub returns-else-len-answers-clause-no_beginning : goal.returns-else-len-answers-clause-no_beginning
-returns-else-len-answers-clause-no_beginning c = λ _ beginning.
-    let p = c.args.player.now in
-    let input = c.args.lines.now in
-    let game = play p input c.args.rules in
-    let most = most_answers p input c.args.rules.limit in
-    let reads = c.run_laws.ensures.reads p input c.args.rules in
-    let plan = c.replay.new.self.answers in
-    let new = c.play_from_start.new.trial in
-    let shown = c.play_from_start.new.screen in
-    let planned = c.in_ok-steps.ensures.plan in
-    let ends = c.in_ok-steps.ensures.ends in
-    let are = c.in_ok-replay.ensures.answers in
-    elim c.else-len-answers.branch [
-      | else-len-answers-via-then-len-answers+else-states_bounds w ↦
-          let all : length plan.items ≤ length new.bounds.items = omega (arith, w.if-len-answers.true, new.bounds.ok.0, ap length are) in
-          let begun = begun_opens game new c.in_ok-steps.steps shown most reads plan.items planned all ends.0 ends.1 in
-          begun_unstated p input c.args.rules c.args.list.now plan.items (are ∙ c.requires.answers) _ _ w.deref.ensures.value begun.1 _ w.states_bounds.ensures w.if-states_bounds.false beginning
-      | else-len-answers-via-else-len-answers w ↦
-          none_begun p input c.args.rules c.args.list.now plan.items (are ∙ c.requires.answers)
-          (λ opens.
-          let all = open_begun game new c.in_ok-steps.steps shown most reads plan.items planned opens ends.0 ends.1 in
-          omega (arith, w.if-len-answers.false, new.bounds.ok.0, ap length are, all)) beginning
-    ]
+pub returns-in_err-compare_beginning : goal.returns-in_err-compare_beginning
+returns-in_err-compare_beginning c = record {
+  program = c.in_ok-steps.ensures.program;
+  beginning = IfOk-from_err _ _ c.from_residual-in_err-compare_beginning.ensures.0;
+  played = IfOk-from_err _ _ c.from_residual-in_err-compare_beginning.ensures.0;
+  no_beginning = λ _ beginning.
+      let p = c.args.player.now in
+      let input = c.args.lines.now in
+      let game = play p input c.args.rules in
+      let most = most_answers p input c.args.rules.limit in
+      let reads = c.run_laws.ensures.reads p input c.args.rules in
+      let plan = c.replay.new.self.answers in
+      let new = c.play_from_start.new.trial in
+      let shown = c.play_from_start.new.screen in
+      let planned = c.in_ok-steps.ensures.plan in
+      let ends = c.in_ok-steps.ensures.ends in
+      let are = c.in_ok-replay.ensures.answers in
+      none_begun p input c.args.rules c.args.list.now plan.items (are ∙ c.requires.answers)
+      (λ opens.
+      let all = open_begun game new c.in_ok-steps.steps shown most reads plan.items planned opens ends.0 ends.1 in
+      let begun = begun_opens game new c.in_ok-steps.steps shown most reads plan.items planned all ends.0 ends.1 in
+      c.in_err-compare_beginning.ensures.other (record {
+        taken = omega (arith, ap length are, all);
+        states = begun_states p input c.args.rules c.args.list.now plan.items (are ∙ c.requires.answers) new.bounds.items begun.1 beginning;
+      })) beginning;
+}
 
 pub returns-in_err-replay : goal.returns-in_err-replay
 returns-in_err-replay c = record {

@@ -1,13 +1,14 @@
 -- This file answers that the run of the next plan is the next run.
-use Rattle.std.proofs.Common.{Some, None, refl}
+use Rattle.std.proofs.Common.{Some, None, arith, refl}
 use Rattle.std.proofs.lemmas.Result.{IfOk-from_err}
 use Rattle.ptb_machine.specs.Play.{play}
 use Rattle.ptb_machine.specs.Questions.{most_answers}
-use Rattle.ptb_explore.specs.Plans.{front_at, PlansNext}
+use Rattle.ptb_explore.specs.Plans.{front_at, HasPlan, PlansNext}
 use Rattle.ptb_report.proofs.Reporting.{on_err_always}
-use Rattle.ptb_explore.proofs.Exits.{err_no_ok, some_no_none, on_some_at}
+use Rattle.ptb_explore.proofs.Exits.{on_some_at}
 use Rattle.ptb_explore.proofs.GoingOn.{next_agrees, next_played, position_copies}
 use Rattle.ptb_explore.proofs.Raising.{position_lengths, next_plan, last_plan, plan_ends}
+use Rattle.ptb_explore.proofs.Shares.{plan_left}
 use Rattle.ptb_explore.proofs.explorer.report_next.Goals as goal
 
 pub plan_next-requires : goal.plan_next-requires
@@ -69,9 +70,17 @@ returns-in_err-plan_next c = record {
   next = IfOk-from_err _ _ c.from_residual.ensures.0;
   answers = on_err_always _ refl;
   bounds = on_err_always _ refl;
-  ended = λ end. err_no_ok (c.in_err-plan_next.ensures.ended end);
+  ended = λ last.
+      let p = c.args.player.now in
+      let input = c.args.lines.now in
+      let rules = c.args.rules in
+      let report = c.args.report.now in
+      let has : HasPlan c.args.under.now c.args.position report.answers.items report.bounds.items = rw (← c.deref.ensures.value, ← c.deref-2.ensures.value) c.in_err-plan_next.ensures.refused in
+      let next = next_plan (play p input rules) (most_answers p input rules.limit) (c.run_laws.ensures.reads p input rules) c.args.under.now c.args.position report.answers.items has.0 report.bounds.items has.1 c.requires.position has.2 in
+      plan_left (play p input rules) (most_answers p input rules.limit) (c.run_laws.ensures.reads p input rules) c.args.under.now (front_at c.args.position report.answers.items) has.0 next last;
   copies = IfOk-from_err _ _ c.from_residual.ensures.0;
   played = IfOk-from_err _ _ c.from_residual.ensures.0;
+  rises = omega arith;
 }
 
 pub returns-in_err-report_plan-in-Some : goal.returns-in_err-report_plan-in-Some
@@ -80,13 +89,30 @@ returns-in_err-report_plan-in-Some c = record {
   next = IfOk-from_err _ _ c.from_residual-in_err-report_plan-in-Some.ensures.0;
   answers = on_err_always _ c.in_err-report_plan-in-Some.ensures.answers;
   bounds = on_err_always _ c.in_err-report_plan-in-Some.ensures.bounds;
-  ended = λ end. some_no_none c.in-Some.is (c.in_ok-plan_next.ensures.ended end);
+  ended = λ last.
+      let p = c.args.player.now in
+      let input = c.args.lines.now in
+      let rules = c.args.rules in
+      let report = c.args.report.now in
+      let plan = c.plan_next.new.trial.answers.items in
+      let plans : PlansNext c.args.under.now c.args.position report.answers.items report.bounds.items plan (Some c.in-Some.common) = rw (← c.deref.ensures.value, ← c.deref-2.ensures.value, ← c.in-Some.is) c.in_ok-plan_next.ensures.plan in
+      let next = next_plan (play p input rules) (most_answers p input rules.limit) (c.run_laws.ensures.reads p input rules) c.args.under.now c.args.position report.answers.items plan report.bounds.items c.in-Some.common c.requires.position plans in
+      plan_left (play p input rules) (most_answers p input rules.limit) (c.run_laws.ensures.reads p input rules) c.args.under.now (front_at c.args.position report.answers.items) plan next last;
   copies = IfOk-from_err _ _ c.from_residual-in_err-report_plan-in-Some.ensures.0;
   played = IfOk-from_err _ _ c.from_residual-in_err-report_plan-in-Some.ensures.0;
+  rises = c.report_plan.ensures.rises;
 }
 
 pub returns-in_ok-report_plan-in-Some-clause-ended : goal.returns-in_ok-report_plan-in-Some-clause-ended
-returns-in_ok-report_plan-in-Some-clause-ended c = λ end. some_no_none c.in-Some.is (c.in_ok-plan_next.ensures.ended end)
+returns-in_ok-report_plan-in-Some-clause-ended c = λ last.
+    let p = c.args.player.now in
+    let input = c.args.lines.now in
+    let rules = c.args.rules in
+    let report = c.args.report.now in
+    let plan = c.plan_next.new.trial.answers.items in
+    let plans : PlansNext c.args.under.now c.args.position report.answers.items report.bounds.items plan (Some c.in-Some.common) = rw (← c.deref.ensures.value, ← c.deref-2.ensures.value, ← c.in-Some.is) c.in_ok-plan_next.ensures.plan in
+    let next = next_plan (play p input rules) (most_answers p input rules.limit) (c.run_laws.ensures.reads p input rules) c.args.under.now c.args.position report.answers.items plan report.bounds.items c.in-Some.common c.requires.position plans in
+    plan_left (play p input rules) (most_answers p input rules.limit) (c.run_laws.ensures.reads p input rules) c.args.under.now (front_at c.args.position report.answers.items) plan next last
 
 pub returns-in_ok-report_plan-in-Some-clause-copies : goal.returns-in_ok-report_plan-in-Some-clause-copies
 returns-in_ok-report_plan-in-Some-clause-copies c = λ _. c.in_ok-report_plan-in-Some.ensures.copies

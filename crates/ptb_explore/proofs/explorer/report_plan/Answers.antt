@@ -1,12 +1,12 @@
 -- This file answers that a plan that is open ends at a run, whose report is made, and that the copies that are kept are of it.
-use Rattle.std.proofs.Common.{◌≡◌, ℕ, ◌-◌, List, ◌∙◌, ap, refl, sym, subst}
+use Rattle.std.proofs.Common.{◌≡◌, ℕ, ◌-◌, List, ◌∙◌, ap, arith, refl, sym, subst}
 use Rattle.std.proofs.lemmas.Result.{IfOk-from_err}
 use Rattle.ptb_text.specs.Statements.{StoredProgram}
 use Rattle.ptb_command.specs.Configuration.{Configuration}
 use Rattle.ptb_devices.specs.Sources.{LineList}
 use Rattle.ptb_machine.specs.Play.{play}
 use Rattle.ptb_machine.specs.Questions.{most_answers}
-use Rattle.ptb_explore.specs.Copies.{more_played}
+use Rattle.ptb_explore.specs.Copies.{last_steps, more_played}
 use Rattle.ptb_explore.specs.Playing.{PlayEnds}
 use Rattle.ptb_explore.specs.Recording.{choices_of}
 use Rattle.ptb_report.proofs.Reporting.{on_err_always}
@@ -20,39 +20,49 @@ returns-clause-ends c =
     let p = c.args.player.now in
     let input = c.args.lines.now in
     let rules = c.args.rules in
-    let trial = c.play_on-ending.new.trial in
-    let steps = c.play_on-ending.new.machine.steps in
-    let shown = c.play_on-ending.new.screen in
+    let trial = c.play_counted-ending.new.trial in
+    let steps = c.play_counted-ending.new.machine.steps in
+    let shown = c.play_counted-ending.new.screen in
     let planned = c.in_ok-report.ensures.plan ∙ c.in_ok-machine.ensures.plan in
     let lines : c.go_back-machine.new.source.lines ≡ input = c.go_back-machine.ensures.same_lines ∙ ap (λ (s : LineList). s.lines) c.new-source.ensures in
     let ends = subst (λ (P : StoredProgram). PlayEnds (play P input rules) (choices_of trial) steps shown c.in_ok-report.field-0) c.go_back-machine.ensures.program
     (subst (λ (ls : List (List ℕ)). PlayEnds (play c.go_back-machine.new.player ls rules) (choices_of trial) steps shown c.in_ok-report.field-0) lines c.in_ok-report.ensures.ends) in
     let run = open_ends (play p input rules) trial steps shown (most_answers p input rules.limit) (c.run_laws.ensures.reads p input rules) c.args.trial.now.answers.items planned c.requires.opens c.in_ok-report.field-0 ends in
-    rw (c.hand_over.ensures.answers, c.hand_over.ensures.bounds, c.into_vec.ensures, c.steps-steps.ensures, c.deref-2.ensures) run
+    rw (c.hand_over.ensures.answers, c.hand_over.ensures.bounds, c.into_vec.ensures, c.steps-steps.ensures, c.deref.ensures) run
 
 pub returns-clause-copies : goal.returns-clause-copies
 returns-clause-copies c =
     let p = c.args.player.now in
     let input = c.args.lines.now in
     let rules = c.args.rules in
-    let trial = c.play_on-ending.new.trial in
-    let steps = c.play_on-ending.new.machine.steps in
-    let shown = c.play_on-ending.new.screen in
+    let trial = c.play_counted-ending.new.trial in
+    let steps = c.play_counted-ending.new.machine.steps in
+    let shown = c.play_counted-ending.new.screen in
     let planned = c.in_ok-report.ensures.plan ∙ c.in_ok-machine.ensures.plan in
     let lines : c.go_back-machine.new.source.lines ≡ input = c.go_back-machine.ensures.same_lines ∙ ap (λ (s : LineList). s.lines) c.new-source.ensures in
     let ends = subst (λ (P : StoredProgram). PlayEnds (play P input rules) (choices_of trial) steps shown c.in_ok-report.field-0) c.go_back-machine.ensures.program
     (subst (λ (ls : List (List ℕ)). PlayEnds (play c.go_back-machine.new.player ls rules) (choices_of trial) steps shown c.in_ok-report.field-0) lines c.in_ok-report.ensures.ends) in
     let run = open_ends (play p input rules) trial steps shown (most_answers p input rules.limit) (c.run_laws.ensures.reads p input rules) c.args.trial.now.answers.items planned c.requires.opens c.in_ok-report.field-0 ends in
-    kept_same c.go_back-machine.new.player p c.go_back-machine.new.source.lines input rules (choices_of trial).taken _ shown _ c.play_on-ending.new.copies.kept.items _
+    kept_same c.go_back-machine.new.player p c.go_back-machine.new.source.lines input rules (choices_of trial).taken _ shown _ c.play_counted-ending.new.copies.kept.items _
     (sym c.go_back-machine.ensures.program) (sym lines) (c.hand_over.ensures.answers ∙ sym (all_given (play p input rules) trial run.bounds_are)) c.into_vec.ensures (ap (λ k. k.items) c.give_back.ensures) c.in_ok-report.ensures.copies
 
 pub returns-clause-played : goal.returns-clause-played
 returns-clause-played c =
-    let first = c.steps-first.ensures ∙ ap (λ (m : Configuration). m.steps) c.deref.ensures ∙ c.in_ok-machine.ensures.steps in
-    (c.go_back-machine.new.copies.kept.items, c.in_ok-machine.ensures.back, c.saturating_add.ensures ∙ ap (λ n. more_played c.args.played.now n) (c.from.ensures ∙ c.saturating_sub.ensures ∙ ap (λ n. c.steps-steps.result - n) first))
+    let left = c.go_back-machine.new.copies.kept.items in
+    let first = ap (λ (m : Configuration). m.steps) c.deref_mut.ensures.value ∙ c.in_ok-machine.ensures.steps in
+    let steps = c.steps-steps.ensures ∙ ap (λ (m : Configuration). m.steps) c.deref.ensures in (
+      left,
+      c.in_ok-machine.ensures.back,
+      c.play_counted-ending.ensures.played
+          ∙ ap (λ n. more_played c.args.played.now (c.play_counted-ending.new.machine.steps - n)) first
+          ∙ ap (λ n. more_played c.args.played.now (n - last_steps left)) (sym steps),
+    )
+
+pub returns-clause-rises : goal.returns-clause-rises
+returns-clause-rises c = c.play_counted-ending.ensures.rises
 
 pub returns-clause-program : goal.returns-clause-program
-returns-clause-program c = c.play_on-ending.ensures.program ∙ c.go_back-machine.ensures.program
+returns-clause-program c = c.play_counted-ending.ensures.program ∙ c.go_back-machine.ensures.program
 
 pub returns-in_err-machine : goal.returns-in_err-machine
 returns-in_err-machine c = record {
@@ -62,16 +72,18 @@ returns-in_err-machine c = record {
   bounds = on_err_always _ refl;
   copies = IfOk-from_err _ _ c.from_residual.ensures.0;
   played = IfOk-from_err _ _ c.from_residual.ensures.0;
+  rises = omega arith;
 }
 
 pub returns-in_err-report : goal.returns-in_err-report
 returns-in_err-report c = record {
-  program = c.play_on-ending.ensures.program ∙ c.go_back-machine.ensures.program;
+  program = c.play_counted-ending.ensures.program ∙ c.go_back-machine.ensures.program;
   ends = IfOk-from_err _ _ c.from_residual-in_err-report.ensures.0;
   answers = on_err_always _ refl;
   bounds = on_err_always _ refl;
   copies = IfOk-from_err _ _ c.from_residual-in_err-report.ensures.0;
   played = IfOk-from_err _ _ c.from_residual-in_err-report.ensures.0;
+  rises = c.play_counted-ending.ensures.rises;
 }
 
 pub go_back-machine-requires : goal.go_back-machine-requires
@@ -83,8 +95,8 @@ go_back-machine-requires c =
       copies = kept_same c.args.player.now c.args.player.now c.args.lines.now _ c.args.rules _ _ _ _ _ _ refl lines refl (c.from_vec-screen.ensures ∙ ap (λ v. v.items) c.replace.ensures.value) refl c.requires.copies;
     }
 
-pub play_on-ending-requires : goal.play_on-ending-requires
-play_on-ending-requires c = record {
+pub play_counted-ending-requires : goal.play_counted-ending-requires
+play_counted-ending-requires c = record {
   choose = c.requires.choose;
   unspent = ap (λ (m : Configuration). m.spent) c.deref_mut.ensures.value ∙ c.in_ok-machine.ensures.unspent;
   within = c.in_ok-machine.ensures.within;

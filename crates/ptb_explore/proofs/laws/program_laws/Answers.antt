@@ -2,6 +2,7 @@
 use Rattle.ptb_machine.specs.Play.{play}
 use Rattle.ptb_machine.specs.Questions.{most_answers}
 use Rattle.ptb_explore.proofs.Behind.{listing_laws}
+use Rattle.ptb_explore.proofs.ReportAnswers.{report_laws}
 use Rattle.ptb_explore.proofs.Shares.{share_laws}
 use Rattle.ptb_explore.proofs.Tree.{tree_laws}
 use Rattle.ptb_explore.proofs.laws.program_laws.Goals as goal
@@ -14,3 +15,6 @@ returns-clause-listing c = λ p input rules. listing_laws (play p input rules) (
 
 pub returns-clause-share : goal.returns-clause-share
 returns-clause-share c = λ p input rules. share_laws (play p input rules) (most_answers p input rules.limit) (c.run_laws.ensures.reads p input rules)
+
+pub returns-clause-report : goal.returns-clause-report
+returns-clause-report c = λ p input rules. report_laws (play p input rules) (most_answers p input rules.limit) (c.run_laws.ensures.reads p input rules)

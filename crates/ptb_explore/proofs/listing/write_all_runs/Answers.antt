@@ -35,7 +35,7 @@ pub returns-in-Err-Memory : goal.returns-in-Err-Memory
 returns-in-Err-Memory g c = record {
   same = same_after c.args.form c.args.explorer.now c.loop-form.explorer c.loop-form.invariant.same _ c.in-Err-Memory.ensures.same;
   writes = list_refused c.args.form c.args.explorer.now c.loop-form.explorer c.loop-form.invariant.same (c.run_laws.ensures.reads c.args.explorer.now.program c.args.explorer.now.input c.args.explorer.now.rules) _ _ _ _ _ c.loop-form.invariant.progress
-      c.write_next.new.explorer.front _ _ c.in-Err-Memory.field-0-is c.in-Err-Memory.ensures.writes;
+      c.write_next.new.explorer.front _ c.loop-form-test.ensures _ c.in-Err-Memory.field-0-is c.in-Err-Memory.ensures.writes;
   failed = λ n fault. memory_told fault;
   unfailed = λ _. c.in-Err-Memory.ensures.unfailed (λ fault. memory_no_write c.in-Err-Memory.field-0-is fault) ∙ c.loop-form.invariant.unfailed;
 }

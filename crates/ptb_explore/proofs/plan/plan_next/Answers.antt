@@ -1,6 +1,8 @@
 -- This file answers that the plan raises the last answer below its bound.
-use Rattle.std.proofs.Common.{rules, ◌≡◌, ◌++◌, ◌∷◌, [], take, arith, ap, ◌∙◌, ℤ, pos, ◌+ℤ◌, FitsSigned, w16, to_z, of_z, slice_index_or}
+use Rattle.std.proofs.Common.{rules, ◌≡◌, ◌++◌, ◌∷◌, [], take, arith, ap, refl, ◌∙◌, ℤ, pos, ◌+ℤ◌, FitsSigned, w16, to_z, of_z, slice_index_or}
 use Rattle.std.proofs.lemmas.Int.{ints}
+use Rattle.ptb_explore.specs.Plans.{HasPlan}
+use Rattle.ptb_report.proofs.Reporting.{on_err_always}
 use Rattle.ptb_explore.proofs.plan.plan_next.Goals as goal
 
 pub returns-in_ok-restart-in-Some-clause-plan : goal.returns-in_ok-restart-in-Some-clause-plan
@@ -20,5 +22,14 @@ returns-in-AtEnd-clause-plan c = search rules fits 50 depth 2
 pub returns-in-AtEnd-clause-fresh : goal.returns-in-AtEnd-clause-fresh
 returns-in-AtEnd-clause-fresh c = search rules fits 50 depth 2
 
-pub returns-in-AtEnd-clause-ended : goal.returns-in-AtEnd-clause-ended
-returns-in-AtEnd-clause-ended c = search rules fits 50 depth 2
+pub returns-in_err-replay-in-AtStart-clause-refused : goal.returns-in_err-replay-in-AtStart-clause-refused
+returns-in_err-replay-in-AtStart-clause-refused c =
+    let has : HasPlan c.args.under.now c.args.position c.args.answers.now c.args.bounds.now = rw c.in-AtStart.is (c.args.under.now, 0, (refl, refl)) in
+    on_err_always _ has
+
+pub returns-in_err-restart-in-Some-clause-refused : goal.returns-in_err-restart-in-Some-clause-refused
+returns-in_err-restart-in-Some-clause-refused c =
+    let answers = c.args.answers.now in
+    let i = c.in-Some.i in
+    let has : HasPlan c.args.under.now c.args.position answers c.args.bounds.now = rw c.in-AtRun.is (take i answers ++ (slice_index_or answers i (pos 0) +ℤ pos 1) ∷ [], i, (c.in-Some.ensures.place, refl)) in
+    on_err_always _ has

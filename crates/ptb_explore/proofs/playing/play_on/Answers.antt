@@ -1,10 +1,12 @@
 -- This file answers that a run is played step by step, how it ends, and that the copies that are kept are of it.
-use Rattle.std.proofs.Common.{◌≡◌, ◌++◌, ◌≤◌, drop, length, refl, sym, ap, ◌∙◌, arith, true, false, Ok, Err, Some, None}
+use Rattle.std.proofs.Common.{◌≡◌, ◌++◌, ◌≤◌, drop, length, length-append, refl, sym, ap, subst, ◌∙◌, arith, true, false, Ok, Err, Some, None}
 use Rattle.std.proofs.lemmas.List.{length-take-le}
 use Rattle.ptb_machine.specs.Play.{play}
-use Rattle.ptb_explore.specs.Copies.{StandsAt, taken_choices}
+use Rattle.ptb_answers.specs.Outcome.{Answers}
+use Rattle.ptb_explore.specs.Copies.{AreTakenBy, StandsAt, taken_choices}
 use Rattle.ptb_explore.specs.Recording.{choices_of}
 use Rattle.ptb_explore.specs.declared.recorder.Recorder.{Recorder}
+use Rattle.ptb_explore.proofs.Limits.{taken_by}
 use Rattle.ptb_explore.proofs.Keep.{kept_longer, kept_more, kept_same}
 use Rattle.ptb_explore.proofs.RunPrefix.{step_goes, step_ends, step_extends, prefix_to, taken_within, none_follow, never_unread, never_unwritten}
 use Rattle.ptb_explore.proofs.playing.play_on.Goals as goal
@@ -26,17 +28,20 @@ loop-ending-preserved c =
     let more = step_extends l.player input c.args.rules _ _ old new _ _ steps.0 _ _ _ _ _ i.run_prefix None _ is steps.1.0.first (none_follow c.step.new.source) steps.1.1 in
     let same_lines = steps.1.0.same_lines ∙ i.same_lines in
     let within : c.step.new.source.taken ≤ length input = rw (← i.same_lines) (taken_within l.source c.step.new.source steps.0 steps.1.0 (rw i.same_lines i.within)) in
-    let stands : (k : _) → _ → StandsAt l.player input c.args.rules k (old.taken ++ more.answers) (l.screen ++ more.bytes) = (λ k copy. record {
+    let before : c.len-before.result ≡ length old.taken = c.len-before.ensures ∙ l.trial.bounds.ok.0 ∙ sym (taken_length l.trial) in
+    let taken : c.len-taken.result ≡ length (old.taken ++ more.answers) = c.len-taken.ensures ∙ c.step.new.chooser.bounds.ok.0 ∙ sym (taken_length c.step.new.chooser) ∙ ap length more.taken in
+    let stands : (k : _) → _ → _ → StandsAt l.player input c.args.rules k (old.taken ++ more.answers) (l.screen ++ more.bytes) = (λ k took copy. record {
       machine = c.step.new.machine;
       machine_is = copy.machine;
       unspent = c.step.ensures.spends.0 is;
       within = omega (arith, within, copy.lines_is, c.taken-lines.ensures);
+      taken_by = subst (λ (T : Answers). AreTakenBy l.player input c.args.rules T c.step.new.machine.steps) more.taken
+          (taken_by c.run_laws.ensures l.player input c.args.rules _ _ old new _ _ _ _ more.answers i.run_prefix x.1 more.taken
+          (omega (arith, took, before, taken, length-append old.taken more.answers)) x.2.1);
       run_prefix = prefix_to l.player input c.args.rules new (taken_choices (play l.player input c.args.rules) (old.taken ++ more.answers)) _ _ _ _ _ x.1 more.taken refl more.shown
           (ap (λ n. drop n c.step.new.source.lines) (sym (copy.lines_is ∙ c.taken-lines.ensures)) ∙ ap (drop k.lines) same_lines);
     }) in
-    let copies = kept_more l.player input c.args.rules old.taken more.answers l.screen more.bytes _ _ _ _ _ l.copies.kept.items c.keep.new.self.kept.items i.copies
-    (c.len-before.ensures ∙ l.trial.bounds.ok.0 ∙ sym (taken_length l.trial))
-    (c.len-taken.ensures ∙ c.step.new.chooser.bounds.ok.0 ∙ sym (taken_length c.step.new.chooser) ∙ ap length more.taken)
+    let copies = kept_more l.player input c.args.rules old.taken more.answers l.screen more.bytes _ _ _ _ _ l.copies.kept.items c.keep.new.self.kept.items i.copies before taken
     (c.len-shown.ensures ∙ ap length more.shown) stands c.keep.ensures in
     record {
       program = c.step.ensures.program ∙ i.program;

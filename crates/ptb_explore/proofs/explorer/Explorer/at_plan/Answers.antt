@@ -1,9 +1,7 @@
 -- This file answers that an explorer stands at the run of a plan, if its bounds are as they are stated.
-use Rattle.std.proofs.Common.{◌≡◌, true, rules}
 use Rattle.std.proofs.lemmas.Result.{IfOk-from_err}
-use Rattle.ptb_explore.specs.RunTree.{begins_with}
 use Rattle.ptb_explore.proofs.Exits.{ok_no_err, memory_no_run, same_no_run}
-use Rattle.ptb_explore.proofs.Planned.{wrong_says, planned_run, planned_played, no_run_played, planned_stated, planned_invariant, planned_view, planned_kept}
+use Rattle.ptb_explore.proofs.Planned.{planned_run, planned_played, no_run_played, planned_stated, planned_invariant, planned_view, planned_kept}
 use Rattle.ptb_explore.proofs.explorer.Explorer.at_plan.Goals as goal
 
 pub check_run-requires : goal.check_run-requires
@@ -14,20 +12,14 @@ check_run-requires c = record {
   none = c.new-copies.ensures;
 }
 
-pub returns-then-not-begins_with-clause-not_a_run : goal.returns-then-not-begins_with-clause-not_a_run
-returns-then-not-begins_with-clause-not_a_run c =
-    let says : c.begins_with.result ≡ begins_with c.args.trial.answers.items c.args.under.items = search rules in
-    λ _ _ _ begins. wrong_says _ _ says c.if-not-begins_with.true begins
-
 pub returns-in_err-player : goal.returns-in_err-player
 returns-in_err-player c = record {
   after = IfOk-from_err _ _ c.from_residual.ensures.0;
   run = IfOk-from_err _ _ c.from_residual.ensures.0;
   stated = IfOk-from_err _ _ c.from_residual.ensures.0;
-  begins = IfOk-from_err _ _ c.from_residual.ensures.0;
   kept = IfOk-from_err _ _ c.from_residual.ensures.0;
   played = IfOk-from_err _ _ c.from_residual.ensures.0;
-  not_a_run = λ fault _ _ _. memory_no_run _ c.from_residual.ensures.1 fault;
+  not_a_run = λ fault _ _. memory_no_run _ c.from_residual.ensures.1 fault;
 }
 
 pub returns-in_err-check_run : goal.returns-in_err-check_run
@@ -35,19 +27,17 @@ returns-in_err-check_run c = record {
   after = IfOk-from_err _ _ c.from_residual-in_err-check_run.ensures.0;
   run = IfOk-from_err _ _ c.from_residual-in_err-check_run.ensures.0;
   stated = IfOk-from_err _ _ c.from_residual-in_err-check_run.ensures.0;
-  begins = IfOk-from_err _ _ c.from_residual-in_err-check_run.ensures.0;
   kept = IfOk-from_err _ _ c.from_residual-in_err-check_run.ensures.0;
   played = IfOk-from_err _ _ c.from_residual-in_err-check_run.ensures.0;
-  not_a_run = λ fault run stated _. no_run_played c.args.program.now c.args.lines.now c.args.rules c.args.trial.answers.items _ c.in_ok-player.ensures c.args.stated.now
+  not_a_run = λ fault run stated. no_run_played c.args.program.now c.args.lines.now c.args.rules c.args.trial.answers.items _ c.in_ok-player.ensures c.args.stated.now
       (same_no_run _ _ c.from_residual-in_err-check_run.ensures.1 c.in_err-check_run.ensures.not_a_run fault) run stated;
 }
 
 pub invariant_of-result : goal.invariant_of-result
 invariant_of-result c =
-    let begins : begins_with c.args.trial.answers.items c.args.under.items ≡ true = search rules in
     planned_invariant c.args.program.now c.args.lines.now c.args.rules c.args.trial.answers.items _ c.in_ok-player.ensures
     _ c.check_run.ensures.program _ c.in_ok-check_run.ensures.answers
-    c.args.under.items _ _ _ c.in_ok-check_run.ensures.run c.in_ok-check_run.ensures.bounds begins c.in_ok-check_run.ensures.copies c.requires.choose
+    c.args.under.items _ _ _ c.in_ok-check_run.ensures.run c.in_ok-check_run.ensures.bounds c.requires.begins c.in_ok-check_run.ensures.copies c.requires.choose
 
 pub returns : goal.returns
 returns c = record {
@@ -56,9 +46,8 @@ returns c = record {
   run = planned_run c.args.program.now c.args.lines.now c.args.rules c.args.trial.answers.items _ c.in_ok-player.ensures c.in_ok-check_run.ensures.run;
   stated = planned_stated c.args.program.now c.args.lines.now c.args.rules c.args.trial.answers.items _ c.in_ok-player.ensures
       c.args.stated.now c.in_ok-check_run.ensures.stated;
-  begins = search rules;
   kept = planned_kept c.args.program.now c.args.lines.now c.args.rules c.args.trial.answers.items _ c.in_ok-player.ensures
       _ c.check_run.ensures.program _ c.in_ok-check_run.ensures.answers _ _ c.in_ok-check_run.ensures.copies;
   played = planned_played c.args.program.now c.args.lines.now c.args.rules c.args.trial.answers.items _ c.in_ok-player.ensures _ _ c.from-played.ensures c.in_ok-check_run.ensures.played;
-  not_a_run = λ fault _ _ _. ok_no_err fault;
+  not_a_run = λ fault _ _. ok_no_err fault;
 }

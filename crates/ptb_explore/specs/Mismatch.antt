@@ -1,0 +1,102 @@
+-- This file defines why the items of a list are no run, or why no run begins with them. Items count from 1.
+--     IsQuestion play items bound             after these items a run asks for an answer from 1 to the bound
+--     IsAskedFor play list item m bound       a run begins with the items before m, and asks for m with this bound
+--     IsItemMismatch play list mismatch       the first item of the list that does not fit
+--     IsRunMismatch play under list mismatch  the same, and why a list is no run where all of its items fit
+--     TakesFirst play answers n               the first n of the answers are taken, and no more of them
+--     HasBounds play answers bounds           the questions of a run that begins with these answers have these bounds
+--     MismatchLaws play                       there is one mismatch exactly where a list is no run, or begins none
+use Rattle.std.specs.Prelude.{◌≡◌, ℕ, ◌+◌, ◌<◌, ◌≤◌, List, ◌∷◌, ◌++◌, length, take, true, false, Option, ℤ, ◌↔◌}
+use Rattle.ptb_answers.specs.Outcome.{Answers, Outcome, Asks, is_answer, is_open, bounds}
+use Rattle.ptb_answers.specs.declared.form.Marked.{Marked}
+use Rattle.ptb_answers.specs.AnswerText.{answers_of, with_bound}
+use Rattle.ptb_explore.specs.declared.mismatch.Mismatch.{Mismatch}
+use Rattle.ptb_explore.specs.declared.mismatch.Mismatch.TheVariants.{OutOfRange, OtherBound, NoQuestion, Missing, NotUnder}
+use Rattle.ptb_explore.specs.MarkedRuns.{IsMarkedRun, IsMarkedBeginning}
+use Rattle.ptb_explore.specs.RunTree.{IsRun, begins_with}
+
+module _ {A W : Type 0} (play : Answers → Outcome A W) where
+  abbrev pub IsQuestion : List Marked → ℤ → Type 0
+  IsQuestion items bound = (w : W) × (play (answers_of items) ≡ Asks bound w)
+
+  -- all items before m fit
+  pub record IsAskedFor (list : List Marked) (item : ℕ) (m : Marked) (bound : ℤ) : Type 0 where
+    pub before : List Marked
+    pub after : List Marked
+    pub list_is : list ≡ before ++ m ∷ after
+    pub item_is : item ≡ length before + 1
+    pub begins : IsMarkedBeginning play before
+    pub question : IsQuestion before bound
+
+  -- ---- an item that does not fit
+
+  pub record IsOutOfRange (list : List Marked) (item : ℕ) (answer bound : ℤ) : Type 0 where
+    pub stated : Option ℤ
+    pub asked : IsAskedFor list item (record { answer = answer; bound = stated }) bound
+    pub outside : is_answer bound answer ≡ false
+
+  -- the answer fits, but not the bound that is stated with it
+  pub record IsOtherBound (list : List Marked) (item : ℕ) (stated bound : ℤ) : Type 0 where
+    pub answer : ℤ
+    pub asked : IsAskedFor list item (with_bound answer stated) bound
+    pub inside : is_answer bound answer ≡ true
+    pub other : stated ≡ bound → ⊥
+
+  -- the first items are a run, and more of them follow
+  pub record IsOver (list : List Marked) (items : ℕ) : Type 0 where
+    pub before : List Marked
+    pub m : Marked
+    pub after : List Marked
+    pub list_is : list ≡ before ++ m ∷ after
+    pub items_are : items ≡ length before
+    pub run : IsMarkedRun play before
+
+  -- where all items fit, a run begins with them
+  abbrev pub IsItemMismatch : List Marked → Mismatch → Type 0
+  IsItemMismatch list (OutOfRange item answer bound) = IsOutOfRange list item answer bound
+  IsItemMismatch list (OtherBound item stated bound) = IsOtherBound list item stated bound
+  IsItemMismatch list (NoQuestion items) = IsOver list items
+  IsItemMismatch list (Missing item bound) = ⊥
+  IsItemMismatch list NotUnder = ⊥
+
+  -- ---- a list whose items fit
+
+  -- a run asks for one item more
+  pub record IsMissing (list : List Marked) (item : ℕ) (bound : ℤ) : Type 0 where
+    pub item_is : item ≡ length list + 1
+    pub begins : IsMarkedBeginning play list
+    pub question : IsQuestion list bound
+
+  pub record IsNotUnder (under list : List Marked) : Type 0 where
+    pub run : IsMarkedRun play list
+    pub differs : begins_with (answers_of list) (answers_of under) ≡ false
+
+  abbrev pub IsRunMismatch : List Marked → List Marked → Mismatch → Type 0
+  IsRunMismatch under list (OutOfRange item answer bound) = IsOutOfRange list item answer bound
+  IsRunMismatch under list (OtherBound item stated bound) = IsOtherBound list item stated bound
+  IsRunMismatch under list (NoQuestion items) = IsOver list items
+  IsRunMismatch under list (Missing item bound) = IsMissing list item bound
+  IsRunMismatch under list NotUnder = IsNotUnder under list
+
+  -- ---- what playing a list shows
+
+  pub record TakesFirst (answers : Answers) (n : ℕ) : Type 0 where
+    pub within : n ≤ length answers
+    pub opens : is_open (play (take n answers)) ≡ true
+    pub closed : n < length answers → is_open (play (take (n + 1) answers)) ≡ false
+
+  -- `later` are the answers that the run takes after these
+  pub record HasBounds (answers : Answers) (their_bounds : List ℤ) : Type 0 where
+    pub later : Answers
+    pub run : IsRun play (answers ++ later)
+    pub bounds_are : their_bounds ≡ bounds play (answers ++ later)
+
+-- ---- laws
+
+-- A list is no run, or begins none, exactly where there is a mismatch, and there is one alone.
+pub record MismatchLaws {A W : Type 0} (play : Answers → Outcome A W) : Type 0 where
+  pub beginning : (list : List Marked) → (IsMarkedBeginning play list → ⊥) ↔ ((m : Mismatch) × IsItemMismatch play list m)
+  pub one_beginning : (list : List Marked) (m n : Mismatch) → IsItemMismatch play list m → IsItemMismatch play list n → m ≡ n
+  pub run : (under list : List Marked)
+      → (IsMarkedRun play list × (begins_with (answers_of list) (answers_of under) ≡ true) → ⊥) ↔ ((m : Mismatch) × IsRunMismatch play under list m)
+  pub one_run : (under list : List Marked) (m n : Mismatch) → IsRunMismatch play under list m → IsRunMismatch play under list n → m ≡ n
