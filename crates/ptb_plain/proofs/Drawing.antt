@@ -1,5 +1,5 @@
 -- This file proves that a chooser by a seed gives the answers that the seed has for a run.
-use Rattle.std.proofs.Common.{◌≡◌, ◌∙◌, ℕ, zero, suc, ◌<◌, List, [], ◌∷◌, ◌++◌, length, refl, sym, ap, arith}
+use Rattle.std.proofs.Common.{◌≡◌, ◌∙◌, ℕ, zero, suc, ◌<◌, List, [], ◌∷◌, ◌++◌, length, refl, sym, ap, arith, subst}
 use Rattle.std.specs.Prelude.{ℤ, pos, Some}
 use Rattle.rand_pcg.specs.Lcg.{Lcg}
 use Rattle.rand_pcg.specs.Pcg.{pcg32}
@@ -11,8 +11,8 @@ use Rattle.ptb_machine.specs.Laws.{RunLaws}
 use Rattle.ptb_answers.specs.declared.rules.Rules.{Rules}
 use Rattle.ptb_machine.specs.Play.{play}
 use Rattle.ptb_machine.specs.Questions.{most_answers}
-use Rattle.ptb_plain.specs.PlainRuns.{GoesBy}
-use Rattle.ptb_plain.specs.SeededRuns.{answers_by, seeded_answers, to_question}
+use Rattle.ptb_plain.specs.PlainRuns.{GoesBy, IsLed}
+use Rattle.ptb_plain.specs.SeededRuns.{IsDrawn, SeededLaws, answers_by, seeded_answers, to_question}
 
 -- where something is asked, fewer answers were given
 abbrev pub Few : {A W : Type 0} → (Answers → Outcome A W) → ℕ → Type 0
@@ -52,9 +52,16 @@ taken_drawn seed s t taken bounds begins e =
     let same_bounds : t.bounds ≡ bounds = cc in
     sym answers ∙ ap (λ x. drawn_answers x t.bounds) same_seed ∙ ap (drawn_answers seed) same_bounds
 
-pub goes_by_seed : RunLaws → (seed : ℕ) (s t : SeededAnswers) (p : StoredProgram) (rules : Rules) → s ≡ record { seed = seed; bounds = [] }
+goes_by_seed : RunLaws → (seed : ℕ) (s t : SeededAnswers) (p : StoredProgram) (rules : Rules) → s ≡ record { seed = seed; bounds = [] }
     → GoesBy RefusedForMemory (seeded_choices s) (seeded_choices t) (λ lines. seeded_answers seed p lines rules) p rules
 goes_by_seed laws seed s t p rules begins lines taken bounds asked grown =
     let few = (laws.reads p lines rules).few in
     let first = drawn_first (most_answers p lines rules.limit) (generator_of seed) (play p lines rules) taken bounds few asked (taken_drawn seed s t taken bounds begins grown) in
     record { rest = first.0; whole = first.1; ended = λ n h. absurd h; outside = λ k n h. absurd h }
+
+-- whatever answers are drawn from the seed, it goes by them
+pub goes_by_drawn : RunLaws → SeededLaws → (seed : ℕ) (s t : SeededAnswers) (p : StoredProgram) (rules : Rules) → s ≡ record { seed = seed; bounds = [] }
+    → (answers : List (List ℕ) → Answers) → ((lines : List (List ℕ)) → IsDrawn seed (play p lines rules) (answers lines))
+    → GoesBy RefusedForMemory (seeded_choices s) (seeded_choices t) answers p rules
+goes_by_drawn laws seeded seed s t p rules begins answers drawn lines taken bounds asked grown =
+    subst (IsLed RefusedForMemory taken) (sym (seeded.only seed p lines rules (answers lines) (drawn lines))) (goes_by_seed laws seed s t p rules begins lines taken bounds asked grown)

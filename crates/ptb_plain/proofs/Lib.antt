@@ -2,5 +2,6 @@
 pub mod Playing
 pub mod Taking
 pub mod Drawing
+pub mod Drawn
 pub mod Answering
 pub mod LinesRun

@@ -1,9 +1,8 @@
 -- This file joins all that is told of a run on the lines of a reader, by whether its source has come to a fault.
-use Rattle.std.proofs.Common.{◌≡◌, ◌≤◌, ◌≤ℤ◌, ◌+◌, ◌⊎◌, ℕ, ℤ, pos, List, [], ◌++◌, length, Option, Some, None, Result, Err, IfOk, IfSome, IsErrOf, OnOk, refl, sym, ap, subst, ◌∙◌}
-use Rattle.std.specs.Prelude.{OnErr}
+use Rattle.std.proofs.Common.{◌≡◌, ◌≤◌, ◌≤ℤ◌, ◌+◌, ◌⊎◌, ℕ, ℤ, pos, List, [], ◌++◌, length, Option, Some, None, Result, Err, IfSome, IsErrOf, OnOk, refl, sym, ap, subst, ◌∙◌}
 use Rattle.std.specs.Borrow.{MutBor}
 use Rattle.std.specs.Io.KnownBytes.{Appends, Consumes}
-use Rattle.ptb_text.specs.Device.{GivesAtMost, GivesExactly, HasFailed, TakesSome}
+use Rattle.ptb_text.specs.Device.{GivesAtMost, GivesExactly, HasFailed}
 use Rattle.ptb_text.specs.Lines.{input_lines}
 use Rattle.ptb_text.specs.Statements.{StoredProgram}
 use Rattle.ptb_answers.specs.declared.pause.Pause.{Pause}
@@ -22,33 +21,17 @@ use Rattle.ptb_devices.specs.Readers.{GivesFrom, input_of, line_input, line_read
 use Rattle.ptb_devices.specs.Sources.{ConsumesAtMost, NoneLeft}
 use Rattle.ptb_machine.specs.declared.fault.RunFault.{RunFault}
 use Rattle.ptb_machine.specs.declared.fault.RunFault.TheVariants as runs
-use Rattle.ptb_machine.specs.Play.{plain}
 use Rattle.ptb_machine.specs.Runs.{Runs, UnlessRunMissed}
-use Rattle.ptb_plain.specs.PlainRuns.{GoesBy, IsUnreadable, ReadsFor, ShowsRun, ShowsUnread, input_limit, lines_come, lines_taken, lines_wanted, run_fault}
+use Rattle.ptb_plain.specs.PlainRuns.{GoesBy, IsUnreadable, PlaysWith, ReadsFor, ReadsLines, input_limit, lines_taken, lines_wanted, run_fault}
+use Rattle.ptb_plain.specs.Streams.{Reads, Writes, reads_of, writes_of}
 use Rattle.ptb_plain.proofs.Playing.{IsRunBetween, IsUnreadBetween, led_run, led_run_dry, led_run_takes, run_between, state_of, unread_between}
 use Rattle.ptb_plain.proofs.Taking.{begins_input, failed_or_given, fault_missed, fault_unread, fault_without_memory, fresh, given_at_most, is_unreadable, never_unread, reads_for, reads_unfailed, shows_come, shows_input, taken_by, takes_at_most, takes_within, wanted_at_fault, wanted_within, where_err, where_ok}
 
--- by the bytes of the reader, how often it has failed and how many it has given, before and after, and by the bytes of the writer and its failures
-pub record RanOn (p : StoredProgram) (rules : Rules) (refuses : Pause → ℤ → Type 0) (c d : Choices) (known left : Option (List ℕ)) (faults_before faults_after gave gives : ℕ) (old new : Option (List ℕ)) (broke breaks : ℕ) (result : Result Ending RunFault) : Type 0 where
-  pub ok : (answers : List (List ℕ) → Answers) → GoesBy refuses c d answers p rules
-      → IfOk result (λ ending. IfSome known (λ b. ShowsRun (plain p (input_lines b) rules (answers (input_lines b))) old new ending))
-  pub within : OnOk result (ConsumesAtMost known left input_limit)
-  pub beginning : (answers : List (List ℕ) → Answers) → GoesBy refuses c d answers p rules
-      → OnErr result (IfSome known (λ b. TakesSome old new (plain p (input_lines b) rules (answers (input_lines b))).0))
-  pub read : (answers : List (List ℕ) → Answers) → GoesBy refuses c d answers p rules → IsErrOf result runs.Read
-      → (taken : List ℕ) × Consumes known left taken × ShowsUnread rules.choose (plain p (lines_come taken) rules) (answers (lines_come taken)) old new
-  pub taken : (answers : List (List ℕ) → Answers) → GoesBy refuses c d answers p rules
-      → (taken : List ℕ) × Consumes known left taken
-      × IfSome known (λ b. ReadsFor taken (lines_wanted rules.choose (length (input_lines b)) (lines_taken p (input_lines b) rules (answers (input_lines b))) result))
-  pub failed : (answers : List (List ℕ) → Answers) → GoesBy refuses c d answers p rules → IsErrOf result runs.Write → HasFailed broke breaks
-  pub memory : (answers : List (List ℕ) → Answers) → GoesBy refuses c d answers p rules → IsErrOf result runs.Memory → Appends old new [] ⊎ ((n : ℤ) × refuses pauses.Memory n)
-  pub unreadable : IsErrOf result runs.Read → IsUnreadable known faults_before faults_after
-  pub input_read : (IsErrOf result runs.Read → ⊥) → faults_after ≡ faults_before
-  pub unfailed : (answers : List (List ℕ) → Answers) → GoesBy refuses c d answers p rules → (IsErrOf result runs.Write → ⊥) → breaks ≡ broke
-  pub unspent : (answers : List (List ℕ) → Answers) → GoesBy refuses c d answers p rules → IsErrOf result runs.Spent → ⊥
-  pub bounded : ConsumesAtMost known left (input_limit + 1)
-  pub given : GivesAtMost gave gives (input_limit + 1)
-  pub failed_or_given : IsErrOf result runs.Read → HasFailed faults_before faults_after ⊎ GivesExactly gave gives (input_limit + 1)
+-- what is known of a run whose chooser refuses so and had these choices before and after
+pub record RanOn {R : Type 0} (p : StoredProgram) (rules : Rules) (refuses : Pause → ℤ → Type 0) (c d : Choices) (input : Reads R) (out : Writes) (result : Result Ending RunFault) : Type 0 where
+  pub plays : (answers : List (List ℕ) → Answers) → GoesBy refuses c d answers p rules → PlaysWith p rules answers input out result
+  pub memory : (answers : List (List ℕ) → Answers) → GoesBy refuses c d answers p rules → IsErrOf result runs.Memory → Appends out.before out.after [] ⊎ ((n : ℤ) × refuses pauses.Memory n)
+  pub reads : ReadsLines input result
 
 -- a reader and a writer, by what their contracts say of them
 module _ {R W : Type 0} (remaining : R → Option (List ℕ)) (counted failures : R → ℕ) (contents : W → Option (List ℕ)) (written : W → ℕ) where
@@ -68,7 +51,7 @@ module _ {R W : Type 0} (remaining : R → Option (List ℕ)) (counted failures 
     Goes answers = GoesBy refuses c d answers p rules
 
     abbrev IsRan : Result Ending RunFault → Type 0
-    IsRan result = RanOn p rules refuses c d (remaining i) (remaining j) (failures i) (failures j) (counted i) (counted j) (contents w) (contents v) (written w) (written v) result
+    IsRan result = RanOn p rules refuses c d (reads_of remaining counted failures i j) (writes_of contents written w v) result
 
     -- what the source took of the input
     on : ReadsOn (asked (line_input later)) (fresh (remaining i) (counted i) (failures i)) lines now
@@ -104,25 +87,31 @@ module _ {R W : Type 0} (remaining : R → Option (List ℕ)) (counted failures 
         let unread : IsErrOf ended runs.Read → ⊥ = never_unread p rules refuses _ _ (line_input later).end (known_lines now) none ended (ran [] (λ _. refl)) in
         let same = sym left_by in
         record {
-          ok = λ answers goes. shows_input contents written p rules answers refuses w v ended (asked (line_input later)) (counted i) (failures i) now lines (between answers goes) (remaining i) on;
-          within = subst (λ (x : R). OnOk ended (ConsumesAtMost (remaining i) (remaining x) input_limit)) same (where_ok ended _ (takes_within _ _ _ _ now lines on none));
-          beginning = λ answers goes. where_err ended _ (begins_input contents written p rules answers refuses w v ended (asked (line_input later)) (counted i) (failures i) now lines (between answers goes) (remaining i) on);
-          read = λ answers goes e. absurd (unread e);
-          taken = λ answers goes. (
-            on.taken,
-            subst (λ (x : R). Consumes (remaining i) (remaining x) on.taken) same on.consumed,
-            reads_for p rules answers (asked (line_input later)) (counted i) (failures i) now lines (takes answers goes) ended
-                (wanted_within (line_input later) (most_lines (line_input later)) rules ended unmissed) (remaining i) on,
-          );
-          failed = λ answers goes. (between answers goes [] (λ _. refl)).failed;
+          plays = λ answers goes.
+              let none_behind = between answers goes [] (λ _. refl) in
+              record {
+                ended = shows_input contents written p rules answers refuses w v ended (asked (line_input later)) (counted i) (failures i) now lines (between answers goes) (remaining i) on;
+                broken_off = where_err ended _ (begins_input contents written p rules answers refuses w v ended (asked (line_input later)) (counted i) (failures i) now lines (between answers goes) (remaining i) on);
+                unread = λ e. absurd (unread e);
+                asked = (
+                  on.taken,
+                  subst (λ (x : R). Consumes (remaining i) (remaining x) on.taken) same on.consumed,
+                  reads_for p rules answers (asked (line_input later)) (counted i) (failures i) now lines (takes answers goes) ended
+                      (wanted_within (line_input later) (most_lines (line_input later)) rules ended unmissed) (remaining i) on,
+                );
+                failed = none_behind.failed;
+                unfailed = none_behind.unfailed;
+                unspent = none_behind.unspent;
+              };
           memory = λ answers goes. (between answers goes [] (λ _. refl)).memory;
-          unreadable = λ e. absurd (unread e);
-          input_read = λ _. subst (λ (x : R). failures x ≡ failures i) same (reads_unfailed _ _ _ _ now lines on none);
-          unfailed = λ answers goes. (between answers goes [] (λ _. refl)).unfailed;
-          unspent = λ answers goes. (between answers goes [] (λ _. refl)).unspent;
-          bounded = subst (λ (x : R). ConsumesAtMost (remaining i) (remaining x) (input_limit + 1)) same (takes_at_most _ _ _ _ now lines on);
-          given = subst (λ (x : R). GivesAtMost (counted i) (counted x) (input_limit + 1)) same (given_at_most _ _ _ _ now lines on);
-          failed_or_given = λ e. absurd (unread e);
+          reads = record {
+            within = subst (λ (x : R). OnOk ended (ConsumesAtMost (remaining i) (remaining x) input_limit)) same (where_ok ended _ (takes_within _ _ _ _ now lines on none));
+            bounded = subst (λ (x : R). ConsumesAtMost (remaining i) (remaining x) (input_limit + 1)) same (takes_at_most _ _ _ _ now lines on);
+            given = subst (λ (x : R). GivesAtMost (counted i) (counted x) (input_limit + 1)) same (given_at_most _ _ _ _ now lines on);
+            unreadable = λ e. absurd (unread e);
+            unfailed = λ _. subst (λ (x : R). failures x ≡ failures i) same (reads_unfailed _ _ _ _ now lines on none);
+            failed_or_given = λ e. absurd (unread e);
+          };
         }
 
     -- it has come to one
@@ -140,28 +129,32 @@ module _ {R W : Type 0} (remaining : R → Option (List ℕ)) (counted failures 
           let same = sym left_by in
           let reads : answer ≡ runs.Read = told ∙ fault_unread (line_input later).end fault is in
           record {
-            ok = λ answers goes. tt;
-            within = tt;
-            beginning = λ answers goes. begins_input contents written p rules answers refuses w v ended (asked (line_input later)) (counted i) (failures i) now lines (between answers goes) (remaining i) on;
-            read = λ answers goes _. (
-              on.taken,
-              subst (λ (x : R). Consumes (remaining i) (remaining x) on.taken) same on.consumed,
-              shows_come contents written p rules answers w v (asked (line_input later)) (counted i) (failures i) now lines (remaining i) on fault is (dry answers goes),
-            );
-            taken = λ answers goes. (
-              on.taken,
-              subst (λ (x : R). Consumes (remaining i) (remaining x) on.taken) same on.consumed,
-              subst (λ (f : RunFault). IfSome (remaining i) (λ b. ReadsFor on.taken (lines_wanted rules.choose (length (input_lines b)) (lines_taken p (input_lines b) rules (answers (input_lines b))) (Err f)))) (sym told)
-                  (reads_for p rules answers (asked (line_input later)) (counted i) (failures i) now lines (takes answers goes) (Err (run_fault fault))
-                  (wanted_at_fault (line_input later) (most_lines (line_input later)) rules fault is) (remaining i) on),
-            );
-            failed = λ answers goes e. absurd (let clash : runs.Read ≡ runs.Write = cc in cc);
+            plays = λ answers goes. record {
+              ended = tt;
+              broken_off = begins_input contents written p rules answers refuses w v ended (asked (line_input later)) (counted i) (failures i) now lines (between answers goes) (remaining i) on;
+              unread = λ _. (
+                on.taken,
+                subst (λ (x : R). Consumes (remaining i) (remaining x) on.taken) same on.consumed,
+                shows_come contents written p rules answers w v (asked (line_input later)) (counted i) (failures i) now lines (remaining i) on fault is (dry answers goes),
+              );
+              asked = (
+                on.taken,
+                subst (λ (x : R). Consumes (remaining i) (remaining x) on.taken) same on.consumed,
+                subst (λ (f : RunFault). IfSome (remaining i) (λ b. ReadsFor on.taken (lines_wanted rules.choose (length (input_lines b)) (lines_taken p (input_lines b) rules (answers (input_lines b))) (Err f)))) (sym told)
+                    (reads_for p rules answers (asked (line_input later)) (counted i) (failures i) now lines (takes answers goes) (Err (run_fault fault))
+                    (wanted_at_fault (line_input later) (most_lines (line_input later)) rules fault is) (remaining i) on),
+              );
+              failed = λ e. absurd (let clash : runs.Read ≡ runs.Write = cc in cc);
+              unfailed = λ _. (dry answers goes).unfailed;
+              unspent = λ e. absurd (let clash : runs.Read ≡ runs.Spent = cc in cc);
+            };
             memory = λ answers goes e. absurd (let clash : runs.Read ≡ runs.Memory = cc in cc);
-            unreadable = λ _. subst (λ (x : R). IsUnreadable (remaining i) (failures i) (failures x)) same (is_unreadable _ _ _ _ now lines on fault is);
-            input_read = λ unread. absurd (unread (ap Err reads));
-            unfailed = λ answers goes _. (dry answers goes).unfailed;
-            unspent = λ answers goes e. absurd (let clash : runs.Read ≡ runs.Spent = cc in cc);
-            bounded = subst (λ (x : R). ConsumesAtMost (remaining i) (remaining x) (input_limit + 1)) same (takes_at_most _ _ _ _ now lines on);
-            given = subst (λ (x : R). GivesAtMost (counted i) (counted x) (input_limit + 1)) same (given_at_most _ _ _ _ now lines on);
-            failed_or_given = λ _. subst (λ (x : R). HasFailed (failures i) (failures x) ⊎ GivesExactly (counted i) (counted x) (input_limit + 1)) same (failed_or_given _ _ _ _ now lines on fault is);
+            reads = record {
+              within = tt;
+              bounded = subst (λ (x : R). ConsumesAtMost (remaining i) (remaining x) (input_limit + 1)) same (takes_at_most _ _ _ _ now lines on);
+              given = subst (λ (x : R). GivesAtMost (counted i) (counted x) (input_limit + 1)) same (given_at_most _ _ _ _ now lines on);
+              unreadable = λ _. subst (λ (x : R). IsUnreadable (remaining i) (failures i) (failures x)) same (is_unreadable _ _ _ _ now lines on fault is);
+              unfailed = λ unread. absurd (unread (ap Err reads));
+              failed_or_given = λ _. subst (λ (x : R). HasFailed (failures i) (failures x) ⊎ GivesExactly (counted i) (counted x) (input_limit + 1)) same (failed_or_given _ _ _ _ now lines on fault is);
+            };
           }

@@ -1,3 +1,4 @@
 -- This file names the files of definitions.
+pub mod Streams
 pub mod PlainRuns
 pub mod SeededRuns

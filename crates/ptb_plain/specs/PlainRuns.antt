@@ -1,4 +1,4 @@
--- This file defines what a plain run comes to.
+-- This file defines what a plain run shows and reads.
 --     ShowsRun r old new e       of a run with the bytes and the ending r, the bytes were shown and the ending is e
 --     run_fault fault            the fault of a run whose input isn't read
 --     lines_come taken           the lines that came whole in these bytes
@@ -9,9 +9,12 @@
 --     lines_taken p lines rules a    how many of the lines of its input a run takes
 --     lines_wanted choose all k result    how many of all lines a run wants that takes k
 --     ReadsFor taken wanted      these bytes were taken of an input for so many lines
-use Rattle.std.specs.Prelude.{◌≡◌, ◌⊎◌, ◌+◌, ◌-◌, ◌==◌, if◌then◌else◌, ◌<◌, ◌≤◌, ℕ, List, [], ◌++◌, length, take, ◌∷◌, Option, Some, None, Result, Ok, Err, IfSome, ℤ}
-use Rattle.std.specs.Io.KnownBytes.{Appends}
-use Rattle.ptb_text.specs.Device.{HasFailed, TakesSome}
+--     PlaysWith p rules answers ..    the program was played with these answers, and what was shown was written
+--     ReadsLines input result    how much was read of the input, and when it is at fault
+use Rattle.std.specs.Prelude.{◌≡◌, ◌⊎◌, ◌+◌, ◌-◌, ◌==◌, if◌then◌else◌, ◌<◌, ◌≤◌, ℕ, List, [], ◌++◌, length, take, ◌∷◌, Option, Some, None, Result, Ok, Err, IfOk, IfSome, IsErrOf, OnErr, OnOk, ℤ}
+use Rattle.std.specs.Io.KnownBytes.{Appends, Consumes}
+use Rattle.ptb_text.specs.Device.{GivesAtMost, GivesExactly, HasFailed, TakesSome}
+use Rattle.ptb_text.specs.Lines.{input_lines}
 use Rattle.ptb_text.specs.Statements.{StoredProgram}
 use Rattle.ptb_answers.specs.declared.pause.Pause.{Pause}
 use Rattle.ptb_answers.specs.declared.pause.Pause.TheVariants as pauses
@@ -23,10 +26,12 @@ use Rattle.ptb_devices.specs.Cutting.{whole_lines}
 use Rattle.ptb_devices.specs.declared.fault.ReadFault.{ReadFault}
 use Rattle.ptb_devices.specs.declared.fault.ReadFault.TheVariants as reads
 use Rattle.ptb_devices.specs.declared.whole_input.TheConstants.{INPUT_LIMIT}
+use Rattle.ptb_devices.specs.Sources.{ConsumesAtMost}
 use Rattle.ptb_answers.specs.declared.rules.Rules.{Rules}
-use Rattle.ptb_machine.specs.Play.{play, unasked_lines}
+use Rattle.ptb_machine.specs.Play.{plain, play, unasked_lines}
 use Rattle.ptb_machine.specs.declared.fault.RunFault.{RunFault}
 use Rattle.ptb_machine.specs.declared.fault.RunFault.TheVariants as runs
+use Rattle.ptb_plain.specs.Streams.{Reads, Writes}
 
 pub record ShowsRun (r : List ℕ × Ending) (old new : Option (List ℕ)) (e : Ending) : Type 0 where
   pub ending : e ≡ r.1
@@ -67,8 +72,8 @@ GoesBy refuses c d answers p rules =
 
 -- ---- a line that can't be read
 
--- On the lines that came whole, a run ends for want of the next one. Where answers are taken in place of lines it would ask for one:
--- what was shown is all that it shows before, and so a beginning of what it shows with the answers `a`.
+-- On the lines that came whole, a run ends for want of the next one. With answers instead of lines it would ask for one:
+-- what was shown is all that it shows before, and so a prefix of what it shows with the answers `a`.
 abbrev pub ShowsUnread : Option ℤ → (Answers → List ℕ × Ending) → Answers → Option (List ℕ) → Option (List ℕ) → Type 0
 ShowsUnread None run a old new = ShowsRun (run a) old new endings.NoInput
 ShowsUnread (Some n) run a old new =
@@ -96,7 +101,7 @@ ending_wanted k (Err runs.Memory) = k
 ending_wanted k (Err runs.Write) = k
 ending_wanted k (Err runs.Spent) = k
 
--- where answers are taken in place of lines, a run that takes all lines may want one more
+-- with answers instead of lines, a run that takes all lines may want one more
 abbrev pub lines_wanted : Option ℤ → ℕ → ℕ → Result Ending RunFault → ℕ
 lines_wanted None all k result = ending_wanted k result
 lines_wanted (Some n) all k result = if k == all then k + 1 else ending_wanted k result
@@ -117,3 +122,34 @@ pub record IsReadFor (taken : List ℕ) (wanted : ℕ) : Type 0 where
 -- where no line is wanted nothing is taken
 abbrev pub ReadsFor : List ℕ → ℕ → Type 0
 ReadsFor taken wanted = (taken ≡ []) ⊎ IsReadFor taken wanted
+
+-- ---- what is promised of a run
+
+-- The program was played by these rules with these answers, which may depend on the lines of the input.
+pub record PlaysWith {R : Type 0} (p : StoredProgram) (rules : Rules) (answers : List (List ℕ) → Answers) (input : Reads R) (out : Writes) (result : Result Ending RunFault) : Type 0 where
+  -- What was written is what the play on the lines of the input shows, and the ending is that of the play.
+  pub ended : IfOk result (λ ending. IfSome input.bytes (λ c. ShowsRun (plain p (input_lines c) rules (answers (input_lines c))) out.before out.after ending))
+  -- After a fault it is a prefix of that.
+  pub broken_off : OnErr result (IfSome input.bytes (λ c. TakesSome out.before out.after (plain p (input_lines c) rules (answers (input_lines c))).0))
+  -- Where a line could not be read, it is what the play on the lines that came whole shows.
+  pub unread : IsErrOf result runs.Read
+      → (taken : List ℕ) × Consumes input.bytes input.left taken × ShowsUnread rules.choose (plain p (lines_come taken) rules) (answers (lines_come taken)) out.before out.after
+  -- The input was read on only while fewer lines were whole than the play asks for.
+  pub asked : (taken : List ℕ) × Consumes input.bytes input.left taken
+      × IfSome input.bytes (λ c. ReadsFor taken (lines_wanted rules.choose (length (input_lines c)) (lines_taken p (input_lines c) rules (answers (input_lines c))) result))
+  -- The writer is at fault where it failed, and only there.
+  pub failed : IsErrOf result runs.Write → HasFailed out.failed out.fails
+  pub unfailed : ¬ IsErrOf result runs.Write → out.fails ≡ out.failed
+  -- The machine was new.
+  pub unspent : ¬ IsErrOf result runs.Spent
+
+pub record ReadsLines {R : Type 0} (input : Reads R) (result : Result Ending RunFault) : Type 0 where
+  -- A run that ends has taken at most 16,777,216 bytes, and no run takes more than one more.
+  pub within : OnOk result (ConsumesAtMost input.bytes input.left input_limit)
+  pub bounded : ConsumesAtMost input.bytes input.left (input_limit + 1)
+  pub given : GivesAtMost input.gave input.gives (input_limit + 1)
+  -- The input is at fault where its reader failed, and only there or where it has more than 16,777,216 bytes
+  pub unreadable : IsErrOf result runs.Read → IsUnreadable input.bytes input.failed input.fails
+  pub unfailed : ¬ IsErrOf result runs.Read → input.fails ≡ input.failed
+  -- and gave 16,777,217.
+  pub failed_or_given : IsErrOf result runs.Read → HasFailed input.failed input.fails ⊎ GivesExactly input.gave input.gives (input_limit + 1)

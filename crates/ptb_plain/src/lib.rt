@@ -3,9 +3,11 @@
 //! It stands on `ptb_machine`, on definitions of the two crates below that, on `ptb_answers` and
 //! `ptb_text`, and on a definition of `rand_pcg`. The crate above may rely on `run_plain` and
 //! `run_seeded` (the bytes and the ending of the run, what is read of its input, and which fault it
-//! was).
+//! was), and on `seeded_laws` (what a seed draws).
 #![tactic(auto)]
 
+mod laws;
 mod plain;
 
+pub use laws::seeded_laws;
 pub use plain::{run_plain, run_seeded};

@@ -13,22 +13,7 @@ returns-in-Some g c =
     c.new-screen.ensures.writer (λ e. c.out-1.given.1 (sym c.new-screen.ensures.same_borrow ∙ e)) c.run-ended.ensures.runs.1.1 c.run-ended.ensures.missed
     c.requires c.in-Some.fault (sym c.fault.ensures ∙ c.in-Some.is) c.run_fault.result c.run_fault.ensures
     in
-    record {
-      ok = ran.ok;
-      within = ran.within;
-      beginning = ran.beginning;
-      read = ran.read;
-      taken = ran.taken;
-      failed = ran.failed;
-      memory = ran.memory;
-      unreadable = ran.unreadable;
-      input_read = ran.input_read;
-      unfailed = ran.unfailed;
-      unspent = ran.unspent;
-      bounded = ran.bounded;
-      given = ran.given;
-      failed_or_given = ran.failed_or_given;
-    }
+    record { plays = ran.plays; memory = ran.memory; reads = ran.reads }
 
 -- it has come to none
 pub returns-in-None : goal.returns-in-None
@@ -40,19 +25,4 @@ returns-in-None g c =
     c.new-screen.ensures.writer (λ e. c.out-1.given.1 (sym c.new-screen.ensures.same_borrow ∙ e)) c.run-ended.ensures.runs.1.1 c.run-ended.ensures.missed
     (sym c.fault.ensures ∙ c.in-None.is)
     in
-    record {
-      ok = ran.ok;
-      within = ran.within;
-      beginning = ran.beginning;
-      read = ran.read;
-      taken = ran.taken;
-      failed = ran.failed;
-      memory = ran.memory;
-      unreadable = ran.unreadable;
-      input_read = ran.input_read;
-      unfailed = ran.unfailed;
-      unspent = ran.unspent;
-      bounded = ran.bounded;
-      given = ran.given;
-      failed_or_given = ran.failed_or_given;
-    }
+    record { plays = ran.plays; memory = ran.memory; reads = ran.reads }
