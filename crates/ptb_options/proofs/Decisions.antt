@@ -1,4 +1,4 @@
--- This file joins what is told of the request that the words make, or of why there is none.
+-- This file joins what is known of the request that the arguments make, or of why there is none.
 use Rattle.std.proofs.Common.{◌≡◌, ◌∙◌, ◌≤◌, ◌≤ℤ◌, ℕ, pos, Bool, true, false, Option, Some, None, Result, Ok, Err, IfErr, IfOk, IfSome, ap, arith, refl, subst, sym}
 use Rattle.std.specs.Prelude.{if◌then◌else◌, option_map, unwrap_or}
 use Rattle.std.specs.Option.{ForSome}
@@ -8,12 +8,13 @@ use Rattle.std.proofs.lemmas.Result.{err_from_is_err_and}
 use Rattle.ptb_text.specs.Statements.{IsMemorySize}
 use Rattle.ptb_answers.specs.declared.rules.Rules.{Rules}
 use Rattle.ptb_options.specs.declared.answers.ListFault.{ListFault}
-use Rattle.ptb_options.specs.declared.answers.ListFault.TheVariants as lists
+use Rattle.ptb_options.specs.declared.mistakes.MisspelledList.{MisspelledList}
 use Rattle.ptb_options.specs.declared.request.Mode.{Mode}
 use Rattle.ptb_options.specs.declared.request.Request.{Request}
 use Rattle.ptb_options.specs.declared.usage.UsageFault.{UsageFault}
 use Rattle.ptb_options.specs.declared.usage.UsageFault.TheVariants.{ListWithOther, AfterWithoutAll, FirstWithoutAll, FormWithoutAll, UnderWithoutAll, AnswersWithAll, SeedWithAll, SeedWithAnswers, BadList, Memory}
-use Rattle.ptb_options.specs.Options.{Asks, AsksMode, HasBound, HasMemorySize, Options, Refuses, RefusesLists, clash, rules_of, usage_fault}
+use Rattle.ptb_options.specs.Options.{Asks, AsksMode, HasBound, HasMemorySize, IsFirstMisspelled, Options, Refuses, WantsMemory, clash, default_memory, rules_of, usage_fault}
+use Rattle.ptb_options.proofs.ListsKept.{first_misspelled}
 
 -- the first of these faults whose test is true
 abbrev first_fault : Bool → Bool → Bool → Bool → Bool → Bool → Bool → Bool → Option UsageFault
@@ -60,9 +61,9 @@ Refuses-clash o SeedWithAnswers e = e
 Refuses-clash o BadList e = absurd (not_bad _ _ _ _ _ _ _ _ e)
 Refuses-clash o Memory e = absurd (not_memory _ _ _ _ _ _ _ _ e)
 
--- o are the options that stand in the words, and l is how the code has them
+-- o are the options of the command line, and l is how the code has them
 module _ (o l : Options) (same : l ≡ o) where
-  -- what is told of the request, or of why there is none
+  -- what is known of the request, or of why there is none
   pub record IsDecided (result : Result Request UsageFault) : Type 0 where
     pub ok : IfOk result (Asks o)
     pub fault : IfErr result (Refuses o)
@@ -81,15 +82,21 @@ module _ (o l : Options) (same : l ≡ o) where
     unclashed : clash l ≡ None
     unclashed = sym told ∙ none
 
-    lists_refused : (fault : ListFault) → RefusesLists l fault → Refuses l (usage_fault fault)
-    lists_refused lists.Bad h = (unclashed, h)
-    lists_refused lists.Memory h = (unclashed, h)
+    -- a list is misspelled
+    pub decided_misspelled : (m : MisspelledList) → IsFirstMisspelled l m → IsDecided (Err BadList)
+    decided_misspelled m h = refused BadList (unclashed, (m.option, first_misspelled l m h))
 
-    -- a list is refused
-    pub decided_list : (result : Result Request UsageFault) (fault : ListFault) → IsErrAnd result (λ y. y ≡ usage_fault fault) → RefusesLists l fault → IsDecided result
+    -- memory is wanted for the items of a list
+    pub decided_list : (result : Result Request UsageFault) (fault : ListFault) → IsErrAnd result (λ y. y ≡ usage_fault fault) → WantsMemory l fault → IsDecided result
     decided_list result fault is h =
         let e = err_from_is_err_and result is in
-        subst IsDecided (sym (e.1 ∙ ap Err e.2)) (refused (usage_fault fault) (lists_refused fault h))
+        let wanted : Refuses l Memory = (
+          record { rules = rules_of l; memory = unwrap_or l.memory default_memory; mode = h.1.0 },
+          record { clash = unclashed; rules = refl; memory = refl; mode = h.1.1 },
+          h.1.2,
+        )
+        in
+        subst IsDecided (sym (e.1 ∙ ap Err (e.2 ∙ ap usage_fault h.0))) (refused Memory wanted)
 
     -- nothing is
     module _ (size : HasMemorySize o) (positive : HasBound o) where

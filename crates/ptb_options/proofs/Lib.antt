@@ -1,8 +1,11 @@
 -- This file names the files of lemmas.
 pub mod AnswerTexts
 pub mod ItemReading
+pub mod ListFaults
 pub mod ListReturns
+pub mod ListsKept
 pub mod NumberRanges
 pub mod OptionReads
 pub mod ListedArgs
 pub mod Decisions
+pub mod NumberArguments

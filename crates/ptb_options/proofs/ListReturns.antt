@@ -1,11 +1,13 @@
 -- This file proves what the ways out of reading a list tell, from what its reader knows of each step.
-use Rattle.std.proofs.Common.{◌≡◌, ◌∙◌, sym, ℕ, Bool, true, List, [], ℤ, Result, Ok, Err, IfOk, subst}
+use Rattle.std.proofs.Common.{◌≡◌, ◌≢◌, ◌∙◌, ap, sym, ℕ, Bool, true, false, List, [], ℤ, Result, Ok, Err, IfOk, subst}
 use Rattle.std.specs.Prelude.{codes, nat_eq}
 use lib.Pointwise.{pointwise}
 use Rattle.std.specs.Result.{IsErrAnd}
 use Rattle.std.proofs.lemmas.List.Elements.{All-nil}
 use Rattle.std.proofs.lemmas.Slice.Eq.{bytes_eq-Decides}
+use Rattle.std.proofs.lemmas.Bool.{false≢true}
 use Rattle.ptb_answers.specs.declared.form.Marked.{Marked}
+use Rattle.ptb_answers.specs.AnswerText.{spelling, unmarked}
 use Rattle.ptb_options.specs.AnswerLists.{IsItem, SpellsAnswers, SpellsList}
 use Rattle.ptb_options.specs.declared.answers.ListFault.{ListFault}
 use Rattle.ptb_options.specs.declared.answers.ListFault.TheVariants.{Bad, Memory}
@@ -19,12 +21,16 @@ pub memory_is_bad : {T X : Type 0} (r : Result T ListFault) → IsErrAnd r (λ y
 memory_is_bad (Ok x) is e = absurd is
 memory_is_bad (Err fault) is e = absurd (cc)
 
+-- a list that was read does not want memory
+pub read_is_memory : {T X : Type 0} (x : T) → ◌≡◌ {A = Result T ListFault} (Ok x) (Err Memory) → X
+read_is_memory x e = absurd (cc)
+
 -- and a refused one is none
 pub refused_is_read : {T : Type 0} (P : T → Type 0) (r : Result T ListFault) (fault : ListFault) → IsErrAnd r (λ y. y ≡ fault) → IfOk r P
 refused_is_read P (Ok x) fault is = absurd is
 refused_is_read P (Err other) fault is = tt
 
-none_spelled : (text : List ℕ) (same : Bool) → same ≡ pointwise nat_eq text (codes "none") → same ≡ true → SpellsList text []
+pub none_spelled : (text : List ℕ) (same : Bool) → same ≡ pointwise nat_eq text (codes "none") → same ≡ true → SpellsList text []
 none_spelled text same told is = (All-nil IsItem, sym ((bytes_eq-Decides text (codes "none")).0 (sym told ∙ is)))
 
 -- `none` is the empty list
@@ -33,3 +39,14 @@ none_is_list text same items list told is empty made = subst (SpellsList text) (
 
 pub none_is_answers : (text : List ℕ) (same : Bool) (items list : List ℤ) → same ≡ pointwise nat_eq text (codes "none") → same ≡ true → items ≡ [] → list ≡ items → SpellsAnswers text list
 none_is_answers text same items list told is empty made = subst (SpellsAnswers text) (sym (made ∙ empty)) (none_spelled text same told is)
+
+-- a list whose text is not `none` has items
+pub has_items : (text : List ℕ) (list : List Marked) → text ≢ codes "none" → SpellsList text list → list ≢ []
+has_items text list some spells e = some (sym spells.1 ∙ ap spelling e)
+
+pub has_answers : (text : List ℕ) (a : List ℤ) → text ≢ codes "none" → SpellsAnswers text a → a ≢ []
+has_answers text a some spells e = has_items text (unmarked a) some spells (ap unmarked e)
+
+-- a text that differs from `none`
+pub some_text : (text : List ℕ) (same : Bool) → same ≡ pointwise nat_eq text (codes "none") → same ≡ false → text ≢ codes "none"
+some_text text same told is e = false≢true (sym is ∙ told ∙ ap (λ (t : List ℕ). pointwise nat_eq t (codes "none")) e)

@@ -9,17 +9,11 @@ use Rattle.ptb_options.specs.declared.command_line.ArgKind.{ArgKind}
 use Rattle.ptb_options.specs.declared.command_line.ArgKind.TheVariants as kinds
 use Rattle.ptb_options.specs.CommandLine.{rule_by}
 
--- the argument a was made by its name, and b is a with its help
-module _ (a b : Arg) (name help : Bor (List ℕ)) (kind : ArgKind) (made : rule_of a ≡ new_rule name.now) (only : a.global ≡ false) (helped : b ≡ record a { help = Some help }) where
+-- the argument b was made by its name, and has its help
+module _ (b : Arg) (name : Bor (List ℕ)) (kind : ArgKind) (named : rule_of b ≡ new_rule name.now) (local_b : b.global ≡ false) where
   pub record IsRule (result : Arg) : Type 0 where
     pub rule : rule_of result ≡ rule_by name.now kind
     pub local : result.global ≡ false
-
-  named : rule_of b ≡ new_rule name.now
-  named = ap rule_of helped ∙ made
-
-  local_b : b.global ≡ false
-  local_b = ap (λ (x : Arg). x.global) helped ∙ only
 
   -- it is an option
   module _ (d : Arg) (long : d ≡ record b { long = Some name }) where

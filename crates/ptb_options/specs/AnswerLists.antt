@@ -1,6 +1,6 @@
 -- This file defines how lists of answers are written.
---     IsAnswer k             a number that can stand in a list
---     IsItem m               an answer that can stand in a list, with its bound or without
+--     IsAnswer k             a number that a list can have
+--     IsItem m               an answer that a list can have, with its bound or without
 --     SpellsNumber s k       the text s writes the number k
 --     SpellsItem s m         the text s writes the item m
 --     SpellsList s list      the text s writes the list
@@ -24,7 +24,7 @@ IsItem m = IsAnswer m.answer × ForSome m.bound IsAnswer
 abbrev pub SpellsNumber : List ℕ → ℤ → Type 0
 SpellsNumber s k = IsAnswer k × (signed_decimal k ≡ s)
 
--- as reports write it: an answer alone, or `/` and its bound behind it
+-- as reports write it: an answer alone, or an answer, `/` and its bound
 abbrev pub SpellsItem : List ℕ → Marked → Type 0
 SpellsItem s m = IsItem m × (item_text m ≡ s)
 
@@ -35,7 +35,7 @@ SpellsList s list = All IsItem list × (spelling list ≡ s)
 abbrev pub IsMisspelled : List ℕ → Type 0
 IsMisspelled s = (list : List Marked) → SpellsList s list → ⊥
 
--- the answers of a run that is to be played are such a list in which no bound stands
+-- the answers of a run that is to be played are such a list, without bounds
 abbrev pub SpellsAnswers : List ℕ → List ℤ → Type 0
 SpellsAnswers s a = SpellsList s (unmarked a)
 

@@ -1,4 +1,4 @@
--- This file defines what the words of the command line ask for.
+-- This file defines what the arguments of the command line ask for.
 --     entries_of m               what clap found, as its entries
 --     Options, options_of e      what the options say by these entries
 --     HasMemorySize o            --memory gives a size that a program can have
@@ -8,8 +8,13 @@
 --     clash o                    the fault of options that don't go together
 --     default_steps, default_memory     the numbers of a request that gives none
 --     Asks o r                   the options ask for the request r
---     Refuses o fault            why they ask for none
-use Rattle.std.specs.Prelude.{◌≡◌, ◌≤◌, pos, option_map, ℕ, ◌^◌, nat_lt, Bool, true, false, not, ◌&&◌, ◌||◌, ◌⊎◌, ◌==◌, if◌then◌else◌, List, length, Option, Some, None, is_some, IsSome, unwrap_or, option_and_then, find, IsSomeAnd, codes}
+--     text_of o x                the list of an option, as text
+--     IsSpelled o x              it is a list, or is left out
+--     IsMisspelledIn o x         it is no list
+--     IsFirstMisspelled o m      m is what is wrong with the first of them that is no list
+--     HasItems mode              a list of the mode has items
+--     Refuses o fault            why the options ask for no request
+use Rattle.std.specs.Prelude.{◌≡◌, ◌≢◌, ◌≤◌, pos, ℤ, [], option_map, ℕ, ◌^◌, nat_lt, Bool, true, false, not, ◌&&◌, ◌||◌, ◌⊎◌, ◌==◌, if◌then◌else◌, List, length, Option, Some, None, is_some, unwrap_or, option_and_then, find, IsSomeAnd, codes}
 use Rattle.std.specs.Option.{ForSome}
 use Rattle.std.specs.Str.{all_ascii_digits, bytes_eq}
 use Rattle.std.specs.Str.Parse.{digits_value, without_leading_plus}
@@ -23,8 +28,15 @@ use Rattle.ptb_answers.specs.declared.form.Form.{Form}
 use Rattle.ptb_answers.specs.declared.form.Form.TheVariants.{One, Two}
 use Rattle.ptb_answers.specs.declared.form.Marked.{Marked}
 use Rattle.ptb_options.specs.AnswerLists.{SpellsList, SpellsAnswers, IsMisspelled, HasNoAnswers}
+use Rattle.ptb_options.specs.ListMistakes.{IsListOf, IsMistakeOf}
 use Rattle.ptb_options.specs.declared.answers.ListFault.{ListFault}
 use Rattle.ptb_options.specs.declared.answers.ListFault.TheVariants as lists
+use Rattle.ptb_options.specs.declared.mistakes.Bounds.{Bounds}
+use Rattle.ptb_options.specs.declared.mistakes.Bounds.TheVariants.{Allowed, Refused}
+use Rattle.ptb_options.specs.declared.mistakes.ListOption.{ListOption}
+use Rattle.ptb_options.specs.declared.mistakes.ListOption.TheVariants.{After, Answers, Under}
+use Rattle.ptb_options.specs.declared.mistakes.MisspelledList.{MisspelledList}
+use Rattle.ptb_options.specs.declared.mistakes.Mistake.{Mistake}
 use Rattle.ptb_options.specs.declared.request.Mode.{Mode}
 use Rattle.ptb_options.specs.declared.request.Mode.TheVariants as modes
 use Rattle.ptb_options.specs.declared.request.Request.{Request}
@@ -33,7 +45,7 @@ use Rattle.ptb_options.specs.declared.usage.UsageFault.TheVariants.{ListWithOthe
 
 -- ---- the options
 
--- each option as it stands on the command line, and None or false where it doesn't; lists are texts
+-- each option as the command line gives it, and None or false where it doesn't; lists are texts
 pub record Options : Type 0 where
   pub steps : Option ℕ
   pub memory : Option ℕ
@@ -59,11 +71,11 @@ abbrev pub is_command_line : Option ValueSource → Bool
 is_command_line (Some CommandLine) = true
 is_command_line _ = false
 
--- whether an option stands on the command line
+-- whether an option is on the command line
 abbrev pub is_given : List ℕ → List Row → Bool
 is_given id entries = is_command_line (option_and_then (λ e. e.source) (find (λ e. bytes_eq e.id id) entries))
 
--- the number below 2 ^ bits that a text writes in digits, behind a plus or not
+-- the number below 2 ^ bits that a text writes in digits, after a plus or not
 abbrev pub number_in : ℕ → List ℕ → Option ℕ
 number_in bits text =
     let digits = without_leading_plus text in
@@ -89,11 +101,11 @@ options_of entries = record {
   list = is_given (codes "list") entries;
 }
 
--- the size that --memory gives, if it stands there, is one
+-- the size that --memory gives, if it is there, is one
 abbrev pub HasMemorySize : Options → Type 0
 HasMemorySize o = ForSome o.memory IsMemorySize
 
--- the bound that --choose gives, if it stands there, is a number from 1 to 32767
+-- the bound that --choose gives, if it is there, is a number from 1 to 32767
 abbrev pub HasBound : Options → Type 0
 HasBound o = ForSome o.choose (λ n. (1 ≤ n) × (n ≤ 32767))
 
@@ -119,7 +131,7 @@ SpellsIfGiven None (Some a) = ⊥
 SpellsIfGiven (Some s) None = ⊥
 SpellsIfGiven (Some s) (Some a) = SpellsList s a
 
--- form 1 where it is asked for, and else form 2
+-- form 1 where it is asked for, otherwise form 2
 abbrev pub form_of : Option ℕ → Form
 form_of None = Two
 form_of (Some n) = if n == 1 then One else Two
@@ -149,22 +161,63 @@ pub record Asks (o : Options) (r : Request) : Type 0 where
   pub memory : r.memory ≡ unwrap_or o.memory default_memory
   pub mode : AsksMode o r.mode
 
--- why a list is refused, and which are misspelled; memory is wanted for a list alone
-abbrev pub RefusesList : (List ℕ → Type 0) → Option (List ℕ) → ListFault → Type 0
-RefusesList Misspelled text lists.Bad = IsSomeAnd text Misspelled
-RefusesList Misspelled text lists.Memory = IsSome text
+-- ---- why they ask for nothing
 
--- the option with the list is one of these
-abbrev pub RefusesLists : Options → ListFault → Type 0
-RefusesLists o fault = RefusesList IsMisspelled o.under fault ⊎ RefusesList IsMisspelled o.after fault ⊎ RefusesList HasNoAnswers o.answers fault
+abbrev pub text_of : Options → ListOption → Option (List ℕ)
+text_of o Under = o.under
+text_of o After = o.after
+text_of o Answers = o.answers
 
--- lists are looked at where nothing else is wrong
+-- a run is played by numbers alone, and named with their bounds or without
+abbrev pub bounds_in : ListOption → Bounds
+bounds_in Answers = Refused
+bounds_in _ = Allowed
+
+abbrev pub IsSpelled : Options → ListOption → Type 0
+IsSpelled o x = ForSome (text_of o x) (IsListOf (bounds_in x))
+
+abbrev pub IsMisspelledIn : Options → ListOption → Type 0
+IsMisspelledIn o x = IsSomeAnd (text_of o x) (λ s. IsListOf (bounds_in x) s → ⊥)
+
+-- what is wrong with a list that may be left out
+abbrev pub HasMistake : Bounds → Option (List ℕ) → Mistake → Type 0
+HasMistake bounds text m = IsSomeAnd text (λ s. IsMistakeOf bounds s m)
+
+-- the lists are looked at in this order
+abbrev pub EarlierSpelled : Options → ListOption → Type 0
+EarlierSpelled o Under = Unit {0}
+EarlierSpelled o After = IsSpelled o Under
+EarlierSpelled o Answers = IsSpelled o Under × IsSpelled o After
+
+abbrev pub IsFirstMisspelled : Options → MisspelledList → Type 0
+IsFirstMisspelled o m = EarlierSpelled o m.option × HasMistake (bounds_in m.option) (text_of o m.option) m.mistake
+
+-- a list that may be left out is misspelled, or it has items and memory is wanted for them
+abbrev pub RefusesIfGiven : Option (List ℕ) → ListFault → Type 0
+RefusesIfGiven text lists.Bad = IsSomeAnd text IsMisspelled
+RefusesIfGiven text lists.Memory = (list : List Marked) × SpellsIfGiven text (Some list) × (list ≢ [])
+
+abbrev pub RefusesAnswers : Option (List ℕ) → ListFault → Type 0
+RefusesAnswers text lists.Bad = IsSomeAnd text HasNoAnswers
+RefusesAnswers text lists.Memory = (a : List ℤ) × SpellsAnswers (unwrap_or text (codes "none")) a × (a ≢ [])
+
+-- memory is taken for the items of lists alone
+abbrev pub HasItems : Mode → Type 0
+HasItems (modes.Plain a) = a ≢ []
+HasItems (modes.Seeded seed) = ⊥
+HasItems (modes.All under after first form) = IsSomeAnd under (λ u. u ≢ []) ⊎ IsSomeAnd after (λ a. a ≢ [])
+HasItems modes.List = ⊥
+
+abbrev pub WantsMemory : Options → ListFault → Type 0
+WantsMemory o fault = (fault ≡ lists.Memory) × ((mode : Mode) × AsksMode o mode × HasItems mode)
+
+-- lists are looked at where nothing else is wrong, and kept where all are spelled
 abbrev pub Refuses : Options → UsageFault → Type 0
-Refuses o BadList = (clash o ≡ None) × RefusesLists o lists.Bad
-Refuses o Memory = (clash o ≡ None) × RefusesLists o lists.Memory
+Refuses o BadList = (clash o ≡ None) × ((x : ListOption) × IsMisspelledIn o x)
+Refuses o Memory = (r : Request) × Asks o r × HasItems r.mode
 Refuses o fault = clash o ≡ Some fault
 
--- a list's fault as one of the words
+-- a list's fault as one of the command line
 abbrev pub usage_fault : ListFault → UsageFault
 usage_fault lists.Bad = BadList
 usage_fault lists.Memory = Memory

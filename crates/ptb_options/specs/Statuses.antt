@@ -1,6 +1,6 @@
--- This file defines the status that the program exits with where its words ask for nothing that it serves.
+-- This file defines the status that the program exits with where there is no request to serve.
 --     usage_status fault         where the options don't go together
---     refusal_status kind        where clap refuses the words, or shows its help or the version
+--     refusal_status kind        where clap refuses the arguments, or shows the help or the version
 use Rattle.std.specs.Prelude.{ℕ}
 use Rattle.clap.specs.declared.error.ErrorKind.{ErrorKind}
 use Rattle.clap.specs.declared.error.ErrorKind.TheVariants.{DisplayHelp, DisplayVersion, OutOfMemory}

@@ -1,18 +1,19 @@
-// This file has lists of answers, and how they are read from a word of the command line.
+// This file has lists of answers, and reads them from the text of an option.
 
-ghost use Rattle.std.specs.Prelude.{◌≡◌, List, ℤ, IfOk, IfSome};
-ghost use Rattle.ptb_answers.specs.AnswerText.{without_bound};
+ghost use Rattle.std.specs.Prelude.{◌≡◌, ◌≢◌, [], List, ℤ, IfOk};
 ghost use Rattle.ptb_answers.specs.declared.form.Marked.{Marked};
 ghost use Rattle.ptb_options.specs.AnswerLists.{HasNoAnswers, IsMisspelled, SpellsAnswers};
-ghost use Rattle.ptb_options.specs.AnswerLists.{SpellsItem, SpellsList, SpellsNumber};
+ghost use Rattle.ptb_options.specs.AnswerLists.{SpellsList};
 ghost use Rattle.ptb_options.specs.declared.answers.ListFault.TheVariants.{Memory};
 
+use crate::items::{parse_answer, parse_item};
+use crate::mistakes::{Bounds, list_mistake};
 use ptb_answers::Marked;
 use std::alloc::{AllocFailed, Global};
 use std::marker::Model;
 use thiserror::Error;
 
-/// A list of answers to RND. One that was read from a word has answers from 1 to 32767; the type
+/// A list of answers to RND. A list that was read from a text has answers from 1 to 32767; the type
 /// holds any.
 ///
 /// [`From`] makes it of a `Vec`, and [`Answers::into_vec`] returns that; neither takes memory.
@@ -51,7 +52,7 @@ impl From<Vec<i16>> for Answers {
     }
 }
 
-/// A list of answers, of which some may have their bounds. One that was read from a word has numbers
+/// A list of answers, each with its bound or without. A list that was read from a text has numbers
 /// from 1 to 32767; the type holds any.
 ///
 /// [`From`] makes it of a `Vec`, and [`MarkedAnswers::into_vec`] returns that; neither takes memory.
@@ -113,18 +114,23 @@ impl<T: Drop> From<AllocFailed<T>> for ListFault {
 }
 
 /// The list that a text spells: `none`, or items with one comma between two of them and nothing
-/// else. An item is the decimals of an answer, and behind it, or not, `/` and those of its bound. Both
-/// are numbers from 1 to 32767, the first digit never 0.
+/// else. An item is an answer in decimals; `/` and its bound in decimals may follow. Both are numbers
+/// from 1 to 32767, and their first digit is never 0.
 ///
 /// # Errors
 ///
 /// [`ListFault::Bad`] where the text spells no list; [`ListFault::Memory`] where a growth was
-/// refused memory.
+/// refused memory, and only for a list that has items.
 pub fn parse_list(alloc: Global, text: &str) -> Result<MarkedAnswers, ListFault>
     ensures ok { IfOk result (SpellsList text.now) }
     ensures bad { result ≡ Err ListFault.Bad → IsMisspelled text.now }
+    ensures memory { result ≡ Err ListFault.Memory
+        → (list : List Marked) × SpellsList text.now list × (list ≢ []) }
     ensures one { (a b : List Marked) → SpellsList text.now a → SpellsList text.now b → a ≡ b }
 {
+    if list_mistake(text, Bounds::Allowed).is_some() {
+        return Err(ListFault::Bad);
+    }
     let mut items = Vec::new(alloc);
     if text == "none" {
         return Ok(items.into());
@@ -136,17 +142,22 @@ pub fn parse_list(alloc: Global, text: &str) -> Result<MarkedAnswers, ListFault>
     Ok(items.into())
 }
 
-/// The answers that a text spells: a list as [`parse_list`] reads it, in which no bound stands.
+/// The answers that a text spells: a list as [`parse_list`] reads it, without bounds.
 ///
 /// # Errors
 ///
 /// [`ListFault::Bad`] where the text spells no such list; [`ListFault::Memory`] where a growth was
-/// refused memory.
+/// refused memory, and only for a list that has items.
 pub fn parse_answers(alloc: Global, text: &str) -> Result<Answers, ListFault>
     ensures ok { IfOk result (SpellsAnswers text.now) }
     ensures bad { result ≡ Err ListFault.Bad → HasNoAnswers text.now }
+    ensures memory { result ≡ Err ListFault.Memory
+        → (a : List ℤ) × SpellsAnswers text.now a × (a ≢ []) }
     ensures one { (a b : List ℤ) → SpellsAnswers text.now a → SpellsAnswers text.now b → a ≡ b }
 {
+    if list_mistake(text, Bounds::Refused).is_some() {
+        return Err(ListFault::Bad);
+    }
     let mut answers = Vec::new(alloc);
     if text == "none" {
         return Ok(answers.into());
@@ -156,46 +167,4 @@ pub fn parse_answers(alloc: Global, text: &str) -> Result<Answers, ListFault>
         answers.push(answer)?;
     }
     Ok(answers.into())
-}
-
-// The item that a word writes, if it is one.
-fn parse_item(word: &str) -> Option<Marked>
-    ensures some { IfSome result (λ m. SpellsItem word.now m) }
-    ensures only { (m : Marked) → SpellsItem word.now m → result ≡ Some m }
-{
-    let Some((answer, bound)) = word.split_once('/') else {
-        return Some(Marked {
-            answer: parse_number(word)?,
-            bound: None,
-        });
-    };
-    Some(Marked {
-        answer: parse_number(answer)?,
-        bound: Some(parse_number(bound)?),
-    })
-}
-
-// The answer that a word writes, if it is an item without a bound.
-fn parse_answer(word: &str) -> Option<i16>
-    ensures some { IfSome result (λ k. SpellsItem word.now (without_bound k)) }
-    ensures only { (k : ℤ) → SpellsItem word.now (without_bound k) → result ≡ Some k }
-{
-    let item = parse_item(word)?;
-    if item.bound.is_some() {
-        return None;
-    }
-    Some(item.answer)
-}
-
-// The number that a word writes, if it may stand in a list. Signs and zeros in front have no place
-// there, so the first byte is looked at first.
-fn parse_number(word: &str) -> Option<i16>
-    ensures some { IfSome result (λ k. SpellsNumber word.now k) }
-    ensures only { (k : ℤ) → SpellsNumber word.now k → result ≡ Some k }
-{
-    let bytes = word.as_bytes();
-    if bytes.is_empty() || bytes[0] < b'1' || bytes[0] > b'9' {
-        return None;
-    }
-    word.parse().ok()
 }

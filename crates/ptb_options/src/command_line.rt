@@ -31,11 +31,11 @@ pub fn command<'a>(alloc: Global) -> Result<Command<'a>, AllocError>
     Ok(command)
 }
 
-/// What clap finds in the words of the command line, of which the first is the program's name.
+/// What clap finds in the arguments, of which the first is the program's name.
 ///
 /// # Errors
 ///
-/// clap's error, with its text; where the words are right that is want of memory alone.
+/// clap's error, with its text; where the arguments are right that is want of memory alone.
 pub fn parse<'a, S: AsStr>(alloc: Global, words: &'a [S]) -> Result<ArgMatches<'a>, Error>
     ensures entries { IfOk result (λ m.
         entries_of m ≡ matches_of tool (map S.text words.entry.now)) }
@@ -59,78 +59,92 @@ pub fn refusal_status(kind: ErrorKind) -> u8
 }
 
 // The arguments: the options, and the program, in the order in which help shows them.
-const ARGS: &[ListedArg] = &[
+pub(crate) const ARGS: &[ListedArg] = &[
     ListedArg {
         name: "steps",
         kind: ArgKind::Number(ValueParser::Signed(1, 1_000_000_000)),
+        heading: Some(help::RUN),
         help: help::STEPS,
     },
     ListedArg {
         name: "memory",
         kind: ArgKind::Number(ValueParser::Signed(64, 32767)),
+        heading: Some(help::RUN),
         help: help::MEMORY,
     },
     ListedArg {
         name: "choose",
         kind: ArgKind::Number(ValueParser::Signed(1, 32767)),
+        heading: Some(help::RUN),
         help: help::CHOOSE,
     },
     ListedArg {
         name: "answers",
         kind: ArgKind::List,
+        heading: Some(help::RUN),
         help: help::ANSWERS,
     },
     ListedArg {
         name: "seed",
         kind: ArgKind::Number(ValueParser::Unsigned(0, 4_294_967_295)),
+        heading: Some(help::RUN),
         help: help::SEED,
     },
     ListedArg {
         name: "all",
         kind: ArgKind::Flag,
+        heading: Some(help::EXPLORE),
         help: help::ALL,
     },
     ListedArg {
         name: "under",
         kind: ArgKind::List,
+        heading: Some(help::EXPLORE),
         help: help::UNDER,
     },
     ListedArg {
         name: "after",
         kind: ArgKind::List,
+        heading: Some(help::EXPLORE),
         help: help::ALL_AFTER,
     },
     ListedArg {
         name: "first",
         kind: ArgKind::Number(ValueParser::Unsigned(1, 1_000_000_000)),
+        heading: Some(help::EXPLORE),
         help: help::FIRST,
     },
     ListedArg {
         name: "form",
         kind: ArgKind::Number(ValueParser::Signed(1, 2)),
+        heading: Some(help::EXPLORE),
         help: help::FORM,
     },
     ListedArg {
         name: "list",
         kind: ArgKind::Flag,
+        heading: Some(help::PRINT),
         help: help::LIST,
     },
     ListedArg {
         name: "program",
         kind: ArgKind::Operand,
+        heading: None,
         help: help::PROGRAM,
     },
 ];
 
-// An argument, with what clap is told of it.
-struct ListedArg {
-    name: &'static str,
-    kind: ArgKind,
+// An argument, with what clap needs to know of it.
+pub(crate) struct ListedArg {
+    pub(crate) name: &'static str,
+    pub(crate) kind: ArgKind,
+    // The heading under which help shows it, where that isn't one of clap's own.
+    heading: Option<&'static str>,
     help: &'static str,
 }
 
 // What an argument is.
-enum ArgKind {
+pub(crate) enum ArgKind {
     // An option with a number.
     Number(ValueParser<'static>),
     // An option with a text: a list of answers.
@@ -147,12 +161,23 @@ impl ListedArg {
         ensures rule { rule_of result ≡ rule_of_listed self.now }
         ensures local { result.global ≡ false }
     {
-        let arg = Arg::new(alloc, self.name).help(self.help);
+        let arg = under_heading(Arg::new(alloc, self.name).help(self.help), self.heading);
         match self.kind {
             ArgKind::Number(parser) => arg.long(self.name).value_name("N").value_parser(parser),
             ArgKind::List => arg.long(self.name).value_name("LIST"),
             ArgKind::Flag => arg.long(self.name).action(ArgAction::SetTrue),
             ArgKind::Operand => arg.value_name("PROGRAM"),
         }
+    }
+}
+
+// The argument under its heading in help, if it has one.
+fn under_heading<'a>(arg: Arg<'a>, heading: Option<&'a str>) -> Arg<'a>
+    ensures rule { rule_of result ≡ rule_of arg.entry }
+    ensures local { result.global ≡ arg.entry.global }
+{
+    match heading {
+        Some(heading) => arg.help_heading(heading),
+        None => arg,
     }
 }

@@ -1,14 +1,19 @@
-// This file decides what the words of the command line ask for.
+// This file decides what the arguments of the command line ask for.
 
-ghost use Rattle.std.specs.Prelude.{◌≡◌, ◌≤◌, ◌≤ℤ◌, pos, None, IfErr, IfOk, IfSome, option_map, unwrap_or, codes};
-ghost use Rattle.std.specs.Option.{option_copied};
+ghost use Rattle.std.specs.Prelude.{◌≡◌, ◌≤◌, ◌≤ℤ◌, pos, None, IfErr, IfOk, IfSome};
+ghost use Rattle.std.specs.Prelude.{option_map, unwrap_or, codes};
+ghost use Rattle.std.specs.Option.{ForSome, option_copied};
 ghost use Rattle.ptb_text.specs.Statements.{IsMemorySize};
-ghost use Rattle.ptb_options.specs.AnswerLists.{HasNoAnswers, IsMisspelled, SpellsAnswers};
-ghost use Rattle.ptb_options.specs.Options.{Asks, AsksMode, HasBound, HasMemorySize, Refuses};
-ghost use Rattle.ptb_options.specs.Options.{RefusesList, RefusesLists, SpellsIfGiven, rules_of};
-ghost use Rattle.ptb_options.specs.Options.{clash, entries_of, form_of, is_given, options_of};
+ghost use Rattle.ptb_options.specs.AnswerLists.{SpellsAnswers};
+ghost use Rattle.ptb_options.specs.ListMistakes.{IsListOf};
+ghost use Rattle.ptb_options.specs.Options.{Asks, AsksMode, HasBound, HasMemorySize, HasMistake};
+ghost use Rattle.ptb_options.specs.Options.{IsFirstMisspelled, IsSpelled, Refuses, RefusesAnswers};
+ghost use Rattle.ptb_options.specs.Options.{RefusesIfGiven, SpellsIfGiven, WantsMemory, clash};
+ghost use Rattle.ptb_options.specs.Options.{entries_of, form_of, is_given, options_of, rules_of};
+ghost use Rattle.ptb_options.specs.declared.mistakes.ListOption.{ListOption};
 
 use crate::answers::{Answers, ListFault, MarkedAnswers, parse_answers, parse_list};
+use crate::mistakes::{Bounds, ListOption, MisspelledList, Mistake, list_mistake};
 use crate::request::{DEFAULT_MEMORY, DEFAULT_STEPS, Mode, Request};
 use crate::usage::UsageFault;
 use clap::ArgMatches;
@@ -17,7 +22,7 @@ use ptb_answers::{Form, Rules};
 use std::alloc::Global;
 use std::marker::Model;
 
-/// The request that the words of the command line make.
+/// The request that the arguments make.
 ///
 /// # Errors
 ///
@@ -25,7 +30,8 @@ use std::marker::Model;
 /// [`UsageFault::AfterWithoutAll`], [`UsageFault::FirstWithoutAll`],
 /// [`UsageFault::FormWithoutAll`], [`UsageFault::UnderWithoutAll`],
 /// [`UsageFault::AnswersWithAll`], [`UsageFault::SeedWithAll`], [`UsageFault::SeedWithAnswers`],
-/// [`UsageFault::BadList`]. [`UsageFault::Memory`] comes only while a list is kept.
+/// [`UsageFault::BadList`]. [`UsageFault::Memory`] comes only while the items of a list are kept, and
+/// no list is kept before all are found to be spelled.
 pub fn decide(alloc: Global, matches: &ArgMatches<'_>) -> Result<Request, UsageFault>
     requires memory { HasMemorySize (options_of (entries_of matches.now)) }
     requires bound { HasBound (options_of (entries_of matches.now)) }
@@ -38,6 +44,9 @@ pub fn decide(alloc: Global, matches: &ArgMatches<'_>) -> Result<Request, UsageF
     if let Some(fault) = line.clash() {
         return Err(fault);
     }
+    if line.misspelled().is_some() {
+        return Err(UsageFault::BadList);
+    }
     Ok(Request {
         rules: line.rules(),
         memory: line.memory.unwrap_or(DEFAULT_MEMORY),
@@ -45,7 +54,18 @@ pub fn decide(alloc: Global, matches: &ArgMatches<'_>) -> Result<Request, UsageF
     })
 }
 
-// What stands on the command line, option by option. Lists are texts.
+/// The first option whose list is misspelled, in the order `--under`, `--after`, `--answers`, and what
+/// is wrong with that list; `None` where each list is spelled. It is there where [`decide`] answers
+/// [`UsageFault::BadList`].
+pub fn misspelled_list<'a>(matches: &ArgMatches<'a>) -> Option<MisspelledList<'a>>
+    ensures none { result ≡ None
+        → (x : ListOption) → IsSpelled (options_of (entries_of matches.now)) x }
+    ensures some { IfSome result (IsFirstMisspelled (options_of (entries_of matches.now))) }
+{
+    GivenOptions::of(matches).misspelled()
+}
+
+// What the command line gives, option by option. Lists are texts.
 #[derive(Drop)]
 struct GivenOptions<'a> {
     steps: Option<u32>,
@@ -132,6 +152,24 @@ impl<'a> GivenOptions<'a> {
         }
     }
 
+    // The first option whose list is misspelled, and what is wrong with it.
+    fn misspelled(&self) -> Option<MisspelledList<'a>>
+        ensures none { result ≡ None → (x : ListOption) → IsSpelled self.now x }
+        ensures some { IfSome result (IsFirstMisspelled self.now) }
+    {
+        if let Some(mistake) = mistake_in(self.under, Bounds::Allowed) {
+            let option = ListOption::Under;
+            return Some(MisspelledList { option, mistake });
+        }
+        if let Some(mistake) = mistake_in(self.after, Bounds::Allowed) {
+            let option = ListOption::After;
+            return Some(MisspelledList { option, mistake });
+        }
+        let mistake = mistake_in(self.answers, Bounds::Refused)?;
+        let option = ListOption::Answers;
+        Some(MisspelledList { option, mistake })
+    }
+
     // The rules of runs.
     fn rules(&self) -> Rules
         requires { HasBound self.now }
@@ -153,11 +191,12 @@ impl<'a> GivenOptions<'a> {
         }
     }
 
-    // What options that don't clash ask to be done with the program.
+    // What options that don't clash, and whose lists are spelled, ask to be done with the program.
     fn mode(&self, alloc: Global) -> Result<Mode, ListFault>
-        requires { clash self.now ≡ None }
+        requires clash { clash self.now ≡ None }
+        requires spelled { (x : ListOption) → IsSpelled self.now x }
         ensures ok { IfOk result (AsksMode self.now) }
-        ensures fault { IfErr result (RefusesLists self.now) }
+        ensures fault { IfErr result (WantsMemory self.now) }
     {
         if self.list {
             return Ok(Mode::List);
@@ -188,10 +227,18 @@ fn bound(number: Option<u16>) -> Option<i16>
     }
 }
 
+// What is wrong with a list, if there is a text of one.
+fn mistake_in(text: Option<&str>, bounds: Bounds) -> Option<Mistake<'_>>
+    ensures none { result ≡ None → ForSome (option_copied text.entry) (IsListOf bounds) }
+    ensures some { IfSome result (HasMistake bounds (option_copied text.entry)) }
+{
+    list_mistake(text?, bounds)
+}
+
 // The list that a text spells, if there is a text.
 fn list(alloc: Global, text: Option<&str>) -> Result<Option<MarkedAnswers>, ListFault>
     ensures ok { IfOk result (SpellsIfGiven (option_copied text.entry)) }
-    ensures fault { IfErr result (RefusesList IsMisspelled (option_copied text.entry)) }
+    ensures fault { IfErr result (RefusesIfGiven (option_copied text.entry)) }
 {
     match text {
         Some(text) => Ok(Some(parse_list(alloc, text)?)),
@@ -202,7 +249,7 @@ fn list(alloc: Global, text: Option<&str>) -> Result<Option<MarkedAnswers>, List
 // The answers that a text spells; none where there is no text.
 fn answers(alloc: Global, text: Option<&str>) -> Result<Answers, ListFault>
     ensures ok { IfOk result (SpellsAnswers (unwrap_or (option_copied text.entry) (codes "none"))) }
-    ensures fault { IfErr result (RefusesList HasNoAnswers (option_copied text.entry)) }
+    ensures fault { IfErr result (RefusesAnswers (option_copied text.entry)) }
 {
     match text {
         Some(text) => parse_answers(alloc, text),
@@ -210,7 +257,7 @@ fn answers(alloc: Global, text: Option<&str>) -> Result<Answers, ListFault>
     }
 }
 
-// Whether an option stands on the command line.
+// Whether an option is on the command line.
 fn is_given(matches: &ArgMatches<'_>, id: &str) -> bool
     ensures { result ≡ is_given id.now (entries_of matches.now) }
 {

@@ -1,20 +1,25 @@
-//! What the words of the command line ask for.
+//! What the arguments of the command line ask for.
 //!
-//! It stands on `ptb_answers`, of which it takes the rules of a run, the forms of reports and how lists
-//! of answers are written, on a definition of `ptb_text`, and on `clap` and `thiserror`. The crates
-//! above may rely on `parse` (what clap finds in the words, or its error) and on `decide` (the
-//! request that the options make, or the first fault of them).
+//! It uses `ptb_answers` (the rules of a run, the forms of reports, and how lists of answers are
+//! written), a definition of `ptb_text`, `clap` and `thiserror`. The crates above may rely on `parse`
+//! (what clap finds in the arguments, or its error), on `decide` (the request that the options make,
+//! or their first fault), and on `misspelled_list` and `wrong_number` (which value is at fault).
 #![tactic(auto)]
 
 mod answers;
 mod command_line;
 mod deciding;
 mod help;
+mod items;
+mod mistakes;
 mod request;
 mod usage;
+mod wrong_numbers;
 
 pub use answers::{Answers, ListFault, MarkedAnswers, parse_answers, parse_list};
 pub use command_line::{command, parse, refusal_status};
-pub use deciding::decide;
+pub use deciding::{decide, misspelled_list};
+pub use mistakes::{Bounds, ItemFault, ListOption, MisspelledList, Mistake, list_mistake};
 pub use request::{DEFAULT_MEMORY, DEFAULT_STEPS, Mode, Request};
 pub use usage::UsageFault;
+pub use wrong_numbers::{NumberOption, WrongNumber, wrong_number};

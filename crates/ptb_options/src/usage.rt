@@ -1,4 +1,4 @@
-// This file says which words of the command line don't go together.
+// This file has the usage errors that clap does not find: options that don't go together, and lists.
 
 ghost use Rattle.std.specs.Prelude.{◌≡◌};
 ghost use Rattle.ptb_options.specs.Options.{usage_fault};
@@ -7,19 +7,19 @@ ghost use Rattle.ptb_options.specs.Statuses.{usage_status};
 use crate::answers::ListFault;
 use thiserror::Error;
 
-/// Why the words of the command line ask for nothing.
+/// A usage error, or want of memory for a list.
 #[derive(Clone, Copy, Debug, PartialEq, Eq, Error)]
 pub enum UsageFault {
-    /// `--after` stands without `--all`.
+    /// `--after` without `--all`.
     #[error("ptb: --after needs --all")]
     AfterWithoutAll,
-    /// `--first` stands without `--all`.
+    /// `--first` without `--all`.
     #[error("ptb: --first needs --all")]
     FirstWithoutAll,
-    /// `--answers` stands beside `--all`.
+    /// `--answers` with `--all`.
     #[error("ptb: --answers excludes --all")]
     AnswersWithAll,
-    /// `--list` stands beside `--all`, `--answers`, `--seed`, `--under`, `--after`, `--first`, `--form` or
+    /// `--list` with `--all`, `--answers`, `--seed`, `--under`, `--after`, `--first`, `--form` or
     /// `--choose`.
     #[error("ptb: --list stands alone")]
     ListWithOther,
@@ -29,16 +29,16 @@ pub enum UsageFault {
     /// A growth was refused memory.
     #[error("ptb: out of memory")]
     Memory,
-    /// `--seed` stands beside `--all`.
+    /// `--seed` with `--all`.
     #[error("ptb: --seed excludes --all")]
     SeedWithAll,
-    /// `--seed` stands beside `--answers`.
+    /// `--seed` with `--answers`.
     #[error("ptb: --seed excludes --answers")]
     SeedWithAnswers,
-    /// `--form` stands without `--all`.
+    /// `--form` without `--all`.
     #[error("ptb: --form needs --all")]
     FormWithoutAll,
-    /// `--under` stands without `--all`.
+    /// `--under` without `--all`.
     #[error("ptb: --under needs --all")]
     UnderWithoutAll,
 }

@@ -1,7 +1,8 @@
--- This file answers what is told of the request that the words make, or of why there is none.
+-- This file answers what is known of the request that the arguments make, or of why there is none.
 use Rattle.std.proofs.Common.{◌∙◌, ap, sym}
 use Rattle.ptb_options.specs.Options.{Options}
-use Rattle.ptb_options.proofs.Decisions.{decided, decided_clash, decided_list}
+use Rattle.ptb_options.proofs.Decisions.{decided, decided_clash, decided_list, decided_misspelled}
+use Rattle.ptb_options.proofs.ListsKept.{list_found, no_list_found}
 use Rattle.ptb_options.proofs.deciding.decide.Goals as goal
 
 -- the options clash
@@ -14,8 +15,18 @@ returns-in-Some c =
 pub rules-requires : goal.rules-requires
 rules-requires c = rw c.of-line.ensures c.requires.bound
 
-pub mode-requires : goal.mode-requires
-mode-requires c = sym c.clash.ensures ∙ c.in_default.is
+pub mode-requires-clause-clash : goal.mode-requires-clause-clash
+mode-requires-clause-clash c = sym c.clash.ensures ∙ c.in_default.is
+
+pub mode-requires-clause-spelled : goal.mode-requires-clause-spelled
+mode-requires-clause-spelled c = c.misspelled.ensures.none (no_list_found c.misspelled.result c.is_some.result c.is_some.ensures c.if-is_some.false)
+
+-- a list is misspelled
+pub returns-then-is_some : goal.returns-then-is_some
+returns-then-is_some c =
+    let found = list_found c.misspelled.result c.is_some.result c.is_some.ensures c.if-is_some.true in
+    let told = decided_misspelled _ c.of-line.result c.of-line.ensures c.clash.result c.clash.ensures c.in_default.is found.0 (rw found.1 at c.misspelled.ensures.some) in
+    record { ok = told.ok; fault = told.fault; memory = told.memory; bound = told.bound }
 
 pub returns-in_err-mode : goal.returns-in_err-mode
 returns-in_err-mode c =

@@ -1,6 +1,6 @@
 -- This file answers that a word is cut at its `/`, if it has one.
 use Rattle.ptb_options.proofs.ItemReading.{both, both_only, no_answer, no_bound, no_number, number_alone, number_only}
-use Rattle.ptb_options.proofs.answers.parse_item.Goals as goal
+use Rattle.ptb_options.proofs.items.parse_item.Goals as goal
 
 pub returns-in_err-parse_number-clause-only : goal.returns-in_err-parse_number-clause-only
 returns-in_err-parse_number-clause-only c m h = no_number c.args.word.now c.in_default.ensures.cases m h c.in_err-parse_number.ensures.only

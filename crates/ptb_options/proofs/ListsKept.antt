@@ -1,0 +1,95 @@
+-- This file proves that memory is wanted only for the items of a request's lists.
+use Rattle.std.proofs.Common.{◌≡◌, ◌∙◌, ap, refl, subst, sym, inl, inr, Result, Err, IfErr, Bool, false, true, List, ℕ, Option, Some, None}
+use Rattle.std.specs.Prelude.{IsSomeAnd, is_some}
+use Rattle.std.specs.Option.{ForSome}
+use Rattle.std.specs.Result.{IsErrAnd}
+use Rattle.std.proofs.lemmas.Bool.{false≢true}
+use Rattle.std.proofs.lemmas.Result.{err_from_is_err_and}
+use Rattle.ptb_answers.specs.declared.form.Marked.{Marked}
+use Rattle.ptb_options.specs.AnswerLists.{HasNoAnswers, IsMisspelled}
+use Rattle.ptb_options.specs.ListMistakes.{IsListOf}
+use Rattle.ptb_options.specs.declared.answers.ListFault.{ListFault}
+use Rattle.ptb_options.specs.declared.answers.ListFault.TheVariants as lists
+use Rattle.ptb_options.specs.declared.mistakes.Bounds.{Bounds}
+use Rattle.ptb_options.specs.declared.mistakes.Bounds.TheVariants.{Allowed, Refused}
+use Rattle.ptb_options.specs.declared.mistakes.ListOption.{ListOption}
+use Rattle.ptb_options.specs.declared.mistakes.ListOption.TheVariants.{After, Answers, Under}
+use Rattle.ptb_options.specs.declared.mistakes.Mistake.{Mistake}
+use Rattle.ptb_options.specs.declared.mistakes.MisspelledList.{MisspelledList}
+use Rattle.ptb_options.specs.declared.request.Mode.{Mode}
+use Rattle.ptb_options.specs.declared.request.Mode.TheVariants as modes
+use Rattle.ptb_options.specs.Options.{HasMistake, IsFirstMisspelled, IsMisspelledIn, IsSpelled, Options, RefusesAnswers, RefusesIfGiven, SpellsIfGiven, WantsMemory, bounds_in, form_of, text_of}
+
+-- a list with a mistake is none
+mistaken : (bounds : Bounds) (text : Option (List ℕ)) (m : Mistake) → HasMistake bounds text m → IsSomeAnd text (λ s. IsListOf bounds s → ⊥)
+mistaken bounds None m h = h
+mistaken bounds (Some s) m h = h.not_list
+
+pub first_misspelled : (o : Options) (m : MisspelledList) → IsFirstMisspelled o m → IsMisspelledIn o m.option
+first_misspelled o m h = mistaken (bounds_in m.option) (text_of o m.option) m.mistake h.1
+
+-- o are the options, and v is how the code has them
+module _ (o v : Options) (same : v ≡ o) (under : ForSome v.under (IsListOf Allowed)) (m : Mistake) where
+  pub after_is_first : HasMistake Allowed v.after m → IsFirstMisspelled o (record { option = After; mistake = m })
+  after_is_first h = subst (λ (z : Options). IsFirstMisspelled z (record { option = After; mistake = m })) same (under, h)
+
+  pub answers_are_first : ForSome v.after (IsListOf Allowed) → HasMistake Refused v.answers m → IsFirstMisspelled o (record { option = Answers; mistake = m })
+  answers_are_first after h = subst (λ (z : Options). IsFirstMisspelled z (record { option = Answers; mistake = m })) same ((under, after), h)
+
+-- whether one was found
+pub no_list_found : (found : Option MisspelledList) (b : Bool) → b ≡ is_some found → b ≡ false → found ≡ None
+no_list_found None b told is = refl
+no_list_found (Some m) b told is = absurd (false≢true (sym is ∙ told))
+
+pub list_found : (found : Option MisspelledList) (b : Bool) → b ≡ is_some found → b ≡ true → (m : MisspelledList) × (found ≡ Some m)
+list_found None b told is = absurd (false≢true (sym told ∙ is))
+list_found (Some m) b told is = (m, refl)
+
+-- a list that is spelled is not refused as misspelled
+spelled_list : {X : Type 0} (text : Option (List ℕ)) → ForSome text (IsListOf Allowed) → IsSomeAnd text IsMisspelled → X
+spelled_list None spelled bad = absurd bad
+spelled_list (Some s) spelled bad = let list = spelled s refl in absurd (bad list.0 list.1)
+
+spelled_answers : {X : Type 0} (text : Option (List ℕ)) → ForSome text (IsListOf Refused) → IsSomeAnd text HasNoAnswers → X
+spelled_answers None spelled bad = absurd bad
+spelled_answers (Some s) spelled bad = let list = spelled s refl in absurd (bad list.0 list.1)
+
+-- a list that may be left out
+list_if_given : (text : Option (List ℕ)) → ForSome text (IsListOf Allowed) → (list : Option (List Marked)) × SpellsIfGiven text list
+list_if_given None spelled = (None, tt)
+list_if_given (Some s) spelled = let list = spelled s refl in (Some list.0, list.1)
+
+-- o are the options, all of whose lists are spelled, and v is how the code has them; a list was refused
+module _ (o v : Options) (same : v ≡ o) (all_spelled : (x : ListOption) → IsSpelled o x) (result : Result Mode ListFault) (fault : ListFault) (is : IsErrAnd result (λ y. y ≡ fault)) (runs : v.list ≡ false) where
+  spelled : (x : ListOption) → IsSpelled v x
+  spelled x = subst (λ (z : Options). IsSpelled z x) (sym same) (all_spelled x)
+
+  refused : WantsMemory v fault → IfErr result (WantsMemory o)
+  refused h =
+      let e = err_from_is_err_and result is in
+      subst (λ (r : Result Mode ListFault). IfErr r (WantsMemory o)) (sym (e.1 ∙ ap Err e.2)) (subst (λ (z : Options). WantsMemory z fault) same h)
+
+  wants_under : (f : ListFault) → v.all ≡ true → RefusesIfGiven v.under f → WantsMemory v f
+  wants_under lists.Bad all h = spelled_list v.under (spelled Under) h
+  wants_under lists.Memory all h =
+      let after = list_if_given v.after (spelled After) in
+      (refl, (modes.All (Some h.0) after.0 v.first (form_of v.form), (runs, all, h.1, after.1, refl, refl), inl h.2))
+
+  wants_after : (f : ListFault) → v.all ≡ true → RefusesIfGiven v.after f → WantsMemory v f
+  wants_after lists.Bad all h = spelled_list v.after (spelled After) h
+  wants_after lists.Memory all h =
+      let under = list_if_given v.under (spelled Under) in
+      (refl, (modes.All under.0 (Some h.0) v.first (form_of v.form), (runs, all, under.1, h.1, refl, refl), inr h.2))
+
+  wants_answers : (f : ListFault) → v.all ≡ false → v.seed ≡ None → RefusesAnswers v.answers f → WantsMemory v f
+  wants_answers lists.Bad one unseeded h = spelled_answers v.answers (spelled Answers) h
+  wants_answers lists.Memory one unseeded h = (refl, (modes.Plain h.0, (runs, one, unseeded, h.1), h.2))
+
+  pub under_refused : v.all ≡ true → RefusesIfGiven v.under fault → IfErr result (WantsMemory o)
+  under_refused all h = refused (wants_under fault all h)
+
+  pub after_refused : v.all ≡ true → RefusesIfGiven v.after fault → IfErr result (WantsMemory o)
+  after_refused all h = refused (wants_after fault all h)
+
+  pub answers_refused : v.all ≡ false → v.seed ≡ None → RefusesAnswers v.answers fault → IfErr result (WantsMemory o)
+  answers_refused one unseeded h = refused (wants_answers fault one unseeded h)

@@ -1,0 +1,51 @@
+-- This file answers what is left to prove of `list_mistake`.
+use Rattle.std.proofs.Common.{◌∙◌, ap, arith, lit<, length-append}
+use Rattle.std.specs.Prelude.{◌==◌, ◌∷◌, []}
+use Rattle.std.specs.Str.Iter.{split_text, split_has_more, split_pattern}
+use Rattle.std.proofs.lemmas.List.Splits.{length-slice_split}
+use Rattle.std.proofs.lemmas.List.Sums.{count_by-le-length}
+use Rattle.std.proofs.lemmas.Iterator.Splits.{YieldsList-from_str_split}
+use Rattle.std.proofs.lemmas.Iterator.Consumers.{YieldsList-end, YieldsList-so_far, YieldsList-turn}
+use Rattle.ptb_options.proofs.ListFaults.{items_more, list_of_items, mistake_at, none_is_list_of}
+use Rattle.ptb_options.proofs.ListReturns.{none_spelled, some_text}
+use Rattle.ptb_options.proofs.mistakes.list_mistake.Goals as goal
+
+pub overflow_add-item : goal.overflow_add-item
+overflow_add-item c =
+    let text = c.args.text.now in
+    let same = c.into_iter-word-iterator.ensures.into_iter_gives in
+    let split = c.split-word-items.ensures in
+    let words = YieldsList-from_str_split 44 text (lit< tt) (ap split_text same ∙ split.text) (ap split_has_more same ∙ split.has_more) (ap split_pattern same ∙ split.pattern) in
+    let turn = YieldsList-turn words c.loop-word.yielded _ c.loop-word.yielded_by _ _ c.in-Some.word c.in-Some.is c.next.ensures.steps in
+    let all = length-slice_split (λ b. b == 44) text in
+    let few = count_by-le-length (λ b. b == 44) text in
+    omega (arith, turn.0, all, few, c.loop-word.invariant.counted)
+
+pub returns-then-eq-clause-none : goal.returns-then-eq-clause-none
+returns-then-eq-clause-none c _ = none_is_list_of c.args.bounds c.args.text.now (none_spelled c.args.text.now c.eq.result c.eq.ensures c.if-eq.true)
+
+pub loop-word-preserved : goal.loop-word-preserved
+loop-word-preserved c = record {
+  items = items_more c.args.bounds c.loop-word.yielded c.in-Some.word c.loop-word.invariant.items (c.item_fault.ensures.none c.in_default.is);
+  counted = omega (arith, length-append c.loop-word.yielded (c.in-Some.word ∷ []), c.loop-word.invariant.counted);
+}
+
+pub returns-in-Some-item_fault-clause-some : goal.returns-in-Some-item_fault-clause-some
+returns-in-Some-item_fault-clause-some c =
+    let text = c.args.text.now in
+    let same = c.into_iter-word-iterator.ensures.into_iter_gives in
+    let split = c.split-word-items.ensures in
+    let words = YieldsList-from_str_split 44 text (lit< tt) (ap split_text same ∙ split.text) (ap split_has_more same ∙ split.has_more) (ap split_pattern same ∙ split.pattern) in
+    let turn = YieldsList-turn words c.loop-word.yielded _ c.loop-word.yielded_by _ _ c.in-Some.word c.in-Some.is c.next.ensures.steps in
+    let so_far = YieldsList-so_far words c.loop-word.yielded _ c.loop-word.yielded_by in
+    mistake_at c.args.bounds text c.loop-word.yielded c.in-Some.word c.loop-word.item c.in-Some-item_fault.fault (some_text text c.eq.result c.eq.ensures c.if-eq.false)
+    so_far turn.0 turn.1 c.loop-word.invariant.items c.loop-word.invariant.counted c.in-Some-item_fault.ensures.some
+
+pub returns-clause-none : goal.returns-clause-none
+returns-clause-none c _ =
+    let text = c.args.text.now in
+    let same = c.into_iter-word-iterator.ensures.into_iter_gives in
+    let split = c.split-word-items.ensures in
+    let words = YieldsList-from_str_split 44 text (lit< tt) (ap split_text same ∙ split.text) (ap split_has_more same ∙ split.has_more) (ap split_pattern same ∙ split.pattern) in
+    let all = YieldsList-end words c.loop-word.yielded _ c.loop-word.yielded_by _ _ c.in-None.is c.next.ensures.steps in
+    list_of_items c.args.bounds text (rw (← all.0) c.loop-word.invariant.items)

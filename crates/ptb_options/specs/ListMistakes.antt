@@ -1,0 +1,46 @@
+-- This file defines what is wrong with a text that should spell a list of answers.
+--     pieces s                  the texts between the commas of s
+--     IsItemOf bounds w         the text w spells an item of a list with bounds, or without
+--     IsListOf bounds s         the text s spells such a list
+--     IsFault bounds w f        the text w spells no such item, and why
+--     IsMistakeOf bounds s m    the text s spells no such list, and m is its first faulty item
+use Rattle.std.specs.Prelude.{◌≡◌, ℕ, ◌+◌, ◌==◌, List, ◌∷◌, ◌++◌, length, ℤ, All, IsSome}
+use Rattle.std.specs.List.{slice_split}
+use Rattle.ptb_answers.specs.declared.form.Marked.{Marked}
+use Rattle.ptb_answers.specs.AnswerText.{without_bound}
+use Rattle.ptb_options.specs.AnswerLists.{SpellsAnswers, SpellsItem, SpellsList}
+use Rattle.ptb_options.specs.declared.mistakes.Bounds.{Bounds}
+use Rattle.ptb_options.specs.declared.mistakes.Bounds.TheVariants.{Allowed, Refused}
+use Rattle.ptb_options.specs.declared.mistakes.ItemFault.{ItemFault}
+use Rattle.ptb_options.specs.declared.mistakes.ItemFault.TheVariants.{HasBound, NotANumber}
+use Rattle.ptb_options.specs.declared.mistakes.Mistake.{Mistake}
+
+abbrev pub pieces : List ℕ → List (List ℕ)
+pieces s = slice_split (λ b. b == 44) s
+
+abbrev pub IsItemOf : Bounds → List ℕ → Type 0
+IsItemOf Allowed w = (m : Marked) × SpellsItem w m
+IsItemOf Refused w = (k : ℤ) × SpellsItem w (without_bound k)
+
+abbrev pub IsListOf : Bounds → List ℕ → Type 0
+IsListOf Allowed s = (list : List Marked) × SpellsList s list
+IsListOf Refused s = (a : List ℤ) × SpellsAnswers s a
+
+-- an item with its bound is one, which some lists don't take
+abbrev pub HasFault : List ℕ → ItemFault → Type 0
+HasFault w NotANumber = (m : Marked) → SpellsItem w m → ⊥
+HasFault w HasBound = (m : Marked) × SpellsItem w m × IsSome m.bound
+
+pub record IsFault (bounds : Bounds) (w : List ℕ) (fault : ItemFault) : Type 0 where
+  pub refused : IsItemOf bounds w → ⊥
+  pub why : HasFault w fault
+
+-- the items before it are right, and items are counted from 1
+pub record IsMistakeOf (bounds : Bounds) (s : List ℕ) (m : Mistake) : Type 0 where
+  pub not_list : IsListOf bounds s → ⊥
+  pub before : List (List ℕ)
+  pub after : List (List ℕ)
+  pub place : pieces s ≡ before ++ m.text.now ∷ after
+  pub items : All (IsItemOf bounds) before
+  pub counted : m.item ≡ length before + 1
+  pub fault : IsFault bounds m.text.now m.fault

@@ -1,0 +1,45 @@
+-- This file defines which argument is refused since its option takes a number.
+--     option_word name                the argument that names an option
+--     IsNumberOption word o           the argument names the option o, which takes a number
+--     IsWrongFor o value w            w is the value, which is no number in the range of o
+--     IsWrongValue word next w        so is the value w that an argument gives to an option, or the next argument does
+--     MayBeOption words place         the argument at this place may be an option
+--     IsWrongNumber words w           one of the arguments that may be options does so
+use Rattle.std.specs.Prelude.{◌≡◌, ◌≢◌, ◌≤◌, ◌⊎◌, ◌+◌, List, ◌++◌, ℕ, Option, Some, codes, false, slice_get}
+use Rattle.std.specs.Borrow.{Bor}
+use Rattle.std.specs.List.{Contains}
+use Rattle.clap.specs.Words.{Accepts}
+use Rattle.ptb_options.specs.CommandLine.{number_option, rules}
+use Rattle.ptb_options.specs.declared.wrong_numbers.NumberOption.{NumberOption}
+use Rattle.ptb_options.specs.declared.wrong_numbers.WrongNumber.{WrongNumber}
+
+abbrev pub option_word : List ℕ → List ℕ
+option_word name = codes "--" ++ name
+
+pub record IsNumberOption (word : List ℕ) (o : NumberOption) : Type 0 where
+  pub named : word ≡ option_word o.name.now
+  pub rule : Contains rules (number_option o.name.now o.range)
+
+pub record IsWrongFor (o : NumberOption) (value : Bor (List ℕ)) (w : WrongNumber) : Type 0 where
+  pub is : w ≡ record { option = o; value = value }
+  pub refused : Accepts false o.range value.now → ⊥
+
+-- the value is after `=`, or in the next argument
+abbrev pub IsGiven : Option (List ℕ) → Option (List ℕ) → List ℕ → List ℕ → Type 0
+IsGiven word next name value =
+    (word ≡ Some (option_word name ++ codes "=" ++ value)) ⊎ ((word ≡ Some (option_word name)) × (next ≡ Some value))
+
+pub record IsWrongValue (word next : Option (List ℕ)) (w : WrongNumber) : Type 0 where
+  pub rule : Contains rules (number_option w.option.name.now w.option.range)
+  pub given : IsGiven word next w.option.name.now w.value.now
+  pub refused : Accepts false w.option.range w.value.now → ⊥
+
+-- the first argument is the program's name, and after `--` no argument is an option
+pub record MayBeOption (words : List (List ℕ)) (place : ℕ) : Type 0 where
+  pub after_name : 1 ≤ place
+  pub before_dashes : (i : ℕ) → 1 ≤ i → i ≤ place → slice_get words i ≢ Some (codes "--")
+
+pub record IsWrongNumber (words : List (List ℕ)) (w : WrongNumber) : Type 0 where
+  pub place : ℕ
+  pub may_be : MayBeOption words place
+  pub value : IsWrongValue (slice_get words place) (slice_get words (place + 1)) w

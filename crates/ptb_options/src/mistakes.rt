@@ -1,0 +1,117 @@
+// This file finds what is wrong with a text that should spell a list of answers.
+
+ghost use Rattle.std.specs.Prelude.{◌≡◌, IfSome, None};
+ghost use Rattle.ptb_options.specs.ListMistakes.{IsFault, IsItemOf, IsListOf, IsMistakeOf};
+
+use crate::items::parse_item;
+use std::fmt;
+use thiserror::Error;
+
+/// Whether the items of a list may have bounds.
+#[derive(Clone, Copy, Debug, PartialEq, Eq)]
+pub enum Bounds {
+    /// An item is a number, or a number with its bound, as `2/6`.
+    Allowed,
+    /// An item is a number alone.
+    Refused,
+}
+
+/// Why a text is no item of a list.
+#[derive(Clone, Copy, Debug, PartialEq, Eq, Error)]
+pub enum ItemFault {
+    /// It is neither a number from 1 to 32767, in decimals without leading zeros, nor such a number
+    /// with such a bound.
+    #[error("is not a number from 1 to 32767")]
+    NotANumber,
+    /// It has a bound, and the list takes numbers alone.
+    #[error("has a bound; --answers takes numbers alone")]
+    HasBound,
+}
+
+/// The first faulty item of a text that spells no list. It is displayed as
+/// `item 2 (" 2") is not a number from 1 to 32767`.
+#[derive(Clone, Copy, Debug, PartialEq, Eq, Error)]
+#[error("item {item} ({text:?}) {fault}")]
+pub struct Mistake<'a> {
+    /// The place of the item in the list, from 1.
+    pub item: usize,
+    /// The text of the item.
+    pub text: &'a str,
+    /// What is wrong with it.
+    pub fault: ItemFault,
+}
+
+/// An option that takes a list. It is displayed as it is written, `--after`.
+#[derive(Clone, Copy, Debug, PartialEq, Eq)]
+pub enum ListOption {
+    /// `--under`, a list whose items may have bounds.
+    Under,
+    /// `--after`, a list whose items may have bounds.
+    After,
+    /// `--answers`, a list of numbers alone.
+    Answers,
+}
+
+impl fmt::Display for ListOption {
+    fn fmt<W: fmt::Write>(&self, f: &mut fmt::Formatter<W>) -> fmt::Result {
+        f.write_str(match self {
+            ListOption::Under => "--under",
+            ListOption::After => "--after",
+            ListOption::Answers => "--answers",
+        })
+    }
+}
+
+/// The option whose list is misspelled, and the first faulty item of that list. It is displayed as
+/// `--after: item 2 (" 2") is not a number from 1 to 32767`.
+#[derive(Clone, Copy, Debug, PartialEq, Eq, Error)]
+#[error("{option}: {mistake}")]
+pub struct MisspelledList<'a> {
+    /// The option.
+    pub option: ListOption,
+    /// The first faulty item.
+    pub mistake: Mistake<'a>,
+}
+
+/// The first faulty item of a text that spells no list, and `None` where it spells one. Items are the
+/// texts between commas.
+pub fn list_mistake(text: &str, bounds: Bounds) -> Option<Mistake<'_>>
+    ensures none { result ≡ None → IsListOf bounds text.entry.now }
+    ensures some { IfSome result (IsMistakeOf bounds text.entry.now) }
+{
+    if text == "none" {
+        return None;
+    }
+    let mut item = 0;
+    for word in text.split(',') {
+        item += 1;
+        if let Some(fault) = item_fault(word, bounds) {
+            return Some(Mistake {
+                item,
+                text: word,
+                fault,
+            });
+        }
+    }
+    None
+}
+
+// What is wrong with the text of an item, if anything is.
+fn item_fault(word: &str, bounds: Bounds) -> Option<ItemFault>
+    ensures none { result ≡ None → IsItemOf bounds word.now }
+    ensures some { IfSome result (IsFault bounds word.now) }
+{
+    let Some(item) = parse_item(word) else {
+        return Some(ItemFault::NotANumber);
+    };
+    match bounds {
+        Bounds::Allowed => None,
+        Bounds::Refused => {
+            if item.bound.is_some() {
+                Some(ItemFault::HasBound)
+            } else {
+                None
+            }
+        }
+    }
+}

@@ -1,0 +1,141 @@
+// This file finds the argument that clap refuses since its option takes a number, to say which number.
+
+ghost use Rattle.std.specs.Prelude.{◌≡◌, ◌++◌, IsTrue, IfSome, Some, codes, map, option_copied};
+ghost use Rattle.std.specs.Prelude.{slice_get, false};
+ghost use Rattle.clap.specs.Words.{Accepts};
+ghost use Rattle.ptb_options.specs.WrongNumbers.{IsNumberOption, IsWrongFor, IsWrongNumber};
+ghost use Rattle.ptb_options.specs.WrongNumbers.{IsWrongValue, option_word};
+
+use crate::command_line::{ARGS, ArgKind};
+use clap::builder::ValueParser;
+use std::convert::AsStr;
+use std::fmt;
+
+/// An option that takes a number.
+#[derive(Clone, Copy, Debug, PartialEq, Eq)]
+pub struct NumberOption {
+    /// Its name, as `steps`.
+    pub name: &'static str,
+    /// The range of the number, as clap has it.
+    pub range: ValueParser<'static>,
+}
+
+/// A value that is no number in the range of its option. It is displayed in the form of clap's errors.
+#[derive(Clone, Copy, Debug, PartialEq, Eq)]
+pub struct WrongNumber<'a> {
+    /// The option.
+    pub option: NumberOption,
+    /// The value, as it was given.
+    pub value: &'a str,
+}
+
+impl fmt::Display for WrongNumber<'_> {
+    fn fmt<W: fmt::Write>(&self, f: &mut fmt::Formatter<W>) -> fmt::Result {
+        let (name, value) = (self.option.name, self.value);
+        write!(f, "error: invalid value '{value}' for '--{name} <N>': ")?;
+        match self.option.range {
+            ValueParser::Signed(least, most) => {
+                write!(f, "expected a number from {least} to {most}")?;
+            }
+            ValueParser::Unsigned(least, most) => {
+                write!(f, "expected a number from {least} to {most}")?;
+            }
+            _ => {}
+        }
+        f.write_str("\n\nFor more information, try '--help'.\n")
+    }
+}
+
+/// The first value among the arguments that is no number in the range of its option: after `=`, or in
+/// the argument after the option's. The first argument is the program's name, and after `--` no
+/// argument is an option. Where clap's error is of kind `ValueValidation`, or `UnknownArgument` for a
+/// negative number, this says what is wrong more plainly.
+pub fn wrong_number<'a, S: AsStr>(words: &'a [S]) -> Option<WrongNumber<'a>>
+    ensures { IfSome result (IsWrongNumber (map S.text words.entry.now)) }
+{
+    for i in 1..words.len() {
+        let word = text_at(words, i)?;
+        if word == "--" {
+            return None;
+        }
+        let wrong = wrong_value(word, text_at(words, i + 1));
+        if wrong.is_some() {
+            return wrong;
+        }
+    }
+    None
+}
+
+// The argument at a place, if there is one.
+fn text_at<'a, S: AsStr>(words: &'a [S], i: usize) -> Option<&'a str>
+    ensures { option_copied result ≡ slice_get (map S.text words.entry.now) i }
+{
+    match words.get(i) {
+        Some(word) => Some(word.as_str()),
+        None => None,
+    }
+}
+
+// What is wrong with the value of an option with a number, where the argument `word` is one.
+fn wrong_value<'a>(word: &'a str, next: Option<&'a str>) -> Option<WrongNumber<'a>>
+    ensures { IfSome result (IsWrongValue (Some word.entry.now) (option_copied next.entry)) }
+{
+    match word.split_once('=') {
+        Some((name, value)) => wrong_for(number_option(name)?, value),
+        None => wrong_for(number_option(word)?, next?),
+    }
+}
+
+// What is wrong with the value of an option, if it is no number in the option's range.
+fn wrong_for(option: NumberOption, value: &str) -> Option<WrongNumber<'_>>
+    ensures { IfSome result (IsWrongFor option value.entry) }
+{
+    if is_in(option.range, value) {
+        return None;
+    }
+    Some(WrongNumber { option, value })
+}
+
+// The option with a number that an argument names.
+fn number_option(word: &str) -> Option<NumberOption>
+    ensures { IfSome result (IsNumberOption word.now) }
+{
+    for listed in ARGS {
+        if let ArgKind::Number(range) = listed.kind {
+            if is_named(word, listed.name) {
+                return Some(NumberOption {
+                    name: listed.name,
+                    range,
+                });
+            }
+        }
+    }
+    None
+}
+
+// Whether an argument is the option of this name.
+fn is_named(word: &str, name: &str) -> bool
+    ensures { IsTrue result → word.now ≡ option_word name.now }
+{
+    match word.as_bytes().strip_prefix(b"--") {
+        Some(rest) => rest == name.as_bytes(),
+        None => false,
+    }
+}
+
+// Whether a text is a number in a range, as clap reads it.
+fn is_in(range: ValueParser<'_>, text: &str) -> bool
+    ensures { Accepts false range.entry text.now → IsTrue result }
+{
+    match range {
+        ValueParser::Signed(low, high) => match text.parse::<i64>() {
+            Ok(number) => low <= number && number <= high,
+            Err(_) => false,
+        },
+        ValueParser::Unsigned(low, high) => match text.parse::<u64>() {
+            Ok(number) => low <= number && number <= high,
+            Err(_) => false,
+        },
+        _ => true,
+    }
+}
