@@ -1,10 +1,11 @@
 -- This file names the files of lemmas.
 pub mod Replying
+pub mod Sharing
 pub mod Fronts
 pub mod Served
 pub mod Running
 pub mod Listed
-pub mod Drawn
+pub mod Mismatching
 pub mod Telling
 pub mod Listing
 pub mod Modes

@@ -1,7 +1,9 @@
 -- This file proves how a listing of all runs is served, from where it began and what was written.
-use Rattle.std.proofs.Common.{◌≡◌, ℕ, ◌+◌, ◌<◌, ◌≤◌, ◌⊎◌, inl, inr, List, [], ◌∷◌, ◌++◌, length, Option, Some, None, Result, Ok, Err, refl, ap, sym, ◌∙◌, subst, append_assoc, arith, IfOk, IfSome, IsErrOf, OnOk}
+use Rattle.std.proofs.Common.{◌≡◌, ℕ, ◌+◌, ◌<◌, ◌≤◌, ◌⊎◌, inl, inr, List, [], ◌∷◌, ◌++◌, length, take, Option, Some, None, Result, Ok, Err, refl, ap, sym, ◌∙◌, subst, append_assoc, arith, IfOk, IfSome, IsErrOf, OnOk}
 use Rattle.std.specs.Io.KnownBytes.{Appends}
 use Rattle.std.proofs.KnownBytes.{Appends-nil}
+use Rattle.std.proofs.Math.Seq.{take-append_seam}
+use Rattle.std.proofs.lemmas.List.{length-append}
 use Rattle.std.proofs.lemmas.List.Concat.{flat_map-append}
 use Rattle.ptb_text.specs.Device.{GivesAtMost, GivesExactly, HasFailed, TakesSome}
 use Rattle.ptb_text.specs.Lines.{input_lines}
@@ -30,10 +32,10 @@ use Rattle.ptb_options.specs.declared.request.Request.{Request}
 use Rattle.ptb_serve.specs.Loaded.{ReadsInput, ServesProgram}
 use Rattle.ptb_plain.specs.PlainRuns.{IsUnreadable, input_limit}
 use Rattle.ptb_serve.specs.Replies.{Reply, refusal, success, answers_under, first_front, front_note, is_front, is_share, listed_runs, listing_reply, runs_reply, all_reply}
-use Rattle.ptb_serve.specs.Serving.{outcome_of, input_note, reports_note, IsUnloaded, Serves, SilentBy}
+use Rattle.ptb_serve.specs.Serving.{outcome_of, input_note, reports_note, IsUnloaded, ListsFewerOf, Serves, SilentBy}
 use Rattle.ptb_serve.proofs.Fronts.{note_is}
 use Rattle.ptb_plain.proofs.Playing.{takes_beginning}
-use Rattle.ptb_serve.proofs.Served.{at_known, consumes_nothing, nothing_told, serves_loaded, takes_nothing, replies_refusal}
+use Rattle.ptb_serve.proofs.Served.{at_known, consumes_nothing, lists_loaded, nothing_told, serves_loaded, takes_nothing, replies_refusal}
 
 -- ---- nothing was written but the front of what is due
 
@@ -50,6 +52,11 @@ module _ (report : Answers → List ℕ) where
         ap (text report) e ∙ flat_map-append report done (at ∷ rest) ∙ ap (λ x. text report done ++ x) next
             ∙ sym (append_assoc (text report done) part (unwritten ++ text report rest)),
       )
+
+-- what comes before something is shorter than both
+below_both : (beginning rest list : List Answers) → list ≡ beginning ++ rest → (rest ≡ [] → ⊥) → length beginning < length list
+below_both beginning [] list e some = absurd (some refl)
+below_both beginning (a ∷ rest) list e some = let l = length-append beginning (a ∷ rest) in rw e (omega (arith, l))
 
 -- ---- the notes
 
@@ -211,6 +218,15 @@ module _ (p : StoredProgram) (rules : Rules) (under after : Option (List Marked)
     serves_cut input f (explores.Write n) h w =
         takes_due input _ h w.bytes (text-into (report form (game input)) _ w.beginning w.at w.rest w.part w.remainder w.split w.cut)
 
+    writes_fewer : (input : List (List ℕ)) (f : Front) (fault : ExploreFault) → Writes input f (Err fault) → IsErrOf {T = ℕ} (Err (reports_note fault)) notes.OutOfMemory
+        → ListsFewerOf p input rules under after first form old new
+    writes_fewer input f (explores.Memory n) w refused = record {
+      count = length w.beginning;
+      fewer = below_both w.beginning w.rest _ w.split w.some_left;
+      bytes = subst (λ l. Appends old new (text (report form (game input)) l)) (sym (ap (take (length w.beginning)) w.split ∙ take-append_seam w.beginning w.rest)) w.bytes;
+    }
+    writes_fewer input f (explores.Write n) w refused = absurd cc
+
     -- by the bytes of the input, of which the lines are those that were read, and an explorer that went on from its front
     module _ (c : List ℕ) (input : List (List ℕ)) (is : input ≡ input_lines c) (e : Exploration) (f : Front)
         (same : e ≡ record { program = p; input = input; rules = rules; under = answers_under under; front = first_front after; kept = e.kept; played = e.played }) (h : front_note (game input) under after ≡ None) where
@@ -222,6 +238,11 @@ module _ (p : StoredProgram) (rules : Rules) (under after : Option (List Marked)
 
       pub serves_reports : (n : ℕ) → WritesFrom e (Ok n) → Serves (runs_due rules under after first form c p) old new (outcome_of (Ok 0))
       serves_reports n w = subst (λ i. Serves (reply i) old new (outcome_of (Ok 0))) is (serves_written input f n h (written_from (Ok n) w))
+
+      -- where memory is refused, some report is still to be written
+      pub lists_some : (fault : ExploreFault) → WritesFrom e (Err fault) → IsErrOf {T = ℕ} (Err (reports_note fault)) notes.OutOfMemory
+          → Appends old new [] ⊎ ListsFewerOf p (input_lines c) rules under after first form old new
+      lists_some fault w refused = subst (λ k. Appends old new [] ⊎ ListsFewerOf p k rules under after first form old new) is (inr (writes_fewer input f fault (written_from (Err fault) w) refused))
 
       pub serves_some : (fault : ExploreFault) → WritesFrom e (Err fault) → Serves (runs_due rules under after first form c p) old new (outcome_of (Err (reports_note fault)))
       serves_some fault w =
@@ -246,14 +267,16 @@ module _ (request : Request) (p : StoredProgram) (memory : p.memory ≡ request.
   pub listing_serves : (old new : Option (List ℕ)) (result : Result ℕ Note)
       → ((c : List ℕ) → i ≡ Some c → Serves (runs_due request.rules under after first form c p) old new (outcome_of result))
       → SilentBy listing (outcome_of result).note old new
+      → ((c : List ℕ) → i ≡ Some c → IsErrOf result notes.OutOfMemory → Appends old new [] ⊎ ListsFewerOf p (input_lines c) request.rules under after first form old new)
       → (IsErrOf result notes.InputUnread → Appends old new [])
       → OnOk result (result ≡ Ok 0) → (IsUnloaded (outcome_of result).note → ⊥)
       → ServesProgram listing request p i j old new result
-  listing_serves old new result served quiet unread success loaded = record {
+  listing_serves old new result served quiet fewer unread success loaded = record {
     served = λ b c l is. serves_loaded request.memory (Some b) (runs_due request.rules under after first form c) p old new result l memory (served c is);
     taken = λ b l. nothing_told i;
     unread = λ b l. unread;
     silent = quiet;
+    fewer = λ b c l is h. lists_loaded request b c p under after first form old new l memory (fewer c is h);
     status = zero_within result success;
     success = λ _. success;
     loaded = loaded;
@@ -311,14 +334,14 @@ module _ (request : Request) (p : StoredProgram) (memory : p.memory ≡ request.
   pub unread_listed : (held : Option (List ℕ)) (fault : ReadFault) → ServesProgram listing request p i j held held (Err (input_note fault))
   unread_listed held fault =
       listing_serves held held (Err (input_note fault)) (λ c is. serves_input p request.rules under after first form held c fault) (input_note-silent under after first form held fault)
-      (λ _. Appends-nil held) tt (input_note-loaded fault)
+      (λ _ _ _. inl (Appends-nil held)) (λ _. Appends-nil held) tt (input_note-loaded fault)
 
   module _ (input : List (List ℕ)) (lines : IfSome i (λ c. input ≡ input_lines c)) where
     pub unbegun_listed : (held : Option (List ℕ)) (note : Note) → (note ≡ notes.OutOfMemory) ⊎ (front_note (play p input request.rules) under after ≡ Some note)
         → ServesProgram listing request p i j held held (Err note)
     unbegun_listed held note one =
         listing_serves held held (Err note) (λ c is. serves_front p request.rules under after first form held c input (at_known (λ d. input ≡ input_lines d) c is lines) note one)
-        (front_note-silent (play p input request.rules) under after first form held note one) (λ _. Appends-nil held) tt (front_note-loaded (play p input request.rules) under after note one)
+        (front_note-silent (play p input request.rules) under after first form held note one) (λ _ _ _. inl (Appends-nil held)) (λ _. Appends-nil held) tt (front_note-loaded (play p input request.rules) under after note one)
 
     -- an explorer went on from its front
     module _ (old new : Option (List ℕ)) (e : Exploration) (f : Front)
@@ -331,13 +354,15 @@ module _ (request : Request) (p : StoredProgram) (memory : p.memory ≡ request.
       all_listed n w =
           listing_serves old new (Ok 0)
           (λ c is. serves_reports p request.rules under after first form old new c input (at_known (λ d. input ≡ input_lines d) c is lines) e f same h n w)
-          tt (λ x. absurd cc) refl (λ x. x)
+          tt (λ _ _ x. absurd cc) (λ x. absurd cc) refl (λ x. x)
 
       pub some_listed : (fault : ExploreFault) → WritesOn (Err fault) → ServesProgram listing request p i j old new (Err (reports_note fault))
       some_listed fault w =
           listing_serves old new (Err (reports_note fault))
           (λ c is. serves_some p request.rules under after first form old new c input (at_known (λ d. input ≡ input_lines d) c is lines) e f same h fault w)
-          (reports_note-silent under after first form old new fault) (λ x. absurd (reports_note-read fault x)) tt (reports_note-loaded fault)
+          (reports_note-silent under after first form old new fault)
+          (λ c is. lists_some p request.rules under after first form old new c input (at_known (λ d. input ≡ input_lines d) c is lines) e f same h fault w)
+          (λ x. absurd (reports_note-read fault x)) tt (reports_note-loaded fault)
 
 -- ---- a listing of the program's text, which leaves the input alone
 
@@ -349,6 +374,7 @@ module _ (request : Request) (p : StoredProgram) (memory : p.memory ≡ request.
     taken = λ b l. nothing_told i;
     unread = λ b l x. absurd (fine x);
     silent = quiet;
+    fewer = λ b c _ _ _. tt;
     status = zero_within result success;
     success = λ _. success;
     loaded = loaded;

@@ -13,7 +13,7 @@ use Rattle.ptb_machine.specs.Questions.{most_answers}
 use Rattle.ptb_answers.specs.declared.form.Form.{Form}
 use Rattle.ptb_answers.specs.declared.form.Marked.{Marked}
 use Rattle.ptb_answers.specs.AnswerText.{answers_of, items_in}
-use Rattle.ptb_explore.specs.Laws.{ListingLaws}
+use Rattle.ptb_explore.specs.Laws.{ListingLaws, ShareLaws, TreeLaws}
 use Rattle.ptb_explore.specs.Report.{report_of}
 use Rattle.ptb_explore.specs.RunTree.{IsRun, Before, begins_with, is_left, runs_after}
 use Rattle.ptb_serve.specs.declared.note.Note.{Note}
@@ -21,12 +21,12 @@ use Rattle.ptb_serve.specs.declared.note.Note.TheVariants as notes
 use Rattle.ptb_options.specs.declared.request.Mode.{Mode}
 use Rattle.ptb_options.specs.declared.request.Mode.TheVariants as modes
 use Rattle.ptb_options.specs.declared.request.Request.{Request}
-use Rattle.ptb_plain.specs.SeededRuns.{seeded_answers}
-use Rattle.ptb_serve.proofs.Drawn.{one_is_drawn}
+use Rattle.ptb_plain.specs.SeededRuns.{SeededLaws, seeded_answers}
 use Rattle.ptb_serve.specs.Replies.{Reply, refusal, plain_reply, seeded_reply, answers_under, first_front, front_note, is_front, note_of, all_reply, listing_reply, program_of_text, reply_or_refusal, program_reply, reply_in_mode}
 use Rattle.ptb_serve.specs.ReplyLaws.{ListsRuns, RunReplies, RunsBySeed, ReplyLaws}
 use Rattle.ptb_serve.proofs.Fronts.{begun_after, begun_both, begun_under, both_parts, both_true, no_front, no_share, share_true}
 use Rattle.ptb_serve.proofs.Listed.{reply-listed, reply-refused}
+use Rattle.ptb_serve.proofs.Sharing.{share_replies}
 
 -- ---- a text that is refused
 
@@ -51,8 +51,9 @@ accepted : (memory : ℕ) (b : List ℕ) (next : StoredProgram → Reply) (p : S
     → program_reply memory b next ≡ next (record { lines = p; memory = memory })
 accepted memory b next p h = ap (reply_or_refusal next memory) h
 
-module _ (p : StoredProgram) (c : List ℕ) (rules : Rules) (laws : ListingLaws (play p (input_lines c) rules) (most_answers p (input_lines c) rules.limit))
-    (reads : IsReader (play p (input_lines c) rules) (most_answers p (input_lines c) rules.limit)) where
+module _ (p : StoredProgram) (c : List ℕ) (rules : Rules) (tree : TreeLaws (play p (input_lines c) rules) (most_answers p (input_lines c) rules.limit))
+    (laws : ListingLaws (play p (input_lines c) rules) (most_answers p (input_lines c) rules.limit)) (share : ShareLaws (play p (input_lines c) rules) (most_answers p (input_lines c) rules.limit))
+    (reads : IsReader (play p (input_lines c) rules) (most_answers p (input_lines c) rules.limit)) (drawn : SeededLaws) where
   abbrev game : Answers → Outcome Finish (List ℕ)
   game = play p (input_lines c) rules
 
@@ -82,24 +83,22 @@ module _ (p : StoredProgram) (c : List ℕ) (rules : Rules) (laws : ListingLaws 
       by_note None e = reply-listed p rules (Some []) after first form (input_lines c) (same ∙ e) ∙ sym (reply-listed p rules None after first form (input_lines c) e)
       by_note (Some note) e = reply-refused p rules (Some []) after first form (input_lines c) note (same ∙ e) ∙ sym (reply-refused p rules None after first form (input_lines c) note e)
 
-  -- where replies to runs of it are those of the definition
   -- where the reply to a seed is that of the definition
   runs_by_seed : (reply : Mode → Reply) → ((a : Answers) → reply (modes.Plain a) ≡ plain_reply rules a c p)
       → (seed : ℕ) → reply (modes.Seeded seed) ≡ seeded_reply rules seed c p → RunsBySeed seed game reply
-  runs_by_seed reply plain seed seeded =
-      let one = one_is_drawn seed (most_answers p (input_lines c) rules.limit) game reads in
-      record {
-        answers = seeded_answers seed p (input_lines c) rules;
-        drawn = one.0;
-        only = one.1;
-        same = seeded ∙ sym (plain (seeded_answers seed p (input_lines c) rules));
-      }
+  runs_by_seed reply plain seed seeded = record {
+    answers = seeded_answers seed p (input_lines c) rules;
+    drawn = drawn.drawn seed p (input_lines c) rules;
+    only = drawn.only seed p (input_lines c) rules;
+    same = seeded ∙ sym (plain (seeded_answers seed p (input_lines c) rules));
+  }
 
   run_replies : (reply : Mode → Reply) → ((a : Answers) → reply (modes.Plain a) ≡ plain_reply rules a c p)
       → ((seed : ℕ) → reply (modes.Seeded seed) ≡ seeded_reply rules seed c p)
       → ((under after : Option (List Marked)) (first : Option ℕ) (form : Form) → reply (modes.All under after first form) ≡ all_reply p (input_lines c) rules under after first form)
-      → RunReplies game reply
+      → RunReplies game (most_answers p (input_lines c) rules.limit) reply
   run_replies reply plain seeded all = record {
+    tree = tree;
     all_runs = lists_runs None None refl (IsRun game) (λ a. (λ h. h.0, λ h. (h, refl))) (λ first form. reply (modes.All None None first form)) (all None None);
     runs_after = λ list run.
         lists_runs None (Some list) (begun_after game list run) (λ a. IsRun game a × Before (answers_of list) a) (λ a. (λ h. h, λ h. h))
@@ -120,7 +119,7 @@ module _ (p : StoredProgram) (c : List ℕ) (rules : Rules) (laws : ListingLaws 
     not_in_share = λ under list first form b none.
         all (Some under) (Some list) first form
         ∙ reply-refused p rules (Some under) (Some list) first form (input_lines c) notes.NoRun (no_front game (Some under) list (share_true game under b) none);
-    whole = λ after first form. all (Some []) after first form ∙ whole_reply after first form ∙ sym (all None after first form);
+    shares = share_replies p c rules reads laws share reply all (λ after first form. all (Some []) after first form ∙ whole_reply after first form ∙ sym (all None after first form));
     run_report = λ form a f ends. ap (report_of (items_in form a (bounds game a))) ends;
     plain_run = plain;
     seeded_run = λ seed. runs_by_seed reply plain seed (seeded seed);
@@ -128,13 +127,17 @@ module _ (p : StoredProgram) (c : List ℕ) (rules : Rules) (laws : ListingLaws 
 
 -- ---- all of them
 
-pub reply_laws : RunLaws → ((p : StoredProgram) (input : List (List ℕ)) (rules : Rules) → ListingLaws (play p input rules) (most_answers p input rules.limit)) → ReplyLaws
-reply_laws runs laws = record {
+pub reply_laws : RunLaws → SeededLaws
+    → ((p : StoredProgram) (input : List (List ℕ)) (rules : Rules) → TreeLaws (play p input rules) (most_answers p input rules.limit))
+    → ((p : StoredProgram) (input : List (List ℕ)) (rules : Rules) → ListingLaws (play p input rules) (most_answers p input rules.limit))
+    → ((p : StoredProgram) (input : List (List ℕ)) (rules : Rules) → ShareLaws (play p input rules) (most_answers p input rules.limit)) → ReplyLaws
+reply_laws runs drawn tree laws share = record {
   too_long = λ r b c long. refused_in_mode r.mode r b c (0, TooLong) (too_long_text r.memory b long);
   refused = λ r b c e h. refused_in_mode r.mode r b c e h;
   accepted = λ memory rules b c p h.
-      run_replies (record { lines = p; memory = memory }) c rules (laws (record { lines = p; memory = memory }) (input_lines c) rules)
-      (runs.reads (record { lines = p; memory = memory }) (input_lines c) rules) _
+      run_replies (record { lines = p; memory = memory }) c rules (tree (record { lines = p; memory = memory }) (input_lines c) rules)
+      (laws (record { lines = p; memory = memory }) (input_lines c) rules) (share (record { lines = p; memory = memory }) (input_lines c) rules)
+      (runs.reads (record { lines = p; memory = memory }) (input_lines c) rules) drawn _
       (λ a. accepted memory b (plain_reply rules a c) p h)
       (λ seed. accepted memory b (seeded_reply rules seed c) p h)
       (λ under after first form. accepted memory b (λ p. all_reply p (input_lines c) rules under after first form) p h);

@@ -1,6 +1,6 @@
 -- This file proves how a request is served, from how its program was loaded and what was written.
-use Rattle.std.proofs.Common.{◌≡◌, inl, ℕ, ◌+◌, ◌==◌, if◌then◌else◌, ◌<◌, ◌≤◌, true, false, nat_lt, List, [], length, Option, Some, None, Result, Ok, Err, IfOk, IfSome, IfErr, MatchOption, OnOk, refl, ap, ◌∙◌, sym, arith, IsErrOf, ℤ, subst}
-use Rattle.std.specs.Io.KnownBytes.{Consumes}
+use Rattle.std.proofs.Common.{◌≡◌, ◌⊎◌, inl, ℕ, ◌+◌, ◌==◌, if◌then◌else◌, ◌<◌, ◌≤◌, true, false, nat_lt, List, [], length, Option, Some, None, Result, Ok, Err, IfOk, IfSome, IfErr, MatchOption, OnOk, refl, ap, ◌∙◌, sym, arith, IsErrOf, ℤ, subst}
+use Rattle.std.specs.Io.KnownBytes.{Appends, Consumes}
 use Rattle.std.proofs.KnownBytes.{Appends-nil, Consumes-nil}
 use Rattle.ptb_text.specs.declared.fault.LoadFault.{LoadFault}
 use Rattle.ptb_text.specs.declared.fault.LoadFault.TheVariants as loads
@@ -13,6 +13,8 @@ use Rattle.ptb_command.specs.declared.ending.Ending.{Ending}
 use Rattle.ptb_command.specs.declared.ending.Ending.TheVariants as endings
 use Rattle.ptb_machine.specs.declared.fault.RunFault.{RunFault}
 use Rattle.ptb_answers.specs.Outcome.{Answers}
+use Rattle.ptb_answers.specs.declared.form.Form.{Form}
+use Rattle.ptb_answers.specs.declared.form.Marked.{Marked}
 use Rattle.ptb_machine.specs.Play.{status}
 use Rattle.ptb_devices.specs.Sources.{ConsumesAtMost}
 use Rattle.ptb_options.specs.declared.request.Mode.{Mode}
@@ -23,8 +25,9 @@ use Rattle.ptb_serve.specs.declared.note.Note.TheVariants as notes
 use Rattle.ptb_serve.specs.declared.service.Outcome.{Outcome}
 use Rattle.ptb_serve.specs.Statuses.{note_status}
 use Rattle.ptb_plain.specs.PlainRuns.{ShowsRun, lines_come, ShowsUnread, ending_wanted, lines_taken, lines_wanted, ReadsFor}
+use Rattle.ptb_plain.specs.Streams.{Reads, Writes}
 use Rattle.ptb_serve.specs.Replies.{Reply, refusal, run_reply, program_of_text, reply_or_refusal, program_reply}
-use Rattle.ptb_serve.specs.Serving.{outcome_of, EndsUnread, ReadsBy, outcome_wanted, wanted_by, load_note, IsUnloaded, ReadsForRun, Replies, Serves, SilentBy, SilentWithoutMemory, TellsLength, TellsRefusal, load_fault_note, seeded_taken}
+use Rattle.ptb_serve.specs.Serving.{outcome_of, EndsUnread, ReadsBy, outcome_wanted, wanted_by, load_note, IsPlainRun, IsUnloaded, ListsFewer, ListsFewerOf, ReadsForRun, Replies, Serves, SilentBy, SilentWithoutMemory, TellsLength, TellsRefusal, load_fault_note, seeded_taken}
 
 -- ---- the program of a text
 
@@ -62,12 +65,41 @@ nothing_told (Some b) = tt
 
 -- ---- what a device gave
 
+-- a reader and a writer that are left alone
+abbrev pub unread : {R : Type 0} → R → Option (List ℕ) → ℕ → ℕ → Reads R
+unread r known given failures = record { old = r; new = r; bytes = known; left = known; gave = given; gives = given; failed = failures; fails = failures }
+
+abbrev pub unwritten : Option (List ℕ) → ℕ → Writes
+unwritten held failures = record { before = held; after = held; failed = failures; fails = failures }
+
 -- nothing is taken from a device that isn't read
 pub consumes_nothing : (held : Option (List ℕ)) (n : ℕ) → ConsumesAtMost held held n
 consumes_nothing held n = ([], omega arith, Consumes-nil held)
 
 pub consumes_some : (old new : Option (List ℕ)) (n : ℕ) → (bytes : List ℕ) × Consumes old new bytes × (length bytes ≤ n) → ConsumesAtMost old new n
 consumes_some old new n h = (h.0, h.2, h.1)
+
+-- ---- a listing of which nothing is written
+
+pub lists_nothing_of : (mode : Mode) (request : Request) (b c : List ℕ) (held : Option (List ℕ)) → ListsFewer mode request b c held held
+lists_nothing_of (modes.Plain a) request b c held = tt
+lists_nothing_of (modes.Seeded seed) request b c held = tt
+lists_nothing_of (modes.All under after first form) request b c held = by_text (program_of_text request.memory b) where
+  by_text : (t : Result Statements (ℕ × LoadFault)) → IfOk t (λ p. Appends held held [] ⊎ ListsFewerOf (record { lines = p; memory = request.memory }) (input_lines c) request.rules under after first form held held)
+  by_text (Ok p) = inl (Appends-nil held)
+  by_text (Err e) = tt
+lists_nothing_of modes.List request b c held = tt
+
+pub lists_nothing : (mode : Mode) (request : Request) (known : Option (List ℕ)) (c : List ℕ) (held : Option (List ℕ)) → IfSome known (λ b. ListsFewer mode request b c held held)
+lists_nothing mode request None c held = tt
+lists_nothing mode request (Some b) c held = lists_nothing_of mode request b c held
+
+-- a run is no listing
+pub runs_once : (mode : Mode) → IsPlainRun mode → (request : Request) (b c : List ℕ) (old new : Option (List ℕ)) → ListsFewer mode request b c old new
+runs_once (modes.Plain a) h request b c old new = tt
+runs_once (modes.Seeded seed) h request b c old new = tt
+runs_once (modes.All under after first form) h request b c old new = absurd h
+runs_once modes.List h request b c old new = absurd h
 
 -- ---- a program that is refused
 
@@ -259,6 +291,15 @@ serves_loaded memory (Some b) next p old new result h e s =
     let is : program_reply memory b next ≡ next p =
     program_reply-loaded memory b next p.lines h ∙ ap (λ m. next (record { lines = p.lines; memory = m })) (sym e) in
     subst (λ r. Serves r old new (outcome_of result)) (sym is) s
+
+-- a listing of a loaded program
+pub lists_loaded : (request : Request) (b c : List ℕ) (p : StoredProgram) (under after : Option (List Marked)) (first : Option ℕ) (form : Form) (old new : Option (List ℕ))
+    → IsLoaded request.memory b p.lines → p.memory ≡ request.memory → Appends old new [] ⊎ ListsFewerOf p (input_lines c) request.rules under after first form old new
+    → ListsFewer (modes.All under after first form) request b c old new
+lists_loaded request b c p under after first form old new h e lists =
+    let stored : record { lines = p.lines; memory = request.memory } ≡ p = ap (λ m. record p { memory = m }) (sym e) in
+    rw (program_of_text-ok request.memory b p.lines h)
+    (subst (λ q. Appends old new [] ⊎ ListsFewerOf q (input_lines c) request.rules under after first form old new) (sym stored) lists)
 
 -- ---- a run
 

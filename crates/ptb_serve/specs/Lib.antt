@@ -3,5 +3,7 @@ pub mod Statuses
 pub mod Replies
 pub mod ReplyLaws
 pub mod Flushed
+pub mod ListMismatches
 pub mod Serving
 pub mod Loaded
+pub mod Promises

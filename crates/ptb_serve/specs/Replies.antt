@@ -77,7 +77,7 @@ program_reply memory b next = reply_or_refusal next memory (program_of_text memo
 
 -- ---- all runs
 
--- a listing begins with the first run, or behind a run that is named
+-- a listing begins with the first run, or after a run that is named
 abbrev pub first_front : Option (List Marked) → Front
 first_front None = Start
 first_front (Some list) = At (answers_of list)
@@ -92,7 +92,7 @@ abbrev pub is_share : (Answers → Outcome Finish (List ℕ)) → Option (List M
 is_share game None = true
 is_share game (Some list) = is_open (game (answers_of list)) && states_bounds list (bounds game (answers_of list))
 
--- so it is with the run to go on behind, which must be one of the listing
+-- so it is with the run after which it begins, which must be one of the listing
 abbrev pub is_front : (Answers → Outcome Finish (List ℕ)) → Answers → Option (List Marked) → Bool
 is_front game under None = true
 is_front game under (Some list) = is_whole (game (answers_of list)) && states_bounds list (bounds game (answers_of list)) && begins_with (answers_of list) under
@@ -106,11 +106,15 @@ note_of true true = None
 abbrev pub front_note : (Answers → Outcome Finish (List ℕ)) → Option (List Marked) → Option (List Marked) → Option Note
 front_note game under after = note_of (is_share game under) (is_front game (answers_under under) after)
 
--- the reports of the runs that are left, where none has more answers than `most`
-abbrev pub listed_runs : (Answers → Outcome Finish (List ℕ)) → ℕ → Option (List Marked) → Option (List Marked) → Option ℕ → Form → List ℕ
-listed_runs game most under after first form = text (report form game) (runs_left game most (answers_under under) (first_front after) first)
+-- the runs that a listing has, where none has more answers than `most`
+abbrev pub runs_due : (Answers → Outcome Finish (List ℕ)) → ℕ → Option (List Marked) → Option (List Marked) → Option ℕ → List Answers
+runs_due game most under after first = runs_left game most (answers_under under) (first_front after) first
 
--- what begins no run, is none to go on behind, or states another bound, is refused, before anything is written
+-- their reports
+abbrev pub listed_runs : (Answers → Outcome Finish (List ℕ)) → ℕ → Option (List Marked) → Option (List Marked) → Option ℕ → Form → List ℕ
+listed_runs game most under after first form = text (report form game) (runs_due game most under after first)
+
+-- a list that begins no run, is no run of the listing, or states another bound is refused before anything is written
 unfoldable pub runs_reply : (Answers → Outcome Finish (List ℕ)) → ℕ → Option (List Marked) → Option (List Marked) → Option ℕ → Form → Reply
 runs_reply game most under after first form =
     elim (front_note game under after) [ None ↦ success (listed_runs game most under after first form) | Some note ↦ refusal note ]

@@ -1,47 +1,46 @@
 -- This file states the laws of replies.
 --     ListsRuns play IsListed reply    the replies to a listing are the reports of these runs, or of the first n of them
---     IsDrawn seed play a              a is a run, and its answers are drawn from the seed for the bounds of its questions
 --     RunsBySeed seed play reply       the reply to a run by a seed is that to one plain run, whose answers are drawn from the seed
---     RunReplies play reply            what the replies are where a program is run, once or with all answers
+--     ShareReplies play reply          the replies to the shares of a tree: to the runs that begin with some answers
+--     RunReplies play most reply       what the replies are where a program is run, once or with all answers
 --     ReplyLaws                        what a reply is for every program text and every input
-use Rattle.std.specs.Prelude.{◌≡◌, true, ℕ, ◌<◌, List, [], length, take, Option, Some, None, Ok, Err, ◌↔◌, Contains}
+use Rattle.std.specs.Prelude.{◌≡◌, true, ℕ, ◌<◌, List, [], ◌∷◌, ◌++◌, length, take, Option, Some, None, Ok, Err, ◌↔◌, Contains, ℤ}
+use Rattle.std.specs.List.{flat_map}
 use Rattle.ptb_text.specs.declared.fault.LoadFault.{LoadFault}
 use Rattle.ptb_text.specs.declared.fault.LoadFault.TheVariants.{TooLong}
 use Rattle.ptb_text.specs.Lines.{input_lines}
 use Rattle.ptb_text.specs.Statements.{Statements, program_limit, listing}
-use Rattle.ptb_answers.specs.Outcome.{Answers, Outcome, Done, bounds}
+use Rattle.ptb_answers.specs.Outcome.{Answers, Outcome, Done, Asks, bounds, is_open}
 use Rattle.ptb_answers.specs.declared.rules.Rules.{Rules}
 use Rattle.ptb_machine.specs.Play.{Finish, play, plain_of}
+use Rattle.ptb_machine.specs.Questions.{most_answers}
 use Rattle.ptb_answers.specs.declared.form.Form.{Form}
 use Rattle.ptb_answers.specs.declared.form.Marked.{Marked}
-use Rattle.ptb_answers.specs.AnswerText.{answers_of, items_in}
-use Rattle.ptb_answers.specs.Seeds.{drawn_answers}
+use Rattle.ptb_answers.specs.AnswerText.{answers_of, items_in, without_bound}
+use Rattle.ptb_explore.specs.Laws.{TreeLaws}
 use Rattle.ptb_explore.specs.Listing.{text}
 use Rattle.ptb_explore.specs.MarkedRuns.{IsMarkedBeginning, IsMarkedRun}
 use Rattle.ptb_report.specs.Report.{report_text}
 use Rattle.ptb_explore.specs.Report.{report, word_of}
-use Rattle.ptb_explore.specs.RunTree.{IsRun, Before, IsRising, begins_with}
+use Rattle.ptb_explore.specs.RunTree.{IsRun, Before, IsRising, answers_to, begins_with}
 use Rattle.ptb_serve.specs.declared.note.Note.TheVariants as notes
 use Rattle.ptb_options.specs.declared.request.Mode.{Mode}
 use Rattle.ptb_options.specs.declared.request.Mode.TheVariants as modes
 use Rattle.ptb_options.specs.declared.request.Request.{Request}
+use Rattle.ptb_plain.specs.SeededRuns.{IsDrawn}
 use Rattle.ptb_serve.specs.Replies.{Reply, refusal, success, run_reply, program_of_text, reply_to}
 
--- One list of runs stands behind all replies of a listing, whatever number of them is asked for, and in whatever form.
+-- All replies of a listing come from one list of runs, whatever number of them is asked for, and in whatever form.
 pub record ListsRuns (play : Answers → Outcome Finish (List ℕ)) (IsListed : Answers → Type 0) (reply : Option ℕ → Form → Reply) : Type 0 where
   pub runs : List Answers
-  -- each is before all that stand behind it, so none stands there twice
+  -- each is before all that follow it, so none is there twice
   pub rising : IsRising runs
-  -- a list of answers stands there exactly where it is to be listed
+  -- a list of answers is there exactly where it is to be listed
   pub members : (a : Answers) → Contains runs a ↔ IsListed a
   -- where no number is given, the report of each is written, one after the other, and the status is 0
   pub all : (form : Form) → reply None form ≡ success (text (report form play) runs)
   -- with a number n, the reports of the first n of them, or of all where there are fewer
   pub first : (n : ℕ) (form : Form) → reply (Some n) form ≡ success (text (report form play) (take n runs))
-
-pub record IsDrawn {A W : Type 0} (seed : ℕ) (play : Answers → Outcome A W) (a : Answers) : Type 0 where
-  pub run : IsRun play a
-  pub drawn : a ≡ drawn_answers seed (bounds play a)
 
 -- A seed gives the answers of one run: each is drawn from the seed for the bound of its question. No other list of answers is drawn so.
 pub record RunsBySeed (seed : ℕ) (play : Answers → Outcome Finish (List ℕ)) (reply : Mode → Reply) : Type 0 where
@@ -51,8 +50,24 @@ pub record RunsBySeed (seed : ℕ) (play : Answers → Outcome Finish (List ℕ)
   -- the reply is that to a plain run with these answers
   pub same : reply (modes.Seeded seed) ≡ reply (modes.Plain answers)
 
--- `play` tells what the program comes to on the input, by the list of answers.
-pub record RunReplies (play : Answers → Outcome Finish (List ℕ)) (reply : Mode → Reply) : Type 0 where
+-- A share of all runs are those that begin with some answers.
+pub record ShareReplies (play : Answers → Outcome Finish (List ℕ)) (reply : Mode → Reply) : Type 0 where
+  -- a run begins with some answers exactly where they are a run, or are asked for one more
+  pub beginning : (under : Answers) → ((a : Answers) × IsRun play a × (begins_with a under ≡ true)) ↔ (is_open (play under) ≡ true)
+  -- every run begins with no answers
+  pub whole : (after : Option (List Marked)) (first : Option ℕ) (form : Form) → reply (modes.All (Some []) after first form) ≡ reply (modes.All None after first form)
+  -- where a question with bound n comes after some answers, their share is that of each answer to it, from 1 to n, one after the other
+  pub question : (under : List Marked) (n : ℤ) (shown : List ℕ) (form : Form) → IsMarkedBeginning play under → play (answers_of under) ≡ Asks n shown
+      → reply (modes.All (Some under) None None form) ≡ success (flat_map (λ k. (reply (modes.All (Some (under ++ without_bound k ∷ [])) None None form)).bytes) (answers_to n))
+  -- the share of a run is its report
+  pub run : (a : List Marked) (form : Form) → IsMarkedRun play a → reply (modes.All (Some a) None None form) ≡ success (report form play (answers_of a))
+  -- where two lists first differ, no run begins with both
+  pub apart : (u v a : Answers) → Before u v → IsRun play a → begins_with a u ≡ true → begins_with a v ≡ true → ⊥
+
+-- `play` gives the result of the program on the input, by the list of answers. No run has more answers than `most`.
+pub record RunReplies (play : Answers → Outcome Finish (List ℕ)) (most : ℕ) (reply : Mode → Reply) : Type 0 where
+  -- the runs stand in a tree, each once, in rising order; fewer than `most` answers come before a question; and no run begins another
+  pub tree : TreeLaws play most
   -- all runs are listed, and nothing else
   pub all_runs : ListsRuns play (IsRun play) (λ first form. reply (modes.All None None first form))
   -- after a run that is named, exactly the runs that it is before; bounds that are stated of it are those of its questions
@@ -73,8 +88,8 @@ pub record RunReplies (play : Answers → Outcome Finish (List ℕ)) (reply : Mo
   pub not_in_share : (under list : List Marked) (first : Option ℕ) (form : Form) → IsMarkedBeginning play under
       → (IsMarkedRun play list → begins_with (answers_of list) (answers_of under) ≡ true → ⊥)
       → reply (modes.All (Some under) (Some list) first form) ≡ refusal notes.NoRun
-  -- every run begins with no answers
-  pub whole : (after : Option (List Marked)) (first : Option ℕ) (form : Form) → reply (modes.All (Some []) after first form) ≡ reply (modes.All None after first form)
+  -- how the replies to shares fit together
+  pub shares : ShareReplies play reply
   -- the report of a run has its answers, in form 2 with their bounds, and the ending, the steps and the transcript of its play
   pub run_report : (form : Form) (a : Answers) (f : Finish) → play a ≡ Done f []
       → report form play a ≡ report_text (items_in form a (bounds play a)) (word_of f.ending) f.steps f.shown
@@ -86,20 +101,21 @@ pub record RunReplies (play : Answers → Outcome Finish (List ℕ)) (reply : Mo
 pub record ReplyLaws : Type 0 where
   -- a text that is too long is refused as a whole, whatever is asked for and whatever stands in it
   pub too_long : (r : Request) (b c : List ℕ) → program_limit < length b → reply_to r b c ≡ refusal (notes.Load 0 TooLong)
-  -- where a text is refused nothing is written, whatever is asked for, and the note tells the line that is refused, and why
+  -- where a text is refused nothing is written, whatever is asked for, and the note has the line that is refused, and why
   pub refused : (r : Request) (b c : List ℕ) (e : ℕ × LoadFault) → program_of_text r.memory b ≡ Err e → reply_to r b c ≡ refusal (notes.Load e.0 e.1)
-  -- For each program text that is accepted, each input, each memory size, each limit of commands, and each bound for answers in
-  -- place of lines or none, where a run is a list of answers that are all taken when play is over: the reply to `--all` is one
-  -- report for each run and nothing else, in rising order of the answers (where two runs first differ, the first of them has the
-  -- smaller answer), and each report has the answers, in form 2 with their bounds, and the ending, the steps and the transcript of
-  -- its play. With `--after` and a run, the reply is this for the runs behind that run; with `--after` and a list that is no run, or
-  -- that has a bound which isn't that of its question, nothing is written, and the status is 67. With `--under` and the beginning of
-  -- a run, the reply is this for the runs that begin so; where no run begins so, or a bound isn't that of its question, nothing is
-  -- written, and the status is 67. With `--first n` it is the first n of the same reports. The status of all these replies is 0, but
-  -- for those 67. The reply to a plain run is what play shows with its answers, and the status is that of the ending. A run by a
-  -- seed is a plain run with the answers that are drawn from the seed.
+  -- This is for each program text that is accepted, each input, each memory size, each limit of commands, and each bound for
+  -- answers instead of lines, or none. A run is a list of answers that are all taken when play is over. The reply to `--all` is one
+  -- report for each run and nothing else, in rising order of the answers: where two runs first differ, the first of them has the
+  -- smaller answer. Each report has the answers, in form 2 with their bounds, and the ending, the steps and the transcript of its
+  -- play. With `--after` and a run, the reply is this for the runs after that run. Where the list of `--after` is no run, or has a
+  -- bound that isn't that of its question, nothing is written, and the status is 67. With `--under` and the beginning of a run, the
+  -- reply is this for the runs that begin so. Where no run begins so, or a bound isn't that of its question, nothing is written,
+  -- and the status is 67. With `--first n` it is the first n of the same reports. The status of these replies is 0, except where
+  -- 67 is named. The reply to a plain run is what play shows with its answers, and the status is that of the ending. A run by a seed
+  -- is a plain run with the answers that are drawn from the seed.
   pub accepted :
       (memory : ℕ) (rules : Rules) (b c : List ℕ) (p : Statements) → program_of_text memory b ≡ Ok p
-      → RunReplies (play (record { lines = p; memory = memory }) (input_lines c) rules) (λ mode. reply_to (record { rules = rules; memory = memory; mode = mode }) b c)
+      → RunReplies (play (record { lines = p; memory = memory }) (input_lines c) rules) (most_answers (record { lines = p; memory = memory }) (input_lines c) rules.limit)
+      (λ mode. reply_to (record { rules = rules; memory = memory; mode = mode }) b c)
   -- the reply to a listing of a text that is accepted is the listing of its lines
   pub listed : (r : Request) (b c : List ℕ) (p : Statements) → program_of_text r.memory b ≡ Ok p → r.mode ≡ modes.List → reply_to r b c ≡ success (listing p)

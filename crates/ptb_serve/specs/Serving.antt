@@ -1,24 +1,26 @@
 -- This file defines how a request is served: its reply is given, or it is broken off and the outcome notes why.
---     outcome_of result                 what serving comes to, from a status or a note
+--     outcome_of result                 the outcome of a status or a note
 --     load_note e                       the note of a program that is not loaded
 --     input_note e                      the note of an input that is not read
 --     under_note e                      the note of a listing that isn't begun with some answers
---     after_note e                      the note of a listing that isn't begun behind a run
+--     after_note e                      the note of a listing that isn't begun after a run
 --     reports_note e                    the note of reports that are not all written
 --     Serves reply old new outcome      the reply is given, or it is broken off
 --     IsUnloaded note                   the program was not read, or its text is refused
 --     TellsRefusal memory known note    a text is noted as refused as it is refused, where it is known
 --     TellsLength old new note          a text is noted as too long where one byte too many was given
 --     SilentBy mode note old new        nothing was written, unless what was due was broken off
+--     WritesFewer report due old new    the reports of the first of these runs were written, and fewer than all
+--     ListsFewer mode ..                what was written of a listing where memory was refused
 --     EndsUnread choose reply others old new    what was written of the reply to a run that couldn't read a line
 --     ServesUnread mode ..              what was written where the input could not be read
 --     wanted_by choose all k outcome    how many of all lines a run wanted that takes k
---     ReadsForRun mode ..               what a plain run takes of its input
+--     ReadsForRun mode ..               what a run takes of its input
 --     IsPlainRun mode                   the program is run once
 --     NeedsInput mode                   the input may be read
 --     NeedsWholeInput mode              the input is read to its end
 --     IsInput mode known c              c is the input, where the mode needs it
-use Rattle.std.specs.Prelude.{◌≡◌, ◌==◌, ℕ, ℤ, ◌+◌, if◌then◌else◌, IfOk, IfSome, List, [], length, Option, Some, None, Result, Ok, Err}
+use Rattle.std.specs.Prelude.{◌≡◌, ◌==◌, ◌⊎◌, ◌<◌, ℕ, ℤ, ◌+◌, if◌then◌else◌, IfOk, IfSome, List, [], length, take, Option, Some, None, Result, Ok, Err}
 use Rattle.std.specs.Io.KnownBytes.{Appends, Consumes}
 use Rattle.ptb_text.specs.declared.fault.LoadFault.{LoadFault}
 use Rattle.ptb_text.specs.declared.fault.LoadFault.TheVariants as loads
@@ -30,7 +32,12 @@ use Rattle.ptb_devices.specs.declared.fault.ReadFault.TheVariants as reads
 use Rattle.ptb_command.specs.declared.ending.Ending.TheVariants as endings
 use Rattle.ptb_answers.specs.Outcome.{Answers}
 use Rattle.ptb_answers.specs.declared.rules.Rules.{Rules}
-use Rattle.ptb_machine.specs.Play.{status}
+use Rattle.ptb_answers.specs.declared.form.Form.{Form}
+use Rattle.ptb_answers.specs.declared.form.Marked.{Marked}
+use Rattle.ptb_machine.specs.Play.{play, status}
+use Rattle.ptb_machine.specs.Questions.{most_answers}
+use Rattle.ptb_explore.specs.Listing.{text}
+use Rattle.ptb_explore.specs.Report.{report}
 use Rattle.ptb_explore.specs.declared.fault.AfterFault.{AfterFault}
 use Rattle.ptb_explore.specs.declared.fault.AfterFault.TheVariants as afters
 use Rattle.ptb_explore.specs.declared.fault.UnderFault.{UnderFault}
@@ -45,15 +52,15 @@ use Rattle.ptb_serve.specs.declared.service.Outcome.{Outcome}
 use Rattle.ptb_serve.specs.Statuses.{note_status}
 use Rattle.ptb_options.specs.declared.request.Request.{Request}
 use Rattle.ptb_plain.specs.PlainRuns.{ReadsFor, lines_come, lines_taken}
-use Rattle.ptb_serve.specs.Replies.{Reply, lines_reply, seeded_lines_reply, program_of_text, program_reply}
+use Rattle.ptb_serve.specs.Replies.{Reply, lines_reply, seeded_lines_reply, program_of_text, program_reply, runs_due}
 use Rattle.ptb_plain.specs.SeededRuns.{seeded_answers}
 
 -- ---- outcomes
 
 -- a note has its own status
 abbrev pub outcome_of : Result ℕ Note → Outcome
-outcome_of (Ok status) = record { status = status; note = None }
-outcome_of (Err note) = record { status = note_status note; note = Some note }
+outcome_of (Ok status) = record { status = status; note = None; mismatch = None }
+outcome_of (Err note) = record { status = note_status note; note = Some note; mismatch = None }
 
 -- a line that is refused is no want of memory, and no fault of the reader
 abbrev pub load_fault_note : ℕ → LoadFault → Note
@@ -83,23 +90,26 @@ reports_note (explores.Write n) = notes.Unwritten
 
 -- ---- how a request is served
 
--- a writer got all bytes of the reply, where it tells them, and the outcome is the reply's
-pub record Replies (reply : Reply) (old new : Option (List ℕ)) (outcome : Outcome) : Type 0 where
+-- the writer got all bytes of the reply, where they are known, and the status and the note are the reply's
+pub record IsReply (reply : Reply) (old new : Option (List ℕ)) (written_status : ℕ) (written_note : Option Note) : Type 0 where
   pub bytes : Appends old new reply.bytes
-  pub status : outcome.status ≡ reply.status
-  pub note : outcome.note ≡ reply.note
+  pub status : written_status ≡ reply.status
+  pub note : written_note ≡ reply.note
 
--- where a device failed or memory was refused, a beginning of the bytes
-abbrev pub ServesBy : Option Note → Reply → Option (List ℕ) → Option (List ℕ) → Outcome → Type 0
-ServesBy (Some notes.ProgramUnread) reply old new outcome = TakesSome old new reply.bytes
-ServesBy (Some notes.InputUnread) reply old new outcome = TakesSome old new reply.bytes
-ServesBy (Some notes.OutOfMemory) reply old new outcome = TakesSome old new reply.bytes
-ServesBy (Some notes.Unwritten) reply old new outcome = TakesSome old new reply.bytes
-ServesBy None reply old new outcome = Replies reply old new outcome
-ServesBy (Some note) reply old new outcome = Replies reply old new outcome
+abbrev pub Replies : Reply → Option (List ℕ) → Option (List ℕ) → Outcome → Type 0
+Replies reply old new outcome = IsReply reply old new outcome.status outcome.note
+
+-- where a device failed or memory was refused, a prefix of the bytes
+abbrev pub ServesBy : Option Note → ℕ → Reply → Option (List ℕ) → Option (List ℕ) → Type 0
+ServesBy (Some notes.ProgramUnread) status reply old new = TakesSome old new reply.bytes
+ServesBy (Some notes.InputUnread) status reply old new = TakesSome old new reply.bytes
+ServesBy (Some notes.OutOfMemory) status reply old new = TakesSome old new reply.bytes
+ServesBy (Some notes.Unwritten) status reply old new = TakesSome old new reply.bytes
+ServesBy None status reply old new = IsReply reply old new status None
+ServesBy (Some note) status reply old new = IsReply reply old new status (Some note)
 
 abbrev pub Serves : Reply → Option (List ℕ) → Option (List ℕ) → Outcome → Type 0
-Serves reply old new outcome = ServesBy outcome.note reply old new outcome
+Serves reply old new outcome = ServesBy outcome.note outcome.status reply old new
 
 -- memory is asked for before anything is written, and where runs are listed between their reports, and for the answers of a seed, too
 abbrev pub SilentWithoutMemory : Mode → Option (List ℕ) → Option (List ℕ) → Type 0
@@ -118,12 +128,28 @@ SilentBy (modes.Plain a) (Some notes.InputUnread) old new = Unit {0}
 SilentBy (modes.Seeded seed) (Some notes.InputUnread) old new = Unit {0}
 SilentBy mode (Some note) old new = Appends old new []
 
+-- the reports of the first few of the runs that are due were written, but not of all
+pub record WritesFewer (report : Answers → List ℕ) (due : List Answers) (old new : Option (List ℕ)) : Type 0 where
+  pub count : ℕ
+  pub fewer : count < length due
+  pub bytes : Appends old new (text report (take count due))
+
+abbrev pub ListsFewerOf : StoredProgram → List (List ℕ) → Rules → Option (List Marked) → Option (List Marked) → Option ℕ → Form → Option (List ℕ) → Option (List ℕ) → Type 0
+ListsFewerOf p input rules under after first form old new = WritesFewer (report form (play p input rules)) (runs_due (play p input rules) (most_answers p input rules.limit) under after first) old new
+
+-- memory was refused before anything was written of a listing, or before a report that was still to be written
+abbrev pub ListsFewer : Mode → Request → List ℕ → List ℕ → Option (List ℕ) → Option (List ℕ) → Type 0
+ListsFewer (modes.Plain a) request b c old new = Unit {0}
+ListsFewer (modes.Seeded seed) request b c old new = Unit {0}
+ListsFewer (modes.All under after first form) request b c old new = IfOk (program_of_text request.memory b) (λ p. Appends old new [] ⊎ ListsFewerOf (record { lines = p; memory = request.memory }) (input_lines c) request.rules under after first form old new)
+ListsFewer modes.List request b c old new = Unit {0}
+
 -- its bytes were written, and its status is that of a run which ends for want of a line
 pub record LacksLine (reply : Reply) (old new : Option (List ℕ)) : Type 0 where
   pub bytes : Appends old new reply.bytes
   pub status : reply.status ≡ status endings.NoInput
 
--- a beginning of its bytes was written: all that one of the other replies, of a run that ends for want of an answer, has
+-- a prefix of its bytes was written: all bytes of one of the other replies, of a run that ends for want of an answer
 pub record AsksUnread (reply : Reply) (others : Answers → Reply) (old new : Option (List ℕ)) : Type 0 where
   pub begins : TakesSome old new reply.bytes
   pub asked : Answers
@@ -191,26 +217,35 @@ note_wanted k (Some note) number = k
 abbrev pub outcome_wanted : ℕ → Outcome → ℕ
 outcome_wanted k outcome = note_wanted k outcome.note outcome.status
 
--- where answers are taken in place of lines, a run that takes all lines may want one more
+-- with answers instead of lines, a run that takes all lines may want one more
+abbrev pub note_wanted_by : Option ℤ → ℕ → ℕ → Option Note → ℕ → ℕ
+note_wanted_by None all k note number = note_wanted k note number
+note_wanted_by (Some n) all k note number = if k == all then k + 1 else note_wanted k note number
+
 abbrev pub wanted_by : Option ℤ → ℕ → ℕ → Outcome → ℕ
-wanted_by None all k outcome = outcome_wanted k outcome
-wanted_by (Some n) all k outcome = if k == all then k + 1 else outcome_wanted k outcome
+wanted_by choose all k outcome = note_wanted_by choose all k outcome.note outcome.status
 
 -- how many of the lines of its input a run by a seed takes
 abbrev pub seeded_taken : ℕ → StoredProgram → List (List ℕ) → Rules → ℕ
 seeded_taken seed p lines rules = lines_taken p lines rules (seeded_answers seed p lines rules)
 
 -- the input c is read only for the lines that a run wants, of which it takes so many
-abbrev pub ReadsBy : Request → (StoredProgram → List (List ℕ) → ℕ) → List ℕ → List ℕ → Option (List ℕ) → Outcome → Type 0
-ReadsBy request count b c left outcome =
+abbrev pub ReadsByNote : Request → (StoredProgram → List (List ℕ) → ℕ) → List ℕ → List ℕ → Option (List ℕ) → Option Note → ℕ → Type 0
+ReadsByNote request count b c left note number =
     IfOk (program_of_text request.memory b) (λ p. (taken : List ℕ) × Consumes (Some c) left taken
-    × ReadsFor taken (wanted_by request.rules.choose (length (input_lines c)) (count (record { lines = p; memory = request.memory }) (input_lines c)) outcome))
+    × ReadsFor taken (note_wanted_by request.rules.choose (length (input_lines c)) (count (record { lines = p; memory = request.memory }) (input_lines c)) note number))
+
+abbrev pub ReadsBy : Request → (StoredProgram → List (List ℕ) → ℕ) → List ℕ → List ℕ → Option (List ℕ) → Outcome → Type 0
+ReadsBy request count b c left outcome = ReadsByNote request count b c left outcome.note outcome.status
+
+abbrev pub ReadsInMode : Mode → Request → List ℕ → List ℕ → Option (List ℕ) → Option Note → ℕ → Type 0
+ReadsInMode (modes.Plain a) request b c left note number = ReadsByNote request (λ p lines. lines_taken p lines request.rules a) b c left note number
+ReadsInMode (modes.Seeded seed) request b c left note number = ReadsByNote request (λ p lines. seeded_taken seed p lines request.rules) b c left note number
+ReadsInMode (modes.All under after first form) request b c left _ _ = Unit {0}
+ReadsInMode modes.List request b c left _ _ = Unit {0}
 
 abbrev pub ReadsForRun : Mode → Request → List ℕ → List ℕ → Option (List ℕ) → Outcome → Type 0
-ReadsForRun (modes.Plain a) request b c left outcome = ReadsBy request (λ p lines. lines_taken p lines request.rules a) b c left outcome
-ReadsForRun (modes.Seeded seed) request b c left outcome = ReadsBy request (λ p lines. seeded_taken seed p lines request.rules) b c left outcome
-ReadsForRun (modes.All under after first form) request b c left outcome = Unit {0}
-ReadsForRun modes.List request b c left outcome = Unit {0}
+ReadsForRun mode request b c left outcome = ReadsInMode mode request b c left outcome.note outcome.status
 
 -- a listing of the program's lines alone doesn't read it
 abbrev pub NeedsInput : Mode → Type 0

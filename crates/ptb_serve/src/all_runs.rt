@@ -10,9 +10,11 @@ ghost use Rattle.ptb_explore.specs.Listing.{WritesRuns};
 ghost use Rattle.ptb_explore.specs.Report.{report};
 ghost use Rattle.ptb_explore.specs.RunTree.{Front, runs_left};
 ghost use Rattle.ptb_options.specs.declared.request.Mode.TheVariants.{All};
-ghost use Rattle.ptb_serve.specs.Loaded.{ReadsInput, ServesProgram, TellsFailures};
+ghost use Rattle.ptb_serve.specs.Loaded.{ReadsInput, ServesProgram, TellsFailures, TellsMismatch};
 ghost use Rattle.ptb_serve.specs.Replies.{answers_under, first_front, front_note, is_share};
 
+use crate::attempt::Attempt;
+use crate::list_mismatch::list_mismatch;
 use crate::note::Note;
 use ptb_explore::{ExploreFault, Explorer, Form, Marked, write_all_runs};
 use ptb_machine::{Line, Rules, read_lines};
@@ -21,19 +23,20 @@ use ptb_text::{Program, Read, Write};
 use std::alloc::Global;
 
 /// Writes the reports of a program's runs in this form: of those that begin with the answers `under`,
-/// or of all, of these those behind the run with the answers `after`, if it is named, and no more
+/// or of all; of these the runs after the one with the answers `after`, if it is named; and no more
 /// than `first` of them. The status is 0.
 ///
-/// Nothing is written until the input was read to its end, and `under` and then `after` were looked
-/// at.
+/// Nothing is written until the input was read to its end, and `under` and then `after` were
+/// checked.
 ///
 /// # Errors
 ///
 /// [`Note::InputUnread`] where the input could not be read or has more than 16,777,216 bytes;
 /// [`Note::NoBeginning`] where no run begins with `under`, [`Note::NoRun`] where `after` is no run of
-/// these, both also where it has another bound than a question: nothing was written with these.
-/// [`Note::OutOfMemory`] where a growth was refused memory, and [`Note::Unwritten`] where the
-/// writer failed: a beginning of the reports was written.
+/// these, both also where a bound is not that of its question: nothing was written with these.
+/// [`Note::OutOfMemory`] where a growth was refused memory: the reports of the first runs were
+/// written, fewer than all. [`Note::Unwritten`] where the writer failed: a prefix of the reports was
+/// written.
 pub fn list_runs<R: Read, W: Write>(
     alloc: Global,
     request: &Request,
@@ -44,26 +47,65 @@ pub fn list_runs<R: Read, W: Write>(
     form: Form,
     input: &mut R,
     out: &mut W,
-) -> Result<u8, Note>
+) -> Attempt
     requires memory { program.now.memory ≡ request.now.memory }
     requires bound { IfSome request.now.rules.choose (λ n. pos 1 ≤ℤ n) }
     ensures serves { ServesProgram (All under.now after.now first form) request.now program.now
         (R.remaining input.old) (R.remaining input.new)
-        (W.contents out.old) (W.contents out.new) result }
+        (W.contents out.old) (W.contents out.new) result.served }
     ensures reads { ReadsInput (All under.now after.now first form)
         (R.remaining input.old) (R.remaining input.new)
         (R.failures input.old) (R.failures input.new)
-        (R.given input.old) (R.given input.new) result }
-    ensures failures { TellsFailures (W.failures out.old) (W.failures out.new) result }
+        (R.given input.old) (R.given input.new) result.served }
+    ensures failures { TellsFailures (W.failures out.old) (W.failures out.new) result.served }
+    ensures mismatch { TellsMismatch (All under.now after.now first form) request.now program.now
+        (R.remaining input.old) result.served result.mismatch }
 {
-    let lines = read_lines(alloc, input)?;
-    list_runs_on(
-        alloc, request, program, &lines, under, after, first, form, out,
-    )
+    match read_lines(alloc, input) {
+        Ok(lines) => list_runs_on(
+            alloc, request, program, &lines, under, after, first, form, out,
+        ),
+        Err(fault) => Attempt::without_mismatch(Err(Note::from(fault))),
+    }
+}
+
+// Writes the reports of a program's runs on the lines of an input that was read. Where a list fits no
+// run, it is looked at once more to say why.
+fn list_runs_on<W: Write>(
+    alloc: Global,
+    request: &Request,
+    program: &Program,
+    lines: &[Line],
+    under: &Option<MarkedAnswers>,
+    after: &Option<MarkedAnswers>,
+    first: Option<u64>,
+    form: Form,
+    out: &mut W,
+) -> Attempt
+    requires memory { program.now.memory ≡ request.now.memory }
+    requires bound { IfSome request.now.rules.choose (λ n. pos 1 ≤ℤ n) }
+    ensures serves { (known left : Option (List ℕ)) → IfSome known (λ c. lines.now ≡ input_lines c)
+        → ServesProgram (All under.now after.now first form) request.now program.now known left
+        (W.contents out.old) (W.contents out.new) result.served }
+    ensures read { ¬ IsErrOf result.served Note.InputUnread }
+    ensures failures { TellsFailures (W.failures out.old) (W.failures out.new) result.served }
+    ensures mismatch { (known : Option (List ℕ)) → IfSome known (λ c. lines.now ≡ input_lines c)
+        → TellsMismatch (All under.now after.now first form) request.now program.now known
+        result.served result.mismatch }
+{
+    match write_listing(
+        alloc, request, program, lines, under, after, first, form, out,
+    ) {
+        Ok(status) => Attempt::without_mismatch(Ok(status)),
+        Err(note) => Attempt {
+            served: Err(note),
+            mismatch: list_mismatch(alloc, program, lines, request.rules, under, after, note),
+        },
+    }
 }
 
 // Writes the reports of a program's runs on the lines of an input that was read.
-fn list_runs_on<W: Write>(
+fn write_listing<W: Write>(
     alloc: Global,
     request: &Request,
     program: &Program,
@@ -82,7 +124,7 @@ fn list_runs_on<W: Write>(
     ensures read { ¬ IsErrOf result Note.InputUnread }
     ensures failures { TellsFailures (W.failures out.old) (W.failures out.new) result }
 {
-    let explorer = explorer_behind(alloc, program, lines, request.rules, under, after)?;
+    let explorer = explorer_from(alloc, program, lines, request.rules, under, after)?;
     write_reports(explorer, first, form, out)?;
     Ok(0)
 }
@@ -109,7 +151,7 @@ fn write_reports<W: Write>(
 
 // An explorer of the runs that begin with the answers `under`, or of all: before the first of them, or
 // at the run with the answers `after`.
-fn explorer_behind<'a>(
+fn explorer_from<'a>(
     alloc: Global,
     program: &'a Program,
     lines: &'a [Line],

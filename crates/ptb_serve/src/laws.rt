@@ -4,16 +4,18 @@ ghost use Rattle.ptb_serve.specs.ReplyLaws.{ReplyLaws};
 
 use ptb_explore::program_laws;
 use ptb_machine::run_laws;
+use ptb_plain::seeded_laws;
 
-/// What the reply to each request is, for every program text and every input. A text that is
-/// refused, as each of more than 1,048,576 bytes is, has its refusal. Of one that is accepted, it is
-/// the reports of all its runs, each once, in the order of their answers, or those behind a run, or
-/// the first of them; what one run shows, with the status of its ending; or the program's lines. A
-/// run by a seed is the one run whose answers are drawn from the seed.
+/// What the reply to each request is, for every program text and every input. The reply to a text
+/// that is refused, as every text of more than 1,048,576 bytes is, is its refusal. For a text that is
+/// accepted it is the reports of all its runs, each once, in the order of their answers, or of those
+/// after a run, or of the first of them; what one run shows, with the status of its ending; or the
+/// program's lines. A run by a seed is the one run whose answers are drawn from the seed.
 #[tactic(auto, using(crate::proofs::Replying::reply_laws))]
 pub fn reply_laws()
     ensures { ReplyLaws }
 {
     run_laws();
+    seeded_laws();
     program_laws();
 }

@@ -1,36 +1,20 @@
--- This file answers that the runs on the lines of an input are listed as is due.
-use Rattle.ptb_serve.proofs.Listing.{listing_broken, listing_unbegun, listing_written, no_fault}
+-- This file answers that the runs on the lines of an input are listed as is due, and what is said of a list that fits no run.
+use Rattle.ptb_serve.proofs.Mismatching.{list_told, none_told}
 use Rattle.ptb_serve.proofs.all_runs.list_runs_on.Goals as goal
 
--- no listing begins so
-pub returns-in_err-explorer : goal.returns-in_err-explorer
-returns-in_err-explorer g c =
-    let told =
-    listing_unbegun c.args.request.now c.args.program.now c.requires.memory c.args.under.now c.args.after.now c.args.first c.args.form c.args.lines.now
-    (g.W.Write.contents c.args.out.now) (g.W.Write.failures c.args.out.now) c.from_residual.result c.in_err-explorer.field-0.0 c.from_residual.ensures.1 c.in_err-explorer.ensures.unbegun
-    in
-    record { serves = told.serves; read = told.read; failures = told.failures }
+pub returns-in-Ok : goal.returns-in-Ok
+returns-in-Ok g c =
+    let listed = c.in-Ok.ensures in
+    rw c.without_mismatch.ensures (record { serves = listed.serves; read = listed.read; failures = listed.failures; mismatch = λ known _. none_told _ _ _ known _ })
 
--- some reports are written
-pub returns-in_err-write_reports : goal.returns-in_err-write_reports
-returns-in_err-write_reports g c =
-    let writes = c.in_err-write_reports.ensures in
-    let told =
-    listing_broken c.args.request.now c.args.program.now c.requires.memory c.args.under.now c.args.after.now c.args.first c.args.form c.args.lines.now
-    (g.W.Write.contents c.args.out.now) (g.W.Write.contents c.write_reports.new.out) (g.W.Write.failures c.args.out.now) (g.W.Write.failures c.write_reports.new.out)
-    c.in_ok-explorer.explorer writes.writes.0 c.in_ok-explorer.ensures.explorer c.in_ok-explorer.ensures.begun
-    c.from_residual-in_err-write_reports.result c.in_err-write_reports.field-0.0 c.from_residual-in_err-write_reports.ensures.1 writes.writes.1 writes.failed writes.unfailed
-    in
-    record { serves = told.serves; read = told.read; failures = told.failures }
-
--- all are
-pub returns : goal.returns
-returns g c =
-    let writes = c.in_ok-write_reports.ensures in
-    let told =
-    listing_written c.args.request.now c.args.program.now c.requires.memory c.args.under.now c.args.after.now c.args.first c.args.form c.args.lines.now
-    (g.W.Write.contents c.args.out.now) (g.W.Write.contents c.write_reports.new.out) (g.W.Write.failures c.args.out.now) (g.W.Write.failures c.write_reports.new.out)
-    c.in_ok-explorer.explorer writes.writes.0 c.in_ok-explorer.ensures.explorer c.in_ok-explorer.ensures.begun
-    c.in_ok-write_reports.field-0 writes.writes.1 (writes.unfailed (λ n. no_fault _ _))
-    in
-    record { serves = told.serves; read = told.read; failures = told.failures }
+pub returns-in-Err : goal.returns-in-Err
+returns-in-Err g c =
+    let listed = c.in-Err.ensures in
+    record {
+      serves = listed.serves;
+      read = listed.read;
+      failures = listed.failures;
+      mismatch = λ known lines.
+          list_told c.args.request.now c.args.program.now known c.args.lines.now lines c.args.under.now c.args.after.now c.args.first c.args.form
+          c.in-Err.note c.list_mismatch.result c.list_mismatch.ensures.noted c.list_mismatch.ensures.fits;
+    }

@@ -1,85 +1,70 @@
 -- This file answers how each mode serves a program that was loaded.
+use Rattle.std.proofs.Common.{Err}
+use Rattle.ptb_plain.specs.SeededRuns.{seeded_answers}
+use Rattle.ptb_plain.specs.Streams.{reads_of, writes_of}
 use Rattle.ptb_serve.proofs.Modes.{served_all, served_plain, served_seeded, served_text, text_broken}
 use Rattle.ptb_serve.proofs.service.serve_program.Goals as goal
 
 -- a run with a list of answers
 pub returns-in-Plain : goal.returns-in-Plain
 returns-in-Plain g c =
-    let run = c.run_plain.ensures in
+    let run = c.run_plain-ended.ensures in
     let told =
-    served_plain c.args.request.now c.args.program.now c.args.input.now c.run_plain.new.input (g.R.Read.remaining c.args.input.now) (g.R.Read.remaining c.run_plain.new.input)
-    (g.R.Read.failures c.args.input.now) (g.R.Read.failures c.run_plain.new.input) (g.R.Read.given c.args.input.now) (g.R.Read.given c.run_plain.new.input)
-    (g.W.Write.contents c.args.out.now) (g.W.Write.contents c.run_plain.new.out) (g.W.Write.failures c.args.out.now) (g.W.Write.failures c.run_plain.new.out)
-    c.run_plain.result c.run_status.result c.args.request.now.mode c.run_status.ensures c.requires.memory _ c.as_slice-answers.result.now c.in-Plain.is c.as_slice-answers.ensures
-    (record {
-      ok = run.ok;
-      within = run.within;
-      beginning = run.beginning;
-      unread = run.read;
-      taken = run.taken;
-      unwritten = run.failed;
-      written = run.unfailed;
-      unreadable = run.unreadable;
-      read = run.input_read;
-      bounded = run.bounded;
-      most = run.given;
-      failed_or_given = run.failed_or_given;
-    }) run.memory
+    served_plain c.args.request.now c.args.program.now (reads_of g.R.Read.remaining g.R.Read.given g.R.Read.failures c.args.input.now c.run_plain-ended.new.input)
+    (writes_of g.W.Write.contents g.W.Write.failures c.args.out.now c.run_plain-ended.new.out)
+    c.run_plain-ended.result c.run_status.result c.args.request.now.mode c.run_status.ensures c.requires.memory _ c.as_slice-answers.result.now c.in-Plain.is c.as_slice-answers.ensures
+    (record { plays = run.plays; reads = run.reads }) run.memory
     in
-    record { serves = told.serves; reads = told.reads; failures = told.failures; input_kept = told.input_kept }
+    rw c.without_mismatch.ensures (record { serves = told.serves; reads = told.reads; failures = told.failures; mismatch = told.mismatch; input_kept = told.input_kept })
 
 -- a run by a seed
+pub run_status-requires-in-Seeded : goal.run_status-requires-in-Seeded
+run_status-requires-in-Seeded g c =
+    let run = c.run_seeded-ended.ensures in
+    let seed = c.in-Seeded.seed in
+    let request = c.args.request.now in
+    let p = c.args.program.now in
+    (run.plays (λ lines. seeded_answers seed p lines request.rules) (λ lines. run.laws.drawn seed p lines request.rules)).unspent
+
 pub returns-in-Seeded : goal.returns-in-Seeded
 returns-in-Seeded g c =
-    let run = c.run_seeded.ensures in
+    let run = c.run_seeded-ended.ensures in
+    let seed = c.in-Seeded.seed in
+    let request = c.args.request.now in
+    let p = c.args.program.now in
     let told =
-    served_seeded c.args.request.now c.args.program.now c.args.input.now c.run_seeded.new.input (g.R.Read.remaining c.args.input.now) (g.R.Read.remaining c.run_seeded.new.input)
-    (g.R.Read.failures c.args.input.now) (g.R.Read.failures c.run_seeded.new.input) (g.R.Read.given c.args.input.now) (g.R.Read.given c.run_seeded.new.input)
-    (g.W.Write.contents c.args.out.now) (g.W.Write.contents c.run_seeded.new.out) (g.W.Write.failures c.args.out.now) (g.W.Write.failures c.run_seeded.new.out)
-    c.run_seeded.result c.run_status-in-Seeded.result c.args.request.now.mode c.run_status-in-Seeded.ensures c.requires.memory c.in-Seeded.seed c.in-Seeded.is
-    (record {
-      ok = run.ok;
-      within = run.within;
-      beginning = run.beginning;
-      unread = run.read;
-      taken = run.taken;
-      unwritten = run.failed;
-      written = run.unfailed;
-      unreadable = run.unreadable;
-      read = run.input_read;
-      bounded = run.bounded;
-      most = run.given;
-      failed_or_given = run.failed_or_given;
-    })
+    served_seeded request p (reads_of g.R.Read.remaining g.R.Read.given g.R.Read.failures c.args.input.now c.run_seeded-ended.new.input)
+    (writes_of g.W.Write.contents g.W.Write.failures c.args.out.now c.run_seeded-ended.new.out)
+    c.run_seeded-ended.result c.run_status-in-Seeded.result request.mode c.run_status-in-Seeded.ensures c.requires.memory seed c.in-Seeded.is
+    (record { plays = run.plays (λ lines. seeded_answers seed p lines request.rules) (λ lines. run.laws.drawn seed p lines request.rules); reads = run.reads })
     in
-    record { serves = told.serves; reads = told.reads; failures = told.failures; input_kept = told.input_kept }
+    rw c.without_mismatch-in-Seeded.ensures (record { serves = told.serves; reads = told.reads; failures = told.failures; mismatch = told.mismatch; input_kept = told.input_kept })
 
 -- a listing of its runs
 pub returns-in-All : goal.returns-in-All
 returns-in-All g c =
     let told =
-    served_all c.args.request.now c.args.program.now c.args.input.now c.list_runs.new.input (g.R.Read.remaining c.args.input.now) (g.R.Read.remaining c.list_runs.new.input)
-    (g.R.Read.failures c.args.input.now) (g.R.Read.failures c.list_runs.new.input) (g.R.Read.given c.args.input.now) (g.R.Read.given c.list_runs.new.input)
-    (g.W.Write.contents c.args.out.now) (g.W.Write.contents c.list_runs.new.out) (g.W.Write.failures c.args.out.now) (g.W.Write.failures c.list_runs.new.out)
-    c.list_runs.result c.args.request.now.mode _ _ _ _ c.in-All.is c.list_runs.ensures.serves c.list_runs.ensures.reads c.list_runs.ensures.failures
+    served_all c.args.request.now c.args.program.now (reads_of g.R.Read.remaining g.R.Read.given g.R.Read.failures c.args.input.now c.list_runs.new.input)
+    (writes_of g.W.Write.contents g.W.Write.failures c.args.out.now c.list_runs.new.out)
+    c.list_runs.result.served c.list_runs.result.mismatch c.args.request.now.mode _ _ _ _ c.in-All.is c.list_runs.ensures.serves c.list_runs.ensures.reads c.list_runs.ensures.failures c.list_runs.ensures.mismatch
     in
-    record { serves = told.serves; reads = told.reads; failures = told.failures; input_kept = told.input_kept }
+    record { serves = told.serves; reads = told.reads; failures = told.failures; mismatch = told.mismatch; input_kept = told.input_kept }
 
 -- a listing of its text
-pub returns-in_err-list-in-List : goal.returns-in_err-list-in-List
-returns-in_err-list-in-List g c =
+pub returns-in-Err : goal.returns-in-Err
+returns-in-Err g c =
     let told =
     text_broken c.args.request.now c.args.program.now c.args.input.now (g.R.Read.remaining c.args.input.now) (g.R.Read.failures c.args.input.now) (g.R.Read.given c.args.input.now)
-    (g.W.Write.contents c.args.out.now) (g.W.Write.contents c.list.new.writer) (g.W.Write.failures c.args.out.now) (g.W.Write.failures c.list.new.writer) c.args.request.now.mode c.in-List.is c.requires.memory
-    c.from_residual.result c.from_residual.ensures.1 c.in_err-list-in-List.ensures.fault c.in_err-list-in-List.ensures.failed
+    (writes_of g.W.Write.contents g.W.Write.failures c.args.out.now c.list.new.writer) c.args.request.now.mode c.in-List.is c.requires.memory
+    (Err c.from.result) c.from.ensures c.in-Err.ensures.fault c.in-Err.ensures.failed
     in
-    record { serves = told.serves; reads = told.reads; failures = told.failures; input_kept = told.input_kept }
+    rw c.without_mismatch-in-Err.ensures (record { serves = told.serves; reads = told.reads; failures = told.failures; mismatch = told.mismatch; input_kept = told.input_kept })
 
-pub returns-in_ok-list-in-List : goal.returns-in_ok-list-in-List
-returns-in_ok-list-in-List g c =
+pub returns-in-Ok : goal.returns-in-Ok
+returns-in-Ok g c =
     let told =
     served_text c.args.request.now c.args.program.now c.args.input.now (g.R.Read.remaining c.args.input.now) (g.R.Read.failures c.args.input.now) (g.R.Read.given c.args.input.now)
-    (g.W.Write.contents c.args.out.now) (g.W.Write.contents c.list.new.writer) (g.W.Write.failures c.args.out.now) (g.W.Write.failures c.list.new.writer) c.args.request.now.mode c.in-List.is c.requires.memory
-    c.in_ok-list-in-List.ensures.ok c.in_ok-list-in-List.ensures.unfailed
+    (writes_of g.W.Write.contents g.W.Write.failures c.args.out.now c.list.new.writer) c.args.request.now.mode c.in-List.is c.requires.memory
+    c.in-Ok.ensures.ok c.in-Ok.ensures.unfailed
     in
-    record { serves = told.serves; reads = told.reads; failures = told.failures; input_kept = told.input_kept }
+    rw c.without_mismatch-in-Ok.ensures (record { serves = told.serves; reads = told.reads; failures = told.failures; mismatch = told.mismatch; input_kept = told.input_kept })
