@@ -1,2 +1,4 @@
--- This file names the file of definitions.
+-- This file names the files of definitions.
+pub mod Terminal
+pub mod Opened
 pub mod Exits

@@ -1,0 +1,201 @@
+// This file has what the arguments of the command line ask for, and what is answered where they ask
+// for nothing.
+
+ghost use Rattle.std.specs.Prelude.{◌≡◌, ◌≤◌, ◌≤ℤ◌, pos, IfErr, IfOk, IfSome, codes, map};
+ghost use Rattle.std.specs.Prelude.{option_copied};
+ghost use Rattle.std.specs.IoError.{error_kind};
+ghost use Rattle.clap.specs.Words.{first_of, kind_of};
+ghost use Rattle.ptb_text.specs.Statements.{IsMemorySize};
+ghost use Rattle.ptb_options.specs.Options.{HasBound, HasMemorySize, Refuses, entries_of};
+ghost use Rattle.ptb_options.specs.Options.{options_of};
+ghost use Rattle.ptb_options.specs.Statuses.{usage_status};
+ghost use Rattle.ptb_serve.specs.Statuses.{note_status};
+ghost use Rattle.ptb.specs.Exits.{AnswersOptions, AsksAt, ExitsBy, IsRefusedStatus, MayDraw};
+ghost use Rattle.ptb.specs.Exits.{unread_status};
+ghost use Rattle.ptb.specs.Opened.{ServesTask};
+ghost use Rattle.ptb_plain.specs.Streams.{reads_of, writes_of};
+
+use crate::console::Console;
+use crate::serving::{Programs, Task, serve_task};
+use clap::ArgMatches;
+use clap::error::ErrorKind;
+use ptb_options::{
+    Mode, UsageFault, WrongNumber, decide, misspelled_list, parse, refusal_status, wrong_number,
+};
+use ptb_serve::Note;
+use ptb_text::{Read, Write};
+use std::convert::AsStr;
+use std::io;
+use std::rt::Runtime;
+use std::time::{SystemTime, UNIX_EPOCH};
+
+/// Does what these arguments ask for, and gives the status to exit with. The first argument is the
+/// program's name.
+pub fn run_words<
+    'a,
+    R: Runtime + AllocGlobal,
+    S: AsStr,
+    P: Read + Drop,
+    O: Programs<P>,
+    I: Read,
+    W: Write,
+>(console: &Console<'_, R>, words: &'a [S], programs: &O, input: &mut I, out: &mut W) -> u8
+    ensures { ExitsBy (λ path request n. ServesTask (O.opens programs.now)
+        (reads_of P.remaining P.given P.failures) path request
+        (reads_of I.remaining I.given I.failures input.old input.new)
+        (writes_of W.contents W.failures out.old out.new) n)
+        console.now.terminals (map S.text words.entry.now) result }
+{
+    match parse(console.runtime().alloc(), words) {
+        Ok(matches) => run_matches(console, &matches, programs, input, out),
+        Err(error) => refuse(console, &error, wrong_number(words)),
+    }
+}
+
+/// Says why the arguments can't be read: there is no memory for them, or one is no text.
+pub fn unread_words<R: Runtime>(console: &Console<'_, R>, error: &io::Error) -> u8
+    ensures { result ≡ unread_status (error_kind error.now) }
+{
+    match error.kind() {
+        io::ErrorKind::OutOfMemory => give_up(console, Note::OutOfMemory),
+        _ => {
+            console.say(*error);
+            64
+        }
+    }
+}
+
+// Says what clap has to say: a mistake in the arguments, or the help or version that they ask for.
+fn refuse<R: Runtime>(
+    console: &Console<'_, R>,
+    error: &clap::Error,
+    wrong: Option<WrongNumber<'_>>,
+) -> u8
+    ensures { IsRefusedStatus (kind_of error.now) result }
+{
+    if error.kind() == ErrorKind::OutOfMemory {
+        return give_up(console, Note::OutOfMemory);
+    }
+    let shown = match wrong {
+        Some(wrong) if is_said_by(error, wrong) => console.runtime().eprint(wrong),
+        _ => error.print(console.runtime()),
+    };
+    if shown.is_err() && !error.use_stderr() {
+        return give_up(console, Note::Unwritten);
+    }
+    refusal_status(error.kind())
+}
+
+// Whether a wrong number says more plainly than clap what clap refused. A negative number is an
+// unknown option to clap.
+fn is_said_by(error: &clap::Error, wrong: WrongNumber<'_>) -> bool {
+    match error.kind() {
+        ErrorKind::ValueValidation => true,
+        ErrorKind::UnknownArgument => wrong.value.starts_with('-'),
+        _ => false,
+    }
+}
+
+// Says why nothing is served.
+fn give_up<R: Runtime>(console: &Console<'_, R>, note: Note) -> u8
+    ensures { result ≡ note_status note }
+{
+    console.say(note);
+    note.status()
+}
+
+// Does what the options ask for.
+fn run_matches<R: Runtime + AllocGlobal, P: Read + Drop, O: Programs<P>, I: Read, W: Write>(
+    console: &Console<'_, R>,
+    matches: &ArgMatches<'_>,
+    programs: &O,
+    input: &mut I,
+    out: &mut W,
+) -> u8
+    requires memory { HasMemorySize (options_of (entries_of matches.now)) }
+    requires bound { HasBound (options_of (entries_of matches.now)) }
+    ensures { AnswersOptions (λ path request n. ServesTask (O.opens programs.now)
+        (reads_of P.remaining P.given P.failures) path request
+        (reads_of I.remaining I.given I.failures input.old input.new)
+        (writes_of W.contents W.failures out.old out.new) n)
+        console.now.terminals (entries_of matches.now) result }
+{
+    match task(console, matches) {
+        Ok(task) => serve_task(console, &task, programs, input, out),
+        Err(fault) => refuse_options(console, fault, matches),
+    }
+}
+
+// Says why the options make no request.
+fn refuse_options<R: Runtime>(
+    console: &Console<'_, R>,
+    fault: UsageFault,
+    matches: &ArgMatches<'_>,
+) -> u8
+    ensures { result ≡ usage_status fault }
+{
+    console.say(fault);
+    if fault == UsageFault::BadList {
+        if let Some(list) = misspelled_list(matches) {
+            console.say(format_args!("  {list}"));
+        }
+    }
+    fault.status()
+}
+
+// What the options ask to be served. At a terminal a run draws its seed where it is given neither
+// answers nor a seed.
+fn task<'a, R: Runtime + AllocGlobal>(
+    console: &Console<'_, R>,
+    matches: &ArgMatches<'a>,
+) -> Result<Task<'a>, UsageFault>
+    requires memory { HasMemorySize (options_of (entries_of matches.now)) }
+    requires bound { HasBound (options_of (entries_of matches.now)) }
+    ensures asks { IfOk result (λ t.
+        AsksAt console.now.terminals (options_of (entries_of matches.now)) t.request) }
+    ensures path { IfOk result (λ t.
+        option_copied t.path ≡ first_of (codes "program") (entries_of matches.now)) }
+    ensures fault { IfErr result (Refuses (options_of (entries_of matches.now))) }
+    ensures memory { IfOk result (λ t. IsMemorySize t.request.memory) }
+    ensures bound { IfOk result (λ t. IfSome t.request.rules.choose (λ n. pos 1 ≤ℤ n)) }
+{
+    let mut request = decide(console.runtime().alloc(), matches)?;
+    let drawn = draw_seed(console, matches, &request.mode);
+    if let Some(seed) = drawn {
+        request.mode = Mode::Seeded(seed);
+    }
+    Ok(Task {
+        request,
+        path: matches.get_str("program"),
+        drawn,
+    })
+}
+
+// The seed that a run draws from the clock: at a terminal, where it is given neither answers nor a
+// seed.
+fn draw_seed<R: Runtime>(
+    console: &Console<'_, R>,
+    matches: &ArgMatches<'_>,
+    mode: &Mode,
+) -> Option<u64>
+    ensures { IfSome result
+        (MayDraw console.now.terminals (options_of (entries_of matches.now)) mode.now) }
+{
+    let terminals = console.terminals;
+    if !terminals.input || !terminals.output || matches.get_str("answers").is_some() {
+        return None;
+    }
+    match mode {
+        Mode::Plain(_) => clock_seed(console.runtime()),
+        _ => None,
+    }
+}
+
+// A seed from 0 to 999999: the microseconds of the clock, if it can be read.
+fn clock_seed<R: Runtime>(rt: &R) -> Option<u64>
+    ensures { IfSome result (λ seed. seed ≤ 999999) }
+{
+    let now = SystemTime::now(rt).ok()?;
+    let since = now.duration_since(UNIX_EPOCH).ok()?;
+    Some(u64::from(since.subsec_micros()))
+}

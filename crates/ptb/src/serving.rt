@@ -1,0 +1,207 @@
+// This file serves a request for a program that is opened, and says what came of it.
+
+ghost use Rattle.std.specs.Prelude.{◌≡◌, ◌≤ℤ◌, ℕ, pos, List, [], Option, Some, Result};
+ghost use Rattle.std.specs.Prelude.{IfOk, IfSome, OnErr, option_copied};
+ghost use Rattle.ptb_text.specs.Statements.{IsMemorySize};
+ghost use Rattle.ptb_serve.specs.declared.note.Note.{Note as NoteValue};
+ghost use Rattle.ptb_plain.specs.Streams.{reads_of, writes_of};
+ghost use Rattle.ptb.specs.Opened.{KeepsPromises, ServesOpened, ServesTask, exit_status, text_of};
+
+use crate::console::Console;
+use crate::endings::Shortage;
+use crate::reasons::Reason;
+use ptb_options::{Mode, Request};
+use ptb_serve::{ListMismatch, Note, Outcome, serve};
+use ptb_text::{Device, Read, Write};
+use std::alloc::Global;
+use std::rt::Runtime;
+
+/// What the arguments ask for.
+#[derive(Drop)]
+pub struct Task<'a> {
+    /// What is done.
+    pub request: Request,
+    /// The program's file, where one is named.
+    pub path: Option<&'a str>,
+    /// The seed of the request, where it was drawn from the clock.
+    pub drawn: Option<u64>,
+}
+
+/// Where programs are opened.
+pub trait Programs<P> {
+    /// What may come of opening the program at a path.
+    ghost opens: { Self → Option (List ℕ) → Result P NoteValue → Type 0 };
+
+    /// Opens the program's file at this path, or standard input where there is none.
+    ///
+    /// # Errors
+    ///
+    /// The note of a file that can't be opened.
+    fn open(&self, path: Option<&str>) -> Result<P, Note>
+        ensures { opens self.now (option_copied path.entry) result };
+}
+
+/// Serves a task, and gives the status to exit with. The input has no lines where standard input is
+/// the program.
+pub fn serve_task<R: Runtime + AllocGlobal, P: Read + Drop, O: Programs<P>, I: Read, W: Write>(
+    console: &Console<'_, R>,
+    task: &Task<'_>,
+    programs: &O,
+    input: &mut I,
+    out: &mut W,
+) -> u8
+    requires memory { IsMemorySize task.now.request.memory }
+    requires bound { IfSome task.now.request.rules.choose (λ n. pos 1 ≤ℤ n) }
+    ensures { ServesTask (O.opens programs.now) (reads_of P.remaining P.given P.failures)
+        (option_copied task.now.path) task.now.request
+        (reads_of I.remaining I.given I.failures input.old input.new)
+        (writes_of W.contents W.failures out.old out.new) result }
+{
+    let alloc = console.runtime().alloc();
+    let opened = programs.open(task.path);
+    if opened.is_ok() {
+        announce(console, task);
+    }
+    if is_run(&task.request.mode) {
+        console.leave_out_echo();
+    }
+    let result = match task.path {
+        Some(_) => serve_opened(alloc, &task.request, opened, input, out),
+        None => serve_without_input(alloc, &task.request, opened, out),
+    };
+    conclude(console, task, result)
+}
+
+// Says which seed was drawn, and that the program is read from the terminal.
+fn announce<R: Runtime>(console: &Console<'_, R>, task: &Task<'_>) {
+    if let Some(seed) = task.drawn {
+        console.say(format_args!("ptb: seed {seed}"));
+    }
+    if task.path.is_none() && console.terminals.input {
+        console.say("ptb: reading the program from the terminal; Ctrl-D ends it");
+    }
+}
+
+// Serves a request for a program that was opened, or says why it was not.
+fn serve_opened<P: Read + Drop, I: Read, W: Write>(
+    alloc: Global,
+    request: &Request,
+    opened: Result<P, Note>,
+    input: &mut I,
+    out: &mut W,
+) -> Result<Outcome, Note>
+    requires memory { IsMemorySize request.now.memory }
+    requires bound { IfSome request.now.rules.choose (λ n. pos 1 ≤ℤ n) }
+    ensures serves { ServesOpened request.now (text_of P.remaining opened)
+        (I.remaining input.old) (writes_of W.contents W.failures out.old out.new) result }
+    ensures promises { IfOk opened (λ program. KeepsPromises
+        (reads_of P.remaining P.given P.failures program) request.now
+        (reads_of I.remaining I.given I.failures input.old input.new)
+        (writes_of W.contents W.failures out.old out.new) result) }
+    ensures unread { OnErr opened (input.new ≡ input.old) }
+{
+    match opened {
+        Ok(mut program) => Ok(serve(alloc, request, &mut program, input, out)),
+        Err(note) => Err(note),
+    }
+}
+
+// Serves a request without input lines.
+fn serve_without_input<P: Read + Drop, W: Write>(
+    alloc: Global,
+    request: &Request,
+    opened: Result<P, Note>,
+    out: &mut W,
+) -> Result<Outcome, Note>
+    requires memory { IsMemorySize request.now.memory }
+    requires bound { IfSome request.now.rules.choose (λ n. pos 1 ≤ℤ n) }
+    ensures { ServesOpened request.now (text_of P.remaining opened) (Some [])
+        (writes_of W.contents W.failures out.old out.new) result }
+{
+    let mut empty: &[u8] = &[];
+    let mut input = Device::new(&mut empty);
+    serve_opened(alloc, request, opened, &mut input, out)
+}
+
+// Says what came of a task, and gives the status to exit with.
+fn conclude<R: Runtime>(
+    console: &Console<'_, R>,
+    task: &Task<'_>,
+    served: Result<Outcome, Note>,
+) -> u8
+    ensures { result ≡ exit_status served }
+{
+    match served {
+        Ok(outcome) => {
+            match outcome.note {
+                Some(note) => say_note(
+                    console,
+                    reason(console, task, note, outcome.mismatch),
+                    note,
+                ),
+                None => say_shortage(console, task, outcome.status),
+            }
+            outcome.status
+        }
+        Err(note) => {
+            say_note(console, reason(console, task, note, None), note);
+            note.status()
+        }
+    }
+}
+
+// Says why a request was not served, and what was wrong, as far as it is known.
+fn say_note<R: Runtime>(console: &Console<'_, R>, reason: Option<Reason<'_>>, note: Note) {
+    console.say(note);
+    if let Some(reason) = reason {
+        console.say(reason);
+    }
+}
+
+// What was wrong, as far as it is known.
+fn reason<'a, R: Runtime>(
+    console: &Console<'_, R>,
+    task: &Task<'a>,
+    note: Note,
+    mismatch: Option<ListMismatch>,
+) -> Option<Reason<'a>> {
+    match note {
+        Note::ProgramUnread => {
+            let error = console.program_failure()?;
+            Some(Reason::Failed(task.path.unwrap_or("standard input"), error))
+        }
+        Note::InputUnread => Some(match console.input_failure() {
+            Some(error) => Reason::Failed("standard input", error),
+            None => Reason::TooLong,
+        }),
+        Note::NoBeginning | Note::NoRun => Some(Reason::List(mismatch?)),
+        _ => None,
+    }
+}
+
+// Says at a terminal why a run ended before its program did, if it did.
+fn say_shortage<R: Runtime>(console: &Console<'_, R>, task: &Task<'_>, status: u8) {
+    if !console.terminals.output || !console.terminals.errors || !is_run(&task.request.mode) {
+        return;
+    }
+    if let Some(shortage) = shortage(task, status) {
+        console.say_on_fresh_line(shortage);
+    }
+}
+
+// Why a run with this status ended before its program did, if it did.
+fn shortage(task: &Task<'_>, status: u8) -> Option<Shortage> {
+    match status {
+        4 => Some(Shortage::Commands(task.request.rules.limit)),
+        5 if task.path.is_some() => Some(Shortage::Lines),
+        5 => Some(Shortage::LinesBesideProgram),
+        6 => Some(Shortage::Answers),
+        7 => Some(Shortage::LargeAnswer),
+        _ => None,
+    }
+}
+
+// Whether the program is run once.
+fn is_run(mode: &Mode) -> bool {
+    matches!(mode, Mode::Plain(_) | Mode::Seeded(_))
+}

@@ -1,0 +1,48 @@
+// This file has the readers of a program's text and of the input, which keep why a read failed.
+
+use std::cell::Cell;
+use std::io;
+
+/// A reader that keeps the error of its last read that failed.
+#[derive(Drop)]
+pub struct Watched<'a, T> {
+    inner: T,
+    failed: &'a Cell<Option<io::Error>>,
+}
+
+impl<'a, T> Watched<'a, T> {
+    /// A reader of what `inner` gives.
+    pub fn new(inner: T, failed: &'a Cell<Option<io::Error>>) -> Self {
+        Watched { inner, failed }
+    }
+}
+
+impl<'a, T: io::Read> io::Read for Watched<'a, T> {
+    ghost remaining = { λ w. T.remaining w.inner };
+
+    fn read(&mut self, buf: &mut [u8]) -> io::Result<usize> {
+        let result = self.inner.read(buf);
+        if let Err(error) = result {
+            self.failed.set(Some(error));
+        }
+        result
+    }
+}
+
+/// The text of a program: that of a file, or standard input.
+#[derive(Drop)]
+pub enum Source<F, I> {
+    /// A file.
+    File(F),
+    /// Standard input.
+    Input(I),
+}
+
+impl<F: io::Read, I: io::Read> io::Read for Source<F, I> {
+    fn read(&mut self, buf: &mut [u8]) -> io::Result<usize> {
+        match self {
+            Source::File(file) => file.read(buf),
+            Source::Input(input) => input.read(buf),
+        }
+    }
+}
