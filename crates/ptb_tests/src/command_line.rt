@@ -1,12 +1,13 @@
-// This file tests the command line, from its words to the request or the line that refuses them.
+// This file tests the command line, from its arguments to the request or the line that refuses them.
 
 use crate::shared::{ONE, ONE_OF_2, ONE_OF_3, TWO, TWO_OF_2, expect_same};
 use clap::error::ErrorKind;
 use ptb_explore::{Form, Marked};
 use ptb_machine::Rules;
 use ptb_options::{
-    Answers, ListFault, MarkedAnswers, Mode, Request, UsageFault, decide, parse, parse_answers,
-    parse_list, refusal_status,
+    Answers, Bounds, ItemFault, ListFault, MarkedAnswers, Mistake, Mode, Request, UsageFault,
+    decide, list_mistake, misspelled_list, parse, parse_answers, parse_list, refusal_status,
+    wrong_number,
 };
 use std::alloc::{AllocError, Global};
 use std::process::Abort;
@@ -241,6 +242,95 @@ fn answers_with_bounds(rt: HostRuntime) {
         "ptb --answers=2/2,1/3",
     ] {
         expect_same(&rt, line, line_refusal(rt.alloc(), line), BAD_LIST);
+    }
+}
+
+const NO_NUMBER: ItemFault = ItemFault::NotANumber;
+
+// Texts that spell no list, and the first faulty item of each: its place, its text, what is wrong.
+const MISTAKES: &[(&str, Bounds, usize, &str, ItemFault)] = &[
+    ("", Bounds::Allowed, 1, "", NO_NUMBER),
+    ("2, 2", Bounds::Allowed, 2, " 2", NO_NUMBER),
+    ("1,2,03,x", Bounds::Allowed, 3, "03", NO_NUMBER),
+    ("32768,0", Bounds::Allowed, 1, "32768", NO_NUMBER),
+    ("2/2,1/", Bounds::Allowed, 2, "1/", NO_NUMBER),
+    ("1/32768", Bounds::Allowed, 1, "1/32768", NO_NUMBER),
+    ("none,1", Bounds::Allowed, 1, "none", NO_NUMBER),
+    ("1,,2", Bounds::Allowed, 2, "", NO_NUMBER),
+    ("1,", Bounds::Refused, 2, "", NO_NUMBER),
+    ("x,1/3", Bounds::Refused, 1, "x", NO_NUMBER),
+    ("1/0", Bounds::Refused, 1, "1/0", NO_NUMBER),
+    ("1/3", Bounds::Refused, 1, "1/3", ItemFault::HasBound),
+    ("2,1/3,x", Bounds::Refused, 2, "1/3", ItemFault::HasBound),
+];
+
+#[test]
+fn first_faulty_items(rt: HostRuntime) {
+    for &(list, bounds, item, text, fault) in MISTAKES {
+        let wanted = Mistake { item, text, fault };
+        expect_same(&rt, list, list_mistake(list, bounds), Some(wanted));
+    }
+}
+
+#[test]
+fn lists_without_faulty_items(rt: HostRuntime) {
+    for &(text, _list) in LISTS {
+        expect_same(&rt, text, list_mistake(text, Bounds::Allowed), None);
+    }
+    for &(text, _answers) in ANSWERS {
+        expect_same(&rt, text, list_mistake(text, Bounds::Refused), None);
+    }
+}
+
+// Arguments with a misspelled list, and the line that says which.
+const MISSPELLED: &[(&[&str], &str)] = &[
+    (
+        &["ptb", "--all", "--after", "2, 2"],
+        "--after: item 2 (\" 2\") is not a number from 1 to 32767",
+    ),
+    (
+        &["ptb", "--answers", "1/3"],
+        "--answers: item 1 (\"1/3\") has a bound; --answers takes numbers alone",
+    ),
+    (
+        &["ptb", "--answers", ""],
+        "--answers: item 1 (\"\") is not a number from 1 to 32767",
+    ),
+    (
+        &["ptb", "--all", "--after", "x", "--under", "1,,2"],
+        "--under: item 2 (\"\") is not a number from 1 to 32767",
+    ),
+    (
+        &["ptb", "--all", "--under", "1/2", "--after", "1/2,01\n"],
+        "--after: item 2 (\"01\\n\") is not a number from 1 to 32767",
+    ),
+];
+
+// Whether this line says which list of the arguments is misspelled; none where each is spelled.
+fn says_misspelled(alloc: Global, words: &[&str], line: &str) -> Option<bool> {
+    let matches = parse(alloc, words).ok()?;
+    let said = misspelled_list(&matches)?.to_string(alloc).ok()?;
+    Some(said.as_str() == line)
+}
+
+#[test]
+fn misspelled_lists(rt: HostRuntime) {
+    for &(words, line) in MISSPELLED {
+        expect_same(&rt, line, refusal(rt.alloc(), words), BAD_LIST);
+        let said = says_misspelled(rt.alloc(), words, line);
+        expect_same(&rt, line, said, Some(true));
+    }
+}
+
+#[test]
+fn spelled_lists(rt: HostRuntime) {
+    for words in [
+        ["ptb", "--all", "--after=1/2", "--under=none"],
+        ["ptb", "game.bas", "--answers", "2,1"],
+        ["ptb", "--seed", "1", "game.bas"],
+    ] {
+        let said = says_misspelled(rt.alloc(), &words, "");
+        expect_same(&rt, "spelled", said, None);
     }
 }
 
@@ -485,6 +575,60 @@ fn requests_for_a_share(rt: HostRuntime) {
     }
 }
 
+// The memory of a request.
+fn memory_of(alloc: Global, line: &str) -> Option<u16> {
+    Some(requested(alloc, line)?.memory)
+}
+
+// More than sixteen arguments, each with an effect of its own.
+const ALL_OPTIONS: &str =
+    "ptb --all --steps 5 --memory 64 --choose 2 --under 1 --after 1,1/2 --first 3 --form 1 game.bas";
+
+#[test]
+fn many_arguments(rt: HostRuntime) {
+    let listed = listing(
+        rt.alloc(),
+        ALL_OPTIONS,
+        Some(&[ONE]),
+        Some(&[ONE, ONE_OF_2]),
+    );
+    expect_same(
+        &rt,
+        "listing",
+        listed,
+        Some((true, true, Some(3), Form::One)),
+    );
+    let rules = Rules {
+        limit: 5,
+        choose: Some(2),
+    };
+    expect_same(&rt, "rules", rules_of(rt.alloc(), ALL_OPTIONS), Some(rules));
+    expect_same(&rt, "memory", memory_of(rt.alloc(), ALL_OPTIONS), Some(64));
+}
+
+// Arguments, and the program that they name.
+const PROGRAMS: &[(&[&str], Option<&str>)] = &[
+    (&["ptb"], None),
+    (&["ptb", "-"], Some("-")),
+    (&["ptb", " game.bas "], Some(" game.bas ")),
+    (&["ptb", "--seed", "1", ""], Some("")),
+    (&["ptb", "--list", "--", "--list"], Some("--list")),
+];
+
+// Whether the arguments name this program; none where clap refuses them.
+fn names_program(alloc: Global, words: &[&str], program: Option<&str>) -> Option<bool> {
+    let matches = parse(alloc, words).ok()?;
+    Some(matches.get_str("program") == program)
+}
+
+#[test]
+fn names_of_programs(rt: HostRuntime) {
+    for &(words, program) in PROGRAMS {
+        let named = names_program(rt.alloc(), words, program);
+        expect_same(&rt, program.unwrap_or("none"), named, Some(true));
+    }
+}
+
 // The limit and the memory of a line that asks for a listing of the program.
 fn program_listing(alloc: Global, line: &str) -> Option<(u32, u16)> {
     let request = requested(alloc, line)?;
@@ -582,49 +726,191 @@ fn is_told(alloc: Global, word: &str, wanted: &str) -> Option<(bool, bool)> {
 #[test]
 fn the_version_is_a_line(rt: HostRuntime) {
     for word in ["--version", "-V"] {
-        let found = is_told(rt.alloc(), word, "ptb 1.0.0\n");
+        let found = is_told(rt.alloc(), word, "ptb 1.1.0\n");
         expect_same(&rt, word, found, Some((true, false)));
     }
 }
 
-const HELP_PARTS: &[&str] = &[
-    "--steps <N>",
-    "1 to 1000000000",
-    "10000",
-    "--memory <N>",
-    "64 to 32767",
-    "4096",
-    "--choose <N>",
-    "1 to 32767",
-    "--answers <LIST>",
-    "none",
-    "--seed <N>",
-    "0 to 4294967295",
-    "--all",
-    "--under <LIST>",
-    "--after <LIST>",
-    "--first <N>",
-    "--form <N>",
-    "default: 2",
-    "--list",
-    "-V, --version",
-    "[PROGRAM]",
-    "Status:",
-    "Examples:",
+// Command lines that clap refuses for a number, the kind of its error, and the line that is shown.
+const WRONG_NUMBERS: &[(&str, ErrorKind, &str)] = &[
+    (
+        "ptb --steps 1e6",
+        ErrorKind::ValueValidation,
+        "error: invalid value '1e6' for '--steps <N>': expected a number from 1 to 1000000000",
+    ),
+    (
+        "ptb --seed 0 --steps 1,000,000",
+        ErrorKind::ValueValidation,
+        "error: invalid value '1,000,000' for '--steps <N>': expected a number from 1 to 1000000000",
+    ),
+    (
+        "ptb --memory=63 game.bas",
+        ErrorKind::ValueValidation,
+        "error: invalid value '63' for '--memory <N>': expected a number from 64 to 32767",
+    ),
+    (
+        "ptb game.bas --choose 32768",
+        ErrorKind::ValueValidation,
+        "error: invalid value '32768' for '--choose <N>': expected a number from 1 to 32767",
+    ),
+    (
+        "ptb --seed examples/guess.bas",
+        ErrorKind::ValueValidation,
+        "error: invalid value 'examples/guess.bas' for '--seed <N>': expected a number from 0 to 4294967295",
+    ),
+    (
+        "ptb --seed -1",
+        ErrorKind::UnknownArgument,
+        "error: invalid value '-1' for '--seed <N>': expected a number from 0 to 4294967295",
+    ),
+    (
+        "ptb --seed=-1",
+        ErrorKind::ValueValidation,
+        "error: invalid value '-1' for '--seed <N>': expected a number from 0 to 4294967295",
+    ),
+    (
+        "ptb --all --first 0 --form 3",
+        ErrorKind::ValueValidation,
+        "error: invalid value '0' for '--first <N>': expected a number from 1 to 1000000000",
+    ),
+    (
+        "ptb --all --form=a=b",
+        ErrorKind::ValueValidation,
+        "error: invalid value 'a=b' for '--form <N>': expected a number from 1 to 2",
+    ),
 ];
 
-// The first part of the help that a text lacks.
-fn missing_part(text: &str) -> Option<&'static str> {
-    HELP_PARTS.iter().copied().find(|part| !text.contains(part))
-}
-
-// The first part that the help lacks, and whether it belongs on standard error.
-fn help(alloc: Global) -> Option<(Option<&'static str>, bool)> {
-    let (text, on_standard_error) = told(alloc, "--help")?;
-    Some((missing_part(text.as_str()), on_standard_error))
+// The text on the first wrong number of a command line, if there is one.
+fn wrong_text(alloc: Global, line: &str) -> Option<String> {
+    let words = words_of(alloc, line).ok()?;
+    wrong_number(&words)?.to_string(alloc).ok()
 }
 
 #[test]
-fn help_names_each_option(rt: HostRuntime) {
-    expect_same(&rt, "help", help(rt.alloc()), Some((None, false)));
+fn wrong_numbers(rt: HostRuntime) {
+    for &(line, kind, first) in WRONG_NUMBERS {
+        let refused = line_refusal(rt.alloc(), line);
+        expect_same(&rt, line, refused, Some(Fault::ByClap(kind)));
+        match wrong_text(rt.alloc(), line) {
+            Some(text) => expect_lines(
+                &rt,
+                text.as_str(),
+                &[first, "", "For more information, try '--help'."],
+            ),
+            None => expect_same(&rt, line, false, true),
+        }
+    }
+}
+
+#[test]
+fn lines_without_wrong_numbers(rt: HostRuntime) {
+    for line in [
+        "ptb",
+        "ptb --steps 5 --seed=4294967295 game.bas",
+        "ptb --stops x",
+        "ptb --answers x",
+        "ptb --steps",
+        "ptb -- --seed x",
+        "ptb --list=x",
+    ] {
+        let found = wrong_text(rt.alloc(), line).is_some();
+        expect_same(&rt, line, found, false);
+    }
+}
+
+// The text of --help, line by line.
+const HELP: &[&str] = &[
+    "Runs a program in Palo Alto Tiny BASIC, version 1.",
+    "",
+    "Usage: ptb [OPTIONS] [PROGRAM]",
+    "",
+    "Arguments:",
+    "  [PROGRAM]  The program's file; without it, standard input is the program and",
+    "             INPUT finds no line",
+    "",
+    "Options:",
+    "  -h, --help     Print help",
+    "  -V, --version  Print version",
+    "",
+    "Run:",
+    "      --steps <N>       Begin at most N commands",
+    "                        (1 to 1000000000; default 10000)",
+    "      --memory <N>      Bytes of memory for the program",
+    "                        (64 to 32767; default 4096)",
+    "      --choose <N>      Where INPUT finds no line left, take a number",
+    "                        from 1 to N as RND(N) would (1 to 32767)",
+    "      --answers <LIST>  The random numbers, in order (default none)",
+    "      --seed <N>        Draw the random numbers from seed N",
+    "                        (0 to 4294967295)",
+    "",
+    "Explore:",
+    "      --all           Write a report of every run, in order",
+    "      --under <LIST>  With --all, only the runs whose random numbers",
+    "                      begin with LIST",
+    "      --after <LIST>  With --all, only the runs after this one",
+    "      --first <N>     With --all, at most N reports (1 to 1000000000)",
+    "      --form <N>      With --all, numbers alone (1), or each with",
+    "                      its bound (2, the default)",
+    "",
+    "List:",
+    "      --list  Print the program in the order of its line numbers, and run nothing",
+    "",
+    "LIST is none, or numbers from 1 to 32767 with commas between them, as 2,1,6.",
+    "With --under and --after an item may have its bound, as 2/2,1/3.",
+    "",
+    "INPUT reads lines from standard input. A run at a terminal without --answers",
+    "and --seed draws a seed and prints it; --seed replays the run.",
+    "",
+    "Exit status:",
+    "   0  the program ended, or the reports, the listing, this help or the version",
+    "      was written",
+    "   1  the program stopped with WHAT?",
+    "   2  the program stopped with HOW?",
+    "   3  the program stopped with SORRY",
+    "   4  the run reached the limit of --steps",
+    "   5  INPUT found no line left",
+    "   6  a random number was wanted and none was left",
+    "   7  a number of --answers was greater than its question allows",
+    "  64  usage error",
+    "  65  a line of the program was refused, or the program is too long",
+    "  66  the program or the input could not be read, or the input is too long",
+    "  67  --after is not a run, or no run begins with --under",
+    "  71  out of memory",
+    "  74  the output could not be written",
+    "",
+    "Examples:",
+    "  ptb game.bas",
+    "      play a game",
+    "  ptb game.bas < moves.txt",
+    "      run it on the lines of moves.txt",
+    "  ptb --answers 6,1,3 --steps 500 dice.bas",
+    "      run dice.bas with these random numbers and at most 500 commands",
+    "  ptb --seed 7 dice.bas",
+    "      run it with random numbers drawn from seed 7",
+    "  ptb --all --first 10 dice.bas < throws.txt",
+    "      write the reports of its first ten runs on the lines of throws.txt",
+];
+
+// Each line of a text is the line that it should be, and there are as many.
+fn expect_lines(rt: &impl Abort, text: &str, wanted: &[&str]) {
+    let mut count: usize = 0;
+    for (line, &due) in text.lines().zip(wanted) {
+        expect_same(rt, due, line, due);
+        count = count.saturating_add(1);
+    }
+    let lines = (text.lines().count(), count);
+    expect_same(rt, "number of lines", lines, (wanted.len(), wanted.len()));
+}
+
+#[test]
+fn help_line_by_line(rt: HostRuntime) {
+    for word in ["--help", "-h"] {
+        match told(rt.alloc(), word) {
+            Some((text, on_standard_error)) => {
+                expect_lines(&rt, text.as_str(), HELP);
+                expect_same(&rt, word, on_standard_error, false);
+            }
+            None => expect_same(&rt, word, false, true),
+        }
+    }
 }

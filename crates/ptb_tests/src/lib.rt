@@ -14,9 +14,13 @@ mod flushing;
 #[cfg(test)]
 mod listing;
 #[cfg(test)]
+mod mismatches;
+#[cfg(test)]
 mod notes;
 #[cfg(test)]
 mod plain_runs;
+#[cfg(test)]
+mod refused_lists;
 #[cfg(test)]
 mod reports;
 #[cfg(test)]

@@ -1,0 +1,124 @@
+// This file tests what `serve` says of a list that fits no run: by its note, and why.
+
+ghost use Rattle.std.specs.Prelude.{◌≤ℤ◌, pos, IfOk, IfSome};
+ghost use Rattle.ptb_text.specs.Statements.{IsMemorySize};
+
+use crate::shared::{FOUR_OF_3, ONE, THREE, TWO, TWO_OF_2, TWO_OF_3, expect_same, plain_rules};
+use ptb_explore::{Form, Marked, Mismatch};
+use ptb_options::{DEFAULT_MEMORY, MarkedAnswers, Mode, Request};
+use ptb_serve::{ListMismatch, Note, serve};
+use ptb_text::Device;
+use std::alloc::{AllocError, Global};
+use std::test::Fail;
+
+// It asks for an answer from 1 to 2, and after 2 for one from 1 to 3.
+const BRANCHES: &[u8] = b"10 A=RND(2);IF A=2 B=RND(3);PRINT B";
+
+// The lists of `--under` and `--after`, the note, and why the list that it refuses fits no run.
+type Row = (
+    Option<&'static [Marked]>,
+    Option<&'static [Marked]>,
+    Option<Note>,
+    Option<ListMismatch>,
+);
+
+const ROWS: &[Row] = &[
+    (None, Some(&[ONE]), None, None),
+    (Some(&[TWO]), Some(&[TWO, ONE]), None, None),
+    (
+        Some(&[THREE]),
+        None,
+        Some(Note::NoBeginning),
+        Some(ListMismatch::Under(Mismatch::OutOfRange {
+            item: 1,
+            answer: 3,
+            bound: 2,
+        })),
+    ),
+    (
+        Some(&[TWO_OF_3]),
+        None,
+        Some(Note::NoBeginning),
+        Some(ListMismatch::Under(Mismatch::OtherBound {
+            item: 1,
+            stated: 3,
+            bound: 2,
+        })),
+    ),
+    (
+        Some(&[ONE, ONE]),
+        Some(&[TWO]),
+        Some(Note::NoBeginning),
+        Some(ListMismatch::Under(Mismatch::NoQuestion { items: 1 })),
+    ),
+    (
+        None,
+        Some(&[TWO_OF_2]),
+        Some(Note::NoRun),
+        Some(ListMismatch::After(Mismatch::Missing { item: 2, bound: 3 })),
+    ),
+    (
+        None,
+        Some(&[TWO, FOUR_OF_3]),
+        Some(Note::NoRun),
+        Some(ListMismatch::After(Mismatch::OutOfRange {
+            item: 2,
+            answer: 4,
+            bound: 3,
+        })),
+    ),
+    (
+        Some(&[TWO]),
+        Some(&[ONE]),
+        Some(Note::NoRun),
+        Some(ListMismatch::After(Mismatch::NotUnder)),
+    ),
+];
+
+// A list as a request has it.
+fn kept(alloc: Global, list: Option<&[Marked]>) -> Result<Option<MarkedAnswers>, AllocError> {
+    match list {
+        Some(list) => Ok(Some(Vec::from_slice(alloc, list)?.into())),
+        None => Ok(None),
+    }
+}
+
+// A listing of all runs with these two lists.
+fn request_of(
+    alloc: Global,
+    under: Option<&[Marked]>,
+    after: Option<&[Marked]>,
+) -> Result<Request, AllocError>
+    ensures memory { IfOk result (λ r. IsMemorySize r.memory) }
+    ensures bound { IfOk result (λ r. IfSome r.rules.choose (λ n. pos 1 ≤ℤ n)) }
+{
+    let (under, after) = (kept(alloc, under)?, kept(alloc, after)?);
+    Ok(Request {
+        rules: plain_rules(10000),
+        memory: DEFAULT_MEMORY,
+        mode: Mode::All {
+            under,
+            after,
+            first: Some(0),
+            form: Form::Two,
+        },
+    })
+}
+
+#[test]
+fn refused_lists(rt: HostRuntime) -> Result<(), Fail> {
+    for &(under, after, note, mismatch) in ROWS {
+        let request = request_of(rt.alloc(), under, after)?;
+        let (mut program, mut input) = (Device::new(BRANCHES), Device::new(&b""[..]));
+        let mut shown = Vec::new(rt.alloc());
+        let mut out = Device::new(&mut shown);
+        let outcome = serve(rt.alloc(), &request, &mut program, &mut input, &mut out);
+        expect_same(
+            &rt,
+            "list",
+            (outcome.note, outcome.mismatch),
+            (note, mismatch),
+        );
+    }
+    Ok(())
+}
