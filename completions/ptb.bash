@@ -1,4 +1,4 @@
-# This file completes the words of ptb in bash, as soon as bash has read it.
+# This file completes the arguments of ptb in bash, as soon as bash has read it.
 
 _ptb() {
     local current=${COMP_WORDS[COMP_CWORD]} previous=${COMP_WORDS[COMP_CWORD - 1]}

@@ -1,4 +1,4 @@
-# This file completes the words of ptb in fish, from a folder of $fish_complete_path.
+# This file completes the arguments of ptb in fish, from a folder of $fish_complete_path.
 
 complete -c ptb -l steps -x -d 'Begin at most N commands'
 complete -c ptb -l memory -x -d 'Give the program N bytes of memory'
