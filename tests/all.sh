@@ -25,13 +25,16 @@ tried() {
 
 tried binary.sh
 tried listings.sh
+tried building.sh
 tried installing.sh
+tried releasing.sh
 tried resuming.sh
 tried shares.sh
 tried outcomes.py
 tried chances.py
 tried terminal.py
 tried documents.py
+tried promises.py
 tried refusals.sh
 tried extremes.sh
 tried stress.sh 1 30

@@ -38,13 +38,13 @@ plain() {
     count "$name" "$(is_as_due "$due" "$output" '')"
 }
 
-# refused NAME PROGRAM STATUS LINE WORDS..: the same where nothing is written but a line for errors
+# refused NAME PROGRAM STATUS LINES WORDS..: the same where nothing is written but these lines for errors
 refused() {
-    local name=$1 program=$2 due=$3 line=$4
+    local name=$1 program=$2 due=$3 lines=$4
     shift 4
     printf '%b' "$program" >"$folder/program"
     run "$@" <"$folder/program"
-    count "$name" "$(is_as_due "$due" '' "$line\\n")"
+    count "$name" "$(is_as_due "$due" '' "$lines\\n")"
 }
 
 # complains NAME WORDS..: words that are refused with a text of their own, before anything is read
@@ -85,8 +85,8 @@ plain 'all answers in place of a line' '10 INPUT A;PRINT A\n' 0 \
     'RUN 1/2 END 2 11\nA:1\n     1\n\nRUN 2/2 END 2 11\nA:2\n     2\n\n' --choose 2 --all
 plain 'the runs behind one with an answer in place of a line' '10 INPUT A;PRINT A\n' 0 \
     'RUN 2/2 END 2 11\nA:2\n     2\n\n' --choose 2 --all --after 1/2 --first 1
-refused 'an answer in place of a line that is above its bound' '10 INPUT A\n' 67 'ptb: not a run' \
-    --choose 2 --all --after 3
+refused 'an answer in place of a line that is above its bound' '10 INPUT A\n' 67 \
+    'ptb: not a run\n  --after: item 1 is 3, but its question allows 1 to 2' --choose 2 --all --after 3
 refused 'answers in place of lines beside a listing of the text' '10 P.\n' 64 'ptb: --list stands alone' \
     --choose 2 --list
 complains 'no answers in place of lines' --choose 0
@@ -118,18 +118,34 @@ plain 'the first runs' '10 P.RND(6)\n' 0 'RUN 1/6 END 1 7\n     1\n\n' --all --f
 plain 'answers alone' '10 P.RND(6)\n' 0 'RUN 1 END 1 7\n     1\n\n' --all --first 1 --form 1
 plain 'the runs behind one' '10 P.RND(2)\n' 0 'RUN 2/2 END 1 7\n     2\n\n' --all --after 1
 plain 'the runs behind one with its bound' '10 P.RND(2)\n' 0 'RUN 2/2 END 1 7\n     2\n\n' --all --after 1/2
-refused 'answers that are no run' '10 P.RND(2)\n' 67 'ptb: not a run' --all --after 3
-refused 'a bound that is another' '10 P.RND(2)\n' 67 'ptb: not a run' --all --after 1/3
+refused 'answers that are no run' '10 P.RND(2)\n' 67 \
+    'ptb: not a run\n  --after: item 1 is 3, but its question allows 1 to 2' --all --after 3
+refused 'a bound that is another' '10 P.RND(2)\n' 67 \
+    'ptb: not a run\n  --after: item 1 states the bound 3, but its question has 2' --all --after 1/3
+refused 'one answer too many' '10 P.RND(2)\n' 67 \
+    'ptb: not a run\n  --after: the run is over after 1 item' --all --after 1,1
+refused 'two answers too many' '10 P.RND(2),RND(2)\n' 67 \
+    'ptb: not a run\n  --after: the run is over after 2 items' --all --after 1,2,1,1
+refused 'an answer for a run without questions' '10 P.1\n' 67 \
+    'ptb: not a run\n  --after: the run is over after 0 items' --all --after 1
+refused 'an answer that is missing' '10 P.RND(2),RND(6)\n' 67 \
+    'ptb: not a run\n  --after: item 2 is missing; its question allows 1 to 6' --all --after 2
 plain 'a share' '10 P.RND(2)\n' 0 'RUN 2/2 END 1 7\n     2\n\n' --all --under 2
 plain 'a share with its bound' '10 P.RND(2)\n' 0 'RUN 1/2 END 1 7\n     1\n\n' --all --under 1/2 --first 1
 plain 'a share that is the whole' '10 P.RND(1)\n' 0 'RUN 1/1 END 1 7\n     1\n\n' --all --under none
 plain 'the runs of a share behind one' '10 P.RND(2),RND(2)\n' 0 'RUN 2/2,2/2 END 1 13\n     2     2\n\n' --all --under 2 --after 2,1
-refused 'a share that no run begins' '10 P.RND(2)\n' 67 'ptb: no run begins so' --all --under 3
-refused 'a share with a bound that is another' '10 P.RND(2)\n' 67 'ptb: no run begins so' --all --under 1/3 --after 9
-refused 'a run of another share' '10 P.RND(2)\n' 67 'ptb: not a run' --all --under 2 --after 1
+refused 'a share that no run begins' '10 P.RND(2)\n' 67 \
+    'ptb: no run begins so\n  --under: item 1 is 3, but its question allows 1 to 2' --all --under 3
+refused 'a share with a bound that is another' '10 P.RND(2)\n' 67 \
+    'ptb: no run begins so\n  --under: item 1 states the bound 3, but its question has 2' --all --under 1/3 --after 9
+refused 'a share with an answer too many' '10 P.RND(2)\n' 67 \
+    'ptb: no run begins so\n  --under: the run is over after 1 item' --all --under 1,1
+refused 'a run of another share' '10 P.RND(2)\n' 67 \
+    'ptb: not a run\n  --after: the run does not begin with the items of --under' --all --under 2 --after 1
 refused 'a share without all runs' '10 P.RND(2)\n' 64 'ptb: --under needs --all' --under 2
 refused 'a share beside a listing of the text' '10 P.RND(2)\n' 64 'ptb: --list stands alone' --under 2 --list
-refused 'a share that is spelled wrong' '10 P.RND(2)\n' 64 'ptb: bad list' --all --under 01
+refused 'a share that is spelled wrong' '10 P.RND(2)\n' 64 \
+    'ptb: bad list\n  --under: item 1 ("01") is not a number from 1 to 32767' --all --under 01
 
 # ---- files
 
@@ -146,13 +162,49 @@ run --list "$folder/game.bas" </dev/null
 count 'the listing of a file' "$(is_as_due 0 '10 INPUT A\n20 PRINT A+1\n' '')"
 
 run "$folder/missing.bas" </dev/null
-count 'a missing file' "$(is_as_due 66 '' 'ptb: cannot read the program\n')"
+count 'a missing file' "$(is_as_due 66 '' \
+    "ptb: cannot read the program\\n  $folder/missing.bas: No such file or directory (os error 2)\\n")"
+
+run '' </dev/null
+count 'a file without a name' "$(is_as_due 66 '' \
+    'ptb: cannot read the program\n  : No such file or directory (os error 2)\n')"
+
+run --all "$folder/game.bas/more" </dev/null
+count 'a file below a file' "$(is_as_due 66 '' \
+    "ptb: cannot read the program\\n  $folder/game.bas/more: Not a directory (os error 20)\\n")"
 
 run "$folder" </dev/null
-count 'a folder as the program' "$(is_as_due 66 '' 'ptb: cannot read the program\n')"
+count 'a folder as the program' "$(is_as_due 66 '' \
+    "ptb: cannot read the program\\n  $folder: Is a directory (os error 21)\\n")"
+
+run <"$folder"
+count 'a folder as the program on standard input' "$(is_as_due 66 '' \
+    'ptb: cannot read the program\n  standard input: Is a directory (os error 21)\n')"
 
 run "$folder/game.bas" <"$folder"
-count 'a folder as the input' "$(is_as_due 66 'A:' 'ptb: cannot read the input\n')"
+count 'a folder as the input' "$(is_as_due 66 'A:' \
+    'ptb: cannot read the input\n  standard input: Is a directory (os error 21)\n')"
+
+head -c 16777217 /dev/zero | tr '\0' '\n' >"$folder/long_input"
+run --all "$folder/game.bas" <"$folder/long_input"
+count 'an input that is too long' "$(is_as_due 66 '' \
+    'ptb: cannot read the input\n  standard input has more than 16777216 bytes\n')"
+rm "$folder/long_input"
+
+# a name that is no option, and one with blanks around it
+cp "$folder/game.bas" "$folder/-"
+cp "$folder/game.bas" "$folder/ game "
+program=$(readlink -f "$ptb")
+for name in - ' game '; do
+    (cd "$folder" && exec "$program" "$name" <moves.txt >output 2>errors)
+    status=$?
+    count "a file with the name '$name'" "$(is_as_due 0 'A:41\n    42\n' '')"
+done
+
+printf '10 PRINT RND(2),RND(2),RND(2)\n' >"$folder/three.bas"
+run --all --steps 100 --memory 4096 --choose 2 --under 2 --after 2/2,1,1 --first 2 --form 1 "$folder/three.bas" </dev/null
+count 'sixteen arguments' "$(is_as_due 0 \
+    'RUN 2,1,2 END 1 19\n     2     1     2\n\nRUN 2,2,1 END 1 19\n     2     2     1\n\n' '')"
 
 # ---- an input is read when a line is asked for
 
@@ -161,7 +213,8 @@ run "$folder/greeting.bas" <"$folder"
 count 'an input that cannot be read, and is not asked for' "$(is_as_due 0 'HI\n' '')"
 
 run --all "$folder/greeting.bas" <"$folder"
-count 'a listing reads its input whole' "$(is_as_due 66 '' 'ptb: cannot read the input\n')"
+count 'a listing reads its input whole' "$(is_as_due 66 '' \
+    'ptb: cannot read the input\n  standard input: Is a directory (os error 21)\n')"
 
 # what the program shows while its input is a pipe that stays open, and what it shows at the end
 printf '10 INPUT A\n20 PRINT A*2\n30 INPUT B\n' >"$folder/questions.bas"
@@ -211,12 +264,27 @@ complains 'too little memory' --memory 63
 complains 'too much memory' --memory 32768
 complains 'a number with a separator' --steps 1,000
 complains 'two programs' one.bas two.bas
+refused 'steps that are no number' '' 64 \
+    "error: invalid value '1e6' for '--steps <N>': expected a number from 1 to 1000000000\\n\\nFor more information, try '--help'." \
+    --steps 1e6
+refused 'a seed below 0' '' 64 \
+    "error: invalid value '-1' for '--seed <N>': expected a number from 0 to 4294967295\\n\\nFor more information, try '--help'." \
+    --seed -1
 refused '--after without --all' '' 64 'ptb: --after needs --all' --after 1
 refused '--first without --all' '' 64 'ptb: --first needs --all' --first 1
 refused '--form without --all' '' 64 'ptb: --form needs --all' --form 1
 refused '--answers with --all' '' 64 'ptb: --answers excludes --all' --answers 1 --all
 refused '--list with --answers' '' 64 'ptb: --list stands alone' --list --answers none
-refused 'a bad list' '' 64 'ptb: bad list' --answers 01
+refused 'a bad list' '' 64 'ptb: bad list\n  --answers: item 1 ("01") is not a number from 1 to 32767' --answers 01
+refused 'a list with a blank' '' 64 'ptb: bad list\n  --after: item 2 (" 2") is not a number from 1 to 32767' \
+    --all --after '1, 2'
+refused 'a list with a bound' '' 64 \
+    'ptb: bad list\n  --answers: item 1 ("1/3") has a bound; --answers takes numbers alone' --answers 1/3,1/2
+refused 'a list without an item' '' 64 'ptb: bad list\n  --answers: item 3 ("") is not a number from 1 to 32767' \
+    --answers 1,2,
+refused 'two bad lists' '' 64 'ptb: bad list\n  --under: item 1 ("x") is not a number from 1 to 32767' \
+    --all --after y --under x
+complains 'an argument that is no text' $'\xff'
 
 # ---- writers that fail
 
@@ -224,6 +292,13 @@ printf '10 PRINT "HI"\n20 GOTO 10\n' >"$folder/loop.bas"
 for words in '' --list; do
     # shellcheck disable=SC2086
     "$ptb" $words "$folder/loop.bas" </dev/null >/dev/full 2>"$folder/errors"
+    status=$?
+    : >"$folder/output"
+    count "a full device $words" "$(is_as_due 74 '' 'ptb: cannot write\n')"
+done
+
+for words in --help --version; do
+    "$ptb" $words </dev/null >/dev/full 2>"$folder/errors"
     status=$?
     : >"$folder/output"
     count "a full device $words" "$(is_as_due 74 '' 'ptb: cannot write\n')"
@@ -310,126 +385,6 @@ if [ "$(grep -c '^RUN ' "$folder/whole")" = 216 ] && cmp -s "$folder/whole" "$fo
 else
     count 'shares of a tree' no
 fi
-
-# ---- the start script and the build, with a kit that proves nothing and makes a program that says its words
-
-# started NAME STATUS OUTPUT ERRORS WORDS..: a start in a copy of the repository's shape; a line for errors fits the pattern
-# ERRORS, or there is none where the pattern is empty
-started() {
-    local name=$1 due=$2 output=$3 errors=$4
-    shift 4
-    "$folder/a copy/ptb" "$@" </dev/null >"$folder/output" 2>"$folder/errors"
-    status=$?
-    if [ "$status" = "$due" ] && [ "$(cat "$folder/output")" = "$output" ] &&
-        { if [ -n "$errors" ]; then grep -q "$errors" "$folder/errors"; else [ ! -s "$folder/errors" ]; fi; }; then
-        count "$name" yes
-    else
-        count "$name" no
-    fi
-}
-
-# A kit whose prover notes when it begins and ends a crate, and does what the file behaviour says.
-mkdir -p "$folder/bin" "$folder/kit/bin" "$folder/kit/rlibs"
-printf '#!/bin/sh\necho "%s"\n' "$folder/kit/START-HERE.md" >"$folder/bin/rt"
-cat >"$folder/kit/bin/rattle" <<'END'
-#!/bin/bash
-kit=$(dirname "$(dirname "$(readlink -f "$0")")")
-words=" $* "
-name=${words#* --crate-name }
-name=${name%% *}
-for made; do :; done
-echo "begins $name" >>"$kit/calls"
-mkdir -p "$TMPDIR/kept" || exit 1
-for function in first second third; do : >"$TMPDIR/kept/$name-proofs.$function.Met.oantt"; done
-: >"$TMPDIR/kept/$name-proofs.Kind.TheImpl.Met.oantt"
-echo "says of $name what is not proved"
-sleep 0.5
-. "$kit/behaviour"
-case $made in *.rlib) mkdir -p "$made" ;; *) : >"$made" ;; esac
-echo "ends $name" >>"$kit/calls"
-END
-cat >"$folder/kit/bin/rattle-link" <<'END'
-#!/bin/sh
-printf '#!/bin/sh\necho "said $*"\n' >out/ptb
-chmod +x out/ptb
-END
-chmod +x "$folder/bin/rt" "$folder/kit/bin/rattle" "$folder/kit/bin/rattle-link"
-
-# A copy of the repository's shape, with spaces in its name, whose sources are older than what is built.
-for crate in $(sed -n 's/^\([a-z_]*\):.*/\1/p' "$root/crates.txt"); do
-    mkdir -p "$folder/a copy/crates/$crate/src"
-    touch -d '1 minute ago' "$folder/a copy/crates/$crate/src/lib.rt"
-done
-cp "$root/ptb" "$root/build" "$root/crates.txt" "$folder/a copy/"
-touch -d '1 minute ago' "$folder/a copy/crates.txt"
-crates=$(sed '/^ptb:/q' "$root/crates.txt" | grep -c '^[a-z]')
-
-# comes_before FIRST SECOND: whether the kit was called for the first before the second
-comes_before() {
-    awk -v first="$1" -v second="$2" '$0 == first { found = 1 } $0 == second { exit !found }' "$folder/kit/calls"
-}
-
-# Whether each crate began behind those that it stands on.
-is_in_order() {
-    local name libraries library
-    while IFS=: read -r name libraries; do
-        for library in $libraries; do
-            if [ -d "$folder/a copy/crates/$library" ] && ! comes_before "ends $library" "begins $name"; then return 1; fi
-        done
-        if [ "$name" = ptb ]; then return 0; fi
-    done < <(grep '^[a-z]' "$root/crates.txt")
-}
-
-PATH=$folder/bin:$PATH
-started 'help is no reason to build' 70 '' '^ptb: not built yet: ' --help
-echo 'exit 1' >"$folder/kit/behaviour"
-started 'a build tells its crate' 70 '' "^ptb: crate 1 of $crates (ptb_words)\$" --all
-log=$(sed -n 's/^ptb: not built; what was said of it: //p' "$folder/errors")
-count_if 'and the log of one that fails' [ -n "$log" ]
-count_if 'the log is there' grep -q '^says of ptb_\(words\|answers\) what is not proved$' "$log"
-rm -rf "$(dirname "$log")"
-mkdir "$folder/files"
-TMPDIR=$folder/files started 'a folder for temporary files is heeded' 70 '' "^ptb: not built; what was said of it: $folder/files/" --all
-count_if 'nothing is begun above a crate that is not proved' [ "$(sort -u "$folder/kit/calls" | xargs)" = 'begins ptb_answers begins ptb_words' ]
-
-echo 'case $words in *" --jobs 1 "*) ;; *) if [ "$name" = ptb_expr ]; then kill -9 $$; fi ;; esac' >"$folder/kit/behaviour"
-rm "$folder/kit/calls"
-started 'a program that is built is run' 0 'said --all a' "^ptb: crate $crates of $crates (ptb)\$" --all a
-count_if 'a prover that was killed is started once more' [ "$(grep -c 'begins ptb_expr' "$folder/kit/calls")" = 2 ]
-count_if 'each crate is begun behind those that it stands on' is_in_order
-count_if 'crates are proved side by side' comes_before 'begins ptb_expr' 'ends ptb_text'
-count_if 'also where one is much lower' comes_before 'begins ptb_options' 'ends ptb_command'
-
-rm "$folder/kit/calls"
-started 'a program is not built again' 0 'said --help' '' --help
-count_if 'and nothing is proved' [ ! -e "$folder/kit/calls" ]
-touch "$folder/a copy/crates/ptb_explore/src/lib.rt"
-started 'it is built again where a source is newer' 0 'said --all' '^ptb: proving and building' --all
-count_if 'but for what stands below' [ "$(sed -n 's/begins //p' "$folder/kit/calls" | xargs)" = 'ptb_explore ptb_serve ptb' ]
-
-# Whether a build tells at a terminal, in one line, what it is at and how far.
-tells_in_one_line() {
-    touch "$folder/a copy/crates/ptb_words/src/lib.rt"
-    echo 'if [ "$name" = ptb_words ]; then sleep 2; fi' >"$folder/kit/behaviour"
-    script -qec "'$folder/a copy/build'" /dev/null </dev/null >"$folder/screen"
-    grep -q 'ptb_words 3 of [0-9]* functions, 1 of [0-9]* crates built, 0 minutes so far' "$folder/screen" &&
-        [ "$(wc -l <"$folder/screen")" = 1 ]
-}
-count_if 'at a terminal a build tells its functions in one line' tells_in_one_line
-
-# Whether a build that is interrupted takes its provers with it.
-is_interrupted_whole() {
-    local build
-    touch "$folder/a copy/crates/ptb_words/src/lib.rt"
-    echo 'sleep 31.4159' >"$folder/kit/behaviour"
-    "$folder/a copy/build" </dev/null >/dev/null 2>&1 &
-    build=$!
-    until pgrep -f 'sleep 31.4159' >/dev/null; do sleep 0.1; done
-    kill -TERM "$build"
-    wait "$build"
-    [ $? = 130 ] && ! pgrep -f 'sleep 31.4159' >/dev/null
-}
-count_if 'a build that is interrupted takes its provers with it' is_interrupted_whole
 
 echo "$passed passed, $failed failed"
 [ "$failed" = 0 ]

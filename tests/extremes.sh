@@ -1,7 +1,8 @@
 #!/bin/bash
-# Runs the built program at the ends of its ranges, each time under a stack of 256 KiB beside its words: the deepest
-# parentheses and loops, the longest numbers, texts, inputs and lists of answers, and the most steps. Two of the runs begin
-# 1,000,000,000 commands, so it takes as long as these do.
+# Runs the built program at the ends of its ranges, each time with a stack of 256 KiB and its arguments: the deepest
+# parentheses and loops, the longest numbers, texts, inputs and lists of answers, the most steps, many questions to a
+# seed, the least memory, many arguments, and unusual names of programs. Two of the runs begin 1,000,000,000 commands,
+# so it takes as long as these do.
 # PTB names another program than the one that ./ptb builds.
 set -u
 root=$(dirname "$(dirname "$(readlink -f "$0")")")

@@ -1,6 +1,6 @@
 #!/bin/bash
-# Tries ./install in a temporary folder, and the completions and the man page against --help. Where zsh or fish isn't
-# installed, its completions are compared with --help alone.
+# Tests ./install in temporary folders, and compares the completions and man pages with --help. If zsh or fish is not
+# installed, its completions are only compared with --help.
 # PTB names another program than the one that ./ptb builds.
 set -u
 root=$(dirname "$(dirname "$(readlink -f "$0")")")
@@ -21,7 +21,7 @@ count_same() {
 
 "$ptb" --help </dev/null >"$folder/help" || exit 1
 
-# ---- each option of --help stands in each file, and no other does
+# ---- each file has the options of --help and no others
 
 # Words from standard input in one line, each once, in order.
 in_one_line() {
@@ -33,7 +33,7 @@ short=$(sed -n 's/^ \{2,\}-\([a-zA-Z]\)\(, .*\)\{0,1\}$/\1/p' "$folder/help" | i
 count_if '--help has the options that were there first' \
     [ "$(printf '%s\n' steps memory answers all after first list help | grep -cxF -f <(tr ' ' '\n' <<<"$long"))" = 8 ]
 
-# The options of two dashes in a text, those in a man page, and those of one dash and a letter that stand alone in a text.
+# The options of two dashes in a text, those in a man page, and those of one dash and a letter in a text.
 long_in() {
     grep -oE -- '--[a-z][a-z-]*' | sed 's/^--//' | in_one_line
 }
@@ -49,7 +49,7 @@ bash_words=$(sed -n "/compgen -W/,/--/p" "$root/completions/ptb.bash" | grep "^ 
 count_same 'options in the bash completions' "$(long_in <<<"$bash_words")" "$long"
 count_same 'short options in the bash completions' "$(short_in <<<"$bash_words")" "$short"
 count_same 'options that the bash completions name at all' "$(long_in <"$root/completions/ptb.bash")" "$long"
-# what zsh shows of an option stands in brackets, and what it excludes in parentheses in front
+# what zsh shows of an option is in brackets, and what it excludes in parentheses in front
 zsh_words=$(grep "^    '[^:]" "$root/completions/_ptb" | sed "s/^ *'\(([^)]*)\)\{0,1\}'\{0,1\}//; s/\[.*//; s/[{},']/ /g")
 count_same 'options in the zsh completions' "$(long_in <<<"$zsh_words")" "$long"
 count_same 'short options in the zsh completions' "$(short_in <<<"$zsh_words")" "$short"
@@ -70,15 +70,34 @@ count_same 'options that the man page of outcomes names' "$(long_in_page ptb-out
 count_same 'options that the man page of resume names' "$(long_in_page ptb-resume)" "$("$root/tools/resume" --help | long_in)"
 count_same 'options that the man page of shares names' "$(long_in_page ptb-shares)" "$("$root/tools/shares" --help | long_in)"
 
+# the completions of the tools have the options of their help: the usage of shares has no --help
+for tool in outcomes resume shares; do
+    case $tool in
+    shares) due=$("$root/tools/shares" 2>&1 | long_in; echo help version) ;;
+    resume) due='help version' ;;
+    outcomes) due=$("$root/tools/outcomes" --help | sed -n '/^options:/,/^$/p' | long_in) ;;
+    esac
+    due=$(tr ' ' '\n' <<<"$due" | sed '/^$/d' | in_one_line)
+    count_same "options in the bash completions of ptb-$tool" "$(sed '/^#/d' "$root/completions/ptb-$tool.bash" | long_in)" "$due"
+    count_same "options in the zsh completions of ptb-$tool" "$(sed '/^#/d' "$root/completions/_ptb-$tool" | long_in)" "$due"
+    count_same "options in the fish completions of ptb-$tool" \
+        "$(grep -oE -- ' -l [^ ]+' "$root/completions/ptb-$tool.fish" | sed 's/^ -l //' | in_one_line)" "$due"
+done
+
 # ---- bash is asked
 
 mkdir "$folder/here" "$folder/here/more games"
 touch "$folder/here/dice.bas" "$folder/here/draw.bas" "$folder/here/dice.txt"
 
-# offered FILE WORD..: what bash offers for the last of these words behind ptb, in a folder with two programs
+# offered_for COMMAND ARGUMENT..: what bash offers for the last of these arguments of a command, in a folder with two programs
+offered_for() {
+    local command=$1
+    shift
+    bash -c 'cd "$0" && . "$1" && COMP_WORDS=("${@:2}") && COMP_CWORD=$(($# - 2)) && "_${2//-/_}" && printf "%s\n" "${COMPREPLY[@]}"' \
+        "$folder/here" "$root/completions/$command.bash" "$command" "$@" | sed '/^$/d' | in_one_line
+}
 offered() {
-    bash -c 'cd "$0" && . "$1" && shift && COMP_WORDS=(ptb "$@") && COMP_CWORD=$# && _ptb && printf "%s\n" "${COMPREPLY[@]}"' \
-        "$folder/here" "$root/completions/ptb.bash" "$@" | sed '/^$/d' | in_one_line
+    offered_for ptb "$@"
 }
 
 count_if 'bash reads its completions, and knows whom to ask' \
@@ -95,18 +114,43 @@ count_same 'bash offers the program that begins so' "$(offered --all di)" 'dice.
 count_same 'bash offers the empty list' "$(offered --answers '')$(offered --after n)" 'none none '
 count_same 'bash offers no file for a number' "$(offered --steps '')$(offered --first di)" ''
 
+for tool in outcomes resume shares; do
+    count_if "bash reads the completions of ptb-$tool, and knows whom to ask" \
+        bash -c '. "$1" && complete -p "ptb-$2" | grep -q -- "-F _ptb_$2 ptb-$2\$"' bash "$root/completions/ptb-$tool.bash" "$tool"
+    count_same "bash offers --version for ptb-$tool" "$(offered_for "ptb-$tool" --v)" '--version '
+done
+count_same 'bash offers kinds of outcomes' "$(offered_for ptb-outcomes --by '')" 'ending last-line outcome '
+count_same 'bash offers a file for a page' "$(offered_for ptb-outcomes --html di)" 'dice.bas dice.txt '
+count_same 'bash offers a file to resume' "$(offered_for ptb-resume di)" 'dice.bas dice.txt '
+count_same 'bash offers what comes after the file' "$(offered_for ptb-resume dice.txt '')" '-- '
+count_same 'bash offers a program to share' "$(offered_for ptb-shares di)" 'dice.bas '
+count_same 'bash offers nothing for a depth' "$(offered_for ptb-shares dice.bas '')" ''
+count_same 'bash offers the options of runs' "$(offered_for ptb-shares dice.bas 2 --)" '--choose --memory --steps '
+count_same 'bash offers the options of ptb-outcomes' "$(offered_for ptb-outcomes --)" '--by --csv --help --html --top --version '
+count_same 'bash offers the options of ptb-resume' "$(offered_for ptb-resume --)" '--help --version '
+
 # ---- zsh and fish are asked, where they are
 
 if command -v zsh >/dev/null; then
-    count_if 'zsh reads its completions' zsh -n "$root/completions/_ptb"
-    count_same 'zsh knows whom to ask' "$(HOME=$folder zsh -fc "fpath=('$root/completions' \$fpath)
-        autoload -Uz compinit && compinit -u -D && print -r -- \$_comps[ptb]")" _ptb
+    for name in ptb ptb-outcomes ptb-resume ptb-shares; do
+        count_if "zsh reads its completions of $name" zsh -n "$root/completions/_$name"
+        count_same "zsh knows whom to ask for $name" "$(HOME=$folder zsh -fc "fpath=('$root/completions' \$fpath)
+            autoload -Uz compinit && compinit -u -D && print -r -- \$_comps[$name]")" "_$name"
+    done
 else
     echo 'zsh is not installed: its completions were not read'
 fi
 if command -v fish >/dev/null; then
-    count_same 'fish offers what begins so' "$(HOME=$folder fish --no-config -c \
-        "source '$root/completions/ptb.fish'; complete -C 'ptb --a'" | cut -f 1 | in_one_line)" '--after --all --answers '
+    # fish_offers LINE: what fish offers at the end of this line
+    fish_offers() {
+        HOME=$folder fish --no-config -c "for file in '$root'/completions/*.fish; source \$file; end; complete -C '$1'" |
+            cut -f 1 | in_one_line
+    }
+    count_same 'fish offers what begins so' "$(fish_offers 'ptb --a')" '--after --all --answers '
+    count_same 'fish offers kinds of outcomes' "$(fish_offers 'ptb-outcomes --by ')" 'ending last-line outcome '
+    count_same 'fish offers what comes after the file' "$(fish_offers 'ptb-resume x --' | grep -o '^-- ')" '-- '
+    count_same 'fish offers options of the command that is resumed' "$(fish_offers 'ptb-resume x -- ptb --a')" '--after --all --answers '
+    count_same 'fish offers options of runs' "$(fish_offers 'ptb-shares x 2 --s')" '--steps '
 else
     echo 'fish is not installed: its completions were not read'
 fi
@@ -119,70 +163,258 @@ make_copy() {
     rm -rf "$folder/copy"
     mkdir -p "$folder/copy/crates/ptb/out"
     while read -r crate; do mkdir -p "$folder/copy/crates/$crate/src"; done < <(sed -n 's/^\([a-z_]*\):.*/\1/p' "$root/crates.txt")
-    cp -R "$root/ptb" "$root/build" "$root/crates.txt" "$root/install" "$root/LICENSE" "$root/completions" "$root/docs" "$root/tools" \
-        "$folder/copy/"
+    cp -R "$root/ptb" "$root/build" "$root/crates.txt" "$root/install" "$root/LICENSE" "$root/CHANGELOG.md" "$root/completions" \
+        "$root/docs" "$root/examples" "$root/tools" "$folder/copy/"
+    cp "$root/crates/ptb_options/src/help.rt" "$folder/copy/crates/ptb_options/src/"
     case $ptb in
     "$root/ptb") cp "$root/crates/ptb/out/ptb" "$folder/copy/crates/ptb/out/ptb" ;;
     *) cp "$ptb" "$folder/copy/crates/ptb/out/ptb" ;;
     esac
+    find "$folder/copy" -type f -exec touch -d '1 minute ago' {} +
     touch "$folder/copy/crates/ptb/out/ptb"
 }
 
-# installed WORDS..: runs ./install of the copy with these words
+# installed ARGUMENTS..: runs ./install of the copy with these arguments
 installed() {
     "$folder/copy/install" "$@" </dev/null >"$folder/output" 2>"$folder/errors"
     status=$?
 }
 
-# The files below a folder, in order.
+# The files below a folder, in order; and all files and folders below it.
 files_below() {
     find "$1" -type f | sort
 }
+all_below() {
+    find "$1" -mindepth 1 | sort
+}
+
+# Whether nothing is left of an installation in the folder for temporary files, which is this test's own.
+leaves_nothing() {
+    [ -z "$(ls -A "$folder/temporary")" ]
+}
+mkdir "$folder/temporary"
+export TMPDIR=$folder/temporary
+
+version=$("$root/tools/version")
+count_if 'the version is three numbers' grep -qxE '[0-9]+\.[0-9]+\.[0-9]+' <<<"$version"
+count_same 'the program has this version' "$("$ptb" --version </dev/null)" "ptb $version"
+count_same 'the version is written once' "$(grep -rlF "\"$version\"" "$root/crates"/*/src "$root/tools" "$root/install" "$root/build" |
+    sed "s|$root/||")" crates/ptb_options/src/help.rt
 
 make_copy
 place="$folder/a place/below"
 installed "$place"
 count_same 'install' "$status $(cat "$folder/errors")" '0 '
-count_same 'install says each file, and that PATH lacks the program' "$(sort "$folder/output")" \
+count_same 'install prints each file, and that PATH lacks the program' "$(sort "$folder/output")" \
     "$(echo "The shell finds ptb once $place/bin is in PATH."; files_below "$place" | sed 's/^/installed /')"
-count_same 'it puts these files there' "$(cd "$place" && files_below .)" "./bin/ptb
+cp "$folder/output" "$folder/said"
+count_same 'it puts these files there' "$(cd "$place" && files_below . | grep -v '^./share/doc/ptb/examples/')" "$(sed '/^$/d' <<END | sort
+./bin/ptb
 ./bin/ptb-outcomes
 ./bin/ptb-resume
 ./bin/ptb-shares
 ./share/bash-completion/completions/ptb
+./share/bash-completion/completions/ptb-outcomes
+./share/bash-completion/completions/ptb-resume
+./share/bash-completion/completions/ptb-shares
+./share/doc/ptb/CHANGELOG.md
+./share/doc/ptb/INSTALLED
+./share/doc/ptb/LANGUAGE.md
 ./share/doc/ptb/LICENSE
+./share/doc/ptb/LARGE-TREES.md
+./share/doc/ptb/OLD-LISTINGS.md
+./share/doc/ptb/TOOL.md
+./share/doc/ptb/performance.md
+./share/fish/vendor_completions.d/ptb-outcomes.fish
+./share/fish/vendor_completions.d/ptb-resume.fish
+./share/fish/vendor_completions.d/ptb-shares.fish
 ./share/fish/vendor_completions.d/ptb.fish
-./share/man/man1/ptb-outcomes.1
-./share/man/man1/ptb-resume.1
-./share/man/man1/ptb-shares.1
-./share/man/man1/ptb.1
-./share/zsh/site-functions/_ptb"
-count_if 'the program' cmp "$folder/copy/crates/ptb/out/ptb" "$place/bin/ptb"
-for tool in outcomes resume shares; do count_if "the tool $tool" cmp "$root/tools/$tool" "$place/bin/ptb-$tool"; done
-for page in ptb ptb-outcomes ptb-resume ptb-shares; do
-    count_if "the man page of $page" cmp "$root/docs/$page.1" "$place/share/man/man1/$page.1"
+./share/man/man1/ptb-outcomes.1.gz
+./share/man/man1/ptb-resume.1.gz
+./share/man/man1/ptb-shares.1.gz
+./share/man/man1/ptb.1.gz
+./share/zsh/site-functions/_ptb
+./share/zsh/site-functions/_ptb-outcomes
+./share/zsh/site-functions/_ptb-resume
+./share/zsh/site-functions/_ptb-shares
+END
+)"
+count_if 'the examples' diff -r "$root/examples" "$place/share/doc/ptb/examples"
+if command -v strip >/dev/null; then
+    strip -o "$folder/stripped" "$folder/copy/crates/ptb/out/ptb"
+    count_if 'the program, stripped' cmp "$folder/stripped" "$place/bin/ptb"
+fi
+for tool in outcomes resume shares; do
+    count_same "the tool $tool, with its version" "$(diff "$root/tools/$tool" "$place/bin/ptb-$tool" | sed '/^> /!d; s/ *#.*//')" \
+        "> $(case $tool in shares) echo "version=\"$version\"" ;; *) echo "VERSION = \"$version\"" ;; esac)"
+    for option in -V --version; do
+        count_same "ptb-$tool $option" "$(cd / && env -i "PATH=$PATH" "$place/bin/ptb-$tool" $option </dev/null)" "ptb-$tool $version"
+        count_same "tools/$tool $option" "$(cd / && "$root/tools/$tool" $option </dev/null)" "ptb-$tool $version"
+    done
 done
-count_if 'the completions for bash' cmp "$root/completions/ptb.bash" "$place/share/bash-completion/completions/ptb"
-count_if 'the completions for zsh' cmp "$root/completions/_ptb" "$place/share/zsh/site-functions/_ptb"
-count_if 'the completions for fish' cmp "$root/completions/ptb.fish" "$place/share/fish/vendor_completions.d/ptb.fish"
-count_if 'the licence' cmp "$root/LICENSE" "$place/share/doc/ptb/LICENSE"
-count_same 'who may do what' "$(cd "$place" && find . -type f -exec stat -c '%a' {} + | sort | uniq -c | tr -s ' \n' ' ')" ' 8 644 4 755 '
+for page in ptb ptb-outcomes ptb-resume ptb-shares; do
+    packed=$place/share/man/man1/$page.1.gz
+    count_if "the man page of $page" cmp <(gzip -dc "$packed") "$root/docs/$page.1"
+    # the bytes that say: a name is given; the time; how well it is packed
+    count_same 'packed well, without a name and a time' "$(od -An -tx1 -j3 -N6 "$packed" | tr -d ' ')" 000000000002
+    count_if "the completions of $page for bash" cmp "$root/completions/$page.bash" "$place/share/bash-completion/completions/$page"
+    count_if "for zsh" cmp "$root/completions/_$page" "$place/share/zsh/site-functions/_$page"
+    count_if "for fish" cmp "$root/completions/$page.fish" "$place/share/fish/vendor_completions.d/$page.fish"
+done
+for page in LICENSE CHANGELOG.md docs/LANGUAGE.md docs/TOOL.md; do
+    count_if "the page $page" cmp "$root/$page" "$place/share/doc/ptb/$(basename "$page")"
+done
+count_same 'only programs may be run' "$(cd "$place" && find . -type f -exec stat -c '%a %n' {} + |
+    sed 's|^\([0-9]*\) \./\([a-z]*\)/.*|\1 \2|' | sort -u | xargs)" '644 share 755 bin'
+count_if 'no temporary files are left' leaves_nothing
 if command -v man >/dev/null && man -w ls >/dev/null 2>&1; then
     for page in ptb ptb-outcomes ptb-resume ptb-shares; do
-        count_same "man finds the page of $page" "$(MANPATH=$place/share/man man -w $page)" "$place/share/man/man1/$page.1"
-        count_same "and has nothing to say against $page" "$(man --warnings -l -E UTF-8 "$place/share/man/man1/$page.1" 2>&1 >/dev/null)" ''
+        count_same "man finds the page of $page" "$(MANPATH=$place/share/man man -w $page)" "$place/share/man/man1/$page.1.gz"
+        count_same "and has nothing to say against $page" "$(man --warnings -l -E UTF-8 "$place/share/man/man1/$page.1.gz" 2>&1 >/dev/null)" ''
     done
 fi
+
+# once more, over a version that installed man pages uncompressed
+: >"$place/share/man/man1/ptb.1"
 installed "$place"
 count_same 'install once more' "$status $(cat "$folder/errors")" '0 '
+count_if 'the same files are there' cmp <(sed '/PATH/d' "$folder/said" | sort) <(files_below "$place" | sed 's/^/installed /')
 PATH="$place/bin:$PATH" installed "$place/"
 count_same 'nothing to say of PATH' "$status $(grep -c PATH "$folder/output")" '0 0'
 
-# with DESTDIR
-DESTDIR=$folder/stage installed /usr/local
+# from here on the copy is a later version, with fewer examples
+find "$folder/copy/examples" -type f ! -name 'hello.*' -delete
+
+# ---- what runs while it is replaced
+
+# soon COMMAND..: waits until the command succeeds, ten seconds at most
+soon() {
+    for _ in $(seq 200); do
+        if "$@" 2>/dev/null; then return; fi
+        sleep 0.05
+    done
+    return 1
+}
+
+# Whether a program and a tool that wait for their input while they are replaced end as if nothing had happened.
+is_replaced_while_it_runs() {
+    local program tool
+    printf '10 INPUT A;PRINT A+1\n' >"$folder/next.bas"
+    mkfifo "$folder/lines" "$folder/input"
+    # opened for both, so that this does not wait for a reader
+    exec 8<>"$folder/lines" 9<>"$folder/input"
+    "$place/bin/ptb" "$folder/next.bas" <"$folder/lines" >"$folder/answer" 2>&1 8>&- 9>&- &
+    program=$!
+    "$place/bin/ptb-shares" "$root/examples/throw.bas" 1 <"$folder/input" >"$folder/lists" 2>&1 8>&- 9>&- &
+    tool=$!
+    soon grep -q 'A:' "$folder/answer"
+    # the new tool is longer: what runs must not read on in it
+    sed -i "2i # $(printf '%04000d' 0)" "$folder/copy/tools/shares"
+    installed "$place"
+    echo 41 >&8
+    exec 8>&- 9>&-
+    wait "$program" && wait "$tool" && [ "$status" = 0 ] && grep -q '42$' "$folder/answer" && [ "$(wc -l <"$folder/lists")" = 6 ]
+}
+count_if 'a program that runs is replaced and continues' is_replaced_while_it_runs
+count_if 'the new one is there' cmp "$folder/copy/tools/shares" <(sed "s/^version=\"$version\"/version=\"\"/" "$place/bin/ptb-shares")
+cp "$root/tools/shares" "$folder/copy/tools/shares"
+rm "$place/bin/ptb"
+ln -s /nowhere "$place/bin/ptb"
+installed "$place"
+count_if 'a link is replaced, too' [ -f "$place/bin/ptb" ]
+
+# ---- an installation that fails or is interrupted
+
+mkdir "$folder/stubs"
+# stub NAME TEXT: a command that does this for the program's new file, and the usual for others
+stub() {
+    rm -f "$folder/stubs"/*
+    cat >"$folder/stubs/$1" <<END
+#!/bin/bash
+for last; do :; done
+case "\$*" in */bin/ptb.*.new*) $2 ;; esac
+PATH=\${PATH#*:} exec $1 "\$@"
+END
+    chmod +x "$folder/stubs/$1"
+}
+before=$(md5sum <"$place/bin/ptb")
+stub cp 'head -c 1000 /dev/zero >"$last"; exit 1'
+PATH=$folder/stubs:$PATH installed "$place"
+count_same 'a program that cannot be written' "$status $(tail -n 1 "$folder/errors")" "73 install: cannot write $place/bin/ptb"
+count_same 'it stays as it was' "$(md5sum <"$place/bin/ptb")" "$before"
+count_same 'no part of it is left' "$(find "$place" -name '*.new*')" ''
+stub mv 'kill -TERM $PPID; sleep 0.3; exit 0'
+PATH=$folder/stubs:$PATH installed "$place"
+count_same 'an installation that is interrupted' "$status $(grep -c 'bin/ptb$' "$folder/output")" '130 0'
+count_same 'leaves no part' "$(find "$place" -name '*.new*')" ''
+count_if 'and no temporary files' leaves_nothing
+PATH=$folder/stubs:$PATH installed "$folder/first try"
+count_same 'a first one that is interrupted' "$status" 130
+installed --uninstall "$folder/first try"
+count_same 'is removed' "$status $(find "$folder" -path '*first try*')" '0 '
+if [ "$(ulimit -f)" = unlimited ]; then
+    (
+        trap '' XFSZ
+        ulimit -f 100
+        installed "$folder/limited"
+        exit "$status"
+    )
+    count_same 'a file that is too big for the system' "$? $(find "$folder" -name '*.new*')" '73 '
+    count_if 'leaves no temporary files' leaves_nothing
+fi
+
+# ---- removing
+
+all_below "$folder/a place" >"$folder/there"
+installed --uninstall "$place"
+count_same 'uninstall' "$status $(cat "$folder/errors")" '0 '
+count_same 'it prints all that was there' "$(sed 's/^removed //' "$folder/output" | sort)" "$(echo "$folder/a place"; cat "$folder/there")"
+count_if 'with the folders that were made for it' [ ! -e "$folder/a place" ]
+installed --uninstall "$place"
+count_same 'uninstall once more' "$status $(cat "$folder/output" "$folder/errors")" \
+    "66 install: nothing is installed there: no file $place/share/doc/ptb/INSTALLED"
+
+# with folders and files of others
+mkdir -p "$folder/shared/bin" "$folder/shared/share/zsh"
+: >"$folder/shared/bin/other"
+installed "$folder/shared"
+: >"$folder/shared/share/doc/ptb/notes"
+rm "$folder/shared/bin/ptb-resume"
+(cd "$folder/shared" && "$folder/copy/install" ../shared >/dev/null)
+rm "$folder/shared/bin/ptb-outcomes"
+installed --uninstall "$folder/shared/"
+count_same 'uninstall among files of others' "$status $(cat "$folder/errors")" '0 '
+count_same 'it leaves what is not its own, and folders that were there' "$(cd "$folder/shared" && all_below . | xargs)" \
+    './bin ./bin/other ./share ./share/doc ./share/doc/ptb ./share/doc/ptb/notes ./share/zsh'
+
+count_same 'and prints only what was there' "$(grep -cE 'bin/(ptb-outcomes|other)$|/doc$' "$folder/output")" 0
+
+# with a relative path
+(cd "$folder" && timeout 60 "$folder/copy/install" relative/place </dev/null >"$folder/output" 2>&1)
+count_same 'a relative PREFIX' "$(head -n 1 "$folder/output")" "installed $folder/relative/place/share/doc/ptb/INSTALLED"
+installed --uninstall "$folder/relative/place"
+count_if 'which is removed by its absolute path' [ ! -e "$folder/relative" ]
+
+# with DESTDIR; the folder PREFIX itself stays away
+DESTDIR=$folder/stage installed "$folder/below"
 count_same 'install below DESTDIR' "$status $(cat "$folder/errors")" '0 '
-count_same 'all of it is there, and no word on PATH' "$(sort "$folder/output")" "$(files_below "$folder/stage/usr/local" | sed 's/^/installed /')"
-count_same 'and nothing else' "$(files_below "$folder/stage" | wc -l)" 12
+count_same 'all of it is there, and no word on PATH' "$(sort "$folder/output")" \
+    "$(files_below "$folder/stage$folder/below" | sed 's/^/installed /')"
+count_same 'and nothing else' "$(cd "$folder/stage$folder" && find . -maxdepth 2 | sort | xargs)" '. ./below ./below/bin ./below/share'
+count_if 'also not without DESTDIR' [ ! -e "$folder/below" ]
+count_same 'the list of files knows nothing of DESTDIR' \
+    "$(grep -c "$folder/stage" "$folder/stage$folder/below/share/doc/ptb/INSTALLED")" 0
+DESTDIR=$folder/stage installed --uninstall "$folder/below"
+count_same 'uninstall below DESTDIR' "$status $(find "$folder/stage" | sed "s|$folder/||")" '0 stage'
+
+# where there is no strip
+mkdir "$folder/tools"
+for tool in $(sed 's/[^a-z]/\n/g' "$root/install" "$root/build" "$root/tools/version" | sort -u) bash sh env; do
+    if [ "$tool" != strip ] && [ -x "$(type -P "$tool")" ]; then ln -sf "$(type -P "$tool")" "$folder/tools/$tool"; fi
+done
+PATH=$folder/tools installed "$place"
+count_same 'install without strip' "$status $(cat "$folder/errors")" '0 '
+count_if 'the program as it was built' cmp "$folder/copy/crates/ptb/out/ptb" "$place/bin/ptb"
 
 # without the repository
 rm -rf "$folder/copy"
@@ -190,13 +422,13 @@ count_same 'what is installed runs without the repository' "$(cd / && env -i "$p
 count_same 'and helps' "$(cd / && env -i "$place/bin/ptb" --help)" "$(cat "$folder/help")"
 printf '10 PRINT RND(2)\n' >"$folder/coin.bas"
 (cd / && env -i "$place/bin/ptb" --all "$folder/coin.bas") </dev/null >"$folder/runs"
-count_same 'the outcomes are told without it' "$(cd / && env -i "PATH=$PATH" "$place/bin/ptb-outcomes" --by ending <"$folder/runs")" \
+count_same 'the outcomes are shown without it' "$(cd / && env -i "PATH=$PATH" "$place/bin/ptb-outcomes" --by ending <"$folder/runs")" \
     '2 runs, 1 ending
 100.00 %  1  ##############################  END, 2 runs
 
 Answers count as equally likely, also those that --choose gives in place of lines.'
 head -c 40 "$folder/runs" >"$folder/killed"
-count_same 'a listing that was killed is gone on with' \
+count_same 'a listing that was killed is resumed' \
     "$(PATH=$place/bin:$PATH ptb-resume "$folder/killed" -- ptb --all "$folder/coin.bas" </dev/null 2>&1; echo $?)" 0
 count_if 'and is whole' cmp "$folder/runs" "$folder/killed"
 # the lists that docs/LARGE-TREES.md shows for three dice, a run that is over sooner, and the program that PTB names
@@ -224,22 +456,40 @@ done
 count_same 'what bash would load is installed' "$(bash -c '. "$1" && complete -p ptb | grep -o "_ptb ptb"' bash \
     "$place/share/bash-completion/completions/ptb")" '_ptb ptb'
 
-# words that ask for nothing, a folder that can't be made, and a program that can't be built
+# usage errors, help, a folder that cannot be made, and a program that cannot be built
 make_copy
-for words in '' 'one two' --help; do
+usage='usage: ./install PREFIX
+       ./install --uninstall PREFIX
+       ./install --help'
+for arguments in '' 'one two' --unknown --uninstall '--uninstall one two' '--uninstall --help'; do
     # shellcheck disable=SC2086
-    installed $words
-    count_same "install $words" "$status $(cat "$folder/output" "$folder/errors")" '64 usage: ./install PREFIX, as ./install ~/.local'
+    installed $arguments
+    count_same "install $arguments" "$status $(cat "$folder/output" "$folder/errors")" "64 $usage"
+done
+for option in -h --help; do
+    installed $option
+    count_same "install $option" "$status $(head -n 3 "$folder/output") $(grep -c -e DESTDIR -e '^--uninstall removes' "$folder/output")" "0 $usage 2"
+    count_same 'without an error' "$(cat "$folder/errors")" ''
 done
 touch "$folder/file"
 installed "$folder/file"
-count_same 'a file in the place of a folder' "$status $(tail -n 1 "$folder/errors")" "73 install: cannot write $folder/file/bin/ptb"
+count_same 'a file where a folder is needed' "$status $(tail -n 1 "$folder/errors")" \
+    "73 install: cannot write $folder/file/share/doc/ptb/INSTALLED"
 count_same 'and what was installed' "$(cat "$folder/output")" ''
+mkdir -p "$folder/taken/bin/ptb"
+installed "$folder/taken"
+count_same 'a folder where a file is needed' "$status $(tail -n 1 "$folder/errors") $(ls -A "$folder/taken/bin/ptb")" \
+    "73 install: cannot write $folder/taken/bin/ptb "
+sed -i '/^pub const VERSION/d' "$folder/copy/crates/ptb_options/src/help.rt"
+touch "$folder/copy/crates/ptb/out/ptb"
+installed "$folder/nowhere"
+count_same 'a version that is not known' "$status $(cat "$folder/errors") $(find "$folder" -name nowhere)" \
+    '70 install: the sources do not name the version '
 rm "$folder/copy/crates/ptb/out/ptb"
 mkdir "$folder/bin"
 printf '#!/bin/sh\necho no\nexit 1\n' >"$folder/bin/rt"
 chmod +x "$folder/bin/rt"
-TMPDIR=$folder PATH=$folder/bin:$PATH installed "$folder/nowhere"
+PATH=$folder/bin:$PATH installed "$folder/nowhere"
 count_same 'a program that cannot be built' "$status $(find "$folder" -name nowhere)" '70 '
 
 # ---- the licence

@@ -1,6 +1,6 @@
 #!/bin/bash
-# Tries the chapter "If your listing has .." of docs/LANGUAGE.md: each row of its tables has a case here. The listing as it
-# is shows what the row says, and what the row makes of it runs as it should. Lines of sed and tr are taken from the chapter.
+# Tries docs/OLD-LISTINGS.md: each row of its tables has a case here. The listing as it is shows what the row says, and the
+# listing that the row makes of it runs as it should. Lines of sed and tr are taken from the page.
 # PTB names another program than the one that ./ptb builds.
 set -u
 root=$(dirname "$(dirname "$(readlink -f "$0")")")
@@ -11,12 +11,11 @@ trap 'rm -rf "$folder"' EXIT
 
 "$ptb" --list </dev/null || exit 1
 
-# ---- the chapter: its rows, and the line that others stand on
+# ---- the page: its rows, and the line that others need
 
-chapter=$folder/chapter
-sed -n '/^## If your listing has/,$p' "$root/docs/LANGUAGE.md" >"$chapter"
-before_all=$(sed -n 's/^    \$ \(q=.*\)/\1/p' "$chapter")
-grep '^| ' "$chapter" | grep -v '^| Your listing has' >"$folder/rows"
+page=$root/docs/OLD-LISTINGS.md
+before_all=$(sed -n 's/^    \$ \(q=.*\)/\1/p' "$page")
+grep '^| ' "$page" | grep -v '^| Your listing has' >"$folder/rows"
 : >"$folder/tried"
 mkdir "$folder/found" "$folder/made"
 
@@ -43,7 +42,7 @@ holds() {
     done < <(grep -oE '`[^`]+`' <<<"$2" | tr -d '`')
 }
 
-# by_line LINE: what the line of the chapter makes of standard input, in a shell that read the chapter's first line
+# by_line LINE: what the line of the page makes of standard input, in a shell that read the page's first line
 by_line() {
     sh -c "$before_all
 $1"
@@ -53,7 +52,7 @@ $1"
 
 # Cuts a case into files. It is the listing; `-- shows N` and what is shown with status N; then, where a person must
 # rewrite it, `-- written` and the listing that was; and `-- shows N` with what that one shows. `-- answers` has input lines.
-# A last line that is shown without a line end has \ behind it.
+# A last line that is shown without a line end has \ after it.
 cut_case() {
     rm -f "$folder"/case.*
     awk -v to="$folder/case." '
@@ -127,7 +126,7 @@ stays() {
     words=()
     cut_case
     printf '%b' "$(cat "$folder/case.before")" >"$folder/case.bytes"
-    count_if "may stay: $1" grep -qxF -- "- $1" "$chapter"
+    count_if "may stay: $1" grep -qxF -- "- $1" "$page"
     count_if "may stay: $1: it runs" shows 1 "$folder/case.bytes"
     echo "- $1" >>"$folder/tried"
 }
@@ -142,7 +141,7 @@ ptb: line 1: bad byte at 1
      1
 END
 
-row_of_bytes 'a BOM in front (bytes EF BB BF)' <<'END'
+row_of_bytes 'a BOM at its start (bytes EF BB BF)' <<'END'
 \0357\0273\0277\061\060 PRINT "HI"\n20 PRINT "THERE"\n
 -- shows 65
 ptb: line 1: bad byte at 1
@@ -306,7 +305,7 @@ THREE
 FOUR
 END
 
-row '`'\''` for REM, behind the number' <<'END'
+row '`'\''` for REM, after the number' <<'END'
 10 'SAYS "DON'T"
 20 PRINT "DON'T"
 -- shows 1
@@ -316,7 +315,7 @@ WHAT?
 DON'T
 END
 
-row 'a remark behind GOTO, RETURN or STOP' <<'END'
+row 'a remark after GOTO, RETURN or STOP' <<'END'
 10 GOTO 30; REM OVER THE NEXT
 20 PRINT "NO"
 30 PRINT "A: REM; REM"; REM A REMARK; REM AND ONE MORE
@@ -327,7 +326,7 @@ WHAT?
 A: REM; REM
 END
 
-row 'a remark behind GOTO, RETURN or STOP' <<'END'
+row 'a remark after GOTO, RETURN or STOP' <<'END'
 10 GOSUB 100
 20 STOP: REM IT IS OVER
 100 PRINT "HI"
@@ -423,7 +422,7 @@ YES
 BOTH
 END
 
-row '`;` behind INPUT'\''s string' <<'END'
+row '`;` after INPUT'\''s string' <<'END'
 10 INPUT "AGE";A
 20 PRINT "NEXT YEAR",A+1
 -- answers
@@ -437,7 +436,7 @@ AGE:41
 NEXT YEAR    42
 END
 
-row '`,` behind INPUT'\''s string' <<'END'
+row '`,` after INPUT'\''s string' <<'END'
 10 INPUT "AGE", A
 20 PRINT "NEXT YEAR",A+1
 -- answers
@@ -654,7 +653,7 @@ WHAT?
     25     4
 END
 
-row 'names of two signs, as `A1`' <<'END'
+row 'names of two characters, as `A1`' <<'END'
 10 LET A=1,A1=2
 20 PRINT A+A1
 -- shows 1
@@ -1140,7 +1139,7 @@ HI
 THERE
 END
 
-row 'numbers of lines above 32767' <<'END'
+row 'line numbers above 32767' <<'END'
 10 GOSUB 60000
 20 STOP
 60000 PRINT "HI"
@@ -1226,7 +1225,40 @@ row 'INT(A/B) of a negative number' <<'END'
     -3
 END
 
-row 'a FOR loop that may be passed over' <<'END'
+row '`C/2#(C/2)` for an odd C, made by the lines above' <<'END'
+10 FOR C=1 TO 3
+20 IF C/2#(C/2) PRINT #1,C," IS ODD"
+30 NEXT C
+-- shows 0
+-- written
+10 FOR C=1 TO 3
+20 IF C#C/2*2 PRINT #1,C," IS ODD"
+30 NEXT C
+-- shows 0
+1 IS ODD
+3 IS ODD
+END
+
+row '`INPUT K` after a PRINT that asks' <<'END'
+10 PRINT "HOW MANY",
+20 INPUT K
+30 PRINT K*K
+-- answers
+12
+-- shows 0
+HOW MANYK:12
+   144
+-- written
+10 INPUT "HOW MANY"K
+30 PRINT K*K
+-- answers
+12
+-- shows 0
+HOW MANY:12
+   144
+END
+
+row 'a FOR loop that may be skipped' <<'END'
 10 LET N=0
 30 FOR I=1 TO N
 40 PRINT "TURN",I
@@ -1299,14 +1331,14 @@ echo "$name" >>"$folder/tried"
 
 # ---- what may stay
 
-stays 'byte 13 in front of byte 10, tabs, empty lines, a last line without its byte 10' <<'END'
+stays 'byte 13 before byte 10, tabs, empty lines, a last line without its byte 10' <<'END'
 10\tPRINT 1\r\n\r\n\n20 PRINT\t2
 -- shows 0
      1
      2
 END
 
-stays 'lines in any order, and zeros in front of their numbers' <<'END'
+stays 'lines in any order, and zeros before their numbers' <<'END'
 020 PRINT 2\n10 PRINT 1\n00030 PRINT 3\n
 -- shows 0
      1
@@ -1327,7 +1359,7 @@ stays 'no blanks, as in `FORI=1TO3`' <<'END'
      3
 END
 
-stays 'cut words, as `P.` and `GOS.`' <<'END'
+stays 'abbreviated words, as `P.` and `GOS.`' <<'END'
 10 F.I=1TO3S.2;GOS.30;N.I\n20 S.\n30 P.A.(-I);R.\n
 -- shows 0
      1
@@ -1352,12 +1384,12 @@ stays 'a program without END or STOP' <<'END'
 HI
 END
 
-# ---- the chapter's example of two lines that are joined
+# ---- the page's example of two lines that are joined
 
 printf '10 print "hi"\n\032\032' >"$folder/old.bas"
 (
     cd "$folder" || exit
-    sh -c "$(sed -n 's/^    \$ \(tr .*old\.bas.*\)/\1/p' "$chapter")"
+    sh -c "$(sed -n 's/^    \$ \(tr .*old\.bas.*\)/\1/p' "$page")"
 )
 printf '10 PRINT "HI"\n' >"$folder/due"
 count_if 'two lines joined' cmp "$folder/new.bas" "$folder/due"
@@ -1398,7 +1430,7 @@ WHAT IS IT:32
 HOT! YOUR GUESSES:    50    20    32
 END
 cp "$folder/old.bas" "$folder/new.bas"
-sed -n '/^### Words and signs/,/^### What this dialect lacks/p' "$chapter" | grep '^| [^Y]' >"$folder/words"
+sed -n '/^## Words and signs/,/^## What this dialect lacks/p' "$page" | grep '^| [^Y]' >"$folder/words"
 lines=0
 while IFS= read -r row; do
     line=$(line_of "$(sed 's/^| //; s/ |$//' <<<"$row")")
@@ -1412,7 +1444,7 @@ printf '150\n50\n20\n32\n' | "$ptb" --answers 32 "$folder/new.bas" >"$folder/out
 count_if 'a whole listing: each row has its line' [ "$lines" = "$(wc -l <"$folder/words")" ]
 count_if 'a whole listing' cmp "$folder/output" "$folder/due"
 
-# ---- nothing in the chapter is left out
+# ---- nothing in the page is left out
 
 # what a row's first cell shows stands in its listings as they are, and what the third says in those that were made of them
 while IFS= read -r row; do
@@ -1426,12 +1458,12 @@ while IFS= read -r row; do
     esac
 done <"$folder/rows"
 
-sed -n 's/^- /- /p' "$chapter" >"$folder/named"
+sed -n 's/^- /- /p' "$page" >"$folder/named"
 sed 's/^| //; s/ | .*//' "$folder/rows" >>"$folder/named"
 count_if 'each row and each thing that may stay was tried' \
     cmp <(sort -u "$folder/named") <(sort -u "$folder/tried")
 count_if 'no two rows have one name' [ "$(sort "$folder/named" | uniq -d | wc -l)" = 0 ]
-count_if 'no line is wider than 100 columns' [ "$(LC_ALL=C.UTF-8 awk 'length > 100' "$chapter" | wc -l)" = 0 ]
+count_if 'no line is wider than 100 columns' [ "$(LC_ALL=C.UTF-8 awk 'length > 100' "$page" | wc -l)" = 0 ]
 
 echo "$passed passed, $failed failed"
 [ "$failed" = 0 ]

@@ -1,165 +1,51 @@
 #!/usr/bin/env python3
-"""Plays programs at a terminal of its own, and compares what the screen then shows with the transcripts.
+"""Runs the program at a pseudo-terminal and compares every byte that the terminal shows.
 
+Most runs start the program itself; some start the start script. shared/terminals.py has the
+terminal and the scripts that runs follow.
 PTB names another program than the one that ./ptb builds. The last line is 'N passed, M failed'.
 """
 
 import os
 import pty
 import re
-import select
 import shutil
 import signal
-import struct
+import subprocess
 import sys
 import tempfile
-import termios
 import time
-from fcntl import ioctl
 from pathlib import Path
+from typing import NamedTuple
 
 ROOT = Path(__file__).resolve().parent.parent
-PATIENCE = 10.0
+sys.dont_write_bytecode = True
+sys.path.insert(0, str(ROOT / "tests/shared"))
+from terminals import BACKSPACE, CTRL_C, CTRL_D, ENTER, ERRORS, INPUT, OUTPUT, Run, Terminal
+from terminals import due_of, echo, on_screen, run, screen, transcript_of
+
+EXAMPLES = ROOT / "examples"
+READING = "ptb: reading the program from the terminal; Ctrl-D ends it\n"
+LIMIT = "ptb: stopped at the limit of %d commands; --steps N allows more\n"
+NO_LINE = "ptb: INPUT found no line left; give more lines, or use --choose N\n"
+NO_INPUT = (
+    "ptb: INPUT found no line, since standard input was the program; name its file as PROGRAM\n"
+)
+NO_ANSWER = (
+    "ptb: a random number was wanted and none is left; use --seed N, or give more --answers\n"
+)
+BAD_ANSWER = "ptb: one of the --answers is greater than its question allows; change it\n"
 
 
-def start_script(folder):
-    """The start script; where PTB names a program, a copy in this folder that starts this one."""
-    if "PTB" not in os.environ:
-        return str(ROOT / "ptb")
-    for crate in re.findall("^([a-z_]+):", (ROOT / "crates.txt").read_text(), re.M):
-        (folder / "crates" / crate / "out").mkdir(parents=True)
-    for name in ("ptb", "crates.txt"):
-        shutil.copy(ROOT / name, folder)
-    shutil.copy(os.environ["PTB"], folder / "crates/ptb/out/ptb")
-    return str(folder / "ptb")
-
-
-class Screen:
-    """What a terminal shows, as far as the bytes that are sent to it need."""
-
-    def __init__(self, rows, columns):
-        self.rows, self.columns = rows, columns
-        self.lines = [[" "] * columns for _ in range(rows)]
-        self.gone = []
-        self.row = self.column = 0
-        self.marked = (0, 0)
-        self.escape = None
-
-    def take(self, data):
-        for byte in data:
-            self.take_byte(chr(byte))
-
-    def take_byte(self, char):
-        if self.escape is not None:
-            self.take_escaped(char)
-        elif char == "\x1b":
-            self.escape = ""
-        elif char == "\n":
-            self.down()
-        elif char == "\r":
-            self.column = 0
-        elif char == "\b":
-            self.column = max(self.column - 1, 0)
-        elif char >= " ":
-            self.put(char)
-
-    def put(self, char):
-        if self.column == self.columns:
-            self.column = 0
-            self.down()
-        self.lines[self.row][self.column] = char
-        self.column += 1
-
-    def down(self):
-        if self.row + 1 < self.rows:
-            self.row += 1
-            return
-        self.gone.append(self.lines.pop(0))
-        self.lines.append([" "] * self.columns)
-
-    def take_escaped(self, char):
-        self.escape += char
-        if self.escape == "[" or self.escape[-1].isdigit():
-            if self.escape not in ("7", "8"):
-                return
-        sequence, self.escape = self.escape, None
-        if sequence == "D":
-            self.down()
-        elif sequence == "7":
-            self.marked = (self.row, self.column)
-        elif sequence == "8":
-            self.row, self.column = self.marked
-        elif sequence.endswith("A"):
-            self.row = max(self.row - int(sequence[1:-1] or 1), 0)
-        elif sequence == "[J":
-            self.clear_behind()
-        else:
-            raise ValueError(f"a sequence that this screen doesn't know: {sequence!r}")
-
-    def clear_behind(self):
-        self.lines[self.row][self.column :] = [" "] * (self.columns - self.column)
-        for row in range(self.row + 1, self.rows):
-            self.lines[row] = [" "] * self.columns
-
-    def text(self):
-        """All lines, those too that have gone off the top, without blanks at their ends."""
-        lines = ["".join(line).rstrip() for line in self.gone + self.lines]
-        return "\n".join(lines).rstrip("\n")
-
-
-class Session:
-    """A program at a terminal."""
-
-    def __init__(self, words, rows=24, columns=80):
-        self.screen = Screen(rows, columns)
-        self.process, self.terminal = pty.fork()
-        if self.process == 0:
-            os.environ["TERM"] = "xterm"
-            os.execv(words[0], words)
-        ioctl(self.terminal, termios.TIOCSWINSZ, struct.pack("HHHH", rows, columns, 0, 0))
-        self.settings = self.settings_left = termios.tcgetattr(self.terminal)
-        self.is_over = False
-
-    def read_for(self, seconds):
-        ready, _, _ = select.select([self.terminal], [], [], seconds)
-        if not ready:
-            return
-        try:
-            data = os.read(self.terminal, 65536)
-        except OSError:
-            data = b""
-        self.is_over = not data
-        self.screen.take(data)
-
-    def wait_until(self, holds):
-        """Reads until this holds of the screen; no if it never does."""
-        end = time.monotonic() + PATIENCE
-        while not holds(self.screen.text()):
-            if self.is_over or time.monotonic() > end:
-                return False
-            self.read_for(0.05)
-        return True
-
-    def type(self, keys):
-        os.write(self.terminal, keys.encode())
-
-    def end(self):
-        """Waits until the program is over, and answers its status; None where it isn't over in time."""
-        end = time.monotonic() + PATIENCE
-        while not self.is_over and time.monotonic() < end:
-            self.read_for(0.05)
-        if not self.is_over:
-            os.kill(self.process, signal.SIGKILL)
-        _, status = os.waitpid(self.process, 0)
-        self.settings_left = termios.tcgetattr(self.terminal)
-        os.close(self.terminal)
-        return os.waitstatus_to_exitcode(status) if self.is_over else None
+# ---- checks
 
 
 class Checks:
-    """Counts the checks that hold."""
+    """Counts the checks that hold of a program and of its start script."""
 
-    def __init__(self):
+    def __init__(self, folder):
+        self.folder = folder
+        self.program, self.start = programs(folder)
         self.passed = self.failed = 0
 
     def same(self, name, found, due):
@@ -167,61 +53,374 @@ class Checks:
             self.passed += 1
             return
         self.failed += 1
-        print(f"failed: {name}\n--- found\n{found}\n--- due\n{due}")
+        print(f"failed: {name}\n    found {found}\n    due   {due}", flush=True)
+
+    def file(self, name, text):
+        path = self.folder / name
+        path.write_text(text)
+        return str(path)
+
+    def run(self, name, arguments, script, status=0, files=None):
+        """Checks that the program follows this script and then ends with this status."""
+        self.run_of(self.program, name, arguments, script, status, files)
+
+    def run_of_start(self, name, arguments, script, status=0):
+        self.run_of(self.start, f"the start script: {name}", arguments, script, status, None)
+
+    def run_of(self, program, name, arguments, script, status, files):
+        found = run([program, *arguments], script, files or {})
+        self.same(name, found, Run(due_of(script), status))
+
+    def run_to_file(self, name, arguments, script, status, stream, text):
+        """The same where this stream is a file, which must then have this text."""
+        path = self.file(f"stream{stream}", "")
+        self.run(name, arguments, script, status, {stream: path})
+        self.same(f"{name}: the file", Path(path).read_text(), text)
 
 
-def shown(transcript, columns=80):
-    """What a screen of so many columns shows of a transcript."""
-    screen = Screen(1000, columns)
-    screen.take(transcript.replace("\n", "\r\n").encode())
-    return screen.text()
+def programs(folder):
+    """The program and its start script; where PTB names a program, copies of both."""
+    if "PTB" not in os.environ:
+        hello = (EXAMPLES / "hello.bas").read_bytes()
+        subprocess.run([ROOT / "ptb"], input=hello, stdout=subprocess.DEVNULL, check=True)
+        return str(ROOT / "crates/ptb/out/ptb"), str(ROOT / "ptb")
+    for crate in re.findall("^([a-z_]+):", (ROOT / "crates.txt").read_text(), re.M):
+        (folder / "crates" / crate / "out").mkdir(parents=True)
+    for name in ("ptb", "build", "crates.txt"):
+        shutil.copy(ROOT / name, folder)
+    program = folder / "crates/ptb/out/ptb"
+    shutil.copy(os.environ["PTB"], program)
+    return str(program), str(folder / "ptb")
 
 
-def play(start, words, lines, transcript, **size):
-    """Types each line when its question is on the screen, with slips that are taken back; answers the screen and the status."""
-    session = Session([start, *words], **size)
-    due = shown(transcript, size.get("columns", 80))
-    asked = 0
+# ---- typed lines
+
+
+def script_of(transcript, lines):
+    """The script of a transcript whose lines are typed, each after a slip that is taken back.
+
+    Lines that are left over at the end are not typed.
+    """
+    script, begin = [], 0
     for line in lines:
-        asked = due.index(line, asked) if line else asked
-        prompt = due[:asked].rstrip(" ")
-        session.wait_until(lambda text, prompt=prompt: text == prompt)
-        session.type("xy\x7f\x7f" + line[:1])
-        session.wait_until(lambda text, seen=prompt + line[:1]: text == seen)
-        session.type(line[1:] + "\r")
-        asked += len(line)
-    status = session.end()
-    return session.screen.text(), status
+        end = transcript.find(f":{line}\n", begin) + 1
+        if not end:
+            break
+        script += [transcript[begin:end], f"xy{BACKSPACE}{BACKSPACE}{line}{ENTER}"]
+        begin = end + len(line) + 1
+    return [*script, transcript[begin:]]
 
 
-def check_examples(checks, start):
-    for name, answers in (("guess", "63"), ("calendar", "none")):
-        example = ROOT / "examples" / name
-        lines = example.with_suffix(".input").read_text().splitlines()
-        transcript = example.with_suffix(".transcript").read_text()
-        words = ["--answers", answers, str(example.with_suffix(".bas"))]
-        for size in ({}, {"rows": 8}, {"rows": 30, "columns": 20}):
-            screen, status = play(start, words, lines, transcript, **size)
-            due = shown(transcript, size.get("columns", 80))
-            checks.same(f"{name} at a terminal {size}", (screen, status), (due, 0))
+def example(name):
+    """An example's arguments, its lines and its transcript."""
+    path = EXAMPLES / f"{name}.bas"
+    answers = path.with_suffix(".answers")
+    listed = answers.read_text().strip() if answers.exists() else "none"
+    lines = path.with_suffix(".input").read_text().splitlines()
+    return ["--answers", listed, str(path)], lines, path.with_suffix(".transcript").read_text()
 
 
-def check_keys(checks, start):
-    """A key that ends the input, and one that ends the program: the terminal is then as it was."""
-    for key, status in (("\x04", 5), ("\x03", 130)):
-        session = Session([start, "--answers", "63", str(ROOT / "examples" / "guess.bas")])
-        session.wait_until(lambda text: text.endswith(":"))
-        session.type("5" + key if status == 130 else key)
-        checks.same(f"the status after {key!r}", session.end(), status)
-        checks.same(f"the terminal after {key!r}", session.settings_left, session.settings)
+def check_examples(checks):
+    for path in sorted(EXAMPLES.glob("*.bas")):
+        arguments, lines, transcript = example(path.stem)
+        checks.run(f"the example {path.stem}", arguments, script_of(transcript, lines))
+
+
+AFTER_BLOCK = """\
+TOO LOW
+YOUR GUESS:TOO HIGH
+YOUR GUESS:WHAT?
+YOUR GUESS:TOO LOW
+YOUR GUESS:RIGHT, AFTER  4 GUESSES.
+"""
+
+
+def check_streams(checks):
+    """The example guess, with lines that come ahead, and with streams that are files."""
+    arguments, lines, transcript = example("guess")
+    script = script_of(transcript, lines)
+    block = "".join(line + ENTER for line in lines)
+    asked = transcript[: transcript.index(lines[0])]
+    text = checks.file("lines", "".join(line + "\n" for line in lines))
+    checks.run("lines typed ahead", arguments, ["", block, asked + AFTER_BLOCK])
+    checks.run("a pasted block of lines", arguments, [asked, block, AFTER_BLOCK])
+    checks.run("input from a file", arguments, [transcript], files={INPUT: text})
+    checks.run_to_file("output to a file", arguments, ["", block, ""], 0, OUTPUT, transcript)
+    checks.run_to_file("errors to a file", arguments, script, 0, ERRORS, "")
+
+
+ONE = "10 INPUT A;P.A\n"
+TWO = "10 INPUT A,B;P.A,B\n"
+LINES = [
+    ("a line", ONE, ["A:", "5\r", "     5\n"]),
+    ("a faulty line", ONE, ["A:", ")\r", "WHAT?\nA:", "5\r", "     5\n"]),
+    ("an empty line", ONE, ["A:", "\r", "WHAT?\nA:", "5\r", "     5\n"]),
+    ("two lines for a command", TWO, ["A:", "5\r", "B:", "6\r", "     5     6\n"]),
+    ("a line in two pieces", TWO, ["A:", "12\x04", "", "34\r", "B:", "5\r", "  1234     5\n"]),
+    ("a last line without newline", ONE, ["A:", "12\x04\x04", "\n    12\n"]),
+    ("such a line in two pieces", ONE, ["A:", "1\x04", "", "2\x04\x04", "\n    12\n"]),
+    ("a line of 300 bytes", ONE, ["A:", "7" + 299 * "X" + "\r", "     7\n"]),
+    ("a line with tabs", ONE, ["A:", "1\t+\t2\r", "     3\n"]),
+    ("a line with an accent", ONE, ["A:", "\u00e95\r", "     5\n"]),
+    ("a line with an arrow", ONE, ["A:", "5\x1b[D\r", "     5\n"]),
+    ("a line after output", '10 P."X",;INPUT A;P.A\n', ["XA:", "5\r", "     5\n"]),
+]
+
+
+def check_lines(checks):
+    for name, program, script in LINES:
+        checks.run(name, ["--answers", "none", checks.file("lines.bas", program)], script)
+    two = checks.file("two.bas", TWO)
+    chosen = ["A:", "5\r", "B:", CTRL_D, "6\n     5     6\n"]
+    checks.run("an answer after a line", ["--choose", "8", "--answers", "6", two], chosen)
+    report = "RUN none END 2 21\nA:5\nB:6\n     5     6\n\n"
+    checks.run("all runs", ["--all", two], ["", "5\r6\r" + CTRL_D, report])
+
+
+def check_interrupts(checks):
+    arguments = ["--answers", "none", checks.file("one.bas", ONE)]
+    checks.run("Ctrl-C at a prompt", arguments, ["A:", "5", "", CTRL_C, ""], -signal.SIGINT)
+    loop = checks.file("loop.bas", "10 INPUT A\n20 GOTO 20\n")
+    terminal = Terminal([checks.program, "--answers", "none", "--steps", "1000000000", loop], {})
+    terminal.type("5" + ENTER)
+    terminal.resume()
+    terminal.read_until(lambda: b"A:" in terminal.shown)
+    time.sleep(0.1)
+    terminal.type(CTRL_C)
+    found = Run(b"", terminal.end(), terminal.keeps_settings)
+    checks.same("Ctrl-C in a loop", found, Run(b"", -signal.SIGINT))
+
+
+# ---- why a run ended
+
+
+class End(NamedTuple):
+    """A run's program, options, script and status, and what is shown then of why it ended."""
+
+    program: str
+    options: str
+    script: list
+    status: int
+    why: str
+
+
+NONE, SEVEN, ALL = "--answers none", "--answers 7", "--all --steps 3"
+STEPS, CHOICE, SEVEN_CHOSEN = NONE + " --steps 3", NONE + " --choose 6", SEVEN + " --choose 6"
+TYPED = "10 INPUT A;B=RND(6)\n"
+LINE, PIECE, NOTHING = ["A:", "5\r", ""], ["A:", "5\x04\x04", "\n"], ["A:", CTRL_D, ""]
+ENDS = {
+    "LIMIT after a newline": End('10 P."X";GOTO 10\n', STEPS, ["X\nX\n"], 4, LIMIT % 3),
+    "LIMIT in a line": End('10 P."X",;GOTO 10\n', STEPS, ["XX"], 4, "\n" + LIMIT % 3),
+    "LIMIT with nothing shown": End("10 GOTO 10\n", NONE, [""], 4, LIMIT % 10000),
+    "LIMIT after a typed line": End("10 INPUT A;B=1;B=2;B=3\n", STEPS, LINE, 4, LIMIT % 3),
+    "LIMIT with a seed": End("10 GOTO 10\n", "--seed 7 --steps 3", [""], 4, LIMIT % 3),
+    "NOINPUT": End(ONE, NONE, NOTHING, 5, "\n" + NO_LINE),
+    "NOINPUT after a line": End(TWO, NONE, [*LINE[:2], "B:", CTRL_D, ""], 5, "\n" + NO_LINE),
+    "NOINPUT after a piece": End(TWO, NONE, [*PIECE[:2], "\nB:"], 5, "\n" + NO_LINE),
+    "NOINPUT after a fault": End(ONE, NONE, ["A:", ")\x04\x04", "\nWHAT?\nA:"], 5, "\n" + NO_LINE),
+    "NOANSWER after a newline": End('10 P."X";A=RND(6)\n', NONE, ["X\n"], 6, NO_ANSWER),
+    "NOANSWER in a line": End('10 P."X",;A=RND(6)\n', NONE, ["X"], 6, "\n" + NO_ANSWER),
+    "NOANSWER after a typed line": End(TYPED, NONE, LINE, 6, NO_ANSWER),
+    "NOANSWER after a piece": End(TYPED, NONE, PIECE, 6, NO_ANSWER),
+    "NOANSWER for a line": End(ONE, CHOICE, NOTHING, 6, "\n" + NO_ANSWER),
+    "BADANSWER after a newline": End('10 P."X";A=RND(6)\n', SEVEN, ["X\n"], 7, BAD_ANSWER),
+    "BADANSWER in a line": End('10 P."X",;A=RND(6)\n', SEVEN, ["X"], 7, "\n" + BAD_ANSWER),
+    "BADANSWER for a line": End(ONE, SEVEN_CHOSEN, NOTHING, 7, "\n" + BAD_ANSWER),
+    "END": End('10 P."X",\n', NONE, ["X"], 0, ""),
+    "STOP": End('10 P."X",;STOP\n', NONE, ["X"], 0, ""),
+    "WHAT": End('10 P."X",;)\n', NONE, ['X\nWHAT?\n10 P."X",;?)\n'], 1, ""),
+    "HOW": End('10 P."X",;A=1/0\n', NONE, ['X\nHOW?\n10 P."X",;A=1/0?\n'], 2, ""),
+    "SORRY": End('10 P."X",;A=@(9999)\n', NONE, ['X\nSORRY\n10 P."X",;A=@(9999)?\n'], 3, ""),
+    "a listing of the text": End("10 GOTO 10\n", "--list", ["10 GOTO 10\n"], 0, ""),
+    "all runs": End("10 GOTO 10\n", ALL, ["", CTRL_D, "RUN none LIMIT 3 0\n\n"], 0, ""),
+}
+
+
+def check_ends(checks):
+    for name, (program, options, script, status, why) in ENDS.items():
+        arguments = [*options.split(), checks.file("ends.bas", program)]
+        checks.run(name, arguments, [*script[:-1], script[-1] + why], status)
+        checks.run_to_file(f"{name}, errors to a file", arguments, script, status, ERRORS, "")
+        ahead, text = ["", "".join(script[1::2]), ""], transcript_of(script)
+        checks.run_to_file(f"{name}, output to a file", arguments, ahead, status, OUTPUT, text)
+
+
+def check_ends_without_input(checks):
+    """What is said where standard input is a file: it has the lines, or the program."""
+    one, empty = checks.file("one.bas", ONE), checks.file("empty", "")
+    no_line, no_input = ["A:\n" + NO_LINE], ["A:\n" + NO_INPUT]
+    checks.run("NOINPUT of a file with lines", [one], no_line, 5, {INPUT: empty})
+    checks.run("NOINPUT of a file with the program", [], no_input, 5, {INPUT: one})
+
+
+# ---- programs that are typed
+
+HI = ["", '10 P."HI"\r' + CTRL_D, "HI\n"]
+TYPED_PROGRAMS = [
+    ("a run", NONE, HI, 0),
+    ("a listing", "--list", [*HI[:2], '10 P."HI"\n'], 0),
+    ("all runs", "--all", [*HI[:2], "RUN none END 1 3\nHI\n\n"], 0),
+    ("a refused program", NONE, ["", "P.\r" + CTRL_D, "ptb: line 1: no statement number\n"], 65),
+    ("NOINPUT", NONE, ["", "10 INPUT A\r" + CTRL_D, "A:\n" + NO_INPUT], 5),
+]
+
+
+def check_typed_programs(checks):
+    for name, options, script, status in TYPED_PROGRAMS:
+        script = [READING, *script[1:]]
+        checks.run(f"a typed program: {name}", options.split(), script, status)
+    errors, output = "a typed program, errors to a file", "a typed program, output to a file"
+    checks.run_to_file(errors, NONE.split(), HI, 0, ERRORS, READING)
+    checks.run_to_file(output, NONE.split(), [READING, HI[1], ""], 0, OUTPUT, "HI\n")
+    checks.run("no program is read", ["--after", "1"], ["ptb: --after needs --all\n"], 64)
+
+
+# ---- dice
+
+GAME = "10 P.RND(32767),RND(32767)\n20 INPUT A;P.A,RND(6)\n"
+DIE = "10 P.#1,RND(1)\n"
+SEED = re.compile(rb"ptb: seed (0|[1-9][0-9]{0,5})\r?\n")
+
+
+def seed_of_game(checks, program, game):
+    """Plays the game without options, and again with the seed that is said; gives the seed."""
+    terminal = Terminal([program, game], {})
+    terminal.resume()
+    terminal.read_until(lambda: terminal.shown.endswith(b"A:"))
+    terminal.type("5" + ENTER)
+    status = terminal.end()
+    said = SEED.match(terminal.shown)
+    if not said:
+        checks.same("a seed is said", terminal.shown, SEED.pattern)
+        return 0
+    arguments = [checks.program, "--seed", said[1].decode(), game]
+    again = subprocess.run(arguments, input="5\n", capture_output=True, text=True, check=False)
+    shown = terminal.shown[said.end() :], status
+    checks.same("the seed that is said", shown, (on_screen(again.stdout), again.returncode))
+    return int(said[1])
+
+
+def seeds_of_games(checks):
+    game = checks.file("game.bas", GAME)
+    for _ in range(4):
+        yield seed_of_game(checks, checks.program, game)
+        time.sleep(0.02)
+
+
+def check_dice(checks):
+    seeds = list(seeds_of_games(checks))
+    checks.same("each game has a seed of its own", len(set(seeds)), len(seeds))
+    checks.same("seeds from 0 to 999999, not 9999", max(seeds) > 9999, True)
+    die, empty = checks.file("die.bas", DIE), checks.file("empty", "")
+    errors = Path(checks.file("errors", ""))
+    checks.run("a seed is said in a file", [die], ["1\n"], files={ERRORS: errors})
+    checks.same("nothing but a seed", bool(SEED.fullmatch(errors.read_bytes())), True)
+    checks.run("a seed is given", ["--seed", "7", die], ["1\n"])
+    checks.run("no seed for a file with lines", [die], [NO_ANSWER], 6, {INPUT: empty})
+    checks.run_to_file("no seed for output to a file", [die], [""], 6, OUTPUT, "")
+
+
+def check_dice_of_typed_program(checks):
+    """A seed is said, before the program is typed or after that."""
+    terminal = Terminal([checks.program], {})
+    terminal.resume()
+    terminal.read_until(lambda: on_screen(READING) in terminal.shown)
+    terminal.type("10 P.#1,RND(1)" + ENTER + CTRL_D)
+    status = terminal.end()
+    shown, seeds = SEED.subn(b"", terminal.shown)
+    found = Run(shown, status, terminal.keeps_settings)
+    due = Run(on_screen(READING + DIE + "1\n"), 0)
+    checks.same("a typed program with dice", (found, seeds), (due, 1))
+
+
+def check_second_terminal(checks):
+    """Standard error is another terminal: what is said is shown there alone."""
+    loop = checks.file("loop.bas", '10 P."X",;GOTO 10\n')
+    master, slave = pty.openpty()
+    arguments, files = [*STEPS.split(), loop], {ERRORS: os.ttyname(slave)}
+    checks.run("errors to another terminal", arguments, ["XX"], 4, files)
+    os.close(slave)
+    checks.same("what is said there", all_of(master), on_screen("\n" + LIMIT % 3))
+
+
+def all_of(master):
+    """All that a terminal shows which no program has open any more."""
+    shown = b""
+    try:
+        while data := os.read(master, 65536):
+            shown += data
+    except OSError:
+        os.close(master)
+    return shown
+
+
+def check_null_device(checks):
+    """The null device is a character device as a terminal is, and is no terminal."""
+    die, one = checks.file("die.bas", DIE), checks.file("one.bas", ONE)
+    no_input, no_line = {INPUT: os.devnull}, ["A:\n" + NO_LINE]
+    checks.run("the null device as the program", NONE.split(), [""], 0, no_input)
+    checks.run("input from the null device: no dice", [die], [NO_ANSWER], 6, no_input)
+    checks.run("input from the null device: no line", [one], no_line, 5, no_input)
+    checks.run("output to the null device", [die], [""], 6, {OUTPUT: os.devnull})
+    checks.run("errors to the null device", [*NONE.split(), die], [""], 6, {ERRORS: os.devnull})
+
+
+# ---- other ways to start
+
+
+def check_start(checks):
+    arguments, lines, transcript = example("guess")
+    checks.run_of_start("an example", arguments, script_of(transcript, lines))
+    one = [*NONE.split(), checks.file("a game.bas", ONE)]
+    checks.run_of_start("Ctrl-C", one, ["A:", "5", "", CTRL_C, ""], -signal.SIGINT)
+    checks.run_of_start("Ctrl-D", one, ["A:", CTRL_D, "\n" + NO_LINE], 5)
+    checks.run_of_start("a typed program", NONE.split(), [READING, *HI[1:]])
+    seed_of_game(checks, checks.start, checks.file("game.bas", GAME))
+    terminal = Terminal([checks.start, *one], {})
+    terminal.resume()
+    terminal.shows(b"A:")
+    running = Path(f"/proc/{terminal.process}/exe")
+    found = str(running.readlink()) if running.exists() else None
+    checks.same("the start script gives way to the program", found, checks.program)
+    os.kill(terminal.process, signal.SIGKILL)
+    terminal.end()
+
+
+def check_rlwrap(checks):
+    """rlwrap edits a line itself and hands it on by a terminal of its own."""
+    if not shutil.which("rlwrap"):
+        print("not tried: rlwrap is not installed")
+        return
+    arguments, lines, transcript = example("guess")
+    terminal = Terminal(["env", "TERM=dumb", "rlwrap", "-n", checks.program, *arguments], {})
+    terminal.resume()
+    due = ""
+    script = script_of(transcript, lines)
+    for shown, keys in zip(script[::2], script[1::2]):
+        due += shown
+        terminal.read_until(lambda due=due: screen(terminal.shown) == due)
+        terminal.type(keys)
+        due += screen(echo(keys))
+    status = terminal.end()
+    checks.same("rlwrap", (screen(terminal.shown), status), (transcript, 0))
 
 
 def main():
-    checks = Checks()
     with tempfile.TemporaryDirectory() as folder:
-        start = start_script(Path(folder))
-        check_examples(checks, start)
-        check_keys(checks, start)
+        checks = Checks(Path(folder))
+        check_examples(checks)
+        check_streams(checks)
+        check_lines(checks)
+        check_interrupts(checks)
+        check_ends(checks)
+        check_ends_without_input(checks)
+        check_typed_programs(checks)
+        check_dice(checks)
+        check_dice_of_typed_program(checks)
+        check_second_terminal(checks)
+        check_null_device(checks)
+        check_start(checks)
+        check_rlwrap(checks)
     print(f"{checks.passed} passed, {checks.failed} failed")
     return 1 if checks.failed else 0
 

@@ -4,6 +4,7 @@ from dataclasses import dataclass
 from typing import Optional
 
 from replies import Reply
+from seeds import drawn
 
 TEXT_LIMIT = 1_048_576
 INPUT_LIMIT = 16_777_216
@@ -16,7 +17,7 @@ LETTERS = "ABCDEFGHIJKLMNOPQRSTUVWXYZ"
 class Case:
     """A run by its name, words, program and input, with the reply that is due.
 
-    Where the input is None, standard input is the program.
+    Where the input is None, standard input is the program. Otherwise the program is in the file of this name.
     """
 
     name: str
@@ -24,15 +25,17 @@ class Case:
     program: bytes
     input: Optional[bytes]
     due: Reply
+    file: str = "program.bas"
 
 
-def case(name, program, due, words, lines):
-    return Case(name, tuple(words.split()), program.encode(), None if lines is None else lines.encode(), due)
+def case(name, program, due, words, lines, **file):
+    lines = None if lines is None else lines.encode()
+    return Case(name, tuple(words.split()), program.encode(), lines, due, **file)
 
 
-def run(name, program, output, status=0, words="", lines=None):
+def run(name, program, output, status=0, words="", lines=None, **file):
     """A run, of a program on standard input where no input lines are given."""
-    return case(name, program, Reply(status, output.encode(), b""), words, lines)
+    return case(name, program, Reply(status, output.encode(), b""), words, lines, **file)
 
 
 def refusal(name, program, status, note, words="", lines=None):
@@ -133,7 +136,8 @@ def deepest():
     yield run("all runs of it", DEEPEST, report([], "STOP", steps, shown), words=few + " --all", lines=text)
     too_long = text + "\n"
     yield run("a byte more, behind the last line that is asked for", DEEPEST, shown, words=few, lines=too_long)
-    yield refusal("a byte more, and all runs", DEEPEST, 66, "cannot read the input", few + " --all", too_long)
+    unread = f"cannot read the input\n  standard input has more than {INPUT_LIMIT} bytes"
+    yield refusal("a byte more, and all runs", DEEPEST, 66, unread, few + " --all", too_long)
 
 
 def long_lines():
@@ -225,20 +229,103 @@ def long_lists():
     yield run("nothing is behind it", program, "", words=after(ones))
     yield run("a run is behind one of 60,001", rolled, last, words=after([*ones, 1]))
     yield run("60,000 answers of a plain run", program, "", words=f"--steps 200000 --answers {','.join(['1'] * 60_000)}")
-    yield refusal("one answer short", program, 67, "not a run", after(ones[1:]))
-    yield refusal("one answer too many", program, 67, "not a run", after([*ones, 1]))
-    yield refusal("the last answer too great", program, 67, "not a run", after([*ones[1:], 2]))
+    over = "the run is over after 60000 items"
+    too_great = "item 60000 is 2, but its question allows 1 to 1"
+    missing = "item 60000 is missing; its question allows 1 to 1"
+    not_a_run, no_run = "not a run\n  --after: ", "no run begins so\n  --under: "
+    yield refusal("one answer short", program, 67, not_a_run + missing, after(ones[1:]))
+    yield refusal("one answer too many", program, 67, not_a_run + over, after([*ones, 1]))
+    yield refusal("the last answer too great", program, 67, not_a_run + too_great, after([*ones[1:], 2]))
     yield run("a run under 60,000 answers", program, report(ones, "END", steps, ""), words=under(ones))
     yield run("a run under all but one of them", program, report(ones, "END", steps, ""), words=under(ones[1:]))
     yield run("the last of two runs, under 60,001 answers", rolled, last, words=under([*ones, 2]))
     both = f"{after([*ones, 1])} --under {','.join(['1'] * 100)}"
     yield run("it behind the other, under the first 100 of them", rolled, last, words=both)
-    yield refusal("a run begins with no more answers", program, 67, "no run begins so", under([*ones, 1]))
-    yield refusal("nor with one that is too great", program, 67, "no run begins so", under([*ones[1:], 2]))
+    yield refusal("a run begins with no more answers", program, 67, no_run + over, under([*ones, 1]))
+    yield refusal("nor with one that is too great", program, 67, no_run + too_great, under([*ones[1:], 2]))
+
+
+# ---- seeds and answers
+
+
+SEEDED = """\
+10 F.I=1TO257;F.J=1TO256
+20 P.#1,R.(32767)
+30 N.J;N.I
+"""
+
+
+def seeds():
+    """More than 65,536 questions, each answered by the seed's next word."""
+    steps = 1 + 257 * (1 + 256 * 2 + 1)
+    for seed in (0, 7, 4_294_967_295):
+        shown = "".join(f"{answer}\n" for answer in drawn(seed, 32767, 257 * 256))
+        yield run(f"65,792 answers by the seed {seed}", SEEDED, shown, words=f"--seed {seed} --steps {steps}")
+
+
+# ---- many lines of input
+
+
+SUMMED = f"""\
+10 INPUT V;S=S*3+V,S=S-S/{CHECKSUM}*{CHECKSUM};IF V GOTO 10
+20 P.S,RND(2)
+"""
+
+
+def many_lines():
+    """All runs on 1,000,000 lines, each of which both runs take, and on as many that are not enough."""
+    numbers = values(1_000_000)
+    lines = "".join(f"{number}\n" for number in numbers)
+    shown = "".join(f"V:{number}\n" for number in numbers) + f"{checksum(numbers):6}"
+    # four commands for each line but the last, three for this one, and PRINT
+    steps = 4 * (len(numbers) - 1) + 3 + 1
+    due = "".join(report([k], "END", steps, f"{shown}{k:6}\n") for k in (1, 2))
+    yield run("all runs on 1,000,000 lines", SUMMED, due, words=f"--all --form 1 --steps {steps}", lines=lines)
+    due = report([], "NOINPUT", 2 * len(numbers) + 1, "".join(f"V:{number}\n" for number in numbers) + "V:")
+    yield run("and a line more is asked for", "10 INPUT V;GOTO 10\n", due, words=f"--all --steps {steps}", lines=lines)
+
+
+# ---- sizes of memory
+
+
+def filled(statement, cost):
+    """A program of this statement and a remark that cost so many bytes of memory."""
+    rest = cost - (len(statement) + 3) - 3
+    return f"10 {statement}\n20 {'REM'.ljust(rest, 'X')}\n"
+
+
+def memories():
+    """What programs leave of the least memory, of the usual and of the most."""
+    for words, memory in (("--memory 64", 64), ("", 4096), ("--memory 32767", 32767)):
+        left = memory - len("P.SIZE") - 3
+        yield run(f"SIZE in {memory} bytes", "10 P.SIZE\n", f"{left:6}\n", words=words)
+    least, elements = "--memory 64", "P.SIZE,@(0),@(1)"
+    sorry = f"     0\nSORRY\n10 {elements}?\n"
+    yield run("room for two elements", filled(elements, 62), "     2     0     0\n", words=least)
+    yield run("room for one element", filled(elements, 63), "     1" + sorry, 3, least)
+    yield run("64 bytes for 64", filled(elements, 64), "     0" + sorry, 3, least)
+    yield refusal("65 bytes for 64", filled(elements, 65), 65, "line 2: program full", least)
+
+
+# ---- arguments
+
+
+def arguments():
+    """Seventeen arguments, the last of which names the program, and names that might be taken for others."""
+    options = "--steps 9 --memory 100 --choose 3 --all --under 2 --after 2,1 --first 1 --form 1 --"
+    assert len(options.split()) == 16
+    asking = "A=RND(2);INPUT B;P.#1,A,B,SIZE"
+    program = f"10 {asking}\n20 GOTO 20\n"
+    size = 100 - (len(asking) + 3) - (len("GOTO 20") + 3)
+    due = report([2, 2], "LIMIT", 9, f"B:2\n22{size}\n")
+    yield run("17 arguments", program, due, words=options, lines="")
+    other = '10 P."STANDARD INPUT"\n'
+    for words, name in (("", "-"), ("", " program.bas "), ("", "a program.bas"), ("--", "--list")):
+        yield run(f"a program named {name!r}", '10 P."FILE"\n', "FILE\n", words=words, lines=other, file=name)
 
 
 def cases():
     """All of them, those that take longest first."""
     parts = [most_steps, deepest, long_lines, long_lists, long_texts, long_statements, expressions]
-    parts += [answers_of_input, too_deep]
+    parts += [answers_of_input, too_deep, seeds, many_lines, memories, arguments]
     return [each for part in parts for each in part()]

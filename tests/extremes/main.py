@@ -24,11 +24,11 @@ def stack_beside(words):
     return STACK + sum(len(os.fsencode(word)) + 1 for word in words)
 
 
-def replied_in_small_stack(words, stdin):
-    """Runs these words under the small stack, with this file as standard input."""
+def replied_in_small_stack(words, stdin, folder=None):
+    """Runs these words under the small stack, in this folder, with this file as standard input."""
     size = stack_beside(words)
     limit = functools.partial(resource.setrlimit, resource.RLIMIT_STACK, (size, size))
-    how = {"env": VARIABLES, "preexec_fn": limit, "capture_output": True}
+    how = {"env": VARIABLES, "preexec_fn": limit, "capture_output": True, "cwd": folder}
     try:
         return replied(words, SECONDS_OF_A_RUN, stdin=stdin, **how)
     except OSError as error:
@@ -40,16 +40,16 @@ def tried(task):
     ptb, number = task
     case = CASES[number]
     with tempfile.TemporaryDirectory(prefix="ptb-extremes-") as folder:
-        program = os.path.join(folder, "program.bas")
+        program = os.path.join(folder, case.file)
         stdin = program if case.input is None else os.path.join(folder, "input.txt")
         for path, text in ((program, case.program), (stdin, case.input)):
             if text is not None:
                 with open(path, "wb") as file:
                     file.write(text)
-        words = [ptb, *case.words, *([] if case.input is None else [program])]
+        words = [ptb, *case.words, *([] if case.input is None else [case.file])]
         began = time.monotonic()
         with open(stdin, "rb") as file:
-            reply = replied_in_small_stack(words, file)
+            reply = replied_in_small_stack(words, file, folder)
         return None if reply == case.due else told(reply, case.due), time.monotonic() - began
 
 

@@ -27,8 +27,9 @@ MOST_SPARED = 1
 MOST_SPARED_COPIES = 128
 SECONDS_OF_A_RUN = 60
 OUT_OF_MEMORY = noted(71, "out of memory")
-NO_PROGRAM = noted(66, "cannot read the program")
-NO_INPUT = noted(66, "cannot read the input")
+DEVICE_FAILED = "Input/output error (os error 5)"
+NO_PROGRAM = "cannot read the program"
+NO_INPUT = noted(66, "cannot read the input", f"standard input: {DEVICE_FAILED}")
 UNWRITTEN = noted(74, "cannot write")
 
 
@@ -106,7 +107,7 @@ def is_due(row, kind, struck, reply):
     if not struck or kind == "cut":
         return reply == row.due
     if kind in ("refuse", "deplete"):
-        return reply == row.due or is_cut_short(row, reply, OUT_OF_MEMORY)
+        return reply == row.due or is_cut_short(row, reply, OUT_OF_MEMORY) or is_unexplained(row, reply)
     if kind == "starve":
         return reply == OUT_OF_MEMORY
     if struck == "W1":
@@ -116,7 +117,21 @@ def is_due(row, kind, struck, reply):
     if struck == "R0" and row.input is not None:
         # A run reads a line when it asks for it, so that it may have shown something before.
         return reply == NO_INPUT if "--all" in row.words else is_cut_short(row, reply, NO_INPUT)
-    return reply == NO_PROGRAM
+    return is_program_unread(row, reply)
+
+
+def is_program_unread(row, reply):
+    """Whether the program's text could not be read, and the second line names it."""
+    if row.input is None:
+        return reply == noted(66, NO_PROGRAM, f"standard input: {DEVICE_FAILED}")
+    named = reply.errors.decode().split("/program.bas: ")
+    return len(named) == 2 and reply == noted(66, NO_PROGRAM, f"{named[0].split()[-1]}/program.bas: {DEVICE_FAILED}")
+
+
+def is_unexplained(row, reply):
+    """Whether a list was refused, but memory for the reason in the second line was refused, too."""
+    first, _, second = row.due.errors.partition(b"\n")
+    return row.due.status == 67 and second and reply == replace(row.due, errors=first + b"\n")
 
 
 def is_cut_short(row, reply, note):

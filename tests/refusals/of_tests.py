@@ -17,6 +17,7 @@ TESTS = [
     ("ptb_tests", "copies::refused_copies", set()),
     ("ptb_tests", "copies::refused_behind_a_run", set()),
     ("ptb_tests", "copies::refused_shares", set()),
+    ("ptb_tests", "mismatches::refused_mismatches", set()),
     ("ptb_tests", "plain_runs::refused_seeded_runs", set()),
     ("ptb_tests", "listing::refused_listings_go_on", {"0", "1"}),
 ]

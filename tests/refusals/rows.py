@@ -26,8 +26,10 @@ def served(output, status=0):
     return Reply(status, output.encode(), b"")
 
 
-def noted(status, note, output=""):
-    return Reply(status, output.encode(), f"ptb: {note}\n".encode())
+def noted(status, note, reason=None):
+    """The reply with this note, and with a second line that has this reason."""
+    lines = f"ptb: {note}\n" if reason is None else f"ptb: {note}\n  {reason}\n"
+    return Reply(status, b"", lines.encode())
 
 
 def report(header, transcript):
@@ -53,6 +55,9 @@ FAULT = "10 PRINT 1;A=1/0\n"
 LONG_RUN = "10 F.I=1TO300;P.RND(1);N.I\n"
 LONG_REPORT = report(",".join(["1"] * 300) + " END 601 2100", 300 * "     1\n")
 LONG_TEXT = "".join(f"{k} REM {k}\n" for k in range(1, 50))
+
+OTHER_BOUND = "--{}: item 1 states the bound 3, but its question has 2"
+NOT_UNDER = "--after: the run does not begin with the items of --under"
 
 ROWS = [
     Row("--all --form 1", PRODUCT, "", served("".join(PRODUCTS))),
@@ -80,14 +85,14 @@ ROWS = [
     Row("--list", LONG_TEXT, None, served(LONG_TEXT)),
     Row("", FAULT, None, served("     1\nHOW?\n10 PRINT 1;A=1/0?\n", status=2)),
     Row("", "32768 P.1\n", None, noted(65, "line 1: number too big")),
-    Row("--all --after 2", BRANCH, None, noted(67, "not a run")),
-    Row("--all --after 2/3,1/3", BRANCH, None, noted(67, "not a run")),
-    Row("--all --under 2/3", BRANCH, None, noted(67, "no run begins so")),
-    Row("--all --under 2,1,1 --after 2,1", BRANCH, "", noted(67, "no run begins so")),
-    Row("--all --under 2 --after 1", BRANCH, None, noted(67, "not a run")),
-    Row("--all --under 2,", BRANCH, None, noted(64, "bad list")),
-    Row("--all --after 2/2,1/", BRANCH, None, noted(64, "bad list")),
-    Row("--answers 1,,2", PRODUCT, None, noted(64, "bad list")),
+    Row("--all --after 2", BRANCH, None, noted(67, "not a run", "--after: item 2 is missing; its question allows 1 to 3")),
+    Row("--all --after 2/3,1/3", BRANCH, None, noted(67, "not a run", OTHER_BOUND.format("after"))),
+    Row("--all --under 2/3", BRANCH, None, noted(67, "no run begins so", OTHER_BOUND.format("under"))),
+    Row("--all --under 2,1,1 --after 2,1", BRANCH, "", noted(67, "no run begins so", "--under: the run is over after 2 items")),
+    Row("--all --under 2 --after 1", BRANCH, None, noted(67, "not a run", NOT_UNDER)),
+    Row("--all --under 2,", BRANCH, None, noted(64, "bad list", '--under: item 2 ("") is not a number from 1 to 32767')),
+    Row("--all --after 2/2,1/", BRANCH, None, noted(64, "bad list", '--after: item 2 ("1/") is not a number from 1 to 32767')),
+    Row("--answers 1,,2", PRODUCT, None, noted(64, "bad list", '--answers: item 2 ("") is not a number from 1 to 32767')),
     Row("--help", PRODUCT, None, 0),
     Row("--steps 0", PRODUCT, None, 64),
 ]

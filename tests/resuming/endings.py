@@ -5,6 +5,7 @@ import subprocess
 
 from trials import DICE, LISTING, PROGRAM, Case, read, write
 
+UNREAD = "ptb: cannot read the program\n  none.bas: No such file or directory (os error 2)\n"
 USAGE = "usage: resume FILE -- ptb --all [WORD..]\n"
 
 
@@ -63,7 +64,7 @@ def commands(trials):
     denied = f"resume: {LISTING}: cannot start ./{PROGRAM}: Permission denied\n"
     says(trials, "a command that is none", [LISTING, "--", f"./{PROGRAM}", "--all"], 126, denied, text[:20])
     given = [LISTING, "--", trials.ptb, "--all", "none.bas"]
-    says(trials, "the command can't read its program", given, 66, "ptb: cannot read the program\n", text[:20])
+    says(trials, "the command can't read its program", given, 66, UNREAD, text[:20])
     given = [LISTING, "--", trials.ptb, "--all", "--steps", "0", PROGRAM]
     reply = trials.resume(*given)
     told = (reply.status, reply.file) == (64, text[:20]) and "--steps" in reply.errors

@@ -11,6 +11,9 @@ RUN_ALONE = Case(HEADERS.program, words=("--under=2,1",))
 ALONE = Case(DICE.program, words=("--form", "1"))
 TWO_QUESTIONS = "10 PRINT RND(2)*RND(2)\n"
 
+NOT_A_RUN = "ptb: not a run\n  --after: item 1 is 3, but its question allows 1 to 2\n"
+NO_RUN_BEGINS_SO = "ptb: no run begins so\n  --under: item 1 is 3, but its question allows 1 to 2\n"
+
 # a listing whose answers have their bounds, and a stand-in for the program that writes it: as it goes on behind a run
 BOUNDS = [b"RUN 1/2 END 2 0\n\n", b"RUN 2/2,1/2 HOW 3 2\nAB\n", b"RUN 2/2,2/2 END 3 1\n\n\n"]
 STAND_IN = """#!/bin/sh
@@ -97,7 +100,7 @@ def portions(trials):
     trials.refused("reports behind none", reports[0], words, 65, no_listing(1, "this run doesn't come next"))
     write(LISTING, b"")
     reply = trials.resume(LISTING, "--", trials.ptb, "--all", "--after", "3,1", PROGRAM)
-    trials.count("--after no run", (reply.status, reply.errors, reply.file) == (67, "ptb: not a run\n", b""), reply)
+    trials.count("--after no run", (reply.status, reply.errors, reply.file) == (67, NOT_A_RUN, b""), reply)
 
 
 def shares(trials):
@@ -115,7 +118,7 @@ def shares(trials):
     trials.refused("reports behind the share", b"".join(reports), first, 65, no_listing(len(b"".join(reports[:2])) + 1, cause))
     write(LISTING, b"")
     reply = trials.resume(LISTING, "--", trials.ptb, "--all", "--under", "3", PROGRAM)
-    due = (67, "ptb: no run begins so\n", b"")
+    due = (67, NO_RUN_BEGINS_SO, b"")
     trials.count("--under no run", (reply.status, reply.errors, reply.file) == due, reply)
 
 

@@ -12,14 +12,22 @@ ENDINGS = {"END": 0, "STOP": 0, "WHAT": 1, "HOW": 2, "SORRY": 3, "LIMIT": 4, "NO
 LIMIT, NO_ANSWER, BAD_ANSWER = 4, 6, 7
 BAD_WORDS, REFUSED_PROGRAM, UNREAD, NO_RUN, UNWRITTEN = 64, 65, 66, 67, 74
 
-# The text for errors that goes with each status. Want of memory has one too, but nothing here is short of memory.
+# Why a list fits no run, in the second line.
+MISFIT = (
+    rb"(?:item [1-9]\d* is [1-9]\d*, but its question allows 1 to [1-9]\d*"
+    rb"|item [1-9]\d* states the bound [1-9]\d*, but its question has [1-9]\d*"
+    rb"|the run is over after (?:1 item|(?:0|[1-9]\d*) items))"
+)
+NOT_A_RUN = rb"(?:%b|item [1-9]\d* is missing; its question allows 1 to [1-9]\d*|the run does not begin with the items of --under)" % MISFIT
+
+# The text for errors that goes with each status. Lack of memory has one too, but nothing here is short of memory.
 NOTES = {
     **dict.fromkeys(range(8), rb""),
     BAD_WORDS: rb"(?s).+",
     REFUSED_PROGRAM: rb"ptb: (?:program too long|line [1-9]\d*: "
     rb"(?:no statement number|number too big|text too long|bad byte at [1-9]\d*|program full))\n",
-    UNREAD: rb"ptb: cannot read the (?:program|input)\n",
-    NO_RUN: rb"ptb: (?:not a run|no run begins so)\n",
+    UNREAD: rb"ptb: cannot read the (?:program|input)\n  [^\n]+\n",
+    NO_RUN: rb"ptb: (?:not a run\n  --after: %b|no run begins so\n  --under: %b)\n" % (NOT_A_RUN, MISFIT),
     UNWRITTEN: rb"ptb: cannot write\n",
 }
 SILENT = {BAD_WORDS, REFUSED_PROGRAM, NO_RUN}

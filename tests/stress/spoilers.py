@@ -55,7 +55,7 @@ SPOILERS = {
     "has two reports in each other's place": in_reports(lambda reports: [reports[1], reports[0], *reports[2:]]),
     "leaves out the first report of a share": in_shares(lambda reports: reports[1:]),
     "takes no run for one of a share": lambda call, reply: (
-        replace(reply, status=0, errors=b"") if reply.errors == b"ptb: no run begins so\n" else reply
+        replace(reply, status=0, errors=b"") if reply.errors.startswith(b"ptb: no run begins so\n") else reply
     ),
     "counts one command more": in_reports(lambda reports: [one_step_more(report) for report in reports]),
     "changes a byte of a transcript": in_reports(lambda reports: [one_byte_changed(report) for report in reports]),
@@ -65,6 +65,9 @@ SPOILERS = {
     "takes a bad answer for none": with_status(6, lambda reply: reply.status == 7),
     "crashes in place of SORRY": with_status(-11, lambda reply: reply.status == 3),
     "says nothing on standard error": lambda call, reply: replace(reply, errors=b""),
+    "does not say why a list fits no run": lambda call, reply: (
+        replace(reply, errors=reply.errors.split(b"\n")[0] + b"\n") if reply.status == 67 else reply
+    ),
     "writes what it refuses": lambda call, reply: replace(reply, output=b"?") if reply.status == 67 else reply,
     "lists a blank behind each line": lambda call, reply: (
         replace(reply, output=reply.output.replace(b"\n", b" \n")) if "--list" in call.words else reply
