@@ -1,0 +1,18 @@
+#!/bin/bash
+# Makes docs/outcomes.png, the picture in README.md: the page that tools/outcomes makes of the three doors.
+#
+# It needs the built program, Python 3, and a Chromium (`chromium` of Debian). The first row of the page is
+# opened, as by a click. PTB names another program than the one that ./ptb builds.
+set -eu
+root=$(dirname "$(dirname "$(readlink -f "$0")")")
+ptb=${PTB:-$root/ptb}
+folder=$(mktemp -d)
+trap 'rm -rf "$folder"' EXIT
+
+printf '1\nY\n' | "$ptb" --all "$root/examples/doors.bas" |
+    "$root/tools/outcomes" --by last-line --html "$folder/page.html"
+sed -i '0,/<details>/s//<details open>/' "$folder/page.html"
+HOME=$folder chromium --headless --no-sandbox --disable-gpu --hide-scrollbars \
+    --window-size=860,430 --screenshot="$folder/page.png" "file://$folder/page.html" 2>"$folder/log" ||
+    { cat "$folder/log" >&2; exit 1; }
+mv "$folder/page.png" "$root/docs/outcomes.png"
