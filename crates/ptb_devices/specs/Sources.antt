@@ -2,12 +2,11 @@
 --     Loses old new given          known lines begin with those given, and lose them
 --     NoneLeft lines               no known line is left
 --     given_lines result           the line that a call gave, if it gave one
---     ConsumesAtMost old new n     known bytes lose at most their first n
 --     LineList                     a list of lines, and how many of them were taken
 --     Gives old given new          between two states of such a list, these lines were taken
-use Rattle.std.specs.Prelude.{◌≡◌, ℕ, ◌+◌, ◌≤◌, List, [], ◌∷◌, ◌++◌, length, drop, ⊤, Option, Some, None, Result, Ok, Err}
+use Rattle.std.specs.Prelude.{◌≡◌, ℕ, ◌+◌, List, [], ◌∷◌, ◌++◌, length, drop, ⊤, Option, Some, None, Result, Ok, Err}
 use Rattle.std.specs.Borrow.{Bor}
-use Rattle.std.specs.Io.KnownBytes.{Consumes}
+pub use Rattle.ptb_text.specs.Streams.{ConsumesAtMost}
 
 -- known lines begin with these, and lose them
 abbrev pub Loses : Option (List (List ℕ)) → Option (List (List ℕ)) → List (List ℕ) → Type 0
@@ -25,10 +24,6 @@ abbrev pub given_lines : {E : Type 0} → Result (Option (Bor (List ℕ))) E →
 given_lines (Ok (Some line)) = line.now ∷ []
 given_lines (Ok None) = []
 given_lines (Err fault) = []
-
--- known bytes lose at most their first n
-abbrev pub ConsumesAtMost : Option (List ℕ) → Option (List ℕ) → ℕ → Type 0
-ConsumesAtMost old new n = (bytes : List ℕ) × (length bytes ≤ n) × Consumes old new bytes
 
 -- a list of lines, of which the first ones were taken
 pub record LineList : Type 0 where

@@ -1,12 +1,10 @@
 // This file reads all the input lines of a run at once.
 
-ghost use Rattle.std.specs.Prelude.{◌≡◌, ◌+◌, ◌<◌, ◌≤◌, ℕ, List, ◌++◌, length, Option, Some, OnOk};
-ghost use Rattle.std.specs.Prelude.{IfOk, IfSome, IsErrOf};
-ghost use Rattle.std.specs.Io.KnownBytes.{IsAtEnd};
-ghost use Rattle.ptb_text.specs.Device.{GivesAtMost, GivesExactly, HasFailed};
+ghost use Rattle.std.specs.Prelude.{◌≡◌, ◌+◌, ℕ, List, ◌++◌, Option, Some, OnOk};
+ghost use Rattle.std.specs.Prelude.{IfOk, IfSome, IsErrOf, IsOk};
 ghost use Rattle.ptb_text.specs.Lines.{input_lines};
+ghost use Rattle.ptb_text.specs.Streams.{ReadsUpTo, reads_of};
 ghost use Rattle.ptb_devices.specs.Cutting.{last_line, Cuts, AddsLines};
-ghost use Rattle.ptb_devices.specs.Sources.{ConsumesAtMost};
 
 use crate::cutter::LineCutter;
 use crate::fault::ReadFault;
@@ -31,25 +29,10 @@ pub(crate) const BUFFER_SIZE: usize = 4096;
 pub fn read_lines<R: Read>(alloc: Global, reader: &mut R) -> Result<Vec<Line>, ReadFault>
     ensures lines { IfOk result
         (λ ls. IfSome (R.remaining reader.old) (λ b. ls.items ≡ input_lines b)) }
-    ensures within { OnOk result (IfSome (R.remaining reader.old) (λ b. length b ≤ INPUT_LIMIT)) }
-    ensures end { OnOk result (IsAtEnd (R.remaining reader.new)) }
-
-    ensures too_long { IsErrOf result ReadFault.TooLong
-        → IfSome (R.remaining reader.old) (λ b. INPUT_LIMIT < length b) }
-    ensures read { IsErrOf result ReadFault.Read
-        → HasFailed (R.failures reader.old) (R.failures reader.new) }
-    ensures unfailed { ¬ IsErrOf result ReadFault.Read
-        → R.failures reader.new ≡ R.failures reader.old }
-    ensures later { R.failures reader.old ≤ R.failures reader.new }
-    ensures bounded { ConsumesAtMost (R.remaining reader.old) (R.remaining reader.new)
-        (INPUT_LIMIT + 1) }
-
-    // How many bytes were given, also where nobody knows which.
-    ensures given { GivesAtMost (R.given reader.old) (R.given reader.new) (INPUT_LIMIT + 1) }
-    ensures given_ok { OnOk result
-        (GivesAtMost (R.given reader.old) (R.given reader.new) INPUT_LIMIT) }
-    ensures given_too_long { IsErrOf result ReadFault.TooLong
-        → GivesExactly (R.given reader.old) (R.given reader.new) (INPUT_LIMIT + 1) }
+    ensures reads { ReadsUpTo INPUT_LIMIT
+        (reads_of R.remaining R.given R.failures reader.old reader.new)
+        (IsOk result) (IsErrOf result ReadFault.TooLong) (IsErrOf result ReadFault.Read) }
+    ensures sure { R.reliable reader.old → ¬ IsErrOf result ReadFault.Read }
 {
     let mut buffer = [0; BUFFER_SIZE];
     let mut cutter = LineCutter::new();

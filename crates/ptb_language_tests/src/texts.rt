@@ -1,7 +1,10 @@
 // This file tests loading, entering and listing, also over devices that fail.
 
 use crate::shared::expect_same;
-use ptb_text::{Device, DeviceFault, LoadFault, Program, Read, Write, WriteFault, list, load};
+use ptb_text::{
+    ByteSink, ByteSource, Device, DeviceFault, LoadFault, Program, Read, Write, WriteFault, list,
+    load,
+};
 use std::alloc::{AllocError, Global};
 use std::collections::BTreeMap;
 use std::fmt::Display;
@@ -16,7 +19,7 @@ struct Pieces<'a> {
     fails: bool,
 }
 
-impl io::Read for Pieces<'_> {
+impl ByteSource for Pieces<'_> {
     fn read(&mut self, buf: &mut [u8]) -> io::Result<usize> {
         if self.bytes.is_empty() && self.fails {
             return Err(io::Error::from(io::ErrorKind::Other));
@@ -34,7 +37,7 @@ struct Endless {
     given: usize,
 }
 
-impl io::Read for &mut Endless {
+impl ByteSource for &mut Endless {
     fn read(&mut self, buf: &mut [u8]) -> io::Result<usize> {
         for byte in buf.iter_mut() {
             *byte = b'A';
@@ -64,7 +67,7 @@ impl Sink {
     }
 }
 
-impl io::Write for &mut Sink {
+impl ByteSink for &mut Sink {
     fn write(&mut self, buf: &[u8]) -> io::Result<usize> {
         self.call()?;
         let taken = self.piece.min(buf.len());
@@ -393,6 +396,30 @@ fn writers_are_flushed(rt: HostRuntime) {
     let wanted = (Ok(3), Err(DeviceFault), Ok(()));
     expect_same(&rt, "results", (first, second, third), wanted);
     expect_same(&rt, "bytes", sink.taken.as_slice(), b"ABC");
+}
+
+#[test]
+fn rooms_take_what_they_have_room_for(rt: HostRuntime) {
+    let mut room = [0; 5];
+    let mut writer = Device::new(&mut room[..]);
+    let first = (writer.write_all(b"ABC"), writer.flush());
+    let second = (writer.write_all(b"DEF"), writer.flush());
+    let wanted = ((Ok(()), Ok(())), (Err(DeviceFault), Ok(())));
+    expect_same(&rt, "results", (first, second), wanted);
+    expect_same(&rt, "bytes", &room[..], b"ABCDE");
+}
+
+#[test]
+fn vectors_take_all(rt: HostRuntime) {
+    let mut taken = Vec::new(rt.alloc());
+    let mut writer = Device::new(&mut taken);
+    let results = (
+        writer.write_all(b"ABC"),
+        writer.flush(),
+        writer.write_all(b"D"),
+    );
+    expect_same(&rt, "results", results, (Ok(()), Ok(()), Ok(())));
+    expect_same(&rt, "bytes", taken.as_slice(), b"ABCD");
 }
 
 #[test]

@@ -1,16 +1,17 @@
 -- This file proves what entering the lines of a text one after the other gives.
 use Rattle.std.specs.Prelude.{slice_index_or}
-use Rattle.std.proofs.Common.{◌≡◌, ◌≢◌, ℕ, suc, ◌+◌, ◌-◌, ◌<◌, ◌≤◌, List, [], ◌∷◌, ◌++◌, length, map, take, drop, Option, Some, None, IfSome, Result, Ok, Err, IsOk, IfOk, IfErr, OnOk, refl, subst, sym, ap, ◌∙◌, arith, append-nil, length-take, length-drop}
+use Rattle.std.proofs.Common.{◌≡◌, ℕ, suc, ◌+◌, ◌-◌, ◌<◌, ◌≤◌, List, [], ◌∷◌, ◌++◌, length, map, take, drop, Option, Some, None, IfSome, Result, Ok, Err, IsOk, IfOk, IfErr, refl, subst, sym, ap, ◌∙◌, arith, append-nil, length-take, length-drop}
 use Rattle.std.proofs.lemmas.List.{take-append-drop, drop-drop, get_or-drop}
 use Rattle.std.proofs.Math.Seq.{take-add}
-use Rattle.std.specs.Result.{is_ok}
+use Rattle.std.proofs.lemmas.Result.{err_from_is_err_and}
+use Rattle.std.specs.Result.{IsErrAnd, is_ok}
 use Rattle.ptb_text.specs.declared.fault.LoadFault.{LoadFault}
 use Rattle.ptb_text.specs.declared.fault.LoadFault.TheVariants.{Memory, Read, TooLong}
-use Rattle.ptb_text.specs.Device.{GivesAtMost, GivesExactly, HasFailed}
 use Rattle.ptb_text.specs.Entry.{IsLineFault}
 use Rattle.ptb_text.specs.Lines.{lines, program_lines, tab_as_space}
-use Rattle.ptb_text.specs.Loading.{AcceptsLines, HasTextAt, IsLoaded, IsRefusedAt, StoresTextAt}
+use Rattle.ptb_text.specs.Loading.{AcceptsLines, HasFault, HasTextAt, IsLoaded, IsRefusedAt, Loads, ReadsProgram, StoresTextAt}
 use Rattle.ptb_text.specs.Statements.{HasText, Statements, StoredProgram, after_line, after_lines, program_limit}
+use Rattle.ptb_text.specs.Streams.{Reads}
 use Rattle.ptb_text.proofs.Pieces.{lines-spaces}
 
 abbrev Lines : Type 0
@@ -138,71 +139,91 @@ unfolding after_lines
 AcceptsLines-none None memory = tt
 AcceptsLines-none (Some b) memory = refl
 
-pub nothing : 0 < 0 → ⊥
-nothing h = omega arith
-
 not_too_long : TooLong ≡ Memory → ⊥
 not_too_long e = cc e
 
 not_read : Read ≡ Memory → ⊥
 not_read e = cc e
 
--- ---- what loading a text comes to
+only_memory : (e : ℕ × LoadFault) → (¬ IsLineFault e.1 → e.1 ≡ Memory) → (f : LoadFault) → e.1 ≡ f → ¬ IsLineFault f → f ≡ Memory
+only_memory e only f is other = sym is ∙ only (subst (λ (g : LoadFault). ¬ IsLineFault g) (sym is) other)
 
-module _ (bytes0 : Option (List ℕ)) (failed0 failed1 given0 given1 memory : ℕ) where
-  pub record IsLoad (result : Result StoredProgram (ℕ × LoadFault)) : Type 0 where
-    pub memory_is : IfOk result (λ p. p.memory ≡ memory)
-    pub ok : IfOk result (λ p. IfSome bytes0 (λ b. IsLoaded memory b p.lines))
-    pub refused : IfErr result (λ e. IsLineFault e.1 → IfSome bytes0 (λ b. IsRefusedAt memory b e))
-    pub too_long : IfErr result (λ e. e.1 ≡ TooLong → (e.0 ≡ 0) × IfSome bytes0 (λ b. program_limit < length b))
-    pub read : IfErr result (λ e. e.1 ≡ Read → (e.0 ≡ 0) × HasFailed failed0 failed1)
-    pub memory_last : IfErr result (λ e. e.1 ≡ Memory → IfSome bytes0 (λ b. AcceptsLines memory b e.0))
-    pub memory_line : IfErr result (λ e. e.1 ≡ Memory → 0 < e.0 → IfSome bytes0 (λ b. StoresTextAt b e.0))
-    pub given : GivesAtMost given0 given1 (program_limit + 1)
-    pub given_ok : OnOk result (GivesAtMost given0 given1 program_limit)
-    pub given_line : IfErr result (λ e. 0 < e.0 → GivesAtMost given0 given1 program_limit)
-    pub given_too_long : IfErr result (λ e. e.1 ≡ TooLong → GivesExactly given0 given1 (program_limit + 1))
-    pub unfailed : IfErr result (λ e. e.1 ≢ Read → failed1 ≡ failed0)
-    pub unfailed_ok : OnOk result (failed1 ≡ failed0)
+-- ---- what loading a text results in
 
-  -- the text was read, and its lines were entered
-  module _ (text spaced : List ℕ) (is : IfSome bytes0 (λ b. b ≡ text)) (written_over : spaced ≡ map tab_as_space text) (short : length text ≤ program_limit)
-      (given : GivesAtMost given0 given1 (program_limit + 1)) (given_text : GivesAtMost given0 given1 program_limit) (unfailed : failed1 ≡ failed0) (room : ℕ) (same : room ≡ memory) where
-    pub loaded : (result : Result StoredProgram (ℕ × LoadFault)) → IfOk result (λ p. p.memory ≡ room)
-        → IfOk result (λ p. after_lines (lines spaced) 1 [] room ≡ Ok p.lines)
-        → IfErr result (λ e. IsLineFault e.1 → after_lines (lines spaced) 1 [] room ≡ Err e)
-        → IfErr result (λ e. ¬ IsLineFault e.1 → (e.1 ≡ Memory) × IsOk (after_lines (take e.0 (lines spaced)) 1 [] room))
-        → IfErr result (λ e. e.1 ≡ Memory → HasTextAt (lines spaced) e.0)
-        → IsLoad result
-    loaded (Ok p) memory_kept ok refusal accepts stores = record {
-      memory_is = memory_kept ∙ same;
-      ok = IsLoaded-from_lines bytes0 text spaced memory is written_over (Ok p) short (subst (λ (m : ℕ). after_lines (lines spaced) 1 [] m ≡ Ok p.lines) same ok);
-      refused = tt;
-      too_long = tt;
-      read = tt;
-      memory_last = tt;
-      memory_line = tt;
-      given = given;
-      given_ok = given_text;
-      given_line = tt;
-      given_too_long = tt;
-      unfailed = tt;
-      unfailed_ok = unfailed;
-    }
-    loaded (Err e) memory_kept ok refusal accepts stores =
-        let other : (f : LoadFault) → e.1 ≡ f → ¬ IsLineFault f → f ≡ Memory = λ f h no. sym h ∙ (accepts (subst (λ (g : LoadFault). ¬ IsLineFault g) (sym h) no)).0 in
-        record {
-          memory_is = tt;
-          ok = tt;
-          refused = IsRefusedAt-from_lines bytes0 text spaced memory is written_over (Err e) short (subst (λ (m : ℕ). IsLineFault e.1 → after_lines (lines spaced) 1 [] m ≡ Err e) same refusal);
-          too_long = λ h. absurd (not_too_long (other TooLong h (λ l. l)));
-          read = λ h. absurd (not_read (other Read h (λ l. l)));
-          memory_last = AcceptsLines-from_lines bytes0 text spaced memory is written_over (Err e) (subst (λ (m : ℕ). ¬ IsLineFault e.1 → (e.1 ≡ Memory) × IsOk (after_lines (take e.0 (lines spaced)) 1 [] m)) same accepts);
-          memory_line = StoresTextAt-from_lines bytes0 text spaced memory is written_over (Err e) short stores;
-          given = given;
-          given_ok = tt;
-          given_line = λ _. given_text;
-          given_too_long = λ h. absurd (not_too_long (other TooLong h (λ l. l)));
-          unfailed = λ _. unfailed;
-          unfailed_ok = tt;
-        }
+-- the text could not be read
+module _ (memory : ℕ) (known : Option (List ℕ)) (e : ℕ × LoadFault) (whole : e.0 ≡ 0) (no_line : ¬ IsLineFault e.1) where
+  unloaded : Loads memory known (Err e)
+  unloaded = record {
+    size = tt;
+    ok = tt;
+    refused = λ line_fault. absurd (no_line line_fault);
+    too_long = λ _. whole;
+    unread = λ _. whole;
+    memory_last = λ _. subst (λ (k : ℕ). IfSome known (λ b. AcceptsLines memory b k)) (sym whole) (AcceptsLines-none known memory);
+    memory_line = λ _. λ some. absurd (omega (arith, whole, some));
+  }
+
+  pub unread_loads : (r : Result StoredProgram (ℕ × LoadFault)) → IsErrAnd r (λ y. y ≡ e) → Loads memory known r
+  unread_loads r is =
+      let p = err_from_is_err_and r is in
+      subst (Loads memory known) (sym (p.1 ∙ ap Err p.2)) unloaded
+
+module _ {R : Type 0} (input : Reads R) where
+  pub unread_reads : {U : Type 0} (e : ℕ × LoadFault) (r : Result U (ℕ × LoadFault)) → IsErrAnd r (λ y. y ≡ e) → ReadsProgram {T = U} input (Err e) → ReadsProgram input r
+  unread_reads {U} e r is reads =
+      let p = err_from_is_err_and r is in
+      subst (ReadsProgram {T = U} input) (sym (p.1 ∙ ap Err p.2)) reads
+
+pub unread_sure : {U : Type 0} (e : ℕ × LoadFault) (r : Result U (ℕ × LoadFault)) → IsErrAnd r (λ y. y ≡ e) → ¬ (e.1 ≡ Read) → ¬ HasFault r Read
+unread_sure {U} e r is none =
+    let p = err_from_is_err_and r is in
+    subst (λ (r : Result U (ℕ × LoadFault)). ¬ HasFault r Read) (sym (p.1 ∙ ap Err p.2)) none
+
+-- the text was read, and its lines were entered
+module _ (known : Option (List ℕ)) (memory : ℕ) (text spaced : List ℕ) (is : IfSome known (λ b. b ≡ text)) (written_over : spaced ≡ map tab_as_space text) (short : length text ≤ program_limit) (room : ℕ) (same : room ≡ memory) where
+  pub loaded : (result : Result StoredProgram (ℕ × LoadFault)) → IfOk result (λ p. p.memory ≡ room)
+      → IfOk result (λ p. after_lines (lines spaced) 1 [] room ≡ Ok p.lines)
+      → IfErr result (λ e. IsLineFault e.1 → after_lines (lines spaced) 1 [] room ≡ Err e)
+      → IfErr result (λ e. ¬ IsLineFault e.1 → (e.1 ≡ Memory) × IsOk (after_lines (take e.0 (lines spaced)) 1 [] room))
+      → IfErr result (λ e. e.1 ≡ Memory → HasTextAt (lines spaced) e.0)
+      → Loads memory known result
+  loaded (Ok p) memory_kept ok refusal accepts stores = record {
+    size = memory_kept ∙ same;
+    ok = IsLoaded-from_lines known text spaced memory is written_over (Ok p) short (subst (λ (m : ℕ). after_lines (lines spaced) 1 [] m ≡ Ok p.lines) same ok);
+    refused = tt;
+    too_long = tt;
+    unread = tt;
+    memory_last = tt;
+    memory_line = tt;
+  }
+  loaded (Err e) memory_kept ok refusal accepts stores = record {
+    size = tt;
+    ok = tt;
+    refused = IsRefusedAt-from_lines known text spaced memory is written_over (Err e) short (subst (λ (m : ℕ). IsLineFault e.1 → after_lines (lines spaced) 1 [] m ≡ Err e) same refusal);
+    too_long = λ h. absurd (not_too_long (only_memory e (λ h. (accepts h).0) TooLong h (λ l. l)));
+    unread = λ h. absurd (not_read (only_memory e (λ h. (accepts h).0) Read h (λ l. l)));
+    memory_last = AcceptsLines-from_lines known text spaced memory is written_over (Err e) (subst (λ (m : ℕ). ¬ IsLineFault e.1 → (e.1 ≡ Memory) × IsOk (after_lines (take e.0 (lines spaced)) 1 [] m)) same accepts);
+    memory_line = StoresTextAt-from_lines known text spaced memory is written_over (Err e) short stores;
+  }
+
+-- what was read stays what was read, whatever came of the lines
+module _ {R T U : Type 0} (input : Reads R) (text : T) (whole : ReadsProgram input (Ok text)) where
+  pub loaded_reads : (P : ℕ × LoadFault → Type 0) (result : Result U (ℕ × LoadFault)) → IfErr result (λ e. ¬ IsLineFault e.1 → (e.1 ≡ Memory) × P e) → ReadsProgram input result
+  loaded_reads P (Ok p) other = whole
+  loaded_reads P (Err e) other = record {
+    consumed = whole.consumed;
+    given = whole.given;
+    end = λ _. whole.end tt;
+    within = λ _. whole.within tt;
+    given_within = λ _. whole.given_within tt;
+    longer = λ h. absurd (not_too_long (only_memory e (λ h. (other h).0) TooLong h (λ l. l)));
+    given_longer = λ h. absurd (not_too_long (only_memory e (λ h. (other h).0) TooLong h (λ l. l)));
+    has_failed = λ h. absurd (not_read (only_memory e (λ h. (other h).0) Read h (λ l. l)));
+    unfailed = λ _. whole.unfailed (λ h. h);
+    later = whole.later;
+  }
+
+-- a reader was at no fault while lines were entered
+pub loaded_sure : {U : Type 0} (P : ℕ × LoadFault → Type 0) (result : Result U (ℕ × LoadFault)) → IfErr result (λ e. ¬ IsLineFault e.1 → (e.1 ≡ Memory) × P e) → ¬ HasFault result Read
+loaded_sure P (Ok p) other = λ h. h
+loaded_sure P (Err e) other = λ h. not_read (only_memory e (λ h. (other h).0) Read h (λ l. l))

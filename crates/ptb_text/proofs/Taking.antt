@@ -1,5 +1,5 @@
 -- This file proves how bytes that are taken in pieces add up to the bytes as a whole.
-use Rattle.std.proofs.Common.{◌≡◌, ℕ, ◌+◌, ◌-◌, List, [], ◌∷◌, ◌++◌, length, take, drop, Option, Result, Ok, Err, OnOk, OnErr, true, false, refl, sym, ap, ◌∙◌, subst, append_assoc, append-nil, arith, length-append, length-drop}
+use Rattle.std.proofs.Common.{◌≡◌, ℕ, ◌+◌, ◌-◌, ◌<◌, ◌≤◌, List, [], ◌∷◌, ◌++◌, length, take, drop, Option, Result, Ok, Err, OnOk, OnErr, true, false, refl, sym, ap, ◌∙◌, subst, append_assoc, append-nil, arith, length-append, length-drop, length-take}
 use Rattle.std.proofs.Math.Seq.{take-append-add}
 use Rattle.std.proofs.lemmas.List.{take-append-drop, take-append-le, take_all}
 use Rattle.std.specs.Result.{IsErrAnd, is_ok}
@@ -40,6 +40,30 @@ IsTakenUpTo_fault {a} {b} {bytes} {rest} c before now =
     let same : take (length front + m) bytes ≡ front ++ take m rest = ap (take (length front + m)) before.whole ∙ take-append-add front rest m in
     let size : length bytes ≡ length front + length rest = ap length before.whole ∙ length-append front rest in
     (length front + m, omega (arith, now.1), subst (Appends a c) (sym same) (Appends-trans a b c front (take m rest) before.taken now.2))
+
+-- ---- what is taken without failing
+
+rest_within : {a b : Option (List ℕ)} {bytes rest : List ℕ} → IsTakenUpTo a b bytes rest → length rest ≤ length bytes
+rest_within {a} {b} {bytes} {rest} before = omega (arith, ap length before.whole, length-append before.front rest)
+
+-- a writer that took all bytes but the rest
+module _ (first now : ℕ → Type 0) {a b : Option (List ℕ)} {bytes rest : List ℕ} (before : IsTakenUpTo a b bytes rest) (sure : (k : ℕ) → length bytes ≤ k → first k → now (k - (length bytes - length rest))) where
+  -- it takes n bytes of the rest
+  pub sure_more : (next : ℕ → Type 0) (n : ℕ) → n ≤ length rest → ((k : ℕ) → length rest ≤ k → now k → (0 < length rest → 0 < n) × next (k - n))
+      → (k : ℕ) → length bytes ≤ k → first k → next (k - (length bytes - length (take (length rest - n) (drop n rest))))
+  sure_more next n some takes k within was =
+      let left : length (take (length rest - n) (drop n rest)) ≡ length rest - n = omega (arith, length-take (length rest - n) (drop n rest), length-drop n rest) in
+      let size : length rest ≤ length bytes = rest_within before in
+      let took = (takes (k - (length bytes - length rest)) (omega (arith, size, within)) (sure k within was)).1 in
+      subst next (omega (arith, left, size, some, within)) took
+
+  -- the next write does not fail
+  pub sure_written : ((k : ℕ) → length rest ≤ k → now k → ⊥) → (k : ℕ) → length bytes ≤ k → first k → ⊥
+  sure_written fails k within was = fails (k - (length bytes - length rest)) (omega (arith, rest_within before, within)) (sure k within was)
+
+  -- there is no rest
+  pub sure_all : length rest ≡ 0 → (k : ℕ) → length bytes ≤ k → first k → now (k - length bytes)
+  sure_all none k within was = subst now (omega (arith, none)) (sure k within was)
 
 -- ---- a piece at a time
 

@@ -1,14 +1,14 @@
 -- This file proves what reading a whole text comes to, by what was read before and what the last read did.
-use Rattle.std.proofs.Common.{◌≡◌, ◌≢◌, ◌∙◌, ◌+◌, ◌-◌, ◌<◌, ◌≤◌, ℕ, zero, suc, List, [], ◌++◌, length, take, min, Option, None, Some, IfSome, Result, Ok, Err, IfErr, IfOk, OnOk, refl, ap, subst, arith, inl, inr, append-nil, length-append, length-take, vec_len}
+use Rattle.std.proofs.Common.{◌≡◌, ◌∙◌, ◌+◌, ◌-◌, ◌<◌, ◌≤◌, ℕ, zero, suc, List, [], ◌++◌, length, take, min, Option, None, Some, IfSome, Ok, Err, refl, ap, subst, arith, inl, inr, append-nil, length-append, length-take, vec_len}
 use Rattle.std.specs.Global.{Vec}
 use Rattle.std.specs.Io.KnownBytes.{Consumes, IsAtEnd, Keeps}
 use Rattle.std.proofs.lemmas.Bool.{cases_lt}
 use Rattle.std.proofs.KnownBytes.{Consumes-trans, Consumes-kept}
-use Rattle.ptb_text.specs.declared.fault.LoadFault.{LoadFault}
 use Rattle.ptb_text.specs.declared.fault.LoadFault.TheVariants as faults
-use Rattle.ptb_text.specs.Device.{GivesAtMost, GivesExactly, HasFailed, failure_limit, given_limit}
-use Rattle.ptb_text.specs.Entry.{IsLineFault}
+use Rattle.ptb_text.specs.Device.{GivesExactly, HasFailed, failure_limit, given_limit}
+use Rattle.ptb_text.specs.Loading.{ReadsProgram}
 use Rattle.ptb_text.specs.Statements.{program_limit}
+use Rattle.ptb_text.specs.Streams.{ConsumesAtMost, Reads}
 use Rattle.ptb_text.proofs.Counting.{IsCountedUpTo, IsCountedUpTo_more}
 
 -- a reader that gave more than the limit had more
@@ -35,107 +35,97 @@ failed old new count = elim (cases_lt old failure_limit) [
   | inr at ↦ inr (omega (arith, count.0))
 ]
 
--- the reader at the beginning
-module _ (bytes0 : Option (List ℕ)) (failed0 given0 : ℕ) where
-  -- what is told of a text that was read, or of why it wasn't
-  pub record IsText (bytes1 : Option (List ℕ)) (failed1 given1 : ℕ) (result : Result (Vec ℕ) LoadFault) : Type 0 where
-    pub ok : IfOk result (λ text. IfSome bytes0 (λ b. b ≡ text.items))
-    pub short : IfOk result (λ text. vec_len text ≤ program_limit)
-    pub at_end : OnOk result (IsAtEnd bytes1)
-    pub too_long : IfErr result (λ f. f ≡ faults.TooLong → IfSome bytes0 (λ b. program_limit < length b))
-    pub read : IfErr result (λ f. f ≡ faults.Read → HasFailed failed0 failed1)
-    pub unfailed : IfErr result (λ f. f ≢ faults.Read → failed1 ≡ failed0)
-    pub unfailed_ok : OnOk result (failed1 ≡ failed0)
-    pub line_fault : IfErr result (λ f. ¬ IsLineFault f)
-    pub given : GivesAtMost given0 given1 (program_limit + 1)
-    pub given_ok : OnOk result (GivesAtMost given0 given1 program_limit)
-    pub given_too_long : IfErr result (λ f. f ≡ faults.TooLong → GivesExactly given0 given1 (program_limit + 1))
-    pub bounded : (bs : List ℕ) × Consumes bytes0 bytes1 bs × (length bs ≤ program_limit + 1)
+-- a text whose bytes are these isn't too long
+not_longer : (a : Option (List ℕ)) (bs : List ℕ) (limit : ℕ) → length bs ≤ limit → IfSome a (λ b. b ≡ bs) → IfSome a (λ b. length b ≤ limit)
+not_longer None bs limit short same = tt
+not_longer (Some xs) bs limit short same = omega (arith, short, ap length same)
+
+-- all that the reader gave, from its beginning on
+module _ {R : Type 0} (input : Reads R) where
+  -- it was read to its end
+  pub record IsWholeText (text : Vec ℕ) : Type 0 where
+    pub ok : IfSome input.bytes (λ b. b ≡ text.items)
+    pub short : vec_len text ≤ program_limit
+    pub reads : ReadsProgram {T = Vec ℕ} input (Ok text)
+
+  -- more than the limit was read
+  pub text_too_long : (text : Vec ℕ) → text.len ≡ length text.items → vec_len text ≤ 1048577 → input.fails ≡ input.failed → IsCountedUpTo input.gave input.gives (vec_len text) → Consumes input.bytes input.left text.items
+      → (len : ℕ) → len ≡ vec_len text → 1048576 < len → ReadsProgram {T = Vec ℕ} input (Err (0, faults.TooLong))
+  text_too_long text size bound unfailed counted taken len told over = record {
+    consumed = (text.items, omega (arith, size, bound), taken);
+    given = (counted.at_most.0, omega (arith, counted.at_most.1, bound));
+    end = λ h. absurd (omega arith);
+    within = λ h. absurd (omega arith);
+    given_within = λ h. absurd (omega arith);
+    longer = λ _. longer input.bytes input.left text.items program_limit (omega (arith, size, told, over)) taken;
+    given_longer = λ _. let all : vec_len text ≡ program_limit + 1 = omega (arith, bound, told, over) in subst (GivesExactly input.gave input.gives) all (counted.exactly (omega (arith, told, over)));
+    has_failed = λ e. absurd cc;
+    unfailed = λ _. unfailed;
+    later = omega (arith, unfailed);
+  }
 
   -- what was read before
-  module _ (bytes : Option (List ℕ)) (failures given : ℕ) (text : Vec ℕ) (size : text.len ≡ length text.items) (bound : vec_len text ≤ 1048577) (unfailed : failures ≡ failed0) (counted : IsCountedUpTo given0 given (vec_len text)) (taken : Consumes bytes0 bytes text.items) where
-    -- more than the limit was read
-    pub text_too_long : (len : ℕ) → len ≡ vec_len text → 1048576 < len → IsText bytes failures given (Err faults.TooLong)
-    text_too_long len told over = record {
-      ok = tt;
-      short = tt;
-      at_end = tt;
-      too_long = λ _. longer bytes0 bytes text.items program_limit (omega (arith, size, told, over)) taken;
-      read = λ e. absurd cc;
-      unfailed = λ _. unfailed;
-      unfailed_ok = tt;
-      line_fault = λ h. h;
-      given = (counted.at_most.0, omega (arith, counted.at_most.1, bound));
-      given_ok = tt;
-      given_too_long = λ _. let all : vec_len text ≡ program_limit + 1 = omega (arith, bound, told, over) in subst (GivesExactly given0 given) all (counted.exactly (omega (arith, told, over)));
-      bounded = (text.items, taken, omega (arith, size, bound));
+  module _ (bytes : Option (List ℕ)) (failures given : ℕ) (text : Vec ℕ) (size : text.len ≡ length text.items) (bound : vec_len text ≤ 1048577) (unfailed : failures ≡ input.failed) (counted : IsCountedUpTo input.gave given (vec_len text)) (taken : Consumes input.bytes bytes text.items) where
+    -- a read failed
+    pub text_failed : Keeps bytes input.left → (given ≤ given_limit) × (input.gives ≡ given) → (failures ≤ failure_limit) × (input.fails ≡ min (failures + 1) failure_limit) → ReadsProgram {T = Vec ℕ} input (Err (0, faults.Read))
+    text_failed keeps gives counts = record {
+      consumed = (text.items, omega (arith, size, bound), Consumes-kept input.bytes bytes input.left text.items taken keeps);
+      given = (omega (arith, counted.at_most.0, gives.1), omega (arith, counted.at_most.1, bound, gives.1));
+      end = λ h. absurd (omega arith);
+      within = λ h. absurd (omega arith);
+      given_within = λ h. absurd (omega arith);
+      longer = λ e. absurd cc;
+      given_longer = λ e. absurd cc;
+      has_failed = λ _. subst (λ (k : ℕ). HasFailed k input.fails) unfailed (failed failures input.fails counts);
+      unfailed = λ other. absurd (other refl);
+      later = omega (arith, unfailed, counts.0, counts.1);
     }
 
-    module _ (bytes1 : Option (List ℕ)) (failed1 given1 : ℕ) where
-      -- a read failed
-      pub text_failed : Keeps bytes bytes1 → (given ≤ given_limit) × (given1 ≡ given) → (failures ≤ failure_limit) × (failed1 ≡ min (failures + 1) failure_limit) → IsText bytes1 failed1 given1 (Err faults.Read)
-      text_failed keeps gives counts = record {
-        ok = tt;
-        short = tt;
-        at_end = tt;
-        too_long = λ e. absurd cc;
-        read = λ _. subst (λ (k : ℕ). HasFailed k failed1) unfailed (failed failures failed1 counts);
-        unfailed = λ other. absurd (other refl);
-        unfailed_ok = tt;
-        line_fault = λ h. h;
-        given = (omega (arith, counted.at_most.0, gives.1), omega (arith, counted.at_most.1, bound, gives.1));
-        given_ok = tt;
-        given_too_long = λ e. absurd cc;
-        bounded = (text.items, Consumes-kept bytes0 bytes bytes1 text.items taken keeps, omega (arith, size, bound));
-      }
+    -- a read gave so many bytes, into a buffer with so much room
+    module _ (k room : ℕ) (buf piece : List ℕ) (tested : ℕ) (was : tested ≡ vec_len text) (under : tested ≤ 1048576) (len : ℕ) (told : len ≡ vec_len text) (left : room ≡ min 4096 (1048577 - len))
+        (fits : k ≤ length (take room piece)) (took : Consumes bytes input.left (take k buf) × (k ≡ 0 → 0 < length buf → IsAtEnd input.left)) (gives : (given ≤ given_limit) × GivesExactly given input.gives k) (counts : (failures < failure_limit) × (input.fails ≡ failures)) where
+      more : IsCountedUpTo input.gave input.gives (vec_len text + k)
+      more = IsCountedUpTo_more input.gave given input.gives (vec_len text) k counted gives.0 gives.1
 
-      -- a read gave so many bytes, into a buffer with so much room
-      module _ (k room : ℕ) (buf piece : List ℕ) (tested : ℕ) (was : tested ≡ vec_len text) (under : tested ≤ 1048576) (len : ℕ) (told : len ≡ vec_len text) (left : room ≡ min 4096 (1048577 - len))
-          (fits : k ≤ length (take room piece)) (took : Consumes bytes bytes1 (take k buf) × (k ≡ 0 → 0 < length buf → IsAtEnd bytes1)) (gives : (given ≤ given_limit) × GivesExactly given given1 k) (counts : (failures < failure_limit) × (failed1 ≡ failures)) where
-        more : IsCountedUpTo given0 given1 (vec_len text + k)
-        more = IsCountedUpTo_more given0 given given1 (vec_len text) k counted gives.0 gives.1
+      same : input.fails ≡ input.failed
+      same = counts.1 ∙ unfailed
 
-        same : failed1 ≡ failed0
-        same = counts.1 ∙ unfailed
+      consumed : ConsumesAtMost input.bytes input.left (program_limit + 1)
+      consumed = (text.items ++ take k buf, omega (arith, length-append text.items (take k buf), length-take k buf, size, told, was, under, left, fits, length-take room piece), Consumes-trans input.bytes bytes input.left text.items (take k buf) taken took.0)
 
-        size_more : length (text.items ++ take k buf) ≤ program_limit + 1
-        size_more = omega (arith, length-append text.items (take k buf), length-take k buf, size, told, was, under, left, fits, length-take room piece)
-
-        more_bounded : (bs : List ℕ) × Consumes bytes0 bytes1 bs × (length bs ≤ program_limit + 1)
-        more_bounded = (text.items ++ take k buf, Consumes-trans bytes0 bytes bytes1 text.items (take k buf) taken took.0, size_more)
-
-        -- none: it has come to its end
-        pub text_read : k ≡ 0 → length piece ≡ 4096 → length buf ≡ length (take room piece) → IsText bytes1 failed1 given1 (Ok text)
-        text_read none there filled =
-            let end : IsAtEnd bytes1 = took.1 none (omega (arith, filled, length-take room piece, there, left, told, was, under)) in
-            record {
-              ok = all_given bytes0 bytes bytes1 text.items (take k buf) taken took.0 end (take_none k buf none);
-              short = omega (arith, told, was, under);
-              at_end = end;
-              too_long = tt;
-              read = tt;
-              unfailed = tt;
-              unfailed_ok = same;
-              line_fault = tt;
+      -- none: it has come to its end
+      pub ends_text : k ≡ 0 → length piece ≡ 4096 → length buf ≡ length (take room piece) → IsWholeText text
+      ends_text none there filled =
+          let at_end : IsAtEnd input.left = took.1 none (omega (arith, filled, length-take room piece, there, left, told, was, under)) in
+          let is : IfSome input.bytes (λ b. b ≡ text.items) = all_given input.bytes bytes input.left text.items (take k buf) taken took.0 at_end (take_none k buf none) in
+          record {
+            ok = is;
+            short = omega (arith, told, was, under);
+            reads = record {
+              consumed = consumed;
               given = (more.at_most.0, omega (arith, more.at_most.1, told, was, under, none));
-              given_ok = (more.at_most.0, omega (arith, more.at_most.1, told, was, under, none));
-              given_too_long = tt;
-              bounded = more_bounded;
-            }
+              end = λ _. at_end;
+              within = λ _. not_longer input.bytes text.items program_limit (omega (arith, size, told, was, under)) is;
+              given_within = λ _. (more.at_most.0, omega (arith, more.at_most.1, told, was, under, none));
+              longer = λ h. absurd h;
+              given_longer = λ h. absurd h;
+              has_failed = λ h. absurd h;
+              unfailed = λ _. same;
+              later = omega (arith, same);
+            };
+          }
 
-        -- they could not be kept
-        pub text_unkept : IsText bytes1 failed1 given1 (Err faults.Memory)
-        text_unkept = record {
-          ok = tt;
-          short = tt;
-          at_end = tt;
-          too_long = λ e. absurd cc;
-          read = λ e. absurd cc;
-          unfailed = λ _. same;
-          unfailed_ok = tt;
-          line_fault = λ h. h;
-          given = (more.at_most.0, omega (arith, more.at_most.1, told, was, under, left, fits, length-take room piece));
-          given_ok = tt;
-          given_too_long = λ e. absurd cc;
-          bounded = more_bounded;
-        }
+      -- they could not be kept
+      pub text_unkept : ReadsProgram {T = Vec ℕ} input (Err (0, faults.Memory))
+      text_unkept = record {
+        consumed = consumed;
+        given = (more.at_most.0, omega (arith, more.at_most.1, told, was, under, left, fits, length-take room piece));
+        end = λ h. absurd (omega arith);
+        within = λ h. absurd (omega arith);
+        given_within = λ h. absurd (omega arith);
+        longer = λ e. absurd cc;
+        given_longer = λ e. absurd cc;
+        has_failed = λ e. absurd cc;
+        unfailed = λ _. same;
+        later = omega (arith, same);
+      }

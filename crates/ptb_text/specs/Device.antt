@@ -2,13 +2,16 @@
 -- std's words serve for the bytes: `Consumes`, `Appends`, `Keeps`, `IsAtEnd`.
 --     CountsFaults old new result        a call's fault is counted, and nothing else is
 --     HasFailed old new                  the device failed between the two counts, or has failed for good
---     TakesSome old new bytes            a beginning of the bytes was taken
+--     TakesSome old new bytes            a prefix of the bytes was taken
+--     TakesSurely old new bytes result   a writer that takes so many bytes without failing has taken some of them
 --     GivesExactly old new n             n bytes more were given
 --     GivesAtMost old new n              at most n bytes more were given
 --     CountsBytes old new result         the bytes of a read are counted, and a fault gives none
 --     device_inner d                     the device that is counted
 --     failure_count d, given_count d     how often it has failed, and how many bytes it has given
-use Rattle.std.specs.Prelude.{◌≡◌, ℕ, ◌+◌, ◌-◌, ◌^◌, ◌<◌, ◌≤◌, ◌⊎◌, min, List, length, take, Option, Result, MatchResult}
+--     IsReliableDevice reliable d        the device's reader is reliable
+--     DeviceTakes takes d n              the device's writer takes so many bytes without failing
+use Rattle.std.specs.Prelude.{◌≡◌, ℕ, ◌+◌, ◌-◌, ◌^◌, ◌<◌, ◌≤◌, ◌⊎◌, min, List, length, take, Option, Result, IsOkAnd, MatchResult}
 use Rattle.std.specs.Io.KnownBytes.{Appends}
 use Rattle.ptb_text.specs.declared.device.Device.{Device}
 
@@ -25,9 +28,15 @@ CountsFaults old new result =
 abbrev pub HasFailed : ℕ → ℕ → Type 0
 HasFailed old new = (old < new) ⊎ (old ≡ failure_limit)
 
--- a beginning of these bytes was taken, and n is how many
+-- a prefix of these bytes was taken, and n is how many
 abbrev pub TakesSome : Option (List ℕ) → Option (List ℕ) → List ℕ → Type 0
 TakesSome old new bytes = (n : ℕ) × (n ≤ length bytes) × Appends old new (take n bytes)
+
+-- A writer that takes k bytes without failing is given no more than these: it takes some, unless there are none,
+-- and then takes the others of the k without failing.
+abbrev pub TakesSurely : {E : Type 0} → (ℕ → Type 0) → (ℕ → Type 0) → List ℕ → Result ℕ E → Type 0
+TakesSurely old new bytes result =
+    (k : ℕ) → length bytes ≤ k → old k → IsOkAnd result (λ n. (0 < length bytes → 0 < n) × new (k - n))
 
 -- the count of bytes stays at the greatest number of 64 bits
 abbrev pub given_limit : ℕ
@@ -56,3 +65,11 @@ failure_count d = d.failures
 -- how many bytes it has given
 abbrev pub given_count : {T : Type 0} → Device T → ℕ
 given_count d = d.given
+
+-- its reader is reliable, and it has not failed for good
+abbrev pub IsReliableDevice : {T : Type 0} → (T → Type 0) → Device T → Type 0
+IsReliableDevice reliable d = reliable (device_inner d) × (failure_count d < failure_limit)
+
+-- its writer takes so many bytes without failing, and it has not failed for good
+abbrev pub DeviceTakes : {T : Type 0} → (T → ℕ → Type 0) → Device T → ℕ → Type 0
+DeviceTakes takes d n = takes (device_inner d) n × (failure_count d < failure_limit)

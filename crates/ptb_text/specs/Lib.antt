@@ -6,6 +6,7 @@ pub mod Loading
 pub mod Places
 pub mod Program
 pub mod Statements
+pub mod Streams
 pub use Rattle.ptb_words.specs.Digits
 pub use Rattle.ptb_words.specs.CursorState
 pub use Rattle.ptb_words.specs.Words

@@ -2,12 +2,13 @@
 // bytes, too.
 
 ghost use Rattle.std.specs.Prelude.{◌≡◌, ℕ, ◌<◌, ◌≤◌, List, length, take, Option, Some, IfOk, OnOk};
-ghost use Rattle.std.specs.Prelude.{OnErr};
+ghost use Rattle.std.specs.Prelude.{◌-◌, IsOk, OnErr};
 ghost use Rattle.std.specs.Io.KnownBytes.{Keeps, Appends, ReadConsumes};
-ghost use Rattle.ptb_text.specs.Device.{CountsFaults, HasFailed, TakesSome, device_inner};
-ghost use Rattle.ptb_text.specs.Device.{CountsBytes, failure_count, given_count};
+ghost use Rattle.ptb_text.specs.Device.{CountsFaults, HasFailed, TakesSome, TakesSurely};
+ghost use Rattle.ptb_text.specs.Device.{CountsBytes, DeviceTakes, IsReliableDevice};
+ghost use Rattle.ptb_text.specs.Device.{device_inner, failure_count, given_count};
 
-use std::io;
+use crate::byte_streams::{ByteSink, ByteSource};
 use thiserror::Error;
 
 /// A read or a write failed.
@@ -33,6 +34,9 @@ pub trait Read {
     /// How many bytes it has given.
     ghost given: { Self → ℕ };
 
+    /// That none of its reads fails, from here on to its end. False where nobody knows it.
+    ghost reliable: { Self → Type 0 } = { λ _. ⊥ };
+
     /// Puts its next bytes at the front of `buf`, and answers how many. `Ok(0)` for a buffer that
     /// has room means the end.
     ///
@@ -43,7 +47,8 @@ pub trait Read {
         ensures room { IfOk result (λ n. n ≤ length buf.old) }
         ensures bytes { ReadConsumes (remaining self.old) (remaining self.new) result buf.new }
         ensures given { CountsBytes (given self.old) (given self.new) result }
-        ensures count { CountsFaults (failures self.old) (failures self.new) result };
+        ensures count { CountsFaults (failures self.old) (failures self.new) result }
+        ensures sure { reliable self.old → IsOk result × reliable self.new };
 }
 
 /// What takes bytes.
@@ -56,6 +61,9 @@ pub trait Write {
     /// How often it has failed.
     ghost failures: { Self → ℕ };
 
+    /// That it takes so many bytes more without failing. False where nobody knows it.
+    ghost takes: { Self → ℕ → Type 0 } = { λ _ n. ⊥ };
+
     /// Takes bytes from the front of `bytes`, and answers how many: at least one, if there is one.
     ///
     /// # Errors
@@ -67,7 +75,8 @@ pub trait Write {
         ensures bytes { IfOk result
             (λ n. Appends (contents self.old) (contents self.new) (take n bytes.now)) }
         ensures fault { OnErr result (TakesSome (contents self.old) (contents self.new) bytes.now) }
-        ensures count { CountsFaults (failures self.old) (failures self.new) result };
+        ensures count { CountsFaults (failures self.old) (failures self.new) result }
+        ensures sure { TakesSurely (takes self.old) (takes self.new) bytes.now result };
 
     /// Takes all of `bytes`, in as many writes as it needs; none if there are no bytes.
     ///
@@ -81,6 +90,8 @@ pub trait Write {
         ensures failed { OnErr result (HasFailed (failures self.old) (failures self.new)) }
         ensures unfailed { OnOk result (failures self.new ≡ failures self.old) }
         ensures later { failures self.old ≤ failures self.new }
+        ensures sure { (k : ℕ) → length bytes.now ≤ k → takes self.old k
+            → IsOk result × takes self.new (k - length bytes.now) }
     {
         let mut rest = bytes;
         while !rest.is_empty() {
@@ -91,10 +102,11 @@ pub trait Write {
     }
 }
 
-/// A reader or a writer of `std::io`, with its failures counted, and the bytes that it gives.
+/// A reader or a writer, with its failures counted, and the bytes that it gives.
 ///
-/// Whatever error the inner one answers is a fault, also that a call was interrupted, and so is a
-/// write that takes none of the bytes that it is given.
+/// Every error of the inner one is a fault, also that a call was interrupted, and so is a write that
+/// takes none of the bytes that it is given. Nothing else is a fault: a reader that is reliable, and
+/// a writer that takes the bytes that it is given, never fail.
 #[derive(Drop)]
 pub struct Device<T> {
     inner: T,
@@ -117,7 +129,7 @@ impl<T> Device<T> {
     }
 }
 
-impl<T: io::Write> Device<T> {
+impl<T: ByteSink> Device<T> {
     /// Has the writer pass on what it holds back. It takes no byte.
     ///
     /// # Errors
@@ -127,6 +139,8 @@ impl<T: io::Write> Device<T> {
         ensures bytes { Keeps (T.contents (device_inner self.old))
             (T.contents (device_inner self.new)) }
         ensures count { CountsFaults (failure_count self.old) (failure_count self.new) result }
+        ensures sure { (k : ℕ) → DeviceTakes T.takes self.old k
+            → IsOk result × DeviceTakes T.takes self.new k }
     {
         if self.failures == u64::MAX {
             return Err(DeviceFault);
@@ -139,12 +153,14 @@ impl<T: io::Write> Device<T> {
     }
 }
 
-impl<T: io::Read> Read for Device<T> {
+impl<T: ByteSource> Read for Device<T> {
     ghost remaining = { λ d. T.remaining (device_inner d) };
 
     ghost failures = { failure_count };
 
     ghost given = { given_count };
+
+    ghost reliable = { IsReliableDevice T.reliable };
 
     fn read(&mut self, buf: &mut [u8]) -> Result<usize, DeviceFault> {
         if self.failures == u64::MAX {
@@ -163,10 +179,12 @@ impl<T: io::Read> Read for Device<T> {
     }
 }
 
-impl<T: io::Write> Write for Device<T> {
+impl<T: ByteSink> Write for Device<T> {
     ghost contents = { λ d. T.contents (device_inner d) };
 
     ghost failures = { failure_count };
+
+    ghost takes = { DeviceTakes T.takes };
 
     fn write(&mut self, bytes: &[u8]) -> Result<usize, DeviceFault> {
         if self.failures == u64::MAX {

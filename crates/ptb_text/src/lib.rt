@@ -6,6 +6,7 @@
 //! first) and on the look-ups of `Program`.
 #![tactic(auto)]
 
+mod byte_streams;
 mod device;
 mod fault;
 mod laws;
@@ -14,6 +15,7 @@ mod listing;
 mod loading;
 mod program;
 
+pub use byte_streams::{ByteSink, ByteSource};
 pub use device::{Device, DeviceFault, Read, Write};
 pub use fault::LoadFault;
 pub use laws::statement_laws;

@@ -1,15 +1,13 @@
 // This file loads a program text: it reads the bytes, and enters the lines one after the other.
 
-ghost use Rattle.std.specs.Prelude.{◌≡◌, ◌+◌, ◌<◌, ◌≤◌, ◌≢◌, ◌==◌, ℕ, [], ◌∷◌, List, length, map};
-ghost use Rattle.std.specs.Prelude.{IfErr, IfOk, IfSome, IsOk, OnOk, position, take, vec_len};
-ghost use Rattle.std.specs.Io.KnownBytes.{Consumes, IsAtEnd};
+ghost use Rattle.std.specs.Prelude.{◌≡◌, ◌<◌, ◌≤◌, ◌==◌, [], ◌∷◌, length, map};
+ghost use Rattle.std.specs.Prelude.{IfErr, IfOk, IfSome, IsOk, position, take, vec_len};
 ghost use Rattle.std.specs.Str.Lines.{strip_carriage_return};
-ghost use Rattle.ptb_text.specs.Device.{GivesAtMost, GivesExactly, HasFailed};
 ghost use Rattle.ptb_text.specs.Entry.{IsLineFault};
 ghost use Rattle.ptb_text.specs.Lines.{lines, tab_as_space};
-ghost use Rattle.ptb_text.specs.Loading.{AcceptsLines, HasTextAt, IsLoaded, IsRefusedAt};
-ghost use Rattle.ptb_text.specs.Loading.{StoresTextAt};
+ghost use Rattle.ptb_text.specs.Loading.{HasFault, HasTextAt, Loads, ReadsProgram};
 ghost use Rattle.ptb_text.specs.Statements.{IsMemorySize, after_lines, program_limit};
+ghost use Rattle.ptb_text.specs.Streams.{reads_of};
 
 use crate::{LoadFault, Program, Read};
 use std::alloc::Global;
@@ -38,82 +36,40 @@ pub fn load<R: Read>(
     reader: &mut R,
 ) -> Result<Program, (u32, LoadFault)>
     requires { IsMemorySize memory }
-    ensures memory { IfOk result (λ p. p.memory ≡ memory) }
-    ensures ok { IfOk result
-        (λ p. IfSome (R.remaining reader.old) (λ text. IsLoaded memory text p.lines)) }
-    ensures refused { IfErr result (λ e. IsLineFault e.1
-        → IfSome (R.remaining reader.old) (λ text. IsRefusedAt memory text e)) }
-    ensures too_long { IfErr result (λ e. e.1 ≡ LoadFault.TooLong
-        → (e.0 ≡ 0) × IfSome (R.remaining reader.old) (λ text. program_limit < length text)) }
-    ensures read { IfErr result (λ e. e.1 ≡ LoadFault.Read
-        → (e.0 ≡ 0) × HasFailed (R.failures reader.old) (R.failures reader.new)) }
-    ensures memory_last { IfErr result (λ e. e.1 ≡ LoadFault.Memory
-        → IfSome (R.remaining reader.old) (λ text. AcceptsLines memory text e.0)) }
-    ensures memory_line { IfErr result (λ e. e.1 ≡ LoadFault.Memory → 0 < e.0
-        → IfSome (R.remaining reader.old) (λ text. StoresTextAt text e.0)) }
-
-    // How many bytes were given, also where nobody knows which.
-    ensures given { GivesAtMost (R.given reader.old) (R.given reader.new) (program_limit + 1) }
-    ensures given_ok { OnOk result
-        (GivesAtMost (R.given reader.old) (R.given reader.new) program_limit) }
-    ensures given_line { IfErr result (λ e. 0 < e.0
-        → GivesAtMost (R.given reader.old) (R.given reader.new) program_limit) }
-    ensures given_too_long { IfErr result (λ e. e.1 ≡ LoadFault.TooLong
-        → GivesExactly (R.given reader.old) (R.given reader.new) (program_limit + 1)) }
-
-    // What the reader gave, and that it did not fail where no other fault is answered.
-    ensures bounded { (bs : List ℕ)
-        × Consumes (R.remaining reader.old) (R.remaining reader.new) bs
-        × (length bs ≤ program_limit + 1) }
-    ensures unfailed { IfErr result (λ e. e.1 ≢ LoadFault.Read
-        → R.failures reader.new ≡ R.failures reader.old) }
-    ensures unfailed_ok { OnOk result (R.failures reader.new ≡ R.failures reader.old) }
+    ensures loads { Loads memory (R.remaining reader.old) result }
+    ensures reads { ReadsProgram
+        (reads_of R.remaining R.given R.failures reader.old reader.new) result }
+    ensures sure { R.reliable reader.old → ¬ HasFault result LoadFault.Read }
 {
-    let mut text = match program_text(alloc, reader) {
-        Ok(text) => text,
-        Err(fault) => return Err((0, fault)),
-    };
+    let mut text = program_text(alloc, reader)?;
     tabs_to_spaces(&mut text);
     enter_lines(Program::new(alloc, memory), &text)
 }
 
 // All that the reader gives to its end, if that isn't too much.
-fn program_text<R: Read>(alloc: Global, reader: &mut R) -> Result<Vec<u8>, LoadFault>
+fn program_text<R: Read>(alloc: Global, reader: &mut R) -> Result<Vec<u8>, (u32, LoadFault)>
     ensures ok { IfOk result (λ text. IfSome (R.remaining reader.old) (λ b. b ≡ text.items)) }
     ensures short { IfOk result (λ text. vec_len text ≤ program_limit) }
-    ensures at_end { OnOk result (IsAtEnd (R.remaining reader.new)) }
-    ensures too_long { IfErr result (λ f. f ≡ LoadFault.TooLong
-        → IfSome (R.remaining reader.old) (λ b. program_limit < length b)) }
-    ensures read { IfErr result (λ f. f ≡ LoadFault.Read
-        → HasFailed (R.failures reader.old) (R.failures reader.new)) }
-    ensures unfailed { IfErr result (λ f. f ≢ LoadFault.Read
-        → R.failures reader.new ≡ R.failures reader.old) }
-    ensures unfailed_ok { OnOk result (R.failures reader.new ≡ R.failures reader.old) }
-    ensures line_fault { IfErr result (λ f. ¬ IsLineFault f) }
-    ensures given { GivesAtMost (R.given reader.old) (R.given reader.new) (program_limit + 1) }
-    ensures given_ok { OnOk result
-        (GivesAtMost (R.given reader.old) (R.given reader.new) program_limit) }
-    ensures given_too_long { IfErr result (λ f. f ≡ LoadFault.TooLong
-        → GivesExactly (R.given reader.old) (R.given reader.new) (program_limit + 1)) }
-    ensures bounded { (bs : List ℕ)
-        × Consumes (R.remaining reader.old) (R.remaining reader.new) bs
-        × (length bs ≤ program_limit + 1) }
+    ensures whole { IfErr result (λ e. (e.0 ≡ 0) × ¬ IsLineFault e.1) }
+    ensures reads { ReadsProgram
+        (reads_of R.remaining R.given R.failures reader.old reader.new) result }
+    ensures sure { R.reliable reader.old → ¬ HasFault result LoadFault.Read }
 {
     let mut text = Vec::new(alloc);
     let mut piece = [0; PIECE];
     while text.len() <= PROGRAM_LIMIT {
         let room = PIECE.min(PROGRAM_LIMIT + 1 - text.len());
         let Ok(taken) = reader.read(&mut piece[..room]) else {
-            return Err(LoadFault::Read);
+            return Err((0, LoadFault::Read));
         };
         if taken == 0 {
             return Ok(text);
         }
         if text.extend_from_slice(&piece[..taken]).is_err() {
-            return Err(LoadFault::Memory);
+            return Err((0, LoadFault::Memory));
         }
     }
-    Err(LoadFault::TooLong)
+    Err((0, LoadFault::TooLong))
 }
 
 // A program text is read with its tabs as spaces.

@@ -1,12 +1,16 @@
 -- This file answers what is left to prove of `read_lines`.
-use Rattle.std.proofs.Common.{◌≡◌, List, ℕ, subst, arith, rules, length, take, ◌+◌, ◌-◌, ◌≤◌, drop}
+use Rattle.std.proofs.Common.{◌≡◌, List, ℕ, subst, arith, rules, length, take, ◌+◌, ◌-◌, ◌≤◌, drop, true, false}
 use Rattle.std.proofs.lemmas.List.{take-append-le, length-take-le}
 use Rattle.std.specs.Io.KnownBytes.{IsAtEnd}
+use Rattle.ptb_text.specs.Streams.{reads_of}
 use Rattle.ptb_text.proofs.Counting.{IsCountedUpTo, IsCountedUpTo_more}
 use Rattle.ptb_devices.specs.Cutting.{AddsLines}
 use Rattle.ptb_devices.proofs.Reading.{IsReadUpTo_more, no_piece}
-use Rattle.ptb_devices.proofs.WholeReading.{told_all, told_failed, told_long, told_wanting}
+use Rattle.ptb_devices.proofs.WholeReading.{told_all, told_failed, told_long, told_wanting, too_many, wants_memory}
 use Rattle.ptb_devices.proofs.whole_input.read_lines.Goals as goal
+
+never_fails : false ≡ true → ⊥
+never_fails h = cc h
 
 pub loop-left-preserved : goal.loop-left-preserved
 loop-left-preserved g c =
@@ -25,6 +29,7 @@ loop-left-preserved g c =
           (IsCountedUpTo_more _ _ _ _ _ c.loop-left.invariant.given c.in_ok-count.ensures.given.0 c.in_ok-count.ensures.given.1);
       room = omega (arith, c.loop-left.invariant.room);
       read = rw (← size) (IsReadUpTo_more _ _ _ _ _ _ _ _ _ _ fits_here c.loop-left.invariant.read c.in_ok-count.ensures.bytes.0 adds);
+      sure = λ reliable. (c.in_ok-count.ensures.sure (c.loop-left.invariant.sure reliable)).1;
     }
 
 pub loop-left-init : goal.loop-left-init
@@ -33,21 +38,21 @@ loop-left-init g c = search rules fits 50 depth 2
 pub returns-in_err-count : goal.returns-in_err-count
 returns-in_err-count g c =
     let told =
-    told_failed (λ v. v.items) 16777216 (g.R.Read.remaining c.args.reader.now) (g.R.Read.remaining c.loop-left.reader) (g.R.Read.failures c.args.reader.now) (g.R.Read.failures c.loop-left.reader) (g.R.Read.given c.args.reader.now) (g.R.Read.given c.loop-left.reader)
+    told_failed (λ v. v.items) 16777216 (reads_of g.R.Read.remaining g.R.Read.given g.R.Read.failures c.args.reader.now c.read.new.self) (g.R.Read.remaining c.loop-left.reader) (g.R.Read.failures c.loop-left.reader) (g.R.Read.given c.loop-left.reader)
     c.loop-left.lines.items c.loop-left.cutter c.loop-left.left c.loop-left.invariant.unfailed c.loop-left.invariant.read c.loop-left.invariant.given c.loop-left.invariant.room
-    (g.R.Read.remaining c.read.new.self) (g.R.Read.failures c.read.new.self) (g.R.Read.given c.read.new.self) c.in_err-count.ensures.bytes c.in_err-count.ensures.count c.in_err-count.ensures.given c.from_residual.result c.from_residual.ensures.1
+    c.in_err-count.ensures.bytes c.in_err-count.ensures.count c.in_err-count.ensures.given c.from_residual.result c.from_residual.ensures.1
     in
-    record { lines = told.lines; within = told.within; end = told.end; too_long = told.too_long; read = told.read; unfailed = told.unfailed; later = told.later; bounded = told.bounded; given = told.given; given_ok = told.given_ok; given_too_long = told.given_too_long }
+    record { lines = told.lines; reads = told.reads; sure = λ reliable. absurd (never_fails (c.in_err-count.ensures.sure (c.loop-left.invariant.sure reliable)).0) }
 
 pub returns-in_err-push_last : goal.returns-in_err-push_last
 returns-in_err-push_last g c =
     let none : length (take c.in_ok-count.count c.read.new.buf) ≤ c.loop-left.left = no_piece c.in_ok-count.count c.read.new.buf c.loop-left.left c.if-count-eq0.true in
     let told =
-    told_wanting (λ v. v.items) 16777216 (g.R.Read.remaining c.args.reader.now) (g.R.Read.remaining c.loop-left.reader) (g.R.Read.failures c.args.reader.now) (g.R.Read.failures c.loop-left.reader) (g.R.Read.given c.args.reader.now) (g.R.Read.given c.loop-left.reader)
+    told_wanting (λ v. v.items) 16777216 (reads_of g.R.Read.remaining g.R.Read.given g.R.Read.failures c.args.reader.now c.read.new.self) (g.R.Read.remaining c.loop-left.reader) (g.R.Read.failures c.loop-left.reader) (g.R.Read.given c.loop-left.reader)
     c.loop-left.lines.items c.loop-left.cutter c.loop-left.left c.loop-left.invariant.unfailed c.loop-left.invariant.read c.loop-left.invariant.given c.loop-left.invariant.room
-    (g.R.Read.remaining c.read.new.self) (g.R.Read.failures c.read.new.self) (g.R.Read.given c.read.new.self) c.in_ok-count.count (take c.in_ok-count.count c.read.new.buf) none c.in_ok-count.ensures.bytes.0 c.in_ok-count.ensures.count c.in_ok-count.ensures.given (omega (arith, c.if-count-eq0.true)) c.from_residual-in_err-push_last.result c.from_residual-in_err-push_last.ensures.1
+    c.in_ok-count.count (take c.in_ok-count.count c.read.new.buf) none c.in_ok-count.ensures.bytes.0 c.in_ok-count.ensures.count c.in_ok-count.ensures.given (omega (arith, c.if-count-eq0.true)) c.from_residual-in_err-push_last.result c.from_residual-in_err-push_last.ensures.1
     in
-    record { lines = told.lines; within = told.within; end = told.end; too_long = told.too_long; read = told.read; unfailed = told.unfailed; later = told.later; bounded = told.bounded; given = told.given; given_ok = told.given_ok; given_too_long = told.given_too_long }
+    record { lines = told.lines; reads = told.reads; sure = λ _. wants_memory c.from_residual-in_err-push_last.result c.from_residual-in_err-push_last.ensures.1 }
 
 pub returns-then-count-eq0 : goal.returns-then-count-eq0
 returns-then-count-eq0 g c =
@@ -56,11 +61,11 @@ returns-then-count-eq0 g c =
     let none : length (take c.in_ok-count.count c.read.new.buf) ≤ c.loop-left.left = no_piece c.in_ok-count.count c.read.new.buf c.loop-left.left c.if-count-eq0.true in
     let size : length (take c.in_ok-count.count c.read.new.buf) ≡ 0 = omega (arith, length-take-le c.in_ok-count.count c.read.new.buf inside) in
     let told =
-    told_all (λ v. v.items) 16777216 (g.R.Read.remaining c.args.reader.now) (g.R.Read.remaining c.loop-left.reader) (g.R.Read.failures c.args.reader.now) (g.R.Read.failures c.loop-left.reader) (g.R.Read.given c.args.reader.now) (g.R.Read.given c.loop-left.reader)
+    told_all (λ v. v.items) 16777216 (reads_of g.R.Read.remaining g.R.Read.given g.R.Read.failures c.args.reader.now c.read.new.self) (g.R.Read.remaining c.loop-left.reader) (g.R.Read.failures c.loop-left.reader) (g.R.Read.given c.loop-left.reader)
     c.loop-left.lines.items c.loop-left.cutter c.loop-left.left c.loop-left.invariant.unfailed c.loop-left.invariant.read c.loop-left.invariant.given c.loop-left.invariant.room
-    (g.R.Read.remaining c.read.new.self) (g.R.Read.failures c.read.new.self) (g.R.Read.given c.read.new.self) c.in_ok-count.count (take c.in_ok-count.count c.read.new.buf) none c.in_ok-count.ensures.bytes.0 c.in_ok-count.ensures.count c.in_ok-count.ensures.given (omega (arith, c.if-count-eq0.true)) c.if-count-eq0.true size c.loop-left-test.true end c.push_last.new.lines c.in_ok-push_last.ensures
+    c.in_ok-count.count (take c.in_ok-count.count c.read.new.buf) none c.in_ok-count.ensures.bytes.0 c.in_ok-count.ensures.count c.in_ok-count.ensures.given (omega (arith, c.if-count-eq0.true)) c.if-count-eq0.true size c.loop-left-test.true end c.push_last.new.lines c.in_ok-push_last.ensures
     in
-    record { lines = told.lines; within = told.within; end = told.end; too_long = told.too_long; read = told.read; unfailed = told.unfailed; later = told.later; bounded = told.bounded; given = told.given; given_ok = told.given_ok; given_too_long = told.given_too_long }
+    record { lines = told.lines; reads = told.reads; sure = λ _ h. absurd cc }
 
 pub returns-in_err-push_whole : goal.returns-in_err-push_whole
 returns-in_err-push_whole g c =
@@ -68,16 +73,16 @@ returns-in_err-push_whole g c =
     let fits : c.in_ok-count.count ≤ c.loop-left.left = search rules in
     let size : length (take c.in_ok-count.count c.read.new.buf) ≤ c.loop-left.left = omega (arith, length-take-le c.in_ok-count.count c.read.new.buf inside) in
     let told =
-    told_wanting (λ v. v.items) 16777216 (g.R.Read.remaining c.args.reader.now) (g.R.Read.remaining c.loop-left.reader) (g.R.Read.failures c.args.reader.now) (g.R.Read.failures c.loop-left.reader) (g.R.Read.given c.args.reader.now) (g.R.Read.given c.loop-left.reader)
+    told_wanting (λ v. v.items) 16777216 (reads_of g.R.Read.remaining g.R.Read.given g.R.Read.failures c.args.reader.now c.read.new.self) (g.R.Read.remaining c.loop-left.reader) (g.R.Read.failures c.loop-left.reader) (g.R.Read.given c.loop-left.reader)
     c.loop-left.lines.items c.loop-left.cutter c.loop-left.left c.loop-left.invariant.unfailed c.loop-left.invariant.read c.loop-left.invariant.given c.loop-left.invariant.room
-    (g.R.Read.remaining c.read.new.self) (g.R.Read.failures c.read.new.self) (g.R.Read.given c.read.new.self) c.in_ok-count.count (take c.in_ok-count.count c.read.new.buf) size c.in_ok-count.ensures.bytes.0 c.in_ok-count.ensures.count c.in_ok-count.ensures.given fits c.from_residual-in_err-push_whole.result c.from_residual-in_err-push_whole.ensures.1
+    c.in_ok-count.count (take c.in_ok-count.count c.read.new.buf) size c.in_ok-count.ensures.bytes.0 c.in_ok-count.ensures.count c.in_ok-count.ensures.given fits c.from_residual-in_err-push_whole.result c.from_residual-in_err-push_whole.ensures.1
     in
-    record { lines = told.lines; within = told.within; end = told.end; too_long = told.too_long; read = told.read; unfailed = told.unfailed; later = told.later; bounded = told.bounded; given = told.given; given_ok = told.given_ok; given_too_long = told.given_too_long }
+    record { lines = told.lines; reads = told.reads; sure = λ _. wants_memory c.from_residual-in_err-push_whole.result c.from_residual-in_err-push_whole.ensures.1 }
 
 pub returns : goal.returns
 returns g c =
     let told =
-    told_long (λ v. v.items) 16777216 (g.R.Read.remaining c.args.reader.now) (g.R.Read.remaining c.loop-left.reader) (g.R.Read.failures c.args.reader.now) (g.R.Read.failures c.loop-left.reader) (g.R.Read.given c.args.reader.now) (g.R.Read.given c.loop-left.reader)
+    told_long (λ v. v.items) 16777216 (reads_of g.R.Read.remaining g.R.Read.given g.R.Read.failures c.args.reader.now c.loop-left.reader)
     c.loop-left.lines.items c.loop-left.cutter c.loop-left.left c.loop-left.invariant.unfailed c.loop-left.invariant.read c.loop-left.invariant.given c.loop-left.invariant.room c.loop-left-test.false
     in
-    record { lines = told.lines; within = told.within; end = told.end; too_long = told.too_long; read = told.read; unfailed = told.unfailed; later = told.later; bounded = told.bounded; given = told.given; given_ok = told.given_ok; given_too_long = told.given_too_long }
+    record { lines = told.lines; reads = told.reads; sure = λ _. too_many }

@@ -11,6 +11,7 @@ invariant-loop-left g l = record {
   read : IsReadUpTo (g.R.Read.remaining l.initial.reader) (g.R.Read.remaining l.reader) l.lines.items l.cutter 16777217 l.left;
   given : IsCountedUpTo (g.R.Read.given l.initial.reader) (g.R.Read.given l.reader) (16777217 - l.left);
   room : l.left ≤ 16777217;
+  sure : g.R.Read.reliable l.initial.reader → g.R.Read.reliable l.reader;
 }
 
 abbrev pub decreases-loop-left : goal.decreases-loop-left

@@ -1,10 +1,11 @@
 -- This file answers what is left to prove of `program_text`: what holds where it returns, and what its loop keeps.
-use Rattle.std.proofs.Common.{rules, ◌≡◌, length, refl, sym, subst, arith}
+use Rattle.std.proofs.Common.{rules, ◌≡◌, length, refl, sym, subst, arith, true, false}
 use Rattle.std.proofs.lemmas.Grind.{common_steps}
 use Rattle.std.specs.Io.KnownBytes.{Consumes}
 use Rattle.std.proofs.KnownBytes.{Consumes-nil}
 use Rattle.ptb_text.proofs.Counting.{IsCountedUpTo, IsCountedUpTo_none}
-use Rattle.ptb_text.proofs.WholeText.{text_failed, text_read, text_too_long, text_unkept}
+use Rattle.ptb_text.specs.Streams.{reads_of}
+use Rattle.ptb_text.proofs.WholeText.{ends_text, text_failed, text_too_long, text_unkept}
 use Rattle.ptb_text.proofs.loading.program_text.Goals as goal
 
 -- nothing is read yet
@@ -14,7 +15,11 @@ loop-piece-init g c = record {
   given = subst (IsCountedUpTo _ _) (sym c.new-text.ensures.len) (IsCountedUpTo_none _);
   taken = subst (Consumes _ _) (sym c.new-text.ensures.items) (Consumes-nil _);
   bound = omega (arith, c.new-text.ensures.len);
+  sure = λ h. h;
 }
+
+never_fails : false ≡ true → ⊥
+never_fails h = cc h
 
 pub loop-piece-preserved : goal.loop-piece-preserved
 loop-piece-preserved g c = grind (arith, common_steps)
@@ -23,33 +28,51 @@ loop-piece-preserved g c = grind (arith, common_steps)
 pub returns-in_default : goal.returns-in_default
 returns-in_default g c =
     let p = c.loop-piece in
-    let told = text_failed _ _ _ _ _ _ p.text p.text.ok.0 p.invariant.bound p.invariant.unfailed p.invariant.given p.invariant.taken _ _ _ c.in_default.ensures.bytes c.in_default.ensures.given c.in_default.ensures.count in
-    record { ok = tt; short = tt; at_end = tt; too_long = told.too_long; read = told.read; unfailed = told.unfailed; unfailed_ok = tt; line_fault = told.line_fault; given = told.given; given_ok = tt; given_too_long = told.given_too_long; bounded = told.bounded }
+    let e = c.in_default.ensures in
+    record {
+      ok = tt;
+      short = tt;
+      whole = (refl, λ h. h);
+      reads = text_failed (reads_of g.R.Read.remaining g.R.Read.given g.R.Read.failures c.args.reader.now c.read.new.self) _ _ _ p.text p.text.ok.0 p.invariant.bound p.invariant.unfailed p.invariant.given p.invariant.taken e.bytes e.given e.count;
+      sure = λ reliable. absurd (never_fails (e.sure (p.invariant.sure reliable)).0);
+    }
 
 -- the end was reached
 pub returns-then-taken-eq0 : goal.returns-then-taken-eq0
 returns-then-taken-eq0 g c =
     let p = c.loop-piece in
     let there : length p.piece ≡ 4096 = search rules in
-    let told = text_read _ _ _ _ _ _ p.text p.text.ok.0 p.invariant.bound p.invariant.unfailed p.invariant.given p.invariant.taken _ _ _
+    let input = reads_of g.R.Read.remaining g.R.Read.given g.R.Read.failures c.args.reader.now c.read.new.self in
+    let told =
+    ends_text input _ _ _ p.text p.text.ok.0 p.invariant.bound p.invariant.unfailed p.invariant.given p.invariant.taken
     c.in-Ok.taken c.min-room.result c.read.new.buf p.piece c.len.result c.len.ensures c.loop-piece-test.true c.len-in-loop-piece.result c.len-in-loop-piece.ensures c.min-room.ensures
     c.in-Ok.ensures.room c.in-Ok.ensures.bytes c.in-Ok.ensures.given c.in-Ok.ensures.count c.if-taken-eq0.true there c.read.auto.buf
     in
-    record { ok = told.ok; short = told.short; at_end = told.at_end; too_long = tt; read = tt; unfailed = tt; unfailed_ok = told.unfailed_ok; line_fault = tt; given = told.given; given_ok = told.given_ok; given_too_long = tt; bounded = told.bounded }
+    record { ok = told.ok; short = told.short; whole = tt; reads = told.reads; sure = λ _. λ h. h }
 
 -- the piece could not be kept
 pub returns-then-is_err : goal.returns-then-is_err
 returns-then-is_err g c =
     let p = c.loop-piece in
-    let told = text_unkept _ _ _ _ _ _ p.text p.text.ok.0 p.invariant.bound p.invariant.unfailed p.invariant.given p.invariant.taken _ _ _
-    c.in-Ok.taken c.min-room.result c.read.new.buf p.piece c.len.result c.len.ensures c.loop-piece-test.true c.len-in-loop-piece.result c.len-in-loop-piece.ensures c.min-room.ensures
-    c.in-Ok.ensures.room c.in-Ok.ensures.bytes c.in-Ok.ensures.given c.in-Ok.ensures.count
-    in
-    record { ok = tt; short = tt; at_end = tt; too_long = told.too_long; read = told.read; unfailed = told.unfailed; unfailed_ok = tt; line_fault = told.line_fault; given = told.given; given_ok = tt; given_too_long = told.given_too_long; bounded = told.bounded }
+    record {
+      ok = tt;
+      short = tt;
+      whole = (refl, λ h. h);
+      reads =
+          text_unkept (reads_of g.R.Read.remaining g.R.Read.given g.R.Read.failures c.args.reader.now c.read.new.self) _ _ _ p.text p.text.ok.0 p.invariant.bound p.invariant.unfailed p.invariant.given p.invariant.taken
+          c.in-Ok.taken c.min-room.result c.read.new.buf p.piece c.len.result c.len.ensures c.loop-piece-test.true c.len-in-loop-piece.result c.len-in-loop-piece.ensures c.min-room.ensures
+          c.in-Ok.ensures.room c.in-Ok.ensures.bytes c.in-Ok.ensures.given c.in-Ok.ensures.count;
+      sure = λ _. λ h. absurd cc;
+    }
 
 -- more than the limit was read
 pub returns : goal.returns
 returns g c =
     let p = c.loop-piece in
-    let told = text_too_long _ _ _ _ _ _ p.text p.text.ok.0 p.invariant.bound p.invariant.unfailed p.invariant.given p.invariant.taken c.len.result c.len.ensures c.loop-piece-test.false in
-    record { ok = tt; short = tt; at_end = tt; too_long = told.too_long; read = told.read; unfailed = told.unfailed; unfailed_ok = tt; line_fault = told.line_fault; given = told.given; given_ok = tt; given_too_long = told.given_too_long; bounded = told.bounded }
+    record {
+      ok = tt;
+      short = tt;
+      whole = (refl, λ h. h);
+      reads = text_too_long (reads_of g.R.Read.remaining g.R.Read.given g.R.Read.failures c.args.reader.now p.reader) p.text p.text.ok.0 p.invariant.bound p.invariant.unfailed p.invariant.given p.invariant.taken c.len.result c.len.ensures c.loop-piece-test.false;
+      sure = λ _. λ h. absurd cc;
+    }

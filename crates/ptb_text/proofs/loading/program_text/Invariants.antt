@@ -11,6 +11,7 @@ invariant-loop-piece g l = record {
   given : IsCountedUpTo (g.R.Read.given l.initial.reader) (g.R.Read.given l.reader) (vec_len l.text);
   taken : Consumes (g.R.Read.remaining l.initial.reader) (g.R.Read.remaining l.reader) l.text.items;
   bound : vec_len l.text ≤ 1048577;
+  sure : g.R.Read.reliable l.initial.reader → g.R.Read.reliable l.reader;
 }
 
 abbrev pub decreases-loop-piece : goal.decreases-loop-piece

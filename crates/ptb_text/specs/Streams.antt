@@ -1,0 +1,60 @@
+-- This file defines what contracts see of a reader and of a writer over a call.
+--     Reads R, reads_of ..        what was read: the reader before and after, its bytes, and its counts
+--     Writes, writes_of ..        what was written: the bytes that the writer has, and its count
+--     ConsumesAtMost old new n    known bytes lose at most their first n
+--     ReadsUpTo limit input ..    a reader is read to its end, within a limit
+use Rattle.std.specs.Prelude.{◌≡◌, ℕ, ◌+◌, ◌<◌, ◌≤◌, List, length, Option, IfSome}
+use Rattle.std.specs.Io.KnownBytes.{Consumes, IsAtEnd}
+use Rattle.ptb_text.specs.Device.{GivesAtMost, GivesExactly, HasFailed}
+
+-- The counts of a reader and of a writer are those of all their calls.
+pub record Reads (R : Type 0) : Type 0 where
+  -- the reader before the call and after it
+  pub old : R
+  pub new : R
+  -- the bytes that it had to give, and those that it still has; none where nobody knows them
+  pub bytes : Option (List ℕ)
+  pub left : Option (List ℕ)
+  -- how many bytes it had given, and has given
+  pub gave : ℕ
+  pub gives : ℕ
+  -- how often it had failed, and has failed
+  pub failed : ℕ
+  pub fails : ℕ
+
+abbrev pub reads_of : {R : Type 0} → (R → Option (List ℕ)) → (R → ℕ) → (R → ℕ) → R → R → Reads R
+reads_of remaining given failures old new =
+    record { old = old; new = new; bytes = remaining old; left = remaining new; gave = given old; gives = given new; failed = failures old; fails = failures new }
+
+pub record Writes : Type 0 where
+  -- the bytes that the writer had, and has; none where nobody knows them
+  pub before : Option (List ℕ)
+  pub after : Option (List ℕ)
+  -- how often it had failed, and has failed
+  pub failed : ℕ
+  pub fails : ℕ
+
+abbrev pub writes_of : {W : Type 0} → (W → Option (List ℕ)) → (W → ℕ) → W → W → Writes
+writes_of contents failures old new = record { before = contents old; after = contents new; failed = failures old; fails = failures new }
+
+-- known bytes lose at most their first n
+abbrev pub ConsumesAtMost : Option (List ℕ) → Option (List ℕ) → ℕ → Type 0
+ConsumesAtMost old new n = (bytes : List ℕ) × (length bytes ≤ n) × Consumes old new bytes
+
+-- A reader is read to its end. A call of which this is said is complete, or finds too many bytes, or finds that the reader
+-- failed, or it is refused memory.
+pub record ReadsUpTo {R : Type 0} (limit : ℕ) (input : Reads R) (complete too_long failed : Type 0) : Type 0 where
+  -- At most one byte more than the limit is read, also where nobody knows which bytes come.
+  pub consumed : ConsumesAtMost input.bytes input.left (limit + 1)
+  pub given : GivesAtMost input.gave input.gives (limit + 1)
+  -- A call that is complete has read all bytes, and no more than the limit.
+  pub end : complete → IsAtEnd input.left
+  pub within : complete → IfSome input.bytes (λ b. length b ≤ limit)
+  pub given_within : complete → GivesAtMost input.gave input.gives limit
+  -- There are too many bytes only where one more than the limit came.
+  pub longer : too_long → IfSome input.bytes (λ b. limit < length b)
+  pub given_longer : too_long → GivesExactly input.gave input.gives (limit + 1)
+  -- The reader is at fault where it failed, and only there.
+  pub has_failed : failed → HasFailed input.failed input.fails
+  pub unfailed : ¬ failed → input.fails ≡ input.failed
+  pub later : input.failed ≤ input.fails
