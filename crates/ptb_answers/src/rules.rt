@@ -1,11 +1,15 @@
 // This file has the rules of a run.
 
+ghost use Rattle.std.specs.Prelude.{pos, ◌≤ℤ◌, IfSome};
+ghost use Rattle.std.proofs.Props.{props};
+
 /// What a run is played by, beside its program, its input and its answers.
 #[derive(Clone, Copy, Debug, PartialEq, Eq)]
 pub struct Rules {
     /// At most so many commands are begun: where another one would be, the run ends.
     pub limit: u32,
-    /// The bound with which INPUT asks for an answer where no line is left, at least 1. Without a
-    /// bound the run ends there.
+    /// The bound with which INPUT asks for an answer where no line is left, from 1 to 32767.
+    /// Without a bound the run ends there.
     pub choose: Option<i16>,
+    pub ghost in_range: { IfSome choose (λ n. pos 1 ≤ℤ n) } by { Prim.hlevel props },
 }

@@ -9,7 +9,7 @@ module _ {C S L : Type 0} {a b c : Io C S L} where
     chooser = k.chooser ∙ h.chooser;
     screen = k.screen ∙ h.screen;
     source = k.source ∙ h.source;
-    choose = k.choose ∙ h.choose;
+    rules = k.rules ∙ h.rules;
   }
 
   pub borrows_on : SameBorrows a b → SameBorrows b c → SameBorrows a c
@@ -17,7 +17,7 @@ module _ {C S L : Type 0} {a b c : Io C S L} where
     chooser = k.chooser ∙ h.chooser;
     screen = k.screen ∙ h.screen;
     source = k.source ∙ h.source;
-    choose = k.choose ∙ h.choose;
+    rules = k.rules ∙ h.rules;
   }
 
   -- where a line was asked for since then, or a part was lent
@@ -26,7 +26,7 @@ module _ {C S L : Type 0} {a b c : Io C S L} where
     chooser = l.chooser ∙ k.chooser ∙ h.chooser;
     screen = l.screen ∙ k.screen ∙ h.screen;
     source = l.source ∙ ap (λ s. s.ghost_name) k.source ∙ h.source;
-    choose = l.choose ∙ k.choose ∙ h.choose;
+    rules = l.rules ∙ k.rules ∙ h.rules;
   }
 
   -- where no line was asked for since then
@@ -35,5 +35,5 @@ module _ {C S L : Type 0} {a b c : Io C S L} where
     chooser = k.chooser ∙ h.chooser;
     screen = k.screen ∙ h.screen;
     source = ap (λ s. s.ghost_name) k.source ∙ h.source;
-    choose = k.choose ∙ h.choose;
+    rules = k.rules ∙ h.rules;
   }

@@ -2,7 +2,7 @@
 --     io_devices choices screen most io given         what they hold, beside the lines that the source gave
 --     io_trace choices screen most io given cells     the trace at which the devices stand
 --     due_trace choices screen most io given cells due     the same, with bytes that are gathered
---     SameBorrows old new                             the borrows are the same, and the bound
+--     SameBorrows old new                             the borrows are the same, and the rules
 --     SameDevices old new                             so is the source, which gave nothing
 use Rattle.std.specs.Prelude.{◌≡◌, ℕ, List}
 use Rattle.ptb_answers.specs.Choices.{Choices}
@@ -14,7 +14,7 @@ use Rattle.ptb_command.specs.Traces.{Trace, trace, with_due}
 
 abbrev pub io_devices : {C S L : Type 0} → (C → Choices) → Ghosts S → (L → ℕ) → Io C S L → List (List ℕ) → Devices
 io_devices choices screen most io given =
-    devices (choices io.chooser.now) (screen_state screen io.screen.now) (most io.source.now) io.choose given
+    devices (choices io.chooser.now) (screen_state screen io.screen.now) (most io.source.now) io.rules.choose given
 
 abbrev pub io_trace : {C S L : Type 0} → (C → Choices) → Ghosts S → (L → ℕ) → Io C S L → List (List ℕ) → Cells → Trace
 io_trace choices screen most io given cells = trace (io_devices choices screen most io given) io.fresh cells
@@ -26,10 +26,10 @@ pub record SameBorrows {C S L : Type 0} (old new : Io C S L) : Type 0 where
   pub chooser : new.chooser.ghost_name ≡ old.chooser.ghost_name
   pub screen : new.screen.ghost_name ≡ old.screen.ghost_name
   pub source : new.source.ghost_name ≡ old.source.ghost_name
-  pub choose : new.choose ≡ old.choose
+  pub rules : new.rules ≡ old.rules
 
 pub record SameDevices {C S L : Type 0} (old new : Io C S L) : Type 0 where
   pub chooser : new.chooser.ghost_name ≡ old.chooser.ghost_name
   pub screen : new.screen.ghost_name ≡ old.screen.ghost_name
   pub source : new.source ≡ old.source
-  pub choose : new.choose ≡ old.choose
+  pub rules : new.rules ≡ old.rules

@@ -8,7 +8,7 @@ ghost use Rattle.ptb_command.specs.Stops.{Comes};
 
 use crate::gathering::Gathering;
 use crate::stop::Stop;
-use ptb_answers::Chooser;
+use ptb_answers::{Chooser, Rules};
 use ptb_devices::{LineSource, Screen};
 
 /// What a command asks, shows and reads.
@@ -22,8 +22,9 @@ pub struct Io<'a, C, S, L> {
     pub source: &'a mut L,
     /// Whether nothing was shown, or a newline last.
     pub fresh: bool,
-    /// The bound with which INPUT asks for an answer where no line is left, if it does.
-    pub choose: Option<i16>,
+    /// The rules of the run: of these, the bound with which INPUT asks for an answer where no line
+    /// is left, if it does.
+    pub rules: Rules,
 }
 
 impl<'a, C: Chooser, S: Screen, L: LineSource> Io<'a, C, S, L> {
@@ -35,13 +36,13 @@ impl<'a, C: Chooser, S: Screen, L: LineSource> Io<'a, C, S, L> {
         screen: &'a mut S,
         source: &'a mut L,
         fresh: bool,
-        choose: Option<i16>,
+        rules: Rules,
     ) -> Self
         ensures chooser { result.chooser.ghost_name ≡ chooser.entry.ghost_name }
         ensures screen { result.screen.ghost_name ≡ screen.entry.ghost_name }
         ensures source { result.source.ghost_name ≡ source.entry.ghost_name }
         ensures fresh { result.fresh ≡ fresh }
-        ensures choose { result.choose ≡ choose }
+        ensures rules { result.rules ≡ rules }
         ensures chooser_now { result.chooser.now ≡ chooser.old }
         ensures screen_now { result.screen.now ≡ screen.old }
         ensures source_now { result.source.now ≡ source.old }
@@ -51,7 +52,7 @@ impl<'a, C: Chooser, S: Screen, L: LineSource> Io<'a, C, S, L> {
             screen,
             source,
             fresh,
-            choose,
+            rules,
         }
     }
 

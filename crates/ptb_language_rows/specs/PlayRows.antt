@@ -10,7 +10,7 @@ use Rattle.ptb_machine.specs.Play.{Finish, play, plain}
 -- what a program text shows on an input, and its ending; none where the text is refused
 abbrev pub shows : ℕ → List ℕ → List ℕ → ℕ → Answers → Option (List ℕ × Ending)
 shows memory b c limit a =
-    elim (program memory b) [ Ok p ↦ Some (plain (record { lines = p; memory = memory }) (input_lines c) (record { limit = limit; choose = None }) a) | Err e ↦ None ]
+    elim (program memory b) [ Ok p ↦ Some (plain (record { lines = p; memory = memory }) (input_lines c) (record { limit = limit; choose = None; in_range = tt }) a) | Err e ↦ None ]
 
 -- answers to RND
 pub record AnswerRows : Type 0 where
@@ -162,7 +162,7 @@ steps_of (Asks n shown) = None
 steps_of (Out n shown) = None
 
 abbrev pub steps_and_ending : List ℕ → Option (ℕ × Ending)
-steps_and_ending b = elim (program 4096 b) [ Ok p ↦ steps_of (play (record { lines = p; memory = 4096 }) [] (record { limit = 10000; choose = None }) []) | Err e ↦ None ]
+steps_and_ending b = elim (program 4096 b) [ Ok p ↦ steps_of (play (record { lines = p; memory = 4096 }) [] (record { limit = 10000; choose = None; in_range = tt }) []) | Err e ↦ None ]
 
 pub record StepRows : Type 0 where
   pub one_turn : steps_and_ending (codes "10 F.I=5TO1;P.I;N.I") ≡ Some (3, End)

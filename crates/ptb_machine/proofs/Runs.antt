@@ -1,5 +1,5 @@
 -- This file proves what a run comes to: its steps, one after the other.
-use Rattle.std.proofs.Common.{◌≡◌, inl, inr, ℕ, ◌+◌, ◌-◌, ◌<◌, ◌≤◌, length, Bool, true, false, List, [], ◌++◌, Option, Some, None, Result, Ok, Err, ℤ, refl, sym, ap, subst, ◌∙◌, append-nil, append_assoc, arith}
+use Rattle.std.proofs.Common.{◌≡◌, inl, inr, ℕ, ◌+◌, ◌-◌, ◌<◌, ◌≤◌, length, Bool, true, false, List, [], ◌++◌, Option, Some, None, IfSome, Result, Ok, Err, ℤ, pos, ◌≤ℤ◌, refl, sym, ap, subst, ◌∙◌, append-nil, append_assoc, arith}
 use Rattle.std.specs.Result.{IsErrAnd}
 use Rattle.std.proofs.Math.Path.{fun_ext}
 use Rattle.std.proofs.lemmas.Bool.{false≢true}
@@ -140,6 +140,11 @@ refused_state bound T pauses.Ended = refl
 refused_state bound T (pauses.OutOfRange k) = refl
 refused_state bound T pauses.Memory = refl
 
+played_shown : (u : Outcome Last State) → played_bytes (told u) ≡ (last_state u).shown
+played_shown (Done l rest) = refl
+played_shown (Asks k S) = refl
+played_shown (Out k S) = refl
+
 -- a question is refused
 run_waits : (refused : Refusal → Type 0) (p : StoredProgram) (rules : Rules) (m : Configuration) (o d : Devices) (input rest : List (List ℕ)) (z : Pause) → input ≡ d.given ++ rest → (w : Waits {A = Last} refused (RunsTo p rules m o input rest) d last_state z) → IsUnanswered refused p rules input o d z
 run_waits refused p rules m o d input rest z k w =
@@ -154,12 +159,15 @@ run_waits refused p rules m o d input rest z k w =
           (out_before told (λ (S : State). S.shown) (λ k S. refl) (w.left T) w.bound T z (w.outside T));
       refuses = w.refuses;
       lines = λ later. lines_are p rules m o d input rest w.left w.comes k (refused_answers z later) (ap (λ u. (last_state u).lines) (refused_at (w.left T) w.bound T z later (w.asks T) (w.outside T)) ∙ refused_state w.bound T z);
+      begins = λ a.
+          subst (Begins w.comes.exchange.bytes) (sym (played_shown (w.left T a)))
+          (subst (λ (s : List ℕ). Begins s (last_state (w.left T a)).shown) w.comes.leads.shown (w.begins T a));
+      more_lines = λ a.
+          let more = w.takes T a in (
+            more.0,
+            k ∙ ap (λ l. d.given ++ l) (sym w.comes.leads.lines ∙ more.1 ∙ ap (λ u. more.0 ++ (last_state u).lines) (sym (leaves_at w.comes.leads.leaves a))),
+          );
     }
-
-played_shown : (u : Outcome Last State) → played_bytes (told u) ≡ (last_state u).shown
-played_shown (Done l rest) = refl
-played_shown (Asks k S) = refl
-played_shown (Out k S) = refl
 
 -- the turns after a turn show more
 more_shown : (p : StoredProgram) (rules : Rules) (shown : List ℕ) (u : Outcome StepResult State) → Begins shown (act_state u).shown → Begins shown (last_state (go_on u (after_turn (all_turns p rules.limit)))).shown
@@ -279,15 +287,15 @@ module _ (refused : Refusal → Type 0) (p : StoredProgram) (rules : Rules) (m n
       shown_so : run_so.leads.state.shown ≡ run_so.exchange.bytes ++ w.part
       shown_so = run_so.leads.shown ∙ sym (ap (λ l. run_so.exchange.bytes ++ l) w.wants.0 ∙ append-nil run_so.exchange.bytes)
 
-      lacks : (choose : Option ℤ) → LacksLine choose (Over endings.NoInput) w.left run_so.leads.state → LacksInput refused p rules whole o (onto d e) choose (run_so.exchange.bytes ++ w.part) (playing (then_turns p rules.limit w.left) run_so.leads.state)
-      lacks None dry = ends_dry w.left unread (λ a. subst (λ (T : State). w.left T a ≡ Done (Over endings.NoInput T) a) (sym same_state) (dry a))
-      lacks (Some k) asks = λ h. ap (λ u. told (go_on u (after_turn (all_turns p rules.limit)))) (asks h) ∙ ap (λ (s : List ℕ). Asks k s) shown_so
+      lacks : (choose : Option ℤ) → IfSome choose (λ n. pos 1 ≤ℤ n) → LacksLine choose (Over endings.NoInput) w.left run_so.leads.state → LacksInput refused p rules whole o (onto d e) choose (run_so.exchange.bytes ++ w.part) (playing (then_turns p rules.limit w.left) run_so.leads.state)
+      lacks None high dry = ends_dry w.left unread (λ a. subst (λ (T : State). w.left T a ≡ Done (Over endings.NoInput T) a) (sym same_state) (dry a))
+      lacks (Some k) high asks = ap (λ u. told (go_on u (after_turn (all_turns p rules.limit)))) (asks high) ∙ ap (λ (s : List ℕ). Asks k s) shown_so
 
       unread_dry : rest ≡ [] → LacksInput refused p rules whole o (onto d e) rules.choose (run_so.exchange.bytes ++ w.part) (playing (then_turns p rules.limit w.left) run_so.leads.state)
       unread_dry none =
           subst (λ (choose : Option ℤ). LacksInput refused p rules whole o (onto d e) choose (run_so.exchange.bytes ++ w.part) (playing (then_turns p rules.limit w.left) run_so.leads.state))
           run_so.leads.choose
-          (lacks run_so.leads.state.choose (w.wants.1 run_so.leads.state (run_so.leads.lines ∙ none)))
+          (lacks run_so.leads.state.choose (subst (λ (choose : Option ℤ). IfSome choose (λ n. pos 1 ≤ℤ n)) (sym run_so.leads.choose) rules.in_range) (w.wants.1 run_so.leads.state (run_so.leads.lines ∙ none)))
 
     dry_by : (error : DeviceError) (w : Breaks refused LastStep e act_state (Over endings.NoInput) error) → error ≡ errors.Read → rest ≡ [] → LacksInput refused p rules whole o (onto d e) rules.choose ((last (with_screen w.middle e) w.left w.comes).exchange.bytes ++ w.part) (playing (then_turns p rules.limit w.left) (last (with_screen w.middle e) w.left w.comes).leads.state)
     dry_by errors.Read w is none = unread_dry w none

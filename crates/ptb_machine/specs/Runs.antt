@@ -5,7 +5,7 @@
 --     LacksInput ..                   without a line the run ends, or asks for an answer
 --     Runs refused p rules o n r      the run comes to the result r
 --     UnlessRunMissed refused P r     P holds, unless a line was wanted and the source gave none
-use Rattle.std.specs.Prelude.{◌≡◌, ◌⊎◌, ℕ, ◌≤◌, List, [], ◌∷◌, ◌++◌, Result, Ok, Err, ℤ, Option, Some, None, pos, ◌≤ℤ◌}
+use Rattle.std.specs.Prelude.{◌≡◌, ◌⊎◌, ℕ, ◌≤◌, List, [], ◌∷◌, ◌++◌, Result, Ok, Err, ℤ, Option, Some, None}
 use Rattle.ptb_text.specs.Statements.{StoredProgram}
 use Rattle.ptb_answers.specs.declared.pause.Pause.{Pause}
 use Rattle.ptb_answers.specs.declared.pause.Pause.TheVariants as pauses
@@ -64,11 +64,16 @@ module _ (refused : Refusal → Type 0) (p : StoredProgram) (rules : Rules) (inp
     -- the source gave the lines for which it asks before, and no others
     pub lines : (later : Answers)
         → input ≡ n.given ++ unasked_lines p input rules (exchange.answers ++ refused_answers z later)
+    -- what was shown is a prefix of what the run shows, whatever answers follow
+    pub begins : (a : Answers) → Begins exchange.bytes (played_bytes (left a))
+    -- the run asks for the lines that the source gave, and with more answers it may ask for more
+    pub more_lines : (a : Answers)
+        → (more : List (List ℕ)) × (input ≡ n.given ++ (more ++ unasked_lines p input rules (exchange.answers ++ a)))
 
-  -- without a line the run ends so, or asks with this bound, which is at least 1; these bytes were shown, and this is left of it
+  -- without a line the run ends so, or asks with this bound; these bytes were shown, and this is left of it
   abbrev pub LacksInput : Option ℤ → List ℕ → (Answers → Outcome Finish (List ℕ)) → Type 0
   LacksInput None bytes left = IsFinished endings.NoInput
-  LacksInput (Some k) bytes left = pos 1 ≤ℤ k → left [] ≡ Asks k bytes
+  LacksInput (Some k) bytes left = left [] ≡ Asks k bytes
 
   -- a device has failed, or was refused memory, and no write failed before;
   -- what was shown is a beginning of what the run shows, whatever answers follow

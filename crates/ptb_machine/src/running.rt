@@ -1,6 +1,6 @@
 // This file does whole runs.
 
-ghost use Rattle.std.specs.Prelude.{◌≡◌, ◌≤◌, ◌≤ℤ◌, ℕ, ℤ, pos, List, [], Option, false, IfOk, IfSome};
+ghost use Rattle.std.specs.Prelude.{◌≡◌, ◌≤◌, ℕ, ℤ, List, [], Option, false, IfOk};
 ghost use Rattle.ptb_command.specs.Devices.{devices, screen_state, refused_by};
 ghost use Rattle.ptb_command.specs.Representation.{Represents};
 ghost use Rattle.ptb_command.specs.State.{first_state};
@@ -33,7 +33,6 @@ pub fn run<C: Chooser, S: Screen, L: LineSource>(
     screen: &mut S,
     source: &mut L,
 ) -> Result<Ending, RunFault>
-    requires { IfSome rules.choose (λ n. pos 1 ≤ℤ n) }
     ensures runs { (given : List (List ℕ)) × (L.gives source.old given source.new
         × Runs (refused_by (C.refused chooser.new) (L.refused source.new) (L.lines source.new))
         program.now rules
@@ -74,7 +73,6 @@ fn play<C: Chooser, S: Screen, L: LineSource>(
         Represents player.old.lines machine.old (first_state player.old input choose) }
     requires fits { FitsProgram player.old machine.old }
     requires unspent { machine.old.spent ≡ false }
-    requires choose { IfSome rules.choose (λ n. pos 1 ≤ℤ n) }
     ensures runs { (given : List (List ℕ)) × (L.gives source.old given source.new
         × Runs (refused_by (C.refused chooser.new) (L.refused source.new) (L.lines source.new))
         player.old rules

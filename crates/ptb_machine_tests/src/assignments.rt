@@ -1,6 +1,6 @@
 // This file tests what LET stores, and where it stops.
 
-use crate::shared::{expect_same, fault, letter, without_lines};
+use crate::shared::{expect_same, fault, letter, plain_rules, without_lines};
 use ptb_command::{Io, Registers, Stop};
 use ptb_devices::{Lines, TextScreen};
 use ptb_expr::Listed;
@@ -18,7 +18,8 @@ fn done(
     let mut chooser = Listed::new(&[]);
     let mut source = Lines::new(&[]);
     let mut cursor = Cursor::new(text.as_bytes(), 0);
-    let mut io = Io::new(&mut chooser, screen, &mut source, true, None);
+    let rules = plain_rules(1);
+    let mut io = Io::new(&mut chooser, screen, &mut source, true, rules);
     registers.do_command(program, 0, Word::LetKw, &mut cursor, &mut io)?;
     Ok(cursor.place())
 }

@@ -1,6 +1,6 @@
 // This file tests what each command does, and where a run stands.
 
-use crate::shared::{MEMORY, expect_same, fault, letter};
+use crate::shared::{MEMORY, expect_same, fault, letter, plain_rules};
 use ptb_command::{
     Io, Location, OpenLoop, Registers, Stack, Stop, at_end, beginning_of, end_turn, first_place,
     first_word, is_zero, line_at, next_command, pass_separator, place_after, put,
@@ -83,7 +83,7 @@ fn done(
     let word = first_word(&mut cursor);
     let mut list = Listed::new(&[4]);
     let mut source = Lines::new(lines);
-    let mut io = Io::new(&mut list, screen, &mut source, true, None);
+    let mut io = Io::new(&mut list, screen, &mut source, true, plain_rules(1));
     let result = registers.do_command(program, 0, word, &mut cursor, &mut io);
     (result, io.fresh)
 }

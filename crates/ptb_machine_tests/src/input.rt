@@ -1,11 +1,10 @@
 // This file tests what INPUT shows and stores, where it stops, and how many writes it takes.
 
-ghost use Rattle.std.specs.Prelude.{◌≤ℤ◌, pos, IfSome};
-
-use crate::shared::{Counted, UNWRITTEN, expect_same, fault, letter, without_lines};
+use crate::shared::{Counted, UNWRITTEN, expect_same, fault, letter, plain_rules, without_lines};
 use ptb_command::{Io, Registers, Stop};
 use ptb_devices::{Line, Lines, Screen, TextScreen, WriterScreen};
 use ptb_expr::{Listed, Pause};
+use ptb_machine::Rules;
 use ptb_text::{Device, Program};
 use ptb_words::{Cursor, Word};
 use std::alloc::{AllocError, Global};
@@ -20,23 +19,21 @@ fn lines_of(alloc: Global, input: &[&[u8]]) -> Result<Vec<Line>, AllocError> {
     Ok(lines)
 }
 
-// Does an INPUT with these answers, and a bound where no line is left, if there is one: the place
-// behind it, and whether the transcript is fresh then.
+// Does an INPUT with these answers, by these rules: the place behind it, and whether the transcript
+// is fresh then.
 fn done<S: Screen>(
     text: &str,
     lines: &[Line],
     answers: &[i16],
-    choose: Option<i16>,
+    rules: Rules,
     program: &Program,
     registers: &mut Registers,
     screen: &mut S,
-) -> (Result<usize, Stop>, bool)
-    requires { IfSome choose (λ n. pos 1 ≤ℤ n) }
-{
+) -> (Result<usize, Stop>, bool) {
     let mut source = Lines::new(lines);
     let mut chooser = Listed::new(answers);
     let mut cursor = Cursor::new(text.as_bytes(), 0);
-    let mut io = Io::new(&mut chooser, screen, &mut source, true, choose);
+    let mut io = Io::new(&mut chooser, screen, &mut source, true, rules);
     let result = registers.do_command(program, 0, Word::InputKw, &mut cursor, &mut io);
     (result.map(|()| cursor.place()), io.fresh)
 }
@@ -77,7 +74,7 @@ fn items(rt: HostRuntime) -> Result<(), Fail> {
             text,
             &lines,
             &[1, 2],
-            None,
+            plain_rules(1),
             &program,
             &mut registers,
             &mut screen,
@@ -101,6 +98,10 @@ const ANSWERED: &[(&str, &[i16], Result<usize, Stop>, &[u8], i16)] = &[
 
 #[test]
 fn answers_where_no_line_is_left(rt: HostRuntime) -> Result<(), Fail> {
+    let rules = Rules {
+        limit: 1,
+        choose: Some(2),
+    };
     for &(text, answers, want, shown, a) in ANSWERED {
         let (program, mut registers) = without_lines(rt.alloc())?;
         let mut screen = TextScreen::new(rt.alloc());
@@ -108,7 +109,7 @@ fn answers_where_no_line_is_left(rt: HostRuntime) -> Result<(), Fail> {
             text,
             &[],
             answers,
-            Some(2),
+            rules,
             &program,
             &mut registers,
             &mut screen,
@@ -149,7 +150,8 @@ fn written(
         writes_left: &mut writes_left,
     });
     let mut screen = WriterScreen::new(&mut writer);
-    let (result, _) = done(text, lines, &[], None, program, registers, &mut screen);
+    let rules = plain_rules(1);
+    let (result, _) = done(text, lines, &[], rules, program, registers, &mut screen);
     drop(screen);
     drop(writer);
     (result, writes_left)

@@ -1,6 +1,6 @@
 // This file tests how many writes a PRINT takes, and what it has shown where it stops.
 
-use crate::shared::{Counted, UNWRITTEN, expect_same, fault, without_lines};
+use crate::shared::{Counted, UNWRITTEN, expect_same, fault, plain_rules, without_lines};
 use ptb_command::{Gathering, Io, Registers, Stop, gather_value};
 use ptb_devices::{Lines, WriterScreen};
 use ptb_expr::{Listed, Pause};
@@ -65,7 +65,8 @@ fn written(
     let mut source = Lines::new(&[]);
     let mut chooser = Listed::new(answers);
     let mut cursor = Cursor::new(text.as_bytes(), 0);
-    let mut io = Io::new(&mut chooser, &mut screen, &mut source, true, None);
+    let rules = plain_rules(1);
+    let mut io = Io::new(&mut chooser, &mut screen, &mut source, true, rules);
     let result = registers.do_command(program, 0, Word::PrintKw, &mut cursor, &mut io);
     drop(io);
     drop(screen);

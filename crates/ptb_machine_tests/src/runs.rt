@@ -1,6 +1,5 @@
 // This file tests runs and steps: worked rows, and what a run shows of faults.
 
-ghost use Rattle.std.specs.Prelude.{◌≤ℤ◌, pos, IfSome};
 ghost use Rattle.ptb_machine.specs.Steps.{FitsProgram};
 ghost use Rattle.ptb_machine_tests.specs.Programs.{IsCounting, IsPrinting};
 
@@ -177,9 +176,7 @@ fn expect_answered(
     rules: Rules,
     answers: &[i16],
     want: (Ending, &[u8]),
-)
-    requires { IfSome rules.choose (λ n. pos 1 ≤ℤ n) }
-{
+) {
     let mut input = input;
     let mut reader = Device::new(&mut input);
     let mut source = ReaderLines::new(&mut reader);

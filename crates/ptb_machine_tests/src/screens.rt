@@ -2,7 +2,7 @@
 
 use crate::shared::expect_same;
 use ptb_devices::{Screen, ScreenFault, TextScreen, WriterScreen};
-use ptb_text::Device;
+use ptb_text::{ByteSink, Device};
 use std::io;
 use std::io::ErrorKind;
 use std::process::Abort;
@@ -14,7 +14,7 @@ struct Frail<'a> {
     calls_left: usize,
 }
 
-impl<'a> io::Write for Frail<'a> {
+impl<'a> ByteSink for Frail<'a> {
     fn write(&mut self, buf: &[u8]) -> io::Result<usize> {
         if self.calls_left == 0 {
             return Err(io::Error::from(ErrorKind::BrokenPipe));

@@ -7,7 +7,7 @@ ghost use Rattle.ptb_words.specs.Words.{is_letter};
 use ptb_command::{DeviceError, Registers, Stack, Stop};
 use ptb_expr::Store;
 use ptb_machine::Rules;
-use ptb_text::{Device, Program, load};
+use ptb_text::{ByteSink, ByteSource, Device, Program, load};
 use ptb_words::Letter;
 use std::alloc::{AllocError, Global};
 use std::fmt::Debug;
@@ -35,14 +35,14 @@ pub(crate) struct Script<'a> {
     pub(crate) calls: usize,
 }
 
-impl<'a> io::Read for Script<'a> {
+impl<'a> ByteSource for Script<'a> {
     fn read(&mut self, buf: &mut [u8]) -> io::Result<usize> {
         self.calls = self.calls.saturating_add(1);
         if self.fails && self.bytes.is_empty() {
             return Err(io::Error::from(ErrorKind::BrokenPipe));
         }
         let count = buf.len().min(self.piece);
-        self.bytes.read(&mut buf[..count])
+        ByteSource::read(&mut self.bytes, &mut buf[..count])
     }
 }
 
@@ -63,7 +63,7 @@ pub(crate) struct Long {
     pub(crate) given: usize,
 }
 
-impl io::Read for Long {
+impl ByteSource for Long {
     fn read(&mut self, buf: &mut [u8]) -> io::Result<usize> {
         let count = buf.len().min(self.left);
         for byte in &mut buf[..count] {
@@ -87,7 +87,7 @@ pub(crate) struct Counted<'a> {
     pub(crate) writes_left: &'a mut usize,
 }
 
-impl<'a> io::Write for Counted<'a> {
+impl<'a> ByteSink for Counted<'a> {
     fn write(&mut self, buf: &[u8]) -> io::Result<usize> {
         if *self.writes_left == 0 {
             return Err(io::Error::from(ErrorKind::BrokenPipe));
@@ -141,7 +141,7 @@ pub(crate) fn without_lines(alloc: Global) -> Result<(Program, Registers), Alloc
 
 // Rules by which a run ends where no line is left.
 pub(crate) fn plain_rules(limit: u32) -> Rules
-    ensures { result ≡ record { limit = limit; choose = None } }
+    ensures { result ≡ record { limit = limit; choose = None; in_range = tt } }
 {
     Rules {
         limit,

@@ -17,7 +17,7 @@ steps-init g c = (
 )
 
 pub step-requires : goal.step-requires
-step-requires g c = record { fits = c.steps.invariant.1; choose = c.requires.choose }
+step-requires g c = record { fits = c.steps.invariant.1 }
 
 pub returns-in_err-ending-clause-runs : goal.returns-in_err-ending-clause-runs
 returns-in_err-ending-clause-runs g c =

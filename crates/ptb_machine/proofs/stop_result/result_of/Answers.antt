@@ -19,7 +19,7 @@ returns-in_err-report-in-Err-Fault g c = record {
       (c.in-Err-Fault.is ∙ ap Err (rw c.in-Err-Fault.is at c.in-Err-Fault.field-0-is)) (result.1 ∙ ap Err result.2)
       (rw (number, line.1) at (c.in_err-report-in-Err-Fault.ensures (io_devices g.C.Chooser.choices g.S.Screen g.L.LineSource.most c.args.io.now given) cells));
   chooser = refl;
-  same = record { chooser = refl; screen = refl; source = refl; choose = refl };
+  same = record { chooser = refl; screen = refl; source = refl; rules = refl };
 }
 
 pub returns-in_ok-report-in-Err-Fault : goal.returns-in_ok-report-in-Err-Fault
@@ -32,14 +32,14 @@ returns-in_ok-report-in-Err-Fault g c = record {
       (c.in-Err-Fault.is ∙ ap Err (rw c.in-Err-Fault.is at c.in-Err-Fault.field-0-is)) (ap (λ e. Ok (Some e)) c.ending_of.ensures)
       (rw (number, line.1) at (c.in_ok-report-in-Err-Fault.ensures (io_devices g.C.Chooser.choices g.S.Screen g.L.LineSource.most c.args.io.now given) cells));
   chooser = refl;
-  same = record { chooser = refl; screen = refl; source = refl; choose = refl };
+  same = record { chooser = refl; screen = refl; source = refl; rules = refl };
 }
 
 pub returns-in-Ok : goal.returns-in-Ok
 returns-in-Ok g c = record {
   comes = λ given cells n text at. result_done _ _ _ _ _ c.in-Ok.is;
   chooser = refl;
-  same = record { chooser = refl; screen = refl; source = refl; choose = refl };
+  same = record { chooser = refl; screen = refl; source = refl; rules = refl };
 }
 
 pub returns-in-Err-Ended : goal.returns-in-Err-Ended
@@ -47,7 +47,7 @@ returns-in-Err-Ended g c = record {
   comes = λ given cells n text at.
       result_stopped _ _ _ _ stops.Ended _ (record { is = refl; same = refl }) (c.in-Err-Ended.is ∙ ap Err (rw c.in-Err-Ended.is at c.in-Err-Ended.field-0-is));
   chooser = refl;
-  same = record { chooser = refl; screen = refl; source = refl; choose = refl };
+  same = record { chooser = refl; screen = refl; source = refl; rules = refl };
 }
 
 pub returns-in-Err-NoInput : goal.returns-in-Err-NoInput
@@ -55,7 +55,7 @@ returns-in-Err-NoInput g c = record {
   comes = λ given cells n text at.
       result_stopped _ _ _ _ stops.NoInput _ (record { is = refl; same = refl }) (c.in-Err-NoInput.is ∙ ap Err (rw c.in-Err-NoInput.is at c.in-Err-NoInput.field-0-is));
   chooser = refl;
-  same = record { chooser = refl; screen = refl; source = refl; choose = refl };
+  same = record { chooser = refl; screen = refl; source = refl; rules = refl };
 }
 
 pub returns-in-Err-Pause-Ended : goal.returns-in-Err-Pause-Ended
@@ -65,7 +65,7 @@ returns-in-Err-Pause-Ended g c = record {
       let pause = rw (c.in-Err-Pause-Ended.is, stop) at c.in-Err-Pause-Ended.field-0-0-is in
       result_stopped _ _ _ _ (stops.Pause pauses.Ended) _ (record { is = refl; same = refl }) (c.in-Err-Pause-Ended.is ∙ ap Err (stop ∙ ap stops.Pause pause));
   chooser = refl;
-  same = record { chooser = refl; screen = refl; source = refl; choose = refl };
+  same = record { chooser = refl; screen = refl; source = refl; rules = refl };
 }
 
 pub returns-in-Err-Pause-OutOfRange : goal.returns-in-Err-Pause-OutOfRange
@@ -75,7 +75,7 @@ returns-in-Err-Pause-OutOfRange g c = record {
       let pause = rw (c.in-Err-Pause-OutOfRange.is, stop) at c.in-Err-Pause-OutOfRange.field-0-0-is in
       result_stopped _ _ _ _ (stops.Pause (pauses.OutOfRange c.in-Err-Pause-OutOfRange.field-0-0-0)) _ (record { is = refl; same = refl }) (c.in-Err-Pause-OutOfRange.is ∙ ap Err (stop ∙ ap stops.Pause pause));
   chooser = refl;
-  same = record { chooser = refl; screen = refl; source = refl; choose = refl };
+  same = record { chooser = refl; screen = refl; source = refl; rules = refl };
 }
 
 pub returns-in-Err-Pause-Memory : goal.returns-in-Err-Pause-Memory
@@ -85,7 +85,7 @@ returns-in-Err-Pause-Memory g c = record {
       let pause = rw (c.in-Err-Pause-Memory.is, stop) at c.in-Err-Pause-Memory.field-0-0-is in
       result_stopped _ _ _ _ (stops.Pause pauses.Memory) _ (record { is = refl; same = refl }) (c.in-Err-Pause-Memory.is ∙ ap Err (stop ∙ ap stops.Pause pause));
   chooser = refl;
-  same = record { chooser = refl; screen = refl; source = refl; choose = refl };
+  same = record { chooser = refl; screen = refl; source = refl; rules = refl };
 }
 
 pub returns-in-Err-Broke : goal.returns-in-Err-Broke
@@ -93,5 +93,5 @@ returns-in-Err-Broke g c = record {
   comes = λ given cells n text at.
       result_stopped _ _ _ _ (stops.Broke c.in-Err-Broke.error) _ (record { is = ap Err c.fault_of.ensures; same = refl }) (c.in-Err-Broke.is ∙ ap Err (rw c.in-Err-Broke.is at c.in-Err-Broke.field-0-is));
   chooser = refl;
-  same = record { chooser = refl; screen = refl; source = refl; choose = refl };
+  same = record { chooser = refl; screen = refl; source = refl; rules = refl };
 }

@@ -1,5 +1,5 @@
 -- This file answers what is left to prove of `input_items`.
-use Rattle.std.proofs.Common.{◌∙◌, ◌++◌, [], append_assoc, refl}
+use Rattle.std.proofs.Common.{◌∙◌, ◌++◌, [], append_assoc, refl, ap}
 use Rattle.std.proofs.Math.Nat.{le_refl}
 use Rattle.ptb_command.specs.Act.{first_width}
 use Rattle.ptb_command.specs.Commands.{parts_of}
@@ -16,7 +16,7 @@ pub items-init : goal.items-init
 unfolding parts_of
 items-init g c = record {
   text = refl;
-  same = record { chooser = refl; screen = refl; source = refl; choose = refl };
+  same = record { chooser = refl; screen = refl; source = refl; rules = refl };
   given = [];
   gives = g.met.L.LineSource.gives_none _;
   missed = not_missed _ _ _ _ (le_refl _);
@@ -40,7 +40,7 @@ returns-in_err-input_item g c =
         ),
       );
       closed = if_ok_never _ _ _ c.from_residual.ensures.1;
-      missed = missed_out g.L.LineSource.refused g.L.LineSource.missed g.L.LineSource.most c.args.io.now.choose c.args.io.now.source.now c.items.io.source.now c.input_item.new.io.source.now (fewer_lines g.L.LineSource.gives g.L.LineSource.most g.met.L.LineSource.falls _ _ _ one.1.0) was.missed _ was.same.choose _ _ c.from_residual.ensures.1 c.in_err-input_item.ensures.missed;
+      missed = missed_out g.L.LineSource.refused g.L.LineSource.missed g.L.LineSource.most c.args.io.now.rules.choose c.args.io.now.source.now c.items.io.source.now c.input_item.new.io.source.now (fewer_lines g.L.LineSource.gives g.L.LineSource.most g.met.L.LineSource.falls _ _ _ one.1.0) was.missed _ (ap (λ r. r.choose) was.same.rules) _ _ c.from_residual.ensures.1 c.in_err-input_item.ensures.missed;
       same = borrows_on was.same c.input_item.ensures.same;
     }
 
@@ -53,7 +53,7 @@ items-preserved g c =
       same = borrows_on was.same c.in_ok-input_item.ensures.same;
       given = was.given ++ one.0;
       gives = g.met.L.LineSource.gives_more _ _ _ _ _ was.gives one.1.0;
-      missed = missed_on g.L.LineSource.refused g.L.LineSource.missed g.L.LineSource.most c.args.io.now.choose c.args.io.now.source.now c.items.io.source.now c.input_item.new.io.source.now (fewer_lines g.L.LineSource.gives g.L.LineSource.most g.met.L.LineSource.falls _ _ _ one.1.0) was.missed _ was.same.choose c.in_ok-input_item.ensures.missed;
+      missed = missed_on g.L.LineSource.refused g.L.LineSource.missed g.L.LineSource.most c.args.io.now.rules.choose c.args.io.now.source.now c.items.io.source.now c.input_item.new.io.source.now (fewer_lines g.L.LineSource.gives g.L.LineSource.most g.met.L.LineSource.falls _ _ _ one.1.0) was.missed _ (ap (λ r. r.choose) was.same.rules) c.in_ok-input_item.ensures.missed;
       going = next_items _ _ _ _ _ was.going _ was.text _ c.in_ok-input_item.ensures.read _ c.in_ok-input_item.ensures.text
           c.finding_laws.ensures _ c.if-not-token.ensures.value _
           (λ rest p before. item_moves _ _ _ was.text
@@ -82,6 +82,6 @@ returns-then-not-token g c =
       );
       closed = items_closed _ _ _ _ _ was.going _ was.text _ c.in_ok-input_item.ensures.read _ c.in_ok-input_item.ensures.text
           c.if-not-token.ensures.value _ c.token.ensures.text _ there c.check_end.result c.check_end.ensures.whole c.check_end.ensures.ends;
-      missed = unmissed (g.L.LineSource.refused c.input_item.new.io.source.now) _ (missed_on g.L.LineSource.refused g.L.LineSource.missed g.L.LineSource.most c.args.io.now.choose c.args.io.now.source.now c.items.io.source.now c.input_item.new.io.source.now (fewer_lines g.L.LineSource.gives g.L.LineSource.most g.met.L.LineSource.falls _ _ _ one.1.0) was.missed _ was.same.choose c.in_ok-input_item.ensures.missed) c.check_end.result;
+      missed = unmissed (g.L.LineSource.refused c.input_item.new.io.source.now) _ (missed_on g.L.LineSource.refused g.L.LineSource.missed g.L.LineSource.most c.args.io.now.rules.choose c.args.io.now.source.now c.items.io.source.now c.input_item.new.io.source.now (fewer_lines g.L.LineSource.gives g.L.LineSource.most g.met.L.LineSource.falls _ _ _ one.1.0) was.missed _ (ap (λ r. r.choose) was.same.rules) c.in_ok-input_item.ensures.missed) c.check_end.result;
       same = borrows_on was.same c.in_ok-input_item.ensures.same;
     }

@@ -20,7 +20,7 @@ invariant-items g l =
       same : SameBorrows l.fn.io l.io;
       given : List (List ℕ);
       gives : g.L.LineSource.gives l.fn.io.source.now given l.io.source.now;
-      missed : NotMissed l.fn.io.choose (g.L.LineSource.missed l.fn.io.source.now) (g.L.LineSource.missed l.io.source.now) (g.L.LineSource.most l.io.source.now);
+      missed : NotMissed l.fn.io.rules.choose (g.L.LineSource.missed l.fn.io.source.now) (g.L.LineSource.missed l.io.source.now) (g.L.LineSource.most l.io.source.now);
       going : Going t (λ j. comma_round t (input_item t j)) (parts_of InputKw t i) i l.cursor.place first_width []
           (λ k. (before : List (List ℕ)) → RefinesPart
           (due_trace g.C.Chooser.choices g.S.Screen g.L.LineSource.most l.fn.io before l.fn.store l.fn.gathering)

@@ -19,7 +19,7 @@ pub answers-init : goal.answers-init
 answers-init g c = record {
   text = refl;
   place = refl;
-  same = record { chooser = refl; screen = refl; source = refl; choose = refl };
+  same = record { chooser = refl; screen = refl; source = refl; rules = refl };
   given = [];
   gives = g.met.L.LineSource.gives_none _;
   missed = le_refl _;
@@ -43,7 +43,7 @@ returns-in_err-target g c =
         ),
       );
       read = if_ok_never _ _ _ c.from_residual.ensures.1;
-      missed = fewer_missed g.L.LineSource.refused g.L.LineSource.missed g.L.LineSource.most c.args.io.now.choose c.args.io.now.source.now _ (missed_same g.L.LineSource.missed _ _ _ (ap (λ k. k.now) c.ask.ensures.same.source) was.missed) _;
+      missed = fewer_missed g.L.LineSource.refused g.L.LineSource.missed g.L.LineSource.most c.args.io.now.rules.choose c.args.io.now.source.now _ (missed_same g.L.LineSource.missed _ _ _ (ap (λ k. k.now) c.ask.ensures.same.source) was.missed) _;
       same = borrows_then was.same c.ask.ensures.same;
     }
 
@@ -66,7 +66,7 @@ returns-in_err-line g c =
       );
       read = if_ok_never _ _ _ c.from_residual-in_err-line.ensures.1;
       missed = refused_missed (g.L.LineSource.refused c.next.follows.lender-at-none) _ c.in_err-line.field-0.0 c.next.result c.in_err-line.was c.next.follows.holds-at-none.1 _ c.from_residual-in_err-line.ensures.1;
-      same = borrows_lent was.same c.ask.ensures.same (record { chooser = refl; screen = refl; source = refl; choose = refl });
+      same = borrows_lent was.same c.ask.ensures.same (record { chooser = refl; screen = refl; source = refl; rules = refl });
     }
 
 pub returns-in_default-choose : goal.returns-in_default-choose
@@ -88,7 +88,7 @@ returns-in_default-choose g c =
       );
       read = tt;
       missed = tt;
-      same = borrows_lent was.same c.ask.ensures.same (record { chooser = refl; screen = refl; source = refl; choose = refl });
+      same = borrows_lent was.same c.ask.ensures.same (record { chooser = refl; screen = refl; source = refl; rules = refl });
     }
 
 pub returns-in_default : goal.returns-in_default
@@ -112,8 +112,8 @@ returns-in_default g c =
         ),
       );
       read = if_ok_always _ c.answer_instead.result (read_there _ _ _ _ _ was.text was.place c.in_ok-target.ensures.read);
-      missed = instead_missed g.L.LineSource.refused g.L.LineSource.missed g.L.LineSource.most c.args.io.now.choose c.args.io.now.source.now _ (c.ask.ensures.same.choose ∙ was.same.choose) _ c.in-Some-choose.is c.next.follows.lender-at-none _ (ap (λ k. k.now) c.answer_instead.ensures.same.source) (none_more g.L.LineSource.most c.next.result none c.next.follows.holds-at-none.4) c.answer_instead.result;
-      same = borrows_then (borrows_lent was.same c.ask.ensures.same (record { chooser = refl; screen = refl; source = refl; choose = refl })) c.answer_instead.ensures.same;
+      missed = instead_missed g.L.LineSource.refused g.L.LineSource.missed g.L.LineSource.most c.args.io.now.rules.choose c.args.io.now.source.now _ (ap (λ r. r.choose) (c.ask.ensures.same.rules ∙ was.same.rules)) _ c.in-Some-choose.is c.next.follows.lender-at-none _ (ap (λ k. k.now) c.answer_instead.ensures.same.source) (none_more g.L.LineSource.most c.next.result none c.next.follows.holds-at-none.4) c.answer_instead.result;
+      same = borrows_then (borrows_lent was.same c.ask.ensures.same (record { chooser = refl; screen = refl; source = refl; rules = refl })) c.answer_instead.ensures.same;
     }
 
 -- ---- a line is given
@@ -135,13 +135,13 @@ returns-in_err-store_answer g c =
               (falls_one g.L.LineSource.gives g.L.LineSource.most g.met.L.LineSource.falls c.ask.new.io.source.now c.next.follows.lender-at-none c.next.result c.in-Some.line.now (ap given_lines some) c.next.follows.holds-at-none.0)
               (sym (append_assoc before was.given (c.in-Some.line.now ∷ [])))
               _ _ _ _ _ _ _ c.from_residual-in_err-store_answer.ensures.1 (c.in_err-store_answer.ensures
-              (devices (g.C.Chooser.choices c.ask.new.io.chooser.now) (screen_state g.S.Screen c.ask.new.io.screen.now) (g.L.LineSource.most c.next.follows.lender-at-none) c.ask.new.io.choose (before ++ (was.given ++ c.in-Some.line.now ∷ [])))
+              (devices (g.C.Chooser.choices c.ask.new.io.chooser.now) (screen_state g.S.Screen c.ask.new.io.screen.now) (g.L.LineSource.most c.next.follows.lender-at-none) c.ask.new.io.rules.choose (before ++ (was.given ++ c.in-Some.line.now ∷ [])))
               c.args.item.now.said.now (item_of (variable_tree c.args.cursor.now.text c.args.cursor.now.place)) (prompt_there c.args.cursor.now.text c.args.cursor.now.place c.args.item.now)),
         ),
       );
       read = if_ok_never _ _ _ c.from_residual-in_err-store_answer.ensures.1;
-      missed = fewer_missed g.L.LineSource.refused g.L.LineSource.missed g.L.LineSource.most c.args.io.now.choose c.args.io.now.source.now c.next.follows.lender-at-none (given_missed g.L.LineSource.missed c.args.io.now.source.now c.ask.new.io.source.now c.next.follows.lender-at-none c.in-Some.line c.next.result some (missed_same g.L.LineSource.missed _ _ _ (ap (λ k. k.now) c.ask.ensures.same.source) was.missed) c.next.follows.holds-at-none.3) _;
-      same = borrows_lent was.same c.ask.ensures.same (record { chooser = refl; screen = refl; source = refl; choose = refl });
+      missed = fewer_missed g.L.LineSource.refused g.L.LineSource.missed g.L.LineSource.most c.args.io.now.rules.choose c.args.io.now.source.now c.next.follows.lender-at-none (given_missed g.L.LineSource.missed c.args.io.now.source.now c.ask.new.io.source.now c.next.follows.lender-at-none c.in-Some.line c.next.result some (missed_same g.L.LineSource.missed _ _ _ (ap (λ k. k.now) c.ask.ensures.same.source) was.missed) c.next.follows.holds-at-none.3) _;
+      same = borrows_lent was.same c.ask.ensures.same (record { chooser = refl; screen = refl; source = refl; rules = refl });
     }
 
 pub returns-then-branch : goal.returns-then-branch
@@ -161,13 +161,13 @@ returns-then-branch g c =
               (falls_one g.L.LineSource.gives g.L.LineSource.most g.met.L.LineSource.falls c.ask.new.io.source.now c.next.follows.lender-at-none c.next.result c.in-Some.line.now (ap given_lines some) c.next.follows.holds-at-none.0)
               (sym (append_assoc before was.given (c.in-Some.line.now ∷ [])))
               _ _ c.if-branch.true (c.in_ok-store_answer.ensures
-              (devices (g.C.Chooser.choices c.ask.new.io.chooser.now) (screen_state g.S.Screen c.ask.new.io.screen.now) (g.L.LineSource.most c.next.follows.lender-at-none) c.ask.new.io.choose (before ++ (was.given ++ c.in-Some.line.now ∷ [])))
+              (devices (g.C.Chooser.choices c.ask.new.io.chooser.now) (screen_state g.S.Screen c.ask.new.io.screen.now) (g.L.LineSource.most c.next.follows.lender-at-none) c.ask.new.io.rules.choose (before ++ (was.given ++ c.in-Some.line.now ∷ [])))
               c.args.item.now.said.now (item_of (variable_tree c.args.cursor.now.text c.args.cursor.now.place)) (prompt_there c.args.cursor.now.text c.args.cursor.now.place c.args.item.now)),
         ),
       );
       read = read_there _ _ _ _ _ was.text was.place c.in_ok-target.ensures.read;
       missed = not_missed _ _ _ _ (given_missed g.L.LineSource.missed c.args.io.now.source.now c.ask.new.io.source.now c.next.follows.lender-at-none c.in-Some.line c.next.result some (missed_same g.L.LineSource.missed _ _ _ (ap (λ k. k.now) c.ask.ensures.same.source) was.missed) c.next.follows.holds-at-none.3);
-      same = borrows_lent was.same c.ask.ensures.same (record { chooser = refl; screen = refl; source = refl; choose = refl });
+      same = borrows_lent was.same c.ask.ensures.same (record { chooser = refl; screen = refl; source = refl; rules = refl });
     }
 
 pub answers-preserved : goal.answers-preserved
@@ -178,7 +178,7 @@ answers-preserved g c =
     record {
       text = ap (λ (x : CursorState). x.text) c.go_to.ensures ∙ c.in_ok-target.ensures.text ∙ was.text;
       place = ap (λ (x : CursorState). x.place) c.go_to.ensures ∙ c.place-from.ensures;
-      same = borrows_lent was.same c.ask.ensures.same (record { chooser = refl; screen = refl; source = refl; choose = refl });
+      same = borrows_lent was.same c.ask.ensures.same (record { chooser = refl; screen = refl; source = refl; rules = refl });
       given = was.given ++ c.in-Some.line.now ∷ [];
       gives = gives_one_more g.L.LineSource.gives g.met.L.LineSource.gives_more c.args.io.now.source.now c.ask.new.io.source.now c.next.follows.lender-at-none was.given c.in-Some.line.now c.next.result (ap given_lines some) gives c.next.follows.holds-at-none.0;
       missed = given_missed g.L.LineSource.missed c.args.io.now.source.now c.ask.new.io.source.now c.next.follows.lender-at-none c.in-Some.line c.next.result some (missed_same g.L.LineSource.missed _ _ _ (ap (λ k. k.now) c.ask.ensures.same.source) was.missed) c.next.follows.holds-at-none.3;
@@ -188,7 +188,7 @@ answers-preserved g c =
           (falls_one g.L.LineSource.gives g.L.LineSource.most g.met.L.LineSource.falls c.ask.new.io.source.now c.next.follows.lender-at-none c.next.result c.in-Some.line.now (ap given_lines some) c.next.follows.holds-at-none.0)
           (sym (append_assoc before was.given (c.in-Some.line.now ∷ [])))
           _ _ c.if-branch.false (c.in_ok-store_answer.ensures
-          (devices (g.C.Chooser.choices c.ask.new.io.chooser.now) (screen_state g.S.Screen c.ask.new.io.screen.now) (g.L.LineSource.most c.next.follows.lender-at-none) c.ask.new.io.choose (before ++ (was.given ++ c.in-Some.line.now ∷ [])))
+          (devices (g.C.Chooser.choices c.ask.new.io.chooser.now) (screen_state g.S.Screen c.ask.new.io.screen.now) (g.L.LineSource.most c.next.follows.lender-at-none) c.ask.new.io.rules.choose (before ++ (was.given ++ c.in-Some.line.now ∷ [])))
           c.args.item.now.said.now (item_of (variable_tree c.args.cursor.now.text c.args.cursor.now.place)) (prompt_there c.args.cursor.now.text c.args.cursor.now.place c.args.item.now));
     }
 

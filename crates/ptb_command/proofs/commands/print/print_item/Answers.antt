@@ -22,7 +22,7 @@ returns-in_err-value g c = record {
       width_fails rest _ operands c.args.cursor.now.text c.args.cursor.now.place _ c.token.ensures.text _ c.if-token.ensures.value
       _ _ _ _ _ _ c.from_residual.ensures.1 (c.in_err-value.ensures.comes (io_devices g.C.Chooser.choices g.S.Screen g.L.LineSource.most c.args.io.now given) c.args.io.now.fresh c.args.gathering.now);
   read = if_ok_never _ _ _ c.from_residual.ensures.1;
-  same = record { chooser = refl; screen = refl; source = refl; choose = refl };
+  same = record { chooser = refl; screen = refl; source = refl; rules = refl };
 }
 
 pub returns-in_err-width : goal.returns-in_err-width
@@ -34,7 +34,7 @@ returns-in_err-width g c = record {
       _ _ _ _ c.from_residual-in_err-width.ensures.1 _ c.in_ok-value.ensures.read _ _ same (c.in_ok-value.ensures.comes (io_devices g.C.Chooser.choices g.S.Screen g.L.LineSource.most c.args.io.now given) c.args.io.now.fresh c.args.gathering.now)
       _ c.place.ensures c.in_err-width.ensures;
   read = if_ok_never _ _ _ c.from_residual-in_err-width.ensures.1;
-  same = record { chooser = refl; screen = refl; source = refl; choose = refl };
+  same = record { chooser = refl; screen = refl; source = refl; rules = refl };
 }
 
 pub returns-then-token : goal.returns-then-token
@@ -51,7 +51,7 @@ returns-then-token g c = record {
         whole = is_whole _ _ _ (item_whole_width c.args.cursor.now.text c.args.cursor.now.place c.token.new.self.place c.value.new.cursor.place c.if-token.ensures.value (rw c.token.ensures.text at c.in_ok-value.ensures.read.whole));
         ahead = record { after = omega (arith, l.after, (c.finding_laws.ensures.token _ _ _ _ c.if-token.ensures.value).after); within = l.within; settled = l.settled };
       };
-  same = record { chooser = refl; screen = refl; source = refl; choose = refl };
+  same = record { chooser = refl; screen = refl; source = refl; rules = refl };
 }
 
 -- ---- a string
@@ -78,7 +78,7 @@ returns-in-Unclosed g c = record {
       (rw (c.place-in-Unclosed.ensures ∙ c.in-Unclosed.ensures.absent refl ∙ c.if-token.ensures.absent refl)
       (refines_part_part rest _ operands _ _ (item_open c.args.cursor.now.text c.args.cursor.now.place c.if-token.ensures.value (rw c.token.ensures.text at (rw (c.if-token.ensures.absent refl) at c.in-Unclosed.ensures.value))) (defect_refines_part rest _ operands _ _ _)));
   read = tt;
-  same = record { chooser = refl; screen = refl; source = refl; choose = refl };
+  same = record { chooser = refl; screen = refl; source = refl; rules = refl };
 }
 
 -- ---- a value
@@ -91,7 +91,7 @@ returns-in_err-value-in-Absent g c = record {
       c.if-token.ensures.value _ (c.if-token.ensures.absent refl) c.in-Absent.ensures.value _ c.literal.ensures.text _ (c.in-Absent.ensures.absent refl)
       _ _ _ _ _ _ c.from_residual-in_err-value-in-Absent.ensures.1 (c.in_err-value-in-Absent.ensures.comes (io_devices g.C.Chooser.choices g.S.Screen g.L.LineSource.most c.args.io.now given) c.args.io.now.fresh c.args.gathering.now);
   read = if_ok_never _ _ _ c.from_residual-in_err-value-in-Absent.ensures.1;
-  same = record { chooser = refl; screen = refl; source = refl; choose = refl };
+  same = record { chooser = refl; screen = refl; source = refl; rules = refl };
 }
 
 pub returns-in_ok-value-in-Absent : goal.returns-in_ok-value-in-Absent
@@ -108,5 +108,5 @@ returns-in_ok-value-in-Absent g c = record {
         whole = is_whole _ _ _ (item_whole_value c.args.cursor.now.text c.args.cursor.now.place _ c.if-token.ensures.value none read.whole);
         ahead = read.ahead;
       });
-  same = devices_then (record { chooser = refl; screen = refl; source = refl; choose = refl }) c.show_value.ensures.same;
+  same = devices_then (record { chooser = refl; screen = refl; source = refl; rules = refl }) c.show_value.ensures.same;
 }

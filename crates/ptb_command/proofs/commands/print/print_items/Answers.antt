@@ -31,7 +31,7 @@ returns-then-at_end g c =
 pub items-init : goal.items-init
 items-init g c = record {
   text = refl;
-  same = record { chooser = refl; screen = refl; source = refl; choose = refl };
+  same = record { chooser = refl; screen = refl; source = refl; rules = refl };
   going = going_start _ _ _ _ _ _ _ (print_something c.args.cursor.now.text c.args.cursor.now.place (sym c.at_end.ensures ∙ c.if-at_end.false)) c.requires (λ given. refines_part_refl _ _);
 }
 

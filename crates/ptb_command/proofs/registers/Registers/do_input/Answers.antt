@@ -50,7 +50,7 @@ returns-in_err-flush g c = record {
               (rw c.new-gathering.ensures at (done.1.1 before)))),
         ),
       );
-  missed = shown_missed g.L.LineSource.refused g.L.LineSource.missed g.L.LineSource.most c.args.io.now.choose c.args.io.now.source.now _ _ (ap (λ k. k.now) c.flush.ensures.same.source) c.input_items-done.result (sym c.still_shows.ensures ∙ c.if-not-still_shows.false) c.input_items-done.ensures.missed _;
+  missed = shown_missed g.L.LineSource.refused g.L.LineSource.missed g.L.LineSource.most c.args.io.now.rules.choose c.args.io.now.source.now _ _ (ap (λ k. k.now) c.flush.ensures.same.source) c.input_items-done.result (sym c.still_shows.ensures ∙ c.if-not-still_shows.false) c.input_items-done.ensures.missed _;
   same = borrows_then c.input_items-done.ensures.same c.flush.ensures.same;
 }
 
@@ -73,7 +73,7 @@ returns-in_err-done g c = record {
               parts_stopped _ p _ _ _ _ q InputKw _ _ _ _ c.from_residual-in_err-done.ensures.1 (record { place = refl; stack = refl; steps = refl }) (rw c.in_err-done.was at shown),
         ),
       );
-  missed = shown_missed g.L.LineSource.refused g.L.LineSource.missed g.L.LineSource.most c.args.io.now.choose c.args.io.now.source.now _ _ (ap (λ k. k.now) c.flush.ensures.same.source) c.input_items-done.result (sym c.still_shows.ensures ∙ c.if-not-still_shows.false) c.input_items-done.ensures.missed _;
+  missed = shown_missed g.L.LineSource.refused g.L.LineSource.missed g.L.LineSource.most c.args.io.now.rules.choose c.args.io.now.source.now _ _ (ap (λ k. k.now) c.flush.ensures.same.source) c.input_items-done.result (sym c.still_shows.ensures ∙ c.if-not-still_shows.false) c.input_items-done.ensures.missed _;
   same = borrows_then c.input_items-done.ensures.same c.flush.ensures.same;
 }
 
@@ -96,6 +96,6 @@ returns g c = record {
               (record { place = refl; stack = refl; steps = refl }) (ap (λ r. configuration r steps c.flush.new.self.fresh spent) c.go_behind.ensures.place) begun c.in_ok-done.ensures.closed (rw c.input_items-done.ensures.text at c.go_behind.ensures.follows) [] (rw c.in_ok-done.was at shown),
         ),
       );
-  missed = shown_missed g.L.LineSource.refused g.L.LineSource.missed g.L.LineSource.most c.args.io.now.choose c.args.io.now.source.now _ _ (ap (λ k. k.now) c.flush.ensures.same.source) c.input_items-done.result (sym c.still_shows.ensures ∙ c.if-not-still_shows.false) c.input_items-done.ensures.missed (Ok (tt {0}));
+  missed = shown_missed g.L.LineSource.refused g.L.LineSource.missed g.L.LineSource.most c.args.io.now.rules.choose c.args.io.now.source.now _ _ (ap (λ k. k.now) c.flush.ensures.same.source) c.input_items-done.result (sym c.still_shows.ensures ∙ c.if-not-still_shows.false) c.input_items-done.ensures.missed (Ok (tt {0}));
   same = borrows_then c.input_items-done.ensures.same c.flush.ensures.same;
 }
