@@ -16,6 +16,11 @@ pub memory_no_run : {T P : Type 0} (r : Result T AfterFault) → IsErrAnd r (λ 
 memory_no_run (Ok x) h k = absurd h
 memory_no_run (Err e) h k = absurd cc
 
+-- that answers are no run is no want of memory
+pub no_run_no_memory : {T P : Type 0} (r : Result T AfterFault) → IsErrAnd r (λ e. e ≡ after.NotARun) → r ≡ Err after.Memory → P
+no_run_no_memory (Ok x) h k = absurd h
+no_run_no_memory (Err e) h k = absurd cc
+
 -- a fault that is passed on says what it said
 pub same_no_run : {T P : Type 0} (r : Result T AfterFault) (e : AfterFault) → IsErrAnd r (λ x. x ≡ e) → (◌≡◌ {A = Result (Unit {0}) AfterFault} (Err e) (Err after.NotARun) → P) → r ≡ Err after.NotARun → P
 same_no_run (Ok x) e h p k = absurd h
@@ -44,6 +49,11 @@ on_some_at {Q = Q} is h = subst (λ o. OnSome o Q) is h
 pub memory_no_beginning : {T P : Type 0} (r : Result T UnderFault) → IsErrAnd r (λ e. e ≡ under.Memory) → r ≡ Err under.NoBeginning → P
 memory_no_beginning (Ok x) h k = absurd h
 memory_no_beginning (Err e) h k = absurd cc
+
+-- that no run begins so is no want of memory
+pub no_beginning_no_memory : {T P : Type 0} (r : Result T UnderFault) → IsErrAnd r (λ e. e ≡ under.NoBeginning) → r ≡ Err under.Memory → P
+no_beginning_no_memory (Ok x) h k = absurd h
+no_beginning_no_memory (Err e) h k = absurd cc
 
 pub same_no_beginning : {T S P : Type 0} (r : Result T UnderFault) (e : UnderFault) → IsErrAnd r (λ x. x ≡ e) → (◌≡◌ {A = Result S UnderFault} (Err e) (Err under.NoBeginning) → P) → r ≡ Err under.NoBeginning → P
 same_no_beginning (Ok x) e h p k = absurd h

@@ -42,9 +42,9 @@ module _ (p : StoredProgram) (input : List (List ℕ)) (rules : Rules) (plan : A
 
   -- the answers of the report are the plan
   module _ (there : StoredProgram) (still : there ≡ player) (answers : Answers) (are : answers ≡ plan) where
-    pub planned_invariant : {C : Type 0} (under : Answers) (bs : List ℤ) (shown : List ℕ) (ks : List KeptCopy) → IsRun (play player input rules) plan → bs ≡ bounds (play player input rules) plan → begins_with plan under ≡ true
-        → AreCopies player input rules plan shown ks → C → (IsRun (play there input rules) answers × (bs ≡ bounds (play there input rules) answers) × (begins_with answers under ≡ true)) × AreCopies there input rules answers shown ks × C
-    planned_invariant under bs shown ks run same begins copies choose = rw (are, still) ((run, same, begins), copies, choose)
+    pub planned_invariant : (under : Answers) (bs : List ℤ) (shown : List ℕ) (ks : List KeptCopy) → IsRun (play player input rules) plan → bs ≡ bounds (play player input rules) plan → begins_with plan under ≡ true
+        → AreCopies player input rules plan shown ks → (IsRun (play there input rules) answers × (bs ≡ bounds (play there input rules) answers) × (begins_with answers under ≡ true)) × AreCopies there input rules answers shown ks
+    planned_invariant under bs shown ks run same begins copies = rw (are, still) ((run, same, begins), copies)
 
     pub planned_view : (under : Answers) (kept : List KeptRun) (played : ℕ) → ◌≡◌ {A = Exploration} (record { program = there; input = input; rules = rules; under = under; front = At answers; kept = kept; played = played }) (record { program = p; input = input; rules = rules; under = under; front = At plan; kept = kept; played = played })
     planned_view under kept played =

@@ -13,6 +13,7 @@
 --     kept_steps answers runs                the steps of the newest that these answers begin with
 --     AreBeginnings m answers runs           each took a beginning of the answers, longer than that of the one before it
 --     ArePlaces p input rules runs           the steps of each are those of the command that took its last answer
+--     play_limit                             more commands than one play can add
 --     PlaysOn common old played steps new    so many steps are played after a run that goes on from what is left of the copies
 use Rattle.std.specs.Prelude.{◌≡◌, ℕ, ◌+◌, ◌-◌, ◌^◌, min, ◌<◌, ◌≤◌, List, [], ◌∷◌, ◌++◌, length, take, drop, map, false, if◌then◌else◌, ◌⊎◌, Option, Some, None, option_map, ℤ}
 use Rattle.std.specs.List.{AllByRecursion}
@@ -147,6 +148,10 @@ ArePlaces p input rules runs = AllByRecursion (λ k. AreTakenBy p input rules k.
 -- the count stops at the greatest number of 64 bits
 abbrev pub more_played : ℕ → ℕ → ℕ
 more_played played steps = min (played + steps) (2 ^ 64 - 1)
+
+-- a machine counts its commands in 32 bits, so one play adds fewer than these
+abbrev pub play_limit : ℕ
+play_limit = 4294967296
 
 abbrev pub PlaysOn : ℕ → List KeptCopy → ℕ → ℕ → ℕ → Type 0
 PlaysOn common old played steps new = (left : List KeptCopy) × WentBack common old left × (new ≡ more_played played (steps - last_steps left))

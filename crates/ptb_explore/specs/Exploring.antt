@@ -9,7 +9,7 @@
 --     AreKeptAt f runs             the same, of what contracts see of them
 --     IsPlayed play a n            the run of these answers has so many steps
 --     NextPlays ..                 how many steps were played after the next run
-use Rattle.std.specs.Prelude.{◌≡◌, ℕ, ◌-◌, ◌≤◌, List, [], Bool, true, false, Option, Some, None, Result, Ok, Err}
+use Rattle.std.specs.Prelude.{◌≡◌, ℕ, ◌+◌, ◌-◌, ◌<◌, ◌≤◌, List, [], Bool, true, false, Option, Some, None, Result, Ok, Err}
 use Rattle.std.specs.declared.alloc.AllocError.{AllocError}
 use Rattle.std.specs.Borrow.{Bor}
 use Rattle.ptb_text.specs.Statements.{StoredProgram}
@@ -21,7 +21,7 @@ use Rattle.ptb_explore.specs.declared.copies.KeptCopy.{KeptCopy}
 use Rattle.ptb_explore.specs.declared.plan.Position.{Position}
 use Rattle.ptb_explore.specs.declared.plan.Position.TheVariants.{AtStart, AtRun, AtEnd}
 use Rattle.ptb_explore.specs.declared.report.Report.{Report}
-use Rattle.ptb_explore.specs.Copies.{KeptRun, AreCopies, AreBeginnings, kept_steps, more_played}
+use Rattle.ptb_explore.specs.Copies.{KeptRun, AreCopies, AreBeginnings, kept_steps, more_played, play_limit}
 use Rattle.ptb_explore.specs.RunTree.{Front, Start, At, End, IsNextRun, IsLast}
 
 -- ---- explorers
@@ -68,10 +68,11 @@ pub record FoundNext (old : Exploration) (r : Report) (new : Exploration) : Type
   pub now : new ≡ record old { front = At r.answers.items; kept = new.kept; played = played_after old.kept old.played r }
   pub kept : AreBeginnings 0 r.answers.items new.kept
 
--- no copy is kept, and the commands of the play that was refused memory count
+-- no copy is kept; the count doesn't fall, and rises by less than one play can add
 pub record RefusedNext (old new : Exploration) : Type 0 where
   pub now : new ≡ record old { kept = []; played = new.played }
   pub played : old.played ≤ new.played
+  pub once : new.played < old.played + play_limit
 
 -- or past the last run, or where it stood
 abbrev pub NextLeaves : Exploration → Result (Option (Bor Report)) AllocError → Exploration → Type 0

@@ -1,13 +1,13 @@
 // This file has the explorer, which finds all runs of a program.
 
-ghost use Rattle.std.specs.Prelude.{◌≡◌, ◌≤◌, ◌≤ℤ◌, pos, true, false, Ok, None, [], length, drop};
+ghost use Rattle.std.specs.Prelude.{◌≡◌, ◌+◌, ◌<◌, ◌≤◌, true, false, Ok, None, [], length, drop};
 ghost use Rattle.std.specs.Prelude.{IfOk, OnOk, OnErr, IfSome, IfNone, IsErrOf, IsTrue};
 ghost use Rattle.ptb_answers.specs.Outcome.{Answers, is_open, bounds as bounds_of};
 ghost use Rattle.ptb_machine.specs.Play.{play};
 ghost use Rattle.ptb_machine.specs.Questions.{most_answers};
 ghost use Rattle.ptb_answers.specs.AnswerText.{answers_of};
 ghost use Rattle.ptb_explore.specs.Copies.{Agrees, AreBeginnings, AreCopies, PlaysOn, WentBack};
-ghost use Rattle.ptb_explore.specs.Copies.{kept_runs, last_steps};
+ghost use Rattle.ptb_explore.specs.Copies.{kept_runs, last_steps, play_limit};
 ghost use Rattle.ptb_explore.specs.Exploring.{play_of, most_of, finish_of, Reports, NextReports};
 ghost use Rattle.ptb_explore.specs.Exploring.{AreCopiesAt, IsPlayed, NextPlays};
 ghost use Rattle.ptb_explore.specs.MarkedRuns.{IsMarkedRun, IsMarkedBeginning, states_bounds};
@@ -92,7 +92,6 @@ fn report_plan(
     copies: &mut Copies,
     played: &mut u64,
 ) -> Result<(), AllocError>
-    requires choose { IfSome rules.choose (λ n. pos 1 ≤ℤ n) }
     requires fresh { IsFresh trial.old }
     requires opens { is_open (play player.old lines.now rules trial.old.answers.items) ≡ true }
     requires agrees { Agrees (play player.old lines.now rules) common
@@ -109,6 +108,7 @@ fn report_plan(
     ensures played { OnOk result (PlaysOn common copies.old.kept.items played.old
         report.new.steps played.new) }
     ensures rises { played.old ≤ played.new }
+    ensures once { played.new < played.old + play_limit }
 {
     run_laws();
     let mut screen = TextScreen::from_vec(mem::replace(&mut report.transcript, Vec::new(alloc)));
@@ -158,7 +158,6 @@ fn report_next(
     copies: &mut Copies,
     played: &mut u64,
 ) -> Result<bool, AllocError>
-    requires choose { IfSome rules.choose (λ n. pos 1 ≤ℤ n) }
     requires position { IsPosition (play player.old lines.now rules) under.now position
         report.old.answers.items report.old.bounds.items }
     requires copies { AreCopiesAt player.old lines.now rules position report.old
@@ -175,6 +174,7 @@ fn report_next(
     ensures played { IfOk result (NextPlays
         (kept_runs report.old.answers.items copies.old.kept.items) played.old report.new played.new) }
     ensures rises { played.old ≤ played.new }
+    ensures once { played.new < played.old + play_limit }
 {
     run_laws();
     match plan_next(position, under, &report.answers, &report.bounds, trial)? {
@@ -200,7 +200,6 @@ fn check_run(
     run: &mut Report,
     copies: &mut Copies,
 ) -> Result<(), AfterFault>
-    requires choose { IfSome rules.choose (λ n. pos 1 ≤ℤ n) }
     requires within { length stated.now ≤ length trial.old.answers.items }
     requires fresh { IsFresh trial.old }
     requires none { copies.old.kept.items ≡ [] }
@@ -219,6 +218,9 @@ fn check_run(
         → IsRun (play player.old lines.now rules) trial.old.answers.items
         → states_bounds stated.now
         (bounds_of (play player.old lines.now rules) trial.old.answers.items) ≡ true → ⊥ }
+
+    // Memory is refused to the play, before its steps are known, and never to the comparison.
+    ensures memory { IsErrOf result AfterFault.Memory → run.new.steps ≡ run.old.steps }
 {
     run_laws();
     let planned = trial.answers.len();
@@ -231,8 +233,9 @@ fn check_run(
     Ok(())
 }
 
-// Plays the answers of a list and then ones, and gives the number of steps if all of them are taken
-// and each bound that is stated is that of the question: a run begins with the list then.
+// Plays the answers of a list and then ones, gives the number of steps that were played, and looks
+// whether all of the answers are taken and each bound that is stated is that of the question: a run
+// begins with the list then.
 fn check_beginning(
     alloc: Global,
     player: &mut Player,
@@ -241,17 +244,20 @@ fn check_beginning(
     list: &[Marked],
     answers: &[i16],
     trial: &mut Recorder,
-) -> Result<u64, UnderFault>
-    requires choose { IfSome rules.choose (λ n. pos 1 ≤ℤ n) }
+    played: &mut u64,
+) -> Result<(), UnderFault>
     requires answers { answers.now ≡ answers_of list.now }
     ensures program { player.new ≡ player.old }
     ensures beginning { OnOk result
         (IsMarkedBeginning (play player.old lines.now rules) list.now) }
-    ensures played { IfOk result (λ n. (a : Answers)
+    ensures played { OnOk result ((a : Answers)
         → IsNextRun (play player.old lines.now rules) answers.now Start a
-        → IsPlayed (play player.old lines.now rules) a n) }
+        → IsPlayed (play player.old lines.now rules) a played.new) }
     ensures no_beginning { IsErrOf result UnderFault.NoBeginning
         → IsMarkedBeginning (play player.old lines.now rules) list.now → ⊥ }
+
+    // Memory is refused before the steps are known, and never to the comparison.
+    ensures memory { IsErrOf result UnderFault.Memory → played.new ≡ played.old }
 {
     run_laws();
     trial.replay(answers)?;
@@ -260,16 +266,17 @@ fn check_beginning(
         let mut copies = Copies::new();
         play_from_start(alloc, player, lines, rules, trial, &mut screen, &mut copies)
     }?;
+    *played = u64::from(steps);
     compare_beginning(trial, answers.len(), list)?;
-    Ok(u64::from(steps))
+    Ok(())
 }
 
 /// Finds the runs of a program, one after the other, in the order of their answers.
 ///
-/// It holds the report of one run and one list of answers more, however many runs there are. One
-/// player plays them all, so that a command that was read in one run need not be read in the next.
-/// Copies of the machine are kept where the run took answers, at most 64, so that the next run goes
-/// on from the last place at which it is the same.
+/// It holds the report of one run, one list of answers more and the answers of its share, however
+/// many runs there are. One player plays them all, so that a command that was read in one run need
+/// not be read in the next. Copies of the machine are kept where the run took answers, at most 64, so
+/// that the next run goes on from the last place at which it is the same.
 #[derive(Drop)]
 pub struct Explorer<'a> {
     /// Plays the runs.
@@ -295,13 +302,17 @@ pub struct Explorer<'a> {
 }
 
 impl<'a> Model for Explorer<'a> {
-    ghost use Rattle.std.specs.Prelude.{pos, ◌≤ℤ◌, IfSome};
+    ghost use Rattle.std.specs.Coded.{codes};
+    ghost use Rattle.ptb_answers.specs.contracts.rules.Rules as rules_type;
     ghost use Rattle.ptb_machine.specs.Play.{play};
     ghost use Rattle.ptb_explore.specs.Copies.{kept_runs};
     ghost use Rattle.ptb_explore.specs.Exploring.{Exploration, AreCopiesAt};
     ghost use Rattle.ptb_explore.specs.Plans.{IsPosition, front_at};
 
     ghost Value = { Exploration };
+
+    // that of its rules is given, since they state a fact
+    ghost coded = { Prim.hlevel (codes, rules_type.the_row.coded) };
 
     ghost view = { λ e. record {
       program = e.player;
@@ -315,8 +326,7 @@ impl<'a> Model for Explorer<'a> {
 
     ghost invariant = { λ e. IsPosition (play e.player e.lines.now e.rules) e.under.items e.position
         e.report.answers.items e.report.bounds.items
-        × AreCopiesAt e.player e.lines.now e.rules e.position e.report e.copies.kept.items
-        × IfSome e.rules.choose (λ n. pos 1 ≤ℤ n) };
+        × AreCopiesAt e.player e.lines.now e.rules e.position e.report e.copies.kept.items };
 }
 
 impl<'a> Explorer<'a> {
@@ -337,7 +347,6 @@ impl<'a> Explorer<'a> {
         lines: &'a [Line],
         rules: Rules,
     ) -> Result<Explorer<'a>, AllocError>
-        requires { IfSome rules.choose (λ n. pos 1 ≤ℤ n) }
         ensures start { IfOk result (λ e. e ≡ record {
           program = program.now;
           input = lines.now;
@@ -368,7 +377,6 @@ impl<'a> Explorer<'a> {
         trial: Recorder,
         played: u64,
     ) -> Explorer<'a>
-        requires choose { IfSome rules.choose (λ n. pos 1 ≤ℤ n) }
         requires opens { is_open (play player lines.now rules under.items) ≡ true }
         ensures { result ≡ record {
           program = player.entry;
@@ -407,7 +415,6 @@ impl<'a> Explorer<'a> {
         rules: Rules,
         answers: &[i16],
     ) -> Result<Explorer<'a>, AfterFault>
-        requires { IfSome rules.choose (λ n. pos 1 ≤ℤ n) }
         ensures after { IfOk result (λ e. e ≡ record {
           program = program.now;
           input = lines.now;
@@ -448,7 +455,6 @@ impl<'a> Explorer<'a> {
         rules: Rules,
         list: &[Marked],
     ) -> Result<Explorer<'a>, AfterFault>
-        requires { IfSome rules.choose (λ n. pos 1 ≤ℤ n) }
         ensures after { IfOk result (λ e. e ≡ record {
           program = program.now;
           input = lines.now;
@@ -486,7 +492,6 @@ impl<'a> Explorer<'a> {
         rules: Rules,
         list: &[Marked],
     ) -> Result<Explorer<'a>, UnderFault>
-        requires { IfSome rules.choose (λ n. pos 1 ≤ℤ n) }
         ensures under { IfOk result (λ e. e ≡ record {
           program = program.now;
           input = lines.now;
@@ -512,7 +517,17 @@ impl<'a> Explorer<'a> {
         let under = answers_of(alloc, list)?;
         let mut player = Player::new(alloc, program)?;
         let mut trial = Recorder::new(alloc);
-        let played = check_beginning(alloc, &mut player, lines, rules, list, &under, &mut trial)?;
+        let mut played = 0;
+        check_beginning(
+            alloc,
+            &mut player,
+            lines,
+            rules,
+            list,
+            &under,
+            &mut trial,
+            &mut played,
+        )?;
         Ok(Explorer::at_start(alloc, player, lines, rules, under, trial, played))
     }
 
@@ -534,7 +549,6 @@ impl<'a> Explorer<'a> {
         under: &[Marked],
         list: &[Marked],
     ) -> Result<Explorer<'a>, AfterFault>
-        requires { IfSome rules.choose (λ n. pos 1 ≤ℤ n) }
         ensures after { IfOk result (λ e. e ≡ record {
           program = program.now;
           input = lines.now;
@@ -580,7 +594,6 @@ impl<'a> Explorer<'a> {
         mut trial: Recorder,
         stated: &[Marked],
     ) -> Result<Explorer<'a>, AfterFault>
-        requires choose { IfSome rules.choose (λ n. pos 1 ≤ℤ n) }
         requires fresh { IsFresh trial }
         requires within { length stated.now ≤ length trial.answers.items }
         requires begins { begins_with trial.answers.items under.items ≡ true }

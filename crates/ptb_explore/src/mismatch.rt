@@ -1,6 +1,6 @@
 // This file finds why the items of a list are no run, or why no run begins with them.
 
-ghost use Rattle.std.specs.Prelude.{◌≡◌, ◌≤◌, ◌≤ℤ◌, pos, length, take, List, ℕ, None};
+ghost use Rattle.std.specs.Prelude.{◌≡◌, ◌≤◌, length, take, List, ℕ, None};
 ghost use Rattle.std.specs.Prelude.{IfOk, IfSome, IfNone, MatchOption, ◌↔◌, true};
 ghost use Rattle.ptb_answers.specs.Outcome.{Answers, Outcome, IsReader};
 ghost use Rattle.ptb_answers.specs.AnswerText.{answers_of};
@@ -62,7 +62,6 @@ pub fn beginning_mismatch(
     rules: Rules,
     list: &[Marked],
 ) -> Result<Option<Mismatch>, AllocError>
-    requires { IfSome rules.choose (λ n. pos 1 ≤ℤ n) }
     ensures mismatch { IfOk result (λ o.
         IfSome o (IsItemMismatch (play program.now lines.now rules) list.now)) }
     ensures none { IfOk result (λ o.
@@ -88,7 +87,6 @@ pub fn run_mismatch(
     under: &[Marked],
     list: &[Marked],
 ) -> Result<Option<Mismatch>, AllocError>
-    requires { IfSome rules.choose (λ n. pos 1 ≤ℤ n) }
     ensures mismatch { IfOk result (λ o. IfSome o
         (IsRunMismatch (play program.now lines.now rules) under.now list.now)) }
     ensures none { IfOk result (λ o.
@@ -128,7 +126,6 @@ fn find_item_mismatch(
     list: &[Marked],
     trial: &mut Recorder,
 ) -> Result<Option<Mismatch>, AllocError>
-    requires choose { IfSome rules.choose (λ n. pos 1 ≤ℤ n) }
     ensures mismatch { IfOk result (λ o. MatchOption o
         (IsMarkedBeginning (play program.now lines.now rules) list.now)
         (IsItemMismatch (play program.now lines.now rules) list.now)) }
@@ -151,7 +148,6 @@ fn play_items(
     answers: &[i16],
     trial: &mut Recorder,
 ) -> Result<usize, AllocError>
-    requires choose { IfSome rules.choose (λ n. pos 1 ≤ℤ n) }
     ensures takes { IfOk result (TakesFirst (play program.now lines.now rules) answers.now) }
     ensures bounds { IfOk result (λ n.
         HasBounds (play program.now lines.now rules) (take n answers.now) trial.new.bounds.items) }
@@ -175,7 +171,6 @@ fn play_answers(
     answers: &[i16],
     trial: &mut Recorder,
 ) -> Result<usize, AllocError>
-    requires choose { IfSome rules.choose (λ n. pos 1 ≤ℤ n) }
     ensures program { player.new ≡ player.old }
     ensures takes { IfOk result (TakesFirst (play player.old lines.now rules) answers.now) }
     ensures bounds { IfOk result (λ n. n ≡ length answers.now → HasBounds

@@ -1,8 +1,8 @@
 // This file plays a program with the answers of a plan.
 
-ghost use Rattle.std.specs.Prelude.{◌≡◌, ◌-◌, ◌≤◌, ◌≤ℤ◌, pos, false, [], length, drop, IfOk, IfSome, OnOk};
+ghost use Rattle.std.specs.Prelude.{◌≡◌, ◌+◌, ◌-◌, ◌<◌, ◌≤◌, false, [], length, drop, IfOk, IfSome, OnOk};
 ghost use Rattle.ptb_machine.specs.Play.{play};
-ghost use Rattle.ptb_explore.specs.Copies.{AreCopies, more_played};
+ghost use Rattle.ptb_explore.specs.Copies.{AreCopies, more_played, play_limit};
 ghost use Rattle.ptb_explore.specs.Plans.{IsFresh};
 ghost use Rattle.ptb_explore.specs.Playing.{PlayEnds, IsRunPrefix};
 ghost use Rattle.ptb_explore.specs.Recording.{choices_of};
@@ -31,7 +31,6 @@ pub(crate) fn play_on(
     source: &mut Lines,
     copies: &mut Copies,
 ) -> Result<Ending, AllocError>
-    requires choose { IfSome rules.choose (λ n. pos 1 ≤ℤ n) }
     requires unspent { machine.old.spent ≡ false }
     requires within { source.old.taken ≤ length source.old.lines }
     requires run_prefix { IsRunPrefix player.old source.old.lines rules (choices_of trial.old)
@@ -81,7 +80,6 @@ pub(crate) fn play_counted(
     copies: &mut Copies,
     played: &mut u64,
 ) -> Result<Ending, AllocError>
-    requires choose { IfSome rules.choose (λ n. pos 1 ≤ℤ n) }
     requires unspent { machine.old.spent ≡ false }
     requires within { source.old.taken ≤ length source.old.lines }
     requires run_prefix { IsRunPrefix player.old source.old.lines rules (choices_of trial.old)
@@ -97,6 +95,7 @@ pub(crate) fn play_counted(
     ensures played { played.new
         ≡ more_played played.old (machine.new.steps - machine.old.steps) }
     ensures rises { played.old ≤ played.new }
+    ensures once { played.new < played.old + play_limit }
 {
     let first = machine.steps();
     let ending = play_on(alloc, player, rules, machine, trial, screen, source, copies);
@@ -119,7 +118,6 @@ pub(crate) fn play_from_start(
     screen: &mut TextScreen,
     copies: &mut Copies,
 ) -> Result<u32, AllocError>
-    requires choose { IfSome rules.choose (λ n. pos 1 ≤ℤ n) }
     requires fresh { IsFresh trial.old }
     requires shown { screen.old ≡ [] }
     requires none { copies.old.kept.items ≡ [] }

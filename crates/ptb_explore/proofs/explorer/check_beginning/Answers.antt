@@ -6,7 +6,7 @@ use Rattle.ptb_machine.specs.Play.{Finish, play}
 use Rattle.ptb_machine.specs.Questions.{most_answers}
 use Rattle.ptb_explore.specs.RunTree.{Start, IsNextRun}
 use Rattle.ptb_explore.proofs.Begun.{list_opens, none_begun, begun_stated, begun_states}
-use Rattle.ptb_explore.proofs.Exits.{ok_no_err, memory_no_beginning}
+use Rattle.ptb_explore.proofs.Exits.{ok_no_err, memory_no_beginning, no_beginning_no_memory}
 use Rattle.ptb_explore.proofs.Next.{next_same}
 use Rattle.ptb_explore.proofs.Raising.{plan_ends, start_plan}
 use Rattle.ptb_explore.proofs.Trial.{begun_opens, open_begun, open_ends, result_is}
@@ -40,6 +40,7 @@ returns c =
           let same : a ≡ new.answers.items = next_same game most reads plan.items Start a new.answers.items (subst (λ (b : Answers). IsNextRun game b Start a) (sym are) first) next in
           c.from.ensures ∙ ap (λ (x : Finish). x.steps) (result_is _ f [] [] (sym end.outcome ∙ ap game (sym same) ∙ is));
       no_beginning = λ fault _. ok_no_err fault;
+      memory = ok_no_err;
     }
 
 pub returns-in_err-compare_beginning : goal.returns-in_err-compare_beginning
@@ -47,6 +48,7 @@ returns-in_err-compare_beginning c = record {
   program = c.in_ok-steps.ensures.program;
   beginning = IfOk-from_err _ _ c.from_residual-in_err-compare_beginning.ensures.0;
   played = IfOk-from_err _ _ c.from_residual-in_err-compare_beginning.ensures.0;
+  memory = no_beginning_no_memory _ c.from_residual-in_err-compare_beginning.ensures.1;
   no_beginning = λ _ beginning.
       let p = c.args.player.now in
       let input = c.args.lines.now in
@@ -75,6 +77,7 @@ returns-in_err-replay c = record {
   beginning = IfOk-from_err _ _ c.from_residual.ensures.0;
   played = IfOk-from_err _ _ c.from_residual.ensures.0;
   no_beginning = λ fault _. memory_no_beginning _ c.from_residual.ensures.1 fault;
+  memory = λ _. refl;
 }
 
 pub returns-in_err-steps : goal.returns-in_err-steps
@@ -83,11 +86,11 @@ returns-in_err-steps c = record {
   beginning = IfOk-from_err _ _ c.from_residual-in_err-steps.ensures.0;
   played = IfOk-from_err _ _ c.from_residual-in_err-steps.ensures.0;
   no_beginning = λ fault _. memory_no_beginning _ c.from_residual-in_err-steps.ensures.1 fault;
+  memory = λ _. refl;
 }
 
 pub play_from_start-requires : goal.play_from_start-requires
 play_from_start-requires c = record {
-  choose = c.requires.choose;
   fresh = record { none_given = c.in_ok-replay.ensures.bounds; all_planned = c.in_ok-replay.ensures.planned };
   shown = c.new-screen.ensures;
   none = c.new-copies.ensures;

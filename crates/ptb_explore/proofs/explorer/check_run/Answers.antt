@@ -6,7 +6,7 @@ use Rattle.ptb_machine.specs.Play.{Finish, play}
 use Rattle.ptb_machine.specs.Questions.{most_answers}
 use Rattle.ptb_explore.specs.MarkedRuns.{states_bounds}
 use Rattle.ptb_explore.specs.Recording.{choices_of}
-use Rattle.ptb_explore.proofs.Exits.{ok_no_err}
+use Rattle.ptb_explore.proofs.Exits.{no_run_no_memory, ok_no_err}
 use Rattle.ptb_explore.proofs.Keep.{kept_same}
 use Rattle.ptb_explore.proofs.Trial.{all_given, result_is, whole_plan, other_plan}
 use Rattle.ptb_explore.proofs.explorer.check_run.Goals as goal
@@ -34,6 +34,7 @@ returns c =
           refl refl (sym (all_given (play p input c.args.rules) new (whole.2 ∙ sym (ap (bounds (play p input c.args.rules)) whole.1)) ∙ whole.1)) c.into_vec.ensures refl c.in_ok-run.ensures.copies;
       played = λ f is. ap (λ (x : Finish). x.steps) (result_is _ f [] [] (sym whole.3 ∙ is));
       not_a_run = λ fault _ _. ok_no_err fault;
+      memory = ok_no_err;
     }
 
 pub returns-in_err-compare_run : goal.returns-in_err-compare_run
@@ -45,6 +46,7 @@ returns-in_err-compare_run c = record {
   bounds = IfOk-from_err _ _ c.from_residual-in_err-compare_run.ensures.0;
   copies = IfOk-from_err _ _ c.from_residual-in_err-compare_run.ensures.0;
   played = IfOk-from_err _ _ c.from_residual-in_err-compare_run.ensures.0;
+  memory = no_run_no_memory _ c.from_residual-in_err-compare_run.ensures.1;
   not_a_run = λ _ run stated.
       let p = c.args.player.now in
       let input = c.args.lines.now in

@@ -81,6 +81,7 @@ returns-in_err-plan_next c = record {
   copies = IfOk-from_err _ _ c.from_residual.ensures.0;
   played = IfOk-from_err _ _ c.from_residual.ensures.0;
   rises = omega arith;
+  once = omega arith;
 }
 
 pub returns-in_err-report_plan-in-Some : goal.returns-in_err-report_plan-in-Some
@@ -101,6 +102,7 @@ returns-in_err-report_plan-in-Some c = record {
   copies = IfOk-from_err _ _ c.from_residual-in_err-report_plan-in-Some.ensures.0;
   played = IfOk-from_err _ _ c.from_residual-in_err-report_plan-in-Some.ensures.0;
   rises = c.report_plan.ensures.rises;
+  once = c.report_plan.ensures.once;
 }
 
 pub returns-in_ok-report_plan-in-Some-clause-ended : goal.returns-in_ok-report_plan-in-Some-clause-ended

@@ -61,6 +61,9 @@ returns-clause-played c =
 pub returns-clause-rises : goal.returns-clause-rises
 returns-clause-rises c = c.play_counted-ending.ensures.rises
 
+pub returns-clause-once : goal.returns-clause-once
+returns-clause-once c = c.play_counted-ending.ensures.once
+
 pub returns-clause-program : goal.returns-clause-program
 returns-clause-program c = c.play_counted-ending.ensures.program ∙ c.go_back-machine.ensures.program
 
@@ -73,6 +76,7 @@ returns-in_err-machine c = record {
   copies = IfOk-from_err _ _ c.from_residual.ensures.0;
   played = IfOk-from_err _ _ c.from_residual.ensures.0;
   rises = omega arith;
+  once = omega arith;
 }
 
 pub returns-in_err-report : goal.returns-in_err-report
@@ -84,6 +88,7 @@ returns-in_err-report c = record {
   copies = IfOk-from_err _ _ c.from_residual-in_err-report.ensures.0;
   played = IfOk-from_err _ _ c.from_residual-in_err-report.ensures.0;
   rises = c.play_counted-ending.ensures.rises;
+  once = c.play_counted-ending.ensures.once;
 }
 
 pub go_back-machine-requires : goal.go_back-machine-requires
@@ -97,7 +102,6 @@ go_back-machine-requires c =
 
 pub play_counted-ending-requires : goal.play_counted-ending-requires
 play_counted-ending-requires c = record {
-  choose = c.requires.choose;
   unspent = ap (λ (m : Configuration). m.spent) c.deref_mut.ensures.value ∙ c.in_ok-machine.ensures.unspent;
   within = c.in_ok-machine.ensures.within;
   run_prefix = prefix_of_same _ _ c.go_back-machine.ensures.program _ _ c.go_back-machine.ensures.same_lines c.args.rules _ _ _ _ _ c.deref_mut.ensures.value c.in_ok-machine.ensures.run_prefix;

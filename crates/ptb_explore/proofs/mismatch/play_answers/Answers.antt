@@ -40,7 +40,6 @@ returns-clause-bounds c = λ n.
 
 pub play_from_start-requires : goal.play_from_start-requires
 play_from_start-requires c = record {
-  choose = c.requires.choose;
   fresh = record { none_given = c.in_ok-replay.ensures.bounds; all_planned = c.in_ok-replay.ensures.planned };
   shown = c.new-screen.ensures;
   none = c.new-copies.ensures;

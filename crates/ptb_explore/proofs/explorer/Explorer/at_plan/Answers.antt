@@ -6,7 +6,6 @@ use Rattle.ptb_explore.proofs.explorer.Explorer.at_plan.Goals as goal
 
 pub check_run-requires : goal.check_run-requires
 check_run-requires c = record {
-  choose = c.requires.choose;
   within = c.requires.within;
   fresh = c.requires.fresh;
   none = c.new-copies.ensures;
@@ -37,7 +36,7 @@ pub invariant_of-result : goal.invariant_of-result
 invariant_of-result c =
     planned_invariant c.args.program.now c.args.lines.now c.args.rules c.args.trial.answers.items _ c.in_ok-player.ensures
     _ c.check_run.ensures.program _ c.in_ok-check_run.ensures.answers
-    c.args.under.items _ _ _ c.in_ok-check_run.ensures.run c.in_ok-check_run.ensures.bounds c.requires.begins c.in_ok-check_run.ensures.copies c.requires.choose
+    c.args.under.items _ _ _ c.in_ok-check_run.ensures.run c.in_ok-check_run.ensures.bounds c.requires.begins c.in_ok-check_run.ensures.copies
 
 pub returns : goal.returns
 returns c = record {

@@ -50,7 +50,7 @@ returns-in-Err c =
     ap (λ P. here P new.report.answers.items kept) c.in-Err.ensures.program
     ∙ ap (λ a. here e.player a kept) c.in-Err.ensures.answers
     ∙ ap (λ runs. here e.player e.report.answers.items runs) (ap (kept_runs new.report.answers.items) c.clear-in-Err.ensures) in (
-      (refl, (λ _. tt), subst (λ (x : Exploration). RefusedNext x (here new.player new.report.answers.items kept)) c.self.view_is (record { now = now; played = c.in-Err.ensures.rises })),
+      (refl, (λ _. tt), subst (λ (x : Exploration). RefusedNext x (here new.player new.report.answers.items kept)) c.self.view_is (record { now = now; played = c.in-Err.ensures.rises; once = c.in-Err.ensures.once })),
       record {
         report = tt;
         next = tt;

@@ -25,31 +25,30 @@ returns-in_err-player c = record {
   laws = program_laws c.run_laws.ensures c.args.program.now c.args.lines.now c.args.rules;
 }
 
-pub returns-in_err-played : goal.returns-in_err-played
-returns-in_err-played c = record {
-  under = IfOk-from_err _ _ c.from_residual-in_err-played.ensures.0;
-  beginning = IfOk-from_err _ _ c.from_residual-in_err-played.ensures.0;
-  played = IfOk-from_err _ _ c.from_residual-in_err-played.ensures.0;
-  no_beginning = λ fault beginning. same_no_beginning _ _ c.from_residual-in_err-played.ensures.1 c.in_err-played.ensures.no_beginning fault
+pub returns-in_err-check_beginning : goal.returns-in_err-check_beginning
+returns-in_err-check_beginning c = record {
+  under = IfOk-from_err _ _ c.from_residual-in_err-check_beginning.ensures.0;
+  beginning = IfOk-from_err _ _ c.from_residual-in_err-check_beginning.ensures.0;
+  played = IfOk-from_err _ _ c.from_residual-in_err-check_beginning.ensures.0;
+  no_beginning = λ fault beginning. same_no_beginning _ _ c.from_residual-in_err-check_beginning.ensures.1 c.in_err-check_beginning.ensures.no_beginning fault
       (beginning_back c.args.program.now c.args.lines.now c.args.rules c.args.list.now _ c.in_ok-player.ensures beginning);
   laws = program_laws c.run_laws.ensures c.args.program.now c.args.lines.now c.args.rules;
 }
 
 pub check_beginning-requires : goal.check_beginning-requires
-check_beginning-requires c = record { choose = c.requires; answers = c.deref.ensures.value ∙ c.in_ok-under.ensures }
+check_beginning-requires c = record { answers = c.deref.ensures.value ∙ c.in_ok-under.ensures }
 
 pub at_start-requires : goal.at_start-requires
 at_start-requires c = record {
-  choose = c.requires;
-  opens = begun_start c.args.lines.now c.args.rules _ _ c.check_beginning.ensures.program _ _ (sym c.in_ok-under.ensures) c.in_ok-played.ensures.beginning.0;
+  opens = begun_start c.args.lines.now c.args.rules _ _ c.check_beginning.ensures.program _ _ (sym c.in_ok-under.ensures) c.in_ok-check_beginning.ensures.beginning.0;
 }
 
 pub returns : goal.returns
 returns c = record {
   under = begun_view c.args.program.now c.args.lines.now c.args.rules c.args.list.now _ c.in_ok-player.ensures _ c.check_beginning.ensures.program _ c.in_ok-under.ensures _ _ c.at_start.ensures;
-  beginning = beginning_played c.args.program.now c.args.lines.now c.args.rules c.args.list.now _ c.in_ok-player.ensures c.in_ok-played.ensures.beginning;
+  beginning = beginning_played c.args.program.now c.args.lines.now c.args.rules c.args.list.now _ c.in_ok-player.ensures c.in_ok-check_beginning.ensures.beginning;
   played = begun_played c.args.program.now c.args.lines.now c.args.rules c.args.list.now _ c.in_ok-player.ensures _ (c.deref.ensures.value ∙ c.in_ok-under.ensures)
-      _ c.in_ok-played.ensures.played _ (ap (λ (e : Exploration). e.played) c.at_start.ensures);
+      _ c.in_ok-check_beginning.ensures.played _ (ap (λ (e : Exploration). e.played) c.at_start.ensures);
   no_beginning = λ fault _. ok_no_err fault;
   laws = program_laws c.run_laws.ensures c.args.program.now c.args.lines.now c.args.rules;
 }
