@@ -1,5 +1,5 @@
 -- This file joins all that is told of a run on the lines of a reader, by whether its source has come to a fault.
-use Rattle.std.proofs.Common.{◌≡◌, ◌≤◌, ◌≤ℤ◌, ◌+◌, ◌⊎◌, ℕ, ℤ, pos, List, [], ◌++◌, length, Option, Some, None, Result, Err, IfSome, IsErrOf, OnOk, refl, sym, ap, subst, ◌∙◌}
+use Rattle.std.proofs.Common.{◌≡◌, ◌≤◌, ◌≤ℤ◌, ◌+◌, ◌⊎◌, inl, inr, Bool, ℕ, ℤ, pos, List, [], ◌++◌, length, Option, Some, None, Result, Err, IfSome, IsErrOf, OnOk, refl, sym, ap, subst, ◌∙◌}
 use Rattle.std.specs.Borrow.{MutBor}
 use Rattle.std.specs.Io.KnownBytes.{Appends, Consumes}
 use Rattle.ptb_text.specs.Device.{GivesAtMost, GivesExactly, HasFailed}
@@ -22,25 +22,27 @@ use Rattle.ptb_devices.specs.Sources.{ConsumesAtMost, NoneLeft}
 use Rattle.ptb_machine.specs.declared.fault.RunFault.{RunFault}
 use Rattle.ptb_machine.specs.declared.fault.RunFault.TheVariants as runs
 use Rattle.ptb_machine.specs.Runs.{Runs, UnlessRunMissed}
-use Rattle.ptb_plain.specs.PlainRuns.{GoesBy, IsUnreadable, PlaysWith, ReadsFor, ReadsLines, input_limit, lines_taken, lines_wanted, run_fault}
+use Rattle.ptb_plain.specs.Noted.{noted, noted_result}
+use Rattle.ptb_plain.specs.PlainRuns.{GoesBy, IsUnreadable, PlaysWith, ReadsFor, ReadsLines, WantsMemory, input_limit, lines_taken, lines_wanted, run_fault}
 use Rattle.ptb_plain.specs.Streams.{Reads, Writes, reads_of, writes_of}
 use Rattle.ptb_plain.proofs.Playing.{IsRunBetween, IsUnreadBetween, led_run, led_run_dry, led_run_takes, run_between, state_of, unread_between}
-use Rattle.ptb_plain.proofs.Taking.{begins_input, failed_or_given, fault_missed, fault_unread, fault_without_memory, fresh, given_at_most, is_unreadable, never_unread, reads_for, reads_unfailed, shows_come, shows_input, taken_by, takes_at_most, takes_within, wanted_at_fault, wanted_within, where_err, where_ok}
+use Rattle.ptb_plain.proofs.Taking.{begins_input, failed_or_given, fault_missed, fault_unread, fault_without_memory, fresh, given_at_most, is_unreadable, never_unread, noted_read, noted_within, reads_for, reads_unfailed, shows_come, shows_input, stops_input, taken_by, takes_at_most, takes_within, wanted_at_fault, wanted_within, where_err, where_ok}
 
 -- what is known of a run whose chooser refuses so and had these choices before and after
 pub record RanOn {R : Type 0} (p : StoredProgram) (rules : Rules) (refuses : Pause → ℤ → Type 0) (c d : Choices) (input : Reads R) (out : Writes) (result : Result Ending RunFault) : Type 0 where
   pub plays : (answers : List (List ℕ) → Answers) → GoesBy refuses c d answers p rules → PlaysWith p rules answers input out result
-  pub memory : (answers : List (List ℕ) → Answers) → GoesBy refuses c d answers p rules → IsErrOf result runs.Memory → Appends out.before out.after [] ⊎ ((n : ℤ) × refuses pauses.Memory n)
+  pub refused : (answers : List (List ℕ) → Answers) → GoesBy refuses c d answers p rules → IsErrOf result runs.Memory → Appends out.before out.after [] ⊎ ((n : ℤ) × refuses pauses.Memory n)
+  pub memory : (answers : List (List ℕ) → Answers) → GoesBy refuses c d answers p rules → IsErrOf result runs.Memory → WantsMemory p rules answers input out
   pub reads : ReadsLines input result
 
 -- a reader and a writer, by what their contracts say of them
 module _ {R W : Type 0} (remaining : R → Option (List ℕ)) (counted failures : R → ℕ) (contents : W → Option (List ℕ)) (written : W → ℕ) where
   -- the source, the reader i and the writer w before, and the source, the reader j and the writer v after
-  module _ (p : StoredProgram) (rules : Rules) (refuses : Pause → ℤ → Type 0) (c d : Choices) (source later : ReaderLines R) (i j : R) (screen screen_later : MutBor W) (w v : W) (lines : List (List ℕ)) (ended : Result Ending RunFault)
+  module _ (p : StoredProgram) (rules : Rules) (refuses : Pause → ℤ → Type 0) (noticed : Bool) (c d : Choices) (source later : ReaderLines R) (i j : R) (screen screen_later : MutBor W) (w v : W) (lines : List (List ℕ)) (ended : Result Ending RunFault)
       (state : line_input source ≡ fresh_input) (reader : (line_reader source).now ≡ i) (gives : GivesFrom remaining counted failures source lines later)
       (ends : (line_reader later).ghost_name ≡ (line_reader source).ghost_name → j ≡ (line_reader later).now)
       (writer : screen.now ≡ w) (writes : screen.ghost_name ≡ screen_later.ghost_name → v ≡ screen_later.now)
-      (ran : Runs (refused_by refuses (Refuses (line_input later).end) (known_lines (input_of remaining counted failures later))) p rules
+      (ran : Runs (refused_by (noted noticed refuses) (Refuses (line_input later).end) (known_lines (input_of remaining counted failures later))) p rules
       (devices c (state_of contents written screen) (most_lines (line_input source)) rules.choose []) (devices d (state_of contents written screen_later) (most_lines (line_input later)) rules.choose lines) ended)
       (missed : UnlessRunMissed (Refuses (line_input later).end) (NotMissed rules.choose (asked (line_input source)) (asked (line_input later)) (most_lines (line_input later))) ended) where
     -- the input as the source leaves it
@@ -57,22 +59,26 @@ module _ {R W : Type 0} (remaining : R → Option (List ℕ)) (counted failures 
     on : ReadsOn (asked (line_input later)) (fresh (remaining i) (counted i) (failures i)) lines now
     on = taken_by remaining counted failures source later lines i state reader gives
 
+    -- the result, where it is noted whether memory was refused
+    abbrev result : Result Ending RunFault
+    result = noted_result noticed ended
+
     left_by : j ≡ (line_reader later).now
     left_by = ends gives.same_borrow
 
     -- what is said of the run, whatever lines stand behind those that it was given
     between : (answers : List (List ℕ) → Answers) → Goes answers → (behind : List (List ℕ)) → (NoneLeft (known_lines now) → behind ≡ [])
-        → IsRunBetween contents written p rules (lines ++ behind) (answers (lines ++ behind)) refuses w v ended
+        → IsRunBetween contents written p rules (lines ++ behind) (answers (lines ++ behind)) refuses w v result
     between answers goes behind none =
-        run_between contents written p rules (lines ++ behind) (answers (lines ++ behind)) refuses screen screen_later w v ended writer writes
-        (led_run p rules answers refuses c d (state_of contents written screen) (state_of contents written screen_later) (most_lines (line_input source)) (most_lines (line_input later)) lines
+        run_between contents written p rules (lines ++ behind) (answers (lines ++ behind)) refuses screen screen_later w v result writer writes
+        (led_run p rules answers refuses noticed c d (state_of contents written screen) (state_of contents written screen_later) (most_lines (line_input source)) (most_lines (line_input later)) lines
         (Refuses (line_input later).end) (known_lines now) ended goes ran (none_known now) refl (fault_without_memory (line_input later).end) behind none)
 
     -- it took the lines that it was given
     takes : (answers : List (List ℕ) → Answers) → Goes answers → (behind : List (List ℕ)) → (NoneLeft (known_lines now) → behind ≡ [])
         → length lines ≤ lines_taken p (lines ++ behind) rules (answers (lines ++ behind))
     takes answers goes behind none =
-        led_run_takes p rules answers refuses c d (state_of contents written screen) (state_of contents written screen_later) (most_lines (line_input source)) (most_lines (line_input later)) lines
+        led_run_takes p rules answers refuses noticed c d (state_of contents written screen) (state_of contents written screen_later) (most_lines (line_input source)) (most_lines (line_input later)) lines
         (Refuses (line_input later).end) (known_lines now) ended goes ran (none_known now) refl (fault_without_memory (line_input later).end) behind none
 
     -- and asked for one more at most where it says so
@@ -82,30 +88,34 @@ module _ {R W : Type 0} (remaining : R → Option (List ℕ)) (counted failures 
         state missed
 
     -- the source has come to no fault
-    pub ran_whole : fault_at (line_input later).end ≡ None → IsRan ended
-    ran_whole none =
-        let unread : IsErrOf ended runs.Read → ⊥ = never_unread p rules refuses _ _ (line_input later).end (known_lines now) none ended (ran [] (λ _. refl)) in
+    ran_noted : fault_at (line_input later).end ≡ None → IsRan result
+    ran_noted none =
+        let unread : IsErrOf result runs.Read → ⊥ =
+        λ e. never_unread p rules (noted noticed refuses) _ _ (line_input later).end (known_lines now) none ended (ran [] (λ _. refl)) (noted_read noticed ended e) in
         let same = sym left_by in
         record {
           plays = λ answers goes.
               let none_behind = between answers goes [] (λ _. refl) in
               record {
-                ended = shows_input contents written p rules answers refuses w v ended (asked (line_input later)) (counted i) (failures i) now lines (between answers goes) (remaining i) on;
-                broken_off = where_err ended _ (begins_input contents written p rules answers refuses w v ended (asked (line_input later)) (counted i) (failures i) now lines (between answers goes) (remaining i) on);
+                ended = shows_input contents written p rules answers refuses w v result (asked (line_input later)) (counted i) (failures i) now lines (between answers goes) (remaining i) on;
+                broken_off = where_err result _ (begins_input contents written p rules answers refuses w v result (asked (line_input later)) (counted i) (failures i) now lines (between answers goes) (remaining i) on);
                 unread = λ e. absurd (unread e);
                 asked = (
                   on.taken,
                   subst (λ (x : R). Consumes (remaining i) (remaining x) on.taken) same on.consumed,
-                  reads_for p rules answers (asked (line_input later)) (counted i) (failures i) now lines (takes answers goes) ended
-                      (wanted_within (line_input later) (most_lines (line_input later)) rules ended unmissed) (remaining i) on,
+                  reads_for p rules answers (asked (line_input later)) (counted i) (failures i) now lines (takes answers goes) result
+                      (noted_within noticed rules ended (asked (line_input later)) (most_lines (line_input later)) (wanted_within (line_input later) (most_lines (line_input later)) rules ended unmissed)) (remaining i) on,
                 );
                 failed = none_behind.failed;
                 unfailed = none_behind.unfailed;
                 unspent = none_behind.unspent;
               };
-          memory = λ answers goes. (between answers goes [] (λ _. refl)).memory;
+          refused = λ answers goes is.
+              elim ((between answers goes [] (λ _. refl)).memory is) [ inl nothing ↦ inl nothing | inr asks ↦ inr asks.0 ];
+          memory = λ answers goes is.
+              stops_input contents written p rules answers refuses w v result (asked (line_input later)) (counted i) (failures i) now lines (between answers goes) is (remaining i) on;
           reads = record {
-            within = subst (λ (x : R). OnOk ended (ConsumesAtMost (remaining i) (remaining x) input_limit)) same (where_ok ended _ (takes_within _ _ _ _ now lines on none));
+            within = subst (λ (x : R). OnOk result (ConsumesAtMost (remaining i) (remaining x) input_limit)) same (where_ok result _ (takes_within _ _ _ _ now lines on none));
             bounded = subst (λ (x : R). ConsumesAtMost (remaining i) (remaining x) (input_limit + 1)) same (takes_at_most _ _ _ _ now lines on);
             given = subst (λ (x : R). GivesAtMost (counted i) (counted x) (input_limit + 1)) same (given_at_most _ _ _ _ now lines on);
             unreadable = λ e. absurd (unread e);
@@ -114,14 +124,17 @@ module _ {R W : Type 0} (remaining : R → Option (List ℕ)) (counted failures 
           };
         }
 
+    pub ran_whole : fault_at (line_input later).end ≡ None → (answer : Result Ending RunFault) → answer ≡ result → IsRan answer
+    ran_whole none answer is = subst IsRan (sym is) (ran_noted none)
+
     -- it has come to one
-    module _ (positive : IfSome rules.choose (λ n. pos 1 ≤ℤ n)) (fault : ReadFault) (is : fault_at (line_input later).end ≡ Some fault) where
+    module _ (fault : ReadFault) (is : fault_at (line_input later).end ≡ Some fault) where
       -- on the lines that it was given it ends for want of one, or would ask for an answer
       dry : (answers : List (List ℕ) → Answers) → Goes answers → IsUnreadBetween contents written p rules (lines ++ []) (answers (lines ++ [])) w v
       dry answers goes =
           unread_between contents written p rules (lines ++ []) (answers (lines ++ [])) screen screen_later w v writer writes
-          (led_run_dry p rules answers refuses c d (state_of contents written screen) (state_of contents written screen_later) (most_lines (line_input source)) (most_lines (line_input later)) lines
-          (Refuses (line_input later).end) (known_lines now) ended goes ran (none_known now) positive (fault_without_memory (line_input later).end)
+          (led_run_dry p rules answers refuses noticed c d (state_of contents written screen) (state_of contents written screen_later) (most_lines (line_input source)) (most_lines (line_input later)) lines
+          (Refuses (line_input later).end) (known_lines now) ended goes ran (none_known now) (fault_without_memory (line_input later).end)
           (NotMissed rules.choose 0 (asked (line_input later)) (most_lines (line_input later))) (fault_missed (line_input later) rules.choose fault is) unmissed)
 
       pub ran_unread : (answer : RunFault) → answer ≡ run_fault fault → IsRan (Err answer)
@@ -131,7 +144,7 @@ module _ {R W : Type 0} (remaining : R → Option (List ℕ)) (counted failures 
           record {
             plays = λ answers goes. record {
               ended = tt;
-              broken_off = begins_input contents written p rules answers refuses w v ended (asked (line_input later)) (counted i) (failures i) now lines (between answers goes) (remaining i) on;
+              broken_off = begins_input contents written p rules answers refuses w v result (asked (line_input later)) (counted i) (failures i) now lines (between answers goes) (remaining i) on;
               unread = λ _. (
                 on.taken,
                 subst (λ (x : R). Consumes (remaining i) (remaining x) on.taken) same on.consumed,
@@ -148,6 +161,7 @@ module _ {R W : Type 0} (remaining : R → Option (List ℕ)) (counted failures 
               unfailed = λ _. (dry answers goes).unfailed;
               unspent = λ e. absurd (let clash : runs.Read ≡ runs.Spent = cc in cc);
             };
+            refused = λ answers goes e. absurd (let clash : runs.Read ≡ runs.Memory = cc in cc);
             memory = λ answers goes e. absurd (let clash : runs.Read ≡ runs.Memory = cc in cc);
             reads = record {
               within = tt;

@@ -1,5 +1,5 @@
 -- This file proves what a run comes to that goes by a list of answers, from a whole run with a chooser, a screen over a writer and a list of lines.
-use Rattle.std.proofs.Common.{◌≡◌, ℕ, ◌+◌, ◌≤◌, ◌⊎◌, inl, inr, true, false, List, [], ◌++◌, length, take, Option, Some, None, Result, Ok, Err, IfOk, IfSome, IsErrOf, ℤ, pos, ◌≤ℤ◌, refl, sym, ap, subst, ◌∙◌, arith, append-nil, length-append}
+use Rattle.std.proofs.Common.{◌≡◌, ℕ, ◌+◌, ◌≤◌, ◌⊎◌, inl, inr, Bool, true, false, List, [], ◌++◌, length, take, Option, Some, None, Result, Ok, Err, IfOk, IfSome, IsErrOf, ℤ, pos, ◌≤ℤ◌, refl, sym, ap, subst, ◌∙◌, arith, append-nil, length-append}
 use Rattle.std.specs.Borrow.{MutBor}
 use Rattle.std.specs.Io.KnownBytes.{Appends}
 use Rattle.std.proofs.KnownBytes.{Appends-nil}
@@ -23,9 +23,10 @@ use Rattle.ptb_devices.specs.Sources.{NoneLeft}
 use Rattle.ptb_command.specs.declared.stop.DeviceError.{DeviceError}
 use Rattle.ptb_command.specs.declared.stop.DeviceError.TheVariants as errors
 use Rattle.ptb_command.specs.Devices.{ScreenState, Devices, devices, with_failures, Exchange, Refusal, refused_by}
-use Rattle.ptb_machine.specs.Runs.{played_bytes, Plays, refused_answers, IsFinished, IsUnanswered, IsUnfinished, LacksInput, RunComes, Runs, UnlessRunMissed}
+use Rattle.ptb_machine.specs.Runs.{played_bytes, Plays, IsFinished, IsUnanswered, IsUnfinished, LacksInput, RunComes, Runs, UnlessRunMissed}
 use Rattle.ptb_machine.proofs.Endings.{HasRunEnding, play_ends}
-use Rattle.ptb_plain.specs.PlainRuns.{ShowsRun, ShowsUnread, lines_taken, IsLed, GoesBy}
+use Rattle.ptb_plain.specs.Noted.{ended_for, noted, noted_result}
+use Rattle.ptb_plain.specs.PlainRuns.{ShowsRun, ShowsQuestion, ShowsUnread, lines_taken, IsLed, GoesBy}
 
 -- ---- lists
 
@@ -53,7 +54,7 @@ pub record IsPlainRun (p : StoredProgram) (rules : Rules) (lines : List (List �
   pub ok : IfOk result (ShowsRun (plain p lines rules a) old.shown new.shown)
   pub beginning : TakesSome old.shown new.shown (plain p lines rules a).0
   pub failed : IsErrOf result runs.Write → HasFailed old.failures new.failures
-  pub memory : IsErrOf result runs.Memory → Appends old.shown new.shown [] ⊎ ((n : ℤ) × refuses pauses.Memory n)
+  pub memory : IsErrOf result runs.Memory → Appends old.shown new.shown [] ⊎ (((n : ℤ) × refuses pauses.Memory n) × ShowsQuestion (plain p lines rules) a old.shown new.shown)
   pub unfailed : (IsErrOf result runs.Write → ⊥) → new.failures ≡ old.failures
   pub unspent : IsErrOf result runs.Spent → ⊥
 
@@ -63,11 +64,11 @@ pub record IsUnreadRun (p : StoredProgram) (rules : Rules) (lines : List (List �
   pub shows : ShowsUnread rules.choose (plain p lines rules) a old.shown new.shown
   pub unfailed : new.failures ≡ old.failures
 
--- a source of lines gave some, and these stand behind them; it says what stands after its refusals
-module _ (p : StoredProgram) (rules : Rules) (a : Answers) (refuses : Pause → ℤ → Type 0) (c d : Choices) (old new : ScreenState) (could can : ℕ) (given behind : List (List ℕ)) (unread : ReadFault → Type 0) (left : Option (List (List ℕ)))
+-- a source of lines gave some, and these stand behind them; it says what stands after its refusals, and whether the chooser noted that it was refused memory
+module _ (p : StoredProgram) (rules : Rules) (a : Answers) (refuses : Pause → ℤ → Type 0) (noticed : Bool) (c d : Choices) (old new : ScreenState) (could can : ℕ) (given behind : List (List ℕ)) (unread : ReadFault → Type 0) (left : Option (List (List ℕ)))
     (led : (taken : Answers) (bounds : List ℤ) → Asked (play p (given ++ behind) rules) taken bounds → d ≡ with_answers taken bounds c → IsLed refuses taken a) where
   abbrev refused : Refusal → Type 0
-  refused = refused_by refuses unread left
+  refused = refused_by (noted noticed refuses) unread left
 
   abbrev lines : List (List ℕ)
   lines = given ++ behind
@@ -118,10 +119,51 @@ module _ (p : StoredProgram) (rules : Rules) (a : Answers) (refuses : Pause → 
       let all : lines ≡ given = ap (λ r. given ++ r) (none h.0) ∙ append-nil given in
       finished endings.NoInput (subst (λ i. IsFinished refused p rules i before later endings.NoInput) (sym all) (h.1 (none h.0)))
 
-  unanswered : IsUnanswered refused p rules lines before later pauses.Ended → IsPlainRun p rules lines a refuses old new (Ok endings.NoAnswer)
-  unanswered h =
-      let none = (left_by new.failures h.exchange h.left h.plays).ended h.bound h.refuses in
-      is_ok endings.NoAnswer h.plays (shows_run h.exchange h.left endings.NoAnswer _ h.plays (ap h.left none ∙ h.asks) refl)
+  -- with the answers that were taken the play asks, and its bytes up to that question were shown
+  shows_question : (failures : ℕ) (bound : ℤ) (x : Exchange) (left : Answers → Outcome Finish (List ℕ)) → Plays p rules lines before (with_failures failures later) x left
+      → left [] ≡ Asks bound x.bytes → ShowsRun (plain p lines rules x.answers) old.shown new.shown endings.NoAnswer
+  shows_question failures bound x left h asks =
+      let all : plain p lines rules x.answers ≡ (x.bytes, endings.NoAnswer) =
+      ap (λ q. plain p lines rules q) (sym (append-nil x.answers)) ∙ ap plain_of (ap (λ (f : Answers → Outcome Finish (List ℕ)). f []) h.leaves.rest ∙ asks) in
+      record {
+        ending = sym (ap (λ r. r.1) all);
+        bytes = subst (Appends old.shown new.shown) (sym (ap (λ r. r.0) all)) h.exchanges.shows.shown;
+      }
+
+  -- what was shown up to a question is a beginning
+  shown_before : {z : Pause} → IsUnanswered refused p rules lines before later z → TakesSome old.shown new.shown (plain p lines rules a).0
+  shown_before h =
+      let begins = h.begins (left_by new.failures h.exchange h.left h.plays).rest in
+      let all : (plain p lines rules a).0 ≡ played_bytes (h.left (left_by new.failures h.exchange h.left h.plays).rest) =
+      plain_bytes (play p lines rules a) ∙ ap played_bytes (play_is new.failures h.exchange h.left h.plays) in
+      takes_beginning old.shown new.shown h.exchange.bytes _ h.plays.exchanges.shows.shown (begins.0, all ∙ begins.1)
+
+  -- no answer is left, or it was refused memory
+  unanswered : IsUnanswered refused p rules lines before later pauses.Ended → IsPlainRun p rules lines a refuses old new (noted_result noticed (Ok endings.NoAnswer))
+  unanswered h = by_refusal noticed h.refuses where
+    by_refusal : (refused : Bool) → ended_for refused (refuses pauses.Memory h.bound) (refuses pauses.Ended h.bound) → IsPlainRun p rules lines a refuses old new (noted_result refused (Ok endings.NoAnswer))
+    by_refusal false r =
+        let none = (left_by new.failures h.exchange h.left h.plays).ended h.bound r in
+        is_ok endings.NoAnswer h.plays (shows_run h.exchange h.left endings.NoAnswer _ h.plays (ap h.left none ∙ h.asks) refl)
+    by_refusal true r =
+        let behind = left_by new.failures h.exchange h.left h.plays in
+        record {
+          same_borrow = h.plays.exchanges.shows.same_borrow;
+          ok = tt;
+          beginning = shown_before h;
+          failed = λ f. cc;
+          memory = λ _. inr (
+            (h.bound, r),
+            record {
+              drawn = h.exchange.answers;
+              rest = behind.rest;
+              all_are = behind.whole;
+              shows = shows_question new.failures h.bound h.exchange h.left h.plays h.asks;
+            },
+          );
+          unfailed = λ _. h.plays.exchanges.unfailed;
+          unspent = λ f. cc;
+        }
 
   out_of_range : (k : ℤ) → IsUnanswered refused p rules lines before later (pauses.OutOfRange k) → IsPlainRun p rules lines a refuses old new (Ok endings.BadAnswer)
   out_of_range k h =
@@ -158,19 +200,16 @@ module _ (p : StoredProgram) (rules : Rules) (a : Answers) (refuses : Pause → 
     unspent = λ f. cc;
   }
 
-  -- a source without memory and a screen over a writer take none: it was refused to the machine itself, or to the chooser
-  abbrev MemoryRefused : Type 0
-  MemoryRefused = (later ≡ before) ⊎ (IsUnfinished refused p rules lines before later errors.Memory × ((n : ℤ) × refuses pauses.Memory n))
-
-  out_of_memory : old.takes_memory ≡ false → (unread reads.Memory → ⊥) → RunComes refused p rules behind before later (Err runs.Memory) → MemoryRefused
+  -- a source without memory and a screen over a writer take none, and the chooser notes its refusals: it was refused to the machine itself
+  out_of_memory : old.takes_memory ≡ false → (unread reads.Memory → ⊥) → RunComes refused p rules behind before later (Err runs.Memory) → later ≡ before
   out_of_memory e no_memory h =
       elim h [
-        | inl same ↦ inl same
-        | inr u ↦ elim (u.broken.0.by) [ inl t ↦ absurd (let both : true ≡ false = sym t ∙ e in cc) | inr r ↦ elim r [ inl q ↦ inr (u, q) | inr q ↦ absurd (no_memory q) ] ]
+        | inl same ↦ same
+        | inr u ↦ elim (u.broken.0.by) [ inl t ↦ absurd (let both : true ≡ false = sym t ∙ e in cc) | inr r ↦ elim r [ inl q ↦ absurd q.1 | inr q ↦ absurd (no_memory q) ] ]
       ]
 
-  no_room : MemoryRefused → IsPlainRun p rules lines a refuses old new (Err runs.Memory)
-  no_room (inl e) =
+  no_room : later ≡ before → IsPlainRun p rules lines a refuses old new (Err runs.Memory)
+  no_room e =
       let nothing : Appends old.shown new.shown [] = subst (λ held. Appends old.shown held []) (sym (ap (λ (d : Devices). d.screen.shown) e)) (Appends-nil old.shown) in
       record {
         same_borrow = ap (λ (d : Devices). d.screen.borrow) e;
@@ -181,15 +220,6 @@ module _ (p : StoredProgram) (rules : Rules) (a : Answers) (refuses : Pause → 
         unfailed = λ _. ap (λ (d : Devices). d.screen.failures) e;
         unspent = λ f. cc;
       }
-  no_room (inr r) = record {
-    same_borrow = r.0.plays.exchanges.shows.same_borrow;
-    ok = tt;
-    beginning = begun r.0;
-    failed = λ f. cc;
-    memory = λ _. inr r.1;
-    unfailed = λ f. r.0.broken.1;
-    unspent = λ f. cc;
-  }
 
   -- ---- the lines that it takes
 
@@ -202,11 +232,11 @@ module _ (p : StoredProgram) (rules : Rules) (a : Answers) (refuses : Pause → 
   fits_finished : (e : Ending) → IsFinished refused p rules lines before later e → length given ≤ lines_taken p lines rules a
   fits_finished e h = let behind = left_by new.failures h.exchange _ h.plays in fits h.exchange behind.rest [] behind.whole (h.lines behind.rest)
 
-  fits_unanswered : (z : Pause) (later_answers : Answers) (h : IsUnanswered refused p rules lines before later z)
-      → (left_by new.failures h.exchange h.left h.plays).rest ≡ refused_answers z later_answers → length given ≤ lines_taken p lines rules a
-  fits_unanswered z later_answers h e =
+  fits_unanswered : (z : Pause) → IsUnanswered refused p rules lines before later z → length given ≤ lines_taken p lines rules a
+  fits_unanswered z h =
       let behind = left_by new.failures h.exchange h.left h.plays in
-      fits h.exchange behind.rest [] behind.whole (h.lines later_answers ∙ ap (λ q. given ++ unasked_lines p lines rules (h.exchange.answers ++ q)) (sym e))
+      let taken = h.more_lines behind.rest in
+      fits h.exchange behind.rest taken.0 behind.whole taken.1
 
   fits_unfinished : (e : DeviceError) → IsUnfinished refused p rules lines before later e → length given ≤ lines_taken p lines rules a
   fits_unfinished e h =
@@ -214,9 +244,8 @@ module _ (p : StoredProgram) (rules : Rules) (a : Answers) (refuses : Pause → 
       let taken = h.lines behind.rest in
       fits h.exchange behind.rest taken.0 behind.whole taken.1
 
-  fits_none : MemoryRefused → length given ≤ lines_taken p lines rules a
-  fits_none (inl e) = omega (arith, ap (λ (d : Devices). length d.given) e)
-  fits_none (inr r) = fits_unfinished errors.Memory r.0
+  fits_none : later ≡ before → length given ≤ lines_taken p lines rules a
+  fits_none e = omega (arith, ap (λ (d : Devices). length d.given) e)
 
   fits_dry : (NoneLeft left → behind ≡ []) → RunComes refused p rules behind before later (Ok endings.NoInput) → length given ≤ lines_taken p lines rules a
   fits_dry none h =
@@ -232,11 +261,8 @@ module _ (p : StoredProgram) (rules : Rules) (a : Answers) (refuses : Pause → 
   takes_given e no_memory none (Ok endings.Sorry) h = fits_finished endings.Sorry h
   takes_given e no_memory none (Ok endings.Limit) h = fits_finished endings.Limit h
   takes_given e no_memory none (Ok endings.NoInput) h = fits_dry none h
-  takes_given e no_memory none (Ok endings.NoAnswer) h =
-      fits_unanswered pauses.Ended [] h ((left_by new.failures h.exchange h.left h.plays).ended h.bound h.refuses)
-  takes_given e no_memory none (Ok endings.BadAnswer) h =
-      let next = (left_by new.failures h.1.exchange h.1.left h.1.plays).outside h.0 h.1.bound h.1.refuses in
-      fits_unanswered (pauses.OutOfRange h.0) next.0 h.1 next.1
+  takes_given e no_memory none (Ok endings.NoAnswer) h = fits_unanswered pauses.Ended h
+  takes_given e no_memory none (Ok endings.BadAnswer) h = fits_unanswered (pauses.OutOfRange h.0) h.1
   takes_given e no_memory none (Err runs.Memory) h = fits_none (out_of_memory e no_memory h)
   takes_given e no_memory none (Err runs.Read) h = fits_unfinished errors.Read h
   takes_given e no_memory none (Err runs.Write) h = fits_unfinished errors.Write h
@@ -260,45 +286,37 @@ module _ (p : StoredProgram) (rules : Rules) (a : Answers) (refuses : Pause → 
   -- a line that can't be read
   asks_instead : (n : ℤ) (h : IsUnfinished refused p rules lines before later errors.Read) → h.left [] ≡ Asks n h.exchange.bytes
       → ShowsUnread (Some n) (plain p lines rules) a old.shown new.shown
-  asks_instead n h asks = (begun h, (h.exchange.answers, shown)) where
-    all : plain p lines rules h.exchange.answers ≡ (h.exchange.bytes, endings.NoAnswer)
-    all = ap (λ x. plain p lines rules x) (sym (append-nil h.exchange.answers)) ∙ ap plain_of (ap (λ (f : Answers → Outcome Finish (List ℕ)). f []) h.plays.leaves.rest ∙ asks)
+  asks_instead n h asks = (begun h, (h.exchange.answers, shows_question old.failures n h.exchange h.left h.plays asks))
 
-    shown : ShowsRun (plain p lines rules h.exchange.answers) old.shown new.shown endings.NoAnswer
-    shown = record {
-      ending = sym (ap (λ r. r.1) all);
-      bytes = subst (Appends old.shown new.shown) (sym (ap (λ r. r.0) all)) h.plays.exchanges.shows.shown;
-    }
-
-  unread_line : (choose : Option ℤ) → rules.choose ≡ choose → IfSome choose (λ n. pos 1 ≤ℤ n) → (h : IsUnfinished refused p rules lines before later errors.Read)
+  unread_line : (choose : Option ℤ) → rules.choose ≡ choose → (h : IsUnfinished refused p rules lines before later errors.Read)
       → LacksInput refused p rules lines before later choose h.exchange.bytes h.left → IsUnreadRun p rules lines a old new
-  unread_line None is positive h lacks = dry_ending lacks
-  unread_line (Some n) is positive h lacks = record {
+  unread_line None is h lacks = dry_ending lacks
+  unread_line (Some n) is h lacks = record {
     same_borrow = h.plays.exchanges.shows.same_borrow;
-    shows = subst (λ b. ShowsUnread b (plain p lines rules) a old.shown new.shown) (sym is) (asks_instead n h (lacks positive));
+    shows = subst (λ b. ShowsUnread b (plain p lines rules) a old.shown new.shown) (sym is) (asks_instead n h lacks);
     unfailed = h.broken.1;
   }
 
-  pub ends_dry : IfSome rules.choose (λ n. pos 1 ≤ℤ n) → (P : Type 0) → (P → ⊥) → (unread reads.Memory → ⊥) → behind ≡ [] → (result : Result Ending RunFault) → UnlessRunMissed unread P result
+  pub ends_dry : (P : Type 0) → (P → ⊥) → (unread reads.Memory → ⊥) → behind ≡ [] → (result : Result Ending RunFault) → UnlessRunMissed unread P result
       → RunComes refused p rules behind before later result → IsUnreadRun p rules lines a old new
-  ends_dry positive P never no_memory none (Ok endings.End) m h = absurd (never m)
-  ends_dry positive P never no_memory none (Ok endings.Stop) m h = absurd (never m)
-  ends_dry positive P never no_memory none (Ok endings.What) m h = absurd (never m)
-  ends_dry positive P never no_memory none (Ok endings.How) m h = absurd (never m)
-  ends_dry positive P never no_memory none (Ok endings.Sorry) m h = absurd (never m)
-  ends_dry positive P never no_memory none (Ok endings.Limit) m h = absurd (never m)
-  ends_dry positive P never no_memory none (Ok endings.NoInput) m h =
+  ends_dry P never no_memory none (Ok endings.End) m h = absurd (never m)
+  ends_dry P never no_memory none (Ok endings.Stop) m h = absurd (never m)
+  ends_dry P never no_memory none (Ok endings.What) m h = absurd (never m)
+  ends_dry P never no_memory none (Ok endings.How) m h = absurd (never m)
+  ends_dry P never no_memory none (Ok endings.Sorry) m h = absurd (never m)
+  ends_dry P never no_memory none (Ok endings.Limit) m h = absurd (never m)
+  ends_dry P never no_memory none (Ok endings.NoInput) m h =
       let all : lines ≡ given = ap (λ r. given ++ r) none ∙ append-nil given in
       dry_ending (subst (λ i. IsFinished refused p rules i before later endings.NoInput) (sym all) (h.1 none))
-  ends_dry positive P never no_memory none (Ok endings.NoAnswer) m h = absurd (never m)
-  ends_dry positive P never no_memory none (Ok endings.BadAnswer) m h = absurd (never m)
-  ends_dry positive P never no_memory none (Err runs.Memory) m h = elim m [ inl q ↦ absurd (never q) | inr r ↦ absurd (no_memory r) ]
-  ends_dry positive P never no_memory none (Err runs.Read) m h = unread_line rules.choose refl positive h (h.dry refl (ap (λ r. given ++ r) none ∙ append-nil given))
-  ends_dry positive P never no_memory none (Err runs.Write) m h = absurd (never m)
-  ends_dry positive P never no_memory none (Err runs.Spent) m h = absurd h
+  ends_dry P never no_memory none (Ok endings.NoAnswer) m h = absurd (never m)
+  ends_dry P never no_memory none (Ok endings.BadAnswer) m h = absurd (never m)
+  ends_dry P never no_memory none (Err runs.Memory) m h = elim m [ inl q ↦ absurd (never q) | inr r ↦ absurd (no_memory r) ]
+  ends_dry P never no_memory none (Err runs.Read) m h = unread_line rules.choose refl h (h.dry refl (ap (λ r. given ++ r) none ∙ append-nil given))
+  ends_dry P never no_memory none (Err runs.Write) m h = absurd (never m)
+  ends_dry P never no_memory none (Err runs.Spent) m h = absurd h
 
   pub run_comes : old.takes_memory ≡ false → (unread reads.Memory → ⊥) → (NoneLeft left → behind ≡ []) → (result : Result Ending RunFault)
-      → RunComes refused p rules behind before later result → IsPlainRun p rules lines a refuses old new result
+      → RunComes refused p rules behind before later result → IsPlainRun p rules lines a refuses old new (noted_result noticed result)
   run_comes e no_memory none (Ok endings.End) h = finished endings.End h
   run_comes e no_memory none (Ok endings.Stop) h = finished endings.Stop h
   run_comes e no_memory none (Ok endings.What) h = finished endings.What h
@@ -314,23 +332,23 @@ module _ (p : StoredProgram) (rules : Rules) (a : Answers) (refuses : Pause → 
   run_comes e no_memory none (Err runs.Spent) h = absurd h
 
 -- where the chooser goes by these answers on whatever lines
-module _ (p : StoredProgram) (rules : Rules) (answers : List (List ℕ) → Answers) (refuses : Pause → ℤ → Type 0) (c d : Choices) (old new : ScreenState) (could can : ℕ) (given : List (List ℕ)) (unread : ReadFault → Type 0) (left : Option (List (List ℕ)))
+module _ (p : StoredProgram) (rules : Rules) (answers : List (List ℕ) → Answers) (refuses : Pause → ℤ → Type 0) (noticed : Bool) (c d : Choices) (old new : ScreenState) (could can : ℕ) (given : List (List ℕ)) (unread : ReadFault → Type 0) (left : Option (List (List ℕ)))
     (result : Result Ending RunFault) (goes : GoesBy refuses c d answers p rules)
-    (h : Runs (refused_by refuses unread left) p rules (devices c old could rules.choose []) (devices d new can rules.choose given) result) (over : can ≡ 0 → NoneLeft left) where
+    (h : Runs (refused_by (noted noticed refuses) unread left) p rules (devices c old could rules.choose []) (devices d new can rules.choose given) result) (over : can ≡ 0 → NoneLeft left) where
   pub led_run : old.takes_memory ≡ false → (unread reads.Memory → ⊥) → (behind : List (List ℕ)) → (NoneLeft left → behind ≡ [])
-      → IsPlainRun p rules (given ++ behind) (answers (given ++ behind)) refuses old new result
+      → IsPlainRun p rules (given ++ behind) (answers (given ++ behind)) refuses old new (noted_result noticed result)
   led_run no_room no_memory behind none =
-      run_comes p rules (answers (given ++ behind)) refuses c d old new could can given behind unread left (goes (given ++ behind)) no_room no_memory none result (h behind (λ e. none (over e)))
+      run_comes p rules (answers (given ++ behind)) refuses noticed c d old new could can given behind unread left (goes (given ++ behind)) no_room no_memory none result (h behind (λ e. none (over e)))
 
   pub led_run_takes : old.takes_memory ≡ false → (unread reads.Memory → ⊥) → (behind : List (List ℕ)) → (NoneLeft left → behind ≡ [])
       → length given ≤ lines_taken p (given ++ behind) rules (answers (given ++ behind))
   led_run_takes no_room no_memory behind none =
-      takes_given p rules (answers (given ++ behind)) refuses c d old new could can given behind unread left (goes (given ++ behind)) no_room no_memory none result (h behind (λ e. none (over e)))
+      takes_given p rules (answers (given ++ behind)) refuses noticed c d old new could can given behind unread left (goes (given ++ behind)) no_room no_memory none result (h behind (λ e. none (over e)))
 
-  pub led_run_dry : IfSome rules.choose (λ n. pos 1 ≤ℤ n) → (unread reads.Memory → ⊥) → (P : Type 0) → (P → ⊥) → UnlessRunMissed unread P result
+  pub led_run_dry : (unread reads.Memory → ⊥) → (P : Type 0) → (P → ⊥) → UnlessRunMissed unread P result
       → IsUnreadRun p rules (given ++ []) (answers (given ++ [])) old new
-  led_run_dry positive no_memory P never missed =
-      ends_dry p rules (answers (given ++ [])) refuses c d old new could can given [] unread left (goes (given ++ [])) positive P never no_memory refl result missed (h [] (λ _. refl))
+  led_run_dry no_memory P never missed =
+      ends_dry p rules (answers (given ++ [])) refuses noticed c d old new could can given [] unread left (goes (given ++ [])) P never no_memory refl result missed (h [] (λ _. refl))
 
 -- ---- the screen of a writer
 
@@ -344,7 +362,7 @@ pub record IsRunBetween {W : Type 0} (contents : W → Option (List ℕ)) (failu
   pub ok : IfOk result (ShowsRun (plain p ls rules a) (contents w) (contents v))
   pub beginning : TakesSome (contents w) (contents v) (plain p ls rules a).0
   pub failed : IsErrOf result runs.Write → HasFailed (failures w) (failures v)
-  pub memory : IsErrOf result runs.Memory → Appends (contents w) (contents v) [] ⊎ ((n : ℤ) × refuses pauses.Memory n)
+  pub memory : IsErrOf result runs.Memory → Appends (contents w) (contents v) [] ⊎ (((n : ℤ) × refuses pauses.Memory n) × ShowsQuestion (plain p ls rules) a (contents w) (contents v))
   pub unfailed : (IsErrOf result runs.Write → ⊥) → failures v ≡ failures w
   pub unspent : IsErrOf result runs.Spent → ⊥
 

@@ -2,7 +2,7 @@
 use Rattle.std.proofs.Common.{◌≡◌, ℕ, ◌+◌, ◌-◌, ◌≤◌, ◌<◌, ◌⊎◌, inl, inr, Bool, true, false, nat_lt, ◌==◌, List, [], ◌∷◌, ◌++◌, length, take, drop, Option, Some, None, Result, Ok, Err, IfOk, IfSome, IsErrOf, OnOk, ℤ, refl, sym, ap, subst, ◌∙◌, arith, append_assoc, length-append, take_all, take-append-drop}
 use Rattle.std.specs.Prelude.{option_map, OnErr, if◌then◌else◌}
 use Rattle.std.proofs.lemmas.Bool.{lt-ltb, le-ltb, ltb-true, ltb-false, eqb-false}
-use Rattle.std.specs.Io.KnownBytes.{Consumes}
+use Rattle.std.specs.Io.KnownBytes.{Appends, Consumes}
 use Rattle.ptb_text.specs.Device.{GivesAtMost, GivesExactly, HasFailed, TakesSome}
 use Rattle.ptb_text.specs.Lines.{input_lines}
 use Rattle.ptb_devices.specs.declared.fault.ReadFault.{ReadFault}
@@ -29,7 +29,8 @@ use Rattle.ptb_command.specs.declared.ending.Ending.{Ending}
 use Rattle.ptb_command.specs.declared.ending.Ending.TheVariants as endings
 use Rattle.ptb_machine.specs.declared.fault.RunFault.{RunFault}
 use Rattle.ptb_machine.specs.Play.{plain}
-use Rattle.ptb_plain.specs.PlainRuns.{IsUnreadable, ShowsRun, ShowsUnread, run_fault, lines_come, lines_taken, ending_wanted, lines_wanted, ReadsFor}
+use Rattle.ptb_plain.specs.Noted.{noted, noted_result}
+use Rattle.ptb_plain.specs.PlainRuns.{IsUnreadable, ShowsRun, ShowsQuestion, ShowsUnread, run_fault, lines_come, lines_taken, ending_wanted, lines_wanted, ReadsFor}
 use Rattle.ptb_plain.proofs.Playing.{IsRunBetween, IsUnreadBetween}
 
 abbrev pub fresh : Option (List ℕ) → ℕ → ℕ → InputNow
@@ -360,6 +361,14 @@ module _ {W : Type 0} (contents : W → Option (List ℕ)) (written : W → ℕ)
       let b = lines_behind wanted c x f n given on in
       subst (λ i. TakesSome (contents w) (contents v) (plain p i rules (a i)).0) (sym b.whole) (between b.rest b.none).beginning
 
+  pub stops_input : IsErrOf ended runs.Memory → (known : Option (List ℕ)) → ReadsOn wanted (fresh known x f) given n
+      → Appends (contents w) (contents v) [] ⊎ IfSome known (λ c. ShowsQuestion (plain p (input_lines c) rules) (a (input_lines c)) (contents w) (contents v))
+  stops_input is None on = inr tt
+  stops_input is (Some c) on =
+      let b = lines_behind wanted c x f n given on in
+      subst (λ i. Appends (contents w) (contents v) [] ⊎ ShowsQuestion (plain p i rules) (a i) (contents w) (contents v)) (sym b.whole)
+      (elim ((between b.rest b.none).memory is) [ inl nothing ↦ inl nothing | inr asks ↦ inr asks.1 ])
+
 -- on the lines that came whole, where a fault has come, it ends for want of a line, or would ask for an answer
 pub shows_come : {W : Type 0} (contents : W → Option (List ℕ)) (written : W → ℕ) (p : StoredProgram) (rules : Rules) (a : List (List ℕ) → Answers) (w v : W) (wanted x f : ℕ) (n : InputNow) (given : List (List ℕ)) (known : Option (List ℕ)) (on : ReadsOn wanted (fresh known x f) given n) (fault : ReadFault)
     → fault_at n.state.end ≡ Some fault → IsUnreadBetween contents written p rules (given ++ []) (a (given ++ [])) w v
@@ -368,6 +377,41 @@ shows_come contents written p rules a w v wanted x f n given known on fault is r
     subst (λ i. ShowsUnread rules.choose (plain p i rules) (a i) (contents w) (contents v)) (sym (came_whole wanted known x f n given on fault is)) run.shows
 
 -- ---- how a run has ended
+
+-- what is noted is no line that could not be read, and wants no more lines
+pub noted_read : (noticed : Bool) (r : Result Ending RunFault) → IsErrOf (noted_result noticed r) runs.Read → IsErrOf r runs.Read
+noted_read noticed (Ok endings.End) e = e
+noted_read noticed (Ok endings.Stop) e = e
+noted_read noticed (Ok endings.What) e = e
+noted_read noticed (Ok endings.How) e = e
+noted_read noticed (Ok endings.Sorry) e = e
+noted_read noticed (Ok endings.Limit) e = e
+noted_read noticed (Ok endings.NoInput) e = e
+noted_read false (Ok endings.NoAnswer) e = e
+noted_read true (Ok endings.NoAnswer) e = absurd cc
+noted_read noticed (Ok endings.BadAnswer) e = e
+noted_read noticed (Err fault) e = e
+
+noted_wanted : (noticed : Bool) (k : ℕ) (r : Result Ending RunFault) → ending_wanted k (noted_result noticed r) ≡ ending_wanted k r
+noted_wanted noticed k (Ok endings.End) = refl
+noted_wanted noticed k (Ok endings.Stop) = refl
+noted_wanted noticed k (Ok endings.What) = refl
+noted_wanted noticed k (Ok endings.How) = refl
+noted_wanted noticed k (Ok endings.Sorry) = refl
+noted_wanted noticed k (Ok endings.Limit) = refl
+noted_wanted noticed k (Ok endings.NoInput) = refl
+noted_wanted false k (Ok endings.NoAnswer) = refl
+noted_wanted true k (Ok endings.NoAnswer) = refl
+noted_wanted noticed k (Ok endings.BadAnswer) = refl
+noted_wanted noticed k (Err fault) = refl
+
+noted_lines : (noticed : Bool) (choose : Option ℤ) (all k : ℕ) (r : Result Ending RunFault) → lines_wanted choose all k (noted_result noticed r) ≡ lines_wanted choose all k r
+noted_lines noticed None all k r = noted_wanted noticed k r
+noted_lines noticed (Some n) all k r = ap (λ w. if k == all then k + 1 else w) (noted_wanted noticed k r)
+
+pub noted_within : (noticed : Bool) (rules : Rules) (r : Result Ending RunFault) (wanted most : ℕ) → WantsWithin rules r wanted most → WantsWithin rules (noted_result noticed r) wanted most
+noted_within noticed rules r wanted most within given all k fits part over =
+    let enough = within given all k fits part over in omega (arith, enough, noted_lines noticed rules.choose all k r)
 
 -- where the source has come to no fault, the run doesn't say that a line could not be read
 module _ (p : StoredProgram) (rules : Rules) (refuses : Pause → ℤ → Type 0) (o n : Devices) (end : InputEnd) (left : Option (List (List ℕ))) where

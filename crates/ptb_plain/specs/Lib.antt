@@ -1,4 +1,5 @@
 -- This file names the files of definitions.
 pub mod Streams
 pub mod PlainRuns
+pub mod Noted
 pub mod SeededRuns

@@ -6,10 +6,12 @@
 --     IsLed refuses taken all    what a chooser is to answer begins with what it has answered
 --     GoesBy refuses c d answers p rules    a chooser goes by these answers on the lines of each input
 --     ShowsUnread choose run a old new    what was shown of a run that couldn't read a line
+--     ShowsQuestion run all old new       with the first of these answers a run asks, and what it shows until then was shown
 --     lines_taken p lines rules a    how many of the lines of its input a run takes
 --     lines_wanted choose all k result    how many of all lines a run wants that takes k
 --     ReadsFor taken wanted      these bytes were taken of an input for so many lines
 --     PlaysWith p rules answers ..    the program was played with these answers, and what was shown was written
+--     WantsMemory p rules answers ..  where a run that was refused memory stopped
 --     ReadsLines input result    how much was read of the input, and when it is at fault
 use Rattle.std.specs.Prelude.{◌≡◌, ◌⊎◌, ◌+◌, ◌-◌, ◌==◌, if◌then◌else◌, ◌<◌, ◌≤◌, ℕ, List, [], ◌++◌, length, take, ◌∷◌, Option, Some, None, Result, Ok, Err, IfOk, IfSome, IsErrOf, OnErr, OnOk, ℤ}
 use Rattle.std.specs.Io.KnownBytes.{Appends, Consumes}
@@ -79,6 +81,15 @@ ShowsUnread None run a old new = ShowsRun (run a) old new endings.NoInput
 ShowsUnread (Some n) run a old new =
     TakesSome old new (run a).0 × ((asked : Answers) × ShowsRun (run asked) old new endings.NoAnswer)
 
+-- ---- an answer for which there is no memory
+
+-- With the first of these answers a run ends for want of one more: what was shown is all that it shows up to that question.
+pub record ShowsQuestion (run : Answers → List ℕ × Ending) (all : Answers) (old new : Option (List ℕ)) : Type 0 where
+  pub drawn : Answers
+  pub rest : Answers
+  pub all_are : all ≡ drawn ++ rest
+  pub shows : ShowsRun (run drawn) old new endings.NoAnswer
+
 -- ---- what a run takes of its input
 
 -- all but those for which it doesn't ask
@@ -142,6 +153,12 @@ pub record PlaysWith {R : Type 0} (p : StoredProgram) (rules : Rules) (answers :
   pub unfailed : ¬ IsErrOf result runs.Write → out.fails ≡ out.failed
   -- The machine was new.
   pub unspent : ¬ IsErrOf result runs.Spent
+
+-- Memory was refused before anything was written, or for the next answer: what was written is then what the play of the answers
+-- so far shows up to the question.
+abbrev pub WantsMemory : {R : Type 0} → StoredProgram → Rules → (List (List ℕ) → Answers) → Reads R → Writes → Type 0
+WantsMemory p rules answers input out =
+    Appends out.before out.after [] ⊎ IfSome input.bytes (λ c. ShowsQuestion (plain p (input_lines c) rules) (answers (input_lines c)) out.before out.after)
 
 pub record ReadsLines {R : Type 0} (input : Reads R) (result : Result Ending RunFault) : Type 0 where
   -- A run that ends has taken at most 16,777,216 bytes, and no run takes more than one more.

@@ -7,6 +7,7 @@
 #![tactic(auto)]
 
 mod laws;
+mod memory_noted;
 mod plain;
 
 pub use laws::seeded_laws;

@@ -1,20 +1,21 @@
 // This file has the runs that play a program once, with a list of answers or with those of a seed.
 
-ghost use Rattle.std.specs.Prelude.{◌≡◌, ◌⊎◌, ◌≤ℤ◌, ℕ, ℤ, pos, List, [], IfSome, IsErrOf};
+ghost use Rattle.std.specs.Prelude.{◌≡◌, ◌⊎◌, ℕ, ℤ, List, [], IfSome, IsErrOf};
 ghost use Rattle.std.specs.Io.KnownBytes.{Appends};
 ghost use Rattle.ptb_machine.specs.Play.{play};
-ghost use Rattle.ptb_plain.specs.PlainRuns.{GoesBy, PlaysWith, ReadsLines, run_fault};
+ghost use Rattle.ptb_plain.specs.PlainRuns.{GoesBy, PlaysWith, ReadsLines, WantsMemory, run_fault};
 ghost use Rattle.ptb_plain.specs.SeededRuns.{IsDrawn, SeededLaws};
 ghost use Rattle.ptb_plain.specs.Streams.{reads_of, writes_of};
 
 use crate::laws::seeded_laws;
+use crate::memory_noted::MemoryNoted;
 use ptb_answers::{Chooser, Listed, Pause, Seeded};
 use ptb_machine::{Ending, ReadFault, ReaderLines, Rules, RunFault, WriterScreen, run, run_laws};
 use ptb_text::{Program, Read, Write};
 use std::alloc::Global;
 
 /// Runs a program once, by these rules, on the lines of an input and with these answers. What it
-/// shows goes to the writer. A bound for answers instead of lines is at least 1.
+/// shows goes to the writer.
 ///
 /// A line is read when the run asks for it, and what it shows before was shown then: the input is
 /// read on only while fewer lines are whole than were asked for. Answers that are left over are not
@@ -37,7 +38,6 @@ pub fn run_plain<R: Read, W: Write>(
     input: &mut R,
     out: &mut W,
 ) -> Result<Ending, RunFault>
-    requires { IfSome rules.choose (λ n. pos 1 ≤ℤ n) }
     ensures plays { PlaysWith program.now rules (λ _. answers.now)
         (reads_of R.remaining R.given R.failures input.old input.new)
         (writes_of W.contents W.failures out.old out.new) result }
@@ -45,13 +45,12 @@ pub fn run_plain<R: Read, W: Write>(
         → Appends (W.contents out.old) (W.contents out.new) [] }
     ensures reads { ReadsLines (reads_of R.remaining R.given R.failures input.old input.new) result }
 {
-    let mut chooser = Listed::new(answers);
+    let mut chooser = MemoryNoted::new(Listed::new(answers));
     run_on_input(alloc, program, rules, &mut chooser, input, out)
 }
 
 /// Runs a program once, by these rules, on the lines of an input and with the answers that the seed
-/// gives to its questions. What it shows goes to the writer. A bound for answers instead of lines is
-/// at least 1.
+/// gives to its questions. What it shows goes to the writer.
 ///
 /// The answers are those of one list: the run is the plain run with this list, and its answers are
 /// what is drawn from the seed for the bounds of its questions. None is missing or out of range.
@@ -60,8 +59,9 @@ pub fn run_plain<R: Read, W: Write>(
 /// # Errors
 ///
 /// [`RunFault::Read`] and [`RunFault::Write`] as for a plain run; the answers are then those of the
-/// run on the lines that came whole. [`RunFault::Memory`] where a growth was refused memory: the
-/// writer got a prefix of what the run shows. Never [`RunFault::Spent`].
+/// run on the lines that came whole. [`RunFault::Memory`] where a growth was refused memory: either
+/// nothing was shown, or the writer got what the run shows up to a question, whose answer there was
+/// no memory for. Never [`RunFault::Spent`].
 pub fn run_seeded<R: Read, W: Write>(
     alloc: Global,
     program: &Program,
@@ -70,12 +70,16 @@ pub fn run_seeded<R: Read, W: Write>(
     input: &mut R,
     out: &mut W,
 ) -> Result<Ending, RunFault>
-    requires { IfSome rules.choose (λ n. pos 1 ≤ℤ n) }
     ensures plays { (answers : List (List ℕ) → List ℤ)
         → ((lines : List (List ℕ)) → IsDrawn seed (play program.now lines rules) (answers lines))
         → PlaysWith program.now rules answers
         (reads_of R.remaining R.given R.failures input.old input.new)
         (writes_of W.contents W.failures out.old out.new) result }
+    ensures memory { (answers : List (List ℕ) → List ℤ)
+        → ((lines : List (List ℕ)) → IsDrawn seed (play program.now lines rules) (answers lines))
+        → IsErrOf result RunFault.Memory → WantsMemory program.now rules answers
+        (reads_of R.remaining R.given R.failures input.old input.new)
+        (writes_of W.contents W.failures out.old out.new) }
     ensures reads { ReadsLines (reads_of R.remaining R.given R.failures input.old input.new) result }
 
     // There is one such list for each input.
@@ -83,7 +87,7 @@ pub fn run_seeded<R: Read, W: Write>(
 {
     run_laws();
     seeded_laws();
-    let mut chooser = Seeded::new(alloc, seed);
+    let mut chooser = MemoryNoted::new(Seeded::new(alloc, seed));
     run_on_input(alloc, program, rules, &mut chooser, input, out)
 }
 
@@ -92,21 +96,25 @@ fn run_on_input<C: Chooser, R: Read, W: Write>(
     alloc: Global,
     program: &Program,
     rules: Rules,
-    chooser: &mut C,
+    chooser: &mut MemoryNoted<C>,
     input: &mut R,
     out: &mut W,
 ) -> Result<Ending, RunFault>
-    requires { IfSome rules.choose (λ n. pos 1 ≤ℤ n) }
-    ensures plays { (answers : List (List ℕ) → List ℤ) → GoesBy (C.refused chooser.new)
-        (C.choices chooser.old) (C.choices chooser.new) answers program.now rules
+    ensures plays { (answers : List (List ℕ) → List ℤ) → GoesBy (C.refused chooser.new.chooser)
+        (C.choices chooser.old.chooser) (C.choices chooser.new.chooser) answers program.now rules
         → PlaysWith program.now rules answers
         (reads_of R.remaining R.given R.failures input.old input.new)
         (writes_of W.contents W.failures out.old out.new) result }
-    ensures memory { (answers : List (List ℕ) → List ℤ) → GoesBy (C.refused chooser.new)
-        (C.choices chooser.old) (C.choices chooser.new) answers program.now rules
+    ensures refused { (answers : List (List ℕ) → List ℤ) → GoesBy (C.refused chooser.new.chooser)
+        (C.choices chooser.old.chooser) (C.choices chooser.new.chooser) answers program.now rules
         → IsErrOf result RunFault.Memory
         → Appends (W.contents out.old) (W.contents out.new) []
-        ⊎ ((n : ℤ) × C.refused chooser.new Pause.Memory n) }
+        ⊎ ((n : ℤ) × C.refused chooser.new.chooser Pause.Memory n) }
+    ensures memory { (answers : List (List ℕ) → List ℤ) → GoesBy (C.refused chooser.new.chooser)
+        (C.choices chooser.old.chooser) (C.choices chooser.new.chooser) answers program.now rules
+        → IsErrOf result RunFault.Memory → WantsMemory program.now rules answers
+        (reads_of R.remaining R.given R.failures input.old input.new)
+        (writes_of W.contents W.failures out.old out.new) }
     ensures reads { ReadsLines (reads_of R.remaining R.given R.failures input.old input.new) result }
 {
     let mut screen = WriterScreen::new(out);
@@ -115,7 +123,7 @@ fn run_on_input<C: Chooser, R: Read, W: Write>(
     // The source keeps its fault, so that it is reported however the run ended.
     match source.fault() {
         Some(fault) => Err(run_fault(fault)),
-        None => ended,
+        None => chooser.conclude(ended),
     }
 }
 

@@ -1,13 +1,18 @@
 -- This file answers that a run by a seed is the plain run with the answers that are drawn from the seed.
+use Rattle.std.proofs.Common.{◌∙◌}
 use Rattle.ptb_plain.proofs.Drawing.{goes_by_drawn}
 use Rattle.ptb_plain.proofs.plain.run_seeded.Goals as goal
 
 pub returns : goal.returns
 returns g c =
     let run = c.run_on_input.ensures in
+    let goes =
+    goes_by_drawn c.run_laws.ensures c.seeded_laws.ensures c.args.seed c.new-chooser.result.chooser c.run_on_input.new.chooser.chooser c.args.program.now c.args.rules
+    (c.new-chooser.ensures.chooser ∙ c.new.ensures)
+    in
     record {
-      plays = λ answers drawn. run.plays answers
-          (goes_by_drawn c.run_laws.ensures c.seeded_laws.ensures c.args.seed c.new-chooser.result c.run_on_input.new.chooser c.args.program.now c.args.rules c.new-chooser.ensures answers drawn);
+      plays = λ answers drawn. run.plays answers (goes answers drawn);
+      memory = λ answers drawn. run.memory answers (goes answers drawn);
       reads = run.reads;
       laws = c.seeded_laws.ensures;
     }

@@ -1,0 +1,60 @@
+// This file has the chooser that notes where another one was refused memory.
+
+ghost use Rattle.std.specs.Prelude.{◌≡◌, false};
+ghost use Rattle.ptb_plain.specs.Noted.{noted, noted_result};
+
+use ptb_answers::{Chooser, Pause};
+use ptb_machine::{Ending, RunFault};
+
+/// Answers as another chooser does. Where that one is refused memory, no answer is left, and the
+/// refusal is noted.
+///
+/// A run stops at the question then, as it does for want of an answer.
+#[derive(Drop)]
+pub(crate) struct MemoryNoted<C> {
+    /// The chooser that has the answers.
+    pub(crate) chooser: C,
+    /// Whether the last answer was refused memory.
+    pub(crate) refused: bool,
+}
+
+impl<C> MemoryNoted<C> {
+    /// Nothing was refused yet.
+    pub(crate) fn new(chooser: C) -> Self
+        ensures chooser { result.chooser ≡ chooser }
+        ensures refused { result.refused ≡ false }
+    {
+        MemoryNoted {
+            chooser,
+            refused: false,
+        }
+    }
+
+    /// The result of a run that asked it: want of memory where the run stopped for that.
+    pub(crate) fn conclude(&self, ended: Result<Ending, RunFault>) -> Result<Ending, RunFault>
+        ensures { result ≡ noted_result self.now.refused ended }
+    {
+        match ended {
+            Ok(Ending::NoAnswer) if self.refused => Err(RunFault::Memory),
+            ended => ended,
+        }
+    }
+}
+
+impl<C: Chooser> Chooser for MemoryNoted<C> {
+    ghost choices = { λ n. C.choices n.chooser };
+
+    ghost refused = { λ n. noted n.refused (C.refused n.chooser) };
+
+    fn choose(&mut self, bound: i16) -> Result<i16, Pause> {
+        let answer = self.chooser.choose(bound);
+        self.refused = false;
+        match answer {
+            Err(Pause::Memory) => {
+                self.refused = true;
+                Err(Pause::Ended)
+            }
+            answer => answer,
+        }
+    }
+}
