@@ -13,7 +13,7 @@ use Rattle.ptb_options.specs.declared.request.Mode.{Mode}
 use Rattle.ptb_options.specs.declared.request.Request.{Request}
 use Rattle.ptb_options.specs.declared.usage.UsageFault.{UsageFault}
 use Rattle.ptb_options.specs.declared.usage.UsageFault.TheVariants.{ListWithOther, AfterWithoutAll, FirstWithoutAll, FormWithoutAll, UnderWithoutAll, AnswersWithAll, SeedWithAll, SeedWithAnswers, BadList, Memory}
-use Rattle.ptb_options.specs.Options.{Asks, AsksMode, HasBound, HasMemorySize, IsFirstMisspelled, Options, Refuses, WantsMemory, clash, default_memory, rules_of, usage_fault}
+use Rattle.ptb_options.specs.Options.{Asks, AsksMode, HasBound, HasMemorySize, IsFirstMisspelled, Options, Refuses, WantsMemory, clash, IsRulesOf, default_memory, default_steps, usage_fault}
 use Rattle.ptb_options.proofs.ListsKept.{first_misspelled}
 
 -- the first of these faults whose test is true
@@ -61,17 +61,34 @@ Refuses-clash o SeedWithAnswers e = e
 Refuses-clash o BadList e = absurd (not_bad _ _ _ _ _ _ _ _ e)
 Refuses-clash o Memory e = absurd (not_memory _ _ _ _ _ _ _ _ e)
 
+-- the size that is given, or the default
+pub size_of : (kept : Option ℕ) (memory : ℕ) → ForSome kept IsMemorySize → memory ≡ unwrap_or kept 4096 → IsMemorySize memory
+size_of None memory h is = subst IsMemorySize (sym is) (omega arith, omega arith)
+size_of (Some n) memory h is = subst IsMemorySize (sym is) (h n refl)
+
+-- a bound that is given is at least 1
+pub bound_in_range : (choose : Option ℕ) → ForSome choose (λ n. (1 ≤ n) × (n ≤ 32767)) → IfSome (option_map pos choose) (λ n. pos 1 ≤ℤ n)
+bound_in_range None h = tt
+bound_in_range (Some n) h = let least = (h n refl).0 in omega (arith, ints)
+
+-- the rules of options
+abbrev rules_of : (o : Options) → HasBound o → Rules
+rules_of o positive = record { limit = unwrap_or o.steps default_steps; choose = option_map pos o.choose; in_range = bound_in_range o.choose positive }
+
 -- o are the options of the command line, and l is how the code has them
 module _ (o l : Options) (same : l ≡ o) where
+  pub sized : HasMemorySize o → (kept : Option ℕ) (memory : ℕ) → kept ≡ l.memory → memory ≡ unwrap_or kept 4096 → IsMemorySize memory
+  sized size kept memory given held =
+      let there : kept ≡ o.memory = given ∙ ap (λ (x : Options). x.memory) same in
+      size_of kept memory (subst (λ (k : Option ℕ). ForSome k IsMemorySize) (sym there) size) held
+
   -- what is known of the request, or of why there is none
   pub record IsDecided (result : Result Request UsageFault) : Type 0 where
     pub ok : IfOk result (Asks o)
     pub fault : IfErr result (Refuses o)
-    pub memory : IfOk result (λ r. IsMemorySize r.memory)
-    pub bound : IfOk result (λ r. IfSome r.rules.choose (λ n. pos 1 ≤ℤ n))
 
   refused : (fault : UsageFault) → Refuses l fault → IsDecided (Err fault)
-  refused fault h = record { ok = tt; fault = subst (λ (x : Options). Refuses x fault) same h; memory = tt; bound = tt }
+  refused fault h = record { ok = tt; fault = subst (λ (x : Options). Refuses x fault) same h }
 
   -- they clash
   pub decided_clash : (found : Option UsageFault) (fault : UsageFault) → found ≡ clash l → found ≡ Some fault → IsDecided (Err fault)
@@ -87,35 +104,20 @@ module _ (o l : Options) (same : l ≡ o) where
     decided_misspelled m h = refused BadList (unclashed, (m.option, first_misspelled l m h))
 
     -- memory is wanted for the items of a list
-    pub decided_list : (result : Result Request UsageFault) (fault : ListFault) → IsErrAnd result (λ y. y ≡ usage_fault fault) → WantsMemory l fault → IsDecided result
-    decided_list result fault is h =
+    pub decided_list : HasMemorySize o → HasBound o → (result : Result Request UsageFault) (fault : ListFault) → IsErrAnd result (λ y. y ≡ usage_fault fault) → WantsMemory l fault → IsDecided result
+    decided_list size positive result fault is h =
         let e = err_from_is_err_and result is in
         let wanted : Refuses l Memory = (
-          record { rules = rules_of l; memory = unwrap_or l.memory default_memory; mode = h.1.0 },
-          record { clash = unclashed; rules = refl; memory = refl; mode = h.1.1 },
+          record { rules = rules_of l (subst HasBound (sym same) positive); memory = unwrap_or l.memory default_memory; mode = h.1.0; in_range = size_of l.memory _ (subst HasMemorySize (sym same) size) refl },
+          record { clash = unclashed; rules = record { limit = refl; choose = refl }; memory = refl; mode = h.1.1 },
           h.1.2,
         )
         in
         subst IsDecided (sym (e.1 ∙ ap Err (e.2 ∙ ap usage_fault h.0))) (refused Memory wanted)
 
     -- nothing is
-    module _ (size : HasMemorySize o) (positive : HasBound o) where
-      size_of : (kept : Option ℕ) (memory : ℕ) → ForSome kept IsMemorySize → memory ≡ unwrap_or kept 4096 → IsMemorySize memory
-      size_of None memory h is = subst IsMemorySize (sym is) (omega arith, omega arith)
-      size_of (Some n) memory h is = subst IsMemorySize (sym is) (h n refl)
-
-      bound_of : (choose : Option ℕ) → ForSome choose (λ n. (1 ≤ n) × (n ≤ 32767)) → IfSome (option_map pos choose) (λ n. pos 1 ≤ℤ n)
-      bound_of None h = tt
-      bound_of (Some n) h = let least = (h n refl).0 in omega (arith, ints)
-
-      pub decided : (kept : Option ℕ) (rules : Rules) (memory : ℕ) (mode : Mode) → kept ≡ l.memory → rules ≡ rules_of l → memory ≡ unwrap_or kept 4096 → AsksMode l mode
-          → IsDecided (Ok (record { rules = rules; memory = memory; mode = mode }))
-      decided kept rules memory mode given ruled held asked =
-          let there : kept ≡ o.memory = given ∙ ap (λ (x : Options). x.memory) same in
-          record {
-            ok = subst (λ (x : Options). Asks x (record { rules = rules; memory = memory; mode = mode })) same
-                (record { clash = unclashed; rules = ruled; memory = held ∙ ap (λ (k : Option ℕ). unwrap_or k 4096) given; mode = asked });
-            fault = tt;
-            memory = size_of kept memory (subst (λ (k : Option ℕ). ForSome k IsMemorySize) (sym there) size) held;
-            bound = subst (λ (r : Rules). IfSome r.choose (λ n. pos 1 ≤ℤ n)) (sym (ruled ∙ ap rules_of same)) (bound_of o.choose positive);
-          }
+    pub asked : (kept : Option ℕ) (rules : Rules) (memory : ℕ) (mode : Mode) (size : IsMemorySize memory) → kept ≡ l.memory → IsRulesOf l rules → memory ≡ unwrap_or kept 4096 → AsksMode l mode
+        → Asks o (record { rules = rules; memory = memory; mode = mode; in_range = size })
+    asked kept rules memory mode size given ruled held by_mode =
+        subst (λ (x : Options). Asks x (record { rules = rules; memory = memory; mode = mode; in_range = size })) same
+        (record { clash = unclashed; rules = ruled; memory = held ∙ ap (λ (k : Option ℕ). unwrap_or k 4096) given; mode = by_mode })

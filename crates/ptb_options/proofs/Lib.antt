@@ -9,3 +9,6 @@ pub mod OptionReads
 pub mod ListedArgs
 pub mod Decisions
 pub mod NumberArguments
+pub mod NumberOptions
+pub mod NumberRules
+pub mod WrongValues

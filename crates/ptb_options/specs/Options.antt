@@ -3,7 +3,7 @@
 --     Options, options_of e      what the options say by these entries
 --     HasMemorySize o            --memory gives a size that a program can have
 --     HasBound o                 --choose gives a bound that a question can have
---     rules_of o                 the rules of runs
+--     IsRulesOf o rules          these are the rules of runs
 --     form_of n                  the form of reports
 --     clash o                    the fault of options that don't go together
 --     default_steps, default_memory     the numbers of a request that gives none
@@ -152,12 +152,13 @@ abbrev pub default_memory : ℕ
 default_memory = 4096
 
 -- with --choose INPUT asks for an answer where no line is left, and without it the run ends there
-abbrev pub rules_of : Options → Rules
-rules_of o = record { limit = unwrap_or o.steps default_steps; choose = option_map pos o.choose }
+pub record IsRulesOf (o : Options) (rules : Rules) : Type 0 where
+  pub limit : rules.limit ≡ unwrap_or o.steps default_steps
+  pub choose : rules.choose ≡ option_map pos o.choose
 
 pub record Asks (o : Options) (r : Request) : Type 0 where
   pub clash : clash o ≡ None
-  pub rules : r.rules ≡ rules_of o
+  pub rules : IsRulesOf o r.rules
   pub memory : r.memory ≡ unwrap_or o.memory default_memory
   pub mode : AsksMode o r.mode
 

@@ -2,13 +2,20 @@
 --     option_word name                the argument that names an option
 --     IsNumberOption word o           the argument names the option o, which takes a number
 --     IsWrongFor o value w            w is the value, which is no number in the range of o
+--     NamesNoNumber word              it names no option that takes a number
+--     IsNumberRange range             the range is one of numbers
 --     IsWrongValue word next w        so is the value w that an argument gives to an option, or the next argument does
+--     HasNoWrongValue word next       neither of them does
 --     MayBeOption words place         the argument at this place may be an option
---     IsWrongNumber words w           one of the arguments that may be options does so
-use Rattle.std.specs.Prelude.{◌≡◌, ◌≢◌, ◌≤◌, ◌⊎◌, ◌+◌, List, ◌++◌, ℕ, Option, Some, codes, false, slice_get}
+--     IsWrongAt words place w         the argument at this place may be one, and w is its value
+--     IsWrongNumber words w           w is the first such value among the arguments
+--     HasNoWrongNumber words          there is none
+use Rattle.std.specs.Prelude.{◌≡◌, ◌≢◌, ◌<◌, ◌≤◌, ◌⊎◌, ◌+◌, List, ◌++◌, ℕ, Option, Some, codes, false, slice_get}
 use Rattle.std.specs.Borrow.{Bor}
 use Rattle.std.specs.List.{Contains}
 use Rattle.clap.specs.Words.{Accepts}
+use Rattle.clap.specs.declared.builder.ValueParser.{ValueParser}
+use Rattle.clap.specs.declared.builder.ValueParser.TheVariants.{Signed, Unsigned}
 use Rattle.ptb_options.specs.CommandLine.{number_option, rules}
 use Rattle.ptb_options.specs.declared.wrong_numbers.NumberOption.{NumberOption}
 use Rattle.ptb_options.specs.declared.wrong_numbers.WrongNumber.{WrongNumber}
@@ -19,6 +26,14 @@ option_word name = codes "--" ++ name
 pub record IsNumberOption (word : List ℕ) (o : NumberOption) : Type 0 where
   pub named : word ≡ option_word o.name.now
   pub rule : Contains rules (number_option o.name.now o.range)
+
+abbrev pub NamesNoNumber : List ℕ → Type 0
+NamesNoNumber word = (o : NumberOption) → IsNumberOption word o → ⊥
+
+abbrev pub IsNumberRange : ValueParser → Type 0
+IsNumberRange (Signed low high) = Unit {0}
+IsNumberRange (Unsigned low high) = Unit {0}
+IsNumberRange _ = ⊥
 
 pub record IsWrongFor (o : NumberOption) (value : Bor (List ℕ)) (w : WrongNumber) : Type 0 where
   pub is : w ≡ record { option = o; value = value }
@@ -34,12 +49,22 @@ pub record IsWrongValue (word next : Option (List ℕ)) (w : WrongNumber) : Type
   pub given : IsGiven word next w.option.name.now w.value.now
   pub refused : Accepts false w.option.range w.value.now → ⊥
 
+abbrev pub HasNoWrongValue : Option (List ℕ) → Option (List ℕ) → Type 0
+HasNoWrongValue word next = (w : WrongNumber) → IsWrongValue word next w → ⊥
+
 -- the first argument is the program's name, and after `--` no argument is an option
 pub record MayBeOption (words : List (List ℕ)) (place : ℕ) : Type 0 where
   pub after_name : 1 ≤ place
   pub before_dashes : (i : ℕ) → 1 ≤ i → i ≤ place → slice_get words i ≢ Some (codes "--")
 
-pub record IsWrongNumber (words : List (List ℕ)) (w : WrongNumber) : Type 0 where
-  pub place : ℕ
+pub record IsWrongAt (words : List (List ℕ)) (place : ℕ) (w : WrongNumber) : Type 0 where
   pub may_be : MayBeOption words place
   pub value : IsWrongValue (slice_get words place) (slice_get words (place + 1)) w
+
+pub record IsWrongNumber (words : List (List ℕ)) (w : WrongNumber) : Type 0 where
+  pub place : ℕ
+  pub is : IsWrongAt words place w
+  pub first : (i : ℕ) (other : WrongNumber) → i < place → IsWrongAt words i other → ⊥
+
+abbrev pub HasNoWrongNumber : List (List ℕ) → Type 0
+HasNoWrongNumber words = (place : ℕ) (w : WrongNumber) → IsWrongAt words place w → ⊥

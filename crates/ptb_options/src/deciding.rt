@@ -1,15 +1,14 @@
 // This file decides what the arguments of the command line ask for.
 
-ghost use Rattle.std.specs.Prelude.{◌≡◌, ◌≤◌, ◌≤ℤ◌, pos, None, IfErr, IfOk, IfSome};
+ghost use Rattle.std.specs.Prelude.{◌≡◌, ◌≤◌, pos, None, IfErr, IfOk, IfSome};
 ghost use Rattle.std.specs.Prelude.{option_map, unwrap_or, codes};
 ghost use Rattle.std.specs.Option.{ForSome, option_copied};
-ghost use Rattle.ptb_text.specs.Statements.{IsMemorySize};
 ghost use Rattle.ptb_options.specs.AnswerLists.{SpellsAnswers};
 ghost use Rattle.ptb_options.specs.ListMistakes.{IsListOf};
-ghost use Rattle.ptb_options.specs.Options.{Asks, AsksMode, HasBound, HasMemorySize, HasMistake};
+ghost use Rattle.ptb_options.specs.Options.{Asks, AsksMode, HasBound, HasMemorySize, HasMistake, IsRulesOf};
 ghost use Rattle.ptb_options.specs.Options.{IsFirstMisspelled, IsSpelled, Refuses, RefusesAnswers};
 ghost use Rattle.ptb_options.specs.Options.{RefusesIfGiven, SpellsIfGiven, WantsMemory, clash};
-ghost use Rattle.ptb_options.specs.Options.{entries_of, form_of, is_given, options_of, rules_of};
+ghost use Rattle.ptb_options.specs.Options.{entries_of, form_of, is_given, options_of};
 ghost use Rattle.ptb_options.specs.declared.mistakes.ListOption.{ListOption};
 
 use crate::answers::{Answers, ListFault, MarkedAnswers, parse_answers, parse_list};
@@ -37,8 +36,6 @@ pub fn decide(alloc: Global, matches: &ArgMatches<'_>) -> Result<Request, UsageF
     requires bound { HasBound (options_of (entries_of matches.now)) }
     ensures ok { IfOk result (Asks (options_of (entries_of matches.now))) }
     ensures fault { IfErr result (Refuses (options_of (entries_of matches.now))) }
-    ensures memory { IfOk result (λ r. IsMemorySize r.memory) }
-    ensures bound { IfOk result (λ r. IfSome r.rules.choose (λ n. pos 1 ≤ℤ n)) }
 {
     let line = GivenOptions::of(matches);
     if let Some(fault) = line.clash() {
@@ -173,7 +170,7 @@ impl<'a> GivenOptions<'a> {
     // The rules of runs.
     fn rules(&self) -> Rules
         requires { HasBound self.now }
-        ensures { result ≡ rules_of self.now }
+        ensures { IsRulesOf self.now result }
     {
         Rules {
             limit: self.steps.unwrap_or(DEFAULT_STEPS),

@@ -1,5 +1,7 @@
 // This file says what the tool is asked to do.
 
+ghost use Rattle.ptb_text.specs.Statements.{IsMemorySize};
+
 use crate::answers::{Answers, MarkedAnswers};
 use ptb_answers::{Form, Rules};
 
@@ -44,4 +46,5 @@ pub struct Request {
     pub memory: u16,
     /// What is done with the program.
     pub mode: Mode,
+    pub ghost in_range: { IsMemorySize memory },
 }

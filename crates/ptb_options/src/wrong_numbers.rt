@@ -1,10 +1,12 @@
 // This file finds the argument that clap refuses since its option takes a number, to say which number.
 
-ghost use Rattle.std.specs.Prelude.{◌≡◌, ◌++◌, IsTrue, IfSome, Some, codes, map, option_copied};
+ghost use Rattle.std.specs.Prelude.{◌≡◌, ◌↔◌, IsTrue, IfSome, Some, None, map, option_copied};
 ghost use Rattle.std.specs.Prelude.{slice_get, false};
 ghost use Rattle.clap.specs.Words.{Accepts};
-ghost use Rattle.ptb_options.specs.WrongNumbers.{IsNumberOption, IsWrongFor, IsWrongNumber};
-ghost use Rattle.ptb_options.specs.WrongNumbers.{IsWrongValue, option_word};
+ghost use Rattle.ptb_options.specs.WrongNumbers.{HasNoWrongNumber, HasNoWrongValue};
+ghost use Rattle.ptb_options.specs.WrongNumbers.{IsNumberOption, IsNumberRange, IsWrongFor};
+ghost use Rattle.ptb_options.specs.WrongNumbers.{IsWrongNumber, IsWrongValue, NamesNoNumber};
+ghost use Rattle.ptb_options.specs.WrongNumbers.{option_word};
 
 use crate::command_line::{ARGS, ArgKind};
 use clap::builder::ValueParser;
@@ -51,7 +53,8 @@ impl fmt::Display for WrongNumber<'_> {
 /// argument is an option. Where clap's error is of kind `ValueValidation`, or `UnknownArgument` for a
 /// negative number, this says what is wrong more plainly.
 pub fn wrong_number<'a, S: AsStr>(words: &'a [S]) -> Option<WrongNumber<'a>>
-    ensures { IfSome result (IsWrongNumber (map S.text words.entry.now)) }
+    ensures some { IfSome result (IsWrongNumber (map S.text words.entry.now)) }
+    ensures none { result ≡ None → HasNoWrongNumber (map S.text words.entry.now) }
 {
     for i in 1..words.len() {
         let word = text_at(words, i)?;
@@ -78,7 +81,9 @@ fn text_at<'a, S: AsStr>(words: &'a [S], i: usize) -> Option<&'a str>
 
 // What is wrong with the value of an option with a number, where the argument `word` is one.
 fn wrong_value<'a>(word: &'a str, next: Option<&'a str>) -> Option<WrongNumber<'a>>
-    ensures { IfSome result (IsWrongValue (Some word.entry.now) (option_copied next.entry)) }
+    ensures some { IfSome result (IsWrongValue (Some word.entry.now) (option_copied next.entry)) }
+    ensures none { result ≡ None
+        → HasNoWrongValue (Some word.entry.now) (option_copied next.entry) }
 {
     match word.split_once('=') {
         Some((name, value)) => wrong_for(number_option(name)?, value),
@@ -88,7 +93,9 @@ fn wrong_value<'a>(word: &'a str, next: Option<&'a str>) -> Option<WrongNumber<'
 
 // What is wrong with the value of an option, if it is no number in the option's range.
 fn wrong_for(option: NumberOption, value: &str) -> Option<WrongNumber<'_>>
-    ensures { IfSome result (IsWrongFor option value.entry) }
+    requires { IsNumberRange option.range }
+    ensures some { IfSome result (IsWrongFor option value.entry) }
+    ensures none { result ≡ None → Accepts false option.range value.entry.now }
 {
     if is_in(option.range, value) {
         return None;
@@ -98,7 +105,8 @@ fn wrong_for(option: NumberOption, value: &str) -> Option<WrongNumber<'_>>
 
 // The option with a number that an argument names.
 fn number_option(word: &str) -> Option<NumberOption>
-    ensures { IfSome result (IsNumberOption word.now) }
+    ensures some { IfSome result (IsNumberOption word.now) }
+    ensures none { result ≡ None → NamesNoNumber word.now }
 {
     for listed in ARGS {
         if let ArgKind::Number(range) = listed.kind {
@@ -115,7 +123,7 @@ fn number_option(word: &str) -> Option<NumberOption>
 
 // Whether an argument is the option of this name.
 fn is_named(word: &str, name: &str) -> bool
-    ensures { IsTrue result → word.now ≡ option_word name.now }
+    ensures { IsTrue result ↔ word.now ≡ option_word name.now }
 {
     match word.as_bytes().strip_prefix(b"--") {
         Some(rest) => rest == name.as_bytes(),
@@ -125,7 +133,8 @@ fn is_named(word: &str, name: &str) -> bool
 
 // Whether a text is a number in a range, as clap reads it.
 fn is_in(range: ValueParser<'_>, text: &str) -> bool
-    ensures { Accepts false range.entry text.now → IsTrue result }
+    requires { IsNumberRange range }
+    ensures { IsTrue result ↔ Accepts false range.entry text.now }
 {
     match range {
         ValueParser::Signed(low, high) => match text.parse::<i64>() {

@@ -1,7 +1,7 @@
 -- This file answers what is known of the request that the arguments make, or of why there is none.
 use Rattle.std.proofs.Common.{◌∙◌, ap, sym}
 use Rattle.ptb_options.specs.Options.{Options}
-use Rattle.ptb_options.proofs.Decisions.{decided, decided_clash, decided_list, decided_misspelled}
+use Rattle.ptb_options.proofs.Decisions.{asked, decided_clash, decided_list, decided_misspelled, sized}
 use Rattle.ptb_options.proofs.ListsKept.{list_found, no_list_found}
 use Rattle.ptb_options.proofs.deciding.decide.Goals as goal
 
@@ -9,7 +9,7 @@ use Rattle.ptb_options.proofs.deciding.decide.Goals as goal
 pub returns-in-Some : goal.returns-in-Some
 returns-in-Some c =
     let told = decided_clash _ c.of-line.result c.of-line.ensures c.clash.result c.in-Some.fault c.clash.ensures c.in-Some.is in
-    record { ok = told.ok; fault = told.fault; memory = told.memory; bound = told.bound }
+    record { ok = told.ok; fault = told.fault }
 
 -- they don't
 pub rules-requires : goal.rules-requires
@@ -26,17 +26,18 @@ pub returns-then-is_some : goal.returns-then-is_some
 returns-then-is_some c =
     let found = list_found c.misspelled.result c.is_some.result c.is_some.ensures c.if-is_some.true in
     let told = decided_misspelled _ c.of-line.result c.of-line.ensures c.clash.result c.clash.ensures c.in_default.is found.0 (rw found.1 at c.misspelled.ensures.some) in
-    record { ok = told.ok; fault = told.fault; memory = told.memory; bound = told.bound }
+    record { ok = told.ok; fault = told.fault }
 
 pub returns-in_err-mode : goal.returns-in_err-mode
 returns-in_err-mode c =
-    let told = decided_list _ c.of-line.result c.of-line.ensures c.clash.result c.clash.ensures c.in_default.is c.from_residual.result c.in_err-mode.field-0.0 c.from_residual.ensures.1 c.in_err-mode.ensures.fault in
-    record { ok = told.ok; fault = told.fault; memory = told.memory; bound = told.bound }
+    let told = decided_list _ c.of-line.result c.of-line.ensures c.clash.result c.clash.ensures c.in_default.is c.requires.memory c.requires.bound c.from_residual.result c.in_err-mode.field-0.0 c.from_residual.ensures.1 c.in_err-mode.ensures.fault in
+    record { ok = told.ok; fault = told.fault }
 
 pub returns : goal.returns
 returns c =
-    let told =
-    decided _ c.of-line.result c.of-line.ensures c.clash.result c.clash.ensures c.in_default.is c.requires.memory c.requires.bound
-    c.line.inside.memory c.rules.result c.unwrap_or.result c.in_ok-mode.field-0 (ap (λ (o : Options). o.memory) c.line.view_is) c.rules.ensures c.unwrap_or.ensures c.in_ok-mode.ensures.ok
-    in
-    record { ok = told.ok; fault = told.fault; memory = told.memory; bound = told.bound }
+    let kept = ap (λ (o : Options). o.memory) c.line.view_is in
+    record {
+      ok = asked _ c.of-line.result c.of-line.ensures c.clash.result c.clash.ensures c.in_default.is
+          c.line.inside.memory c.rules.result c.unwrap_or.result c.in_ok-mode.field-0 _ kept c.rules.ensures c.unwrap_or.ensures c.in_ok-mode.ensures.ok;
+      fault = tt;
+    }

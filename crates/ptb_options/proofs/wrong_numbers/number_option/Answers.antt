@@ -1,34 +1,25 @@
--- This file answers that the option found is one of the tool's.
-use Rattle.std.proofs.Common.{◌≡◌, ◌∙◌, ap, sym, refl, arith, List, ℕ, ◌<◌, length, get_or, map, take, ◌+◌}
-use Rattle.std.proofs.lemmas.List.{get_or-map, length-map, take-map}
-use Rattle.clap.specs.declared.builder.ValueParser.{ValueParser}
-use Rattle.clap.specs.Words.{Rule}
-use Rattle.ptb_options.specs.CommandLine.{number_option, rule_by, rule_of_listed, rules}
-use Rattle.ptb_options.specs.WrongNumbers.{IsNumberOption, option_word}
-use Rattle.ptb_options.specs.declared.command_line.ListedArg.{ListedArg}
-use Rattle.ptb_options.specs.declared.command_line.ArgKind.TheVariants as kinds
+-- This file answers that the option found is one of the tool's, and that none is passed over.
+use Rattle.std.proofs.Common.{◌∙◌, ◌+◌, refl, sym}
+use Rattle.std.proofs.lemmas.Bool.{false≢true}
+use Rattle.ptb_options.proofs.NumberOptions.{found, no_number, other_name, so_far_more, unnamed_all}
 use Rattle.ptb_options.proofs.wrong_numbers.number_option.Goals as goal
-
--- so many of the arguments have so many of the rules
-so_far_more : (args : List ListedArg) (n i : ℕ) → map rule_of_listed (take i args) ≡ take i rules → map rule_of_listed args ≡ rules → map rule_of_listed (take n args) ≡ take n rules
-so_far_more args n i so_far same = sym (take-map rule_of_listed n args) ∙ ap (take n) same
-
--- the option at a place of the arguments
-found : (word : List ℕ) (args : List ListedArg) (i : ℕ) (d : ListedArg) (range : ValueParser) → map rule_of_listed (take i args) ≡ take i rules → map rule_of_listed args ≡ rules → i < length args
-    → (get_or args i d).kind ≡ kinds.Number range → word ≡ option_word (get_or args i d).name.now → IsNumberOption word (record { name = (get_or args i d).name; range = range })
-found word args i d range so_far same within kind named =
-    let rule = number_option (get_or args i d).name.now range in
-    record {
-      named = named;
-      rule = (
-        i,
-        omega (arith, within, ap length same, length-map args rule_of_listed),
-        ap (λ (rs : List Rule). get_or rs i rule) (sym same) ∙ get_or-map rule_of_listed args i d rule within ∙ ap (rule_by (get_or args i d).name.now) kind,
-      );
-    }
+use Rattle.ptb_options.proofs.wrong_numbers.number_option.Goals.{in-Number+else-is_named, in_default}
 
 pub loop-listed-preserved : goal.loop-listed-preserved
-loop-listed-preserved c = so_far_more _ (c.loop-listed.listed-index + 1) c.loop-listed.listed-index c.loop-listed.invariant refl
+loop-listed-preserved c =
+    let so_far = c.loop-listed.invariant.so_far in
+    record {
+      so_far = so_far_more _ (c.loop-listed.listed-index + 1) c.loop-listed.listed-index so_far refl;
+      unnamed = elim c.match-listed.branch [
+        | in-Number+else-is_named w ↦ other_name c.args.word.now _ c.loop-listed.listed-index _ so_far refl c.loop-listed-test.true w.in-Number.range w.in-Number.is
+            (λ named. false≢true (sym w.if-is_named.false ∙ w.is_named.ensures.1 named)) c.loop-listed.invariant.unnamed
+        | in_default w ↦ no_number c.args.word.now _ c.loop-listed.listed-index _ so_far refl c.loop-listed-test.true w.in_default.not-Number c.loop-listed.invariant.unnamed
+      ];
+    }
 
-pub returns-then-is_named : goal.returns-then-is_named
-returns-then-is_named c = found c.args.word.now _ c.loop-listed.listed-index _ c.in-Number.range c.loop-listed.invariant refl c.loop-listed-test.true c.in-Number.is (c.is_named.ensures c.if-is_named.true)
+pub returns-then-is_named-clause-some : goal.returns-then-is_named-clause-some
+returns-then-is_named-clause-some c =
+    found c.args.word.now _ c.loop-listed.listed-index _ c.in-Number.range c.loop-listed.invariant.so_far refl c.loop-listed-test.true c.in-Number.is (c.is_named.ensures.0 c.if-is_named.true)
+
+pub returns-clause-none : goal.returns-clause-none
+returns-clause-none c = λ _. unnamed_all c.args.word.now c.loop-listed.listed-index c.loop-listed-test.false c.loop-listed.invariant.unnamed
