@@ -271,16 +271,21 @@ module _ (request : Request) (p : StoredProgram) (memory : p.memory ≡ request.
       → (IsErrOf result notes.InputUnread → Appends old new [])
       → OnOk result (result ≡ Ok 0) → (IsUnloaded (outcome_of result).note → ⊥)
       → ServesProgram listing request p i j old new result
-  listing_serves old new result served quiet fewer unread success loaded = record {
+  listing_serves old new result served quiet stopped unread success loaded = record {
     served = λ b c l is. serves_loaded request.memory (Some b) (runs_due request.rules under after first form c) p old new result l memory (served c is);
     taken = λ b l. nothing_told i;
     unread = λ b l. unread;
     silent = quiet;
-    fewer = λ b c l is h. lists_loaded request b c p under after first form old new l memory (fewer c is h);
+    stopped = λ b c l is h. lists_loaded request b c p under after first form old new l memory (stopped c is h);
     status = zero_within result success;
     success = λ _. success;
     loaded = loaded;
   }
+
+  -- where nothing was written, memory may be wanted
+  pub unexplained_listed : (old new : Option (List ℕ)) → Appends old new [] → ServesProgram listing request p i j old new (Err notes.OutOfMemory)
+  unexplained_listed old new nothing =
+      listing_serves old new (Err notes.OutOfMemory) (λ c _. (0, omega arith, nothing)) tt (λ _ _ _. inl nothing) (λ x. absurd cc) tt (λ x. x)
 
   module _ (failed fails gave gives : ℕ) where
     -- once its lines were read
@@ -374,7 +379,7 @@ module _ (request : Request) (p : StoredProgram) (memory : p.memory ≡ request.
     taken = λ b l. nothing_told i;
     unread = λ b l x. absurd (fine x);
     silent = quiet;
-    fewer = λ b c _ _ _. tt;
+    stopped = λ b c _ _ _. tt;
     status = zero_within result success;
     success = λ _. success;
     loaded = loaded;

@@ -1,5 +1,5 @@
 -- This file joins all that is told of a listing of runs, by whether it was begun and written to its end.
-use Rattle.std.proofs.Common.{◌≡◌, ◌⊎◌, ℕ, ◌+◌, ◌<◌, List, length, Option, None, Some, Result, Ok, Err, IfSome, IsErrOf, refl, ap, sym, subst, ◌∙◌}
+use Rattle.std.proofs.Common.{◌≡◌, ◌⊎◌, ℕ, ◌+◌, ◌<◌, List, length, Option, None, Some, Result, Ok, Err, IfErr, IfSome, IsErrOf, inl, inr, refl, ap, sym, subst, ◌∙◌}
 use Rattle.std.specs.Result.{IsErrAnd}
 use Rattle.std.proofs.lemmas.Result.{err_from_is_err_and}
 use Rattle.ptb_text.specs.Device.{GivesAtMost, GivesExactly, HasFailed}
@@ -21,6 +21,7 @@ use Rattle.ptb_options.specs.declared.request.Mode.TheVariants as modes
 use Rattle.ptb_options.specs.declared.request.Request.{Request}
 use Rattle.ptb_serve.specs.declared.note.Note.{Note}
 use Rattle.ptb_serve.specs.declared.note.Note.TheVariants as notes
+use Rattle.ptb_serve.specs.ListMismatches.{RefusesList}
 use Rattle.ptb_serve.specs.Loaded.{ReadsInput, ServesProgram, TellsFailures}
 use Rattle.ptb_plain.specs.PlainRuns.{input_limit}
 use Rattle.ptb_serve.specs.Replies.{answers_under, first_front, front_note}
@@ -36,6 +37,13 @@ gives_err r e h =
 -- and what is no error is none of a kind
 pub no_fault : {T E : Type 0} (t : T) (e : E) → IsErrOf (Ok t) e → ⊥
 no_fault t e is = cc
+
+-- a listing that is begun refuses no list
+reports_refuse_none : (fault : ExploreFault) → RefusesList (reports_note fault) → ⊥
+reports_refuse_none (explores.Memory n) (inl x) = cc
+reports_refuse_none (explores.Memory n) (inr x) = cc
+reports_refuse_none (explores.Write n) (inl x) = cc
+reports_refuse_none (explores.Write n) (inr x) = cc
 
 module _ (request : Request) (p : StoredProgram) (memory : p.memory ≡ request.memory) (under after : Option (List Marked)) (first : Option ℕ) (form : Form) where
   -- ---- the lines can't be read
@@ -66,6 +74,7 @@ module _ (request : Request) (p : StoredProgram) (memory : p.memory ≡ request.
       pub serves : (known left : Option (List ℕ)) → IfSome known (λ c. input ≡ input_lines c) → ServesProgram (modes.All under after first form) request p known left old new result
       pub read : IsErrOf result notes.InputUnread → ⊥
       pub failures : TellsFailures broke breaks result
+      pub unbegun : IfErr result (λ note. RefusesList note → front_note (play p input request.rules) under after ≡ Some note)
 
     -- no listing begins so
     pub listing_unbegun : (held : Option (List ℕ)) (broke : ℕ) (result : Result ℕ Note) (note : Note) → IsErrAnd result (λ n. n ≡ note)
@@ -80,7 +89,13 @@ module _ (request : Request) (p : StoredProgram) (memory : p.memory ≡ request.
             unwritten = λ x. absurd (front_note-other (play p input request.rules) under after note notes.Unwritten unbegun (λ x. absurd cc) (λ x. absurd cc) (λ x. absurd cc) x);
             written = λ _. refl;
           };
+          unbegun = λ refused. by_note unbegun refused;
         })
+      where
+        by_note : (note ≡ notes.OutOfMemory) ⊎ (front_note (play p input request.rules) under after ≡ Some note) → RefusesList note → front_note (play p input request.rules) under after ≡ Some note
+        by_note (inl e) (inl x) = cc
+        by_note (inl e) (inr x) = cc
+        by_note (inr e) refused = e
 
     -- an explorer went on from its front
     module _ (old new : Option (List ℕ)) (broke breaks : ℕ) (e : Exploration) (f : Front)
@@ -102,6 +117,7 @@ module _ (request : Request) (p : StoredProgram) (memory : p.memory ≡ request.
               unwritten = reports_note-failed {T = T} fault failed;
               written = λ x. unfailed (reports_note-write {T = T} fault x);
             };
+            unbegun = λ refused. absurd (reports_refuse_none fault refused);
           })
 
       -- all are
@@ -110,4 +126,5 @@ module _ (request : Request) (p : StoredProgram) (memory : p.memory ≡ request.
         serves = λ known left lines. all_listed request p memory under after first form known left input lines old new e f same begun n writes;
         read = λ x. absurd cc;
         failures = record { unwritten = λ x. absurd cc; written = λ _. unfailed };
+        unbegun = tt;
       }

@@ -17,13 +17,14 @@ use Rattle.ptb_options.specs.declared.request.Request.{Request}
 use Rattle.ptb_serve.specs.declared.list_mismatch.ListMismatch.{ListMismatch}
 use Rattle.ptb_serve.specs.declared.note.Note.{Note}
 use Rattle.ptb_serve.specs.declared.note.Note.TheVariants as notes
+use Rattle.ptb_plain.specs.PlainRuns.{WantsMemory}
 use Rattle.ptb_plain.specs.Streams.{Reads, Writes}
 use Rattle.ptb_serve.specs.Loaded.{IsRunStatus, ReadsInput, ServesProgram, TellsFailures, TellsMismatch}
 use Rattle.ptb_plain.specs.SeededRuns.{seeded_answers}
 use Rattle.ptb_serve.specs.Serving.{NeedsInput}
 use Rattle.ptb_serve.proofs.Listed.{text_reads, text_serves}
 use Rattle.ptb_serve.proofs.Served.{unread}
-use Rattle.ptb_serve.proofs.Mismatching.{none_told}
+use Rattle.ptb_serve.proofs.Mismatching.{none_told, run_refuses_none, success_refuses_none}
 use Rattle.ptb_serve.proofs.Running.{Ran, plain_reads, plain_serves, run_failures, seeded_reads, seeded_serves}
 
 module _ (request : Request) (p : StoredProgram) where
@@ -46,21 +47,22 @@ module _ (request : Request) (p : StoredProgram) where
             serves = plain_serves request p input out r result status b ran memory quiet;
             reads = plain_reads request p input out r result status b ran;
             failures = run_failures request p (λ _ _. b) input out r result status ran;
-            mismatch = none_told _ _ _ _ _;
+            mismatch = none_told _ _ _ _ _ (run_refuses_none r result status);
             input_kept = λ x. absurd (x tt);
           })
 
       -- a run by a seed
       pub served_seeded : (seed : ℕ) → mode ≡ modes.Seeded seed
           → Ran request p (λ lines. seeded_answers seed p lines request.rules) input out r
+          → (IsErrOf r faults.Memory → WantsMemory p request.rules (λ lines. seeded_answers seed p lines request.rules) input out)
           → IsServedIn input out result None mode
-      served_seeded seed is ran =
+      served_seeded seed is ran wants =
           subst (IsServedIn input out result None) (sym is)
           (record {
-            serves = seeded_serves request p input out r result status seed ran memory;
+            serves = seeded_serves request p input out r result status seed ran memory wants;
             reads = seeded_reads request p input out r result status seed ran;
             failures = run_failures request p (λ q lines. seeded_answers seed q lines request.rules) input out r result status ran;
-            mismatch = none_told _ _ _ _ _;
+            mismatch = none_told _ _ _ _ _ (run_refuses_none r result status);
             input_kept = λ x. absurd (x tt);
           })
 
@@ -82,7 +84,7 @@ module _ (request : Request) (p : StoredProgram) where
           serves = text_serves request p memory known (Ok 0) (λ x. absurd cc) out.before out.after (record { bytes = all; status = refl; note = refl }) tt refl (λ x. x);
           reads = text_reads request p memory known (Ok 0) (λ x. absurd cc) failed gave (λ x. absurd cc) (λ x. absurd cc);
           failures = record { unwritten = λ x. absurd cc; written = λ _. unfailed };
-          mismatch = none_told _ _ _ _ _;
+          mismatch = none_told _ _ _ _ _ (success_refuses_none 0);
           input_kept = λ _. refl;
         })
 
@@ -97,6 +99,6 @@ module _ (request : Request) (p : StoredProgram) where
           serves = text_serves request p memory known (Err notes.Unwritten) (λ x. absurd cc) out.before out.after some tt tt (λ x. x);
           reads = text_reads request p memory known (Err notes.Unwritten) (λ x. absurd cc) failed gave (λ x. absurd cc) (λ x. absurd cc);
           failures = record { unwritten = λ _. has_failed; written = λ x. absurd (x refl) };
-          mismatch = none_told _ _ _ _ _;
+          mismatch = none_told _ _ _ _ _ (run_refuses_none (Err faults.Write) (Err notes.Unwritten) refl);
           input_kept = λ _. refl;
         }))

@@ -13,7 +13,7 @@ use Rattle.ptb_machine.specs.Questions.{most_answers}
 use Rattle.ptb_answers.specs.declared.form.Form.{Form}
 use Rattle.ptb_answers.specs.declared.form.Marked.{Marked}
 use Rattle.ptb_answers.specs.AnswerText.{answers_of, items_in}
-use Rattle.ptb_explore.specs.Laws.{ListingLaws, ShareLaws, TreeLaws}
+use Rattle.ptb_explore.specs.Laws.{ListingLaws, ReportLaws, ShareLaws, TreeLaws}
 use Rattle.ptb_explore.specs.Report.{report_of}
 use Rattle.ptb_explore.specs.RunTree.{IsRun, Before, begins_with, is_left, runs_after}
 use Rattle.ptb_serve.specs.declared.note.Note.{Note}
@@ -53,6 +53,7 @@ accepted memory b next p h = ap (reply_or_refusal next memory) h
 
 module _ (p : StoredProgram) (c : List ℕ) (rules : Rules) (tree : TreeLaws (play p (input_lines c) rules) (most_answers p (input_lines c) rules.limit))
     (laws : ListingLaws (play p (input_lines c) rules) (most_answers p (input_lines c) rules.limit)) (share : ShareLaws (play p (input_lines c) rules) (most_answers p (input_lines c) rules.limit))
+    (reports : ReportLaws (play p (input_lines c) rules) (most_answers p (input_lines c) rules.limit))
     (reads : IsReader (play p (input_lines c) rules) (most_answers p (input_lines c) rules.limit)) (drawn : SeededLaws) where
   abbrev game : Answers → Outcome Finish (List ℕ)
   game = play p (input_lines c) rules
@@ -120,6 +121,7 @@ module _ (p : StoredProgram) (c : List ℕ) (rules : Rules) (tree : TreeLaws (pl
         all (Some under) (Some list) first form
         ∙ reply-refused p rules (Some under) (Some list) first form (input_lines c) notes.NoRun (no_front game (Some under) list (share_true game under b) none);
     shares = share_replies p c rules reads laws share reply all (λ after first form. all (Some []) after first form ∙ whole_reply after first form ∙ sym (all None after first form));
+    reports = reports;
     run_report = λ form a f ends. ap (report_of (items_in form a (bounds game a))) ends;
     plain_run = plain;
     seeded_run = λ seed. runs_by_seed reply plain seed (seeded seed);
@@ -130,13 +132,15 @@ module _ (p : StoredProgram) (c : List ℕ) (rules : Rules) (tree : TreeLaws (pl
 pub reply_laws : RunLaws → SeededLaws
     → ((p : StoredProgram) (input : List (List ℕ)) (rules : Rules) → TreeLaws (play p input rules) (most_answers p input rules.limit))
     → ((p : StoredProgram) (input : List (List ℕ)) (rules : Rules) → ListingLaws (play p input rules) (most_answers p input rules.limit))
-    → ((p : StoredProgram) (input : List (List ℕ)) (rules : Rules) → ShareLaws (play p input rules) (most_answers p input rules.limit)) → ReplyLaws
-reply_laws runs drawn tree laws share = record {
+    → ((p : StoredProgram) (input : List (List ℕ)) (rules : Rules) → ShareLaws (play p input rules) (most_answers p input rules.limit))
+    → ((p : StoredProgram) (input : List (List ℕ)) (rules : Rules) → ReportLaws (play p input rules) (most_answers p input rules.limit)) → ReplyLaws
+reply_laws runs drawn tree laws share reports = record {
   too_long = λ r b c long. refused_in_mode r.mode r b c (0, TooLong) (too_long_text r.memory b long);
   refused = λ r b c e h. refused_in_mode r.mode r b c e h;
-  accepted = λ memory rules b c p h.
+  accepted = λ memory size rules b c p h.
       run_replies (record { lines = p; memory = memory }) c rules (tree (record { lines = p; memory = memory }) (input_lines c) rules)
       (laws (record { lines = p; memory = memory }) (input_lines c) rules) (share (record { lines = p; memory = memory }) (input_lines c) rules)
+      (reports (record { lines = p; memory = memory }) (input_lines c) rules)
       (runs.reads (record { lines = p; memory = memory }) (input_lines c) rules) drawn _
       (λ a. accepted memory b (plain_reply rules a c) p h)
       (λ seed. accepted memory b (seeded_reply rules seed c) p h)

@@ -1,5 +1,5 @@
 -- This file proves how a run of a program that was loaded is served, with a list of answers or by a seed.
-use Rattle.std.proofs.Common.{◌≡◌, ◌⊎◌, ℕ, ◌+◌, List, [], length, Option, Some, None, Result, Ok, Err, IfOk, IfSome, IsErrOf, OnErr, OnOk, refl, subst, sym}
+use Rattle.std.proofs.Common.{◌≡◌, ◌⊎◌, inl, inr, ℕ, ◌+◌, List, [], length, Option, Some, None, Result, Ok, Err, IfOk, IfSome, IsErrOf, OnErr, OnOk, refl, subst, sym}
 use Rattle.std.specs.Io.KnownBytes.{Appends, Consumes}
 use Rattle.ptb_text.specs.Device.{GivesAtMost, GivesExactly, HasFailed, TakesSome}
 use Rattle.ptb_text.specs.Lines.{input_lines}
@@ -18,12 +18,12 @@ use Rattle.ptb_serve.specs.declared.note.Note.{Note}
 use Rattle.ptb_serve.specs.declared.note.Note.TheVariants as notes
 use Rattle.ptb_serve.specs.declared.service.Outcome.{Outcome}
 use Rattle.ptb_serve.specs.Loaded.{IsRunStatus, ReadsInput, ServesProgram, TellsFailures}
-use Rattle.ptb_plain.specs.PlainRuns.{PlaysWith, ReadsLines, ending_wanted, lines_come, lines_taken}
+use Rattle.ptb_plain.specs.PlainRuns.{PlaysWith, ReadsLines, WantsMemory, ending_wanted, lines_come, lines_taken}
 use Rattle.ptb_plain.specs.Streams.{Reads, Writes}
 use Rattle.ptb_serve.specs.Replies.{Reply, program_reply, program_reply_in_mode, run_reply}
 use Rattle.ptb_plain.specs.SeededRuns.{seeded_answers}
-use Rattle.ptb_serve.specs.Serving.{EndsUnread, IsInput, IsPlainRun, IsUnloaded, NeedsInput, NeedsWholeInput, ReadsBy, ReadsForRun, Serves, ServesUnread, SilentBy, outcome_of, outcome_wanted}
-use Rattle.ptb_serve.proofs.Served.{at_known, each_known, reads_loaded, runs_once, serves_ended, serves_loaded, status_within, unread_loaded, wanted_ended}
+use Rattle.ptb_serve.specs.Serving.{AsksForMore, EndsUnread, IsInput, IsPlainRun, IsUnloaded, NeedsInput, NeedsWholeInput, ReadsBy, ReadsForRun, Serves, ServesUnread, SilentBy, StopsForMemory, outcome_of, outcome_wanted}
+use Rattle.ptb_serve.proofs.Served.{asks_loaded, at_known, each_known, reads_loaded, serves_ended, serves_loaded, status_within, unread_loaded, wanted_ended}
 
 -- the program was played with these answers, which may depend on the lines
 pub record Ran {R : Type 0} (request : Request) (p : StoredProgram) (answers : List (List ℕ) → Answers) (input : Reads R) (out : Writes) (r : Result Ending RunFault) : Type 0 where
@@ -132,7 +132,7 @@ module _ {R : Type 0} (request : Request) (p : StoredProgram) (answers : StoredP
         taken = λ b l. taken_run b (Ok e) (outcome_of (Ok (status e))) l (wanted_ended e (status e) refl) ran;
         unread = λ b l x. absurd cc;
         silent = quiet;
-        fewer = λ b c _ _ _. runs_once mode is_run request b c out.before out.after;
+        stopped = λ b c _ _ x. absurd cc;
         status = status_within e;
         success = λ x. absurd (x is_run);
         loaded = λ x. x;
@@ -142,13 +142,15 @@ module _ {R : Type 0} (request : Request) (p : StoredProgram) (answers : StoredP
       serves_note : (fault : RunFault) (note : Note) → ((reply : Reply) → TakesSome out.before out.after reply.bytes → Serves reply out.before out.after (outcome_of (Err note)))
           → ((k : ℕ) → ending_wanted k (Err fault) ≡ outcome_wanted k (outcome_of (Err note)))
           → ((b : List ℕ) → IsLoaded request.memory b p.lines → IsErrOf {T = ℕ} (Err note) notes.InputUnread → ServesUnread mode request input.bytes input.left b out.before out.after)
-          → RanBy (Err fault) → SilentBy mode (Some note) out.before out.after → (IsUnloaded (Some note) → ⊥) → ServesAs (Err note)
-      serves_note fault note broken wanted unread ran quiet loaded = record {
+          → RanBy (Err fault) → SilentBy mode (Some note) out.before out.after → (IsUnloaded (Some note) → ⊥)
+          → ((b c : List ℕ) → IsLoaded request.memory b p.lines → IsInput mode input.bytes c → IsErrOf {T = ℕ} (Err note) notes.OutOfMemory → StopsForMemory mode request b c out.before out.after)
+          → ServesAs (Err note)
+      serves_note fault note broken wanted unread ran quiet loaded stopped = record {
         served = λ b c l is. loaded_run b c (Err note) l (broken (run_reply (run (input_lines c))) (at_known (λ d. TakesSome out.before out.after (run (input_lines d)).0) c (is_input c is) ran.plays.broken_off));
         taken = λ b l. taken_run b (Err fault) (outcome_of (Err note)) l wanted ran;
         unread = unread;
         silent = quiet;
-        fewer = λ b c _ _ _. runs_once mode is_run request b c out.before out.after;
+        stopped = stopped;
         status = tt;
         success = λ _. tt;
         loaded = loaded;
@@ -158,18 +160,21 @@ module _ {R : Type 0} (request : Request) (p : StoredProgram) (answers : StoredP
       unread_run ran b l =
           same_unread b (unread_loaded request.memory request.rules.choose (λ q lines. plain q lines request.rules) answers p input.bytes input.left out.before out.after (Some b) l memory (ran.plays.unread refl))
 
-      pub run_serves : (r : Result Ending RunFault) (result : Result ℕ Note) → IsRunStatus r result → RanBy r → SilentBy mode (outcome_of result).note out.before out.after → ServesAs result
-      run_serves (Ok e) result h ran quiet = subst ServesAs (sym h) (serves_status e ran (subst (λ x. SilentBy mode (outcome_of x).note out.before out.after) h quiet))
-      run_serves (Err faults.Memory) result h ran quiet =
+      abbrev StopsBy : Result Ending RunFault → Type 0
+      StopsBy r = (b c : List ℕ) → IsLoaded request.memory b p.lines → IsInput mode input.bytes c → IsErrOf r faults.Memory → StopsForMemory mode request b c out.before out.after
+
+      pub run_serves : (r : Result Ending RunFault) (result : Result ℕ Note) → IsRunStatus r result → RanBy r → SilentBy mode (outcome_of result).note out.before out.after → StopsBy r → ServesAs result
+      run_serves (Ok e) result h ran quiet stopped = subst ServesAs (sym h) (serves_status e ran (subst (λ x. SilentBy mode (outcome_of x).note out.before out.after) h quiet))
+      run_serves (Err faults.Memory) result h ran quiet stopped =
           subst ServesAs (sym h)
-          (serves_note faults.Memory notes.OutOfMemory (λ _ t. t) (λ k. refl) (λ b l x. absurd cc) ran (subst (λ x. SilentBy mode (outcome_of x).note out.before out.after) h quiet) (λ x. x))
-      run_serves (Err faults.Read) result h ran quiet =
+          (serves_note faults.Memory notes.OutOfMemory (λ _ t. t) (λ k. refl) (λ b l x. absurd cc) ran (subst (λ x. SilentBy mode (outcome_of x).note out.before out.after) h quiet) (λ x. x) (λ b c l i _. stopped b c l i refl))
+      run_serves (Err faults.Read) result h ran quiet stopped =
           subst ServesAs (sym h)
-          (serves_note faults.Read notes.InputUnread (λ _ t. t) (λ k. refl) (λ b l _. unread_run ran b l) ran (subst (λ x. SilentBy mode (outcome_of x).note out.before out.after) h quiet) (λ x. x))
-      run_serves (Err faults.Write) result h ran quiet =
+          (serves_note faults.Read notes.InputUnread (λ _ t. t) (λ k. refl) (λ b l _. unread_run ran b l) ran (subst (λ x. SilentBy mode (outcome_of x).note out.before out.after) h quiet) (λ x. x) (λ b c _ _ x. absurd cc))
+      run_serves (Err faults.Write) result h ran quiet stopped =
           subst ServesAs (sym h)
-          (serves_note faults.Write notes.Unwritten (λ _ t. t) (λ k. refl) (λ b l x. absurd cc) ran (subst (λ x. SilentBy mode (outcome_of x).note out.before out.after) h quiet) (λ x. x))
-      run_serves (Err faults.Spent) result h ran quiet = absurd h
+          (serves_note faults.Write notes.Unwritten (λ _ t. t) (λ k. refl) (λ b l x. absurd cc) ran (subst (λ x. SilentBy mode (outcome_of x).note out.before out.after) h quiet) (λ x. x) (λ b c _ _ x. absurd cc))
+      run_serves (Err faults.Spent) result h ran quiet stopped = absurd h
 
 -- ---- when nothing was written
 
@@ -199,14 +204,22 @@ module _ {R : Type 0} (request : Request) (p : StoredProgram) (input : Reads R) 
     pub plain_serves : p.memory ≡ request.memory → (IsErrOf r faults.Memory → Appends out.before out.after []) → ServesProgram (modes.Plain a) request p input.bytes input.left out.before out.after result
     plain_serves memory quiet =
         run_serves request p (λ _ _. a) input out (modes.Plain a) tt tt (λ x. x) memory (λ c is. is) (λ c. refl) (λ b c outcome x. x) (λ b x. x)
-        r result h ran (plain_silent a out.before out.after r result h quiet)
+        r result h ran (plain_silent a out.before out.after r result h quiet) (λ b c _ _ _. tt)
 
   module _ (seed : ℕ) (ran : Ran request p (λ lines. seeded_answers seed p lines request.rules) input out r) where
     pub seeded_reads : ReadsInput (modes.Seeded seed) input.bytes input.left input.failed input.fails input.gave input.gives result
     seeded_reads =
         run_reads request p (λ q lines. seeded_answers seed q lines request.rules) input out (modes.Seeded seed) tt tt (λ x. x) r result h ran
 
-    pub seeded_serves : p.memory ≡ request.memory → ServesProgram (modes.Seeded seed) request p input.bytes input.left out.before out.after result
-    seeded_serves memory =
+    -- memory is refused before anything is shown, or at a question
+    stops : p.memory ≡ request.memory → (IsErrOf r faults.Memory → WantsMemory p request.rules (λ lines. seeded_answers seed p lines request.rules) input out)
+        → (b c : List ℕ) → IsLoaded request.memory b p.lines → input.bytes ≡ Some c → IsErrOf r faults.Memory → StopsForMemory (modes.Seeded seed) request b c out.before out.after
+    stops memory wants b c l is x =
+        asks_loaded request b c p seed out.before out.after l memory
+        (elim (wants x) [ inl nothing ↦ inl nothing | inr shown ↦ inr (at_known (λ d. AsksForMore p (input_lines d) request.rules seed out.before out.after) c is shown) ])
+
+    pub seeded_serves : p.memory ≡ request.memory → (IsErrOf r faults.Memory → WantsMemory p request.rules (λ lines. seeded_answers seed p lines request.rules) input out)
+        → ServesProgram (modes.Seeded seed) request p input.bytes input.left out.before out.after result
+    seeded_serves memory wants =
         run_serves request p (λ q lines. seeded_answers seed q lines request.rules) input out (modes.Seeded seed) tt tt (λ x. x) memory (λ c is. is) (λ c. refl)
-        (λ b c outcome x. x) (λ b x. x) r result h ran (seeded_silent seed out.before out.after r result h)
+        (λ b c outcome x. x) (λ b x. x) r result h ran (seeded_silent seed out.before out.after r result h) (stops memory wants)

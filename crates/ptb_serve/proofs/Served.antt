@@ -27,7 +27,7 @@ use Rattle.ptb_serve.specs.Statuses.{note_status}
 use Rattle.ptb_plain.specs.PlainRuns.{ShowsRun, lines_come, ShowsUnread, ending_wanted, lines_taken, lines_wanted, ReadsFor}
 use Rattle.ptb_plain.specs.Streams.{Reads, Writes}
 use Rattle.ptb_serve.specs.Replies.{Reply, refusal, run_reply, program_of_text, reply_or_refusal, program_reply}
-use Rattle.ptb_serve.specs.Serving.{outcome_of, EndsUnread, ReadsBy, outcome_wanted, wanted_by, load_note, IsPlainRun, IsUnloaded, ListsFewer, ListsFewerOf, ReadsForRun, Replies, Serves, SilentBy, SilentWithoutMemory, TellsLength, TellsRefusal, load_fault_note, seeded_taken}
+use Rattle.ptb_serve.specs.Serving.{outcome_of, EndsUnread, ReadsBy, outcome_wanted, wanted_by, load_note, AsksForMore, IsUnloaded, ListsFewerOf, ReadsForRun, Replies, Serves, SilentBy, SilentWithoutMemory, StopsForMemory, TellsLength, TellsRefusal, load_fault_note, seeded_taken}
 
 -- ---- the program of a text
 
@@ -76,30 +76,21 @@ unwritten held failures = record { before = held; after = held; failed = failure
 pub consumes_nothing : (held : Option (List ℕ)) (n : ℕ) → ConsumesAtMost held held n
 consumes_nothing held n = ([], omega arith, Consumes-nil held)
 
-pub consumes_some : (old new : Option (List ℕ)) (n : ℕ) → (bytes : List ℕ) × Consumes old new bytes × (length bytes ≤ n) → ConsumesAtMost old new n
-consumes_some old new n h = (h.0, h.2, h.1)
+-- ---- memory is refused before anything is written
 
--- ---- a listing of which nothing is written
+nothing_of_program : (held : Option (List ℕ)) (t : Result Statements (ℕ × LoadFault)) (P : Statements → Type 0) → IfOk t (λ p. Appends held held [] ⊎ P p)
+nothing_of_program held (Ok p) P = inl (Appends-nil held)
+nothing_of_program held (Err e) P = tt
 
-pub lists_nothing_of : (mode : Mode) (request : Request) (b c : List ℕ) (held : Option (List ℕ)) → ListsFewer mode request b c held held
-lists_nothing_of (modes.Plain a) request b c held = tt
-lists_nothing_of (modes.Seeded seed) request b c held = tt
-lists_nothing_of (modes.All under after first form) request b c held = by_text (program_of_text request.memory b) where
-  by_text : (t : Result Statements (ℕ × LoadFault)) → IfOk t (λ p. Appends held held [] ⊎ ListsFewerOf (record { lines = p; memory = request.memory }) (input_lines c) request.rules under after first form held held)
-  by_text (Ok p) = inl (Appends-nil held)
-  by_text (Err e) = tt
-lists_nothing_of modes.List request b c held = tt
+stops_at_once : (mode : Mode) (request : Request) (b c : List ℕ) (held : Option (List ℕ)) → StopsForMemory mode request b c held held
+stops_at_once (modes.Plain a) request b c held = tt
+stops_at_once (modes.Seeded seed) request b c held = nothing_of_program held (program_of_text request.memory b) _
+stops_at_once (modes.All under after first form) request b c held = nothing_of_program held (program_of_text request.memory b) _
+stops_at_once modes.List request b c held = tt
 
-pub lists_nothing : (mode : Mode) (request : Request) (known : Option (List ℕ)) (c : List ℕ) (held : Option (List ℕ)) → IfSome known (λ b. ListsFewer mode request b c held held)
-lists_nothing mode request None c held = tt
-lists_nothing mode request (Some b) c held = lists_nothing_of mode request b c held
-
--- a run is no listing
-pub runs_once : (mode : Mode) → IsPlainRun mode → (request : Request) (b c : List ℕ) (old new : Option (List ℕ)) → ListsFewer mode request b c old new
-runs_once (modes.Plain a) h request b c old new = tt
-runs_once (modes.Seeded seed) h request b c old new = tt
-runs_once (modes.All under after first form) h request b c old new = absurd h
-runs_once modes.List h request b c old new = absurd h
+pub stops_unloaded : (mode : Mode) (request : Request) (known : Option (List ℕ)) (c : List ℕ) (held : Option (List ℕ)) → IfSome known (λ b. StopsForMemory mode request b c held held)
+stops_unloaded mode request None c held = tt
+stops_unloaded mode request (Some b) c held = stops_at_once mode request b c held
 
 -- ---- a program that is refused
 
@@ -295,11 +286,20 @@ serves_loaded memory (Some b) next p old new result h e s =
 -- a listing of a loaded program
 pub lists_loaded : (request : Request) (b c : List ℕ) (p : StoredProgram) (under after : Option (List Marked)) (first : Option ℕ) (form : Form) (old new : Option (List ℕ))
     → IsLoaded request.memory b p.lines → p.memory ≡ request.memory → Appends old new [] ⊎ ListsFewerOf p (input_lines c) request.rules under after first form old new
-    → ListsFewer (modes.All under after first form) request b c old new
+    → StopsForMemory (modes.All under after first form) request b c old new
 lists_loaded request b c p under after first form old new h e lists =
     let stored : record { lines = p.lines; memory = request.memory } ≡ p = ap (λ m. record p { memory = m }) (sym e) in
     rw (program_of_text-ok request.memory b p.lines h)
     (subst (λ q. Appends old new [] ⊎ ListsFewerOf q (input_lines c) request.rules under after first form old new) (sym stored) lists)
+
+-- a run of a loaded program by a seed
+pub asks_loaded : (request : Request) (b c : List ℕ) (p : StoredProgram) (seed : ℕ) (old new : Option (List ℕ))
+    → IsLoaded request.memory b p.lines → p.memory ≡ request.memory → Appends old new [] ⊎ AsksForMore p (input_lines c) request.rules seed old new
+    → StopsForMemory (modes.Seeded seed) request b c old new
+asks_loaded request b c p seed old new h e asks =
+    let stored : record { lines = p.lines; memory = request.memory } ≡ p = ap (λ m. record p { memory = m }) (sym e) in
+    rw (program_of_text-ok request.memory b p.lines h)
+    (subst (λ q. Appends old new [] ⊎ AsksForMore q (input_lines c) request.rules seed old new) (sym stored) asks)
 
 -- ---- a run
 

@@ -1,5 +1,5 @@
 -- This file joins all that is promised of a request that was served, by whether its program was loaded.
-use Rattle.std.proofs.Common.{◌≡◌, ℕ, ◌+◌, ◌<◌, List, length, Option, Some, None, Result, Ok, Err, IfOk, IfSome, refl, sym, subst, ◌∙◌, ap, arith}
+use Rattle.std.proofs.Common.{◌≡◌, inl, inr, ℕ, ◌+◌, ◌<◌, List, length, Option, Some, None, Result, Ok, Err, IfOk, IfSome, refl, sym, subst, ◌∙◌, ap, arith}
 use Rattle.ptb_text.specs.declared.fault.LoadFault.{LoadFault}
 use Rattle.ptb_text.specs.declared.fault.LoadFault.TheVariants as loads
 use Rattle.ptb_text.specs.Device.{GivesAtMost, GivesExactly, HasFailed}
@@ -18,9 +18,9 @@ use Rattle.ptb_serve.specs.Loaded.{ServesProgram, ReadsInput, TellsFailures, Tel
 use Rattle.ptb_serve.specs.ListMismatches.{IsMismatchOf}
 use Rattle.ptb_serve.specs.Promises.{Served, ReadsOnlyWhatIsAsked, FailsLoudly}
 use Rattle.ptb_serve.specs.Replies.{listing_reply, program_of_text, program_reply_in_mode, reply_in_mode}
-use Rattle.ptb_serve.specs.Serving.{IsUnloaded, ListsFewer, NeedsInput, ReadsForRun, Serves, ServesUnread, load_note, outcome_of}
-use Rattle.ptb_serve.proofs.Mismatching.{mismatch_loaded, noted_outcome}
-use Rattle.ptb_serve.proofs.Served.{consumes_nothing, each_known, lists_nothing, load_note-length, load_note-other, load_note-read, load_note-refusal, load_note-silent, load_note-unread, loaded_length, loaded_refusal, loaded_unrefused, outcome_of-err, outcome_of-none, outcome_of-note, outcome_of-status, outcome_of-success, serves_refusal, serves_unloaded, takes_nothing_in, unread, unwritten, when_refused}
+use Rattle.ptb_serve.specs.Serving.{IsUnloaded, NeedsInput, ReadsForRun, Serves, ServesUnread, StopsForMemory, load_note, outcome_of}
+use Rattle.ptb_serve.proofs.Mismatching.{mismatch_loaded, noted_outcome, said_outcome}
+use Rattle.ptb_serve.proofs.Served.{consumes_nothing, each_known, load_note-length, load_note-other, load_note-read, load_note-refusal, load_note-silent, load_note-unread, loaded_length, loaded_refusal, loaded_unrefused, outcome_of-err, outcome_of-none, outcome_of-note, outcome_of-status, outcome_of-success, serves_refusal, serves_unloaded, stops_unloaded, takes_nothing_in, unread, unwritten, when_refused}
 
 -- without a mismatch nothing is said of any program
 nothing_said : (memory : ℕ) (known : Option (List ℕ)) → IfSome known (λ b. IfOk (program_of_text memory b) (λ _. Unit {0}))
@@ -55,7 +55,8 @@ module _ {P R : Type 0} (request : Request) (text : Reads P) (consumed : Consume
           status = outcome_of-status result serves.status;
           success = λ h. outcome_of-success result (serves.success h);
           silent = serves.silent;
-          fewer = λ h c i. each_known (λ b. IsLoaded request.memory b p.lines) (λ b. ListsFewer request.mode request b c out.before out.after) text.bytes (λ b l. serves.fewer b c l i (outcome_of-note result notes.OutOfMemory h)) loaded;
+          stopped = λ h c i. each_known (λ b. IsLoaded request.memory b p.lines) (λ b. StopsForMemory request.mode request b c out.before out.after) text.bytes (λ b l. serves.stopped b c l i (outcome_of-note result notes.OutOfMemory h)) loaded;
+          mismatch_said = said_outcome result mismatch said.said;
           mismatch_noted = noted_outcome result mismatch said.noted;
           mismatch = λ c i.
               each_known (λ b. IsLoaded request.memory b p.lines)
@@ -109,7 +110,8 @@ module _ {P R : Type 0} (request : Request) (text : Reads P) (consumed : Consume
           status = refl;
           success = λ _ h. absurd cc;
           silent = load_note-silent request.mode held e;
-          fewer = λ _ c _. lists_nothing request.mode request text.bytes c held;
+          stopped = λ _ c _. stops_unloaded request.mode request text.bytes c held;
+          mismatch_said = λ h. absurd (elim h [ inl x ↦ other notes.NoBeginning (λ u. u) (λ y. absurd cc) x | inr x ↦ other notes.NoRun (λ u. u) (λ y. absurd cc) x ]);
           unread = λ h. absurd (no_input h);
           mismatch_noted = tt;
           mismatch = λ c _. nothing_said request.memory text.bytes;

@@ -1,9 +1,12 @@
 -- This file defines why a list of the request fits no run.
 --     mismatch_note m                      the note that it accompanies
+--     RefusesList note                     the note refuses a list
 --     items_of list                        the items of a list; one that is not named has none
 --     IsMismatchIn game under after m      m says why one of these lists fits no run
 --     IsMismatchOf mode p input rules m    the same, of the lists of a request
-use Rattle.std.specs.Prelude.{ℕ, List, [], Option, Some, None}
+--     Explains game under after note a     the attempt a ends with the note, and says why a list fits no run where one is refused
+--     WantsMemoryFor note a                there was no memory to say it
+use Rattle.std.specs.Prelude.{◌≡◌, ◌⊎◌, ℕ, List, [], Option, Some, None, Err, IfSome, IsSome}
 use Rattle.ptb_text.specs.Statements.{StoredProgram}
 use Rattle.ptb_answers.specs.Outcome.{Answers, Outcome}
 use Rattle.ptb_answers.specs.declared.form.Marked.{Marked}
@@ -12,6 +15,7 @@ use Rattle.ptb_machine.specs.Play.{Finish, play}
 use Rattle.ptb_explore.specs.Mismatch.{IsItemMismatch, IsRunMismatch}
 use Rattle.ptb_options.specs.declared.request.Mode.{Mode}
 use Rattle.ptb_options.specs.declared.request.Mode.TheVariants as modes
+use Rattle.ptb_serve.specs.declared.attempt.Attempt.{Attempt}
 use Rattle.ptb_serve.specs.declared.list_mismatch.ListMismatch.{ListMismatch}
 use Rattle.ptb_serve.specs.declared.list_mismatch.ListMismatch.TheVariants.{Under, After}
 use Rattle.ptb_serve.specs.declared.note.Note.{Note}
@@ -20,6 +24,9 @@ use Rattle.ptb_serve.specs.declared.note.Note.TheVariants as notes
 abbrev pub mismatch_note : ListMismatch → Note
 mismatch_note (Under m) = notes.NoBeginning
 mismatch_note (After m) = notes.NoRun
+
+abbrev pub RefusesList : Note → Type 0
+RefusesList note = (note ≡ notes.NoBeginning) ⊎ (note ≡ notes.NoRun)
 
 abbrev pub items_of : Option (List Marked) → List Marked
 items_of None = []
@@ -36,3 +43,14 @@ IsMismatchOf (modes.Plain a) p input rules m = ⊥
 IsMismatchOf (modes.Seeded seed) p input rules m = ⊥
 IsMismatchOf (modes.All under after first form) p input rules m = IsMismatchIn (play p input rules) under after m
 IsMismatchOf modes.List p input rules m = ⊥
+
+pub record Explains (game : Answers → Outcome Finish (List ℕ)) (under after : Option (List Marked)) (note : Note) (attempt : Attempt) : Type 0 where
+  pub served : attempt.served ≡ Err note
+  pub said : RefusesList note → IsSome attempt.mismatch
+  pub noted : IfSome attempt.mismatch (λ m. note ≡ mismatch_note m)
+  pub fits : IfSome attempt.mismatch (IsMismatchIn game under after)
+
+pub record WantsMemoryFor (note : Note) (attempt : Attempt) : Type 0 where
+  pub refused : RefusesList note
+  pub served : attempt.served ≡ Err notes.OutOfMemory
+  pub unsaid : attempt.mismatch ≡ None

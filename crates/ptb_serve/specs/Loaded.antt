@@ -3,8 +3,9 @@
 --     ServesProgram mode ..       what is written, and the status or the note
 --     ReadsInput mode ..          what is read of the input
 --     TellsFailures old new result    that the writer failed is noted, and is noted of no other
---     TellsMismatch mode ..       what is said of a list goes with its note, and is so
-use Rattle.std.specs.Prelude.{◌≡◌, ◌⊎◌, ◌+◌, ◌≤◌, ℕ, List, length, Option, Result, Ok, Err, IfOk, IfSome, IsErrOf, OnOk}
+--     RefusesListIn result        a list is refused
+--     TellsMismatch mode ..       what is said of a list goes with its note, and is so; and it is said with each such note
+use Rattle.std.specs.Prelude.{◌≡◌, ◌⊎◌, ◌+◌, ◌≤◌, ℕ, List, length, Option, Result, Ok, Err, IfOk, IfSome, IsErrOf, IsSome, OnOk}
 use Rattle.ptb_text.specs.Device.{GivesAtMost, GivesExactly, HasFailed}
 use Rattle.ptb_text.specs.Lines.{input_lines}
 use Rattle.ptb_text.specs.Loading.{IsLoaded}
@@ -22,7 +23,7 @@ use Rattle.ptb_serve.specs.declared.note.Note.TheVariants as notes
 use Rattle.ptb_plain.specs.PlainRuns.{IsUnreadable, input_limit}
 use Rattle.ptb_serve.specs.ListMismatches.{IsMismatchOf, mismatch_note}
 use Rattle.ptb_serve.specs.Replies.{reply_in_mode}
-use Rattle.ptb_serve.specs.Serving.{IsInput, IsPlainRun, IsUnloaded, ListsFewer, NeedsInput, NeedsWholeInput, ReadsForRun, Serves, ServesUnread, SilentBy, outcome_of}
+use Rattle.ptb_serve.specs.Serving.{IsInput, IsPlainRun, IsUnloaded, NeedsInput, NeedsWholeInput, ReadsForRun, Serves, ServesUnread, SilentBy, StopsForMemory, outcome_of}
 
 -- a run that is begun isn't spent
 abbrev pub IsRunStatus : Result Ending RunFault → Result ℕ Note → Type 0
@@ -38,7 +39,7 @@ pub record ServesProgram (mode : Mode) (request : Request) (p : StoredProgram) (
   pub taken : (b : List ℕ) → IsLoaded request.memory b p.lines → IfSome known (λ c. ReadsForRun mode request b c left (outcome_of result))
   pub unread : (b : List ℕ) → IsLoaded request.memory b p.lines → IsErrOf result notes.InputUnread → ServesUnread mode request known left b old new
   pub silent : SilentBy mode (outcome_of result).note old new
-  pub fewer : (b c : List ℕ) → IsLoaded request.memory b p.lines → IsInput mode known c → IsErrOf result notes.OutOfMemory → ListsFewer mode request b c old new
+  pub stopped : (b c : List ℕ) → IsLoaded request.memory b p.lines → IsInput mode known c → IsErrOf result notes.OutOfMemory → StopsForMemory mode request b c old new
   pub status : IfOk result (λ n. n ≤ 7)
   pub success : (IsPlainRun mode → ⊥) → OnOk result (result ≡ Ok 0)
   -- no note says that the program was not loaded
@@ -61,6 +62,10 @@ pub record TellsFailures (old new : ℕ) (result : Result ℕ Note) : Type 0 whe
   pub unwritten : IsErrOf result notes.Unwritten → HasFailed old new
   pub written : (IsErrOf result notes.Unwritten → ⊥) → new ≡ old
 
+abbrev pub RefusesListIn : Result ℕ Note → Type 0
+RefusesListIn result = IsErrOf result notes.NoBeginning ⊎ IsErrOf result notes.NoRun
+
 pub record TellsMismatch (mode : Mode) (request : Request) (p : StoredProgram) (known : Option (List ℕ)) (result : Result ℕ Note) (mismatch : Option ListMismatch) : Type 0 where
+  pub said : RefusesListIn result → IsSome mismatch
   pub noted : IfSome mismatch (λ m. IsErrOf result (mismatch_note m))
   pub fits : (c : List ℕ) → IsInput mode known c → IfSome mismatch (IsMismatchOf mode p (input_lines c) request.rules)

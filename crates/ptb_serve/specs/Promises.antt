@@ -2,7 +2,7 @@
 --     Served                  what is written, the status and the note
 --     ReadsOnlyWhatIsAsked    what is read of the program's text and of the input
 --     FailsLoudly             a note says what failed, and nothing else is said to have failed
-use Rattle.std.specs.Prelude.{◌≡◌, ◌≤◌, ◌+◌, ◌⊎◌, ℕ, List, length, None, Some, IfErr, IfOk, IfSome, MatchOption}
+use Rattle.std.specs.Prelude.{◌≡◌, ◌≤◌, ◌+◌, ◌⊎◌, ℕ, List, length, None, Some, IfErr, IfOk, IfSome, IsSome, MatchOption}
 use Rattle.ptb_text.specs.Device.{GivesAtMost, GivesExactly, HasFailed}
 use Rattle.ptb_text.specs.Lines.{input_lines}
 use Rattle.ptb_text.specs.Statements.{program_limit}
@@ -14,7 +14,7 @@ use Rattle.ptb_serve.specs.declared.note.Note.TheVariants as notes
 use Rattle.ptb_serve.specs.declared.service.Outcome.{Outcome}
 use Rattle.ptb_serve.specs.ListMismatches.{IsMismatchOf, mismatch_note}
 use Rattle.ptb_serve.specs.Replies.{program_of_text, refusal, reply_to}
-use Rattle.ptb_serve.specs.Serving.{IsInput, IsPlainRun, IsUnloaded, ListsFewer, NeedsInput, NeedsWholeInput, ReadsForRun, Serves, ServesUnread, SilentBy, TellsLength, TellsRefusal}
+use Rattle.ptb_serve.specs.Serving.{IsInput, IsPlainRun, IsUnloaded, NeedsInput, NeedsWholeInput, ReadsForRun, Serves, ServesUnread, SilentBy, StopsForMemory, TellsLength, TellsRefusal}
 use Rattle.ptb_serve.specs.Statuses.{note_status}
 
 module _ {P R : Type 0} (request : Request) (text : Reads P) (input : Reads R) where
@@ -34,12 +34,15 @@ module _ {P R : Type 0} (request : Request) (text : Reads P) (input : Reads R) w
     -- or where a line that a run asked for could not be read.
     pub silent : SilentBy request.mode outcome.note out.before out.after
     -- Where memory is refused in a listing, the reports of the first of its runs are written, fewer than all, and nothing else.
-    pub fewer : outcome.note ≡ Some notes.OutOfMemory
-        → (c : List ℕ) → IsInput request.mode input.bytes c → IfSome text.bytes (λ b. ListsFewer request.mode request b c out.before out.after)
+    -- Where it is refused in a run by a seed, nothing is written, or exactly what the run shows up to a question.
+    pub stopped : outcome.note ≡ Some notes.OutOfMemory
+        → (c : List ℕ) → IsInput request.mode input.bytes c → IfSome text.bytes (λ b. StopsForMemory request.mode request b c out.before out.after)
     -- Where a line can't be read, what a run shows on the lines that came whole is written.
     pub unread : outcome.note ≡ Some notes.InputUnread
         → IfSome text.bytes (λ b. ServesUnread request.mode request input.bytes input.left b out.before out.after)
-    -- Why a list fits no run is said only with the note that says so, and it is what the definition says.
+    -- Where a list fits no run, it is said why. This is said only with the note that refuses the list, and it is what the
+    -- definition says.
+    pub mismatch_said : (outcome.note ≡ Some notes.NoBeginning) ⊎ (outcome.note ≡ Some notes.NoRun) → IsSome outcome.mismatch
     pub mismatch_noted : IfSome outcome.mismatch (λ m. outcome.note ≡ Some (mismatch_note m))
     pub mismatch : (c : List ℕ) → IsInput request.mode input.bytes c
         → IfSome text.bytes (λ b. IfOk (program_of_text request.memory b) (λ p. IfSome outcome.mismatch (IsMismatchOf request.mode (record { lines = p; memory = request.memory }) (input_lines c) request.rules)))

@@ -9,7 +9,7 @@ use Rattle.std.specs.List.{flat_map}
 use Rattle.ptb_text.specs.declared.fault.LoadFault.{LoadFault}
 use Rattle.ptb_text.specs.declared.fault.LoadFault.TheVariants.{TooLong}
 use Rattle.ptb_text.specs.Lines.{input_lines}
-use Rattle.ptb_text.specs.Statements.{Statements, program_limit, listing}
+use Rattle.ptb_text.specs.Statements.{IsMemorySize, Statements, program_limit, listing}
 use Rattle.ptb_answers.specs.Outcome.{Answers, Outcome, Done, Asks, bounds, is_open}
 use Rattle.ptb_answers.specs.declared.rules.Rules.{Rules}
 use Rattle.ptb_machine.specs.Play.{Finish, play, plain_of}
@@ -17,7 +17,7 @@ use Rattle.ptb_machine.specs.Questions.{most_answers}
 use Rattle.ptb_answers.specs.declared.form.Form.{Form}
 use Rattle.ptb_answers.specs.declared.form.Marked.{Marked}
 use Rattle.ptb_answers.specs.AnswerText.{answers_of, items_in, without_bound}
-use Rattle.ptb_explore.specs.Laws.{TreeLaws}
+use Rattle.ptb_explore.specs.Laws.{ReportLaws, TreeLaws}
 use Rattle.ptb_explore.specs.Listing.{text}
 use Rattle.ptb_explore.specs.MarkedRuns.{IsMarkedBeginning, IsMarkedRun}
 use Rattle.ptb_report.specs.Report.{report_text}
@@ -90,6 +90,8 @@ pub record RunReplies (play : Answers → Outcome Finish (List ℕ)) (most : ℕ
       → reply (modes.All (Some under) (Some list) first form) ≡ refusal notes.NoRun
   -- how the replies to shares fit together
   pub shares : ShareReplies play reply
+  -- two runs have two different reports, and no report is in two shares
+  pub reports : ReportLaws play most
   -- the report of a run has its answers, in form 2 with their bounds, and the ending, the steps and the transcript of its play
   pub run_report : (form : Form) (a : Answers) (f : Finish) → play a ≡ Done f []
       → report form play a ≡ report_text (items_in form a (bounds play a)) (word_of f.ending) f.steps f.shown
@@ -114,8 +116,8 @@ pub record ReplyLaws : Type 0 where
   -- 67 is named. The reply to a plain run is what play shows with its answers, and the status is that of the ending. A run by a seed
   -- is a plain run with the answers that are drawn from the seed.
   pub accepted :
-      (memory : ℕ) (rules : Rules) (b c : List ℕ) (p : Statements) → program_of_text memory b ≡ Ok p
+      (memory : ℕ) (size : IsMemorySize memory) (rules : Rules) (b c : List ℕ) (p : Statements) → program_of_text memory b ≡ Ok p
       → RunReplies (play (record { lines = p; memory = memory }) (input_lines c) rules) (most_answers (record { lines = p; memory = memory }) (input_lines c) rules.limit)
-      (λ mode. reply_to (record { rules = rules; memory = memory; mode = mode }) b c)
+      (λ mode. reply_to (record { rules = rules; memory = memory; mode = mode; in_range = size }) b c)
   -- the reply to a listing of a text that is accepted is the listing of its lines
   pub listed : (r : Request) (b c : List ℕ) (p : Statements) → program_of_text r.memory b ≡ Ok p → r.mode ≡ modes.List → reply_to r b c ≡ success (listing p)

@@ -11,7 +11,7 @@
 --     TellsLength old new note          a text is noted as too long where one byte too many was given
 --     SilentBy mode note old new        nothing was written, unless what was due was broken off
 --     WritesFewer report due old new    the reports of the first of these runs were written, and fewer than all
---     ListsFewer mode ..                what was written of a listing where memory was refused
+--     StopsForMemory mode ..            what was written of a listing, or of a run by a seed, where memory was refused
 --     EndsUnread choose reply others old new    what was written of the reply to a run that couldn't read a line
 --     ServesUnread mode ..              what was written where the input could not be read
 --     wanted_by choose all k outcome    how many of all lines a run wanted that takes k
@@ -34,7 +34,7 @@ use Rattle.ptb_answers.specs.Outcome.{Answers}
 use Rattle.ptb_answers.specs.declared.rules.Rules.{Rules}
 use Rattle.ptb_answers.specs.declared.form.Form.{Form}
 use Rattle.ptb_answers.specs.declared.form.Marked.{Marked}
-use Rattle.ptb_machine.specs.Play.{play, status}
+use Rattle.ptb_machine.specs.Play.{plain, play, status}
 use Rattle.ptb_machine.specs.Questions.{most_answers}
 use Rattle.ptb_explore.specs.Listing.{text}
 use Rattle.ptb_explore.specs.Report.{report}
@@ -51,7 +51,7 @@ use Rattle.ptb_options.specs.declared.request.Mode.TheVariants as modes
 use Rattle.ptb_serve.specs.declared.service.Outcome.{Outcome}
 use Rattle.ptb_serve.specs.Statuses.{note_status}
 use Rattle.ptb_options.specs.declared.request.Request.{Request}
-use Rattle.ptb_plain.specs.PlainRuns.{ReadsFor, lines_come, lines_taken}
+use Rattle.ptb_plain.specs.PlainRuns.{ReadsFor, ShowsQuestion, lines_come, lines_taken}
 use Rattle.ptb_serve.specs.Replies.{Reply, lines_reply, seeded_lines_reply, program_of_text, program_reply, runs_due}
 use Rattle.ptb_plain.specs.SeededRuns.{seeded_answers}
 
@@ -137,12 +137,16 @@ pub record WritesFewer (report : Answers → List ℕ) (due : List Answers) (old
 abbrev pub ListsFewerOf : StoredProgram → List (List ℕ) → Rules → Option (List Marked) → Option (List Marked) → Option ℕ → Form → Option (List ℕ) → Option (List ℕ) → Type 0
 ListsFewerOf p input rules under after first form old new = WritesFewer (report form (play p input rules)) (runs_due (play p input rules) (most_answers p input rules.limit) under after first) old new
 
--- memory was refused before anything was written of a listing, or before a report that was still to be written
-abbrev pub ListsFewer : Mode → Request → List ℕ → List ℕ → Option (List ℕ) → Option (List ℕ) → Type 0
-ListsFewer (modes.Plain a) request b c old new = Unit {0}
-ListsFewer (modes.Seeded seed) request b c old new = Unit {0}
-ListsFewer (modes.All under after first form) request b c old new = IfOk (program_of_text request.memory b) (λ p. Appends old new [] ⊎ ListsFewerOf (record { lines = p; memory = request.memory }) (input_lines c) request.rules under after first form old new)
-ListsFewer modes.List request b c old new = Unit {0}
+-- with the first of the answers that a seed gives, the run asks for one more, and what it shows until then was written
+abbrev pub AsksForMore : StoredProgram → List (List ℕ) → Rules → ℕ → Option (List ℕ) → Option (List ℕ) → Type 0
+AsksForMore p input rules seed old new = ShowsQuestion (plain p input rules) (seeded_answers seed p input rules) old new
+
+-- memory was refused before anything was written, or before a report that was still to be written, or for the answer to a question
+abbrev pub StopsForMemory : Mode → Request → List ℕ → List ℕ → Option (List ℕ) → Option (List ℕ) → Type 0
+StopsForMemory (modes.Plain a) request b c old new = Unit {0}
+StopsForMemory (modes.Seeded seed) request b c old new = IfOk (program_of_text request.memory b) (λ p. Appends old new [] ⊎ AsksForMore (record { lines = p; memory = request.memory }) (input_lines c) request.rules seed old new)
+StopsForMemory (modes.All under after first form) request b c old new = IfOk (program_of_text request.memory b) (λ p. Appends old new [] ⊎ ListsFewerOf (record { lines = p; memory = request.memory }) (input_lines c) request.rules under after first form old new)
+StopsForMemory modes.List request b c old new = Unit {0}
 
 -- its bytes were written, and its status is that of a run which ends for want of a line
 pub record LacksLine (reply : Reply) (old new : Option (List ℕ)) : Type 0 where

@@ -1,6 +1,6 @@
 // This file has the listing of all runs of a program, each with its report.
 
-ghost use Rattle.std.specs.Prelude.{◌≡◌, ◌⊎◌, ◌≤ℤ◌, ℕ, pos, true, false, List, [], Option, None, Some};
+ghost use Rattle.std.specs.Prelude.{◌≡◌, ◌⊎◌, ℕ, true, false, List, [], Option, None, Some};
 ghost use Rattle.std.specs.Prelude.{IfErr, IfOk, IfSome, IsErrOf, OnOk};
 ghost use Rattle.ptb_text.specs.Device.{HasFailed};
 ghost use Rattle.ptb_text.specs.Lines.{input_lines};
@@ -10,11 +10,12 @@ ghost use Rattle.ptb_explore.specs.Listing.{WritesRuns};
 ghost use Rattle.ptb_explore.specs.Report.{report};
 ghost use Rattle.ptb_explore.specs.RunTree.{Front, runs_left};
 ghost use Rattle.ptb_options.specs.declared.request.Mode.TheVariants.{All};
+ghost use Rattle.ptb_serve.specs.ListMismatches.{RefusesList};
 ghost use Rattle.ptb_serve.specs.Loaded.{ReadsInput, ServesProgram, TellsFailures, TellsMismatch};
 ghost use Rattle.ptb_serve.specs.Replies.{answers_under, first_front, front_note, is_share};
 
 use crate::attempt::Attempt;
-use crate::list_mismatch::list_mismatch;
+use crate::list_mismatch::explained;
 use crate::note::Note;
 use ptb_explore::{ExploreFault, Explorer, Form, Marked, write_all_runs};
 use ptb_machine::{Line, Rules, read_lines};
@@ -34,9 +35,9 @@ use std::alloc::Global;
 /// [`Note::InputUnread`] where the input could not be read or has more than 16,777,216 bytes;
 /// [`Note::NoBeginning`] where no run begins with `under`, [`Note::NoRun`] where `after` is no run of
 /// these, both also where a bound is not that of its question: nothing was written with these.
-/// [`Note::OutOfMemory`] where a growth was refused memory: the reports of the first runs were
-/// written, fewer than all. [`Note::Unwritten`] where the writer failed: a prefix of the reports was
-/// written.
+/// [`Note::OutOfMemory`] where a growth was refused memory, also where it was wanted to say why a list
+/// fits no run: the reports of the first runs were written, fewer than all. [`Note::Unwritten`] where
+/// the writer failed: a prefix of the reports was written.
 pub fn list_runs<R: Read, W: Write>(
     alloc: Global,
     request: &Request,
@@ -49,7 +50,6 @@ pub fn list_runs<R: Read, W: Write>(
     out: &mut W,
 ) -> Attempt
     requires memory { program.now.memory ≡ request.now.memory }
-    requires bound { IfSome request.now.rules.choose (λ n. pos 1 ≤ℤ n) }
     ensures serves { ServesProgram (All under.now after.now first form) request.now program.now
         (R.remaining input.old) (R.remaining input.new)
         (W.contents out.old) (W.contents out.new) result.served }
@@ -69,8 +69,8 @@ pub fn list_runs<R: Read, W: Write>(
     }
 }
 
-// Writes the reports of a program's runs on the lines of an input that was read. Where a list fits no
-// run, it is looked at once more to say why.
+// Writes the reports of a program's runs on the lines of an input that was read, and says why where a
+// list fits no run.
 fn list_runs_on<W: Write>(
     alloc: Global,
     request: &Request,
@@ -83,7 +83,6 @@ fn list_runs_on<W: Write>(
     out: &mut W,
 ) -> Attempt
     requires memory { program.now.memory ≡ request.now.memory }
-    requires bound { IfSome request.now.rules.choose (λ n. pos 1 ≤ℤ n) }
     ensures serves { (known left : Option (List ℕ)) → IfSome known (λ c. lines.now ≡ input_lines c)
         → ServesProgram (All under.now after.now first form) request.now program.now known left
         (W.contents out.old) (W.contents out.new) result.served }
@@ -97,10 +96,7 @@ fn list_runs_on<W: Write>(
         alloc, request, program, lines, under, after, first, form, out,
     ) {
         Ok(status) => Attempt::without_mismatch(Ok(status)),
-        Err(note) => Attempt {
-            served: Err(note),
-            mismatch: list_mismatch(alloc, program, lines, request.rules, under, after, note),
-        },
+        Err(note) => explained(alloc, program, lines, request.rules, under, after, note),
     }
 }
 
@@ -117,12 +113,14 @@ fn write_listing<W: Write>(
     out: &mut W,
 ) -> Result<u8, Note>
     requires memory { program.now.memory ≡ request.now.memory }
-    requires bound { IfSome request.now.rules.choose (λ n. pos 1 ≤ℤ n) }
     ensures serves { (known left : Option (List ℕ)) → IfSome known (λ c. lines.now ≡ input_lines c)
         → ServesProgram (All under.now after.now first form) request.now program.now known left
         (W.contents out.old) (W.contents out.new) result }
     ensures read { ¬ IsErrOf result Note.InputUnread }
     ensures failures { TellsFailures (W.failures out.old) (W.failures out.new) result }
+    ensures unbegun { IfErr result (λ note. RefusesList note
+        → front_note (play program.now lines.now request.now.rules) under.now after.now
+        ≡ Some note) }
 {
     let explorer = explorer_from(alloc, program, lines, request.rules, under, after)?;
     write_reports(explorer, first, form, out)?;
@@ -159,7 +157,6 @@ fn explorer_from<'a>(
     under: &Option<MarkedAnswers>,
     after: &Option<MarkedAnswers>,
 ) -> Result<Explorer<'a>, Note>
-    requires { IfSome rules.choose (λ n. pos 1 ≤ℤ n) }
     ensures explorer { IfOk result (λ e. e ≡ record {
       program = program.now;
       input = lines.now;
@@ -192,7 +189,6 @@ fn explorer_of_all<'a>(
     lines: &'a [Line],
     rules: Rules,
 ) -> Result<Explorer<'a>, Note>
-    requires { IfSome rules.choose (λ n. pos 1 ≤ℤ n) }
     ensures explorer { IfOk result (λ e. e ≡ record {
       program = program.now;
       input = lines.now;
@@ -218,7 +214,6 @@ fn explorer_at<'a>(
     rules: Rules,
     list: &[Marked],
 ) -> Result<Explorer<'a>, Note>
-    requires { IfSome rules.choose (λ n. pos 1 ≤ℤ n) }
     ensures explorer { IfOk result (λ e. e ≡ record {
       program = program.now;
       input = lines.now;
@@ -244,7 +239,6 @@ fn explorer_under<'a>(
     rules: Rules,
     under: &[Marked],
 ) -> Result<Explorer<'a>, Note>
-    requires { IfSome rules.choose (λ n. pos 1 ≤ℤ n) }
     ensures explorer { IfOk result (λ e. e ≡ record {
       program = program.now;
       input = lines.now;
@@ -272,7 +266,6 @@ fn explorer_under_at<'a>(
     under: &[Marked],
     list: &[Marked],
 ) -> Result<Explorer<'a>, Note>
-    requires { IfSome rules.choose (λ n. pos 1 ≤ℤ n) }
     ensures explorer { IfOk result (λ e. e ≡ record {
       program = program.now;
       input = lines.now;
@@ -299,7 +292,6 @@ fn look_at_beginning(
     rules: Rules,
     under: &[Marked],
 ) -> Result<(), Note>
-    requires { IfSome rules.choose (λ n. pos 1 ≤ℤ n) }
     ensures begins { OnOk result
         (is_share (play program.now lines.now rules) (Some under.now) ≡ true) }
     ensures unbegun { IfErr result (λ note. (note ≡ Note.OutOfMemory)

@@ -1,11 +1,10 @@
 // This file has the writer of standard output, which flushes after each write.
 
 ghost use Rattle.std.specs.Prelude.{◌≡◌};
-ghost use Rattle.ptb_text.specs.Device.{device_inner, failure_count};
+ghost use Rattle.ptb_text.specs.Device.{DeviceTakes, device_inner, failure_count};
 ghost use Rattle.ptb_serve.specs.Flushed.{flushed_device};
 
-use ptb_text::{Device, DeviceFault, Write};
-use std::io;
+use ptb_text::{ByteSink, Device, DeviceFault, Write};
 
 /// Flushes what it writes to at once, so that what a run shows is seen before it waits for input.
 ///
@@ -28,10 +27,12 @@ impl<W> Flushing<W> {
     }
 }
 
-impl<W: io::Write> Write for Flushing<W> {
+impl<W: ByteSink> Write for Flushing<W> {
     ghost contents = { λ f. W.contents (device_inner (flushed_device f)) };
 
     ghost failures = { λ f. failure_count (flushed_device f) };
+
+    ghost takes = { λ f. DeviceTakes W.takes (flushed_device f) };
 
     fn write(&mut self, bytes: &[u8]) -> Result<usize, DeviceFault> {
         let taken = self.device.write(bytes)?;

@@ -10,7 +10,8 @@ use ptb_plain::seeded_laws;
 /// that is refused, as every text of more than 1,048,576 bytes is, is its refusal. For a text that is
 /// accepted it is the reports of all its runs, each once, in the order of their answers, or of those
 /// after a run, or of the first of them; what one run shows, with the status of its ending; or the
-/// program's lines. A run by a seed is the one run whose answers are drawn from the seed.
+/// program's lines. Two runs have two different reports. A run by a seed is the one run whose answers
+/// are drawn from the seed.
 #[tactic(auto, using(crate::proofs::Replying::reply_laws))]
 pub fn reply_laws()
     ensures { ReplyLaws }

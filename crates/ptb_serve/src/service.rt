@@ -1,7 +1,6 @@
 // This file serves a request: it loads the program, and runs it, reports all its runs, or lists it.
 
-ghost use Rattle.std.specs.Prelude.{◌≡◌, ◌≤ℤ◌, pos, IfSome, IsErrOf};
-ghost use Rattle.ptb_text.specs.Statements.{IsMemorySize};
+ghost use Rattle.std.specs.Prelude.{◌≡◌, IfSome, IsErrOf};
 ghost use Rattle.ptb_machine.specs.Play.{status};
 ghost use Rattle.ptb_plain.specs.Streams.{reads_of, writes_of};
 ghost use Rattle.ptb_serve.specs.Loaded.{IsRunStatus, ReadsInput, ServesProgram, TellsFailures};
@@ -28,8 +27,7 @@ pub struct Outcome {
     pub status: u8,
     /// The line that goes to standard error, if there is one.
     pub note: Option<Note>,
-    /// Why a list of the request fits no run: with the note that says so, unless memory for a second
-    /// look was refused, and with no other.
+    /// Why a list of the request fits no run: with each note that refuses a list, and with no other.
     pub mismatch: Option<ListMismatch>,
 }
 
@@ -58,10 +56,9 @@ impl Outcome {
 /// all its runs are reported, or it is listed. What it shows, the reports or the listing go to the
 /// writer.
 ///
-/// The memory size is 64 to 32767, and a bound for answers instead of lines, where there is one, at
-/// least 1. The program is loaded before the input is read: a text that is refused or can't be read
-/// leaves the input alone. So does a listing of a program's text. At most 1,048,577 bytes are read of
-/// a program, and at most 16,777,217 of an input, also of one that never ends.
+/// The program is loaded before the input is read: a text that is refused or can't be read leaves the
+/// input alone. So does a listing of a program's text. At most 1,048,577 bytes are read of a program,
+/// and at most 16,777,217 of an input, also of one that never ends.
 ///
 /// A run reads its input only as far as it asks for lines: while fewer lines are complete than it
 /// wants, at most 4096 bytes at once. With answers instead of lines, a run that took all lines may
@@ -69,9 +66,10 @@ impl Outcome {
 ///
 /// A note says why a request isn't served, or not to its end. With [`Note::Unwritten`] a prefix of
 /// the reply was written. With [`Note::OutOfMemory`] the reports of the first runs were written where
-/// all runs are reported, and a prefix of what the run shows where it is a run by a seed. With
-/// [`Note::InputUnread`] what a run shows before it asks for the line that can't be read was written.
-/// With every other note nothing was written. A write that fails always gives [`Note::Unwritten`].
+/// all runs are reported, and nothing or what the run shows up to a question where it is a run by a
+/// seed. With [`Note::InputUnread`] what a run shows before it asks for the line that can't be read
+/// was written. With every other note nothing was written. A write that fails always gives
+/// [`Note::Unwritten`].
 pub fn serve<P: Read, R: Read, W: Write>(
     alloc: Global,
     request: &Request,
@@ -79,8 +77,6 @@ pub fn serve<P: Read, R: Read, W: Write>(
     input: &mut R,
     out: &mut W,
 ) -> Outcome
-    requires size { IsMemorySize request.now.memory }
-    requires bound { IfSome request.now.rules.choose (λ n. pos 1 ≤ℤ n) }
     ensures served { Served request.now
         (reads_of P.remaining P.given P.failures program.old program.new)
         (reads_of R.remaining R.given R.failures input.old input.new)
@@ -112,7 +108,6 @@ fn serve_program<R: Read, W: Write>(
     out: &mut W,
 ) -> Attempt
     requires memory { program.now.memory ≡ request.now.memory }
-    requires bound { IfSome request.now.rules.choose (λ n. pos 1 ≤ℤ n) }
     ensures serves { ServesProgram request.now.mode request.now program.now
         (R.remaining input.old) (R.remaining input.new)
         (W.contents out.old) (W.contents out.new) result.served }

@@ -3,7 +3,6 @@ use Rattle.std.proofs.Common.{ap, ◌∙◌}
 use Rattle.ptb_plain.specs.Streams.{reads_of, writes_of}
 use Rattle.ptb_serve.specs.declared.attempt.Attempt.{Attempt}
 use Rattle.ptb_serve.specs.Serving.{outcome_of}
-use Rattle.ptb_serve.proofs.Served.{consumes_some}
 use Rattle.ptb_serve.proofs.Telling.{told_loaded, told_unloaded}
 use Rattle.ptb_serve.proofs.service.serve.Goals as goal
 
@@ -13,10 +12,10 @@ returns-in-Ok g c =
     let load = c.in-Ok.ensures in
     let serve = c.serve_program.ensures in
     let told =
-    told_loaded c.args.request.now (reads_of g.P.Read.remaining g.P.Read.given g.P.Read.failures c.args.program.now c.load.new.reader) (consumes_some _ _ _ load.bounded) load.given
+    told_loaded c.args.request.now (reads_of g.P.Read.remaining g.P.Read.given g.P.Read.failures c.args.program.now c.load.new.reader) load.reads.consumed load.reads.given
     (reads_of g.R.Read.remaining g.R.Read.given g.R.Read.failures c.args.input.now c.serve_program.new.input)
     (writes_of g.W.Write.contents g.W.Write.failures c.args.out.now c.serve_program.new.out)
-    c.of.result c.serve_program.result.served c.serve_program.result.mismatch c.in-Ok.program c.of.ensures load.memory load.ok load.unfailed_ok serve.serves serve.reads serve.failures serve.mismatch serve.input_kept
+    c.of.result c.serve_program.result.served c.serve_program.result.mismatch c.in-Ok.program c.of.ensures load.loads.size load.loads.ok (load.reads.unfailed (λ h. h)) serve.serves serve.reads serve.failures serve.mismatch serve.input_kept
     in
     record { served = told.served; reads = told.reads; fails = told.fails; laws = c.reply_laws.ensures }
 
@@ -25,8 +24,9 @@ pub returns-in-Err : goal.returns-in-Err
 returns-in-Err g c =
     let load = c.in-Err.ensures in
     let told =
-    told_unloaded c.args.request.now (reads_of g.P.Read.remaining g.P.Read.given g.P.Read.failures c.args.program.now c.load.new.reader) (consumes_some _ _ _ load.bounded) load.given
+    told_unloaded c.args.request.now (reads_of g.P.Read.remaining g.P.Read.given g.P.Read.failures c.args.program.now c.load.new.reader) load.reads.consumed load.reads.given
     c.args.input.now (g.R.Read.remaining c.args.input.now) (g.R.Read.given c.args.input.now) (g.R.Read.failures c.args.input.now) (g.W.Write.contents c.args.out.now) (g.W.Write.failures c.args.out.now)
-    c.of-in-Err.result c.from.result c.in-Err.refusal (c.of-in-Err.ensures ∙ ap (λ (a : Attempt). record (outcome_of a.served) { mismatch = a.mismatch }) c.without_mismatch.ensures) c.from.ensures load.refused load.too_long load.given_too_long load.read load.unfailed
+    c.of-in-Err.result c.from.result c.in-Err.refusal (c.of-in-Err.ensures ∙ ap (λ (a : Attempt). record (outcome_of a.served) { mismatch = a.mismatch }) c.without_mismatch.ensures) c.from.ensures load.loads.refused
+    (λ h. (load.loads.too_long h, load.reads.longer h)) load.reads.given_longer (λ h. (load.loads.unread h, load.reads.has_failed h)) load.reads.unfailed
     in
     record { served = told.served; reads = told.reads; fails = told.fails; laws = c.reply_laws.ensures }

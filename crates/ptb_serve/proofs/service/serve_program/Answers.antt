@@ -37,6 +37,7 @@ returns-in-Seeded g c =
     (writes_of g.W.Write.contents g.W.Write.failures c.args.out.now c.run_seeded-ended.new.out)
     c.run_seeded-ended.result c.run_status-in-Seeded.result request.mode c.run_status-in-Seeded.ensures c.requires.memory seed c.in-Seeded.is
     (record { plays = run.plays (λ lines. seeded_answers seed p lines request.rules) (λ lines. run.laws.drawn seed p lines request.rules); reads = run.reads })
+    (run.memory (λ lines. seeded_answers seed p lines request.rules) (λ lines. run.laws.drawn seed p lines request.rules))
     in
     rw c.without_mismatch-in-Seeded.ensures (record { serves = told.serves; reads = told.reads; failures = told.failures; mismatch = told.mismatch; input_kept = told.input_kept })
 
