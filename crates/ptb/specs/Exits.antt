@@ -1,13 +1,15 @@
 -- This file defines what the program does by its arguments, and the status with which it exits.
---     open_note kind                  the note of a program that can't be opened, by the kind of the error
 --     unread_status kind              the status where the arguments can't be read, by the kind of the error
---     DrawsSeed terminals o r         the options ask for the request r, with a seed that is drawn
---     AsksAt terminals o r            the options ask for the request r, at these terminals
+--     wants_seed terminals o          a run that the options ask for draws its seed, at these terminals
+--     with_seed o drawn               the options with the seed that was drawn, if one was
+--     by_seed r drawn                 a request with that seed
+--     AsksAt terminals o drawn r      the options ask for the request r, with the seed that was drawn, if one was
+--     shown_status kind shown         the status of an error of clap, by whether it was shown
 --     IsRefusedStatus kind n          clap answered an error of this kind
---     AnswersOptions serves terminals entries n     the request of the options is served, or they ask for none
---     ExitsBy serves terminals words n    so it is with the options of these arguments, or clap finds a fault in them
---     IsExitStatus terminals n        the status of some arguments, or of none that can be read
-use Rattle.std.specs.Prelude.{◌≡◌, ◌≤◌, ◌⊎◌, ℕ, true, List, [], Option, Some, None, codes}
+--     AnswersOptions .. terminals entries n     the request of the options is served, or they ask for none
+--     ExitsBy .. terminals words n    so it is with the options of these arguments, or clap finds a fault in them
+--     IsUnreadStatus kind input out n     the arguments can't be read
+use Rattle.std.specs.Prelude.{◌≡◌, ◌≤◌, ◌&&◌, ◌⊎◌, ℕ, Bool, true, false, not, List, [], Option, Some, None, IfSome, Result, codes, is_some}
 use Rattle.std.specs.declared.io.ErrorKind.{ErrorKind as ReadErrorKind}
 use Rattle.std.specs.declared.io.ErrorKind.TheVariants as reading
 use Rattle.clap.specs.declared.error.ErrorKind.{ErrorKind}
@@ -20,15 +22,12 @@ use Rattle.ptb_options.specs.declared.request.Request.{Request}
 use Rattle.ptb_options.specs.declared.usage.UsageFault.{UsageFault}
 use Rattle.ptb_options.specs.Options.{Options, Asks, Refuses, options_of}
 use Rattle.ptb_options.specs.Statuses.{refusal_status, usage_status}
+use Rattle.ptb_plain.specs.Streams.{Reads, Writes}
 use Rattle.ptb_serve.specs.declared.note.Note.{Note}
 use Rattle.ptb_serve.specs.declared.note.Note.TheVariants as notes
 use Rattle.ptb_serve.specs.Statuses.{note_status}
 use Rattle.ptb.specs.declared.terminal.Terminals.{Terminals}
-use Rattle.ptb.specs.Opened.{IsServedStatus}
-
-abbrev pub open_note : ReadErrorKind → Note
-open_note reading.OutOfMemory = notes.OutOfMemory
-open_note _ = notes.ProgramUnread
+use Rattle.ptb.specs.Opened.{IsUntouched, ServesTask}
 
 -- an argument is no text, or there is no memory for the arguments
 abbrev pub unread_status : ReadErrorKind → ℕ
@@ -37,68 +36,77 @@ unread_status _ = 64
 
 -- ---- what the options ask for
 
--- a run with a list of answers, of none where no list is given
-abbrev pub IsAnswered : Mode → Type 0
-IsAnswered (modes.Plain a) = Unit {0}
-IsAnswered (modes.Seeded seed) = ⊥
-IsAnswered (modes.All under after first form) = ⊥
-IsAnswered modes.List = ⊥
-
 -- at a terminal a run that is given neither answers nor a seed draws its seed
-pub record DrawsSeed (terminals : Terminals) (o : Options) (r : Request) : Type 0 where
-  pub input : terminals.input ≡ true
-  pub output : terminals.output ≡ true
-  pub unanswered : o.answers ≡ None
-  pub unseeded : o.seed ≡ None
-  pub seed : ℕ
-  pub small : seed ≤ 999999
-  pub asks : Asks (record o { seed = Some seed }) r
+abbrev pub wants_seed : Terminals → Options → Bool
+wants_seed terminals o =
+    terminals.input && terminals.output && not o.list && not o.all && not (is_some o.answers) && not (is_some o.seed)
 
--- the seed that is drawn for a request of this mode
-pub record MayDraw (terminals : Terminals) (o : Options) (mode : Mode) (drawn : ℕ) : Type 0 where
-  pub input : terminals.input ≡ true
-  pub output : terminals.output ≡ true
-  pub unanswered : o.answers ≡ None
-  pub mode_is : IsAnswered mode
-  pub small : drawn ≤ 999999
+abbrev pub is_answered : Mode → Bool
+is_answered (modes.Plain a) = true
+is_answered _ = false
 
-abbrev pub AsksAt : Terminals → Options → Request → Type 0
-AsksAt terminals o r = Asks o r ⊎ DrawsSeed terminals o r
+-- the same of a request that is made without a seed: its mode is a run with a list of answers
+abbrev pub draws_seed : Terminals → Options → Mode → Bool
+draws_seed terminals o mode = terminals.input && terminals.output && not (is_some o.answers) && is_answered mode
 
--- ---- what the program does by its arguments: `Serves path request n` says how a request is served, with the status n
+abbrev pub with_seed : Options → Option ℕ → Options
+with_seed o None = o
+with_seed o (Some seed) = record o { seed = Some seed }
 
-pub record AnswersRequest (Serves : Option (List ℕ) → Request → ℕ → Type 0) (terminals : Terminals) (entries : List Row) (n : ℕ) : Type 0 where
-  pub request : Request
-  pub asks : AsksAt terminals (options_of entries) request
-  -- the program's path is the argument that is no option
-  pub serves : Serves (first_of (codes "program") entries) request n
+abbrev pub by_seed : Request → Option ℕ → Request
+by_seed r None = r
+by_seed r (Some seed) = record r { mode = modes.Seeded seed }
 
-pub record IsUsageStatus (options : Options) (n : ℕ) : Type 0 where
-  pub fault : UsageFault
-  pub refuses : Refuses options fault
-  pub status : n ≡ usage_status fault
+pub record AsksAt (terminals : Terminals) (o : Options) (drawn : Option ℕ) (r : Request) : Type 0 where
+  pub asks : Asks (with_seed o drawn) r
+  pub draws : is_some drawn ≡ wants_seed terminals o
+  pub small : IfSome drawn (λ seed. seed ≤ 999999)
 
-abbrev pub AnswersOptions : (Option (List ℕ) → Request → ℕ → Type 0) → Terminals → List Row → ℕ → Type 0
-AnswersOptions Serves terminals entries n = AnswersRequest Serves terminals entries n ⊎ IsUsageStatus (options_of entries) n
+-- ---- what clap refuses
 
--- what clap has to say is shown; what goes to standard output, help and version, may fail to be written
-abbrev pub IsRefusedStatus : ErrorKind → ℕ → Type 0
-IsRefusedStatus kind n =
-    (n ≡ refusal_status kind) ⊎ (((kind ≡ DisplayHelp) ⊎ (kind ≡ DisplayVersion)) × (n ≡ note_status notes.Unwritten))
+-- help and version go to standard output, and it is noted where they can't be written
+abbrev pub shown_status : ErrorKind → Bool → ℕ
+shown_status DisplayHelp false = note_status notes.Unwritten
+shown_status DisplayVersion false = note_status notes.Unwritten
+shown_status kind shown = refusal_status kind
 
--- clap refused the arguments, for one of these faults or for want of memory
-pub record IsFaultStatus (faults : Kinds) (n : ℕ) : Type 0 where
-  pub kind : ErrorKind
-  pub has : (kind ≡ OutOfMemory) ⊎ IsAmong kind faults
-  pub status : IsRefusedStatus kind n
+pub record IsRefusedStatus (kind : ErrorKind) (n : ℕ) : Type 0 where
+  pub shown : Bool
+  pub status : n ≡ shown_status kind shown
 
--- the options of arguments without a fault are answered, and else it is the status of their fault
-pub record ExitsBy (Serves : Option (List ℕ) → Request → ℕ → Type 0) (terminals : Terminals) (words : List Text) (n : ℕ) : Type 0 where
-  pub exits : ((fault_of tool words ≡ []) × AnswersOptions Serves terminals (matches_of tool words) n) ⊎ IsFaultStatus (fault_of tool words) n
+-- ---- what the program does by its arguments
 
--- ---- the whole program
+module _ {R : Type 0} (input : Reads R) (out : Writes) where
+  -- the options ask for nothing
+  pub record IsUsageStatus (options : Options) (n : ℕ) : Type 0 where
+    pub fault : UsageFault
+    pub refuses : Refuses options fault
+    pub status : n ≡ usage_status fault
+    pub untouched : IsUntouched input out
 
-abbrev pub IsExitStatus : Terminals → ℕ → Type 0
-IsExitStatus terminals n =
-    ((words : List Text) × ExitsBy (λ path request number. IsServedStatus request.mode number) terminals words n)
-    ⊎ ((kind : ReadErrorKind) × (n ≡ unread_status kind))
+  -- clap refused the arguments, for one of these faults or for want of memory
+  pub record IsFaultStatus (faults : Kinds) (n : ℕ) : Type 0 where
+    pub kind : ErrorKind
+    pub has : (kind ≡ OutOfMemory) ⊎ IsAmong kind faults
+    pub status : IsRefusedStatus kind n
+    pub untouched : IsUntouched input out
+
+  -- the arguments can't be read, by an error of this kind
+  pub record IsUnreadStatus (kind : ReadErrorKind) (n : ℕ) : Type 0 where
+    pub status : n ≡ unread_status kind
+    pub untouched : IsUntouched input out
+
+module _ {P R : Type 0} (opens : Option (List ℕ) → Result P Note → Type 0) (text : P → P → Reads P) (input : Reads R) (out : Writes) where
+  pub record AnswersRequest (terminals : Terminals) (entries : List Row) (n : ℕ) : Type 0 where
+    pub drawn : Option ℕ
+    pub request : Request
+    pub asks : AsksAt terminals (options_of entries) drawn request
+    -- the program's path is the argument that is no option
+    pub serves : ServesTask opens text (first_of (codes "program") entries) request input out n
+
+  abbrev pub AnswersOptions : Terminals → List Row → ℕ → Type 0
+  AnswersOptions terminals entries n = AnswersRequest terminals entries n ⊎ IsUsageStatus input out (options_of entries) n
+
+  -- the options of arguments without a fault are answered, and otherwise it is the status of their fault
+  pub record ExitsBy (terminals : Terminals) (words : List Text) (n : ℕ) : Type 0 where
+    pub exits : ((fault_of tool words ≡ []) × AnswersOptions terminals (matches_of tool words) n) ⊎ IsFaultStatus input out (fault_of tool words) n

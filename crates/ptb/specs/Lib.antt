@@ -1,4 +1,5 @@
 -- This file names the files of definitions.
 pub mod Terminal
+pub mod Sources
 pub mod Opened
 pub mod Exits

@@ -1,18 +1,17 @@
 // This file has what the arguments of the command line ask for, and what is answered where they ask
 // for nothing.
 
-ghost use Rattle.std.specs.Prelude.{◌≡◌, ◌≤◌, ◌≤ℤ◌, pos, IfErr, IfOk, IfSome, codes, map};
-ghost use Rattle.std.specs.Prelude.{option_copied};
+ghost use Rattle.std.specs.Prelude.{◌≡◌, ◌≤◌, IfErr, IfOk, IfSome, codes, map};
+ghost use Rattle.std.specs.Prelude.{is_ok, is_some, option_copied, string_bytes};
 ghost use Rattle.std.specs.IoError.{error_kind};
 ghost use Rattle.clap.specs.Words.{first_of, kind_of};
-ghost use Rattle.ptb_text.specs.Statements.{IsMemorySize};
 ghost use Rattle.ptb_options.specs.Options.{HasBound, HasMemorySize, Refuses, entries_of};
 ghost use Rattle.ptb_options.specs.Options.{options_of};
 ghost use Rattle.ptb_options.specs.Statuses.{usage_status};
 ghost use Rattle.ptb_serve.specs.Statuses.{note_status};
-ghost use Rattle.ptb.specs.Exits.{AnswersOptions, AsksAt, ExitsBy, IsRefusedStatus, MayDraw};
+ghost use Rattle.ptb.specs.Exits.{AnswersOptions, AsksAt, ExitsBy, IsRefusedStatus};
+ghost use Rattle.ptb.specs.Exits.{IsUnreadStatus, by_seed, draws_seed, shown_status};
 ghost use Rattle.ptb.specs.Exits.{unread_status};
-ghost use Rattle.ptb.specs.Opened.{ServesTask};
 ghost use Rattle.ptb_plain.specs.Streams.{reads_of, writes_of};
 
 use crate::console::Console;
@@ -20,18 +19,42 @@ use crate::serving::{Programs, Task, serve_task};
 use clap::ArgMatches;
 use clap::error::ErrorKind;
 use ptb_options::{
-    Mode, UsageFault, WrongNumber, decide, misspelled_list, parse, refusal_status, wrong_number,
+    Mode, Request, UsageFault, WrongNumber, decide, misspelled_list, parse, refusal_status,
+    wrong_number,
 };
 use ptb_serve::Note;
 use ptb_text::{Read, Write};
 use std::convert::AsStr;
 use std::io;
 use std::rt::Runtime;
-use std::time::{SystemTime, UNIX_EPOCH};
+use std::time::{Duration, SystemTime, UNIX_EPOCH};
 
-/// Does what these arguments ask for, and gives the status to exit with. The first argument is the
-/// program's name.
-pub fn run_words<
+/// Does what the arguments ask for, and gives the status to exit with. The first argument is the
+/// program's name. Where the arguments could not be read, nothing is read or written.
+pub fn run_arguments<R: Runtime + AllocGlobal, P: Read + Drop, O: Programs<P>, I: Read, W: Write>(
+    console: &Console<'_, R>,
+    words: io::Result<Vec<String>>,
+    programs: &O,
+    input: &mut I,
+    out: &mut W,
+) -> u8
+    ensures read { IfOk words (λ w. ExitsBy (O.opens programs.now)
+        (reads_of P.remaining P.given P.failures)
+        (reads_of I.remaining I.given I.failures input.old input.new)
+        (writes_of W.contents W.failures out.old out.new)
+        console.now.terminals (map string_bytes w.items) result) }
+    ensures unread { IfErr words (λ error. IsUnreadStatus
+        (reads_of I.remaining I.given I.failures input.old input.new)
+        (writes_of W.contents W.failures out.old out.new) (error_kind error) result) }
+{
+    match words {
+        Ok(words) => run_words(console, words.as_slice(), programs, input, out),
+        Err(error) => unread_words(console, &error),
+    }
+}
+
+// Does what these arguments ask for.
+fn run_words<
     'a,
     R: Runtime + AllocGlobal,
     S: AsStr,
@@ -40,10 +63,9 @@ pub fn run_words<
     I: Read,
     W: Write,
 >(console: &Console<'_, R>, words: &'a [S], programs: &O, input: &mut I, out: &mut W) -> u8
-    ensures { ExitsBy (λ path request n. ServesTask (O.opens programs.now)
-        (reads_of P.remaining P.given P.failures) path request
+    ensures { ExitsBy (O.opens programs.now) (reads_of P.remaining P.given P.failures)
         (reads_of I.remaining I.given I.failures input.old input.new)
-        (writes_of W.contents W.failures out.old out.new) n)
+        (writes_of W.contents W.failures out.old out.new)
         console.now.terminals (map S.text words.entry.now) result }
 {
     match parse(console.runtime().alloc(), words) {
@@ -52,8 +74,8 @@ pub fn run_words<
     }
 }
 
-/// Says why the arguments can't be read: there is no memory for them, or one is no text.
-pub fn unread_words<R: Runtime>(console: &Console<'_, R>, error: &io::Error) -> u8
+// Says why the arguments can't be read: there is no memory for them, or one is no text.
+fn unread_words<R: Runtime>(console: &Console<'_, R>, error: &io::Error) -> u8
     ensures { result ≡ unread_status (error_kind error.now) }
 {
     match error.kind() {
@@ -80,6 +102,18 @@ fn refuse<R: Runtime>(
         Some(wrong) if is_said_by(error, wrong) => console.runtime().eprint(wrong),
         _ => error.print(console.runtime()),
     };
+    shown_error(console, error, shown)
+}
+
+// The status of what clap had to say, by what came of showing it. Help and version are written to
+// standard output.
+fn shown_error<R: Runtime>(
+    console: &Console<'_, R>,
+    error: &clap::Error,
+    shown: io::Result<()>,
+) -> u8
+    ensures { result ≡ shown_status (kind_of error.now) (is_ok shown) }
+{
     if shown.is_err() && !error.use_stderr() {
         return give_up(console, Note::Unwritten);
     }
@@ -114,10 +148,9 @@ fn run_matches<R: Runtime + AllocGlobal, P: Read + Drop, O: Programs<P>, I: Read
 ) -> u8
     requires memory { HasMemorySize (options_of (entries_of matches.now)) }
     requires bound { HasBound (options_of (entries_of matches.now)) }
-    ensures { AnswersOptions (λ path request n. ServesTask (O.opens programs.now)
-        (reads_of P.remaining P.given P.failures) path request
+    ensures { AnswersOptions (O.opens programs.now) (reads_of P.remaining P.given P.failures)
         (reads_of I.remaining I.given I.failures input.old input.new)
-        (writes_of W.contents W.failures out.old out.new) n)
+        (writes_of W.contents W.failures out.old out.new)
         console.now.terminals (entries_of matches.now) result }
 {
     match task(console, matches) {
@@ -151,24 +184,29 @@ fn task<'a, R: Runtime + AllocGlobal>(
 ) -> Result<Task<'a>, UsageFault>
     requires memory { HasMemorySize (options_of (entries_of matches.now)) }
     requires bound { HasBound (options_of (entries_of matches.now)) }
-    ensures asks { IfOk result (λ t.
-        AsksAt console.now.terminals (options_of (entries_of matches.now)) t.request) }
+    ensures asks { IfOk result (λ t. AsksAt console.now.terminals
+        (options_of (entries_of matches.now)) t.drawn t.request) }
     ensures path { IfOk result (λ t.
         option_copied t.path ≡ first_of (codes "program") (entries_of matches.now)) }
     ensures fault { IfErr result (Refuses (options_of (entries_of matches.now))) }
-    ensures memory { IfOk result (λ t. IsMemorySize t.request.memory) }
-    ensures bound { IfOk result (λ t. IfSome t.request.rules.choose (λ n. pos 1 ≤ℤ n)) }
 {
-    let mut request = decide(console.runtime().alloc(), matches)?;
+    let request = decide(console.runtime().alloc(), matches)?;
     let drawn = draw_seed(console, matches, &request.mode);
-    if let Some(seed) = drawn {
-        request.mode = Mode::Seeded(seed);
-    }
     Ok(Task {
-        request,
+        request: by_seed(request, drawn),
         path: matches.get_str("program"),
         drawn,
     })
+}
+
+// The request with the seed that was drawn for it, where one was.
+fn by_seed(mut request: Request, drawn: Option<u64>) -> Request
+    ensures { result ≡ by_seed request drawn }
+{
+    if let Some(seed) = drawn {
+        request.mode = Mode::Seeded(seed);
+    }
+    request
 }
 
 // The seed that a run draws from the clock: at a terminal, where it is given neither answers nor a
@@ -178,24 +216,25 @@ fn draw_seed<R: Runtime>(
     matches: &ArgMatches<'_>,
     mode: &Mode,
 ) -> Option<u64>
-    ensures { IfSome result
-        (MayDraw console.now.terminals (options_of (entries_of matches.now)) mode.now) }
+    ensures draws { is_some result
+        ≡ draws_seed console.now.terminals (options_of (entries_of matches.now)) mode.now }
+    ensures small { IfSome result (λ seed. seed ≤ 999999) }
 {
     let terminals = console.terminals;
     if !terminals.input || !terminals.output || matches.get_str("answers").is_some() {
         return None;
     }
     match mode {
-        Mode::Plain(_) => clock_seed(console.runtime()),
+        Mode::Plain(_) => Some(clock_seed(console.runtime())),
         _ => None,
     }
 }
 
-// A seed from 0 to 999999: the microseconds of the clock, if it can be read.
-fn clock_seed<R: Runtime>(rt: &R) -> Option<u64>
-    ensures { IfSome result (λ seed. seed ≤ 999999) }
+// A seed from 0 to 999999: the microseconds of the clock, or 0 where it can't be read.
+fn clock_seed<R: Runtime>(rt: &R) -> u64
+    ensures { result ≤ 999999 }
 {
-    let now = SystemTime::now(rt).ok()?;
-    let since = now.duration_since(UNIX_EPOCH).ok()?;
-    Some(u64::from(since.subsec_micros()))
+    let now = SystemTime::now(rt).unwrap_or(UNIX_EPOCH);
+    let since = now.duration_since(UNIX_EPOCH).unwrap_or(Duration::ZERO);
+    u64::from(since.subsec_micros())
 }

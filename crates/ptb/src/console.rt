@@ -1,9 +1,11 @@
 // This file has the standard streams as the program uses them, and what is noted while they are
 // read and written.
 
-ghost use Rattle.std.specs.Prelude.{◌≡◌, ⊤};
+ghost use Rattle.std.specs.Prelude.{◌≡◌};
+ghost use Rattle.std.specs.Result.{result_map_both};
 ghost use Rattle.std.specs.IoError.{error_kind};
-ghost use Rattle.ptb.specs.Exits.{open_note};
+ghost use Rattle.ptb_text.specs.Device.{device_inner};
+ghost use Rattle.ptb.specs.Sources.{MayOpen, open_note, watched_inner};
 
 use crate::serving::Programs;
 use crate::terminal::{Keyboard, Screen, Terminals, Typed};
@@ -143,21 +145,30 @@ pub struct ProgramFiles<'a, R> {
 }
 
 impl<'a, R: Runtime> Programs<ProgramText<'a, R>> for ProgramFiles<'a, R> {
-    // Nobody knows what is among the files.
-    ghost opens = { λ files path opened. ⊤ };
+    // Nobody knows what is in a file, and whether it can be opened.
+    ghost opens = { λ files path opened. MayOpen path
+        (result_map_both (λ text. watched_inner (device_inner text)) (λ note. note) opened) };
 
     fn open(&self, path: Option<&str>) -> Result<ProgramText<'a, R>, Note> {
         let source = match path {
-            Some(path) => match fs::open(self.rt, path) {
-                Ok(file) => Source::File(file),
-                Err(error) => {
-                    self.failed.set(Some(error));
-                    return Err(open_note(&error));
-                }
-            },
+            Some(path) => Source::File(opened_file(fs::open(self.rt, path), self.failed)?),
             None => Source::Input(self.rt.reader()),
         };
         Ok(Device::new(Watched::new(source, self.failed)))
+    }
+}
+
+// A file that was opened, or the note of one that can't be. The error is kept.
+fn opened_file<F>(opened: io::Result<F>, failed: &Cell<Option<io::Error>>) -> Result<F, Note>
+    ensures { result ≡ result_map_both (λ file. file) (λ error. open_note (error_kind error))
+        opened }
+{
+    match opened {
+        Ok(file) => Ok(file),
+        Err(error) => {
+            failed.set(Some(error));
+            Err(open_note(&error))
+        }
     }
 }
 

@@ -1,18 +1,18 @@
 // This file serves a request for a program that is opened, and says what came of it.
 
-ghost use Rattle.std.specs.Prelude.{◌≡◌, ◌≤ℤ◌, ℕ, pos, List, [], Option, Some, Result};
-ghost use Rattle.std.specs.Prelude.{IfOk, IfSome, OnErr, option_copied};
-ghost use Rattle.ptb_text.specs.Statements.{IsMemorySize};
+ghost use Rattle.std.specs.Prelude.{◌≡◌, ℕ, List, Option, Result, IfSome};
+ghost use Rattle.std.specs.Prelude.{option_copied};
 ghost use Rattle.ptb_serve.specs.declared.note.Note.{Note as NoteValue};
 ghost use Rattle.ptb_plain.specs.Streams.{reads_of, writes_of};
-ghost use Rattle.ptb.specs.Opened.{KeepsPromises, ServesOpened, ServesTask, exit_status, text_of};
+ghost use Rattle.ptb.specs.Opened.{ServesOpened, ServesTask, exit_status, no_lines};
 
 use crate::console::Console;
 use crate::endings::Shortage;
+use crate::no_lines::NoLines;
 use crate::reasons::Reason;
 use ptb_options::{Mode, Request};
 use ptb_serve::{ListMismatch, Note, Outcome, serve};
-use ptb_text::{Device, Read, Write};
+use ptb_text::{Read, Write};
 use std::alloc::Global;
 use std::rt::Runtime;
 
@@ -50,8 +50,6 @@ pub fn serve_task<R: Runtime + AllocGlobal, P: Read + Drop, O: Programs<P>, I: R
     input: &mut I,
     out: &mut W,
 ) -> u8
-    requires memory { IsMemorySize task.now.request.memory }
-    requires bound { IfSome task.now.request.rules.choose (λ n. pos 1 ≤ℤ n) }
     ensures { ServesTask (O.opens programs.now) (reads_of P.remaining P.given P.failures)
         (option_copied task.now.path) task.now.request
         (reads_of I.remaining I.given I.failures input.old input.new)
@@ -67,7 +65,7 @@ pub fn serve_task<R: Runtime + AllocGlobal, P: Read + Drop, O: Programs<P>, I: R
     }
     let result = match task.path {
         Some(_) => serve_opened(alloc, &task.request, opened, input, out),
-        None => serve_without_input(alloc, &task.request, opened, out),
+        None => serve_without_lines(alloc, &task.request, opened, out),
     };
     conclude(console, task, result)
 }
@@ -90,15 +88,9 @@ fn serve_opened<P: Read + Drop, I: Read, W: Write>(
     input: &mut I,
     out: &mut W,
 ) -> Result<Outcome, Note>
-    requires memory { IsMemorySize request.now.memory }
-    requires bound { IfSome request.now.rules.choose (λ n. pos 1 ≤ℤ n) }
-    ensures serves { ServesOpened request.now (text_of P.remaining opened)
-        (I.remaining input.old) (writes_of W.contents W.failures out.old out.new) result }
-    ensures promises { IfOk opened (λ program. KeepsPromises
-        (reads_of P.remaining P.given P.failures program) request.now
+    ensures { ServesOpened (reads_of P.remaining P.given P.failures) request.now opened
         (reads_of I.remaining I.given I.failures input.old input.new)
-        (writes_of W.contents W.failures out.old out.new) result) }
-    ensures unread { OnErr opened (input.new ≡ input.old) }
+        (writes_of W.contents W.failures out.old out.new) result }
 {
     match opened {
         Ok(mut program) => Ok(serve(alloc, request, &mut program, input, out)),
@@ -107,20 +99,16 @@ fn serve_opened<P: Read + Drop, I: Read, W: Write>(
 }
 
 // Serves a request without input lines.
-fn serve_without_input<P: Read + Drop, W: Write>(
+fn serve_without_lines<P: Read + Drop, W: Write>(
     alloc: Global,
     request: &Request,
     opened: Result<P, Note>,
     out: &mut W,
 ) -> Result<Outcome, Note>
-    requires memory { IsMemorySize request.now.memory }
-    requires bound { IfSome request.now.rules.choose (λ n. pos 1 ≤ℤ n) }
-    ensures { ServesOpened request.now (text_of P.remaining opened) (Some [])
+    ensures { ServesOpened (reads_of P.remaining P.given P.failures) request.now opened no_lines
         (writes_of W.contents W.failures out.old out.new) result }
 {
-    let mut empty: &[u8] = &[];
-    let mut input = Device::new(&mut empty);
-    serve_opened(alloc, request, opened, &mut input, out)
+    serve_opened(alloc, request, opened, &mut NoLines, out)
 }
 
 // Says what came of a task, and gives the status to exit with.

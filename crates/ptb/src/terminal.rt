@@ -4,6 +4,7 @@
 ghost use Rattle.std.specs.Prelude.{◌≤◌, length};
 ghost use Rattle.ptb.specs.Terminal.{unless_watched};
 
+use ptb_text::ByteSink;
 use std::cell::Cell;
 use std::io;
 
@@ -89,7 +90,7 @@ impl<'a, T> Screen<'a, T> {
     }
 }
 
-impl<'a, T: io::Write> io::Write for Screen<'a, T> {
+impl<'a, T: io::Write> ByteSink for Screen<'a, T> {
     ghost contents = { λ s. unless_watched s.typed (T.contents s.inner) };
 
     fn write(&mut self, bytes: &[u8]) -> io::Result<usize> {

@@ -1,5 +1,9 @@
 // This file has the readers of a program's text and of the input, which keep why a read failed.
 
+ghost use Rattle.std.specs.Prelude.{◌≡◌};
+ghost use Rattle.ptb.specs.Sources.{source_bytes, watched_inner};
+
+use ptb_text::ByteSource;
 use std::cell::Cell;
 use std::io;
 
@@ -12,12 +16,14 @@ pub struct Watched<'a, T> {
 
 impl<'a, T> Watched<'a, T> {
     /// A reader of what `inner` gives.
-    pub fn new(inner: T, failed: &'a Cell<Option<io::Error>>) -> Self {
+    pub fn new(inner: T, failed: &'a Cell<Option<io::Error>>) -> Self
+        ensures { watched_inner result ≡ inner }
+    {
         Watched { inner, failed }
     }
 }
 
-impl<'a, T: io::Read> io::Read for Watched<'a, T> {
+impl<'a, T: io::Read> ByteSource for Watched<'a, T> {
     ghost remaining = { λ w. T.remaining w.inner };
 
     fn read(&mut self, buf: &mut [u8]) -> io::Result<usize> {
@@ -39,6 +45,8 @@ pub enum Source<F, I> {
 }
 
 impl<F: io::Read, I: io::Read> io::Read for Source<F, I> {
+    ghost remaining = { source_bytes F.remaining I.remaining };
+
     fn read(&mut self, buf: &mut [u8]) -> io::Result<usize> {
         match self {
             Source::File(file) => file.read(buf),

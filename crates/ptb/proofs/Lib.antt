@@ -1,0 +1,2 @@
+-- This file names the files of lemmas.
+mod Seeds
