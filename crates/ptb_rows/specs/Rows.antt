@@ -1,5 +1,6 @@
 -- This file has worked rows of the whole tool and of its command line.
-use Rattle.std.specs.Prelude.{◌≡◌, ℕ, List, [], ◌∷◌, ◌++◌, Bool, true, Option, Some, None, Ok, Err, ℤ, pos, codes, flat_map, replicate, option_map}
+use Rattle.std.specs.Prelude.{◌≡◌, ℕ, List, [], ◌∷◌, ◌++◌, Bool, true, Option, Some, None, Ok, Err, ℤ, pos, codes, flat_map, replicate, option_map, ◌≤ℤ◌}
+use Rattle.std.specs.Int.Signed.{le_z_yes}
 use Rattle.ptb_text.specs.declared.fault.LoadFault.TheVariants.{NoNumber, NumberTooBig, TextTooLong, Full, BadByte}
 use Rattle.clap.specs.Words.{fault_of, matches_of}
 use Rattle.clap.specs.declared.error.ErrorKind.{ErrorKind}
@@ -12,7 +13,8 @@ use Rattle.ptb_serve.specs.declared.note.Note.TheVariants as notes
 use Rattle.ptb_options.specs.declared.request.Mode.TheVariants as modes
 use Rattle.ptb_options.specs.declared.request.Request.{Request}
 use Rattle.ptb_serve.specs.Replies.{Reply, refusal, success, reply_to}
-use Rattle.ptb_text.specs.Statements.{program}
+use lib.Dec.{lit≤}
+use Rattle.ptb_text.specs.Statements.{IsMemorySize, program}
 use Rattle.ptb_answers.specs.Outcome.{is_whole}
 use Rattle.ptb_answers.specs.declared.rules.Rules.{Rules}
 use Rattle.ptb_machine.specs.Play.{play}
@@ -31,24 +33,34 @@ one_line l = text (l ∷ [])
 
 -- the rules of a request that gives neither steps nor a bound for answers in place of lines
 abbrev pub default_rules : Rules
-default_rules = record { limit = default_steps; choose = None }
+default_rules = record { limit = default_steps; choose = None; in_range = tt }
 
 abbrev pub limited : ℕ → Request → Request
 limited steps request = record request { rules = record default_rules { limit = steps } }
 
-abbrev pub choosing : ℤ → Request → Request
-choosing bound request = record request { rules = record default_rules { choose = Some bound } }
+abbrev pub choosing : (bound : ℤ) → pos 1 ≤ℤ bound → Request → Request
+choosing bound positive request = record request { rules = record default_rules { choose = Some bound; in_range = positive } }
+
+-- its memory, and the least, are sizes that a program can have
+pub default_size : IsMemorySize default_memory
+default_size = (lit≤ tt, lit≤ tt)
+
+pub least_size : IsMemorySize 64
+least_size = (lit≤ tt, lit≤ tt)
+
+abbrev pub with_least_memory : Request → Request
+with_least_memory request = record request { memory = 64; in_range = least_size }
 
 -- requests with the rules and the memory of one that gives none
 abbrev pub run : List ℤ → Request
-run answers = record { rules = default_rules; memory = default_memory; mode = modes.Plain answers }
+run answers = record { rules = default_rules; memory = default_memory; mode = modes.Plain answers; in_range = default_size }
 
 abbrev pub seeded : ℕ → Request
-seeded seed = record { rules = default_rules; memory = default_memory; mode = modes.Seeded seed }
+seeded seed = record { rules = default_rules; memory = default_memory; mode = modes.Seeded seed; in_range = default_size }
 
 -- all runs, or the first n of those behind a run
 abbrev pub all_in : Form → Option (List Marked) → Option ℕ → Request
-all_in form after first = record { rules = default_rules; memory = default_memory; mode = modes.All None after first form }
+all_in form after first = record { rules = default_rules; memory = default_memory; mode = modes.All None after first form; in_range = default_size }
 
 -- in form 1
 abbrev pub all_from : Option (List ℤ) → Option ℕ → Request
@@ -61,7 +73,7 @@ abbrev pub behind : List ℤ → Request
 behind a = all_from (Some a) None
 
 abbrev pub list : Request
-list = record { rules = default_rules; memory = default_memory; mode = modes.List }
+list = record { rules = default_rules; memory = default_memory; mode = modes.List; in_range = default_size }
 
 -- the report of a run whose answers are 69 times 1 and then these
 abbrev pub long_report : List ℕ → List ℕ
@@ -81,7 +93,7 @@ pub record RunRows : Type 0 where
   pub fault : reply_to (run []) (codes "10 PRINT -(-32767-1)") [] ≡ run_end (text (codes "HOW?" ∷ codes "10 PRINT -(-32767-1)?" ∷ [])) 2
   pub input : reply_to (run []) (codes "10 INPUT A") (text (codes ")" ∷ codes "5" ∷ [])) ≡ run_end (text (codes "A:)" ∷ codes "WHAT?" ∷ codes "A:5" ∷ [])) 0
   pub no_input : reply_to (run []) (codes "10 INPUT A") (one_line (codes ")")) ≡ run_end (text (codes "A:)" ∷ codes "WHAT?" ∷ []) ++ codes "A:") 5
-  pub small_memory : reply_to (record (run []) { memory = 64 }) (codes "10 @(28)=1") [] ≡ run_end (text (codes "SORRY" ∷ codes "10 @(28)?=1" ∷ [])) 3
+  pub small_memory : reply_to (with_least_memory (run [])) (codes "10 @(28)=1") [] ≡ run_end (text (codes "SORRY" ∷ codes "10 @(28)?=1" ∷ [])) 3
 
 -- runs whose answers are drawn from a seed
 pub record SeedRows : Type 0 where
@@ -98,27 +110,27 @@ pub record SeedRows : Type 0 where
 
 -- answers that stand in place of missing lines
 pub record ChoiceRows : Type 0 where
-  pub each_answer : reply_to (choosing (pos 2) all) (codes "10 INPUT A;PRINT A") [] ≡ success (codes "RUN 1 END 2 11\nA:1\n     1\n\nRUN 2 END 2 11\nA:2\n     2\n\n")
-  pub behind_faulty_line : reply_to (choosing (pos 2) all) (codes "10 INPUT A;PRINT A") (one_line (codes ")"))
+  pub each_answer : reply_to (choosing (pos 2) (le_z_yes tt) all) (codes "10 INPUT A;PRINT A") [] ≡ success (codes "RUN 1 END 2 11\nA:1\n     1\n\nRUN 2 END 2 11\nA:2\n     2\n\n")
+  pub behind_faulty_line : reply_to (choosing (pos 2) (le_z_yes tt) all) (codes "10 INPUT A;PRINT A") (one_line (codes ")"))
       ≡ success (codes "RUN 1 END 2 21\nA:)\nWHAT?\nA:1\n     1\n\nRUN 2 END 2 21\nA:)\nWHAT?\nA:2\n     2\n\n")
-  pub index_and_value : reply_to (choosing (pos 2) all) (codes "10 INPUT @(RND(2)-1)") [] ≡ success (
+  pub index_and_value : reply_to (choosing (pos 2) (le_z_yes tt) all) (codes "10 INPUT @(RND(2)-1)") [] ≡ success (
       codes "RUN 1,1 END 1 14\n@(RND(2)-1):1\n\n" ++ codes "RUN 1,2 END 1 14\n@(RND(2)-1):2\n\n"
       ++ codes "RUN 2,1 END 1 14\n@(RND(2)-1):1\n\n" ++ codes "RUN 2,2 END 1 14\n@(RND(2)-1):2\n\n")
-  pub no_answer : reply_to (choosing (pos 2) (run [])) (codes "10 INPUT A;PRINT A") [] ≡ run_end (codes "A:") 6
-  pub bad_answer : reply_to (choosing (pos 2) (run (pos 3 ∷ []))) (codes "10 INPUT A;PRINT A") [] ≡ run_end (codes "A:") 7
-  pub answer : reply_to (choosing (pos 2) (run (pos 2 ∷ []))) (codes "10 INPUT A;PRINT A") [] ≡ run_end (codes "A:2\n     2\n") 0
+  pub no_answer : reply_to (choosing (pos 2) (le_z_yes tt) (run [])) (codes "10 INPUT A;PRINT A") [] ≡ run_end (codes "A:") 6
+  pub bad_answer : reply_to (choosing (pos 2) (le_z_yes tt) (run (pos 3 ∷ []))) (codes "10 INPUT A;PRINT A") [] ≡ run_end (codes "A:") 7
+  pub answer : reply_to (choosing (pos 2) (le_z_yes tt) (run (pos 2 ∷ []))) (codes "10 INPUT A;PRINT A") [] ≡ run_end (codes "A:2\n     2\n") 0
   -- a line that is left is taken first
-  pub line_first : reply_to (choosing (pos 9) (run (pos 9 ∷ []))) (codes "10 INPUT A,B;PRINT A-B") (codes "5\n") ≡ run_end (codes "A:5\nB:9\n    -4\n") 0
-  pub no_line_asked_for : reply_to (choosing (pos 9) all) (codes "10 PRINT 1") [] ≡ success (codes "RUN none END 1 7\n     1\n\n")
-  pub only_answer : reply_to (choosing (pos 1) all) (codes "10 INPUT A") [] ≡ success (codes "RUN 1 END 1 4\nA:1\n\n")
-  pub greatest : reply_to (choosing (pos 32767) (run (pos 32767 ∷ []))) (codes "10 INPUT A") [] ≡ run_end (codes "A:32767\n") 0
+  pub line_first : reply_to (choosing (pos 9) (le_z_yes tt) (run (pos 9 ∷ []))) (codes "10 INPUT A,B;PRINT A-B") (codes "5\n") ≡ run_end (codes "A:5\nB:9\n    -4\n") 0
+  pub no_line_asked_for : reply_to (choosing (pos 9) (le_z_yes tt) all) (codes "10 PRINT 1") [] ≡ success (codes "RUN none END 1 7\n     1\n\n")
+  pub only_answer : reply_to (choosing (pos 1) (le_z_yes tt) all) (codes "10 INPUT A") [] ≡ success (codes "RUN 1 END 1 4\nA:1\n\n")
+  pub greatest : reply_to (choosing (pos 32767) (le_z_yes tt) (run (pos 32767 ∷ []))) (codes "10 INPUT A") [] ≡ run_end (codes "A:32767\n") 0
   -- by a seed they are drawn as for RND
-  pub drawn : reply_to (choosing (pos 6) (seeded 7)) (codes "10 INPUT A;PRINT RND(6)") [] ≡ run_end (codes "A:3\n     5\n") 0
+  pub drawn : reply_to (choosing (pos 6) (le_z_yes tt) (seeded 7)) (codes "10 INPUT A;PRINT RND(6)") [] ≡ run_end (codes "A:3\n     5\n") 0
   -- with the steps of a limit
-  pub limit : reply_to (record all { rules = record { limit = 1; choose = Some (pos 2) } }) (codes "10 INPUT A;PRINT A") [] ≡ success (codes "RUN 1 LIMIT 1 4\nA:1\n\nRUN 2 LIMIT 1 4\nA:2\n\n")
-  pub behind_first : reply_to (choosing (pos 2) (behind (pos 1 ∷ []))) (codes "10 INPUT A;PRINT A") [] ≡ success (codes "RUN 2 END 2 11\nA:2\n     2\n\n")
-  pub first_one : reply_to (choosing (pos 2) (all_from None (Some 1))) (codes "10 INPUT A;PRINT A") [] ≡ success (codes "RUN 1 END 2 11\nA:1\n     1\n\n")
-  pub behind_none : reply_to (choosing (pos 2) (behind (pos 3 ∷ []))) (codes "10 INPUT A;PRINT A") [] ≡ refusal notes.NoRun
+  pub limit : reply_to (record all { rules = record { limit = 1; choose = Some (pos 2); in_range = le_z_yes tt } }) (codes "10 INPUT A;PRINT A") [] ≡ success (codes "RUN 1 LIMIT 1 4\nA:1\n\nRUN 2 LIMIT 1 4\nA:2\n\n")
+  pub behind_first : reply_to (choosing (pos 2) (le_z_yes tt) (behind (pos 1 ∷ []))) (codes "10 INPUT A;PRINT A") [] ≡ success (codes "RUN 2 END 2 11\nA:2\n     2\n\n")
+  pub first_one : reply_to (choosing (pos 2) (le_z_yes tt) (all_from None (Some 1))) (codes "10 INPUT A;PRINT A") [] ≡ success (codes "RUN 1 END 2 11\nA:1\n     1\n\n")
+  pub behind_none : reply_to (choosing (pos 2) (le_z_yes tt) (behind (pos 3 ∷ []))) (codes "10 INPUT A;PRINT A") [] ≡ refusal notes.NoRun
 
 -- programs that run once
 pub record ProgramRows : Type 0 where
@@ -130,7 +142,7 @@ pub record ProgramRows : Type 0 where
   pub endless_calls : reply_to (run []) (codes "10 GOSUB 10") [] ≡ run_end (codes "SORRY\n10 GOSUB 10?\n") 3
   pub product_too_great : reply_to (run []) (codes "300 B=200,C=200\n310 LET A=B*C+2\n") [] ≡ run_end (codes "HOW?\n310 LET A=B*C?+2\n") 2
   pub index_asked_again : reply_to (run (pos 1 ∷ pos 1 ∷ [])) (codes "10 INPUT @(RND(2))") (codes ")\n5\n") ≡ run_end (codes "@(RND(2)):)\nWHAT?\n@(RND(2)):5\n") 0
-  pub last_element : reply_to (record (run []) { memory = 64 }) (codes "10 @(27)=1") [] ≡ run_end [] 0
+  pub last_element : reply_to (with_least_memory (run [])) (codes "10 @(27)=1") [] ≡ run_end [] 0
   pub size : reply_to (run []) (codes "10 PRINT SIZE") [] ≡ run_end (codes "  4083\n") 0
   pub loop_of_subroutine : reply_to (run []) (codes "10 GOS.30;N.J\n30 F.J=1TO9;R.\n") [] ≡ run_end (codes "WHAT?\n10 GOS.30;N.J?\n") 1
   pub stop : reply_to (run []) (codes "10 GOSUB 40;P.1\n20 STOP\n40 P.2;RETURN\n") [] ≡ run_end (codes "     2\n     1\n") 0
@@ -219,7 +231,7 @@ pub record BoundRows : Type 0 where
 
 -- the runs that begin with these answers, or the first n of those behind one of them
 abbrev pub under : List Marked → Option (List Marked) → Option ℕ → Request
-under list after first = record { rules = default_rules; memory = default_memory; mode = modes.All (Some list) after first Two }
+under list after first = record { rules = default_rules; memory = default_memory; mode = modes.All (Some list) after first Two; in_range = default_size }
 
 abbrev pub answers : List ℤ → List Marked
 answers list = unmarked list
@@ -245,7 +257,7 @@ pub record RefusalRows : Type 0 where
   pub number : reply_to (run []) (codes "32768 P.1") [] ≡ refusal (notes.Load 1 NumberTooBig)
   pub no_number : reply_to (run []) (codes "0 P.") [] ≡ refusal (notes.Load 1 NoNumber)
   pub byte : reply_to (run []) (codes "10 P." ++ 127 ∷ []) [] ≡ refusal (notes.Load 1 (BadByte 6))
-  pub full : reply_to (record (run []) { memory = 64 }) (text (
+  pub full : reply_to (with_least_memory (run [])) (text (
       codes "1 P.1" ∷ codes "2 P.1" ∷ codes "3 P.1" ∷ codes "4 P.1" ∷ codes "5 P.1" ∷ codes "6 P.1" ∷ codes "7 P.1"
       ∷ codes "8 P.1" ∷ codes "9 P.1" ∷ codes "10 P.1" ∷ codes "11 P.1" ∷ [])) [] ≡ refusal (notes.Load 11 Full)
   pub long_text : reply_to (run []) (codes "10 A=" ++ replicate 254 57) [] ≡ refusal (notes.Load 1 TextTooLong)

@@ -1,8 +1,5 @@
 // This file tests the listing of all runs through `serve`.
 
-ghost use Rattle.std.specs.Prelude.{◌≤ℤ◌, pos, IfOk, IfSome};
-ghost use Rattle.ptb_text.specs.Statements.{IsMemorySize};
-
 use crate::tests::{
     FAILINGS, Failing, Script, Sink, expect_reply, expect_same, make_sink, reply_on_endless_input,
     reply_to, rules_of,
@@ -117,10 +114,7 @@ fn kept(alloc: Global, list: Option<&[Marked]>) -> Result<Option<MarkedAnswers>,
     }
 }
 
-fn request_of(alloc: Global, asked: &Asked<'_>) -> Result<Request, AllocError>
-    ensures memory { IfOk result (λ r. IsMemorySize r.memory) }
-    ensures bound { IfOk result (λ r. IfSome r.rules.choose (λ n. pos 1 ≤ℤ n)) }
-{
+fn request_of(alloc: Global, asked: &Asked<'_>) -> Result<Request, AllocError> {
     let (under, after) = (kept(alloc, asked.under)?, kept(alloc, asked.after)?);
     Ok(Request {
         rules: rules_of(asked.steps, asked.choose),

@@ -1,12 +1,9 @@
 // This file tests serving, over readers and writers that move few bytes, fail, or never end.
 
-ghost use Rattle.std.specs.Prelude.{◌≤ℤ◌, pos, IfOk, IfSome};
-ghost use Rattle.ptb_text.specs.Statements.{IsMemorySize};
-
 use ptb_machine::Rules;
 use ptb_options::{DEFAULT_MEMORY, DEFAULT_STEPS, Mode, Request};
 use ptb_serve::{Note, Outcome, serve};
-use ptb_text::{Device, LoadFault, Read};
+use ptb_text::{ByteSink, ByteSource, Device, LoadFault, Read};
 use rand_core::utils::NextWord;
 use rand_pcg::Lcg64Xsh32;
 use std::alloc::{AllocError, Global};
@@ -24,13 +21,13 @@ pub(crate) struct Script<'a> {
     pub(crate) fails: bool,
 }
 
-impl io::Read for Script<'_> {
+impl ByteSource for Script<'_> {
     fn read(&mut self, buf: &mut [u8]) -> io::Result<usize> {
         if self.fails && self.bytes.is_empty() {
             return Err(io::Error::from(ErrorKind::Other));
         }
         let room = self.piece.min(buf.len());
-        self.bytes.read(&mut buf[..room])
+        ByteSource::read(&mut self.bytes, &mut buf[..room])
     }
 }
 
@@ -40,7 +37,7 @@ pub(crate) struct Endless {
     pub(crate) given: usize,
 }
 
-impl io::Read for &mut Endless {
+impl ByteSource for &mut Endless {
     fn read(&mut self, buf: &mut [u8]) -> io::Result<usize> {
         for byte in buf.iter_mut() {
             *byte = b'A';
@@ -67,7 +64,7 @@ pub(crate) struct Sink {
     failing: Failing,
 }
 
-impl io::Write for &mut Sink {
+impl ByteSink for &mut Sink {
     fn write(&mut self, buf: &[u8]) -> io::Result<usize> {
         if self.calls_left == 0 {
             return match self.failing {
@@ -120,10 +117,7 @@ pub(crate) fn reply_to<P: Read, R: Read>(
     program: &mut P,
     input: &mut R,
     piece: usize,
-) -> (Outcome, Vec<u8>)
-    requires memory { IsMemorySize request.now.memory }
-    requires bound { IfSome request.now.rules.choose (λ n. pos 1 ≤ℤ n) }
-{
+) -> (Outcome, Vec<u8>) {
     let mut sink = make_sink(alloc, piece, usize::MAX, Failing::Breaks);
     let mut out = Device::new(&mut sink);
     let outcome = serve(alloc, request, program, input, &mut out);
@@ -136,10 +130,7 @@ pub(crate) fn reply_on_endless_input(
     request: &Request,
     program: &[u8],
     piece: usize,
-) -> ((Outcome, Vec<u8>), usize)
-    requires memory { IsMemorySize request.now.memory }
-    requires bound { IfSome request.now.rules.choose (λ n. pos 1 ≤ℤ n) }
-{
+) -> ((Outcome, Vec<u8>), usize) {
     let mut endless = Endless { given: 0 };
     let mut program = Device::new(program);
     let mut input = Device::new(&mut endless);
@@ -206,10 +197,8 @@ pub(crate) const FAILINGS: &[Failing] = &[
     Failing::TakesNothing,
 ];
 
-// These rules. A bound for answers in place of lines is at least 1.
-pub(crate) fn rules_of(limit: u32, choose: Option<i16>) -> Rules
-    ensures { IfSome result.choose (λ n. pos 1 ≤ℤ n) }
-{
+// These rules, with a bound of at least 1.
+pub(crate) fn rules_of(limit: u32, choose: Option<i16>) -> Rules {
     let choose = match choose {
         Some(bound) => Some(bound.max(1)),
         None => None,
@@ -217,10 +206,7 @@ pub(crate) fn rules_of(limit: u32, choose: Option<i16>) -> Rules
     Rules { limit, choose }
 }
 
-fn request_of(alloc: Global, row: &Row<'_>) -> Result<Request, AllocError>
-    ensures memory { IfOk result (λ r. IsMemorySize r.memory) }
-    ensures bound { IfOk result (λ r. IfSome r.rules.choose (λ n. pos 1 ≤ℤ n)) }
-{
+fn request_of(alloc: Global, row: &Row<'_>) -> Result<Request, AllocError> {
     let mode = match row.asked {
         Asked::Run(answers) => Mode::Plain(Vec::from_slice(alloc, answers)?.into()),
         Asked::Seed(seed) => Mode::Seeded(seed),

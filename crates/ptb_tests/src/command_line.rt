@@ -3,7 +3,6 @@
 use crate::shared::{ONE, ONE_OF_2, ONE_OF_3, TWO, TWO_OF_2, expect_same};
 use clap::error::ErrorKind;
 use ptb_explore::{Form, Marked};
-use ptb_machine::Rules;
 use ptb_options::{
     Answers, Bounds, ItemFault, ListFault, MarkedAnswers, Mistake, Mode, Request, UsageFault,
     decide, list_mistake, misspelled_list, parse, parse_answers, parse_list, refusal_status,
@@ -435,7 +434,7 @@ fn made_answers_with_bounds(rt: HostRuntime) -> Result<(), Fail> {
 fn plain_run(alloc: Global, line: &str, answers: &[i16]) -> Option<(u32, u16, bool)> {
     let request = requested(alloc, line)?;
     let (limit, memory) = (request.rules.limit, request.memory);
-    match request.mode {
+    match &request.mode {
         Mode::Plain(found) => Some((limit, memory, found.as_slice() == answers)),
         _ => None,
     }
@@ -461,9 +460,10 @@ fn plain_requests(rt: HostRuntime) {
     }
 }
 
-// The rules of a request.
-fn rules_of(alloc: Global, line: &str) -> Option<Rules> {
-    Some(requested(alloc, line)?.rules)
+// The limit and the bound of the rules of a request.
+fn rules_of(alloc: Global, line: &str) -> Option<(u32, Option<i16>)> {
+    let rules = requested(alloc, line)?.rules;
+    Some((rules.limit, rules.choose))
 }
 
 const RULES: &[(&str, u32, Option<i16>)] = &[
@@ -479,7 +479,7 @@ const RULES: &[(&str, u32, Option<i16>)] = &[
 fn bounds_for_missing_lines(rt: HostRuntime) {
     for &(line, limit, choose) in RULES {
         let found = rules_of(rt.alloc(), line);
-        expect_same(&rt, line, found, Some(Rules { limit, choose }));
+        expect_same(&rt, line, found, Some((limit, choose)));
     }
 }
 
@@ -508,7 +508,7 @@ fn seeded_requests(rt: HostRuntime) {
 }
 
 // Whether a list is there with these items, or is missing as it should.
-fn is_list(found: Option<MarkedAnswers>, wanted: Option<&[Marked]>) -> bool {
+fn is_list(found: &Option<MarkedAnswers>, wanted: Option<&[Marked]>) -> bool {
     match found {
         Some(found) => Some(found.as_slice()) == wanted,
         None => wanted.is_none(),
@@ -523,13 +523,14 @@ fn listing(
     share: Option<&[Marked]>,
     run: Option<&[Marked]>,
 ) -> Option<(bool, bool, Option<u64>, Form)> {
-    match requested(alloc, line)?.mode {
+    let request = requested(alloc, line)?;
+    match &request.mode {
         Mode::All {
             under,
             after,
             first,
             form,
-        } => Some((is_list(under, share), is_list(after, run), first, form)),
+        } => Some((is_list(under, share), is_list(after, run), *first, *form)),
         _ => None,
     }
 }
@@ -598,11 +599,8 @@ fn many_arguments(rt: HostRuntime) {
         listed,
         Some((true, true, Some(3), Form::One)),
     );
-    let rules = Rules {
-        limit: 5,
-        choose: Some(2),
-    };
-    expect_same(&rt, "rules", rules_of(rt.alloc(), ALL_OPTIONS), Some(rules));
+    let rules = rules_of(rt.alloc(), ALL_OPTIONS);
+    expect_same(&rt, "rules", rules, Some((5, Some(2))));
     expect_same(&rt, "memory", memory_of(rt.alloc(), ALL_OPTIONS), Some(64));
 }
 

@@ -1,7 +1,5 @@
 // This file tests an explorer's copies: how many are kept, and how many commands are played.
 
-ghost use Rattle.std.specs.Prelude.{◌≤ℤ◌, pos, IfSome};
-
 use crate::shared::{ONE, OUT_OF_MEMORY, TWO_OF_2, expect_same, loaded, plain_rules};
 use ptb_explore::{AfterFault, Explorer, Report, UnderFault};
 use ptb_machine::{Ending, Line, Rules};
@@ -69,9 +67,7 @@ fn expect_runs_from(
     lines: &[Line],
     rules: Rules,
     runs: &[ExpectedRun],
-) -> Result<(), Fail>
-    requires { IfSome rules.choose (λ n. pos 1 ≤ℤ n) }
-{
+) -> Result<(), Fail> {
     let mut explorer = Explorer::start(alloc, program, lines, rules)?;
     expect_runs(rt, &mut explorer, runs)
 }
@@ -83,9 +79,7 @@ fn expect_runs_of(
     text: &str,
     rules: Rules,
     runs: &[ExpectedRun],
-) -> Result<(), Fail>
-    requires { IfSome rules.choose (λ n. pos 1 ≤ℤ n) }
-{
+) -> Result<(), Fail> {
     let (program, lines) = loaded(alloc, text, "")?;
     expect_runs_from(rt, alloc, &program, &lines, rules, runs)
 }

@@ -2,7 +2,7 @@
 
 use crate::shared::expect_same;
 use ptb_serve::Flushing;
-use ptb_text::{DeviceFault, Write};
+use ptb_text::{ByteSink, DeviceFault, Write};
 use std::io;
 use std::io::ErrorKind;
 
@@ -13,7 +13,7 @@ struct Tank {
     flushes_left: usize,
 }
 
-impl io::Write for &mut Tank {
+impl ByteSink for &mut Tank {
     fn write(&mut self, buf: &[u8]) -> io::Result<usize> {
         self.taken.extend_from_slice(buf)?;
         Ok(buf.len())

@@ -1,6 +1,6 @@
 // This file tests listings of runs, also to writers that fail and where memory is refused.
 
-ghost use Rattle.std.specs.Prelude.{◌≤◌, ◌≤ℤ◌, pos, IfSome};
+ghost use Rattle.std.specs.Prelude.{◌≤◌};
 
 use crate::shared::{
     FOUR_OF_3, FOUR_OF_4, ONE, ONE_OF_1, ONE_OF_2, ONE_OF_3, ONE_OF_4, THREE, TWO, TWO_OF_2,
@@ -10,7 +10,7 @@ use ptb_explore::{
     AfterFault, ExploreFault, Explorer, Form, Marked, Report, UnderFault, write_all_runs,
 };
 use ptb_machine::{Ending, Line, Rules};
-use ptb_text::{Device, LoadFault, Program, Write, load};
+use ptb_text::{ByteSink, Device, LoadFault, Program, Write, load};
 use std::alloc::{AllocError, Global};
 use std::io;
 use std::io::{ErrorKind, Print};
@@ -64,9 +64,7 @@ fn explorer_of<'a>(
     lines: &'a [Line],
     rules: Rules,
     runs: Runs<'_>,
-) -> Result<Explorer<'a>, &'static str>
-    requires { IfSome rules.choose (λ n. pos 1 ≤ℤ n) }
-{
+) -> Result<Explorer<'a>, &'static str> {
     match runs {
         Runs::All => Explorer::start(alloc, program, lines, rules).or(Err("out of memory")),
         Runs::Behind(run) => {
@@ -103,9 +101,7 @@ fn listed_to<W: Write>(
     rules: Rules,
     asked: &Asked,
     out: &mut W,
-) -> Result<Result<u64, ExploreFault>, &'static str>
-    requires { IfSome rules.choose (λ n. pos 1 ≤ℤ n) }
-{
+) -> Result<Result<u64, ExploreFault>, &'static str> {
     let mut explorer = explorer_of(alloc, program, lines, rules, asked.runs)?;
     Ok(write_all_runs(&mut explorer, asked.first, asked.form, out))
 }
@@ -117,9 +113,7 @@ fn listed_from(
     lines: &[Line],
     rules: Rules,
     asked: &Asked,
-) -> Result<(u64, Vec<u8>), &'static str>
-    requires { IfSome rules.choose (λ n. pos 1 ≤ℤ n) }
-{
+) -> Result<(u64, Vec<u8>), &'static str> {
     let mut bytes = Vec::new(alloc);
     let mut out = Device::new(&mut bytes);
     match listed_to(alloc, program, lines, rules, asked, &mut out)? {
@@ -129,9 +123,7 @@ fn listed_from(
 }
 
 // The same, of the program's text.
-fn listed(alloc: Global, rules: Rules, asked: &Asked) -> Result<(u64, Vec<u8>), &'static str>
-    requires { IfSome rules.choose (λ n. pos 1 ≤ℤ n) }
-{
+fn listed(alloc: Global, rules: Rules, asked: &Asked) -> Result<(u64, Vec<u8>), &'static str> {
     let (program, lines) = loaded(alloc, asked.text, asked.input)?;
     listed_from(alloc, &program, &lines, rules, asked)
 }
@@ -143,9 +135,7 @@ fn expect_listing(
     rules: Rules,
     asked: &Asked,
     wanted: Result<(u64, &[u8]), &'static str>,
-)
-    requires { IfSome rules.choose (λ n. pos 1 ≤ℤ n) }
-{
+) {
     let listing = listed(alloc, rules, asked);
     let found = match &listing {
         Ok((count, bytes)) => Ok((*count, bytes.as_slice())),
@@ -157,9 +147,7 @@ fn expect_listing(
 // Programs with their inputs, and the reports of all their runs in form 1: how many, and their text.
 type Listings<'a> = &'a [(&'a str, &'a str, u64, &'a str)];
 
-fn expect_listings(rt: &impl Abort, alloc: Global, rules: Rules, listings: Listings<'_>)
-    requires { IfSome rules.choose (λ n. pos 1 ≤ℤ n) }
-{
+fn expect_listings(rt: &impl Abort, alloc: Global, rules: Rules, listings: Listings<'_>) {
     for &(text, input, count, reports) in listings {
         let asked = Asked {
             text,
@@ -544,7 +532,7 @@ struct Sink {
     failing: Failing,
 }
 
-impl io::Write for &mut Sink {
+impl ByteSink for &mut Sink {
     fn write(&mut self, buf: &[u8]) -> io::Result<usize> {
         if self.calls_left == 0 {
             return match self.failing {

@@ -1,11 +1,9 @@
 // This file tests runs that end, and that can't be read or written.
 
-ghost use Rattle.std.specs.Prelude.{◌≤ℤ◌, pos, IfSome};
-
 use crate::shared::{expect_same, plain_rules};
 use ptb_machine::{Ending, Rules, RunFault};
 use ptb_serve::{run_plain, run_seeded};
-use ptb_text::{Device, LoadFault, Program};
+use ptb_text::{ByteSink, ByteSource, Device, LoadFault, Program};
 use std::alloc::Global;
 use std::io;
 use std::io::ErrorKind;
@@ -16,13 +14,13 @@ use std::test::Fail;
 #[derive(Drop)]
 struct Broken;
 
-impl io::Read for Broken {
+impl ByteSource for Broken {
     fn read(&mut self, _buf: &mut [u8]) -> io::Result<usize> {
         Err(io::Error::from(ErrorKind::Other))
     }
 }
 
-impl io::Write for Broken {
+impl ByteSink for Broken {
     fn write(&mut self, _buf: &[u8]) -> io::Result<usize> {
         Err(io::Error::from(ErrorKind::Other))
     }
@@ -45,9 +43,7 @@ fn ended(
     line: &[u8],
     answers: &[i16],
     rules: Rules,
-) -> Result<(Result<Ending, RunFault>, Vec<u8>), Fail>
-    requires { IfSome rules.choose (λ n. pos 1 ≤ℤ n) }
-{
+) -> Result<(Result<Ending, RunFault>, Vec<u8>), Fail> {
     let program = one_line(alloc, line)?;
     let mut input = Device::new(&b""[..]);
     let mut shown = Vec::new(alloc);
@@ -90,9 +86,7 @@ fn expect_endings(
     line: &[u8],
     rules: Rules,
     endings: Endings<'_>,
-) -> Result<(), Fail>
-    requires { IfSome rules.choose (λ n. pos 1 ≤ℤ n) }
-{
+) -> Result<(), Fail> {
     for &(answers, ending, shown) in endings {
         let run = ended(alloc, line, answers, rules)?;
         expect_ending(rt, run, ending, shown);

@@ -1,8 +1,5 @@
 // This file tests what `serve` says of a list that fits no run: by its note, and why.
 
-ghost use Rattle.std.specs.Prelude.{◌≤ℤ◌, pos, IfOk, IfSome};
-ghost use Rattle.ptb_text.specs.Statements.{IsMemorySize};
-
 use crate::shared::{FOUR_OF_3, ONE, THREE, TWO, TWO_OF_2, TWO_OF_3, expect_same, plain_rules};
 use ptb_explore::{Form, Marked, Mismatch};
 use ptb_options::{DEFAULT_MEMORY, MarkedAnswers, Mode, Request};
@@ -88,10 +85,7 @@ fn request_of(
     alloc: Global,
     under: Option<&[Marked]>,
     after: Option<&[Marked]>,
-) -> Result<Request, AllocError>
-    ensures memory { IfOk result (λ r. IsMemorySize r.memory) }
-    ensures bound { IfOk result (λ r. IfSome r.rules.choose (λ n. pos 1 ≤ℤ n)) }
-{
+) -> Result<Request, AllocError> {
     let (under, after) = (kept(alloc, under)?, kept(alloc, after)?);
     Ok(Request {
         rules: plain_rules(10000),

@@ -1,7 +1,5 @@
 // This file has what several of the tests use: rules, answers, programs, and values that must be the same.
 
-ghost use Rattle.std.specs.Prelude.{◌≡◌, None};
-
 use ptb_explore::Marked;
 use ptb_machine::{Line, ReadFault, Rules, read_lines};
 use ptb_text::{Device, LoadFault, Program, load};
@@ -10,9 +8,7 @@ use std::fmt::Debug;
 use std::process::Abort;
 
 // Rules by which a run ends where no line is left.
-pub(crate) fn plain_rules(limit: u32) -> Rules
-    ensures { result ≡ record { limit = limit; choose = None } }
-{
+pub(crate) fn plain_rules(limit: u32) -> Rules {
     Rules {
         limit,
         choose: None,
