@@ -8,11 +8,12 @@ root=$(dirname "$(dirname "$(readlink -f "$0")")")
 ptb=${PTB:-$root/ptb}
 folder=$(mktemp -d)
 trap 'rm -rf "$folder"' EXIT
+cd "$root"
 
-printf '1\nY\n' | "$ptb" --all "$root/examples/doors.bas" |
-    "$root/tools/outcomes" --by last-line --html "$folder/page.html"
-sed -i '0,/<details>/s//<details open>/' "$folder/page.html"
-HOME=$folder chromium --headless --no-sandbox --disable-gpu --hide-scrollbars \
-    --window-size=860,430 --screenshot="$folder/page.png" "file://$folder/page.html" 2>"$folder/log" ||
+printf '1\nY\n' | "$ptb" --all examples/doors.bas |
+    tools/outcomes --by last-line --program examples/doors.bas --html "$folder/page.html"
+sed -i '0,/<details/s//<details open/' "$folder/page.html"
+HOME=$folder TMPDIR=$folder chromium --headless --no-sandbox --disable-gpu --hide-scrollbars \
+    --window-size=900,680 --screenshot="$folder/page.png" "file://$folder/page.html" 2>"$folder/log" ||
     { cat "$folder/log" >&2; exit 1; }
-mv "$folder/page.png" "$root/docs/outcomes.png"
+mv "$folder/page.png" docs/outcomes.png

@@ -5,8 +5,7 @@ The programs are those of the chapter on chances in docs/TOOL.md, of README.md, 
 counted by hand, too. PTB names another program than the one that ./ptb builds.
 """
 
-import csv
-import io
+import json
 import os
 import re
 import subprocess
@@ -88,14 +87,11 @@ KEYS = {
 
 def told(text, kind):
     """What the tool says of a listing in its table for programs: chance and number of runs by the same keys."""
-    words = [f"{ROOT}/tools/outcomes", "--csv", "--by", kind]
+    words = [f"{ROOT}/tools/outcomes", "--json", "--by", kind]
     done = subprocess.run(words, input=text, stdout=subprocess.PIPE, check=True)
-    rows = csv.DictReader(io.StringIO(done.stdout.decode(), newline=""))
-    keys = {"outcome": ("ending", "transcript"), "ending": ("ending",), "last-line": ("last line",)}[kind]
-    return {
-        tuple(row[key] for key in keys) if len(keys) > 1 else row[keys[0]]: (Fraction(row["chance"]), int(row["runs"]))
-        for row in rows
-    }
+    rows = [json.loads(line) for line in done.stdout.decode().splitlines()[1:]]
+    runs = [("", row["ending"], row["transcript"], Fraction(row["chance"]), row["runs"]) for row in rows]
+    return {KEYS[kind](run): (run[3], run[4]) for run in runs}
 
 
 # ---- the documents

@@ -6,7 +6,8 @@ import subprocess
 from trials import DICE, LISTING, PROGRAM, Case, read, write
 
 UNREAD = "ptb: cannot read the program\n  none.bas: No such file or directory (os error 2)\n"
-USAGE = "usage: resume FILE -- ptb --all [WORD..]\n"
+HELP = "see resume --help\n"
+NO_COMMAND = f"resume: a command is needed after FILE and --; {HELP}"
 
 
 def check(trials):
@@ -27,22 +28,23 @@ def words(trials):
     write(LISTING, b"")
     ptb = trials.ptb
     line = f"resume: {LISTING}: "
-    says(trials, "no words", [], 64, USAGE)
-    says(trials, "a file alone", [LISTING], 64, USAGE)
-    says(trials, "no command", [LISTING, "--"], 64, USAGE)
-    says(trials, "no --", [LISTING, ptb, "--all", PROGRAM], 64, USAGE)
+    says(trials, "no arguments", [], 64, f"resume: the following arguments are required: FILE; {HELP}")
+    says(trials, "a file alone", [LISTING], 64, NO_COMMAND)
+    says(trials, "no command", [LISTING, "--"], 64, NO_COMMAND)
+    said = f"resume: unrecognized arguments: {ptb} --all {PROGRAM}; {HELP}"
+    says(trials, "no --", [LISTING, ptb, "--all", PROGRAM], 64, said)
     says(trials, "no --all", [LISTING, "--", ptb, PROGRAM], 64, f"{line}the command has no --all\n")
     says(trials, "--all as a program", [LISTING, "--", ptb, "--", "--all"], 64, f"{line}the command has no --all\n")
     twice = [LISTING, "--", ptb, "--all", "--first", "1", "--first=2", PROGRAM]
-    says(trials, "--first twice", twice, 64, f"{line}--first stands there twice\n")
+    says(trials, "--first twice", twice, 64, f"{line}--first is there twice\n")
     twice = [LISTING, "--", ptb, "--all", "--under=1", "--under", "2", PROGRAM]
-    says(trials, "--under twice", twice, 64, f"{line}--under stands there twice\n")
+    says(trials, "--under twice", twice, 64, f"{line}--under is there twice\n")
     values = ("--first", "two"), ("--first", ""), ("--after", "01"), ("--after", "1,,2"), ("--after", "None"), ("--under", "2/")
     for option, value in values:
         given = [LISTING, "--", ptb, "--all", PROGRAM, option, value]
-        says(trials, f"{option} {value}", given, 64, f"{line}{option} needs another value than {value!r}\n")
+        says(trials, f"{option} {value}", given, 64, f"{line}{option} can't have the value {value!r}\n")
     given = [LISTING, "--", ptb, "--all", PROGRAM, "--after"]
-    says(trials, "--after without a value", given, 64, f"{line}--after needs another value than ''\n")
+    says(trials, "--after without a value", given, 64, f"{line}--after can't have the value ''\n")
     done = subprocess.run([trials.tool, "--help"], capture_output=True)
     helps = b"resume FILE -- ptb --all" in done.stdout
     trials.count("--help", helps and (done.returncode, done.stderr) == (0, b""), done)

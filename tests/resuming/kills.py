@@ -31,8 +31,8 @@ def resuming(trials):
 
 
 def kills(trials, text):
-    """Kills listings and what goes on with them. One may be whole before it was seen to grow, so up to three are begun."""
-    for _ in range(3):
+    """Kills listings and what goes on with them. One may be whole before it was seen to grow, so up to six are begun."""
+    for _ in range(6):
         killed_times, beginnings = kills_of_one(trials, text)
         if killed_times >= ENOUGH or not beginnings:
             break

@@ -6,6 +6,8 @@ from trials import DICE, ENDINGS, LISTING, Case, no_listing, reports_of, write
 
 NO_REPORT = "no report begins here"
 NOT_NEXT = "this run doesn't come next"
+THE_SAME = "this run is the same as the previous one"
+BEFORE = "this run should come before the previous one"
 OTHER_BYTE = "that program writes another byte here"
 ENDS_HERE = "the listing of that program ends here"
 
@@ -28,13 +30,13 @@ def no_listings(trials):
     words = trials.words(DICE)
     noise = bytes(random.Random("noise").randrange(256) for _ in range(100_000))
     trials.refused("random bytes", noise, words, 65, no_listing(1, NO_REPORT), trials.resume)
-    trials.refused("random letters", bytes(65 + byte % 26 for byte in noise), words, 65, no_listing(1, OTHER_BYTE))
+    trials.refused("random letters", bytes(65 + byte % 26 for byte in noise), words, 65, no_listing(1, NO_REPORT))
     trials.refused("zeros", bytes(1_000_000), words, 65, no_listing(1, NO_REPORT))
     trials.refused("a program", DICE.program.encode(), words, 65, no_listing(1, NO_REPORT))
     trials.refused("an empty line", b"\n", words, 65, no_listing(1, NO_REPORT))
     trials.refused("an empty line behind reports", text + b"\n", words, 65, no_listing(len(text) + 1, NO_REPORT))
     trials.refused("a byte behind a whole listing", text + b"R", words, 65, no_listing(len(text) + 1, ENDS_HERE))
-    trials.refused("a listing twice", text + text, words, 65, no_listing(len(text) + 1, NOT_NEXT))
+    trials.refused("a listing twice", text + text, words, 65, no_listing(len(text) + 1, BEFORE))
     number = b"RUN 1 END 1 " + b"9" * 6000 + b"\n"
     trials.refused("a number of bytes without end", number, words, 65, no_listing(1, NO_REPORT))
     number = b"RUN 1/4 END 1 999999999999999999\n"
@@ -70,16 +72,16 @@ def other_orders(trials):
     trials.count("six reports", len(reports) == 6)
     first, second, third, fourth, fifth, sixth = reports
     orders = {
-        "the first report left out": ([second, third], 0),
-        "a report left out": ([first, second, fourth, fifth], 2),
-        "the last but one left out": ([first, second, third, fourth, sixth], 4),
-        "a report twice": ([first, second, third, third, fourth], 3),
-        "the second report once more": ([first, second, third, second], 3),
-        "two reports the wrong way round": ([first, second, fourth, third], 2),
-        "the first report last": ([first, second, third, first], 3),
+        "the first report left out": ([second, third], 0, NOT_NEXT),
+        "a report left out": ([first, second, fourth, fifth], 2, NOT_NEXT),
+        "the last but one left out": ([first, second, third, fourth, sixth], 4, NOT_NEXT),
+        "a report twice": ([first, second, third, third, fourth], 3, THE_SAME),
+        "the second report once more": ([first, second, third, second], 3, BEFORE),
+        "two reports the wrong way round": ([first, second, fourth, third], 2, NOT_NEXT),
+        "the first report last": ([first, second, third, first], 3, BEFORE),
     }
-    for name, (order, wrong) in orders.items():
-        due = no_listing(len(b"".join(order[:wrong])) + 1, NOT_NEXT)
+    for name, (order, wrong, cause) in orders.items():
+        due = no_listing(len(b"".join(order[:wrong])) + 1, cause)
         trials.refused(name, b"".join(order), words, 65, due)
 
 

@@ -1,8 +1,7 @@
 """This file holds the listings that are tried, calls tools/resume, and counts the checks."""
 
 import contextlib
-import importlib.machinery
-import importlib.util
+import importlib
 import io
 import os
 import random
@@ -61,10 +60,9 @@ class Trials:
     module: object = field(init=False)
 
     def __post_init__(self):
-        loader = importlib.machinery.SourceFileLoader("resume", self.tool)
-        self.module = importlib.util.module_from_spec(importlib.util.spec_from_loader("resume", loader))
-        sys.modules["resume"] = self.module
-        loader.exec_module(self.module)
+        sys.path.insert(0, os.path.dirname(self.tool))
+        sys.argv[0] = self.tool
+        self.module = importlib.import_module("ptb_tools.resume")
 
     def count(self, name, holds, seen=""):
         """Counts a check by whether it holds."""
