@@ -1,13 +1,15 @@
 # This file completes the arguments of ptb-outcomes in bash.
 
 _ptb_outcomes() {
-    local current=${COMP_WORDS[COMP_CWORD]} previous=${COMP_WORDS[COMP_CWORD - 1]}
+    local current=${COMP_WORDS[COMP_CWORD]} previous=${COMP_WORDS[COMP_CWORD - 1]} options
+    options='--by --match --top --sampled --merge --program --options --csv --json --html --help -h --version -V'
     COMPREPLY=()
-    case $previous in
-    --by) mapfile -t COMPREPLY < <(compgen -W 'outcome ending last-line' -- "$current") ;;
-    --html) mapfile -t COMPREPLY < <(compgen -f -- "$current") ;;
-    --top) ;;
-    *) mapfile -t COMPREPLY < <(compgen -W '--by --top --csv --html --help -h --version -V' -- "$current") ;;
+    case $previous:$current in
+    --by:*) mapfile -t COMPREPLY < <(compgen -W 'outcome ending last-line answer:' -- "$current") ;;
+    --match:* | --top:* | --options:*) ;;
+    --html:* | --program:*) mapfile -t COMPREPLY < <(compgen -f -- "$current") ;;
+    *:-*) mapfile -t COMPREPLY < <(compgen -W "$options" -- "$current") ;;
+    *) mapfile -t COMPREPLY < <(compgen -f -- "$current") ;;
     esac
 }
 

@@ -24,13 +24,13 @@ tried() {
 }
 
 tried binary.sh
-tried listings.sh
+tried listings.py
 tried building.sh
 tried installing.sh
 tried releasing.sh
 tried resuming.sh
 tried shares.sh
-tried outcomes.py
+tried tools.py
 tried chances.py
 tried terminal.py
 tried documents.py

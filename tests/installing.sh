@@ -67,16 +67,13 @@ count_same 'options that the man page names at all' "$(long_in_page ptb)" "$long
 # the pages of the tools have the options of their help; --all and --choose are those of ptb
 count_same 'options that the man page of outcomes names' "$(long_in_page ptb-outcomes)" \
     "$({ echo --all --choose; "$root/tools/outcomes" --help; } | long_in)"
+count_same 'options that the man page of adapt names' "$(long_in_page ptb-adapt)" "$("$root/tools/adapt" --help | long_in)"
 count_same 'options that the man page of resume names' "$(long_in_page ptb-resume)" "$("$root/tools/resume" --help | long_in)"
 count_same 'options that the man page of shares names' "$(long_in_page ptb-shares)" "$("$root/tools/shares" --help | long_in)"
 
-# the completions of the tools have the options of their help: the usage of shares has no --help
-for tool in outcomes resume shares; do
-    case $tool in
-    shares) due=$("$root/tools/shares" 2>&1 | long_in; echo help version) ;;
-    resume) due='help version' ;;
-    outcomes) due=$("$root/tools/outcomes" --help | sed -n '/^options:/,/^$/p' | long_in) ;;
-    esac
+# the completions of the tools have the options of their help
+for tool in adapt outcomes resume shares; do
+    due=$("$root/tools/$tool" --help | sed -n '/^option/,/^$/p' | grep '^ *-' | long_in)
     due=$(tr ' ' '\n' <<<"$due" | sed '/^$/d' | in_one_line)
     count_same "options in the bash completions of ptb-$tool" "$(sed '/^#/d' "$root/completions/ptb-$tool.bash" | long_in)" "$due"
     count_same "options in the zsh completions of ptb-$tool" "$(sed '/^#/d' "$root/completions/_ptb-$tool" | long_in)" "$due"
@@ -114,25 +111,31 @@ count_same 'bash offers the program that begins so' "$(offered --all di)" 'dice.
 count_same 'bash offers the empty list' "$(offered --answers '')$(offered --after n)" 'none none '
 count_same 'bash offers no file for a number' "$(offered --steps '')$(offered --first di)" ''
 
-for tool in outcomes resume shares; do
+for tool in adapt outcomes resume shares; do
     count_if "bash reads the completions of ptb-$tool, and knows whom to ask" \
         bash -c '. "$1" && complete -p "ptb-$2" | grep -q -- "-F _ptb_$2 ptb-$2\$"' bash "$root/completions/ptb-$tool.bash" "$tool"
     count_same "bash offers --version for ptb-$tool" "$(offered_for "ptb-$tool" --v)" '--version '
 done
-count_same 'bash offers kinds of outcomes' "$(offered_for ptb-outcomes --by '')" 'ending last-line outcome '
+count_same 'bash offers kinds of outcomes' "$(offered_for ptb-outcomes --by '')" 'answer: ending last-line outcome '
+count_same 'bash offers dialects' "$(offered_for ptb-adapt --dialect p)" 'palo-alto pittman '
+count_same 'bash offers kinds of RND' "$(offered_for ptb-adapt --random '')" 'fraction one zero '
+count_same 'bash offers a listing to adapt' "$(offered_for ptb-adapt di)" 'dice.bas dice.txt '
+count_same 'bash offers the options of ptb-adapt' "$(offered_for ptb-adapt --)" '--dialect --help --quiet --random --separator --version '
+count_same 'bash offers a listing' "$(offered_for ptb-outcomes di)" 'dice.bas dice.txt '
 count_same 'bash offers a file for a page' "$(offered_for ptb-outcomes --html di)" 'dice.bas dice.txt '
 count_same 'bash offers a file to resume' "$(offered_for ptb-resume di)" 'dice.bas dice.txt '
 count_same 'bash offers what comes after the file' "$(offered_for ptb-resume dice.txt '')" '-- '
 count_same 'bash offers a program to share' "$(offered_for ptb-shares di)" 'dice.bas '
 count_same 'bash offers nothing for a depth' "$(offered_for ptb-shares dice.bas '')" ''
 count_same 'bash offers the options of runs' "$(offered_for ptb-shares dice.bas 2 --)" '--choose --memory --steps '
-count_same 'bash offers the options of ptb-outcomes' "$(offered_for ptb-outcomes --)" '--by --csv --help --html --top --version '
+count_same 'bash offers the options of ptb-outcomes' "$(offered_for ptb-outcomes --)" \
+    '--by --csv --help --html --json --match --merge --options --program --sampled --top --version '
 count_same 'bash offers the options of ptb-resume' "$(offered_for ptb-resume --)" '--help --version '
 
 # ---- zsh and fish are asked, where they are
 
 if command -v zsh >/dev/null; then
-    for name in ptb ptb-outcomes ptb-resume ptb-shares; do
+    for name in ptb ptb-adapt ptb-outcomes ptb-resume ptb-shares; do
         count_if "zsh reads its completions of $name" zsh -n "$root/completions/_$name"
         count_same "zsh knows whom to ask for $name" "$(HOME=$folder zsh -fc "fpath=('$root/completions' \$fpath)
             autoload -Uz compinit && compinit -u -D && print -r -- \$_comps[$name]")" "_$name"
@@ -147,7 +150,8 @@ if command -v fish >/dev/null; then
             cut -f 1 | in_one_line
     }
     count_same 'fish offers what begins so' "$(fish_offers 'ptb --a')" '--after --all --answers '
-    count_same 'fish offers kinds of outcomes' "$(fish_offers 'ptb-outcomes --by ')" 'ending last-line outcome '
+    count_same 'fish offers kinds of outcomes' "$(fish_offers 'ptb-outcomes --by ')" 'answer: ending last-line outcome '
+    count_same 'fish offers dialects' "$(fish_offers 'ptb-adapt --dialect p')" 'palo-alto pittman '
     count_same 'fish offers what comes after the file' "$(fish_offers 'ptb-resume x --' | grep -o '^-- ')" '-- '
     count_same 'fish offers options of the command that is resumed' "$(fish_offers 'ptb-resume x -- ptb --a')" '--after --all --answers '
     count_same 'fish offers options of runs' "$(fish_offers 'ptb-shares x 2 --s')" '--steps '
@@ -210,10 +214,45 @@ count_same 'install prints each file, and that PATH lacks the program' "$(sort "
 cp "$folder/output" "$folder/said"
 count_same 'it puts these files there' "$(cd "$place" && files_below . | grep -v '^./share/doc/ptb/examples/')" "$(sed '/^$/d' <<END | sort
 ./bin/ptb
+./bin/ptb-adapt
 ./bin/ptb-outcomes
 ./bin/ptb-resume
 ./bin/ptb-shares
+./lib/ptb/ptb_tools/__init__.py
+./lib/ptb/ptb_tools/adapt.py
+./lib/ptb/ptb_tools/adapting/__init__.py
+./lib/ptb/ptb_tools/adapting/dialects.py
+./lib/ptb/ptb_tools/adapting/expressions.py
+./lib/ptb/ptb_tools/adapting/layout.py
+./lib/ptb/ptb_tools/adapting/lines.py
+./lib/ptb/ptb_tools/adapting/notes.py
+./lib/ptb/ptb_tools/adapting/printing.py
+./lib/ptb/ptb_tools/adapting/spelling.py
+./lib/ptb/ptb_tools/adapting/statements.py
+./lib/ptb/ptb_tools/adapting/storage.py
+./lib/ptb/ptb_tools/adapting/sums.py
+./lib/ptb/ptb_tools/adapting/tokens.py
+./lib/ptb/ptb_tools/adapting/translating.py
+./lib/ptb/ptb_tools/adapting/trees.py
+./lib/ptb/ptb_tools/adapting/whole.py
+./lib/ptb/ptb_tools/branches.py
+./lib/ptb/ptb_tools/command.py
+./lib/ptb/ptb_tools/data.py
+./lib/ptb/ptb_tools/outcomes.py
+./lib/ptb/ptb_tools/page.css
+./lib/ptb/ptb_tools/page.html
+./lib/ptb/ptb_tools/page.js
+./lib/ptb/ptb_tools/page.py
+./lib/ptb/ptb_tools/progress.py
+./lib/ptb/ptb_tools/reports.py
+./lib/ptb/ptb_tools/resume.py
+./lib/ptb/ptb_tools/shares.py
+./lib/ptb/ptb_tools/sources.py
+./lib/ptb/ptb_tools/tables.py
+./lib/ptb/ptb_tools/text.py
+./lib/ptb/ptb_tools/tree.py
 ./share/bash-completion/completions/ptb
+./share/bash-completion/completions/ptb-adapt
 ./share/bash-completion/completions/ptb-outcomes
 ./share/bash-completion/completions/ptb-resume
 ./share/bash-completion/completions/ptb-shares
@@ -225,15 +264,18 @@ count_same 'it puts these files there' "$(cd "$place" && files_below . | grep -v
 ./share/doc/ptb/OLD-LISTINGS.md
 ./share/doc/ptb/TOOL.md
 ./share/doc/ptb/performance.md
+./share/fish/vendor_completions.d/ptb-adapt.fish
 ./share/fish/vendor_completions.d/ptb-outcomes.fish
 ./share/fish/vendor_completions.d/ptb-resume.fish
 ./share/fish/vendor_completions.d/ptb-shares.fish
 ./share/fish/vendor_completions.d/ptb.fish
+./share/man/man1/ptb-adapt.1.gz
 ./share/man/man1/ptb-outcomes.1.gz
 ./share/man/man1/ptb-resume.1.gz
 ./share/man/man1/ptb-shares.1.gz
 ./share/man/man1/ptb.1.gz
 ./share/zsh/site-functions/_ptb
+./share/zsh/site-functions/_ptb-adapt
 ./share/zsh/site-functions/_ptb-outcomes
 ./share/zsh/site-functions/_ptb-resume
 ./share/zsh/site-functions/_ptb-shares
@@ -244,15 +286,17 @@ if command -v strip >/dev/null; then
     strip -o "$folder/stripped" "$folder/copy/crates/ptb/out/ptb"
     count_if 'the program, stripped' cmp "$folder/stripped" "$place/bin/ptb"
 fi
-for tool in outcomes resume shares; do
-    count_same "the tool $tool, with its version" "$(diff "$root/tools/$tool" "$place/bin/ptb-$tool" | sed '/^> /!d; s/ *#.*//')" \
-        "> $(case $tool in shares) echo "version=\"$version\"" ;; *) echo "VERSION = \"$version\"" ;; esac)"
+for tool in adapt outcomes resume shares; do
+    count_same "the tool $tool, with the folder of its package" "$(diff "$root/tools/$tool" "$place/bin/ptb-$tool" | sed '/^> /!d')" \
+        '> FOLDER = f"{os.path.dirname(HERE)}/lib/ptb"'
     for option in -V --version; do
         count_same "ptb-$tool $option" "$(cd / && env -i "PATH=$PATH" "$place/bin/ptb-$tool" $option </dev/null)" "ptb-$tool $version"
         count_same "tools/$tool $option" "$(cd / && "$root/tools/$tool" $option </dev/null)" "ptb-$tool $version"
     done
 done
-for page in ptb ptb-outcomes ptb-resume ptb-shares; do
+count_same 'the package of the tools, with its version' "$(diff -r -x __pycache__ "$root/tools/ptb_tools" "$place/lib/ptb/ptb_tools" |
+    sed '/^> /!d; s/ *#.*//')" "> VERSION = \"$version\""
+for page in ptb ptb-adapt ptb-outcomes ptb-resume ptb-shares; do
     packed=$place/share/man/man1/$page.1.gz
     count_if "the man page of $page" cmp <(gzip -dc "$packed") "$root/docs/$page.1"
     # the bytes that say: a name is given; the time; how well it is packed
@@ -265,10 +309,10 @@ for page in LICENSE CHANGELOG.md docs/LANGUAGE.md docs/TOOL.md; do
     count_if "the page $page" cmp "$root/$page" "$place/share/doc/ptb/$(basename "$page")"
 done
 count_same 'only programs may be run' "$(cd "$place" && find . -type f -exec stat -c '%a %n' {} + |
-    sed 's|^\([0-9]*\) \./\([a-z]*\)/.*|\1 \2|' | sort -u | xargs)" '644 share 755 bin'
+    sed 's|^\([0-9]*\) \./\([a-z]*\)/.*|\1 \2|' | sort -u | xargs)" '644 lib 644 share 755 bin'
 count_if 'no temporary files are left' leaves_nothing
 if command -v man >/dev/null && man -w ls >/dev/null 2>&1; then
-    for page in ptb ptb-outcomes ptb-resume ptb-shares; do
+    for page in ptb ptb-adapt ptb-outcomes ptb-resume ptb-shares; do
         count_same "man finds the page of $page" "$(MANPATH=$place/share/man man -w $page)" "$place/share/man/man1/$page.1.gz"
         count_same "and has nothing to say against $page" "$(man --warnings -l -E UTF-8 "$place/share/man/man1/$page.1.gz" 2>&1 >/dev/null)" ''
     done
@@ -309,15 +353,16 @@ is_replaced_while_it_runs() {
     tool=$!
     soon grep -q 'A:' "$folder/answer"
     # the new tool is longer: what runs must not read on in it
-    sed -i "2i # $(printf '%04000d' 0)" "$folder/copy/tools/shares"
+    sed -i "2i # $(printf '%04000d' 0)" "$folder/copy/tools/shares" "$folder/copy/tools/ptb_tools/shares.py"
     installed "$place"
     echo 41 >&8
     exec 8>&- 9>&-
     wait "$program" && wait "$tool" && [ "$status" = 0 ] && grep -q '42$' "$folder/answer" && [ "$(wc -l <"$folder/lists")" = 6 ]
 }
 count_if 'a program that runs is replaced and continues' is_replaced_while_it_runs
-count_if 'the new one is there' cmp "$folder/copy/tools/shares" <(sed "s/^version=\"$version\"/version=\"\"/" "$place/bin/ptb-shares")
+count_if 'the new one is there' cmp "$folder/copy/tools/ptb_tools/shares.py" "$place/lib/ptb/ptb_tools/shares.py"
 cp "$root/tools/shares" "$folder/copy/tools/shares"
+cp "$root/tools/ptb_tools/shares.py" "$folder/copy/tools/ptb_tools/shares.py"
 rm "$place/bin/ptb"
 ln -s /nowhere "$place/bin/ptb"
 installed "$place"
@@ -400,7 +445,7 @@ DESTDIR=$folder/stage installed "$folder/below"
 count_same 'install below DESTDIR' "$status $(cat "$folder/errors")" '0 '
 count_same 'all of it is there, and no word on PATH' "$(sort "$folder/output")" \
     "$(files_below "$folder/stage$folder/below" | sed 's/^/installed /')"
-count_same 'and nothing else' "$(cd "$folder/stage$folder" && find . -maxdepth 2 | sort | xargs)" '. ./below ./below/bin ./below/share'
+count_same 'and nothing else' "$(cd "$folder/stage$folder" && find . -maxdepth 2 | sort | xargs)" '. ./below ./below/bin ./below/lib ./below/share'
 count_if 'also not without DESTDIR' [ ! -e "$folder/below" ]
 count_same 'the list of files knows nothing of DESTDIR' \
     "$(grep -c "$folder/stage" "$folder/stage$folder/below/share/doc/ptb/INSTALLED")" 0
@@ -447,7 +492,7 @@ if [ -w /dev/full ]; then
     env -i "PATH=$PATH" "$shares" "$folder/fewer.bas" 2 </dev/null >/dev/full 2>"$folder/errors"
     count_same 'lists of ptb-shares that cannot be written' $? 74
 fi
-for tool in outcomes resume shares; do
+for tool in adapt outcomes resume shares; do
     "$place/bin/ptb-$tool" --help >"$folder/output"
     count_if "ptb-$tool helps by its name" grep -q "ptb-$tool" "$folder/output"
     "$place/bin/ptb-$tool" --unknown </dev/null >"$folder/output" 2>"$folder/errors"
@@ -455,6 +500,10 @@ for tool in outcomes resume shares; do
 done
 count_same 'what bash would load is installed' "$(bash -c '. "$1" && complete -p ptb | grep -o "_ptb ptb"' bash \
     "$place/share/bash-completion/completions/ptb")" '_ptb ptb'
+
+printf '10 A=INT(RND(1)*6):END\n' >"$folder/old.bas"
+count_same 'a listing is adapted without it' \
+    "$(cd / && env -i "PATH=$PATH" "$place/bin/ptb-adapt" -q "$folder/old.bas" 2>&1; echo $?)" $'10 A=RND(6)-1;STOP\n0'
 
 # usage errors, help, a folder that cannot be made, and a program that cannot be built
 make_copy

@@ -116,12 +116,12 @@ if command -v dpkg-deb >/dev/null; then
         dpkg-deb --field "$folder/first/$package" "$1"
     }
     count_same 'its name, version and architecture' "$(field Package) $(field Version) $(field Architecture)" "ptb $version-1 amd64"
-    count_if 'it needs the C library and Python' grep -qxE 'libc6 \(>= 2\.[0-9]+\), python3' <<<"$(field Depends)"
+    count_if 'it needs the C library and Python' grep -qxE 'libc6 \(>= 2\.[0-9]+\), python3 \(>= 3\.9\)' <<<"$(field Depends)"
     dpkg-deb --extract "$folder/first/$package" "$folder/extracted"
     count_same 'the program of the package runs' \
         "$(cd / && env -i "$folder/extracted/usr/bin/ptb" <"$folder/extracted/usr/share/doc/ptb/examples/hello.bas")" HI
     count_if 'its program, tools and man pages are those of the archive' eval "
-        diff -r '$unpacked/bin' '$folder/extracted/usr/bin' && diff -r '$unpacked/share/man' '$folder/extracted/usr/share/man'"
+        diff -r '$unpacked/bin' '$folder/extracted/usr/bin' && diff -r '$unpacked/lib' '$folder/extracted/usr/lib' && diff -r '$unpacked/share/man' '$folder/extracted/usr/share/man'"
     count_if 'its package names what was proved' is_proof_named "$folder/extracted/usr/share/doc/ptb/PROVED"
     count_same 'its documents have the names that Debian gives them' "$(find "$folder/extracted/usr/share/doc/ptb" -maxdepth 1 -type f \
         ! -name '*.md' -printf '%f\n' | LC_ALL=C sort | xargs)" 'PROVED changelog.Debian.gz changelog.gz copyright'
