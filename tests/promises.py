@@ -14,11 +14,13 @@ ROOT = Path(__file__).resolve().parent.parent
 WORD = r"[A-Za-z_][A-Za-z0-9_]*"
 FUNCTION = re.compile(rf"\bfn ({WORD})(.*?)(?=\bfn |\Z)", re.S)
 TYPE = re.compile(rf"\b(?:struct|enum|trait) ({WORD})|\bimpl\b[^{{;]*?\b([A-Z][A-Za-z0-9_]*)\b[^{{;]*\{{")
+BODY = re.compile(r"^ *\{\}?$", re.M)
 CLAUSE = re.compile(rf"\bensures\*? ({WORD}) \{{")
 GHOST = re.compile(rf"\bghost ({WORD})\b")
 DEFINITION = re.compile(rf"^(?:(?:abbrev|unfoldable|pub|record|data) )+({WORD})\b(.*?)(?=^\S|\Z)", re.M | re.S)
 FIELD = re.compile(rf"^  (?:pub )?({WORD}) ?:", re.M)
 CODE = re.compile(r"`([^`]+)`")
+OWNERS = re.compile(r"(?:of|for) ((?:`[^`]+`(?:, | and )?)+)")
 EDITS = re.compile(r"`(ptb[a-z_]*)`: ((?:`[a-z0-9_]+`(?:, )?)+)")
 
 
@@ -41,7 +43,8 @@ class Sources:
                 self.definitions[name] = self.definitions.get(name, "") + text
 
     def read_code(self, crate, text):
-        for name, contract in FUNCTION.findall(text):
+        for name, rest in FUNCTION.findall(text):
+            contract = BODY.split(rest, maxsplit=1)[0]
             self.functions.setdefault(name, []).append((crate, contract))
         for names in TYPE.findall(text):
             for name in filter(None, names):
@@ -90,11 +93,11 @@ def check_promise(checks, sources, row, functions, clauses, above):
         found = sources.texts_of(name)
         checks.holds(found, f"no function or type {name}: {row[:60]}")
         texts += found
-    known = sources.clauses_of(texts, clauses)
+    owners = [it for names in OWNERS.findall(clauses) for it in CODE.findall(names)]
+    owned = [text for it in owners for text in sources.texts_of(it)]
+    known = sources.clauses_of([*texts, *owned], clauses)
     for name in CODE.findall(clauses):
-        if name.endswith(".rt"):
-            continue
-        is_there = name in known or sources.texts_of(name)
+        is_there = name in known or name in owners and (sources.texts_of(name) or name.startswith("std::"))
         checks.holds(is_there, f"no clause {name} of {functions[:60]}: {row[:60]}")
     return texts
 
@@ -104,11 +107,12 @@ def check_mistake(checks, sources, edits, refusals):
         for name in CODE.findall(names):
             path = ROOT / "crates" / crate / "must-fail" / f"{name}.edit"
             checks.holds(path.is_file(), f"no planted bug {crate}: {name}")
-    for name in CODE.findall(refusals):
-        is_there = name in sources.definitions or sources.texts_of(name) or name in sources.clauses_of(
-            [text for texts in [*sources.functions.values()] for _, text in texts], ""
-        )
-        checks.holds(is_there, f"nothing of the name {name}: {edits[:60]}")
+    for part in refusals.split("; "):
+        texts = [text for name in CODE.findall(part) for text in sources.texts_of(name)]
+        known = sources.clauses_of(texts, part)
+        for name in CODE.findall(part):
+            is_there = name in known or sources.texts_of(name)
+            checks.holds(is_there, f"nothing of the name {name} in {part[:60]}: {edits[:60]}")
 
 
 def main():
@@ -116,7 +120,10 @@ def main():
     for row in rows_of((ROOT / "docs/PROMISES.md").read_text()):
         if len(row) != 3 or set(row[0]) <= set("-: "):
             continue
-        if EDITS.search(row[1]):
+        if CODE.fullmatch(row[0]):
+            for name in CODE.findall(row[2]):
+                checks.holds(sources.texts_of(name), f"no function or type {name} of {row[0]}")
+        elif EDITS.search(row[1]):
             check_mistake(checks, sources, row[1], row[2])
         else:
             texts = check_promise(checks, sources, row[0], row[1], row[2], texts)

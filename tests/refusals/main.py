@@ -107,7 +107,7 @@ def is_due(row, kind, struck, reply):
     if not struck or kind == "cut":
         return reply == row.due
     if kind in ("refuse", "deplete"):
-        return reply == row.due or is_cut_short(row, reply, OUT_OF_MEMORY) or is_unexplained(row, reply)
+        return reply == row.due or is_cut_short(row, reply, OUT_OF_MEMORY)
     if kind == "starve":
         return reply == OUT_OF_MEMORY
     if struck == "W1":
@@ -126,12 +126,6 @@ def is_program_unread(row, reply):
         return reply == noted(66, NO_PROGRAM, f"standard input: {DEVICE_FAILED}")
     named = reply.errors.decode().split("/program.bas: ")
     return len(named) == 2 and reply == noted(66, NO_PROGRAM, f"{named[0].split()[-1]}/program.bas: {DEVICE_FAILED}")
-
-
-def is_unexplained(row, reply):
-    """Whether a list was refused, but memory for the reason in the second line was refused, too."""
-    first, _, second = row.due.errors.partition(b"\n")
-    return row.due.status == 67 and second and reply == replace(row.due, errors=first + b"\n")
 
 
 def is_cut_short(row, reply, note):
