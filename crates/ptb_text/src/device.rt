@@ -130,7 +130,8 @@ impl<T> Device<T> {
 }
 
 impl<T: ByteSink> Device<T> {
-    /// Has the writer pass on what it holds back. It takes no byte.
+    /// Has the writer pass on what it holds back. It takes no byte, and the count of the bytes that
+    /// were given stays.
     ///
     /// # Errors
     ///
@@ -139,6 +140,7 @@ impl<T: ByteSink> Device<T> {
         ensures bytes { Keeps (T.contents (device_inner self.old))
             (T.contents (device_inner self.new)) }
         ensures count { CountsFaults (failure_count self.old) (failure_count self.new) result }
+        ensures given { given_count self.new ≡ given_count self.old }
         ensures sure { (k : ℕ) → DeviceTakes T.takes self.old k
             → IsOk result × DeviceTakes T.takes self.new k }
     {
