@@ -2,4 +2,5 @@
 pub mod Outcome
 pub mod Choices
 pub mod Seeds
+pub mod Drawn
 pub mod AnswerText

@@ -1,8 +1,9 @@
 // This file has the chooser that draws its answers from a seed.
 
-ghost use Rattle.std.specs.Prelude.{◌≡◌, ◌≤ℤ◌, [], pos};
+ghost use Rattle.std.specs.Prelude.{◌≡◌, ◌≤ℤ◌, [], length, pos};
 ghost use Rattle.rand_pcg.specs.Pcg.{pcg32};
-ghost use Rattle.ptb_answers.specs.Seeds.{drawn_answer, drawn_answers, seeded_choices};
+ghost use Rattle.ptb_answers.specs.Seeds.{drawn_answer, drawn_from, generator_after};
+ghost use Rattle.ptb_answers.specs.Seeds.{generator_of, seeded_choices};
 
 use crate::chooser::Chooser;
 use crate::pause::Pause;
@@ -13,34 +14,43 @@ use std::marker::Model;
 
 /// Answers by a seed: each answer is 1 more than the generator's next word modulo the bound.
 ///
-/// It keeps its seed, the answers that it gave, and their bounds. It has an answer to each question,
-/// unless it is refused memory.
+/// It keeps the answers that it gave, and their bounds. It has an answer to each question, unless it is
+/// refused memory. Once a run is over, its answers can be forgotten: those of the next run are drawn
+/// by the words that follow, so that no word serves two runs.
+///
+/// Contracts see the generator before the first of the answers that are kept, and their bounds.
 #[derive(Drop)]
 pub struct Seeded {
-    seed: u64,
+    // The generator's state before the first of the answers.
+    first: u64,
     generator: Lcg64Xsh32,
     answers: Vec<i16>,
     bounds: Vec<i16>,
 }
 
 impl Model for Seeded {
-    ghost use Rattle.ptb_answers.specs.Seeds.{HasDrawn, SeededAnswers};
+    ghost use Rattle.ptb_answers.specs.Seeds.{HasDrawn, SeededAnswers, at_state};
 
     ghost Value = { SeededAnswers };
 
-    ghost view = { λ s. record { seed = s.seed; bounds = s.bounds.items } };
+    ghost view = { λ s. record {
+      first = at_state s.generator s.first;
+      bounds = s.bounds.items;
+    } };
 
-    ghost invariant = { λ s. HasDrawn s.seed s.bounds.items s.answers.items s.generator };
+    ghost invariant = { λ s. HasDrawn (at_state s.generator s.first) s.bounds.items s.answers.items
+        s.generator };
 }
 
 impl Seeded {
     /// A seed by which no question was answered.
     pub fn new(alloc: Global, seed: u64) -> Seeded
-        ensures { result ≡ record { seed = seed; bounds = [] } }
+        ensures { result ≡ record { first = generator_of seed; bounds = [] } }
     {
+        let generator = Lcg64Xsh32::new(seed, 1);
         Seeded {
-            seed,
-            generator: Lcg64Xsh32::new(seed, 1),
+            first: generator.state(),
+            generator,
             answers: Vec::new(alloc),
             bounds: Vec::new(alloc),
         }
@@ -48,7 +58,7 @@ impl Seeded {
 
     /// The answers that it gave, in order.
     pub fn answers(&self) -> &[i16]
-        ensures { result.now ≡ drawn_answers self.now.seed self.now.bounds }
+        ensures { result.now ≡ drawn_from self.now.first self.now.bounds }
     {
         self.answers.as_slice()
     }
@@ -58,6 +68,19 @@ impl Seeded {
         ensures { result.now ≡ self.now.bounds }
     {
         self.bounds.as_slice()
+    }
+
+    /// Forgets the answers that it gave, and keeps their room. The next answer is drawn by the word
+    /// after those that they were drawn by.
+    pub fn forget(&mut self)
+        ensures { self.new ≡ record {
+          first = generator_after self.old.first (length self.old.bounds);
+          bounds = [];
+        } }
+    {
+        self.first = self.generator.state();
+        self.answers.clear();
+        self.bounds.clear();
     }
 }
 
