@@ -1,4 +1,4 @@
--- This file proves what was written of a report, from what is known of each of its pieces.
+-- This file proves what was written of a report or of a list, from what is known of each of its pieces.
 use Rattle.std.proofs.Common.{◌≡◌, ◌∙◌, ap, subst, ℕ, List, [], ◌++◌, length, codes, decimal, Option, Result, Ok, Err}
 use Rattle.std.specs.Result.{OnOk, OnErr}
 use Rattle.std.proofs.lemmas.Result.{on_ok_weaker, on_err_weaker}
@@ -6,7 +6,7 @@ use Rattle.std.specs.Io.KnownBytes.{Appends}
 use Rattle.ptb_text.specs.Device.{TakesSome, HasFailed}
 use Rattle.ptb_answers.specs.AnswerText.{spelling}
 use Rattle.ptb_answers.specs.declared.form.Marked.{Marked}
-use Rattle.ptb_report.specs.Report.{Gathers, report_text}
+use Rattle.ptb_report.specs.Report.{Gathers, list_line, report_text}
 use Rattle.ptb_report.proofs.Gathering.{gathers_more, gathers_same, some_more, some_after, all_after, some_rest}
 use Rattle.ptb_report.proofs.ReportText.{behind_answers, report_in_pieces}
 
@@ -65,3 +65,27 @@ module _ (items : List Marked) (word : List ℕ) (steps : ℕ) (shown : List ℕ
 
         pub rest_fails : OnErr result (TakesSome d e last) → OnErr result (TakesSome a e (report_text items word steps shown))
         rest_fails h = on_err_weaker result (λ t. some_rest a d e (report_text items word steps shown) r whole (subst (TakesSome d e) rest t)) h
+
+-- ---- a list of answers
+
+-- The device had a before; `none` is what was pending then, and p and q are what is pending after the answers and the newline.
+module _ (items : List Marked) (a : Option (List ℕ)) (none : List ℕ) (is : none ≡ []) where
+  pub list_fails : (b : Option (List ℕ)) → TakesSome a b (none ++ spelling items) → TakesSome a b (list_line items)
+  list_fails b t = some_more a b (spelling items) (codes "\n") (subst (λ (z : List ℕ). TakesSome a b (z ++ spelling items)) is t)
+
+  module _ (b : Option (List ℕ)) (p : List ℕ) (first : Gathers a b (none ++ spelling items) p) where
+    answers_gathered : Gathers a b (spelling items) p
+    answers_gathered = gathers_same (ap (λ (z : List ℕ). z ++ spelling items) is) first
+
+    pub newline_fails : (c : Option (List ℕ)) → TakesSome b c (p ++ codes "\n") → TakesSome a c (list_line items)
+    newline_fails c t = some_after a b c (spelling items) p (codes "\n") answers_gathered t
+
+    module _ (c : Option (List ℕ)) (q : List ℕ) (second : Gathers b c (p ++ codes "\n") q) (last : List ℕ) (rest : last ≡ q) (e : Option (List ℕ)) {T E : Type 0} (result : Result T E) where
+      line_gathered : Gathers a c (list_line items) q
+      line_gathered = gathers_more a b c (spelling items) p (codes "\n") q answers_gathered second
+
+      pub line_written : OnOk result (Appends c e last) → OnOk result (Appends a e (list_line items))
+      line_written h = on_ok_weaker result (λ t. all_after a c e (list_line items) q line_gathered (subst (Appends c e) rest t)) h
+
+      pub line_fails : OnErr result (TakesSome c e last) → OnErr result (TakesSome a e (list_line items))
+      line_fails h = on_err_weaker result (λ t. some_rest a c e (list_line items) q line_gathered (subst (TakesSome c e) rest t)) h

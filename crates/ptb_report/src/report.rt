@@ -1,11 +1,11 @@
-// This file writes the report of a run.
+// This file writes the report of a run, and lists of answers.
 
 ghost use Rattle.std.specs.Prelude.{◌≡◌, ◌==◌, [], ◌++◌, length, OnOk, OnErr, codes, if◌then◌else◌};
 ghost use Rattle.std.specs.Io.KnownBytes.{Appends};
 ghost use Rattle.std.specs.List.{flat_map};
 ghost use Rattle.ptb_text.specs.Device.{TakesSome, HasFailed};
 ghost use Rattle.ptb_answers.specs.AnswerText.{in_form, item_text, items_in, spelling};
-ghost use Rattle.ptb_report.specs.Report.{report_text, Gathers};
+ghost use Rattle.ptb_report.specs.Report.{list_line, report_text, Gathers};
 
 use arrayvec::ArrayVec;
 use itoa::Buffer;
@@ -172,5 +172,32 @@ pub fn write_report<W: Write>(
             b" ", word, b" ", steps, b" ", size, b"\n", transcript, b"\n",
         ],
     )?;
+    out.write_all(pending.as_slice())
+}
+
+/// Writes a list of answers as the form has it, and a newline. Each answer has its bound.
+///
+/// It takes no memory, and writes a short list in one piece.
+///
+/// # Errors
+///
+/// [`DeviceFault`] where the writer failed. A prefix of the line may have been taken then.
+pub fn write_list<W: Write>(
+    out: &mut W,
+    form: Form,
+    answers: &[i16],
+    bounds: &[i16],
+) -> Result<(), DeviceFault>
+    requires { length answers.now ≡ length bounds.now }
+    ensures ok { OnOk result (Appends (W.contents out.old) (W.contents out.new)
+        (list_line (items_in form answers.now bounds.now))) }
+    ensures fault { OnErr result (TakesSome (W.contents out.old) (W.contents out.new)
+        (list_line (items_in form answers.now bounds.now))) }
+    ensures failed { OnErr result (HasFailed (W.failures out.old) (W.failures out.new)) }
+    ensures unfailed { OnOk result (W.failures out.new ≡ W.failures out.old) }
+{
+    let mut pending = Pending::new();
+    put_answers(out, &mut pending, form, answers, bounds)?;
+    put(out, &mut pending, b"\n")?;
     out.write_all(pending.as_slice())
 }
