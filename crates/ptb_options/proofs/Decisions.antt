@@ -12,41 +12,53 @@ use Rattle.ptb_options.specs.declared.mistakes.MisspelledList.{MisspelledList}
 use Rattle.ptb_options.specs.declared.request.Mode.{Mode}
 use Rattle.ptb_options.specs.declared.request.Request.{Request}
 use Rattle.ptb_options.specs.declared.usage.UsageFault.{UsageFault}
-use Rattle.ptb_options.specs.declared.usage.UsageFault.TheVariants.{ListWithOther, AfterWithoutAll, FirstWithoutAll, FormWithoutAll, UnderWithoutAll, AnswersWithAll, SeedWithAll, SeedWithAnswers, BadList, Memory}
+use Rattle.ptb_options.specs.declared.usage.UsageFault.TheVariants.{ListWithOther, AfterWithoutAll, FirstWithoutAll, FormWithoutAll, UnderWithoutAll, SharesWithoutAll, SharesWithOther, SampleWithoutSeed, AnswersWithAll, SeedWithAll, SeedWithAnswers, BadList, Memory}
 use Rattle.ptb_options.specs.Options.{Asks, AsksMode, HasBound, HasMemorySize, IsFirstMisspelled, Options, Refuses, WantsMemory, clash, IsRulesOf, default_memory, default_steps, usage_fault}
 use Rattle.ptb_options.proofs.ListsKept.{first_misspelled}
 
 -- the first of these faults whose test is true
-abbrev first_fault : Bool → Bool → Bool → Bool → Bool → Bool → Bool → Bool → Option UsageFault
-first_fault a b c d e f g h =
+abbrev first_fault : Bool → Bool → Bool → Bool → Bool → Bool → Bool → Bool → Bool → Bool → Bool → Option UsageFault
+first_fault a b c d e f g h i j k =
     if a then Some ListWithOther
     else (if b then Some AfterWithoutAll
     else (if c then Some FirstWithoutAll
     else (if d then Some FormWithoutAll
     else (if e then Some UnderWithoutAll
-    else (if f then Some AnswersWithAll else (if g then Some SeedWithAll else (if h then Some SeedWithAnswers else None)))))))
+    else (if f then Some SharesWithoutAll
+    else (if g then Some SharesWithOther
+    else (if h then Some SampleWithoutSeed
+    else (if i then Some AnswersWithAll
+    else (if j then Some SeedWithAll
+    else (if k then Some SeedWithAnswers
+    else None))))))))))
 
-not_bad : (a b c d e f g h : Bool) → first_fault a b c d e f g h ≡ Some BadList → ⊥
-not_bad true b c d e f g h is = cc
-not_bad false true c d e f g h is = cc
-not_bad false false true d e f g h is = cc
-not_bad false false false true e f g h is = cc
-not_bad false false false false true f g h is = cc
-not_bad false false false false false true g h is = cc
-not_bad false false false false false false true h is = cc
-not_bad false false false false false false false true is = cc
-not_bad false false false false false false false false is = cc
+not_bad : (a b c d e f g h i j k : Bool) → first_fault a b c d e f g h i j k ≡ Some BadList → ⊥
+not_bad true b c d e f g h i j k is = cc
+not_bad false true c d e f g h i j k is = cc
+not_bad false false true d e f g h i j k is = cc
+not_bad false false false true e f g h i j k is = cc
+not_bad false false false false true f g h i j k is = cc
+not_bad false false false false false true g h i j k is = cc
+not_bad false false false false false false true h i j k is = cc
+not_bad false false false false false false false true i j k is = cc
+not_bad false false false false false false false false true j k is = cc
+not_bad false false false false false false false false false true k is = cc
+not_bad false false false false false false false false false false true is = cc
+not_bad false false false false false false false false false false false is = cc
 
-not_memory : (a b c d e f g h : Bool) → first_fault a b c d e f g h ≡ Some Memory → ⊥
-not_memory true b c d e f g h is = cc
-not_memory false true c d e f g h is = cc
-not_memory false false true d e f g h is = cc
-not_memory false false false true e f g h is = cc
-not_memory false false false false true f g h is = cc
-not_memory false false false false false true g h is = cc
-not_memory false false false false false false true h is = cc
-not_memory false false false false false false false true is = cc
-not_memory false false false false false false false false is = cc
+not_memory : (a b c d e f g h i j k : Bool) → first_fault a b c d e f g h i j k ≡ Some Memory → ⊥
+not_memory true b c d e f g h i j k is = cc
+not_memory false true c d e f g h i j k is = cc
+not_memory false false true d e f g h i j k is = cc
+not_memory false false false true e f g h i j k is = cc
+not_memory false false false false true f g h i j k is = cc
+not_memory false false false false false true g h i j k is = cc
+not_memory false false false false false false true h i j k is = cc
+not_memory false false false false false false false true i j k is = cc
+not_memory false false false false false false false false true j k is = cc
+not_memory false false false false false false false false false true k is = cc
+not_memory false false false false false false false false false false true is = cc
+not_memory false false false false false false false false false false false is = cc
 
 -- why options clash
 Refuses-clash : (o : Options) (fault : UsageFault) → clash o ≡ Some fault → Refuses o fault
@@ -55,11 +67,14 @@ Refuses-clash o AfterWithoutAll e = e
 Refuses-clash o FirstWithoutAll e = e
 Refuses-clash o FormWithoutAll e = e
 Refuses-clash o UnderWithoutAll e = e
+Refuses-clash o SharesWithoutAll e = e
+Refuses-clash o SharesWithOther e = e
+Refuses-clash o SampleWithoutSeed e = e
 Refuses-clash o AnswersWithAll e = e
 Refuses-clash o SeedWithAll e = e
 Refuses-clash o SeedWithAnswers e = e
-Refuses-clash o BadList e = absurd (not_bad _ _ _ _ _ _ _ _ e)
-Refuses-clash o Memory e = absurd (not_memory _ _ _ _ _ _ _ _ e)
+Refuses-clash o BadList e = absurd (not_bad _ _ _ _ _ _ _ _ _ _ _ e)
+Refuses-clash o Memory e = absurd (not_memory _ _ _ _ _ _ _ _ _ _ _ e)
 
 -- the size that is given, or the default
 pub size_of : (kept : Option ℕ) (memory : ℕ) → ForSome kept IsMemorySize → memory ≡ unwrap_or kept 4096 → IsMemorySize memory

@@ -69,27 +69,27 @@ module _ (o v : Options) (same : v ≡ o) (all_spelled : (x : ListOption) → Is
       let e = err_from_is_err_and result is in
       subst (λ (r : Result Mode ListFault). IfErr r (WantsMemory o)) (sym (e.1 ∙ ap Err e.2)) (subst (λ (z : Options). WantsMemory z fault) same h)
 
-  wants_under : (f : ListFault) → v.all ≡ true → RefusesIfGiven v.under f → WantsMemory v f
-  wants_under lists.Bad all h = spelled_list v.under (spelled Under) h
-  wants_under lists.Memory all h =
+  wants_under : (f : ListFault) → v.all ≡ true → v.shares ≡ None → RefusesIfGiven v.under f → WantsMemory v f
+  wants_under lists.Bad all unsplit h = spelled_list v.under (spelled Under) h
+  wants_under lists.Memory all unsplit h =
       let after = list_if_given v.after (spelled After) in
-      (refl, (modes.All (Some h.0) after.0 v.first (form_of v.form), (runs, all, h.1, after.1, refl, refl), inl h.2))
+      (refl, (modes.All (Some h.0) after.0 v.first (form_of v.form), (runs, all, unsplit, h.1, after.1, refl, refl), inl h.2))
 
-  wants_after : (f : ListFault) → v.all ≡ true → RefusesIfGiven v.after f → WantsMemory v f
-  wants_after lists.Bad all h = spelled_list v.after (spelled After) h
-  wants_after lists.Memory all h =
+  wants_after : (f : ListFault) → v.all ≡ true → v.shares ≡ None → RefusesIfGiven v.after f → WantsMemory v f
+  wants_after lists.Bad all unsplit h = spelled_list v.after (spelled After) h
+  wants_after lists.Memory all unsplit h =
       let under = list_if_given v.under (spelled Under) in
-      (refl, (modes.All under.0 (Some h.0) v.first (form_of v.form), (runs, all, under.1, h.1, refl, refl), inr h.2))
+      (refl, (modes.All under.0 (Some h.0) v.first (form_of v.form), (runs, all, unsplit, under.1, h.1, refl, refl), inr h.2))
 
   wants_answers : (f : ListFault) → v.all ≡ false → v.seed ≡ None → RefusesAnswers v.answers f → WantsMemory v f
   wants_answers lists.Bad one unseeded h = spelled_answers v.answers (spelled Answers) h
   wants_answers lists.Memory one unseeded h = (refl, (modes.Plain h.0, (runs, one, unseeded, h.1), h.2))
 
-  pub under_refused : v.all ≡ true → RefusesIfGiven v.under fault → IfErr result (WantsMemory o)
-  under_refused all h = refused (wants_under fault all h)
+  pub under_refused : v.all ≡ true → v.shares ≡ None → RefusesIfGiven v.under fault → IfErr result (WantsMemory o)
+  under_refused all unsplit h = refused (wants_under fault all unsplit h)
 
-  pub after_refused : v.all ≡ true → RefusesIfGiven v.after fault → IfErr result (WantsMemory o)
-  after_refused all h = refused (wants_after fault all h)
+  pub after_refused : v.all ≡ true → v.shares ≡ None → RefusesIfGiven v.after fault → IfErr result (WantsMemory o)
+  after_refused all unsplit h = refused (wants_after fault all unsplit h)
 
   pub answers_refused : v.all ≡ false → v.seed ≡ None → RefusesAnswers v.answers fault → IfErr result (WantsMemory o)
   answers_refused one unseeded h = refused (wants_answers fault one unseeded h)

@@ -19,6 +19,8 @@ module _ (P : List ℕ → ValueParser → Type 0)
     (choose : P (codes "choose") (Signed (pos 1) (pos 32767)))
     (seed : P (codes "seed") (Unsigned 0 4294967295))
     (first : P (codes "first") (Unsigned 1 1000000000))
+    (shares : P (codes "shares") (Signed (pos 1) (pos 64)))
+    (sample : P (codes "sample") (Unsigned 1 1000000000))
     (form : P (codes "form") (Signed (pos 1) (pos 2))) where
   same : (id : List ℕ) (parser : ValueParser) (name : List ℕ) (range : ValueParser) → P id parser → number_option id parser ≡ number_option name range → P name range
   same id parser name range p e =
@@ -30,7 +32,7 @@ module _ (P : List ℕ → ValueParser → Type 0)
       let parsers : r.parser ≡ Some range = ap (λ (x : Rule). x.parser) e in
       absurd cc
 
-  at : (i : ℕ) (name : List ℕ) (range : ValueParser) → i < 12 → get_or tool_rules i (number_option name range) ≡ number_option name range → P name range
+  at : (i : ℕ) (name : List ℕ) (range : ValueParser) → i < 14 → get_or tool_rules i (number_option name range) ≡ number_option name range → P name range
   at zero name range lt e = same _ _ name range steps e
   at (suc zero) name range lt e = same _ _ name range memory e
   at (suc (suc zero)) name range lt e = same _ _ name range choose e
@@ -40,24 +42,26 @@ module _ (P : List ℕ → ValueParser → Type 0)
   at (suc (suc (suc (suc (suc (suc zero)))))) name range lt e = other _ name range refl e
   at (suc (suc (suc (suc (suc (suc (suc zero))))))) name range lt e = other _ name range refl e
   at (suc (suc (suc (suc (suc (suc (suc (suc zero)))))))) name range lt e = same _ _ name range first e
-  at (suc (suc (suc (suc (suc (suc (suc (suc (suc zero))))))))) name range lt e = same _ _ name range form e
-  at (suc (suc (suc (suc (suc (suc (suc (suc (suc (suc zero)))))))))) name range lt e = other _ name range refl e
-  at (suc (suc (suc (suc (suc (suc (suc (suc (suc (suc (suc zero))))))))))) name range lt e = other _ name range refl e
-  at (suc (suc (suc (suc (suc (suc (suc (suc (suc (suc (suc (suc j)))))))))))) name range lt e = absurd (omega arith)
+  at (suc (suc (suc (suc (suc (suc (suc (suc (suc zero))))))))) name range lt e = same _ _ name range shares e
+  at (suc (suc (suc (suc (suc (suc (suc (suc (suc (suc zero)))))))))) name range lt e = same _ _ name range sample e
+  at (suc (suc (suc (suc (suc (suc (suc (suc (suc (suc (suc zero))))))))))) name range lt e = same _ _ name range form e
+  at (suc (suc (suc (suc (suc (suc (suc (suc (suc (suc (suc (suc zero)))))))))))) name range lt e = other _ name range refl e
+  at (suc (suc (suc (suc (suc (suc (suc (suc (suc (suc (suc (suc (suc zero))))))))))))) name range lt e = other _ name range refl e
+  at (suc (suc (suc (suc (suc (suc (suc (suc (suc (suc (suc (suc (suc (suc j)))))))))))))) name range lt e = absurd (omega arith)
 
   pub each_number : (name : List ℕ) (range : ValueParser) → Contains tool_rules (number_option name range) → P name range
   each_number name range there = at there.0 name range there.1 there.2
 
 -- its range is one of numbers
 pub number_range : (name : List ℕ) (range : ValueParser) → Contains tool_rules (number_option name range) → IsNumberRange range
-number_range = each_number (λ name range. IsNumberRange range) tt tt tt tt tt tt
+number_range = each_number (λ name range. IsNumberRange range) tt tt tt tt tt tt tt tt
 
 -- an option has one range
 abbrev range_of : List ℕ → Option ValueParser
 range_of name = option_and_then (λ (r : Rule). r.parser) (find (λ (r : Rule). bytes_eq r.id name) tool_rules)
 
 range_is : (name : List ℕ) (range : ValueParser) → Contains tool_rules (number_option name range) → range_of name ≡ Some range
-range_is = each_number (λ name range. range_of name ≡ Some range) refl refl refl refl refl refl
+range_is = each_number (λ name range. range_of name ≡ Some range) refl refl refl refl refl refl refl refl
 
 pub one_range : (name other : List ℕ) (range another : ValueParser) → Contains tool_rules (number_option name range) → Contains tool_rules (number_option other another) → name ≡ other → range ≡ another
 one_range name other range another there found e = some_injective range another (sym (range_is name range there) ∙ ap range_of e ∙ range_is other another found)
@@ -74,6 +78,8 @@ pub record IsCut (name : List ℕ) : Type 0 where
 
 pub cut : (name : List ℕ) (range : ValueParser) → Contains tool_rules (number_option name range) → IsCut name
 cut = each_number (λ name range. IsCut name)
+    (record { inside = λ v. omega arith; before = λ v. refl; after = λ v. refl; alone = refl })
+    (record { inside = λ v. omega arith; before = λ v. refl; after = λ v. refl; alone = refl })
     (record { inside = λ v. omega arith; before = λ v. refl; after = λ v. refl; alone = refl })
     (record { inside = λ v. omega arith; before = λ v. refl; after = λ v. refl; alone = refl })
     (record { inside = λ v. omega arith; before = λ v. refl; after = λ v. refl; alone = refl })

@@ -37,6 +37,8 @@ rules =
     ∷ text_option (codes "under")
     ∷ text_option (codes "after")
     ∷ number_option (codes "first") (Unsigned 1 1000000000)
+    ∷ number_option (codes "shares") (Signed (pos 1) (pos 64))
+    ∷ number_option (codes "sample") (Unsigned 1 1000000000)
     ∷ number_option (codes "form") (Signed (pos 1) (pos 2))
     ∷ flag (codes "list")
     ∷ operand (codes "program")

@@ -115,6 +115,18 @@ pub(crate) const ARGS: &[ListedArg] = &[
         help: help::FIRST,
     },
     ListedArg {
+        name: "shares",
+        kind: ArgKind::Number(ValueParser::Signed(1, 64)),
+        heading: Some(help::EXPLORE),
+        help: help::SHARES,
+    },
+    ListedArg {
+        name: "sample",
+        kind: ArgKind::Number(ValueParser::Unsigned(1, 1_000_000_000)),
+        heading: Some(help::EXPLORE),
+        help: help::SAMPLE,
+    },
+    ListedArg {
         name: "form",
         kind: ArgKind::Number(ValueParser::Signed(1, 2)),
         heading: Some(help::EXPLORE),

@@ -28,8 +28,9 @@ use std::marker::Model;
 /// The first that applies, in this order: [`UsageFault::ListWithOther`],
 /// [`UsageFault::AfterWithoutAll`], [`UsageFault::FirstWithoutAll`],
 /// [`UsageFault::FormWithoutAll`], [`UsageFault::UnderWithoutAll`],
-/// [`UsageFault::AnswersWithAll`], [`UsageFault::SeedWithAll`], [`UsageFault::SeedWithAnswers`],
-/// [`UsageFault::BadList`]. [`UsageFault::Memory`] comes only while the items of a list are kept, and
+/// [`UsageFault::SharesWithoutAll`], [`UsageFault::SharesWithOther`],
+/// [`UsageFault::SampleWithoutSeed`], [`UsageFault::AnswersWithAll`], [`UsageFault::SeedWithAll`],
+/// [`UsageFault::SeedWithAnswers`], [`UsageFault::BadList`]. [`UsageFault::Memory`] comes only while the items of a list are kept, and
 /// no list is kept before all are found to be spelled.
 pub fn decide(alloc: Global, matches: &ArgMatches<'_>) -> Result<Request, UsageFault>
     requires memory { HasMemorySize (options_of (entries_of matches.now)) }
@@ -74,6 +75,8 @@ struct GivenOptions<'a> {
     under: Option<&'a str>,
     after: Option<&'a str>,
     first: Option<u64>,
+    shares: Option<u8>,
+    sample: Option<u32>,
     form: Option<u8>,
     list: bool,
 }
@@ -94,6 +97,8 @@ impl<'a> Model for GivenOptions<'a> {
       under = option_copied line.under;
       after = option_copied line.after;
       first = line.first;
+      shares = line.shares;
+      sample = line.sample;
       form = line.form;
       list = line.list;
     } };
@@ -114,6 +119,8 @@ impl<'a> GivenOptions<'a> {
             under: matches.get_str("under"),
             after: matches.get_str("after"),
             first: matches.get_one("first"),
+            shares: matches.get_one("shares"),
+            sample: matches.get_one("sample"),
             form: matches.get_one("form"),
             list: is_given(matches, "list"),
         }
@@ -127,17 +134,25 @@ impl<'a> GivenOptions<'a> {
         let (answers, after) = (self.answers.is_some(), self.after.is_some());
         let (seed, first) = (self.seed.is_some(), self.first.is_some());
         let (form, choose) = (self.form.is_some(), self.choose.is_some());
+        let (shares, sample) = (self.shares.is_some(), self.sample.is_some());
         let (under, all) = (self.under.is_some(), self.all);
-        if self.list & (all | answers | seed | under | after | first | form | choose) {
+        let any = all | answers | seed | under | after | first | form | choose | shares | sample;
+        if self.list & any {
             Some(UsageFault::ListWithOther)
         } else if after & !all {
             Some(UsageFault::AfterWithoutAll)
         } else if first & !all {
             Some(UsageFault::FirstWithoutAll)
-        } else if form & !all {
+        } else if form & !(all | sample) {
             Some(UsageFault::FormWithoutAll)
         } else if under & !all {
             Some(UsageFault::UnderWithoutAll)
+        } else if shares & !all {
+            Some(UsageFault::SharesWithoutAll)
+        } else if shares & (after | first | under) {
+            Some(UsageFault::SharesWithOther)
+        } else if sample & !seed {
+            Some(UsageFault::SampleWithoutSeed)
         } else if answers & all {
             Some(UsageFault::AnswersWithAll)
         } else if seed & all {
@@ -199,6 +214,10 @@ impl<'a> GivenOptions<'a> {
             return Ok(Mode::List);
         }
         if self.all {
+            if let Some(answers) = self.shares {
+                let form = self.form();
+                return Ok(Mode::Shares { answers, form });
+            }
             return Ok(Mode::All {
                 under: list(alloc, self.under)?,
                 after: list(alloc, self.after)?,
@@ -207,6 +226,10 @@ impl<'a> GivenOptions<'a> {
             });
         }
         if let Some(seed) = self.seed {
+            if let Some(runs) = self.sample {
+                let form = self.form();
+                return Ok(Mode::Sample { seed, runs, form });
+            }
             return Ok(Mode::Seeded(seed));
         }
         Ok(Mode::Plain(answers(alloc, self.answers)?))

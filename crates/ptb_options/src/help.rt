@@ -52,10 +52,21 @@ pub const ALL_AFTER: &str = "With --all, only the runs after this one";
 /// The help of `--first`.
 pub const FIRST: &str = "With --all, at most N reports (1 to 1000000000)";
 
+/// The help of `--shares`.
+pub const SHARES: &str = "\
+With --all, print lists for --under that split
+the runs, of at most N numbers (1 to 64)";
+
+/// The help of `--sample`.
+pub const SAMPLE: &str = "\
+With --seed, write the reports of N runs that
+are drawn one after the other
+(1 to 1000000000)";
+
 /// The help of `--form`.
 pub const FORM: &str = "\
-With --all, numbers alone (1), or each with
-its bound (2, the default)";
+In reports and lists, numbers alone (1), or
+each with its bound (2, the default)";
 
 /// The help of `--list`.
 pub const LIST: &str = "Print the program in the order of its line numbers, and run nothing";
@@ -75,8 +86,8 @@ INPUT reads lines from standard input. A run at a terminal without --answers
 and --seed draws a seed and prints it; --seed replays the run.
 
 Exit status:
-   0  the program ended, or the reports, the listing, this help or the version
-      was written
+   0  the program ended, or the reports, the lists, the listing, this help or
+      the version was written
    1  the program stopped with WHAT?
    2  the program stopped with HOW?
    3  the program stopped with SORRY

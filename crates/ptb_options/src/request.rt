@@ -32,6 +32,22 @@ pub enum Mode {
         /// How the reports have the answers.
         form: Form,
     },
+    /// The lists of answers that split all its runs into shares are listed.
+    Shares {
+        /// The most answers that a list has, 1 to 64.
+        answers: u8,
+        /// How the lists have the answers.
+        form: Form,
+    },
+    /// Runs of it are listed whose answers one seed gives.
+    Sample {
+        /// The seed, 0 to 4,294,967,295.
+        seed: u64,
+        /// The number of runs, 1 to 1,000,000,000.
+        runs: u32,
+        /// How the reports have the answers.
+        form: Form,
+    },
     /// Its text is listed.
     List,
 }

@@ -19,8 +19,8 @@ pub enum UsageFault {
     /// `--answers` with `--all`.
     #[error("ptb: --answers excludes --all")]
     AnswersWithAll,
-    /// `--list` with `--all`, `--answers`, `--seed`, `--under`, `--after`, `--first`, `--form` or
-    /// `--choose`.
+    /// `--list` with `--all`, `--answers`, `--seed`, `--under`, `--after`, `--first`, `--form`,
+    /// `--choose`, `--shares` or `--sample`.
     #[error("ptb: --list stands alone")]
     ListWithOther,
     /// A list of answers isn't spelled as one.
@@ -35,12 +35,21 @@ pub enum UsageFault {
     /// `--seed` with `--answers`.
     #[error("ptb: --seed excludes --answers")]
     SeedWithAnswers,
-    /// `--form` without `--all`.
+    /// `--form` with neither `--all` nor `--sample`.
     #[error("ptb: --form needs --all")]
     FormWithoutAll,
     /// `--under` without `--all`.
     #[error("ptb: --under needs --all")]
     UnderWithoutAll,
+    /// `--shares` without `--all`.
+    #[error("ptb: --shares needs --all")]
+    SharesWithoutAll,
+    /// `--shares` with `--after`, `--first` or `--under`.
+    #[error("ptb: --shares excludes --after, --first and --under")]
+    SharesWithOther,
+    /// `--sample` without `--seed`.
+    #[error("ptb: --sample needs --seed")]
+    SampleWithoutSeed,
 }
 
 impl UsageFault {
