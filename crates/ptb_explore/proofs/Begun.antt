@@ -9,6 +9,8 @@ use Rattle.ptb_text.specs.Statements.{StoredProgram}
 use Rattle.ptb_machine.specs.Play.{play}
 use Rattle.ptb_explore.specs.Exploring.{Exploration, IsPlayed}
 use Rattle.ptb_explore.specs.MarkedRuns.{states_bounds, IsMarkedBeginning}
+use Rattle.ptb_explore.specs.declared.mismatch.Mismatch.{Mismatch}
+use Rattle.ptb_explore.specs.Mismatch.{IsItemMismatch}
 use Rattle.ptb_explore.specs.RunTree.{Start, IsNextRun}
 use Rattle.ptb_explore.proofs.Stated.{states_begun}
 
@@ -16,10 +18,6 @@ use Rattle.ptb_explore.proofs.Stated.{states_begun}
 module _ (p : StoredProgram) (input : List (List ℕ)) (rules : Rules) (list : List Marked) (plan : Answers) (is : plan ≡ answers_of list) where
   pub list_opens : is_open (play p input rules plan) ≡ true → is_open (play p input rules (answers_of list)) ≡ true
   list_opens h = subst (λ (a : Answers). is_open (play p input rules a) ≡ true) is h
-
-  -- no run begins with them
-  pub none_begun : {P : Type 0} → (is_open (play p input rules plan) ≡ true → P) → IsMarkedBeginning (play p input rules) list → P
-  none_begun f beginning = f (subst (λ (a : Answers). is_open (play p input rules a) ≡ true) (sym is) beginning.0)
 
   -- bounds of the plan and of what stands after it
   module _ (given : List ℤ) (front : take (length plan) given ≡ bounds (play p input rules) plan) where
@@ -29,16 +27,13 @@ module _ (p : StoredProgram) (input : List (List ℕ)) (rules : Rules) (list : L
     pub begun_stated : states_bounds list given ≡ true → states_bounds list (bounds (play p input rules) (answers_of list)) ≡ true
     begun_stated right = sym states_same ∙ right
 
-    pub begun_states : IsMarkedBeginning (play p input rules) list → states_bounds list given ≡ true
-    begun_states beginning = states_same ∙ beginning.1
-
 -- The player plays the program p.
 module _ (p : StoredProgram) (input : List (List ℕ)) (rules : Rules) (list : List Marked) (player : StoredProgram) (plays : player ≡ p) where
   pub beginning_played : IsMarkedBeginning (play player input rules) list → IsMarkedBeginning (play p input rules) list
   beginning_played h = subst (λ (q : StoredProgram). IsMarkedBeginning (play q input rules) list) plays h
 
-  pub beginning_back : IsMarkedBeginning (play p input rules) list → IsMarkedBeginning (play player input rules) list
-  beginning_back h = subst (λ (q : StoredProgram). IsMarkedBeginning (play q input rules) list) (sym plays) h
+  pub misfit_played : (m : Mismatch) → IsItemMismatch (play player input rules) list m → IsItemMismatch (play p input rules) list m
+  misfit_played m h = subst (λ (q : StoredProgram). IsItemMismatch (play q input rules) list m) plays h
 
   pub begun_played : (plan : Answers) → plan ≡ answers_of list → (n : ℕ) → ((a : Answers) → IsNextRun (play player input rules) plan Start a → IsPlayed (play player input rules) a n) → (m : ℕ) → m ≡ n
       → (a : Answers) → IsNextRun (play p input rules) (answers_of list) Start a → IsPlayed (play p input rules) a m

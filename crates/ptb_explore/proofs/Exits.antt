@@ -6,27 +6,33 @@ use Rattle.ptb_explore.specs.declared.fault.AfterFault.{AfterFault}
 use Rattle.ptb_explore.specs.declared.fault.AfterFault.TheVariants as after
 use Rattle.ptb_explore.specs.declared.fault.UnderFault.{UnderFault}
 use Rattle.ptb_explore.specs.declared.fault.UnderFault.TheVariants as under
+use Rattle.ptb_explore.specs.declared.mismatch.Mismatch.{Mismatch}
 
 -- a result is no fault
 pub ok_no_err : {T E P : Type 0} {x : T} {e : E} → ◌≡◌ {A = Result T E} (Ok x) (Err e) → P
 ok_no_err h = absurd cc
 
 -- a refusal of memory doesn't say that some answers are no run
-pub memory_no_run : {T P : Type 0} (r : Result T AfterFault) → IsErrAnd r (λ e. e ≡ after.Memory) → r ≡ Err after.NotARun → P
-memory_no_run (Ok x) h k = absurd h
-memory_no_run (Err e) h k = absurd cc
+pub memory_no_run : {T P : Type 0} (r : Result T AfterFault) (m : Mismatch) → IsErrAnd r (λ e. e ≡ after.Memory) → r ≡ Err (after.NotARun m) → P
+memory_no_run (Ok x) m h k = absurd h
+memory_no_run (Err e) m h k = absurd cc
 
 -- that answers are no run is no want of memory
-pub no_run_no_memory : {T P : Type 0} (r : Result T AfterFault) → IsErrAnd r (λ e. e ≡ after.NotARun) → r ≡ Err after.Memory → P
-no_run_no_memory (Ok x) h k = absurd h
-no_run_no_memory (Err e) h k = absurd cc
+pub no_run_no_memory : {T P : Type 0} {m : Mismatch} → ◌≡◌ {A = Result T AfterFault} (Err (after.NotARun m)) (Err after.Memory) → P
+no_run_no_memory k = absurd cc
 
--- a fault that is passed on says what it said
-pub same_no_run : {T P : Type 0} (r : Result T AfterFault) (e : AfterFault) → IsErrAnd r (λ x. x ≡ e) → (◌≡◌ {A = Result (Unit {0}) AfterFault} (Err e) (Err after.NotARun) → P) → r ≡ Err after.NotARun → P
-same_no_run (Ok x) e h p k = absurd h
-same_no_run (Err x) e h p k =
-    let same : e ≡ after.NotARun = cc in
-    p (ap Err same)
+-- a fault that is passed on is the fault
+pub passed_on : {T S E : Type 0} (r : Result T E) (e x : E) → IsErrAnd r (λ y. y ≡ e) → r ≡ Err x → ◌≡◌ {A = Result S E} (Err e) (Err x)
+passed_on (Ok t) e x h k = absurd h
+passed_on (Err y) e x h k =
+    let same : e ≡ x = cc in
+    ap Err same
+
+-- the reason of a fault is the one that is found
+pub same_reason : {T : Type 0} (P : Mismatch → Type 0) (m n : Mismatch) → ◌≡◌ {A = Result T AfterFault} (Err (after.NotARun m)) (Err (after.NotARun n)) → P m → P n
+same_reason P m n h x =
+    let same : m ≡ n = cc in
+    subst P same x
 
 -- what holds anyway holds of a result
 pub on_ok_always : {T E Q : Type 0} (r : Result T E) → Q → OnOk r Q
@@ -46,17 +52,14 @@ pub on_some_at : {T Q : Type 0} {o : Option T} {x : T} → o ≡ Some x → OnSo
 on_some_at {Q = Q} is h = subst (λ o. OnSome o Q) is h
 
 -- the same of the fault that no run begins so
-pub memory_no_beginning : {T P : Type 0} (r : Result T UnderFault) → IsErrAnd r (λ e. e ≡ under.Memory) → r ≡ Err under.NoBeginning → P
-memory_no_beginning (Ok x) h k = absurd h
-memory_no_beginning (Err e) h k = absurd cc
+pub memory_no_beginning : {T P : Type 0} (r : Result T UnderFault) (m : Mismatch) → IsErrAnd r (λ e. e ≡ under.Memory) → r ≡ Err (under.NoBeginning m) → P
+memory_no_beginning (Ok x) m h k = absurd h
+memory_no_beginning (Err e) m h k = absurd cc
 
--- that no run begins so is no want of memory
-pub no_beginning_no_memory : {T P : Type 0} (r : Result T UnderFault) → IsErrAnd r (λ e. e ≡ under.NoBeginning) → r ≡ Err under.Memory → P
-no_beginning_no_memory (Ok x) h k = absurd h
-no_beginning_no_memory (Err e) h k = absurd cc
+pub no_beginning_no_memory : {T P : Type 0} {m : Mismatch} → ◌≡◌ {A = Result T UnderFault} (Err (under.NoBeginning m)) (Err under.Memory) → P
+no_beginning_no_memory k = absurd cc
 
-pub same_no_beginning : {T S P : Type 0} (r : Result T UnderFault) (e : UnderFault) → IsErrAnd r (λ x. x ≡ e) → (◌≡◌ {A = Result S UnderFault} (Err e) (Err under.NoBeginning) → P) → r ≡ Err under.NoBeginning → P
-same_no_beginning (Ok x) e h p k = absurd h
-same_no_beginning (Err x) e h p k =
-    let same : e ≡ under.NoBeginning = cc in
-    p (ap Err same)
+pub same_misfit : {T : Type 0} (P : Mismatch → Type 0) (m n : Mismatch) → ◌≡◌ {A = Result T UnderFault} (Err (under.NoBeginning m)) (Err (under.NoBeginning n)) → P m → P n
+same_misfit P m n h x =
+    let same : m ≡ n = cc in
+    subst P same x

@@ -21,7 +21,12 @@ pub mod Stated
 pub mod Begun
 pub mod Progress
 pub mod Writing
+pub mod Samples
+pub mod DrawnRuns
 pub mod Mismatches
 pub mod Taken
 pub mod Misfits
 pub mod ReportAnswers
+pub mod Stopped
+pub mod Stopping
+pub mod LineWriting

@@ -10,7 +10,7 @@ use Rattle.ptb_answers.proofs.Readers.{whole_is, open_is}
 use Rattle.ptb_explore.specs.declared.mismatch.Mismatch.{Mismatch}
 use Rattle.ptb_explore.specs.declared.mismatch.Mismatch.TheVariants.{OutOfRange, OtherBound, NoQuestion, Missing, NotUnder}
 use Rattle.ptb_explore.specs.MarkedRuns.{IsMarkedRun, IsMarkedBeginning, is_bound, states_bounds}
-use Rattle.ptb_explore.specs.Mismatch.{IsQuestion, IsItemMismatch, IsMissing, IsNotUnder, IsRunMismatch, MismatchLaws}
+use Rattle.ptb_explore.specs.Mismatch.{IsQuestion, IsItemMismatch, IsMissing, IsRunMismatch, IsUnder, MismatchLaws}
 use Rattle.ptb_explore.specs.RunTree.{IsRun, begins_with}
 use Rattle.ptb_explore.proofs.Bounds.{length-bounds, bounds-append}
 use Rattle.ptb_explore.proofs.Mismatches.{answers_length, answers_split, item_is_run, mismatch_closes, run_begins, run_closes, same_question}
@@ -188,39 +188,36 @@ module _ {A W : Type 0} (play : Answers → Outcome A W) (most : ℕ) (reads : I
   -- ---- of a run
 
   data Reason (under list : List Marked) (r : Mismatch) : Type 0 where
-    AtItem : IsItemMismatch play list r → Reason under list r
-    Lacks : (item : ℕ) (bound : ℤ) → r ≡ Missing item bound → IsMissing play list item bound → Reason under list r
-    Other : r ≡ NotUnder → IsNotUnder play under list → Reason under list r
+    AtItem : IsUnder under list → IsItemMismatch play list r → Reason under list r
+    Lacks : (item : ℕ) (bound : ℤ) → r ≡ Missing item bound → IsUnder under list → IsMissing play list item bound → Reason under list r
+    Other : r ≡ NotUnder → begins_with (answers_of list) (answers_of under) ≡ false → Reason under list r
 
   reason : (under list : List Marked) (r : Mismatch) → IsRunMismatch play under list r → Reason under list r
-  reason under list (OutOfRange item answer bound) x = AtItem x
-  reason under list (OtherBound item stated bound) x = AtItem x
-  reason under list (NoQuestion items) x = AtItem x
-  reason under list (Missing item bound) x = Lacks item bound refl x
+  reason under list (OutOfRange item answer bound) x = AtItem x.0 x.1
+  reason under list (OtherBound item stated bound) x = AtItem x.0 x.1
+  reason under list (NoQuestion items) x = AtItem x.0 x.1
+  reason under list (Missing item bound) x = Lacks item bound refl x.0 x.1
   reason under list NotUnder x = Other refl x
 
   one_reason : (under list : List Marked) (r s : Mismatch) → Reason under list r → Reason under list s → r ≡ s
-  one_reason under list r s (AtItem x) (AtItem y) = one_item list r s x y
-  one_reason under list r s (AtItem x) (Lacks i n e y) = absurd (mismatch_closes play most reads list r x y.begins)
-  one_reason under list r s (AtItem x) (Other e y) = absurd (mismatch_closes play most reads list r x (run_begins play most reads list y.run))
-  one_reason under list r s (Lacks i n e x) (AtItem y) = absurd (mismatch_closes play most reads list s y x.begins)
-  one_reason under list r s (Lacks i n e x) (Lacks j k f y) = let item = x.item_is ∙ sym y.item_is in let bound = same_bound list n k x.question y.question in cc
-  one_reason under list r s (Lacks i n e x) (Other f y) = no_answer_of list n x.question y.run.0
-  one_reason under list r s (Other e x) (AtItem y) = absurd (mismatch_closes play most reads list s y (run_begins play most reads list x.run))
-  one_reason under list r s (Other e x) (Lacks j k f y) = no_answer_of list k y.question x.run.0
+  one_reason under list r s (AtItem u x) (AtItem v y) = one_item list r s x y
+  one_reason under list r s (AtItem u x) (Lacks i n e v y) = absurd (mismatch_closes play most reads list r x y.begins)
+  one_reason under list r s (AtItem u x) (Other e y) = absurd cc
+  one_reason under list r s (Lacks i n e u x) (AtItem v y) = absurd (mismatch_closes play most reads list s y x.begins)
+  one_reason under list r s (Lacks i n e u x) (Lacks j k f v y) = let item = x.item_is ∙ sym y.item_is in let bound = same_bound list n k x.question y.question in cc
+  one_reason under list r s (Lacks i n e u x) (Other f y) = absurd cc
+  one_reason under list r s (Other e x) (AtItem v y) = absurd cc
+  one_reason under list r s (Other e x) (Lacks j k f v y) = absurd cc
   one_reason under list r s (Other e x) (Other f y) = e ∙ sym f
 
-  abbrev IsRunUnder : List Marked → List Marked → Type 0
-  IsRunUnder under list = IsMarkedRun play list × (begins_with (answers_of list) (answers_of under) ≡ true)
-
-  decided_run : (under list : List Marked) → IsRunUnder under list ⊎ ((m : Mismatch) × IsRunMismatch play under list m)
-  decided_run under list = elim (decided list) [
-    | inr x ↦ inr (x.0, item_is_run play most reads under list x.0 x.1)
-    | inl b ↦ elim (open_is (play (answers_of list)) b.0) [
-      | inr q ↦ inr (Missing (length list + 1) q.0, record { item_is = refl; begins = b; question = (q.1, q.2) })
-      | inl d ↦ elim (cases_Bool (begins_with (answers_of list) (answers_of under))) [
-        | inl h ↦ inl ((ap is_whole d.1, b.1), h)
-        | inr h ↦ inr (NotUnder, record { run = (ap is_whole d.1, b.1); differs = h })
+  decided_run : (under list : List Marked) → (IsMarkedRun play list × IsUnder under list) ⊎ ((m : Mismatch) × IsRunMismatch play under list m)
+  decided_run under list = elim (cases_Bool (begins_with (answers_of list) (answers_of under))) [
+    | inr h ↦ inr (NotUnder, h)
+    | inl u ↦ elim (decided list) [
+      | inr x ↦ inr (x.0, item_is_run play most reads under list x.0 u x.1)
+      | inl b ↦ elim (open_is (play (answers_of list)) b.0) [
+        | inr q ↦ inr (Missing (length list + 1) q.0, (u, record { item_is = refl; begins = b; question = (q.1, q.2) }))
+        | inl d ↦ inl ((ap is_whole d.1, b.1), u)
       ]
     ]
   ]

@@ -12,17 +12,25 @@ use Rattle.ptb_answers.proofs.Readers.{whole_is, open_is, closed_is}
 use Rattle.ptb_explore.specs.declared.mismatch.Mismatch.{Mismatch}
 use Rattle.ptb_explore.specs.declared.mismatch.Mismatch.TheVariants.{OutOfRange, OtherBound, NoQuestion, Missing, NotUnder}
 use Rattle.ptb_explore.specs.MarkedRuns.{IsMarkedRun, IsMarkedBeginning, is_bound, states_bounds}
-use Rattle.ptb_explore.specs.Mismatch.{IsOutOfRange, IsOtherBound, IsOver, IsItemMismatch, IsMissing, IsRunMismatch, TakesFirst, HasBounds}
-use Rattle.ptb_explore.specs.RunTree.{IsRun, begins_with}
+use Rattle.ptb_explore.specs.Mismatch.{IsOutOfRange, IsOtherBound, IsOver, IsItemMismatch, IsMissing, IsRunMismatch, IsUnder, TakesItems}
+use Rattle.ptb_explore.specs.RunTree.{IsRun}
 use Rattle.ptb_explore.proofs.Attempt.{run_opens}
 use Rattle.ptb_explore.proofs.Bounds.{length-bounds, bounds-append}
 use Rattle.ptb_explore.proofs.Order.{same_is}
 use Rattle.ptb_explore.proofs.Stated.{states_begun}
 use Rattle.ptb_explore.proofs.Tree.{run_open, run_asks}
 
+-- ---- what is seen of a play of a list
+
+-- the questions of a run that begins with these answers have these bounds; `later` are the answers that it takes after them
+pub record HasBounds {A W : Type 0} (play : Answers → Outcome A W) (answers : Answers) (their_bounds : List ℤ) : Type 0 where
+  pub later : Answers
+  pub run : IsRun play (answers ++ later)
+  pub bounds_are : their_bounds ≡ bounds play (answers ++ later)
+
 -- ---- lists
 
-split_there : {X : Type 0} (s : List X) (i : ℕ) (d : X) → i < length s → s ≡ take i s ++ slice_index_or s i d ∷ drop (i + 1) s
+pub split_there : {X : Type 0} (s : List X) (i : ℕ) (d : X) → i < length s → s ≡ take i s ++ slice_index_or s i d ∷ drop (i + 1) s
 split_there [] i d l = absurd (omega arith)
 split_there (x ∷ s) zero d l = refl
 split_there (x ∷ s) (suc i) d l = let e = split_there s i d (omega arith) in let n : suc i + 1 ≡ suc (i + 1) = omega arith in rw n (ap (λ r. x ∷ r) e)
@@ -41,7 +49,7 @@ take_twice (suc m) (suc n) (x ∷ xs) l = ap (λ r. x ∷ r) (take_twice m n xs 
 pub answers_split : (before after : List Marked) (m : Marked) → answers_of (before ++ m ∷ after) ≡ answers_of before ++ m.answer ∷ answers_of after
 answers_split before after m = map-append (λ (x : Marked). x.answer) before (m ∷ after)
 
-answers_take : (n : ℕ) (list : List Marked) → take n (answers_of list) ≡ answers_of (take n list)
+pub answers_take : (n : ℕ) (list : List Marked) → take n (answers_of list) ≡ answers_of (take n list)
 answers_take n list = take-map (λ (x : Marked). x.answer) n list
 
 pub answers_length : (list : List Marked) → length (answers_of list) ≡ length list
@@ -129,18 +137,8 @@ module _ {A W : Type 0} (play : Answers → Outcome A W) (most : ℕ) (reads : I
 
   -- q are the answers that are looked at, and bs the bounds of a run that begins with them
   module _ (q : Answers) (bs : List ℤ) (h : HasBounds play q bs) where
-    first_bounds : take (length q) bs ≡ bounds play q
-    first_bounds =
-        let all : bs ≡ bounds play q ++ bounds_after play q h.later = h.bounds_are ∙ bounds-append play [] q h.later in
-        let n : length (bounds play q) ≡ length q = length-bounds play [] q in
-        ap (take (length q)) all ∙ ap (λ k. take k (bounds play q ++ bounds_after play q h.later)) (sym n)
-        ∙ take-append-le (length (bounds play q)) (bounds play q) (bounds_after play q h.later) (omega arith) ∙ take-length (bounds play q)
-
     count_bounds : length bs ≡ length q + length h.later
     count_bounds = ap length h.bounds_are ∙ length-bounds play [] (q ++ h.later) ∙ length-append q h.later
-
-    has_open : is_open (play q) ≡ true
-    has_open = run_open play most reads q h.later h.run
 
     pub asks_next : length q < length bs → (w : W) × (play q ≡ Asks (slice_index_or bs (length q) (pos 0)) w)
     asks_next l = by_later h.later refl
@@ -153,83 +151,53 @@ module _ {A W : Type 0} (play : Answers → Outcome A W) (most : ℕ) (reads : I
             ap (λ (b : List ℤ). slice_index_or b (length q) (pos 0)) (h.bounds_are ∙ ap (λ (t : Answers). bounds play (q ++ t)) e) ∙ bound_there play [] q s k ∙ ap bound_of p.2 in
             (p.1, p.2 ∙ ap (λ n. Asks n p.1) (sym there))
 
-    pub is_over : length bs ≤ length q → IsRun play q
-    is_over l = by_later h.later refl
-      where
-        by_later : (s : Answers) → h.later ≡ s → IsRun play q
-        by_later [] e = subst (λ (t : Answers). IsRun play t) (ap (λ (t : Answers). q ++ t) e ∙ append-nil q) h.run
-        by_later (k ∷ s) e = absurd (omega (arith, count_bounds, ap length e))
-
-  -- the same of the first of these answers
-  has_front : (q s : Answers) (bs : List ℤ) → HasBounds play (q ++ s) bs → HasBounds play q bs
-  has_front q s bs h = record {
-    later = s ++ h.later;
-    run = subst (λ (t : Answers). IsRun play t) (append_assoc q s h.later) h.run;
-    bounds_are = h.bounds_are ∙ ap (bounds play) (append_assoc q s h.later);
-  }
-
-  -- all of these items fit, where they state these bounds
-  begins_with_items : (items : List Marked) (bs : List ℤ) → HasBounds play (answers_of items) bs → states_bounds items bs ≡ true → IsMarkedBeginning play items
-  begins_with_items items bs h s = (
-    has_open (answers_of items) bs h,
-    sym (states_begun items (answers_of items) bs (bounds play (answers_of items)) refl (first_bounds (answers_of items) bs h)) ∙ s,
-  )
-
   -- ---- the first n items of a list are taken
 
-  module _ (list : List Marked) (n : ℕ) (bs : List ℤ) (takes : TakesFirst play (answers_of list) n) (h : HasBounds play (take n (answers_of list)) bs) where
+  module _ (list : List Marked) (bs : List ℤ) (n : ℕ) (takes : TakesItems play list bs n) where
     n_within : n ≤ length list
-    n_within = omega (arith, takes.within, answers_length list)
+    n_within = takes.within
 
-    has_items : HasBounds play (answers_of (take n list)) bs
-    has_items = subst (λ (q : Answers). HasBounds play q bs) (answers_take n list) h
+    items_count : length (answers_of (take n list)) ≡ n
+    items_count = answers_length (take n list) ∙ length-take-le n list n_within
+
+    -- all of these items fit, where they state these bounds
+    pub begins_with_items : states_bounds (take n list) bs ≡ true → IsMarkedBeginning play (take n list)
+    begins_with_items s =
+        let q = answers_of (take n list) in
+        let front : take (length q) bs ≡ bounds play q = ap (λ k. take k bs) items_count ∙ takes.bounds_are in
+        (takes.opens, sym (states_begun (take n list) q bs (bounds play q) refl front) ∙ s)
 
     pub all_fit : n ≡ length list → states_bounds (take n list) bs ≡ true → IsMarkedBeginning play list
     all_fit e s =
         let all : take n list ≡ list = ap (λ k. take k list) e ∙ take-length list in
-        subst (IsMarkedBeginning play) all (begins_with_items (take n list) bs has_items s)
+        subst (IsMarkedBeginning play) all (begins_with_items s)
 
     module _ (d : Marked) (less : n < length list) (s : states_bounds (take n list) bs ≡ true) where
       abbrev there : Marked
       there = slice_index_or list n d
 
-      first_count : length (answers_of (take n list)) ≡ n
-      first_count = answers_length (take n list) ∙ length-take-le n list (omega arith)
+      pub out_of_range : (bound : ℤ) (w : W) → play (answers_of (take n list)) ≡ Asks bound w → is_answer bound there.answer ≡ false → IsOutOfRange play list (n + 1) there.answer bound
+      out_of_range bound w asks outside = record {
+        stated = there.bound;
+        asked = record {
+          before = take n list;
+          after = drop (n + 1) list;
+          list_is = split_there list n d less;
+          item_is = ap (λ k. k + 1) (sym (length-take-le n list n_within));
+          begins = begins_with_items s;
+          question = (w, asks);
+        };
+        outside = outside;
+      }
 
-      pub out_of_range : n < length bs → IsOutOfRange play list (n + 1) there.answer (slice_index_or bs n (pos 0))
-      out_of_range more =
-          let q = answers_of (take n list) in
-          let p = asks_next q bs has_items (omega (arith, first_count)) in
-          let asks : play q ≡ Asks (slice_index_or bs n (pos 0)) p.0 = p.1 ∙ ap (λ k. Asks (slice_index_or bs k (pos 0)) p.0) first_count in
-          record {
-            stated = there.bound;
-            asked = record {
-              before = take n list;
-              after = drop (n + 1) list;
-              list_is = split_there list n d less;
-              item_is = ap (λ k. k + 1) (sym (length-take-le n list (omega arith)));
-              begins = begins_with_items (take n list) bs has_items s;
-              question = (p.0, asks);
-            };
-            outside = elim (cases_Bool (is_answer (slice_index_or bs n (pos 0)) there.answer)) [
-              | inr o ↦ o
-              | inl i ↦
-                  let opens = reads.inside q (slice_index_or bs n (pos 0)) there.answer p.0 asks i in
-                  let closed = takes.closed (omega (arith, answers_length list)) in
-                  let same : take (n + 1) (answers_of list) ≡ q ++ there.answer ∷ [] = answers_take (n + 1) list ∙ ap answers_of (take_more list n d less) ∙ map-append (λ (x : Marked). x.answer) (take n list) (there ∷ []) in
-                  let e = ap (λ (t : Answers). is_open (play t)) same in
-                  absurd cc
-            ];
-          }
-
-      pub no_question : length bs ≤ n → IsOver play list n
-      no_question l = record {
+      pub no_question : IsRun play (answers_of (take n list)) → IsOver play list n
+      no_question run = record {
         before = take n list;
         m = there;
         after = drop (n + 1) list;
         list_is = split_there list n d less;
-        items_are = sym (length-take-le n list (omega arith));
-        run = (is_over (answers_of (take n list)) bs has_items (omega (arith, first_count)), (begins_with_items (take n list) bs has_items s).1);
+        items_are = sym (length-take-le n list n_within);
+        run = (run, (begins_with_items s).1);
       }
 
     -- one of them states another bound
@@ -249,18 +217,39 @@ module _ {A W : Type 0} (play : Answers → Outcome A W) (most : ℕ) (reads : I
                 ∙ ap (λ (m : Marked). answers_of (take k list) ++ m.answer ∷ answers_of (drop (k + 1) first)) g,
           )
 
+      front_count : length (answers_of (take k list)) ≡ k
+      front_count = answers_length (take k list) ∙ length-take-le k list (omega (arith, n_within))
+
+      front_opens : is_open (play (answers_of (take k list) ++ item_at.answer ∷ in_front.0)) ≡ true
+      front_opens = subst (λ (a : Answers). is_open (play a) ≡ true) in_front.1 takes.opens
+
+      -- the bounds of the answers before it, and of its own
+      front_bounds : take n bs ≡ bounds play (answers_of (take k list)) ++ bounds_after play (answers_of (take k list)) (item_at.answer ∷ in_front.0)
+      front_bounds = takes.bounds_are ∙ ap (bounds play) in_front.1 ∙ bounds-append play [] (answers_of (take k list)) (item_at.answer ∷ in_front.0)
+
+      front_takes : TakesItems play list bs k
+      front_takes =
+          let q = answers_of (take k list) in
+          let more = item_at.answer ∷ in_front.0 in
+          let count : length (bounds play q) ≡ k = length-bounds play [] q ∙ front_count in
+          let first : take k (take n bs) ≡ bounds play q =
+          ap (take k) front_bounds ∙ ap (λ j. take j (bounds play q ++ bounds_after play q more)) (sym count)
+          ∙ take-append-le (length (bounds play q)) (bounds play q) (bounds_after play q more) (omega arith) ∙ take-length (bounds play q) in
+          record {
+            within = omega (arith, n_within);
+            counted = omega (arith, takes.counted);
+            opens = open_front q more front_opens;
+            bounds_are = sym (take_twice k n bs (omega arith)) ∙ first;
+          }
+
       pub other_bound : (stated : ℤ) → item_at.bound ≡ Some stated → (stated ≡ slice_index_or bs k (pos 0) → ⊥) → IsOtherBound play list (k + 1) stated (slice_index_or bs k (pos 0))
       other_bound stated is other =
           let q = answers_of (take k list) in
-          let parts = in_front in
-          let n : length q ≡ k = answers_length (take k list) ∙ length-take-le k list (omega (arith, n_within)) in
-          let all = subst (λ (t : Answers). HasBounds play t bs) parts.1 has_items in
-          let front = has_front q (item_at.answer ∷ parts.0) bs all in
-          let count = count_bounds (q ++ item_at.answer ∷ parts.0) bs all in
-          let p = asks_next q bs front (omega (arith, count, length-append q (item_at.answer ∷ parts.0))) in
-          let asks : play q ≡ Asks (slice_index_or bs k (pos 0)) p.0 = p.1 ∙ ap (λ i. Asks (slice_index_or bs i (pos 0)) p.0) n in
-          let opens = open_asks q parts.0 item_at.answer (has_open (q ++ item_at.answer ∷ parts.0) bs all) in
-          let same : opens.0 ≡ slice_index_or bs k (pos 0) = same_question q opens.0 (slice_index_or bs k (pos 0)) opens.1 p.0 opens.2 asks in
+          let opens = open_asks q in_front.0 item_at.answer front_opens in
+          let at : slice_index_or bs k (pos 0) ≡ opens.0 =
+          sym (get_or-take n bs k (pos 0) less) ∙ ap (λ (b : List ℤ). slice_index_or b k (pos 0)) (takes.bounds_are ∙ ap (bounds play) in_front.1)
+          ∙ ap (λ j. slice_index_or (bounds play (q ++ item_at.answer ∷ in_front.0)) j (pos 0)) (sym front_count)
+          ∙ bound_there play [] q in_front.0 item_at.answer ∙ ap bound_of opens.2 in
           record {
             answer = item_at.answer;
             asked = record {
@@ -268,12 +257,18 @@ module _ {A W : Type 0} (play : Answers → Outcome A W) (most : ℕ) (reads : I
               after = drop (k + 1) list;
               list_is = split_there list k d (omega (arith, n_within)) ∙ ap (λ (o : Option ℤ). take k list ++ record { answer = item_at.answer; bound = o } ∷ drop (k + 1) list) is;
               item_is = ap (λ i. i + 1) (sym (length-take-le k list (omega (arith, n_within))));
-              begins = begins_with_items (take k list) bs front s;
-              question = (p.0, asks);
+              begins = first_begins;
+              question = (opens.1, opens.2 ∙ ap (λ b. Asks b opens.1) (sym at));
             };
-            inside = subst (λ (b : ℤ). is_answer b item_at.answer ≡ true) same opens.3;
+            inside = subst (λ (b : ℤ). is_answer b item_at.answer ≡ true) (sym at) opens.3;
             other = other;
           }
+        where
+          first_begins : IsMarkedBeginning play (take k list)
+          first_begins =
+              let q = answers_of (take k list) in
+              let front : take (length q) bs ≡ bounds play q = ap (λ j. take j bs) front_count ∙ front_takes.bounds_are in
+              (front_takes.opens, sym (states_begun (take k list) q bs (bounds play q) refl front) ∙ s)
 
 -- the bounds that are stated are looked at one by one
 pub states_more : (list : List Marked) (bs : List ℤ) (k : ℕ) (d : Marked) → k < length list → k < length bs → states_bounds (take k list) bs ≡ true
@@ -292,100 +287,57 @@ states_more list bs k d l u h right = subst (λ (n : ℕ). states_bounds (take n
         let p = and_parts (is_bound m.bound n) (states_bounds (take k list) bs) h in
         and_from (is_bound m.bound n) (states_bounds (take (suc k) list) bs) p.0 (by_place list bs k d (omega arith) (omega arith) p.1 right)
 
--- ---- what is found
+-- ---- what a run that begins with a list shows
 
 module _ {A W : Type 0} (play : Answers → Outcome A W) (most : ℕ) (reads : IsReader play most) where
-  -- the first answers that are taken are all taken once more
-  pub taken_again : (answers : Answers) (n k : ℕ) → TakesFirst play answers n → TakesFirst play (take n answers) k → k ≡ length (take n answers)
-  taken_again answers n k first again = elim (cases_lt k (length (take n answers))) [
-    | inr all ↦ omega (arith, again.within)
-    | inl less ↦
-        let q = take n answers in
-        let closed = again.closed less in
-        let opens = open_front play most reads (take (k + 1) q) (drop (k + 1) q) (subst (λ (t : Answers). is_open (play t) ≡ true) (sym (take-append-drop (k + 1) q)) first.opens) in
-        absurd cc
-  ]
+  -- it asks for one item more
+  pub missing_item : (list : List Marked) (bs : List ℤ) → HasBounds play (answers_of list) bs → IsMarkedBeginning play list
+      → (bound : ℤ) → bound ≡ slice_index_or bs (length list) bound → length list < length bs → IsMissing play list (length list + 1) bound
+  missing_item list bs h begins bound read l =
+      let n = answers_length list in
+      let p = asks_next play most reads (answers_of list) bs h (omega (arith, n)) in
+      let same : slice_index_or bs (length list) (pos 0) ≡ bound = get_or_default bs (length list) (pos 0) bound l ∙ sym read in
+      record { item_is = refl; begins = begins; question = (p.0, p.1 ∙ ap (λ k. Asks (slice_index_or bs k (pos 0)) p.0) n ∙ ap (λ k. Asks k p.0) same) }
 
-  pub bounds_within : (answers : Answers) (n : ℕ) (bs : List ℤ) → TakesFirst play answers n → HasBounds play (take n answers) bs → n ≤ length bs
-  bounds_within answers n bs first h = omega (arith, count_bounds play most reads (take n answers) bs h, length-take-le n answers first.within)
+  -- ---- of a run
 
-  -- a run that begins with all of the items is over after them, or asks for one more
-  module _ (list : List Marked) (bs : List ℤ) (h : HasBounds play (answers_of list) bs) (begins : IsMarkedBeginning play list) where
-    pub missing_item : (bound : ℤ) → bound ≡ slice_index_or bs (length list) bound → length list < length bs → IsMissing play list (length list + 1) bound
-    missing_item bound read l =
-        let n = answers_length list in
-        let p = asks_next play most reads (answers_of list) bs h (omega (arith, n)) in
-        let same : slice_index_or bs (length list) (pos 0) ≡ bound = get_or_default bs (length list) (pos 0) bound l ∙ sym read in
-        record { item_is = refl; begins = begins; question = (p.0, p.1 ∙ ap (λ k. Asks (slice_index_or bs k (pos 0)) p.0) n ∙ ap (λ k. Asks k p.0) same) }
+  pub item_is_run : (under list : List Marked) (m : Mismatch) → IsUnder under list → IsItemMismatch play list m → IsRunMismatch play under list m
+  item_is_run under list (OutOfRange item answer bound) u x = (u, x)
+  item_is_run under list (OtherBound item stated bound) u x = (u, x)
+  item_is_run under list (NoQuestion items) u x = (u, x)
+  item_is_run under list (Missing item bound) u x = absurd x
+  item_is_run under list NotUnder u x = absurd x
 
-    pub all_are_run : length bs ≤ length list → IsMarkedRun play list
-    all_are_run l = (is_over play most reads (answers_of list) bs h (omega (arith, answers_length list)), begins.1)
-
-  pub item_is_run : (under list : List Marked) (m : Mismatch) → IsItemMismatch play list m → IsRunMismatch play under list m
-  item_is_run under list (OutOfRange item answer bound) x = x
-  item_is_run under list (OtherBound item stated bound) x = x
-  item_is_run under list (NoQuestion items) x = x
-  item_is_run under list (Missing item bound) x = absurd x
-  item_is_run under list NotUnder x = absurd x
+  -- of a list that begins with another, it is that of the list alone
+  pub alone_is_under : (under list : List Marked) (m : Mismatch) → IsUnder under list → IsRunMismatch play [] list m → IsRunMismatch play under list m
+  alone_is_under under list (OutOfRange item answer bound) u x = (u, x.1)
+  alone_is_under under list (OtherBound item stated bound) u x = (u, x.1)
+  alone_is_under under list (NoQuestion items) u x = (u, x.1)
+  alone_is_under under list (Missing item bound) u x = (u, x.1)
+  alone_is_under under list NotUnder u x = absurd cc
 
   pub run_begins : (list : List Marked) → IsMarkedRun play list → IsMarkedBeginning play list
   run_begins list run = (run_opens play most reads (answers_of list) run.0, run.1)
 
-  pub run_closes : (under list : List Marked) (m : Mismatch) → IsRunMismatch play under list m → IsMarkedRun play list → begins_with (answers_of list) (answers_of under) ≡ true → ⊥
-  run_closes under list (OutOfRange item answer bound) x run b = mismatch_closes play most reads list (OutOfRange item answer bound) x (run_begins list run)
-  run_closes under list (OtherBound item stated bound) x run b = mismatch_closes play most reads list (OtherBound item stated bound) x (run_begins list run)
-  run_closes under list (NoQuestion items) x run b = mismatch_closes play most reads list (NoQuestion items) x (run_begins list run)
-  run_closes under list (Missing item bound) x run b = let w = whole_is (play (answers_of list)) run.0 in let e = w.1 in let f = x.question.1 in absurd cc
-  run_closes under list NotUnder x run b = let f = x.differs in absurd cc
+  pub run_closes : (under list : List Marked) (m : Mismatch) → IsRunMismatch play under list m → IsMarkedRun play list → IsUnder under list → ⊥
+  run_closes under list (OutOfRange item answer bound) x run b = mismatch_closes play most reads list (OutOfRange item answer bound) x.1 (run_begins list run)
+  run_closes under list (OtherBound item stated bound) x run b = mismatch_closes play most reads list (OtherBound item stated bound) x.1 (run_begins list run)
+  run_closes under list (NoQuestion items) x run b = mismatch_closes play most reads list (NoQuestion items) x.1 (run_begins list run)
+  run_closes under list (Missing item bound) x run b = let w = whole_is (play (answers_of list)) run.0 in let e = w.1 in let f = x.1.question.1 in absurd cc
+  run_closes under list NotUnder x run b = absurd cc
 
-  -- ---- by what is found
-
-  pub found_in_items : (list : List Marked) (o : Option Mismatch) → MatchOption o (IsMarkedBeginning play list) (IsItemMismatch play list) → IfSome o (IsItemMismatch play list) × ((o ≡ None) ↔ IsMarkedBeginning play list)
-  found_in_items list None h = (tt, (λ _. h, λ _. refl))
-  found_in_items list (Some m) h = (h, (λ e. absurd cc, λ b. absurd (mismatch_closes play most reads list m h b)))
-
-  abbrev pub IsFound : List Marked → List Marked → Option Mismatch → Type 0
-  IsFound under list o = IfSome o (IsRunMismatch play under list) × ((o ≡ None) ↔ (IsMarkedRun play list × (begins_with (answers_of list) (answers_of under) ≡ true)))
-
-  pub found_none : (under list : List Marked) → IsMarkedRun play list → begins_with (answers_of list) (answers_of under) ≡ true → IsFound under list None
-  found_none under list run b = (tt, (λ _. (run, b), λ _. refl))
-
-  pub found_some : (under list : List Marked) (m : Mismatch) → IsRunMismatch play under list m → IsFound under list (Some m)
-  found_some under list m x = (x, (λ e. absurd cc, λ r. absurd (run_closes under list m x r.0 r.1)))
-
-  pub found_item : (under list : List Marked) (o : Option Mismatch) → MatchOption o (IsMarkedBeginning play list) (IsItemMismatch play list) → (o ≡ None → ⊥) → IsFound under list o
-  found_item under list None h some = absurd (some refl)
-  found_item under list (Some m) h some = found_some under list m (item_is_run under list m h)
-
-  pub found_no_item : (list : List Marked) (o : Option Mismatch) → MatchOption o (IsMarkedBeginning play list) (IsItemMismatch play list) → o ≡ None → IsMarkedBeginning play list
-  found_no_item list None h e = h
-  found_no_item list (Some m) h e = absurd cc
-
-  -- where all items fit, all of them are taken
-  pub bounds_if_none : (list : List Marked) (n : ℕ) (bs : List ℤ) (o : Option Mismatch) → TakesFirst play (answers_of list) n → HasBounds play (take n (answers_of list)) bs
-      → MatchOption o (IsMarkedBeginning play list) (IsItemMismatch play list) → IfNone o (HasBounds play (answers_of list) bs)
-  bounds_if_none list n bs (Some m) first h found = tt
-  bounds_if_none list n bs None first h found = elim (cases_lt n (length (answers_of list))) [
-    | inr all ↦
-        let is : take n (answers_of list) ≡ answers_of list = take_all n (answers_of list) (omega arith) in
-        subst (λ (a : Answers). HasBounds play a bs) is h
-    | inl less ↦
-        let q = answers_of list in
-        let closed = first.closed less in
-        let opens = open_front play most reads (take (n + 1) q) (drop (n + 1) q) (subst (λ (t : Answers). is_open (play t) ≡ true) (sym (take-append-drop (n + 1) q)) found.0) in
-        absurd cc
-  ]
-
-pub if_ok_more : {T E : Type 0} {P Q : T → Type 0} → ((x : T) → P x → Q x) → (r : Result T E) → IfOk r P → IfOk r Q
-if_ok_more f (Ok x) h = f x h
-if_ok_more f (Err e) h = tt
+-- ---- by what is found
 
 pub if_none_at : {T P : Type 0} {o : Option T} → o ≡ None → IfNone o P → P
 if_none_at {P = P} is h = subst (λ o. IfNone o P) is h
 
-pub some_is : {T P : Type 0} {o : Option T} → true ≡ is_some o → o ≡ None → P
-some_is h e = let x = ap is_some e in absurd cc
-
 pub none_is : {T : Type 0} (o : Option T) → false ≡ is_some o → o ≡ None
 none_is None h = refl
 none_is (Some x) h = absurd cc
+
+pub if_some_at : {T : Type 0} (P : T → Type 0) {o : Option T} {x : T} → o ≡ Some x → IfSome o P → P x
+if_some_at P is h = subst (λ o. IfSome o P) is h
+
+pub if_some_more : {T : Type 0} {P Q : T → Type 0} (o : Option T) → ((x : T) → P x → Q x) → IfSome o P → IfSome o Q
+if_some_more None f h = tt
+if_some_more (Some x) f h = f x h

@@ -1,5 +1,5 @@
 -- This file proves what is known of an explorer that stands at the run of a plan, from what is known of each step.
-use Rattle.std.proofs.Common.{◌≡◌, ◌∙◌, ap, sym, subst, ℕ, List, true, Result, Ok, Err}
+use Rattle.std.proofs.Common.{◌≡◌, ◌∙◌, ap, sym, subst, ℕ, List, [], true, Result, Ok, Err}
 use Rattle.std.specs.Prelude.{ℤ}
 use Rattle.ptb_answers.specs.declared.form.Marked.{Marked}
 use Rattle.ptb_answers.specs.declared.rules.Rules.{Rules}
@@ -12,6 +12,8 @@ use Rattle.ptb_explore.specs.declared.copies.KeptCopy.{KeptCopy}
 use Rattle.ptb_explore.specs.Copies.{AreCopies, AreBeginnings, KeptRun, kept_runs}
 use Rattle.ptb_explore.specs.Exploring.{Exploration, IsPlayed}
 use Rattle.ptb_explore.specs.MarkedRuns.{IsMarkedRun, states_bounds}
+use Rattle.ptb_explore.specs.declared.mismatch.Mismatch.{Mismatch}
+use Rattle.ptb_explore.specs.Mismatch.{IsRunMismatch}
 use Rattle.ptb_explore.specs.RunTree.{At, IsRun, begins_with}
 use Rattle.ptb_explore.proofs.Keep.{kept_beginnings}
 
@@ -21,6 +23,11 @@ pub marked_run : {T E A W : Type 0} (r : Result T E) (game : Answers → Outcome
 marked_run (Ok x) game plan list is run states =
     (subst (λ (a : Answers). IsRun game a) is run, subst (λ (a : Answers). states_bounds list (bounds game a) ≡ true) is states)
 marked_run (Err e) game plan list is run states = tt
+
+-- why a list is no run of what the player plays, which is the program p
+pub reason_played : (p : StoredProgram) (input : List (List ℕ)) (rules : Rules) (player : StoredProgram) → player ≡ p → (list : List Marked) (m : Mismatch)
+    → IsRunMismatch (play player input rules) [] list m → IsRunMismatch (play p input rules) [] list m
+reason_played p input rules player plays list m h = subst (λ (q : StoredProgram). IsRunMismatch (play q input rules) [] list m) plays h
 
 -- The player plays the program p.
 module _ (p : StoredProgram) (input : List (List ℕ)) (rules : Rules) (plan : Answers) (player : StoredProgram) (plays : player ≡ p) where
@@ -32,13 +39,6 @@ module _ (p : StoredProgram) (input : List (List ℕ)) (rules : Rules) (plan : A
 
   pub planned_stated : (stated : List Marked) → states_bounds stated (bounds (play player input rules) plan) ≡ true → states_bounds stated (bounds (play p input rules) plan) ≡ true
   planned_stated stated h = subst (λ (q : StoredProgram). states_bounds stated (bounds (play q input rules) plan) ≡ true) plays h
-
-  -- where the player has no such run, the program has none
-  pub no_run_played : {P : Type 0} (stated : List Marked) → (IsRun (play player input rules) plan → states_bounds stated (bounds (play player input rules) plan) ≡ true → P)
-      → IsRun (play p input rules) plan → states_bounds stated (bounds (play p input rules) plan) ≡ true → P
-  no_run_played stated f run states =
-      f (subst (λ (q : StoredProgram). IsRun (play q input rules) plan) (sym plays) run)
-      (subst (λ (q : StoredProgram). states_bounds stated (bounds (play q input rules) plan) ≡ true) (sym plays) states)
 
   -- the answers of the report are the plan
   module _ (there : StoredProgram) (still : there ≡ player) (answers : Answers) (are : answers ≡ plan) where

@@ -2,6 +2,7 @@
 use Rattle.std.proofs.Common.{◌≡◌, ℕ, ◌+◌, ◌-◌, ◌<◌, ◌≤◌, List, [], ◌∷◌, ◌++◌, true, Option, Some, None, Result, Ok, Err, ℤ, inl, inr, refl, sym, ap, subst, ◌∙◌, arith, append_assoc, append-nil, length, drop, length-append, length-drop}
 use Rattle.std.proofs.Math.Path.{fun_ext}
 use Rattle.ptb_text.specs.Statements.{StoredProgram}
+use Rattle.ptb_answers.specs.declared.pause.Pause.{Pause}
 use Rattle.ptb_answers.specs.declared.pause.Pause.TheVariants as pauses
 use Rattle.ptb_devices.specs.Sources.{LineList, Gives}
 use Rattle.ptb_answers.specs.Outcome.{Answers, Outcome, Done, Asks, Out, go_on, map_outcome, bounds}
@@ -137,16 +138,17 @@ module _ (laws : RunLaws) (p : StoredProgram) (input : List (List ℕ)) (rules :
         (h.0, holds_to (play p input rules) d _ _ (over_is e x.leads.state x.leads.represents (shown_there m new c d s t given left rest most few u (ends e) x)) h.1)
 
     -- INPUT finds no line left
-    ends_dry : IsDry (refused_by (RefusedByPlan d) (λ _. ⊥) (Some rest)) (StepsTo p.lines new (devices c (text_state s) most rules.choose []) u.state rest (turn p rules.limit u.state)) (devices d (text_state t) few rules.choose given) (Over endings.NoInput) → (d.plan ≡ c.plan) × Ended endings.NoInput
-    ends_dry w =
+    pub ends_dry : (refuses : Pause → ℤ → Type 0) → IsDry (refused_by refuses (λ _. ⊥) (Some rest)) (StepsTo p.lines new (devices c (text_state s) most rules.choose []) u.state rest (turn p rules.limit u.state)) (devices d (text_state t) few rules.choose given) (Over endings.NoInput) → (d.plan ≡ c.plan) × Ended endings.NoInput
+    ends_dry refuses w =
         let x = w.comes in
         let T : State = x.leads.state in
         let none : T.lines ≡ [] = x.leads.lines ∙ w.refuses in
         let h = turn_holds m new c d s t given left rest most few u w.left x in
         (h.0, holds_to (play p input rules) d _ _ (λ a. ap (from_turn p rules) (w.dry T a none) ∙ over_is endings.NoInput T x.leads.represents (shown_there m new c d s t given left rest most few u w.left x) a) h.1)
 
+  module _ (m new : Configuration) (c d : Choices) (bound : ℤ) (s t : List ℕ) (given left rest : List (List ℕ)) (most few : ℕ) (u : IsRunPrefix p input rules c s left m) where
     -- the plan's next answer is outside its bound
-    ends_outside : (k : ℤ) → Waits (refused_by (RefusedByPlan d) (λ _. ⊥) (Some rest)) (StepsTo p.lines new (devices c (text_state s) most rules.choose []) u.state rest (turn p rules.limit u.state)) (devices d (text_state t) few rules.choose given) act_state (pauses.OutOfRange k) → (d.plan ≡ c.plan) × NextIsOutside (play p input rules) d
+    ends_outside : (k : ℤ) → Waits (refused_by (RefusedByPlan d bound) (λ _. ⊥) (Some rest)) (StepsTo p.lines new (devices c (text_state s) most rules.choose []) u.state rest (turn p rules.limit u.state)) (devices d (text_state t) few rules.choose given) act_state (pauses.OutOfRange k) → (d.plan ≡ c.plan) × NextIsOutside (play p input rules) d bound
     ends_outside k w =
         let x = w.comes in
         let T : State = x.leads.state in
@@ -157,26 +159,26 @@ module _ (laws : RunLaws) (p : StoredProgram) (input : List (List ℕ)) (rules :
         let out : play p input rules (d.taken ++ k ∷ []) ≡ Out w.bound T.shown = reads.outside d.taken w.bound k T.shown asks w.refuses.1 in
         let all : play p input rules ((d.taken ++ k ∷ []) ++ later) ≡ Out w.bound T.shown = reads.out (d.taken ++ k ∷ []) later w.bound T.shown out in (
           h.0,
-          record {
+          subst (λ (n : ℤ). NextIsOutside (play p input rules) d n) (sym w.refuses.2) (record {
             next = k;
             later = later;
             plan_is = w.refuses.0.1;
-            bound = w.bound;
+            bounds_are = h.1.bounds_are;
             beside = T.shown;
             asks = asks;
             outside = w.refuses.1;
             out = ap (play p input rules) (w.refuses.0.1 ∙ sym (append_assoc d.taken (k ∷ []) later)) ∙ all;
-          },
+          }),
         )
 
-    ending_comes : (e : Ending) → StepComes (refused_by (RefusedByPlan d) (λ _. ⊥) (Some rest)) (StepsTo p.lines new (devices c (text_state s) most rules.choose []) u.state rest (turn p rules.limit u.state)) (devices d (text_state t) few rules.choose given) (Ok (Some e)) → (d.plan ≡ c.plan) × PlayEnds (play p input rules) d new.steps t e
-    ending_comes endings.End x = ends_so endings.End x
-    ending_comes endings.Stop x = ends_so endings.Stop x
-    ending_comes endings.What x = ends_so endings.What x
-    ending_comes endings.How x = ends_so endings.How x
-    ending_comes endings.Sorry x = ends_so endings.Sorry x
-    ending_comes endings.Limit x = ends_so endings.Limit x
-    ending_comes endings.NoInput w = ends_dry w
+    ending_comes : (e : Ending) → StepComes (refused_by (RefusedByPlan d bound) (λ _. ⊥) (Some rest)) (StepsTo p.lines new (devices c (text_state s) most rules.choose []) u.state rest (turn p rules.limit u.state)) (devices d (text_state t) few rules.choose given) (Ok (Some e)) → (d.plan ≡ c.plan) × PlayEnds (play p input rules) d bound new.steps t e
+    ending_comes endings.End x = ends_so m new c d s t given left rest most few u endings.End x
+    ending_comes endings.Stop x = ends_so m new c d s t given left rest most few u endings.Stop x
+    ending_comes endings.What x = ends_so m new c d s t given left rest most few u endings.What x
+    ending_comes endings.How x = ends_so m new c d s t given left rest most few u endings.How x
+    ending_comes endings.Sorry x = ends_so m new c d s t given left rest most few u endings.Sorry x
+    ending_comes endings.Limit x = ends_so m new c d s t given left rest most few u endings.Limit x
+    ending_comes endings.NoInput w = ends_dry m new c d s t given left rest most few u (RefusedByPlan d bound) w
     ending_comes endings.NoAnswer w = absurd w.refuses
     ending_comes endings.BadAnswer w = ends_outside w.0 w.1
 
@@ -187,18 +189,18 @@ module _ (laws : RunLaws) (p : StoredProgram) (input : List (List ℕ)) (rules :
       let x = subst (λ r. StepComes refused (StepsTo p.lines new (devices c (text_state s) most rules.choose []) u.state rest (turn p rules.limit u.state)) (devices d (text_state t) few rules.choose given) r) e (steps u.state rest u.represents u.choose follows (u.left_is ∙ l)) in
       ((turn_holds m new c d s t given left rest most few u goes x).0, goes_run_prefix m new c d s t given left rest most few u x, goes_below m new c d s t given left rest most few u x)
 
-  pub step_ends : (m new : Configuration) (c d : Choices) (s t : List ℕ) (given left rest : List (List ℕ)) (most few : ℕ) (e : Ending) (r : Result (Option Ending) RunFault) → r ≡ Ok (Some e) → IsRunPrefix p input rules c s left m → left ≡ given ++ rest → (few ≡ 0 → rest ≡ []) → Steps (refused_by (RefusedByPlan d) (λ _. ⊥) (Some rest)) p rules.limit m new (devices c (text_state s) most rules.choose []) (devices d (text_state t) few rules.choose given) r → (d.plan ≡ c.plan) × PlayEnds (play p input rules) d new.steps t e
-  step_ends m new c d s t given left rest most few e r is u l follows steps =
-      let x = subst (λ r. StepComes (refused_by (RefusedByPlan d) (λ _. ⊥) (Some rest)) (StepsTo p.lines new (devices c (text_state s) most rules.choose []) u.state rest (turn p rules.limit u.state)) (devices d (text_state t) few rules.choose given) r) is (steps u.state rest u.represents u.choose follows (u.left_is ∙ l)) in
-      ending_comes m new c d s t given left rest most few u e x
+  pub step_ends : (m new : Configuration) (c d : Choices) (bound : ℤ) (s t : List ℕ) (given left rest : List (List ℕ)) (most few : ℕ) (e : Ending) (r : Result (Option Ending) RunFault) → r ≡ Ok (Some e) → IsRunPrefix p input rules c s left m → left ≡ given ++ rest → (few ≡ 0 → rest ≡ []) → Steps (refused_by (RefusedByPlan d bound) (λ _. ⊥) (Some rest)) p rules.limit m new (devices c (text_state s) most rules.choose []) (devices d (text_state t) few rules.choose given) r → (d.plan ≡ c.plan) × PlayEnds (play p input rules) d bound new.steps t e
+  step_ends m new c d bound s t given left rest most few e r is u l follows steps =
+      let x = subst (λ r. StepComes (refused_by (RefusedByPlan d bound) (λ _. ⊥) (Some rest)) (StepsTo p.lines new (devices c (text_state s) most rules.choose []) u.state rest (turn p rules.limit u.state)) (devices d (text_state t) few rules.choose given) r) is (steps u.state rest u.represents u.choose follows (u.left_is ∙ l)) in
+      ending_comes m new c d bound s t given left rest most few u e x
 
   -- a machine that isn't spent, whose bytes and lines are in memory, has no fault but want of memory
-  module _ (m new : Configuration) (c d : Choices) (s t : List ℕ) (given left rest : List (List ℕ)) (most few : ℕ) (r : Result (Option Ending) RunFault) (u : IsRunPrefix p input rules c s left m) (l : left ≡ given ++ rest) (follows : few ≡ 0 → rest ≡ []) (steps : Steps (refused_by (RefusedByPlan d) (λ _. ⊥) (Some rest)) p rules.limit m new (devices c (text_state s) most rules.choose []) (devices d (text_state t) few rules.choose given) r) where
+  module _ (refuses : Pause → ℤ → Type 0) (m new : Configuration) (c d : Choices) (s t : List ℕ) (given left rest : List (List ℕ)) (most few : ℕ) (r : Result (Option Ending) RunFault) (u : IsRunPrefix p input rules c s left m) (l : left ≡ given ++ rest) (follows : few ≡ 0 → rest ≡ []) (steps : Steps (refused_by refuses (λ _. ⊥) (Some rest)) p rules.limit m new (devices c (text_state s) most rules.choose []) (devices d (text_state t) few rules.choose given) r) where
     abbrev Fault : RunFault → Type 0
-    Fault f = StepComes (refused_by (RefusedByPlan d) (λ _. ⊥) (Some rest)) (StepsTo p.lines new (devices c (text_state s) most rules.choose []) u.state rest (turn p rules.limit u.state)) (devices d (text_state t) few rules.choose given) (Err f)
+    Fault f = StepComes (refused_by refuses (λ _. ⊥) (Some rest)) (StepsTo p.lines new (devices c (text_state s) most rules.choose []) u.state rest (turn p rules.limit u.state)) (devices d (text_state t) few rules.choose given) (Err f)
 
     faulted : (f : RunFault) → r ≡ Err f → Fault f
-    faulted f is = subst (λ r. StepComes (refused_by (RefusedByPlan d) (λ _. ⊥) (Some rest)) (StepsTo p.lines new (devices c (text_state s) most rules.choose []) u.state rest (turn p rules.limit u.state)) (devices d (text_state t) few rules.choose given) r) is (steps u.state rest u.represents u.choose follows (u.left_is ∙ l))
+    faulted f is = subst (λ r. StepComes (refused_by refuses (λ _. ⊥) (Some rest)) (StepsTo p.lines new (devices c (text_state s) most rules.choose []) u.state rest (turn p rules.limit u.state)) (devices d (text_state t) few rules.choose given) r) is (steps u.state rest u.represents u.choose follows (u.left_is ∙ l))
 
     pub never_unread : r ≡ Err faults.Read → ⊥
     never_unread is = let w : Fault faults.Read = faulted faults.Read is in elim w.broken.0.by [ inl x ↦ x | inr x ↦ x ]

@@ -39,7 +39,7 @@ same_rising (x ∷ xs) (y ∷ ys) up down f g =
     let rest : xs ≡ ys = same_rising xs ys up.1 down.1 (behind_first x y xs ys e up.0 f) (behind_first y x ys xs (sym e) down.0 g) in
     ap (λ z. z ∷ xs) e ∙ ap (λ s. y ∷ s) rest
 
-text_each : (report : Answers → List ℕ) (f : ℤ → List Answers) (ks : List ℤ) → text report (flat_map f ks) ≡ flat_map (λ k. text report (f k)) ks
+pub text_each : (report : Answers → List ℕ) (f : ℤ → List Answers) (ks : List ℤ) → text report (flat_map f ks) ≡ flat_map (λ k. text report (f k)) ks
 text_each report f [] = refl
 text_each report f (k ∷ ks) = flat_map-append report (f k) (flat_map f ks) ∙ ap (λ s. text report (f k) ++ s) (text_each report f ks)
 
@@ -47,7 +47,7 @@ bound_is : {A W : Type 0} (m n : ℤ) (v w : W) → ◌≡◌ {A = Outcome A W} 
 bound_is m n v w e = cc
 
 module _ {A W : Type 0} (play : Answers → Outcome A W) (most : ℕ) (reads : IsReader play most) where
-  run_in : (under : Answers) (f : Front) (a : Answers) → IsIn a (runs_after play most under f) → IsRun play a × (is_left under f a ≡ true)
+  pub run_in : (under : Answers) (f : Front) (a : Answers) → IsIn a (runs_after play most under f) → IsRun play a × (is_left under f a ≡ true)
   run_in under f a i = let p = filter_in (is_left under f) a (tree play most) i in ((tree_runs play most reads a).0 p.0, p.1)
 
   in_run : (under : Answers) (f : Front) (a : Answers) → IsRun play a → is_left under f a ≡ true → IsIn a (runs_after play most under f)
@@ -96,7 +96,7 @@ module _ {A W : Type 0} (play : Answers → Outcome A W) (most : ℕ) (reads : I
         same_rising (runs_after play most under f) (flat_map share (answers_to n)) (after_rises under f)
         (rising_answers share n (λ k i. after_rises (under ++ k ∷ []) f) (λ j k a b i m l h t. shares_apart j k a b l h t)) in_share of_share
 
-    question : (report : Answers → List ℕ) → text report (runs_after play most under f) ≡ flat_map (λ k. text report (runs_after play most (under ++ k ∷ []) f)) (answers_to n)
+    pub question : (report : Answers → List ℕ) → text report (runs_after play most under f) ≡ flat_map (λ k. text report (runs_after play most (under ++ k ∷ []) f)) (answers_to n)
     question report = ap (text report) joined ∙ text_each report share (answers_to n)
 
   -- with ones behind a question, a run is reached

@@ -1,35 +1,18 @@
 -- This file proves how the bounds that are stated of a list are looked at, one after the other.
-use Rattle.std.proofs.Common.{◌≡◌, ◌∙◌, ap, sym, ℕ, zero, suc, ◌+◌, ◌<◌, ◌≤◌, List, [], ◌∷◌, length, take, drop, get_or, true, false, refl, arith}
+use Rattle.std.proofs.Common.{◌≡◌, ◌∙◌, ap, sym, subst, ℕ, zero, suc, ◌+◌, ◌<◌, ◌≤◌, List, [], ◌∷◌, length, take, drop, get_or, true, false, refl, arith}
 use Rattle.std.proofs.lemmas.List.{length-map}
-use Rattle.std.specs.Prelude.{ℤ, ◌&&◌}
+use Rattle.std.specs.Prelude.{ℤ, ◌&&◌, Result, Ok, Err}
+use Rattle.std.specs.Result.{OnOk}
 use Rattle.ptb_answers.specs.declared.form.Marked.{Marked}
-use Rattle.ptb_answers.specs.Outcome.{Answers}
-use Rattle.ptb_answers.specs.AnswerText.{answers_of}
+use Rattle.ptb_answers.specs.Outcome.{Answers, Outcome, bounds}
+use Rattle.ptb_answers.specs.AnswerText.{answers_of, unmarked}
 use Rattle.std.specs.Ordering.{int_eq}
 use Rattle.std.proofs.lemmas.Bool.{false_from_ne_true}
 use Rattle.std.proofs.Math.Bool.{and-false}
-use Rattle.ptb_explore.specs.MarkedRuns.{is_bound, states_bounds}
-use Rattle.ptb_explore.specs.RunTree.{begins_with}
+use Rattle.ptb_explore.specs.MarkedRuns.{IsMarkedRun, is_bound, states_bounds}
+use Rattle.ptb_explore.specs.RunTree.{IsRun, begins_with}
+use Rattle.ptb_explore.proofs.Bounds.{length-bounds}
 use Rattle.ptb_explore.proofs.Order.{same_from, same_is}
-
--- the one at a place, and then those behind it
-from_place : (list : List Marked) (bounds : List ℤ) (k : ℕ) (m : Marked) (n : ℤ) → k < length list → length list ≤ length bounds
-    → states_bounds (drop k list) (drop k bounds) ≡ (is_bound (get_or list k m).bound (get_or bounds k n) && states_bounds (drop (suc k) list) (drop (suc k) bounds))
-from_place [] bounds k m n lt le = absurd (omega arith)
-from_place (x ∷ list) [] k m n lt le = absurd (omega arith)
-from_place (x ∷ list) (y ∷ bounds) zero m n lt le = refl
-from_place (x ∷ list) (y ∷ bounds) (suc k) m n lt le = from_place list bounds k m n (omega arith) (omega arith)
-
-module _ (list : List Marked) (bounds : List ℤ) (k : ℕ) (m : Marked) (n : ℤ) (lt : k < length list) (le : length list ≤ length bounds) where
-  -- one that is right leaves it to those behind it
-  pub right_bound : is_bound (get_or list k m).bound (get_or bounds k n) ≡ true → states_bounds (drop (k + 1) list) (drop (k + 1) bounds) ≡ states_bounds (drop k list) (drop k bounds)
-  right_bound right =
-      let next : k + 1 ≡ suc k = omega arith in
-      ap (λ j. states_bounds (drop j list) (drop j bounds)) next
-      ∙ sym (from_place list bounds k m n lt le ∙ ap (λ b. b && states_bounds (drop (suc k) list) (drop (suc k) bounds)) right)
-
-  pub wrong_bound : is_bound (get_or list k m).bound (get_or bounds k n) ≡ false → states_bounds (drop k list) (drop k bounds) ≡ false
-  wrong_bound wrong = from_place list bounds k m n lt le ∙ ap (λ b. b && states_bounds (drop (suc k) list) (drop (suc k) bounds)) wrong
 
 -- bounds behind those of the list are not looked at
 pub states_front : (list : List Marked) (bounds : List ℤ) (n : ℕ) → length list ≤ n → states_bounds list (take n bounds) ≡ states_bounds list bounds
@@ -70,3 +53,28 @@ pub too_short : (list under : List Marked) → length list < length under → be
 too_short list [] l = absurd (omega arith)
 too_short [] (y ∷ under) l = refl
 too_short (x ∷ list) (y ∷ under) l = ap (λ b. int_eq x.answer y.answer && b) (too_short list under (omega arith)) ∙ and-false (int_eq x.answer y.answer)
+
+-- ---- answers without bounds
+
+pub unmarked_answers : (answers : Answers) → answers_of (unmarked answers) ≡ answers
+unmarked_answers [] = refl
+unmarked_answers (k ∷ answers) = ap (λ a. k ∷ a) (unmarked_answers answers)
+
+-- they state none
+unmarked_states : (answers : Answers) (bounds : List ℤ) → length bounds ≡ length answers → states_bounds (unmarked answers) bounds ≡ true
+unmarked_states [] bounds l = refl
+unmarked_states (k ∷ answers) [] l = absurd (omega arith)
+unmarked_states (k ∷ answers) (n ∷ bounds) l = unmarked_states answers bounds (omega arith)
+
+module _ {A W : Type 0} (play : Answers → Outcome A W) (answers : Answers) (list : List Marked) (is : list ≡ unmarked answers) where
+  pub unmarked_run : IsRun play answers → IsMarkedRun play list
+  unmarked_run run =
+      let same : answers_of list ≡ answers = ap answers_of is ∙ unmarked_answers answers in (
+        subst (IsRun play) (sym same) run,
+        ap (λ l. states_bounds l (bounds play (answers_of list))) is
+            ∙ unmarked_states answers (bounds play (answers_of list)) (length-bounds play [] (answers_of list) ∙ ap length same),
+      )
+
+  pub unmarked_run_ok : {T E : Type 0} (r : Result T E) → OnOk r (IsMarkedRun play list) → OnOk r (IsRun play answers)
+  unmarked_run_ok (Ok x) run = subst (IsRun play) (ap answers_of is ∙ unmarked_answers answers) run.0
+  unmarked_run_ok (Err e) run = tt

@@ -1,81 +1,125 @@
--- This file proves which of the answers that are played are taken, and which bounds are seen then.
-use Rattle.std.proofs.Common.{◌≡◌, ℕ, ◌+◌, ◌<◌, ◌≤◌, List, [], ◌∷◌, ◌++◌, length, take, true, ap, sym, ◌∙◌, arith, append_assoc, append-nil, length-append}
-use Rattle.std.specs.Prelude.{pos, slice_index_or}
-use Rattle.std.proofs.lemmas.List.{take_more, length-take-le, take-append-le}
+-- This file proves which of the items of a list that is played are taken, and which bounds are seen then.
+use Rattle.std.proofs.Common.{◌≡◌, ◌⊎◌, inl, inr, ℕ, ◌+◌, ◌<◌, ◌≤◌, List, [], ◌∷◌, ◌++◌, length, take, drop, true, false, refl, ap, sym, subst, ◌∙◌, arith, append-nil}
+use Rattle.std.specs.Prelude.{ℤ, Some, slice_index_or}
+use Rattle.std.proofs.lemmas.List.{append_cancel_left, length-take-le}
 use Rattle.std.proofs.Math.Seq.{take-length}
-use Rattle.ptb_answers.specs.Outcome.{Answers, Outcome, Done, Asks, IsReader, is_open, is_whole, bounds}
+use Rattle.ptb_answers.specs.declared.form.Marked.{Marked}
+use Rattle.ptb_answers.specs.AnswerText.{answers_of}
+use Rattle.ptb_answers.specs.Outcome.{Answers, Outcome, Done, Asks, IsReader, is_open, is_whole, is_answer, bounds}
 use Rattle.ptb_command.specs.declared.ending.Ending.{Ending}
 use Rattle.ptb_command.specs.declared.ending.Ending.TheVariants as endings
 use Rattle.ptb_machine.specs.Play.{Finish}
 use Rattle.ptb_explore.specs.declared.recorder.Recorder.{Recorder}
-use Rattle.ptb_explore.specs.Mismatch.{TakesFirst, HasBounds}
+use Rattle.ptb_explore.specs.Mismatch.{IsOutOfRange, IsOver, TakesItems}
+use Rattle.ptb_explore.specs.MarkedRuns.{states_bounds}
 use Rattle.ptb_explore.specs.Playing.{Holds, PlayEnds, NextIsOutside}
 use Rattle.ptb_explore.specs.Recording.{choices_of}
-use Rattle.ptb_explore.proofs.Mismatches.{take_twice}
+use Rattle.ptb_explore.specs.RunTree.{IsRun}
+use Rattle.ptb_explore.proofs.Mismatches.{HasBounds, answers_length, answers_split, answers_take, no_question, out_of_range, split_there, take_twice}
 use Rattle.ptb_explore.proofs.Trial.{begun_opens, open_ends}
 
--- the plan of the recorder is `plan`, and it has come to this ending
-module _ (play : Answers → Outcome Finish (List ℕ)) (r : Recorder) (steps : ℕ) (shown : List ℕ) (most : ℕ) (reads : IsReader play most) (plan : Answers) (planned : take r.planned r.answers.items ≡ plan) where
-  -- all answers of the plan were taken
-  module _ (all : length plan ≤ length r.bounds.items) (e : Ending) (h : PlayEnds play (choices_of r) steps shown e) where
-    plan_opens : is_open (play plan) ≡ true
-    plan_opens = (begun_opens play r steps shown most reads plan planned all e h).0
+-- the plan of the recorder is the answers of a list, and it has come to this ending
+module _ (play : Answers → Outcome Finish (List ℕ)) (r : Recorder) (steps : ℕ) (shown : List ℕ) (most : ℕ) (reads : IsReader play most) (list : List Marked) (planned : take r.planned r.answers.items ≡ answers_of list) where
+  abbrev plan : Answers
+  plan = answers_of list
+
+  abbrev count : ℕ
+  count = length r.bounds.items
+
+  plan_count : length plan ≡ length list
+  plan_count = answers_length list
+
+  -- all items were taken
+  module _ (all : length list ≤ count) (e : Ending) (h : PlayEnds play (choices_of r) r.refused_bound steps shown e) where
+    begun : (is_open (play plan) ≡ true) × (take (length plan) r.bounds.items ≡ bounds play plan)
+    begun = begun_opens play r steps shown most reads plan planned (omega (arith, plan_count)) e h
 
     pub has_all : HasBounds play plan r.bounds.items
     has_all =
-        let x = open_ends play r steps shown most reads plan planned plan_opens e h in
+        let x = open_ends play r steps shown most reads plan planned begun.0 e h in
         record { later = x.ones; run = ap is_whole (ap play (sym x.answers_are) ∙ x.outcome); bounds_are = x.bounds_are ∙ ap (bounds play) x.answers_are }
 
-    pub takes_all : TakesFirst play plan (length plan)
-    takes_all = record {
-      within = omega arith;
-      opens = ap (λ (t : Answers). is_open (play t)) (take-length plan) ∙ plan_opens;
-      closed = λ l. absurd (omega arith);
-    }
+    pub takes_all : TakesItems play list r.bounds.items (length list)
+    takes_all =
+        let is : answers_of (take (length list) list) ≡ plan = ap answers_of (take-length list) in
+        record {
+          within = omega arith;
+          counted = all;
+          opens = ap (λ (t : Answers). is_open (play t)) is ∙ begun.0;
+          bounds_are = ap (λ n. take n r.bounds.items) (sym plan_count) ∙ begun.1 ∙ sym (ap (bounds play) is);
+        }
 
   -- one of them was not
-  module _ (less : length r.bounds.items < length plan) where
-    abbrev count : ℕ
-    count = length r.bounds.items
-
+  module _ (less : count < length list) where
     abbrev taken : Answers
     taken = take count r.answers.items
 
     planned_count : length plan ≡ r.planned
     planned_count = sym (ap length planned) ∙ length-take-le r.planned r.answers.items (omega (arith, r.within, r.answers.ok.0))
 
-    count_taken : length taken ≡ count
-    count_taken = length-take-le count r.answers.items (omega (arith, r.bounded, r.answers.ok.0, r.bounds.ok.0))
+    first_taken : answers_of (take count list) ≡ taken
+    first_taken = sym (answers_take count list) ∙ ap (take count) (sym planned) ∙ take_twice count r.planned r.answers.items (omega (arith, planned_count, plan_count))
 
-    first_taken : take count plan ≡ taken
-    first_taken = ap (take count) (sym planned) ∙ take_twice count r.planned r.answers.items (omega (arith, planned_count))
+    takes_open : is_open (play taken) ≡ true → Some r.bounds.items ≡ Some (bounds play taken) → TakesItems play list r.bounds.items count
+    takes_open opens are =
+        let same : r.bounds.items ≡ bounds play taken = cc in
+        record {
+          within = omega arith;
+          counted = omega arith;
+          opens = ap (λ (t : Answers). is_open (play t)) first_taken ∙ opens;
+          bounds_are = take-length r.bounds.items ∙ same ∙ sym (ap (bounds play) first_taken);
+        }
 
-    stops_so : (result : Finish) → Holds play (choices_of r) (λ later. Done result later) → TakesFirst play plan count
-    stops_so result h =
-        let next = slice_index_or plan count (pos 0) in
-        let came : play (take count plan) ≡ Done result [] = ap play (first_taken ∙ sym (append-nil taken)) ∙ h.rest [] in
-        let more : play (take (count + 1) plan) ≡ Done result (next ∷ []) =
-        ap play (take_more plan count (pos 0) less ∙ ap (λ (t : Answers). t ++ next ∷ []) first_taken) ∙ h.rest (next ∷ []) in
-        record { within = omega arith; opens = ap is_open came; closed = λ _. ap is_open more }
+    ended_run : (result : Finish) → Holds play (choices_of r) (λ later. Done result later) → play taken ≡ Done result []
+    ended_run result h = ap play (sym (append-nil taken)) ∙ h.rest []
 
-    stops_outside : NextIsOutside play (choices_of r) → TakesFirst play plan count
-    stops_outside h =
-        let came : play (take count plan) ≡ Asks h.bound h.beside = ap play first_taken ∙ h.asks in
-        let is : plan ≡ (taken ++ h.next ∷ []) ++ h.later = sym planned ∙ h.plan_is ∙ sym (append_assoc taken (h.next ∷ []) h.later) in
-        let n : length (taken ++ h.next ∷ []) ≡ count + 1 = omega (arith, length-append taken (h.next ∷ []), count_taken) in
-        let first : take (count + 1) plan ≡ taken ++ h.next ∷ [] =
-        ap (take (count + 1)) is ∙ ap (λ k. take k ((taken ++ h.next ∷ []) ++ h.later)) (sym n)
-        ∙ take-append-le (length (taken ++ h.next ∷ [])) (taken ++ h.next ∷ []) h.later (omega arith) ∙ take-length (taken ++ h.next ∷ []) in
-        let out = reads.outside taken h.bound h.next h.beside h.asks h.outside in
-        record { within = omega arith; opens = ap is_open came; closed = λ _. ap is_open (ap play first ∙ out) }
+    takes_ended : (result : Finish) → Holds play (choices_of r) (λ later. Done result later) → TakesItems play list r.bounds.items count
+    takes_ended result h = takes_open (ap is_open (ended_run result h)) h.bounds_are
 
-    pub takes_some : (e : Ending) → PlayEnds play (choices_of r) steps shown e → TakesFirst play plan count
-    takes_some endings.End h = stops_so _ h
-    takes_some endings.Stop h = stops_so _ h
-    takes_some endings.What h = stops_so _ h
-    takes_some endings.How h = stops_so _ h
-    takes_some endings.Sorry h = stops_so _ h
-    takes_some endings.Limit h = stops_so _ h
-    takes_some endings.NoInput h = stops_so _ h
+    takes_outside : (bound : ℤ) → NextIsOutside play (choices_of r) bound → TakesItems play list r.bounds.items count
+    takes_outside bound h = takes_open (ap is_open h.asks) h.bounds_are
+
+    takes_some : (e : Ending) → PlayEnds play (choices_of r) r.refused_bound steps shown e → TakesItems play list r.bounds.items count
+    takes_some endings.End h = takes_ended _ h
+    takes_some endings.Stop h = takes_ended _ h
+    takes_some endings.What h = takes_ended _ h
+    takes_some endings.How h = takes_ended _ h
+    takes_some endings.Sorry h = takes_ended _ h
+    takes_some endings.Limit h = takes_ended _ h
+    takes_some endings.NoInput h = takes_ended _ h
     takes_some endings.NoAnswer h = absurd h
-    takes_some endings.BadAnswer h = stops_outside h
+    takes_some endings.BadAnswer h = takes_outside _ h
+
+    module _ (d : Marked) (states : states_bounds (take count list) r.bounds.items ≡ true) where
+      -- its answer is out of range
+      pub stops_outside : NextIsOutside play (choices_of r) r.refused_bound → IsOutOfRange play list (count + 1) (slice_index_or list count d).answer r.refused_bound
+      stops_outside h =
+          let next = (slice_index_or list count d).answer in
+          let rest = answers_of (drop (count + 1) list) in
+          let split : plan ≡ taken ++ next ∷ rest =
+          ap answers_of (split_there list count d less) ∙ answers_split (take count list) (drop (count + 1) list) (slice_index_or list count d) ∙ ap (λ (t : Answers). t ++ next ∷ rest) first_taken in
+          let tails : h.next ∷ h.later ≡ next ∷ rest = append_cancel_left taken (h.next ∷ h.later) (next ∷ rest) (sym h.plan_is ∙ planned ∙ split) in
+          let same : h.next ≡ next = cc in
+          out_of_range play most reads list r.bounds.items count (takes_outside _ h) d less states r.refused_bound h.beside
+          (ap play first_taken ∙ h.asks) (subst (λ (k : ℤ). is_answer r.refused_bound k ≡ false) same h.outside)
+
+      -- the run is over before it
+      stops_ended : (result : Finish) → Holds play (choices_of r) (λ later. Done result later) → IsOver play list count
+      stops_ended result h = no_question play most reads list r.bounds.items count (takes_ended result h) d less states (ap is_whole (ap play first_taken ∙ ended_run result h))
+
+      pub stops_over : (e : Ending) → (e ≡ endings.BadAnswer → ⊥) → PlayEnds play (choices_of r) r.refused_bound steps shown e → IsOver play list count
+      stops_over endings.End other h = stops_ended _ h
+      stops_over endings.Stop other h = stops_ended _ h
+      stops_over endings.What other h = stops_ended _ h
+      stops_over endings.How other h = stops_ended _ h
+      stops_over endings.Sorry other h = stops_ended _ h
+      stops_over endings.Limit other h = stops_ended _ h
+      stops_over endings.NoInput other h = stops_ended _ h
+      stops_over endings.NoAnswer other h = absurd h
+      stops_over endings.BadAnswer other h = absurd (other refl)
+
+  -- as many were taken as there are bounds, or all
+  pub takes_items : (n : ℕ) → ((n ≡ length list) × (length list ≤ count)) ⊎ ((n ≡ count) × (count < length list))
+      → (e : Ending) → PlayEnds play (choices_of r) r.refused_bound steps shown e → TakesItems play list r.bounds.items n
+  takes_items n (inl all) e h = subst (TakesItems play list r.bounds.items) (sym all.0) (takes_all all.1 e h)
+  takes_items n (inr some) e h = subst (TakesItems play list r.bounds.items) (sym some.0) (takes_some some.1 e h)

@@ -3,20 +3,18 @@ use Rattle.std.proofs.Common.{◌≡◌, ℕ, zero, suc, ◌-◌, ◌≤◌, Lis
 use Rattle.std.proofs.lemmas.List.{length-take-le, take-append-drop, take-append-le}
 use Rattle.std.proofs.Math.Seq.{take-length}
 use Rattle.std.specs.Prelude.{ℤ, pos}
-use Rattle.ptb_answers.specs.declared.pause.Pause.TheVariants.{OutOfRange}
-use Rattle.ptb_answers.specs.Outcome.{Answers, Outcome, Done, Asks, IsReader, is_open, is_whole, bounds, bounds_after}
-use Rattle.ptb_answers.specs.Choices.{Choices, Pauses}
+use Rattle.ptb_answers.specs.Outcome.{Answers, Outcome, Done, IsReader, is_open, is_whole, bounds, bounds_after}
 use Rattle.ptb_explore.specs.declared.recorder.Recorder.{Recorder}
 use Rattle.ptb_explore.specs.RunTree.{IsRun}
 use Rattle.ptb_explore.specs.Plans.{IsFresh, EndsAt}
-use Rattle.ptb_explore.specs.Recording.{choices_of, RefusedByPlan}
+use Rattle.ptb_explore.specs.Recording.{choices_of}
 use Rattle.ptb_command.specs.declared.ending.Ending.{Ending}
 use Rattle.ptb_command.specs.declared.ending.Ending.TheVariants as endings
 use Rattle.ptb_machine.specs.Play.{Finish}
 use Rattle.ptb_explore.specs.Playing.{Holds, PlayEnds}
-use Rattle.ptb_explore.proofs.Bounds.{bounds-append, holds_on, length-bounds}
+use Rattle.ptb_explore.proofs.Bounds.{bounds-append, length-bounds}
 use Rattle.ptb_explore.proofs.Tree.{run_open}
-use Rattle.ptb_explore.proofs.Attempt.{Took, out_closes, ends_at, not_whole}
+use Rattle.ptb_explore.proofs.Attempt.{Took, ends_at, not_whole}
 
 take_twice : {X : Type 0} (m n : ℕ) (xs : List X) → m ≤ n → take m (take n xs) ≡ take m xs
 take_twice zero n xs l = refl
@@ -46,13 +44,6 @@ module _ {A W : Type 0} (play : Answers → Outcome A W) (r : Recorder) (result 
   pub trial_not_whole : (most : ℕ) → IsReader play most → (length r.bounds.items ≡ length (take r.planned r.answers.items) → length r.answers.items ≡ length (take r.planned r.answers.items) → ⊥) → IsRun play (take r.planned r.answers.items) → ⊥
   trial_not_whole most reads differ run = not_whole play most reads (take r.planned r.answers.items) r.answers.items r.planned (length r.bounds.items) result recorder_took differ run
 
--- an answer that is refused as out of range closes the plan
-pub trial_out : {A W : Type 0} (play f : Answers → Outcome A W) (most : ℕ) (c d : Choices) (g : ℤ) → IsReader play most → Holds play c f → Pauses (λ z n. RefusedByPlan d z n) f c d (OutOfRange g) → is_open (play d.plan) ≡ true → ⊥
-trial_out play f most c d g reads h p o =
-    let now = holds_on play c d f p.left h p.reaches in
-    let asks : play d.taken ≡ Asks p.bound p.beside = ap play (sym (append-nil d.taken)) ∙ now.1.rest [] ∙ p.asks in
-    out_closes play most reads d.plan d.taken p.refuses.0.0 g p.bound p.beside p.refuses.0.1 asks p.refuses.1 o
-
 -- ---- by the ending
 
 -- what is planned is the plan
@@ -72,7 +63,7 @@ module _ (play : Answers → Outcome Finish (List ℕ)) (r : Recorder) (steps : 
     ended_so e h = rw (← planned) (trial_ends play r (record { ending = e; steps = steps; shown = shown }) h most reads (rw planned opens))
 
     -- a plan that is open is played to an end
-    pub open_ends : (e : Ending) → PlayEnds play (choices_of r) steps shown e → EndsAt play plan r.answers.items r.bounds.items (record { ending = e; steps = steps; shown = shown })
+    pub open_ends : (e : Ending) → PlayEnds play (choices_of r) r.refused_bound steps shown e → EndsAt play plan r.answers.items r.bounds.items (record { ending = e; steps = steps; shown = shown })
     open_ends endings.End h = ended_so endings.End h
     open_ends endings.Stop h = ended_so endings.Stop h
     open_ends endings.What h = ended_so endings.What h
@@ -106,7 +97,7 @@ module _ (play : Answers → Outcome Finish (List ℕ)) (r : Recorder) (steps : 
         let within : length r.bounds.items ≤ length r.answers.items = omega (arith, taken, alone) in
         omega (arith, ap length e, length-append (take (length r.bounds.items) r.answers.items) (next ∷ later), length-take-le (length r.bounds.items) r.answers.items within, taken)
 
-    pub whole_plan : (e : Ending) → PlayEnds play (choices_of r) steps shown e → IsRun play plan × (r.answers.items ≡ plan) × (r.bounds.items ≡ bounds play plan) × (play plan ≡ Done (record { ending = e; steps = steps; shown = shown }) [])
+    pub whole_plan : (e : Ending) → PlayEnds play (choices_of r) r.refused_bound steps shown e → IsRun play plan × (r.answers.items ≡ plan) × (r.bounds.items ≡ bounds play plan) × (play plan ≡ Done (record { ending = e; steps = steps; shown = shown }) [])
     whole_plan endings.End h = whole_so endings.End h
     whole_plan endings.Stop h = whole_so endings.Stop h
     whole_plan endings.What h = whole_so endings.What h
@@ -124,7 +115,7 @@ module _ (play : Answers → Outcome Finish (List ℕ)) (r : Recorder) (steps : 
         trial_not_whole play r (record { ending = e; steps = steps; shown = shown }) h most reads
         (λ a b. differs (a ∙ ap length planned) (b ∙ ap length planned)) (rw planned run)
 
-    pub other_plan : (e : Ending) → PlayEnds play (choices_of r) steps shown e → ⊥
+    pub other_plan : (e : Ending) → PlayEnds play (choices_of r) r.refused_bound steps shown e → ⊥
     other_plan endings.End h = differs_so endings.End h
     other_plan endings.Stop h = differs_so endings.Stop h
     other_plan endings.What h = differs_so endings.What h
@@ -159,7 +150,7 @@ module _ (play : Answers → Outcome Finish (List ℕ)) (r : Recorder) (steps : 
               ∙ take-append-le (length (bounds play plan)) (bounds play plan) (bounds_after play plan s) (omega arith) ∙ take-length (bounds play plan),
         )
 
-    pub begun_opens : (e : Ending) → PlayEnds play (choices_of r) steps shown e → (is_open (play plan) ≡ true) × (take (length plan) r.bounds.items ≡ bounds play plan)
+    pub begun_opens : (e : Ending) → PlayEnds play (choices_of r) r.refused_bound steps shown e → (is_open (play plan) ≡ true) × (take (length plan) r.bounds.items ≡ bounds play plan)
     begun_opens endings.End h = begun_so _ h
     begun_opens endings.Stop h = begun_so _ h
     begun_opens endings.What h = begun_so _ h
@@ -173,7 +164,7 @@ module _ (play : Answers → Outcome Finish (List ℕ)) (r : Recorder) (steps : 
         absurd (omega (arith, ap length (sym planned ∙ h.plan_is), length-append (take (length r.bounds.items) r.answers.items) (h.next ∷ h.later), length-take-le (length r.bounds.items) r.answers.items within, all))
 
   -- of one that is open all answers are taken
-  pub open_begun : is_open (play plan) ≡ true → (e : Ending) → PlayEnds play (choices_of r) steps shown e → length plan ≤ length r.bounds.items
+  pub open_begun : is_open (play plan) ≡ true → (e : Ending) → PlayEnds play (choices_of r) r.refused_bound steps shown e → length plan ≤ length r.bounds.items
   open_begun opens e h =
       let x = open_ends opens e h in
       omega (arith, ap length x.bounds_are, length-bounds play [] r.answers.items, ap length x.answers_are, length-append plan x.ones)

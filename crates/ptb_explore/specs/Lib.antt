@@ -11,3 +11,5 @@ pub mod Listing
 pub mod Exploring
 pub mod Lending
 pub mod Laws
+pub mod Beginnings
+pub mod Sampling

@@ -1,19 +1,22 @@
 -- This file defines why the items of a list are no run, or why no run begins with them. Items count from 1.
+--     IsUnder under list                      the answers of the list begin with those of another
 --     IsQuestion play items bound             after these items a run asks for an answer from 1 to the bound
 --     IsAskedFor play list item m bound       a run begins with the items before m, and asks for m with this bound
 --     IsItemMismatch play list mismatch       the first item of the list that does not fit
---     IsRunMismatch play under list mismatch  the same, and why a list is no run where all of its items fit
---     TakesFirst play answers n               the first n of the answers are taken, and no more of them
---     HasBounds play answers bounds           the questions of a run that begins with these answers have these bounds
+--     IsRunMismatch play under list mismatch  that the list begins otherwise than another, or the same, or that one item is missing
+--     TakesItems play list bounds n           the first n items are taken, and the first of the bounds are those of their questions
 --     MismatchLaws play                       there is one mismatch exactly where a list is no run, or begins none
-use Rattle.std.specs.Prelude.{◌≡◌, ℕ, ◌+◌, ◌<◌, ◌≤◌, List, ◌∷◌, ◌++◌, length, take, true, false, Option, ℤ, ◌↔◌}
+use Rattle.std.specs.Prelude.{◌≡◌, ℕ, ◌+◌, ◌≤◌, List, ◌∷◌, ◌++◌, length, take, true, false, Option, ℤ, ◌↔◌}
 use Rattle.ptb_answers.specs.Outcome.{Answers, Outcome, Asks, is_answer, is_open, bounds}
 use Rattle.ptb_answers.specs.declared.form.Marked.{Marked}
 use Rattle.ptb_answers.specs.AnswerText.{answers_of, with_bound}
 use Rattle.ptb_explore.specs.declared.mismatch.Mismatch.{Mismatch}
 use Rattle.ptb_explore.specs.declared.mismatch.Mismatch.TheVariants.{OutOfRange, OtherBound, NoQuestion, Missing, NotUnder}
 use Rattle.ptb_explore.specs.MarkedRuns.{IsMarkedRun, IsMarkedBeginning}
-use Rattle.ptb_explore.specs.RunTree.{IsRun, begins_with}
+use Rattle.ptb_explore.specs.RunTree.{begins_with}
+
+abbrev pub IsUnder : List Marked → List Marked → Type 0
+IsUnder under list = begins_with (answers_of list) (answers_of under) ≡ true
 
 module _ {A W : Type 0} (play : Answers → Outcome A W) where
   abbrev pub IsQuestion : List Marked → ℤ → Type 0
@@ -59,37 +62,29 @@ module _ {A W : Type 0} (play : Answers → Outcome A W) where
   IsItemMismatch list (Missing item bound) = ⊥
   IsItemMismatch list NotUnder = ⊥
 
-  -- ---- a list whose items fit
+  -- ---- a list that is no run, or none that begins with another list
 
-  -- a run asks for one item more
+  -- all items fit, and a run asks for one more
   pub record IsMissing (list : List Marked) (item : ℕ) (bound : ℤ) : Type 0 where
     pub item_is : item ≡ length list + 1
     pub begins : IsMarkedBeginning play list
     pub question : IsQuestion list bound
 
-  pub record IsNotUnder (under list : List Marked) : Type 0 where
-    pub run : IsMarkedRun play list
-    pub differs : begins_with (answers_of list) (answers_of under) ≡ false
-
+  -- how it begins is looked at first
   abbrev pub IsRunMismatch : List Marked → List Marked → Mismatch → Type 0
-  IsRunMismatch under list (OutOfRange item answer bound) = IsOutOfRange list item answer bound
-  IsRunMismatch under list (OtherBound item stated bound) = IsOtherBound list item stated bound
-  IsRunMismatch under list (NoQuestion items) = IsOver list items
-  IsRunMismatch under list (Missing item bound) = IsMissing list item bound
-  IsRunMismatch under list NotUnder = IsNotUnder under list
+  IsRunMismatch under list NotUnder = begins_with (answers_of list) (answers_of under) ≡ false
+  IsRunMismatch under list (Missing item bound) = IsUnder under list × IsMissing list item bound
+  IsRunMismatch under list (OutOfRange item answer bound) = IsUnder under list × IsOutOfRange list item answer bound
+  IsRunMismatch under list (OtherBound item stated bound) = IsUnder under list × IsOtherBound list item stated bound
+  IsRunMismatch under list (NoQuestion items) = IsUnder under list × IsOver list items
 
   -- ---- what playing a list shows
 
-  pub record TakesFirst (answers : Answers) (n : ℕ) : Type 0 where
-    pub within : n ≤ length answers
-    pub opens : is_open (play (take n answers)) ≡ true
-    pub closed : n < length answers → is_open (play (take (n + 1) answers)) ≡ false
-
-  -- `later` are the answers that the run takes after these
-  pub record HasBounds (answers : Answers) (their_bounds : List ℤ) : Type 0 where
-    pub later : Answers
-    pub run : IsRun play (answers ++ later)
-    pub bounds_are : their_bounds ≡ bounds play (answers ++ later)
+  pub record TakesItems (list : List Marked) (their_bounds : List ℤ) (n : ℕ) : Type 0 where
+    pub within : n ≤ length list
+    pub counted : n ≤ length their_bounds
+    pub opens : is_open (play (answers_of (take n list))) ≡ true
+    pub bounds_are : take n their_bounds ≡ bounds play (answers_of (take n list))
 
 -- ---- laws
 
@@ -98,5 +93,5 @@ pub record MismatchLaws {A W : Type 0} (play : Answers → Outcome A W) : Type 0
   pub beginning : (list : List Marked) → (IsMarkedBeginning play list → ⊥) ↔ ((m : Mismatch) × IsItemMismatch play list m)
   pub one_beginning : (list : List Marked) (m n : Mismatch) → IsItemMismatch play list m → IsItemMismatch play list n → m ≡ n
   pub run : (under list : List Marked)
-      → (IsMarkedRun play list × (begins_with (answers_of list) (answers_of under) ≡ true) → ⊥) ↔ ((m : Mismatch) × IsRunMismatch play under list m)
+      → (IsMarkedRun play list × IsUnder under list → ⊥) ↔ ((m : Mismatch) × IsRunMismatch play under list m)
   pub one_run : (under list : List Marked) (m n : Mismatch) → IsRunMismatch play under list m → IsRunMismatch play under list n → m ≡ n

@@ -4,11 +4,12 @@
 --     PlansNext under position answers bounds plan o    the plan raises that answer by one and drops those behind it; `under` stays
 --     HasPlan under position answers bounds       there is such a plan
 --     IsPosition play under position answers bounds     where it stands at a run, it is that of the answers, with these bounds
+--     stopping_plan n plan                        the plan, ones up to n answers, and then no answer
 --     IsFresh recorder                            all that a recorder holds is a plan
 --     IsTakenAlone planned stated recorder        all answers of a plan were taken and no more, with the bounds that are stated
 --     IsTaken planned stated recorder             the same, and more may have been taken
 --     EndsAt play plan answers bounds result      the plan and then ones are a run, with these bounds and this result
-use Rattle.std.specs.Prelude.{◌≡◌, ℕ, ◌<◌, ◌≤◌, List, [], ◌∷◌, ◌++◌, length, take, true, Option, Some, None, ℤ, pos, ◌+ℤ◌, ◌<ℤ◌, ◌≤ℤ◌, slice_index_or, vec_len}
+use Rattle.std.specs.Prelude.{◌≡◌, ℕ, ◌-◌, ◌<◌, ◌≤◌, List, [], ◌∷◌, ◌++◌, length, take, replicate, true, Option, Some, None, ℤ, pos, ◌+ℤ◌, ◌<ℤ◌, ◌≤ℤ◌, slice_index_or, vec_len}
 use Rattle.std.specs.List.{AllByRecursion}
 use Rattle.ptb_answers.specs.Outcome.{Answers, Outcome, Done, is_open, bounds}
 use Rattle.ptb_answers.specs.declared.form.Marked.{Marked}
@@ -67,6 +68,10 @@ IsPosition play under AtRun answers their_bounds = IsRun play answers × (their_
 IsPosition play under AtEnd answers their_bounds = Unit {0}
 
 -- ---- a plan that is played
+
+-- 0 answers no question
+abbrev pub stopping_plan : ℕ → Answers → Answers
+stopping_plan n plan = plan ++ replicate (n - length plan) (pos 1) ++ pos 0 ∷ []
 
 pub record IsFresh (r : Recorder) : Type 0 where
   pub none_given : r.bounds.items ≡ []

@@ -1,7 +1,7 @@
 -- This file defines what it comes to that a run is played with the answers of a plan, and 1 to each question behind them.
 --     Holds play c left                      what a chooser holds, and what of the play is left to be done
---     NextIsOutside play c                   the plan's next answer is outside its bound
---     PlayEnds play c steps shown ending     the play has this ending
+--     NextIsOutside play c bound             the plan's next answer is outside the bound of its question
+--     PlayEnds play c bound steps shown ending    the play has this ending; the bound is that of the question where an answer is outside it
 --     run_from p rules S                     what is left of a run from the state S on
 --     limited rules n                        the same rules with the limit n
 --     IsRunPrefix p input rules c shown left m    with what a chooser holds, a run has come to where a machine stands
@@ -24,21 +24,21 @@ module _ {A W : Type 0} (play : Answers → Outcome A W) where
     pub rest : (later : Answers) → play (c.taken ++ later) ≡ left later
 
   -- so no list of answers that begins with the plan is played to an end
-  pub record NextIsOutside (c : Choices) : Type 0 where
+  pub record NextIsOutside (c : Choices) (bound : ℤ) : Type 0 where
     pub next : ℤ
     pub later : Answers
     pub plan_is : c.plan ≡ c.taken ++ next ∷ later
-    pub bound : ℤ
+    pub bounds_are : c.kept ≡ Some (bounds play c.taken)
     pub beside : W
     pub asks : play c.taken ≡ Asks bound beside
     pub outside : is_answer bound next ≡ false
     pub out : play c.plan ≡ Out bound beside
 
 -- it never lacks an answer
-abbrev pub PlayEnds : (Answers → Outcome Finish (List ℕ)) → Choices → ℕ → List ℕ → Ending → Type 0
-PlayEnds play c steps shown endings.NoAnswer = ⊥
-PlayEnds play c steps shown endings.BadAnswer = NextIsOutside play c
-PlayEnds play c steps shown ending = Holds play c (λ later. Done (record { ending = ending; steps = steps; shown = shown }) later)
+abbrev pub PlayEnds : (Answers → Outcome Finish (List ℕ)) → Choices → ℤ → ℕ → List ℕ → Ending → Type 0
+PlayEnds play c bound steps shown endings.NoAnswer = ⊥
+PlayEnds play c bound steps shown endings.BadAnswer = NextIsOutside play c bound
+PlayEnds play c bound steps shown ending = Holds play c (λ later. Done (record { ending = ending; steps = steps; shown = shown }) later)
 
 -- ---- a run that is underway
 

@@ -5,13 +5,14 @@ ghost use Rattle.std.specs.Prelude.{IfOk, OnOk, OnErr, IfSome, IfNone, IsErrOf, 
 ghost use Rattle.ptb_answers.specs.Outcome.{Answers, is_open, bounds as bounds_of};
 ghost use Rattle.ptb_machine.specs.Play.{play};
 ghost use Rattle.ptb_machine.specs.Questions.{most_answers};
-ghost use Rattle.ptb_answers.specs.AnswerText.{answers_of};
+ghost use Rattle.ptb_answers.specs.AnswerText.{answers_of, unmarked};
 ghost use Rattle.ptb_explore.specs.Copies.{Agrees, AreBeginnings, AreCopies, PlaysOn, WentBack};
 ghost use Rattle.ptb_explore.specs.Copies.{kept_runs, last_steps, play_limit};
 ghost use Rattle.ptb_explore.specs.Exploring.{play_of, most_of, finish_of, Reports, NextReports};
 ghost use Rattle.ptb_explore.specs.Exploring.{AreCopiesAt, IsPlayed, NextPlays};
 ghost use Rattle.ptb_explore.specs.MarkedRuns.{IsMarkedRun, IsMarkedBeginning, states_bounds};
-ghost use Rattle.ptb_explore.specs.Playing.{IsRunPrefix};
+ghost use Rattle.ptb_explore.specs.Mismatch.{IsItemMismatch, IsRunMismatch};
+ghost use Rattle.ptb_explore.specs.Playing.{IsRunPrefix, PlayEnds};
 ghost use Rattle.ptb_explore.specs.Recording.{choices_of};
 ghost use Rattle.ptb_explore.specs.Laws.{TreeLaws};
 ghost use Rattle.ptb_explore.specs.Plans.{front_at, IsPosition, IsFresh, EndsAt};
@@ -19,7 +20,8 @@ ghost use Rattle.ptb_explore.specs.RunTree.{Start, At, IsRun, IsNextRun, IsLast,
 
 use crate::copies::Copies;
 use crate::fault::{AfterFault, UnderFault};
-use crate::form::{answers_of, compare_beginning, compare_run, items_begin_with};
+use crate::form::{answers_of, items_begin_with, unmarked};
+use crate::mismatch::{Mismatch, item_mismatch, run_mismatch};
 use crate::plan::{Position, plan_next};
 use crate::playing::{play_counted, play_from_start};
 use crate::recorder::Recorder;
@@ -79,9 +81,10 @@ fn go_back(
     }
 }
 
-// Plays a plan on from a copy, and makes the report of its run. The first answers of the plan are
-// those of the report, as many as `common` says. The steps are added to those played.
-fn report_plan(
+// Plays a plan on from a copy, for the steps and the transcript of a report, which keeps its answers.
+// The first answers of the plan are those of the report, as many as `common` says. The steps are
+// added to those played.
+pub(crate) fn play_plan(
     alloc: Global,
     player: &mut Player,
     lines: &[Line],
@@ -93,24 +96,24 @@ fn report_plan(
     played: &mut u64,
 ) -> Result<(), AllocError>
     requires fresh { IsFresh trial.old }
-    requires opens { is_open (play player.old lines.now rules trial.old.answers.items) ≡ true }
     requires agrees { Agrees (play player.old lines.now rules) common
         trial.old.answers.items report.old.answers.items report.old.bounds.items }
     requires copies { AreCopies player.old lines.now rules report.old.answers.items
         report.old.transcript.items copies.old.kept.items }
     ensures program { player.new ≡ player.old }
-    ensures ends { OnOk result (EndsAt (play player.old lines.now rules) trial.old.answers.items
-        report.new.answers.items report.new.bounds.items (finish_of report.new)) }
-    ensures answers { OnErr result (report.new.answers.items ≡ report.old.answers.items) }
-    ensures bounds { OnErr result (report.new.bounds.items ≡ report.old.bounds.items) }
-    ensures copies { OnOk result (AreCopies player.old lines.now rules report.new.answers.items
+    ensures plan { OnOk result ((choices_of trial.new).plan ≡ trial.old.answers.items) }
+    ensures ends { OnOk result (PlayEnds (play player.old lines.now rules) (choices_of trial.new)
+        trial.new.refused_bound
+        report.new.steps report.new.transcript.items report.new.ending) }
+    ensures answers { report.new.answers.items ≡ report.old.answers.items }
+    ensures bounds { report.new.bounds.items ≡ report.old.bounds.items }
+    ensures copies { OnOk result (AreCopies player.old lines.now rules (choices_of trial.new).taken
         report.new.transcript.items copies.new.kept.items) }
     ensures played { OnOk result (PlaysOn common copies.old.kept.items played.old
         report.new.steps played.new) }
     ensures rises { played.old ≤ played.new }
     ensures once { played.new < played.old + play_limit }
 {
-    run_laws();
     let mut screen = TextScreen::from_vec(mem::replace(&mut report.transcript, Vec::new(alloc)));
     let mut source = Lines::new(lines);
     let machine = go_back(
@@ -141,6 +144,43 @@ fn report_plan(
     report.transcript = screen.into_vec();
     report.ending = ending?;
     report.steps = steps;
+    Ok(())
+}
+
+// Plays a plan as play_plan does, and makes the report of its run.
+fn report_plan(
+    alloc: Global,
+    player: &mut Player,
+    lines: &[Line],
+    rules: Rules,
+    common: usize,
+    trial: &mut Recorder,
+    report: &mut Report,
+    copies: &mut Copies,
+    played: &mut u64,
+) -> Result<(), AllocError>
+    requires fresh { IsFresh trial.old }
+    requires opens { is_open (play player.old lines.now rules trial.old.answers.items) ≡ true }
+    requires agrees { Agrees (play player.old lines.now rules) common
+        trial.old.answers.items report.old.answers.items report.old.bounds.items }
+    requires copies { AreCopies player.old lines.now rules report.old.answers.items
+        report.old.transcript.items copies.old.kept.items }
+    ensures program { player.new ≡ player.old }
+    ensures ends { OnOk result (EndsAt (play player.old lines.now rules) trial.old.answers.items
+        report.new.answers.items report.new.bounds.items (finish_of report.new)) }
+    ensures answers { OnErr result (report.new.answers.items ≡ report.old.answers.items) }
+    ensures bounds { OnErr result (report.new.bounds.items ≡ report.old.bounds.items) }
+    ensures copies { OnOk result (AreCopies player.old lines.now rules report.new.answers.items
+        report.new.transcript.items copies.new.kept.items) }
+    ensures played { OnOk result (PlaysOn common copies.old.kept.items played.old
+        report.new.steps played.new) }
+    ensures rises { played.old ≤ played.new }
+    ensures once { played.new < played.old + play_limit }
+{
+    run_laws();
+    play_plan(
+        alloc, player, lines, rules, common, trial, report, copies, played,
+    )?;
     trial.hand_over(&mut report.answers, &mut report.bounds);
     Ok(())
 }
@@ -188,24 +228,24 @@ fn report_next(
     }
 }
 
-// Plays the answers of a trial, and makes the report of their run, except its ending, if they are a
-// run, of whose first questions these bounds are stated.
+// Plays the answers of a list, which a trial plans, and makes the report of their run, except its
+// ending, if they are a run and each bound that is stated is that of its question.
 fn check_run(
     alloc: Global,
     player: &mut Player,
     lines: &[Line],
     rules: Rules,
-    stated: &[Marked],
+    list: &[Marked],
     trial: &mut Recorder,
     run: &mut Report,
     copies: &mut Copies,
 ) -> Result<(), AfterFault>
-    requires within { length stated.now ≤ length trial.old.answers.items }
+    requires plan { trial.old.answers.items ≡ answers_of list.now }
     requires fresh { IsFresh trial.old }
     requires none { copies.old.kept.items ≡ [] }
     ensures program { player.new ≡ player.old }
     ensures run { OnOk result (IsRun (play player.old lines.now rules) trial.old.answers.items) }
-    ensures stated { OnOk result (states_bounds stated.now
+    ensures stated { OnOk result (states_bounds list.now
         (bounds_of (play player.old lines.now rules) trial.old.answers.items) ≡ true) }
     ensures answers { OnOk result (run.new.answers.items ≡ trial.old.answers.items) }
     ensures bounds { OnOk result (run.new.bounds.items
@@ -214,21 +254,21 @@ fn check_run(
         run.new.transcript.items copies.new.kept.items) }
     ensures played { OnOk result (IsPlayed (play player.old lines.now rules)
         trial.old.answers.items run.new.steps) }
-    ensures not_a_run { IsErrOf result AfterFault.NotARun
-        → IsRun (play player.old lines.now rules) trial.old.answers.items
-        → states_bounds stated.now
-        (bounds_of (play player.old lines.now rules) trial.old.answers.items) ≡ true → ⊥ }
+    ensures mismatch { (m : Mismatch) → IsErrOf result (AfterFault.NotARun m)
+        → IsRunMismatch (play player.old lines.now rules) [] list.now m }
 
     // Memory is refused to the play, before its steps are known, and never to the comparison.
     ensures memory { IsErrOf result AfterFault.Memory → run.new.steps ≡ run.old.steps }
 {
     run_laws();
-    let planned = trial.answers.len();
     let mut screen = TextScreen::new(alloc);
-    let steps = play_from_start(alloc, player, lines, rules, trial, &mut screen, copies);
+    let end = play_from_start(alloc, player, lines, rules, trial, &mut screen, copies);
     run.transcript = screen.into_vec();
-    run.steps = steps?;
-    compare_run(trial, planned, stated)?;
+    let (ending, steps) = end?;
+    run.steps = steps;
+    if let Some(mismatch) = run_mismatch(list, trial, ending) {
+        return Err(AfterFault::NotARun(mismatch));
+    }
     trial.hand_over(&mut run.answers, &mut run.bounds);
     Ok(())
 }
@@ -253,22 +293,24 @@ fn check_beginning(
     ensures played { OnOk result ((a : Answers)
         → IsNextRun (play player.old lines.now rules) answers.now Start a
         → IsPlayed (play player.old lines.now rules) a played.new) }
-    ensures no_beginning { IsErrOf result UnderFault.NoBeginning
-        → IsMarkedBeginning (play player.old lines.now rules) list.now → ⊥ }
+    ensures mismatch { (m : Mismatch) → IsErrOf result (UnderFault.NoBeginning m)
+        → IsItemMismatch (play player.old lines.now rules) list.now m }
 
     // Memory is refused before the steps are known, and never to the comparison.
     ensures memory { IsErrOf result UnderFault.Memory → played.new ≡ played.old }
 {
     run_laws();
     trial.replay(answers)?;
-    let steps = {
+    let (ending, steps) = {
         let mut screen = TextScreen::new(alloc);
         let mut copies = Copies::new();
         play_from_start(alloc, player, lines, rules, trial, &mut screen, &mut copies)
     }?;
     *played = u64::from(steps);
-    compare_beginning(trial, answers.len(), list)?;
-    Ok(())
+    match item_mismatch(list, trial, ending) {
+        None => Ok(()),
+        Some(mismatch) => Err(UnderFault::NoBeginning(mismatch)),
+    }
 }
 
 /// Finds the runs of a program, one after the other, in the order of their answers.
@@ -406,8 +448,8 @@ impl<'a> Explorer<'a> {
     ///
     /// # Errors
     ///
-    /// [`AfterFault::NotARun`] where the answers are no run, [`AfterFault::Memory`] where a growth
-    /// was refused memory.
+    /// [`AfterFault::NotARun`] with the reason where the answers are no run, [`AfterFault::Memory`]
+    /// where a growth was refused memory.
     pub fn after(
         alloc: Global,
         program: &'a Program,
@@ -428,17 +470,18 @@ impl<'a> Explorer<'a> {
         ensures kept { IfOk result (λ e. AreBeginnings 0 answers.now e.kept) }
         ensures played { IfOk result (λ e.
             IsPlayed (play program.now lines.now rules) answers.now e.played) }
-        ensures not_a_run { IsErrOf result AfterFault.NotARun
+        ensures not_a_run { (m : Mismatch) → IsErrOf result (AfterFault.NotARun m)
             → IsRun (play program.now lines.now rules) answers.now → ⊥ }
+        ensures mismatch { (m : Mismatch) → IsErrOf result (AfterFault.NotARun m)
+            → IsRunMismatch (play program.now lines.now rules) [] (unmarked answers.now) m }
 
         // Laws of the definitions.
         ensures laws { TreeLaws (play program.now lines.now rules)
             (most_answers program.now lines.now rules.limit) }
     {
         run_laws();
-        let mut trial = Recorder::new(alloc);
-        trial.replay(answers)?;
-        Explorer::at_plan(alloc, program, lines, rules, Vec::new(alloc), trial, &[])
+        let list = unmarked(alloc, answers)?;
+        Explorer::after_marked(alloc, program, lines, rules, &list)
     }
 
     /// An explorer that stands at the run of the answers of a list, of which some may have their
@@ -446,8 +489,8 @@ impl<'a> Explorer<'a> {
     ///
     /// # Errors
     ///
-    /// [`AfterFault::NotARun`] where the answers are no run, or a bound that stands in the list is not
-    /// that of the question; [`AfterFault::Memory`] where a growth was refused memory.
+    /// [`AfterFault::NotARun`] with the reason where the answers are no run, or a bound that is stated
+    /// is not that of its question; [`AfterFault::Memory`] where a growth was refused memory.
     pub fn after_marked(
         alloc: Global,
         program: &'a Program,
@@ -468,8 +511,10 @@ impl<'a> Explorer<'a> {
         ensures kept { IfOk result (λ e. AreBeginnings 0 (answers_of list.now) e.kept) }
         ensures played { IfOk result (λ e.
             IsPlayed (play program.now lines.now rules) (answers_of list.now) e.played) }
-        ensures not_a_run { IsErrOf result AfterFault.NotARun
+        ensures not_a_run { (m : Mismatch) → IsErrOf result (AfterFault.NotARun m)
             → IsMarkedRun (play program.now lines.now rules) list.now → ⊥ }
+        ensures mismatch { (m : Mismatch) → IsErrOf result (AfterFault.NotARun m)
+            → IsRunMismatch (play program.now lines.now rules) [] list.now m }
 
         // Laws of the definitions.
         ensures laws { TreeLaws (play program.now lines.now rules)
@@ -483,8 +528,8 @@ impl<'a> Explorer<'a> {
     ///
     /// # Errors
     ///
-    /// [`UnderFault::NoBeginning`] where no run begins with the answers, or a bound that stands in the
-    /// list is not that of the question; [`UnderFault::Memory`] where a growth was refused memory.
+    /// [`UnderFault::NoBeginning`] with the reason where no run begins with the answers, or a bound that
+    /// is stated is not that of its question; [`UnderFault::Memory`] where a growth was refused memory.
     pub fn under(
         alloc: Global,
         program: &'a Program,
@@ -506,8 +551,10 @@ impl<'a> Explorer<'a> {
         ensures played { IfOk result (λ e. (a : Answers)
             → IsNextRun (play program.now lines.now rules) (answers_of list.now) Start a
             → IsPlayed (play program.now lines.now rules) a e.played) }
-        ensures no_beginning { IsErrOf result UnderFault.NoBeginning
+        ensures no_beginning { (m : Mismatch) → IsErrOf result (UnderFault.NoBeginning m)
             → IsMarkedBeginning (play program.now lines.now rules) list.now → ⊥ }
+        ensures mismatch { (m : Mismatch) → IsErrOf result (UnderFault.NoBeginning m)
+            → IsItemMismatch (play program.now lines.now rules) list.now m }
 
         // Laws of the definitions.
         ensures laws { TreeLaws (play program.now lines.now rules)
@@ -537,10 +584,10 @@ impl<'a> Explorer<'a> {
     ///
     /// # Errors
     ///
-    /// [`AfterFault::NotARun`] where the answers of the second list are no run, or do not begin with
-    /// those of the first, or a bound that stands in the second list is not that of the question;
-    /// [`AfterFault::Memory`] where a growth was refused memory, never where the second list does not
-    /// begin with the first.
+    /// [`AfterFault::NotARun`] with the reason where the answers of the second list do not begin with
+    /// those of the first, or are no run, or a bound that is stated in the second list is not that of
+    /// its question; [`AfterFault::Memory`] where a growth was refused memory, never where the second
+    /// list does not begin with the first.
     pub fn after_under(
         alloc: Global,
         program: &'a Program,
@@ -564,9 +611,11 @@ impl<'a> Explorer<'a> {
         ensures kept { IfOk result (λ e. AreBeginnings 0 (answers_of list.now) e.kept) }
         ensures played { IfOk result (λ e.
             IsPlayed (play program.now lines.now rules) (answers_of list.now) e.played) }
-        ensures not_a_run { IsErrOf result AfterFault.NotARun
+        ensures not_a_run { (m : Mismatch) → IsErrOf result (AfterFault.NotARun m)
             → IsMarkedRun (play program.now lines.now rules) list.now
             → begins_with (answers_of list.now) (answers_of under.now) ≡ true → ⊥ }
+        ensures mismatch { (m : Mismatch) → IsErrOf result (AfterFault.NotARun m)
+            → IsRunMismatch (play program.now lines.now rules) under.now list.now m }
         ensures memory { IsErrOf result AfterFault.Memory
             → begins_with (answers_of list.now) (answers_of under.now) ≡ true }
 
@@ -576,15 +625,15 @@ impl<'a> Explorer<'a> {
     {
         run_laws();
         if !items_begin_with(list, under) {
-            return Err(AfterFault::NotARun);
+            return Err(AfterFault::NotARun(Mismatch::NotUnder));
         }
         let under = answers_of(alloc, under)?;
         let trial = Recorder::planning(alloc, answers_of(alloc, list)?);
         Explorer::at_plan(alloc, program, lines, rules, under, trial, list)
     }
 
-    // An explorer of the runs that begin with some answers, which stands at the run of a plan, of whose
-    // first questions these bounds are stated.
+    // An explorer of the runs that begin with some answers, which stands at the run of a list, whose
+    // answers are planned.
     fn at_plan(
         alloc: Global,
         program: &'a Program,
@@ -592,10 +641,10 @@ impl<'a> Explorer<'a> {
         rules: Rules,
         under: Vec<i16>,
         mut trial: Recorder,
-        stated: &[Marked],
+        list: &[Marked],
     ) -> Result<Explorer<'a>, AfterFault>
         requires fresh { IsFresh trial }
-        requires within { length stated.now ≤ length trial.answers.items }
+        requires plan { trial.answers.items ≡ answers_of list.now }
         requires begins { begins_with trial.answers.items under.items ≡ true }
         ensures after { IfOk result (λ e. e ≡ record {
           program = program.now;
@@ -607,15 +656,13 @@ impl<'a> Explorer<'a> {
           played = e.played;
         }) }
         ensures run { OnOk result (IsRun (play program.now lines.now rules) trial.answers.items) }
-        ensures stated { OnOk result (states_bounds stated.now
+        ensures stated { OnOk result (states_bounds list.now
             (bounds_of (play program.now lines.now rules) trial.answers.items) ≡ true) }
         ensures kept { IfOk result (λ e. AreBeginnings 0 trial.answers.items e.kept) }
         ensures played { IfOk result (λ e.
             IsPlayed (play program.now lines.now rules) trial.answers.items e.played) }
-        ensures not_a_run { IsErrOf result AfterFault.NotARun
-            → IsRun (play program.now lines.now rules) trial.answers.items
-            → states_bounds stated.now
-            (bounds_of (play program.now lines.now rules) trial.answers.items) ≡ true → ⊥ }
+        ensures mismatch { (m : Mismatch) → IsErrOf result (AfterFault.NotARun m)
+            → IsRunMismatch (play program.now lines.now rules) [] list.now m }
     {
         run_laws();
         let mut player = Player::new(alloc, program)?;
@@ -626,7 +673,7 @@ impl<'a> Explorer<'a> {
             &mut player,
             lines,
             rules,
-            stated,
+            list,
             &mut trial,
             &mut run,
             &mut copies,

@@ -1,9 +1,10 @@
-// This file says why runs can't be listed, or a listing can't begin with or go on after a list of answers.
+// This file says why runs can't be listed, or a listing can't begin with a list of answers or after one.
 
 ghost use Rattle.std.specs.Prelude.{◌≡◌};
-ghost use Rattle.ptb_explore.specs.declared.fault.AfterFault.TheVariants.{Memory, NotARun};
+ghost use Rattle.ptb_explore.specs.declared.fault.AfterFault.TheVariants.{Memory};
 ghost use Rattle.ptb_explore.specs.declared.fault.UnderFault.TheVariants as under;
 
+use crate::mismatch::Mismatch;
 use std::alloc::AllocError;
 use thiserror::Error;
 
@@ -20,12 +21,12 @@ pub enum ExploreFault {
     Write(u64),
 }
 
-/// Why a listing can't go on after a list of answers.
+/// Why a listing can't begin after a list of answers.
 #[derive(Clone, Copy, Debug, PartialEq, Eq, Error)]
 pub enum AfterFault {
-    /// The answers are no run.
+    /// The answers are no run of the listing, for this reason.
     #[error("not a run")]
-    NotARun,
+    NotARun(Mismatch),
     /// A growth was refused memory.
     #[error("out of memory")]
     Memory,
@@ -39,34 +40,12 @@ impl From<AllocError> for AfterFault {
     }
 }
 
-/// The answers of a plan were not all taken, or a bound is not that of its question.
-///
-/// It is no want of memory, so what only compares can't answer that.
-#[derive(Clone, Copy)]
-pub(crate) struct NotTaken;
-
-impl From<NotTaken> for AfterFault {
-    ghost from_gives = { λ _ fault. fault ≡ NotARun };
-
-    fn from(_plan: NotTaken) -> AfterFault {
-        AfterFault::NotARun
-    }
-}
-
-impl From<NotTaken> for UnderFault {
-    ghost from_gives = { λ _ fault. fault ≡ under.NoBeginning };
-
-    fn from(_plan: NotTaken) -> UnderFault {
-        UnderFault::NoBeginning
-    }
-}
-
 /// Why there is no listing of the runs that begin with a list of answers.
 #[derive(Clone, Copy, Debug, PartialEq, Eq, Error)]
 pub enum UnderFault {
-    /// No run begins with the answers.
+    /// No run begins with the answers, for this reason.
     #[error("no run begins so")]
-    NoBeginning,
+    NoBeginning(Mismatch),
     /// A growth was refused memory.
     #[error("out of memory")]
     Memory,

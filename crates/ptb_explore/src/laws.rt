@@ -6,7 +6,9 @@ ghost use Rattle.ptb_answers.specs.Outcome.{Answers, Outcome, IsReader};
 ghost use Rattle.ptb_answers.specs.declared.rules.Rules.{Rules};
 ghost use Rattle.ptb_machine.specs.Play.{Finish, play};
 ghost use Rattle.ptb_machine.specs.Questions.{most_answers};
+ghost use Rattle.ptb_explore.specs.Beginnings.{BeginningLaws};
 ghost use Rattle.ptb_explore.specs.Laws.{ListingLaws, ReportLaws, ShareLaws, TreeLaws};
+ghost use Rattle.ptb_explore.specs.Sampling.{SampleLaws};
 
 use ptb_machine::run_laws;
 
@@ -32,12 +34,27 @@ pub fn share_laws<A, W>()
         → ShareLaws play most }
 {}
 
+/// The lists that split the runs after n answers are the runs of at most n answers and the lists of n
+/// answers that a question follows. They rise, none begins with another, and the runs that begin with
+/// the first, then those that begin with the second and so on, are all runs in their order.
+pub fn beginning_laws<A, W>()
+    ensures { (play : Answers → Outcome A W) (most n : ℕ) → IsReader play most
+        → BeginningLaws play most n }
+{}
+
 /// Two runs have two different reports, in whatever form, and so the listings of two shares have no
 /// report in common: a report shows the answers of its run. The answers are numbers up to 32767, as
 /// every answer that the program reads is.
 pub fn report_laws()
     ensures { (play : Answers → Outcome Finish (List ℕ)) (most : ℕ) → IsReader play most
         → ReportLaws play most }
+{}
+
+/// A generator draws a sample of runs, one after the other, as many as are wanted: each word of it
+/// draws one answer, and the first run is the one that the generator draws alone.
+pub fn sample_laws<A, W>()
+    ensures { (play : Answers → Outcome A W) (most : ℕ) → IsReader play most
+        → SampleLaws play most }
 {}
 
 /// The runs of each program on each input, by any rules, have these laws.
@@ -48,8 +65,12 @@ pub fn program_laws()
         → ListingLaws (play p input rules) (most_answers p input rules.limit) }
     ensures share { (p : StoredProgram) (input : List (List ℕ)) (rules : Rules)
         → ShareLaws (play p input rules) (most_answers p input rules.limit) }
+    ensures beginning { (p : StoredProgram) (input : List (List ℕ)) (rules : Rules) (n : ℕ)
+        → BeginningLaws (play p input rules) (most_answers p input rules.limit) n }
     ensures report { (p : StoredProgram) (input : List (List ℕ)) (rules : Rules)
         → ReportLaws (play p input rules) (most_answers p input rules.limit) }
+    ensures sample { (p : StoredProgram) (input : List (List ℕ)) (rules : Rules)
+        → SampleLaws (play p input rules) (most_answers p input rules.limit) }
 {
     run_laws();
 }

@@ -1,23 +1,18 @@
-// This file finds why the items of a list are no run, or why no run begins with them.
+// This file finds why the items of a list that was played are no run, or why no run begins with them.
 
-ghost use Rattle.std.specs.Prelude.{◌≡◌, ◌≤◌, length, take, List, ℕ, None};
-ghost use Rattle.std.specs.Prelude.{IfOk, IfSome, IfNone, MatchOption, ◌↔◌, true};
+ghost use Rattle.std.specs.Prelude.{◌≡◌, ◌≤◌, [], length, take, List, ℕ, IfSome, IfNone, true};
 ghost use Rattle.ptb_answers.specs.Outcome.{Answers, Outcome, IsReader};
 ghost use Rattle.ptb_answers.specs.AnswerText.{answers_of};
-ghost use Rattle.ptb_machine.specs.Play.{Finish, play};
-ghost use Rattle.ptb_explore.specs.MarkedRuns.{IsMarkedRun, IsMarkedBeginning};
-ghost use Rattle.ptb_explore.specs.Mismatch.{IsItemMismatch, IsRunMismatch, TakesFirst, HasBounds};
-ghost use Rattle.ptb_explore.specs.Mismatch.{MismatchLaws};
-ghost use Rattle.ptb_explore.specs.RunTree.{begins_with};
+ghost use Rattle.ptb_machine.specs.Play.{Finish};
+ghost use Rattle.ptb_explore.specs.MarkedRuns.{states_bounds};
+ghost use Rattle.ptb_explore.specs.Mismatch.{IsItemMismatch, IsRunMismatch, MismatchLaws, TakesItems};
+ghost use Rattle.ptb_explore.specs.Plans.{IsTaken, IsTakenAlone};
+ghost use Rattle.ptb_explore.specs.Playing.{PlayEnds};
+ghost use Rattle.ptb_explore.specs.Recording.{choices_of};
 
-use crate::copies::Copies;
-use crate::form::{answers_of, begins_with};
-use crate::playing::play_from_start;
 use crate::recorder::Recorder;
 use ptb_answers::Marked;
-use ptb_machine::{Line, Player, Rules, TextScreen, run_laws};
-use ptb_text::Program;
-use std::alloc::{AllocError, Global};
+use ptb_machine::Ending;
 
 /// Why the items of a list are no run, or why no run begins with them. Items count from 1.
 #[derive(Clone, Copy, Debug, PartialEq, Eq)]
@@ -43,156 +38,18 @@ pub enum Mismatch {
         item: usize,
         bound: i16,
     },
-    /// The items are a run, but it does not begin with the items of the other list.
+    /// The answers of the items do not begin with those of the other list.
     NotUnder,
 }
 
-/// Why no run begins with the items of a list: the first of them that does not fit its question.
-/// `None` where a run begins with them, and each bound that is stated is that of its question.
-///
-/// An item that is out of range and also states another bound is reported as out of range.
-///
-/// # Errors
-///
-/// Where a growth was refused memory.
-pub fn beginning_mismatch(
-    alloc: Global,
-    program: &Program,
-    lines: &[Line],
-    rules: Rules,
-    list: &[Marked],
-) -> Result<Option<Mismatch>, AllocError>
-    ensures mismatch { IfOk result (λ o.
-        IfSome o (IsItemMismatch (play program.now lines.now rules) list.now)) }
-    ensures none { IfOk result (λ o.
-        (o ≡ None) ↔ IsMarkedBeginning (play program.now lines.now rules) list.now) }
-{
-    run_laws();
-    let mut trial = Recorder::new(alloc);
-    find_item_mismatch(alloc, program, lines, rules, list, &mut trial)
-}
-
-/// Why the items of a list are no run that begins with the items of another: the first that does not
-/// fit its question, or what is wrong where all of them fit. `None` where they are such a run, and
-/// each bound that is stated is that of its question. The bounds of the other list are not checked.
-///
-/// # Errors
-///
-/// Where a growth was refused memory.
-pub fn run_mismatch(
-    alloc: Global,
-    program: &Program,
-    lines: &[Line],
-    rules: Rules,
-    under: &[Marked],
-    list: &[Marked],
-) -> Result<Option<Mismatch>, AllocError>
-    ensures mismatch { IfOk result (λ o. IfSome o
-        (IsRunMismatch (play program.now lines.now rules) under.now list.now)) }
-    ensures none { IfOk result (λ o.
-        (o ≡ None) ↔ (IsMarkedRun (play program.now lines.now rules) list.now
-        × (begins_with (answers_of list.now) (answers_of under.now) ≡ true))) }
-{
-    run_laws();
-    let under = answers_of(alloc, under)?;
-    let answers = answers_of(alloc, list)?;
-    let mut trial = Recorder::new(alloc);
-    let found = find_item_mismatch(alloc, program, lines, rules, list, &mut trial)?;
-    if found.is_some() {
-        return Ok(found);
-    }
-    let items = list.len();
-    if items < trial.bounds.len() {
-        let bound = trial.bounds[items];
-        return Ok(Some(Mismatch::Missing {
-            item: items + 1,
-            bound,
-        }));
-    }
-    if begins_with(&answers, &under) {
-        Ok(None)
-    } else {
-        Ok(Some(Mismatch::NotUnder))
-    }
-}
-
-// The first item that does not fit its question. Where all fit, the recorder has the bounds of a run
-// that begins with them.
-fn find_item_mismatch(
-    alloc: Global,
-    program: &Program,
-    lines: &[Line],
-    rules: Rules,
-    list: &[Marked],
-    trial: &mut Recorder,
-) -> Result<Option<Mismatch>, AllocError>
-    ensures mismatch { IfOk result (λ o. MatchOption o
-        (IsMarkedBeginning (play program.now lines.now rules) list.now)
-        (IsItemMismatch (play program.now lines.now rules) list.now)) }
-    ensures bounds { IfOk result (λ o. IfNone o
-        (HasBounds (play program.now lines.now rules) (answers_of list.now) trial.new.bounds.items)) }
-{
-    run_laws();
-    let answers = answers_of(alloc, list)?;
-    let taken = play_items(alloc, program, lines, rules, &answers, trial)?;
-    Ok(item_mismatch(list, taken, &trial.bounds))
-}
-
-// Plays a program with the first of these answers that it takes, and then ones. The result is how
-// many of these answers it takes.
-fn play_items(
-    alloc: Global,
-    program: &Program,
-    lines: &[Line],
-    rules: Rules,
-    answers: &[i16],
-    trial: &mut Recorder,
-) -> Result<usize, AllocError>
-    ensures takes { IfOk result (TakesFirst (play program.now lines.now rules) answers.now) }
-    ensures bounds { IfOk result (λ n.
-        HasBounds (play program.now lines.now rules) (take n answers.now) trial.new.bounds.items) }
-{
-    run_laws();
-    let mut player = Player::new(alloc, program)?;
-    let taken = play_answers(alloc, &mut player, lines, rules, answers, trial)?;
-    if taken < answers.len() {
-        // The next answer isn't taken. With a 1 instead, the bound of its question is recorded.
-        play_answers(alloc, &mut player, lines, rules, &answers[..taken], trial)?;
-    }
-    Ok(taken)
-}
-
-// Plays these answers, and then ones. The result is how many of these answers are taken.
-fn play_answers(
-    alloc: Global,
-    player: &mut Player,
-    lines: &[Line],
-    rules: Rules,
-    answers: &[i16],
-    trial: &mut Recorder,
-) -> Result<usize, AllocError>
-    ensures program { player.new ≡ player.old }
-    ensures takes { IfOk result (TakesFirst (play player.old lines.now rules) answers.now) }
-    ensures bounds { IfOk result (λ n. n ≡ length answers.now → HasBounds
-        (play player.old lines.now rules) answers.now trial.new.bounds.items) }
-{
-    run_laws();
-    trial.replay(answers)?;
-    let mut screen = TextScreen::new(alloc);
-    let mut copies = Copies::new();
-    play_from_start(alloc, player, lines, rules, trial, &mut screen, &mut copies)?;
-    Ok(trial.bounds.len().min(answers.len()))
-}
-
-// The first item that does not fit. So many of the items are taken, and the questions of a run that
-// begins with these have these bounds.
-fn item_mismatch(list: &[Marked], taken: usize, bounds: &[i16]) -> Option<Mismatch>
+// The first item that states another bound than that of its question. So many of the items are taken,
+// and these are the bounds of their questions.
+fn bound_mismatch(list: &[Marked], taken: usize, bounds: &[i16]) -> Option<Mismatch>
     requires list { taken ≤ length list.now }
     requires bounds { taken ≤ length bounds.now }
-    ensures { (game : Answers → Outcome Finish (List ℕ)) (most : ℕ) → IsReader game most
-        → TakesFirst game (answers_of list.now) taken
-        → HasBounds game (take taken (answers_of list.now)) bounds.now
-        → MatchOption result (IsMarkedBeginning game list.now) (IsItemMismatch game list.now) }
+    ensures states { IfNone result (states_bounds (take taken list.now) bounds.now ≡ true) }
+    ensures mismatch { (game : Answers → Outcome Finish (List ℕ)) (most : ℕ) → IsReader game most
+        → TakesItems game list.now bounds.now taken → IfSome result (IsItemMismatch game list.now) }
 {
     for k in 0..taken {
         if let Some(stated) = list[k].bound {
@@ -206,18 +63,60 @@ fn item_mismatch(list: &[Marked], taken: usize, bounds: &[i16]) -> Option<Mismat
             }
         }
     }
-    if taken == list.len() {
-        None
-    } else if taken < bounds.len() {
-        let (answer, bound) = (list[taken].answer, bounds[taken]);
-        Some(Mismatch::OutOfRange {
-            item: taken + 1,
-            answer,
-            bound,
-        })
-    } else {
-        Some(Mismatch::NoQuestion { items: taken })
+    None
+}
+
+/// The first item of a list that does not fit its question, of a play with the list's answers that came
+/// to this ending; or `None` where a run begins with the list. An item that is out of range and also
+/// states another bound is out of range.
+pub(crate) fn item_mismatch(list: &[Marked], trial: &Recorder, ending: Ending) -> Option<Mismatch>
+    requires { (choices_of trial.now).plan ≡ answers_of list.now }
+    ensures taken { IfNone result (IsTaken (length list.now) list.now trial.now) }
+    ensures mismatch { (game : Answers → Outcome Finish (List ℕ)) (most steps : ℕ) (shown : List ℕ)
+        → IsReader game most
+        → PlayEnds game (choices_of trial.now) trial.now.refused_bound steps shown ending
+        → IfSome result (IsItemMismatch game list.now) }
+{
+    let taken = trial.bounds.len().min(list.len());
+    let found = bound_mismatch(list, taken, &trial.bounds);
+    if found.is_some() {
+        return found;
     }
+    if taken == list.len() {
+        return None;
+    }
+    if ending == Ending::BadAnswer {
+        return Some(Mismatch::OutOfRange {
+            item: taken + 1,
+            answer: list[taken].answer,
+            bound: trial.refused_bound,
+        });
+    }
+    Some(Mismatch::NoQuestion { items: taken })
+}
+
+/// Why the items of a list are no run, as [`item_mismatch`] finds it, or that one is missing; or `None`
+/// where they are a run.
+pub(crate) fn run_mismatch(list: &[Marked], trial: &Recorder, ending: Ending) -> Option<Mismatch>
+    requires { (choices_of trial.now).plan ≡ answers_of list.now }
+    ensures taken { IfNone result (IsTakenAlone (length list.now) list.now trial.now) }
+    ensures mismatch { (game : Answers → Outcome Finish (List ℕ)) (most steps : ℕ) (shown : List ℕ)
+        → IsReader game most
+        → PlayEnds game (choices_of trial.now) trial.now.refused_bound steps shown ending
+        → IfSome result (IsRunMismatch game [] list.now) }
+{
+    let found = item_mismatch(list, trial, ending);
+    if found.is_some() {
+        return found;
+    }
+    let items = list.len();
+    if items < trial.bounds.len() {
+        return Some(Mismatch::Missing {
+            item: items + 1,
+            bound: trial.bounds[items],
+        });
+    }
+    None
 }
 
 /// Whatever takes answers one by one: a list is no run, or no run begins with it, exactly where there

@@ -40,7 +40,7 @@ pub(crate) fn play_on(
     ensures program { player.new ≡ player.old }
     ensures plan { OnOk result ((choices_of trial.new).plan ≡ (choices_of trial.old).plan) }
     ensures ends { IfOk result (PlayEnds (play player.old source.old.lines rules)
-        (choices_of trial.new) machine.new.steps screen.new) }
+        (choices_of trial.new) trial.new.refused_bound machine.new.steps screen.new) }
     ensures copies { OnOk result (AreCopies player.old source.old.lines rules
         (choices_of trial.new).taken screen.new copies.new.kept.items) }
 {
@@ -89,7 +89,7 @@ pub(crate) fn play_counted(
     ensures program { player.new ≡ player.old }
     ensures plan { OnOk result ((choices_of trial.new).plan ≡ (choices_of trial.old).plan) }
     ensures ends { IfOk result (PlayEnds (play player.old source.old.lines rules)
-        (choices_of trial.new) machine.new.steps screen.new) }
+        (choices_of trial.new) trial.new.refused_bound machine.new.steps screen.new) }
     ensures copies { OnOk result (AreCopies player.old source.old.lines rules
         (choices_of trial.new).taken screen.new copies.new.kept.items) }
     ensures played { played.new
@@ -103,8 +103,8 @@ pub(crate) fn play_counted(
     ending
 }
 
-/// Plays a run of the player's program from its beginning, as [`play_on`] goes on with it, and gives
-/// the number of its steps.
+/// Plays a run of the player's program from its beginning, as [`play_on`] continues it, and gives its
+/// ending and the number of its steps.
 ///
 /// # Errors
 ///
@@ -117,20 +117,20 @@ pub(crate) fn play_from_start(
     trial: &mut Recorder,
     screen: &mut TextScreen,
     copies: &mut Copies,
-) -> Result<u32, AllocError>
+) -> Result<(Ending, u32), AllocError>
     requires fresh { IsFresh trial.old }
     requires shown { screen.old ≡ [] }
     requires none { copies.old.kept.items ≡ [] }
     ensures program { player.new ≡ player.old }
     ensures plan { OnOk result ((choices_of trial.new).plan ≡ trial.old.answers.items) }
-    ensures ends { IfOk result (λ steps. (ending : Ending)
-        × PlayEnds (play player.old lines.now rules) (choices_of trial.new) steps screen.new ending) }
+    ensures ends { IfOk result (λ end. PlayEnds (play player.old lines.now rules)
+        (choices_of trial.new) trial.new.refused_bound end.1 screen.new end.0) }
     ensures copies { OnOk result (AreCopies player.old lines.now rules
         (choices_of trial.new).taken screen.new copies.new.kept.items) }
 {
     let mut machine = player.machine(alloc)?;
     let mut source = Lines::new(lines);
-    play_on(
+    let ending = play_on(
         alloc,
         player,
         rules,
@@ -140,5 +140,5 @@ pub(crate) fn play_from_start(
         &mut source,
         copies,
     )?;
-    Ok(machine.steps())
+    Ok((ending, machine.steps()))
 }

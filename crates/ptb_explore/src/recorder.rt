@@ -7,6 +7,9 @@ use ptb_answers::{Chooser, Pause};
 use std::alloc::{AllocError, Global};
 use std::mem;
 
+/// No answer, whatever the question. A play stops where it comes in a plan.
+const NO_ANSWER: i16 = 0;
+
 /// Answers from a plan, and then 1 each time. It keeps each answer with its bound.
 ///
 /// The first `planned` of the answers are the plan, those behind it are ones. As many answers were
@@ -19,6 +22,8 @@ pub(crate) struct Recorder {
     pub(crate) bounds: Vec<i16>,
     /// How many of the answers are the plan.
     pub(crate) planned: usize,
+    /// The bound of the last question that a planned answer was out of range for; 0 before any.
+    pub(crate) refused_bound: i16,
     ghost bounded: { vec_len bounds ≤ vec_len answers },
     ghost within: { planned ≤ vec_len answers },
     ghost later_one: { answers.items
@@ -27,6 +32,8 @@ pub(crate) struct Recorder {
 }
 
 impl Recorder {
+    ghost use Rattle.ptb_explore.specs.Plans.{stopping_plan};
+
     /// A recorder with no plan: it answers 1 each time.
     pub(crate) fn new(alloc: Global) -> Self
         ensures answers { result.answers.items ≡ [] }
@@ -37,6 +44,7 @@ impl Recorder {
             answers: Vec::new(alloc),
             bounds: Vec::new(alloc),
             planned: 0,
+            refused_bound: 0,
         }
     }
 
@@ -50,6 +58,7 @@ impl Recorder {
             planned: answers.len(),
             answers,
             bounds: Vec::new(alloc),
+            refused_bound: 0,
         }
     }
 
@@ -86,6 +95,38 @@ impl Recorder {
         self.answers.extend_from_slice(answers)?;
         self.planned = self.answers.len();
         Ok(())
+    }
+
+    /// Plans ones after its plan, up to so many answers, and then no answer, so that the play stops at
+    /// the next question.
+    ///
+    /// # Errors
+    ///
+    /// Where the plan is refused memory.
+    pub(crate) fn stop_after(&mut self, most: usize) -> Result<(), AllocError>
+        requires fresh { self.old.bounds.items ≡ [] }
+        requires planned { self.old.planned ≡ vec_len self.old.answers }
+        requires within { vec_len self.old.answers ≤ most }
+        ensures answers { OnOk result
+            (self.new.answers.items ≡ stopping_plan most self.old.answers.items) }
+        ensures planned { OnOk result (self.new.planned ≡ vec_len self.new.answers) }
+        ensures bounds { OnOk result (self.new.bounds.items ≡ []) }
+    {
+        self.answers.resize(most, 1)?;
+        self.planned = self.answers.len();
+        self.answers.push(NO_ANSWER)?;
+        self.planned = self.answers.len();
+        Ok(())
+    }
+
+    /// Forgets the answers of its plan that were not given.
+    pub(crate) fn keep_given(&mut self)
+        ensures answers { self.new.answers.items
+            ≡ take (vec_len self.old.bounds) self.old.answers.items }
+        ensures bounds { self.new.bounds ≡ self.old.bounds }
+    {
+        self.answers.truncate(self.bounds.len());
+        self.planned = self.answers.len();
     }
 
     /// Counts the first answers of its plan as given, with these bounds.
@@ -136,13 +177,14 @@ impl Chooser for Recorder {
 
     ghost choices = { choices_of };
 
-    ghost refused = { λ r. RefusedByPlan (choices_of r) };
+    ghost refused = { λ r. RefusedByPlan (choices_of r) r.refused_bound };
 
     fn choose(&mut self, bound: i16) -> Result<i16, Pause> {
         let place = self.bounds.len();
         if place < self.answers.len() {
             let answer = self.answers[place];
             if answer < 1 || answer > bound {
+                self.refused_bound = bound;
                 return Err(Pause::OutOfRange(answer));
             }
             match self.bounds.push(bound) {

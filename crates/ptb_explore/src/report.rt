@@ -70,8 +70,8 @@ impl Report {
     }
 }
 
-// The word of an ending. The two that no report has are empty.
-fn word(ending: Ending) -> &'static [u8]
+/// The word of an ending. The two that no report has are empty.
+pub(crate) fn word(ending: Ending) -> &'static [u8]
     ensures { result.now ≡ word_of ending }
 {
     match ending {

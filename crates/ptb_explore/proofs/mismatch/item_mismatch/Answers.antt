@@ -1,69 +1,55 @@
 -- This file answers that the first item that does not fit is found, and why it does not.
-use Rattle.std.proofs.Common.{rules, ◌≡◌, ◌∙◌, ap, sym, refl, arith, ◌<◌, ℤ, pos, length, true, get_or, FitsSigned, w16, to_z, of_z, to_z-of_z}
+use Rattle.std.proofs.Common.{rules, ◌≡◌, ◌⊎◌, inl, inr, subst, arith, ◌<◌, ◌≤◌, ℤ, pos, length, take, true, get_or, FitsSigned, w16, to_z, of_z, to_z-of_z}
+use Rattle.std.proofs.lemmas.Bool.{cases_lt}
 use Rattle.ptb_answers.specs.declared.form.Marked.{Marked}
 use Rattle.ptb_answers.specs.AnswerText.{without_bound}
-use Rattle.ptb_explore.specs.MarkedRuns.{is_bound}
-use Rattle.ptb_explore.proofs.Mismatches.{all_fit, no_question, other_bound, out_of_range, states_more}
-use Rattle.ptb_explore.proofs.Order.{same_from}
+use Rattle.ptb_command.specs.declared.ending.Ending.{Ending}
+use Rattle.ptb_command.specs.declared.ending.Ending.TheVariants as endings
+use Rattle.ptb_explore.specs.MarkedRuns.{states_bounds}
+use Rattle.ptb_explore.specs.Playing.{PlayEnds}
+use Rattle.ptb_explore.specs.Recording.{choices_of}
+use Rattle.ptb_explore.proofs.Mismatches.{if_none_at, none_is}
+use Rattle.ptb_explore.proofs.Taken.{stops_outside, stops_over, takes_items}
 use Rattle.ptb_explore.proofs.mismatch.item_mismatch.Goals as goal
-use Rattle.ptb_explore.proofs.mismatch.item_mismatch.Goals.{in-Some+else-stated-bounds, in_default}
 
 abbrev none : Marked
 none = without_bound (pos 0)
 
-pub returns-then-stated-bounds : goal.returns-then-stated-bounds
-returns-then-stated-bounds c = λ game most reads takes has.
+pub returns-then-is_some-clause-mismatch : goal.returns-then-is_some-clause-mismatch
+returns-then-is_some-clause-mismatch c = λ game most steps shown reads h.
+    let trial = c.args.trial.now in
     let list = c.args.list.now in
-    let bs = c.args.bounds.now in
-    let k = c.loop-k.k in
-    let stated = c.in-Some.stated in
-    let bound : ℤ = get_or bs k (pos 0) in
-    let stated_fits : FitsSigned w16 stated = search rules in
-    let bound_fits : FitsSigned w16 bound = search rules in
-    let stated_is : to_z w16 (of_z w16 stated) ≡ stated = to_z-of_z stated_fits in
-    let bound_is : to_z w16 (of_z w16 bound) ≡ bound = to_z-of_z bound_fits in
-    rw (stated_is, bound_is) (other_bound game most reads list c.args.taken bs takes has k none c.loop-k-test.true c.loop-k.invariant stated c.in-Some.is (λ same. c.if-stated-bounds.true (ap (of_z w16) same)))
-
-pub loop-k-preserved : goal.loop-k-preserved
-loop-k-preserved c =
-    let list = c.args.list.now in
-    let bs = c.args.bounds.now in
-    let k = c.loop-k.k in
-    let right : is_bound (get_or list k none).bound (get_or bs k (pos 0)) ≡ true = elim c.match-list-k.branch [
-      | in-Some+else-stated-bounds w ↦ (
-          let stated = w.in-Some.stated in
-          let bound : ℤ = get_or bs k (pos 0) in
-          let stated_fits : FitsSigned w16 stated = search rules in
-          let bound_fits : FitsSigned w16 bound = search rules in
-          let same : stated ≡ bound = sym (to_z-of_z stated_fits) ∙ ap (to_z w16) w.if-stated-bounds.false ∙ to_z-of_z bound_fits in
-          rw (w.in-Some.is, same) (same_from bound))
-      | in_default w ↦ rw w.in_default.is refl
+    let taken : ((c.min-taken.result ≡ length list) × (length list ≤ length trial.bounds.items)) ⊎ ((c.min-taken.result ≡ length trial.bounds.items) × (length trial.bounds.items < length list)) = elim (cases_lt (length trial.bounds.items) (length list)) [
+      | inl less ↦ inr (omega (arith, c.min-taken.ensures, c.len.ensures, trial.bounds.ok.0, less), less)
+      | inr all ↦ inl (omega (arith, c.min-taken.ensures, c.len.ensures, trial.bounds.ok.0, all), omega (arith, all))
     ] in
-    states_more list bs k none (omega (arith, c.loop-k-test.true, c.requires.list)) (omega (arith, c.loop-k-test.true, c.requires.bounds)) c.loop-k.invariant right
+    c.bound_mismatch-found.ensures.mismatch game most reads
+    (rw c.deref.ensures.value (takes_items game trial steps shown most reads list c.requires c.min-taken.result taken c.args.ending h))
 
-pub returns-then-taken-list : goal.returns-then-taken-list
-returns-then-taken-list c = λ game most reads takes has.
-    let n : c.loop-k.k ≡ c.args.taken = omega (arith, c.loop-k-test.false, c.loop-k.auto) in
-    all_fit game most reads c.args.list.now c.args.taken c.args.bounds.now takes has c.if-taken-list.true (rw n at c.loop-k.invariant)
-
-pub returns-then-taken-bounds : goal.returns-then-taken-bounds
-returns-then-taken-bounds c = λ game most reads takes has.
+pub returns-then-eq-clause-mismatch : goal.returns-then-eq-clause-mismatch
+returns-then-eq-clause-mismatch c = λ game most steps shown reads h.
+    let trial = c.args.trial.now in
     let list = c.args.list.now in
-    let bs = c.args.bounds.now in
-    let n : c.loop-k.k ≡ c.args.taken = omega (arith, c.loop-k-test.false, c.loop-k.auto) in
-    let less : c.args.taken < length list = omega (arith, c.requires.list, c.if-taken-list.false) in
-    let answer : ℤ = (get_or list c.args.taken none).answer in
-    let bound : ℤ = get_or bs c.args.taken (pos 0) in
+    let n : c.min-taken.result ≡ length trial.bounds.items = omega (arith, c.min-taken.ensures, c.len.ensures, trial.bounds.ok.0, c.if-taken-list.false) in
+    let less : length trial.bounds.items < length list = omega (arith, c.min-taken.ensures, c.len.ensures, trial.bounds.ok.0, c.if-taken-list.false) in
+    let found = if_none_at (none_is c.bound_mismatch-found.result c.if-is_some.ensures) c.bound_mismatch-found.ensures.states in
+    let states : states_bounds (take (length trial.bounds.items) list) trial.bounds.items ≡ true = rw (n, c.deref.ensures.value) at found in
+    let is : c.args.ending ≡ endings.BadAnswer = search (rules, c.eq.ensures, c.if-eq.true) in
+    let outside = subst (PlayEnds game (choices_of trial) trial.refused_bound steps shown) is h in
+    let answer : ℤ = (get_or list c.min-taken.result none).answer in
     let answer_fits : FitsSigned w16 answer = search rules in
-    let bound_fits : FitsSigned w16 bound = search rules in
+    let bound_fits : FitsSigned w16 trial.refused_bound = search rules in
     let answer_is : to_z w16 (of_z w16 answer) ≡ answer = to_z-of_z answer_fits in
-    let bound_is : to_z w16 (of_z w16 bound) ≡ bound = to_z-of_z bound_fits in
-    rw (answer_is, bound_is) (out_of_range game most reads list c.args.taken bs takes has none less (rw n at c.loop-k.invariant) c.if-taken-bounds.true)
+    let bound_is : to_z w16 (of_z w16 trial.refused_bound) ≡ trial.refused_bound = to_z-of_z bound_fits in
+    rw (answer_is, bound_is, n) (stops_outside game trial steps shown most reads list c.requires less none states outside)
 
-pub returns-else-taken-bounds : goal.returns-else-taken-bounds
-returns-else-taken-bounds c = λ game most reads takes has.
+pub returns-clause-mismatch : goal.returns-clause-mismatch
+returns-clause-mismatch c = λ game most steps shown reads h.
+    let trial = c.args.trial.now in
     let list = c.args.list.now in
-    let bs = c.args.bounds.now in
-    let n : c.loop-k.k ≡ c.args.taken = omega (arith, c.loop-k-test.false, c.loop-k.auto) in
-    let less : c.args.taken < length list = omega (arith, c.requires.list, c.if-taken-list.false) in
-    no_question game most reads list c.args.taken bs takes has none less (rw n at c.loop-k.invariant) (omega (arith, c.if-taken-bounds.false))
+    let n : c.min-taken.result ≡ length trial.bounds.items = omega (arith, c.min-taken.ensures, c.len.ensures, trial.bounds.ok.0, c.if-taken-list.false) in
+    let less : length trial.bounds.items < length list = omega (arith, c.min-taken.ensures, c.len.ensures, trial.bounds.ok.0, c.if-taken-list.false) in
+    let found = if_none_at (none_is c.bound_mismatch-found.result c.if-is_some.ensures) c.bound_mismatch-found.ensures.states in
+    let states : states_bounds (take (length trial.bounds.items) list) trial.bounds.items ≡ true = rw (n, c.deref.ensures.value) at found in
+    let other : c.args.ending ≡ endings.BadAnswer → ⊥ = search (rules, c.eq.ensures, c.if-eq.false) in
+    rw n (stops_over game trial steps shown most reads list c.requires less none states c.args.ending other h)

@@ -19,18 +19,18 @@ play_on-requires-clause-run_prefix c =
     rw (c.new-source.ensures, c.requires.shown) (run_prefix_at_first c.args.player.now input c.args.rules (choices_of trial) c.in_ok-machine.machine taken kept (c.in_ok-machine.ensures.first input c.args.rules.choose))
 
 pub returns-clause-plan : goal.returns-clause-plan
-returns-clause-plan c = c.in_ok-play_on.ensures.plan ∙ fresh_plan c.args.trial.now c.requires.fresh
+returns-clause-plan c = c.in_ok-ending.ensures.plan ∙ fresh_plan c.args.trial.now c.requires.fresh
 
 pub returns-clause-ends : goal.returns-clause-ends
 returns-clause-ends c =
     let p = c.args.player.now in
     let new = choices_of c.play_on.new.trial in
     let lines : c.new-source.result.lines ≡ c.args.lines.now = ap (λ (s : LineList). s.lines) c.new-source.ensures in
-    let ends = subst (λ (ls : List (List ℕ)). PlayEnds (play p ls c.args.rules) new c.play_on.new.machine.steps c.play_on.new.screen c.in_ok-play_on.field-0) lines c.in_ok-play_on.ensures.ends in
-    (c.in_ok-play_on.field-0, rw c.steps.ensures ends)
+    let ends = subst (λ (ls : List (List ℕ)). PlayEnds (play p ls c.args.rules) new c.play_on.new.trial.refused_bound c.play_on.new.machine.steps c.play_on.new.screen c.in_ok-ending.ending) lines c.in_ok-ending.ensures.ends in
+    rw c.steps.ensures ends
 
 pub returns-clause-copies : goal.returns-clause-copies
 returns-clause-copies c =
     let new = choices_of c.play_on.new.trial in
     let lines : c.new-source.result.lines ≡ c.args.lines.now = ap (λ (s : LineList). s.lines) c.new-source.ensures in
-    subst (λ (ls : List (List ℕ)). AreCopies c.args.player.now ls c.args.rules new.taken c.play_on.new.screen c.play_on.new.copies.kept.items) lines c.in_ok-play_on.ensures.copies
+    subst (λ (ls : List (List ℕ)). AreCopies c.args.player.now ls c.args.rules new.taken c.play_on.new.screen c.play_on.new.copies.kept.items) lines c.in_ok-ending.ensures.copies

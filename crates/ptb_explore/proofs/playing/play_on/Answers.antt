@@ -4,7 +4,7 @@ use Rattle.std.proofs.lemmas.List.{length-take-le}
 use Rattle.ptb_machine.specs.Play.{play}
 use Rattle.ptb_answers.specs.Outcome.{Answers}
 use Rattle.ptb_explore.specs.Copies.{AreTakenBy, StandsAt, taken_choices}
-use Rattle.ptb_explore.specs.Recording.{choices_of}
+use Rattle.ptb_explore.specs.Recording.{RefusedByPlan, choices_of}
 use Rattle.ptb_explore.specs.declared.recorder.Recorder.{Recorder}
 use Rattle.ptb_explore.proofs.Limits.{taken_by}
 use Rattle.ptb_explore.proofs.Keep.{kept_longer, kept_more, kept_same}
@@ -58,14 +58,14 @@ pub returns-in-Ok-Some-clause-plan : goal.returns-in-Ok-Some-clause-plan
 returns-in-Ok-Some-clause-plan c =
     let i = c.loop-ending.invariant in
     let steps = c.step.ensures.steps in
-    let x = step_ends c.run_laws.ensures c.loop-ending.player c.args.source.now.lines c.args.rules _ _ _ _ _ _ steps.0 _ _ _ _ c.in-Ok-Some.ending _ (c.in-Ok-Some.is ∙ ap Ok (c.in-Ok-Some.field-0-is ∙ ap Some c.in-Ok-Some.ending-is)) i.run_prefix steps.1.0.first (none_follow c.step.new.source) steps.1.1 in
+    let x = step_ends c.run_laws.ensures c.loop-ending.player c.args.source.now.lines c.args.rules _ _ _ _ c.step.new.chooser.refused_bound _ _ steps.0 _ _ _ _ c.in-Ok-Some.ending _ (c.in-Ok-Some.is ∙ ap Ok (c.in-Ok-Some.field-0-is ∙ ap Some c.in-Ok-Some.ending-is)) i.run_prefix steps.1.0.first (none_follow c.step.new.source) steps.1.1 in
     x.0 ∙ i.plan
 
 pub returns-in-Ok-Some-clause-ends : goal.returns-in-Ok-Some-clause-ends
 returns-in-Ok-Some-clause-ends c =
     let i = c.loop-ending.invariant in
     let steps = c.step.ensures.steps in
-    let x = step_ends c.run_laws.ensures c.loop-ending.player c.args.source.now.lines c.args.rules _ _ _ _ _ _ steps.0 _ _ _ _ c.in-Ok-Some.ending _ (c.in-Ok-Some.is ∙ ap Ok (c.in-Ok-Some.field-0-is ∙ ap Some c.in-Ok-Some.ending-is)) i.run_prefix steps.1.0.first (none_follow c.step.new.source) steps.1.1 in
+    let x = step_ends c.run_laws.ensures c.loop-ending.player c.args.source.now.lines c.args.rules _ _ _ _ c.step.new.chooser.refused_bound _ _ steps.0 _ _ _ _ c.in-Ok-Some.ending _ (c.in-Ok-Some.is ∙ ap Ok (c.in-Ok-Some.field-0-is ∙ ap Some c.in-Ok-Some.ending-is)) i.run_prefix steps.1.0.first (none_follow c.step.new.source) steps.1.1 in
     rw (← i.program) x.1
 
 pub returns-in-Ok-Some-clause-copies : goal.returns-in-Ok-Some-clause-copies
@@ -83,12 +83,12 @@ returns-in-Ok-Some-clause-copies c =
 pub unreachable-requires : goal.unreachable-requires
 unreachable-requires c =
     let steps = c.step.ensures.steps in
-    never_unread c.run_laws.ensures c.loop-ending.player c.args.source.now.lines c.args.rules _ _ _ _ _ _ steps.0 _ _ _ _ _ c.loop-ending.invariant.run_prefix steps.1.0.first (none_follow c.step.new.source) steps.1.1 (c.in-Err-Read.is ∙ ap Err c.in-Err-Read.field-0-is)
+    never_unread c.run_laws.ensures c.loop-ending.player c.args.source.now.lines c.args.rules (RefusedByPlan (choices_of c.step.new.chooser) c.step.new.chooser.refused_bound) _ _ _ _ _ _ steps.0 _ _ _ _ _ c.loop-ending.invariant.run_prefix steps.1.0.first (none_follow c.step.new.source) steps.1.1 (c.in-Err-Read.is ∙ ap Err c.in-Err-Read.field-0-is)
 
 pub unreachable-requires-in-Err-Write : goal.unreachable-requires-in-Err-Write
 unreachable-requires-in-Err-Write c =
     let steps = c.step.ensures.steps in
-    never_unwritten c.run_laws.ensures c.loop-ending.player c.args.source.now.lines c.args.rules _ _ _ _ _ _ steps.0 _ _ _ _ _ c.loop-ending.invariant.run_prefix steps.1.0.first (none_follow c.step.new.source) steps.1.1 (c.in-Err-Write.is ∙ ap Err c.in-Err-Write.field-0-is)
+    never_unwritten c.run_laws.ensures c.loop-ending.player c.args.source.now.lines c.args.rules (RefusedByPlan (choices_of c.step.new.chooser) c.step.new.chooser.refused_bound) _ _ _ _ _ _ steps.0 _ _ _ _ _ c.loop-ending.invariant.run_prefix steps.1.0.first (none_follow c.step.new.source) steps.1.1 (c.in-Err-Write.is ∙ ap Err c.in-Err-Write.field-0-is)
 
 pub unreachable-requires-in-Err-Spent : goal.unreachable-requires-in-Err-Spent
 unreachable-requires-in-Err-Spent c =

@@ -1,9 +1,38 @@
--- This file answers that the runs of the program have their laws.
+-- This file answers that answers without bounds are a run as their list is, and that the runs of the program have their laws.
+use Rattle.std.proofs.Common.{◌∙◌, ap}
+use Rattle.ptb_answers.specs.AnswerText.{answers_of}
+use Rattle.ptb_machine.specs.Play.{play}
 use Rattle.ptb_explore.proofs.RunPrefix.{program_laws}
+use Rattle.ptb_explore.proofs.Stated.{unmarked_answers, unmarked_run, unmarked_run_ok}
 use Rattle.ptb_explore.proofs.explorer.Explorer.after.Goals as goal
 
-pub returns-in_err-replay-clause-laws : goal.returns-in_err-replay-clause-laws
-returns-in_err-replay-clause-laws c = program_laws c.run_laws.ensures c.args.program.now c.args.lines.now c.args.rules
+pub returns-clause-after : goal.returns-clause-after
+returns-clause-after c =
+    let same = ap answers_of (c.deref.ensures.value ∙ c.in_ok-list.ensures) ∙ unmarked_answers c.args.answers.now in
+    rw same at c.after_marked.ensures.after
 
-pub returns-clause-laws : goal.returns-clause-laws
-returns-clause-laws c = program_laws c.run_laws.ensures c.args.program.now c.args.lines.now c.args.rules
+pub returns-clause-run : goal.returns-clause-run
+returns-clause-run c =
+    unmarked_run_ok (play c.args.program.now c.args.lines.now c.args.rules) c.args.answers.now _ (c.deref.ensures.value ∙ c.in_ok-list.ensures) c.after_marked.result c.after_marked.ensures.run
+
+pub returns-clause-kept : goal.returns-clause-kept
+returns-clause-kept c =
+    let same = ap answers_of (c.deref.ensures.value ∙ c.in_ok-list.ensures) ∙ unmarked_answers c.args.answers.now in
+    rw same at c.after_marked.ensures.kept
+
+pub returns-clause-played : goal.returns-clause-played
+returns-clause-played c =
+    let same = ap answers_of (c.deref.ensures.value ∙ c.in_ok-list.ensures) ∙ unmarked_answers c.args.answers.now in
+    rw same at c.after_marked.ensures.played
+
+pub returns-clause-not_a_run : goal.returns-clause-not_a_run
+returns-clause-not_a_run c = λ m fault run.
+    c.after_marked.ensures.not_a_run m fault (unmarked_run (play c.args.program.now c.args.lines.now c.args.rules) c.args.answers.now _ (c.deref.ensures.value ∙ c.in_ok-list.ensures) run)
+
+pub returns-clause-mismatch : goal.returns-clause-mismatch
+returns-clause-mismatch c =
+    let same = c.deref.ensures.value ∙ c.in_ok-list.ensures in
+    rw same at c.after_marked.ensures.mismatch
+
+pub returns-in_err-list-clause-laws : goal.returns-in_err-list-clause-laws
+returns-in_err-list-clause-laws c = program_laws c.run_laws.ensures c.args.program.now c.args.lines.now c.args.rules

@@ -1,7 +1,11 @@
 -- This file answers that an explorer stands at the run of a list, and that the runs of the program have their laws.
-use Rattle.std.proofs.Common.{◌∙◌, arith, rules}
-use Rattle.std.proofs.lemmas.Grind.{common_steps}
+use Rattle.std.proofs.Common.{[], ◌∙◌, refl, rules, sym}
 use Rattle.ptb_machine.specs.Play.{play}
+use Rattle.ptb_machine.specs.Questions.{most_answers}
+use Rattle.ptb_explore.specs.declared.mismatch.Mismatch.TheVariants.{NotUnder}
+use Rattle.ptb_explore.specs.Mismatch.{IsRunMismatch}
+use Rattle.ptb_explore.proofs.Exits.{same_reason}
+use Rattle.ptb_explore.proofs.Mismatches.{alone_is_under, run_closes}
 use Rattle.ptb_explore.proofs.Planned.{marked_run}
 use Rattle.ptb_explore.proofs.RunPrefix.{program_laws}
 use Rattle.ptb_explore.proofs.explorer.Explorer.after_under.Goals as goal
@@ -36,7 +40,19 @@ pub returns-clause-played : goal.returns-clause-played
 returns-clause-played c = search rules fits 50 depth 2
 
 pub returns-clause-not_a_run : goal.returns-clause-not_a_run
-returns-clause-not_a_run c = search rules fits 50 depth 2
+returns-clause-not_a_run c = λ m fault run under.
+    run_closes (play c.args.program.now c.args.lines.now c.args.rules) (most_answers c.args.program.now c.args.lines.now c.args.rules.limit)
+    (c.run_laws.ensures.reads c.args.program.now c.args.lines.now c.args.rules) [] c.args.list.now m (c.at_plan.ensures.mismatch m fault) run refl
 
-pub at_plan-requires-clause-within : goal.at_plan-requires-clause-within
-at_plan-requires-clause-within c = grind (arith, common_steps)
+pub returns-clause-mismatch : goal.returns-clause-mismatch
+returns-clause-mismatch c = λ m fault.
+    let under = sym c.items_begin_with.ensures ∙ c.if-not-items_begin_with.false in
+    alone_is_under (play c.args.program.now c.args.lines.now c.args.rules) (most_answers c.args.program.now c.args.lines.now c.args.rules.limit)
+    (c.run_laws.ensures.reads c.args.program.now c.args.lines.now c.args.rules) c.args.under.now c.args.list.now m under (c.at_plan.ensures.mismatch m fault)
+
+pub returns-then-not-items_begin_with-clause-mismatch : goal.returns-then-not-items_begin_with-clause-mismatch
+returns-then-not-items_begin_with-clause-mismatch c = λ m fault.
+    same_reason (IsRunMismatch (play c.args.program.now c.args.lines.now c.args.rules) c.args.under.now c.args.list.now) NotUnder m fault (sym c.items_begin_with.ensures ∙ c.if-not-items_begin_with.true)
+
+pub at_plan-requires-clause-plan : goal.at_plan-requires-clause-plan
+at_plan-requires-clause-plan c = c.planning-trial.ensures.answers ∙ c.in_ok-answers_of.ensures

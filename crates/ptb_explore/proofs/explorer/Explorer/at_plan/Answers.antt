@@ -1,12 +1,12 @@
 -- This file answers that an explorer stands at the run of a plan, if its bounds are as they are stated.
 use Rattle.std.proofs.lemmas.Result.{IfOk-from_err}
-use Rattle.ptb_explore.proofs.Exits.{ok_no_err, memory_no_run, same_no_run}
-use Rattle.ptb_explore.proofs.Planned.{planned_run, planned_played, no_run_played, planned_stated, planned_invariant, planned_view, planned_kept}
+use Rattle.ptb_explore.proofs.Exits.{memory_no_run, ok_no_err, passed_on}
+use Rattle.ptb_explore.proofs.Planned.{planned_run, planned_played, planned_stated, reason_played, planned_invariant, planned_view, planned_kept}
 use Rattle.ptb_explore.proofs.explorer.Explorer.at_plan.Goals as goal
 
 pub check_run-requires : goal.check_run-requires
 check_run-requires c = record {
-  within = c.requires.within;
+  plan = c.requires.plan;
   fresh = c.requires.fresh;
   none = c.new-copies.ensures;
 }
@@ -18,7 +18,7 @@ returns-in_err-player c = record {
   stated = IfOk-from_err _ _ c.from_residual.ensures.0;
   kept = IfOk-from_err _ _ c.from_residual.ensures.0;
   played = IfOk-from_err _ _ c.from_residual.ensures.0;
-  not_a_run = λ fault _ _. memory_no_run _ c.from_residual.ensures.1 fault;
+  mismatch = λ m fault. memory_no_run _ m c.from_residual.ensures.1 fault;
 }
 
 pub returns-in_err-check_run : goal.returns-in_err-check_run
@@ -28,8 +28,8 @@ returns-in_err-check_run c = record {
   stated = IfOk-from_err _ _ c.from_residual-in_err-check_run.ensures.0;
   kept = IfOk-from_err _ _ c.from_residual-in_err-check_run.ensures.0;
   played = IfOk-from_err _ _ c.from_residual-in_err-check_run.ensures.0;
-  not_a_run = λ fault run stated. no_run_played c.args.program.now c.args.lines.now c.args.rules c.args.trial.answers.items _ c.in_ok-player.ensures c.args.stated.now
-      (same_no_run _ _ c.from_residual-in_err-check_run.ensures.1 c.in_err-check_run.ensures.not_a_run fault) run stated;
+  mismatch = λ m fault. reason_played c.args.program.now c.args.lines.now c.args.rules _ c.in_ok-player.ensures c.args.list.now m
+      (c.in_err-check_run.ensures.mismatch m (passed_on _ _ _ c.from_residual-in_err-check_run.ensures.1 fault));
 }
 
 pub invariant_of-result : goal.invariant_of-result
@@ -44,9 +44,9 @@ returns c = record {
       _ c.check_run.ensures.program _ c.in_ok-check_run.ensures.answers _ _ _;
   run = planned_run c.args.program.now c.args.lines.now c.args.rules c.args.trial.answers.items _ c.in_ok-player.ensures c.in_ok-check_run.ensures.run;
   stated = planned_stated c.args.program.now c.args.lines.now c.args.rules c.args.trial.answers.items _ c.in_ok-player.ensures
-      c.args.stated.now c.in_ok-check_run.ensures.stated;
+      c.args.list.now c.in_ok-check_run.ensures.stated;
   kept = planned_kept c.args.program.now c.args.lines.now c.args.rules c.args.trial.answers.items _ c.in_ok-player.ensures
       _ c.check_run.ensures.program _ c.in_ok-check_run.ensures.answers _ _ c.in_ok-check_run.ensures.copies;
   played = planned_played c.args.program.now c.args.lines.now c.args.rules c.args.trial.answers.items _ c.in_ok-player.ensures _ _ c.from-played.ensures c.in_ok-check_run.ensures.played;
-  not_a_run = λ fault _ _. ok_no_err fault;
+  mismatch = λ _ fault. ok_no_err fault;
 }

@@ -17,7 +17,7 @@ returns-then-answer-lt1-clause-refused c =
     ] in
     let place : c.len-place.result ≡ length self.bounds.items = omega (arith, self.bounds.ok.0) in
     let there : answer ≡ get_or self.answers.items (length self.bounds.items) answer = rw place at c.index-answer.ensures in
-    (rw to_z-of_z (next_planned self.answers.items (length self.bounds.items) self.planned answer planned (omega (arith, self.answers.ok.0, self.within)) there), search rules)
+    (rw to_z-of_z (next_planned self.answers.items (length self.bounds.items) self.planned answer planned (omega (arith, self.answers.ok.0, self.within)) there), search rules, search rules)
 
 pub invariant_of-self-in-Ok-push-2-clause-later_one : goal.invariant_of-self-in-Ok-push-2-clause-later_one
 invariant_of-self-in-Ok-push-2-clause-later_one c =

@@ -1,0 +1,106 @@
+-- This file answers that the list of the next plan is the next list.
+use Rattle.std.proofs.Common.{[], Some, None, refl}
+use Rattle.std.proofs.lemmas.Result.{IfOk-from_err}
+use Rattle.ptb_machine.specs.Play.{play}
+use Rattle.ptb_machine.specs.Questions.{most_answers}
+use Rattle.ptb_explore.specs.Beginnings.{stopped}
+use Rattle.ptb_explore.specs.Plans.{front_at, HasPlan, PlansNext}
+use Rattle.ptb_report.proofs.Reporting.{on_err_always}
+use Rattle.ptb_explore.proofs.Exits.{on_some_at}
+use Rattle.ptb_explore.proofs.GoingOn.{position_copies}
+use Rattle.ptb_explore.proofs.Raising.{position_lengths, next_plan, last_plan, plan_ends}
+use Rattle.ptb_explore.proofs.Shares.{plan_left}
+use Rattle.ptb_explore.proofs.Stopped.{stopped_reads}
+use Rattle.ptb_explore.proofs.Stopping.{beginning_agrees, plan_fits}
+use Rattle.ptb_explore.proofs.beginnings.find_beginning.Goals as goal
+
+pub plan_next-requires : goal.plan_next-requires
+plan_next-requires c = λ e. rw (c.deref.ensures.value, c.deref-2.ensures.value) (position_lengths (stopped c.args.most (play c.args.player.now c.args.lines.now c.args.rules)) _ _ _ _ c.requires.position e)
+
+pub returns-in-None-clause-next : goal.returns-in-None-clause-next
+returns-in-None-clause-next c =
+    let game = play c.args.player.now c.args.lines.now c.args.rules in
+    let reads = c.run_laws.ensures.reads c.args.player.now c.args.lines.now c.args.rules in
+    let most = most_answers c.args.player.now c.args.lines.now c.args.rules.limit in
+    let report = c.args.report.now in
+    let plans : PlansNext [] c.args.position report.answers.items report.bounds.items c.plan_next.new.trial.answers.items None = rw (← c.deref.ensures.value, ← c.deref-2.ensures.value, ← c.in-None.is) c.in_ok-plan_next.ensures.plan in
+    last_plan (stopped c.args.most game) c.args.most (stopped_reads game c.args.most most reads) [] c.args.position report.answers.items c.plan_next.new.trial.answers.items report.bounds.items c.requires.position plans
+
+pub play_beginning-requires : goal.play_beginning-requires
+play_beginning-requires c =
+    let game = play c.args.player.now c.args.lines.now c.args.rules in
+    let reads = c.run_laws.ensures.reads c.args.player.now c.args.lines.now c.args.rules in
+    let most = most_answers c.args.player.now c.args.lines.now c.args.rules.limit in
+    let report = c.args.report.now in
+    let plan = c.plan_next.new.trial.answers.items in
+    let plans : PlansNext [] c.args.position report.answers.items report.bounds.items plan (Some c.in-Some.common) = rw (← c.deref.ensures.value, ← c.deref-2.ensures.value, ← c.in-Some.is) c.in_ok-plan_next.ensures.plan in
+    let fits = plan_fits game most reads c.args.most c.args.position report.answers.items plan report.bounds.items c.in-Some.common c.requires.position plans in
+    record {
+      fresh = on_some_at c.in-Some.is c.in_ok-plan_next.ensures.fresh;
+      within = fits.0;
+      common = fits.1;
+      opens = (next_plan (stopped c.args.most game) c.args.most (stopped_reads game c.args.most most reads) [] c.args.position report.answers.items plan report.bounds.items c.in-Some.common c.requires.position plans).opens;
+      agrees = beginning_agrees game most reads c.args.most c.args.position report.answers.items plan report.bounds.items c.in-Some.common c.requires.position plans;
+      copies = position_copies c.args.player.now c.args.lines.now c.args.rules c.args.position c.args.report.now c.args.copies.now.kept.items c.requires.copies;
+    }
+
+pub returns-in_ok-play_beginning-in-Some-clause-next : goal.returns-in_ok-play_beginning-in-Some-clause-next
+returns-in_ok-play_beginning-in-Some-clause-next c =
+    let game = play c.args.player.now c.args.lines.now c.args.rules in
+    let reads = c.run_laws.ensures.reads c.args.player.now c.args.lines.now c.args.rules in
+    let most = most_answers c.args.player.now c.args.lines.now c.args.rules.limit in
+    let report = c.args.report.now in
+    let plan = c.plan_next.new.trial.answers.items in
+    let plans : PlansNext [] c.args.position report.answers.items report.bounds.items plan (Some c.in-Some.common) = rw (← c.deref.ensures.value, ← c.deref-2.ensures.value, ← c.in-Some.is) c.in_ok-plan_next.ensures.plan in
+    let next = next_plan (stopped c.args.most game) c.args.most (stopped_reads game c.args.most most reads) [] c.args.position report.answers.items plan report.bounds.items c.in-Some.common c.requires.position plans in
+    let run = c.in_ok-play_beginning-in-Some.ensures.ends in
+    (plan_ends (stopped c.args.most game) c.args.most (stopped_reads game c.args.most most reads) [] (front_at c.args.position report.answers.items) plan _ _ _ next run, run.bounds_are)
+
+pub returns-in_ok-play_beginning-in-Some-clause-ended : goal.returns-in_ok-play_beginning-in-Some-clause-ended
+returns-in_ok-play_beginning-in-Some-clause-ended c = λ last.
+    let game = play c.args.player.now c.args.lines.now c.args.rules in
+    let reads = c.run_laws.ensures.reads c.args.player.now c.args.lines.now c.args.rules in
+    let most = most_answers c.args.player.now c.args.lines.now c.args.rules.limit in
+    let report = c.args.report.now in
+    let plan = c.plan_next.new.trial.answers.items in
+    let plans : PlansNext [] c.args.position report.answers.items report.bounds.items plan (Some c.in-Some.common) = rw (← c.deref.ensures.value, ← c.deref-2.ensures.value, ← c.in-Some.is) c.in_ok-plan_next.ensures.plan in
+    let next = next_plan (stopped c.args.most game) c.args.most (stopped_reads game c.args.most most reads) [] c.args.position report.answers.items plan report.bounds.items c.in-Some.common c.requires.position plans in
+    plan_left (stopped c.args.most game) c.args.most (stopped_reads game c.args.most most reads) [] (front_at c.args.position report.answers.items) plan next last
+
+pub returns-in_ok-play_beginning-in-Some-clause-copies : goal.returns-in_ok-play_beginning-in-Some-clause-copies
+returns-in_ok-play_beginning-in-Some-clause-copies c = λ _. c.in_ok-play_beginning-in-Some.ensures.copies
+
+pub returns-in_err-plan_next : goal.returns-in_err-plan_next
+returns-in_err-plan_next c = record {
+  program = refl;
+  next = IfOk-from_err _ _ c.from_residual.ensures.0;
+  answers = on_err_always _ refl;
+  bounds = on_err_always _ refl;
+  ended = λ last.
+      let game = play c.args.player.now c.args.lines.now c.args.rules in
+      let reads = c.run_laws.ensures.reads c.args.player.now c.args.lines.now c.args.rules in
+      let most = most_answers c.args.player.now c.args.lines.now c.args.rules.limit in
+      let report = c.args.report.now in
+      let has : HasPlan [] c.args.position report.answers.items report.bounds.items = rw (← c.deref.ensures.value, ← c.deref-2.ensures.value) c.in_err-plan_next.ensures.refused in
+      let next = next_plan (stopped c.args.most game) c.args.most (stopped_reads game c.args.most most reads) [] c.args.position report.answers.items has.0 report.bounds.items has.1 c.requires.position has.2 in
+      plan_left (stopped c.args.most game) c.args.most (stopped_reads game c.args.most most reads) [] (front_at c.args.position report.answers.items) has.0 next last;
+  copies = IfOk-from_err _ _ c.from_residual.ensures.0;
+}
+
+pub returns-in_err-play_beginning-in-Some : goal.returns-in_err-play_beginning-in-Some
+returns-in_err-play_beginning-in-Some c = record {
+  program = c.play_beginning.ensures.program;
+  next = IfOk-from_err _ _ c.from_residual-in_err-play_beginning-in-Some.ensures.0;
+  answers = on_err_always _ c.in_err-play_beginning-in-Some.ensures.answers;
+  bounds = on_err_always _ c.in_err-play_beginning-in-Some.ensures.bounds;
+  ended = λ last.
+      let game = play c.args.player.now c.args.lines.now c.args.rules in
+      let reads = c.run_laws.ensures.reads c.args.player.now c.args.lines.now c.args.rules in
+      let most = most_answers c.args.player.now c.args.lines.now c.args.rules.limit in
+      let report = c.args.report.now in
+      let plan = c.plan_next.new.trial.answers.items in
+      let plans : PlansNext [] c.args.position report.answers.items report.bounds.items plan (Some c.in-Some.common) = rw (← c.deref.ensures.value, ← c.deref-2.ensures.value, ← c.in-Some.is) c.in_ok-plan_next.ensures.plan in
+      let next = next_plan (stopped c.args.most game) c.args.most (stopped_reads game c.args.most most reads) [] c.args.position report.answers.items plan report.bounds.items c.in-Some.common c.requires.position plans in
+      plan_left (stopped c.args.most game) c.args.most (stopped_reads game c.args.most most reads) [] (front_at c.args.position report.answers.items) plan next last;
+  copies = IfOk-from_err _ _ c.from_residual-in_err-play_beginning-in-Some.ensures.0;
+}

@@ -1,0 +1,80 @@
+-- This file defines the lists of at most n answers that split the runs of what takes answers one by one.
+--     stopped n play            play, which is over where it asks for more than n answers
+--     beginnings n play         its runs
+--     IsBeginning n play u      u is a run of at most n answers, or n answers after which play asks
+--     BeginningLaws play most n the laws of these lists
+--     beginning_line form play u    the line of a list: its answers, in a form
+--     Splitting                 what contracts see of a search for these lists
+--     split_play s              what is searched
+--     MovesTo play f f' found   the search stands at the next list, or past the last
+--     FindsBeginning play f r found     r has the answers and bounds of the next list, or there is none
+use Rattle.std.specs.Prelude.{◌≡◌, ℕ, ◌≤◌, nat_lt, List, [], ◌∷◌, ◌++◌, length, take, drop, Bool, true, false, ◌⊎◌, ◌↔◌, ℤ, Contains}
+use Rattle.std.specs.List.{flat_map}
+use Rattle.ptb_text.specs.Statements.{StoredProgram}
+use Rattle.ptb_answers.specs.Outcome.{Answers, Outcome, Done, Asks, Out, bounds}
+use Rattle.ptb_answers.specs.AnswerText.{items_in}
+use Rattle.ptb_answers.specs.declared.form.Form.{Form}
+use Rattle.ptb_answers.specs.declared.rules.Rules.{Rules}
+use Rattle.ptb_machine.specs.Play.{Finish, play}
+use Rattle.ptb_report.specs.Report.{list_line}
+use Rattle.ptb_explore.specs.declared.report.Report.{Report}
+use Rattle.ptb_explore.specs.Listing.{text}
+use Rattle.ptb_explore.specs.RunTree.{Front, Start, At, End, IsLast, IsNextRun, IsRising, IsRun, runs_after, tree}
+
+-- ---- the lists
+
+-- where it may take more answers, a question stays what it is; otherwise it is over
+abbrev pub stop : {A W : Type 0} → Bool → Answers → Outcome A W → Outcome (Unit {0}) W
+stop more later (Done x rest) = Done tt (rest ++ later)
+stop true later (Asks bound w) = Asks bound w
+stop false later (Asks bound w) = Done tt later
+stop more later (Out bound w) = Out bound w
+
+-- it is played with the first n answers
+abbrev pub stopped : {A W : Type 0} → ℕ → (Answers → Outcome A W) → Answers → Outcome (Unit {0}) W
+stopped n play a = stop (nat_lt (length a) n) (drop n a) (play (take n a))
+
+abbrev pub beginnings : {A W : Type 0} → ℕ → (Answers → Outcome A W) → List Answers
+beginnings n play = tree (stopped n play) n
+
+-- ---- their laws
+
+abbrev pub IsBeginning : {A W : Type 0} → ℕ → (Answers → Outcome A W) → Answers → Type 0
+IsBeginning {W = W} n play u = (IsRun play u × (length u ≤ n)) ⊎ ((length u ≡ n) × ((bound : ℤ) × (w : W) × (play u ≡ Asks bound w)))
+
+pub record BeginningLaws {A W : Type 0} (play : Answers → Outcome A W) (most n : ℕ) : Type 0 where
+  -- they are these and no others, in rising order
+  pub lists : (u : Answers) → Contains (beginnings n play) u ↔ IsBeginning n play u
+  pub order : IsRising (beginnings n play)
+  -- none begins with another
+  pub apart : (u later : Answers) (k : ℤ) → Contains (beginnings n play) u → Contains (beginnings n play) (u ++ k ∷ later) → ⊥
+  -- the reports of the runs that begin with the first list, the second and so on are those of all runs
+  pub whole_text :
+      (report : Answers → List ℕ)
+      → flat_map (λ u. text report (runs_after play most u Start)) (beginnings n play) ≡ text report (tree play most)
+
+-- ---- how they are written
+
+abbrev pub beginning_line : {A W : Type 0} → Form → (Answers → Outcome A W) → Answers → List ℕ
+beginning_line form play u = list_line (items_in form u (bounds play u))
+
+-- ---- a search for them
+
+pub record Splitting : Type 0 where
+  pub program : StoredProgram
+  pub input : List (List ℕ)
+  pub rules : Rules
+  -- the most answers that a list has
+  pub most : ℕ
+  pub front : Front
+
+abbrev pub split_play : Splitting → Answers → Outcome Finish (List ℕ)
+split_play s = play s.program s.input s.rules
+
+abbrev pub MovesTo : {A W : Type 0} → (Answers → Outcome A W) → Front → Front → Bool → Type 0
+MovesTo play f f' true = (u : Answers) × IsNextRun play [] f u × (f' ≡ At u)
+MovesTo play f f' false = IsLast play [] f × (f' ≡ End)
+
+abbrev pub FindsBeginning : {A W : Type 0} → (Answers → Outcome A W) → Front → Report → Bool → Type 0
+FindsBeginning play f r true = IsNextRun play [] f r.answers.items × (r.bounds.items ≡ bounds play r.answers.items)
+FindsBeginning play f r false = IsLast play [] f
