@@ -49,11 +49,17 @@ draws-wants : (t : Terminals) (o : Options) (mode : Mode) → AsksMode o mode �
 draws-wants t o (modes.Plain a) h = of_answers t.input t.output (is_some o.answers) o.list o.all (is_some o.seed) h.0 h.1 (ap is_some h.2)
 draws-wants t o (modes.Seeded seed) h = of_seed t.input t.output (is_some o.answers) o.list o.all (is_some o.seed) (ap is_some h.2)
 draws-wants t o (modes.All under after first form) h = of_all t.input t.output (is_some o.answers) o.list o.all (is_some o.seed) h.0 h.1
+draws-wants t o (modes.Shares answers form) h = of_all t.input t.output (is_some o.answers) o.list o.all (is_some o.seed) h.0 h.1
+draws-wants t o (modes.Sample seed runs form) h = of_seed t.input t.output (is_some o.answers) o.list o.all (is_some o.seed) (ap is_some h.2)
 draws-wants t o modes.List h = of_text t.input t.output (is_some o.answers) o.list o.all (is_some o.seed) h
 
 -- a seed goes with the options of a run that is given neither answers nor a seed
 clash_drawn : (o : Options) (seed : ℕ) → o.list ≡ false → o.all ≡ false → o.answers ≡ None → clash o ≡ None → clash (with_seed o (Some seed)) ≡ None
 clash_drawn o seed list every answers h = grind arith
+
+-- no sample is asked for without a seed
+unsampled : (o : Options) → o.list ≡ false → o.all ≡ false → o.seed ≡ None → clash o ≡ None → o.sample ≡ None
+unsampled o list every seed h = grind arith
 
 asks_undrawn : (t : Terminals) (o : Options) (r : Request) → Asks o r → false ≡ draws_seed t o r.mode → AsksAt t o None r
 asks_undrawn t o r asks draws = record { asks = asks; draws = draws ∙ draws-wants t o r.mode asks.mode; small = tt }
@@ -65,8 +71,9 @@ asks_drawn t o r seed asks draws small =
     let list : o.list ≡ false = grind arith in
     let every : o.all ≡ false = grind arith in
     let answers : o.answers ≡ None = grind arith in
+    let undrawn : o.seed ≡ None = grind arith in
     record {
-      asks = record { clash = clash_drawn o seed list every answers asks.clash; rules = record { limit = asks.rules.limit; choose = asks.rules.choose }; memory = asks.memory; mode = (list, every, refl) };
+      asks = record { clash = clash_drawn o seed list every answers asks.clash; rules = record { limit = asks.rules.limit; choose = asks.rules.choose }; memory = asks.memory; mode = (list, every, refl, unsampled o list every undrawn asks.clash) };
       draws = wants;
       small = small;
     }

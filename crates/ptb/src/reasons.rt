@@ -56,6 +56,6 @@ fn write_mismatch<W: fmt::Write>(
             f,
             "item {item} is missing; its question allows 1 to {bound}"
         ),
-        Mismatch::NotUnder => f.write_str("the run does not begin with the items of --under"),
+        Mismatch::NotUnder => f.write_str("the list does not begin with the items of --under"),
     }
 }

@@ -1,25 +1,21 @@
 -- This file proves that a chooser by a seed gives the answers that the seed has for a run.
 use Rattle.std.proofs.Common.{◌≡◌, ◌∙◌, ℕ, zero, suc, ◌<◌, List, [], ◌∷◌, ◌++◌, length, refl, sym, ap, arith, subst}
-use Rattle.std.specs.Prelude.{ℤ, pos, Some}
+use Rattle.std.specs.Prelude.{ℤ, Some}
 use Rattle.rand_pcg.specs.Lcg.{Lcg}
 use Rattle.rand_pcg.specs.Pcg.{pcg32}
 use Rattle.ptb_text.specs.Statements.{StoredProgram}
 use Rattle.ptb_answers.specs.Outcome.{Answers, Outcome, Asks}
 use Rattle.ptb_answers.specs.Choices.{Asked, with_answers}
-use Rattle.ptb_answers.specs.Seeds.{SeededAnswers, RefusedForMemory, drawn_answer, drawn_answers, drawn_from, generator_of, seeded_choices}
+use Rattle.ptb_answers.specs.Seeds.{SeededAnswers, RefusedForMemory, drawn_answer, drawn_from, generator_of, seeded_choices}
+use Rattle.ptb_answers.specs.Drawn.{answers_by, to_question}
+use Rattle.ptb_answers.proofs.Drawn.{Few, few_behind}
+use Rattle.ptb_answers.proofs.Seeds.{same_generator}
 use Rattle.ptb_machine.specs.Laws.{RunLaws}
 use Rattle.ptb_answers.specs.declared.rules.Rules.{Rules}
 use Rattle.ptb_machine.specs.Play.{play}
 use Rattle.ptb_machine.specs.Questions.{most_answers}
 use Rattle.ptb_plain.specs.PlainRuns.{GoesBy, IsLed}
-use Rattle.ptb_plain.specs.SeededRuns.{IsDrawn, SeededLaws, answers_by, seeded_answers, to_question}
-
--- where something is asked, fewer answers were given
-abbrev pub Few : {A W : Type 0} → (Answers → Outcome A W) → ℕ → Type 0
-Few {W = W} f most = (q : Answers) (n : ℤ) (w : W) → f q ≡ Asks n w → length q < most
-
-pub few_behind : {A W : Type 0} (f : Answers → Outcome A W) (most : ℕ) (k : ℤ) → Few f (suc most) → Few (λ a. f (k ∷ a)) most
-few_behind f most k few = λ q n w e. let l = few (k ∷ q) n w e in omega (arith, l)
+use Rattle.ptb_plain.specs.SeededRuns.{IsDrawn, SeededLaws, seeded_answers}
 
 -- what is answered begins with what was taken, where that was drawn for its bounds
 pub drawn_first : {A W : Type 0} (most : ℕ) (g : Lcg) (f : Answers → Outcome A W) (ts : Answers) (bs : List ℤ) → Few f most → Asked f ts bs → ts ≡ drawn_from g bs
@@ -41,18 +37,18 @@ drawn_first (suc most) g f (k ∷ ts) (n ∷ bs) few asked e =
 -- ---- a chooser by a seed
 
 -- what it has answered was drawn for the bounds of what it was asked
-taken_drawn : (seed : ℕ) (s t : SeededAnswers) (taken : Answers) (bounds : List ℤ) → s ≡ record { seed = seed; bounds = [] }
-    → seeded_choices t ≡ with_answers taken bounds (seeded_choices s) → taken ≡ drawn_answers seed bounds
+taken_drawn : (seed : ℕ) (s t : SeededAnswers) (taken : Answers) (bounds : List ℤ) → s ≡ record { first = generator_of seed; bounds = [] }
+    → seeded_choices t ≡ with_answers taken bounds (seeded_choices s) → taken ≡ drawn_from (generator_of seed) bounds
 taken_drawn seed s t taken bounds begins e =
-    let choices : seeded_choices t ≡ with_answers taken bounds (seeded_choices (record { seed = seed; bounds = [] })) = e ∙ ap (λ x. with_answers taken bounds (seeded_choices x)) begins in
-    let plan : pos t.seed ∷ [] ≡ pos seed ∷ [] = ap (λ c. c.plan) choices in
-    let answers : drawn_answers t.seed t.bounds ≡ taken = ap (λ c. c.taken) choices in
+    let new : SeededAnswers = record { first = generator_of seed; bounds = [] } in
+    let choices : seeded_choices t ≡ with_answers taken bounds (seeded_choices new) = e ∙ ap (λ x. with_answers taken bounds (seeded_choices x)) begins in
+    let answers : drawn_from t.first t.bounds ≡ taken = ap (λ c. c.taken) choices in
     let kept : Some t.bounds ≡ Some bounds = ap (λ c. c.kept) choices in
-    let same_seed : t.seed ≡ seed = cc in
+    let same_first : t.first ≡ generator_of seed = same_generator new t (ap (λ c. c.plan) choices) in
     let same_bounds : t.bounds ≡ bounds = cc in
-    sym answers ∙ ap (λ x. drawn_answers x t.bounds) same_seed ∙ ap (drawn_answers seed) same_bounds
+    sym answers ∙ ap (λ x. drawn_from x t.bounds) same_first ∙ ap (drawn_from (generator_of seed)) same_bounds
 
-goes_by_seed : RunLaws → (seed : ℕ) (s t : SeededAnswers) (p : StoredProgram) (rules : Rules) → s ≡ record { seed = seed; bounds = [] }
+goes_by_seed : RunLaws → (seed : ℕ) (s t : SeededAnswers) (p : StoredProgram) (rules : Rules) → s ≡ record { first = generator_of seed; bounds = [] }
     → GoesBy RefusedForMemory (seeded_choices s) (seeded_choices t) (λ lines. seeded_answers seed p lines rules) p rules
 goes_by_seed laws seed s t p rules begins lines taken bounds asked grown =
     let few = (laws.reads p lines rules).few in
@@ -60,7 +56,7 @@ goes_by_seed laws seed s t p rules begins lines taken bounds asked grown =
     record { rest = first.0; whole = first.1; ended = λ n h. absurd h; outside = λ k n h. absurd h }
 
 -- whatever answers are drawn from the seed, it goes by them
-pub goes_by_drawn : RunLaws → SeededLaws → (seed : ℕ) (s t : SeededAnswers) (p : StoredProgram) (rules : Rules) → s ≡ record { seed = seed; bounds = [] }
+pub goes_by_drawn : RunLaws → SeededLaws → (seed : ℕ) (s t : SeededAnswers) (p : StoredProgram) (rules : Rules) → s ≡ record { first = generator_of seed; bounds = [] }
     → (answers : List (List ℕ) → Answers) → ((lines : List (List ℕ)) → IsDrawn seed (play p lines rules) (answers lines))
     → GoesBy RefusedForMemory (seeded_choices s) (seeded_choices t) answers p rules
 goes_by_drawn laws seeded seed s t p rules begins answers drawn lines taken bounds asked grown =

@@ -64,7 +64,7 @@ pub record IsUnreadRun (p : StoredProgram) (rules : Rules) (lines : List (List �
   pub shows : ShowsUnread rules.choose (plain p lines rules) a old.shown new.shown
   pub unfailed : new.failures ≡ old.failures
 
--- a source of lines gave some, and these stand behind them; it says what stands after its refusals, and whether the chooser noted that it was refused memory
+-- a source of lines gave some, and these come after them; it says what holds after its refusals, and whether the chooser noted that it was refused memory
 module _ (p : StoredProgram) (rules : Rules) (a : Answers) (refuses : Pause → ℤ → Type 0) (noticed : Bool) (c d : Choices) (old new : ScreenState) (could can : ℕ) (given behind : List (List ℕ)) (unread : ReadFault → Type 0) (left : Option (List (List ℕ)))
     (led : (taken : Answers) (bounds : List ℤ) → Asked (play p (given ++ behind) rules) taken bounds → d ≡ with_answers taken bounds c → IsLed refuses taken a) where
   abbrev refused : Refusal → Type 0
@@ -79,7 +79,7 @@ module _ (p : StoredProgram) (rules : Rules) (a : Answers) (refuses : Pause → 
   abbrev later : Devices
   later = devices d new can rules.choose given
 
-  -- what is left of the answers behind those that were taken, however often the writer has failed
+  -- what is left of the answers after those that were taken, however often the writer has failed
   left_by : (failures : ℕ) (x : Exchange) (left : Answers → Outcome Finish (List ℕ)) → Plays p rules lines before (with_failures failures later) x left → IsLed refuses x.answers a
   left_by failures x left h = led x.answers x.bounds h.leaves.asked h.exchanges.grown
 

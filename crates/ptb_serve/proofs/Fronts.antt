@@ -1,7 +1,7 @@
 -- This file proves why a listing is begun, or isn't.
 use Rattle.std.proofs.Common.{◌≡◌, ◌⊎◌, ◌∙◌, sym, inl, inr, refl, ap, ap₂, List, [], Bool, true, false, Option, Some, None}
 use Rattle.std.specs.Prelude.{ℕ, ◌&&◌}
-use Rattle.std.proofs.lemmas.Bool.{false_from_ne_true, true≢false}
+use Rattle.std.proofs.lemmas.Bool.{false_from_ne_true}
 use Rattle.ptb_answers.specs.Outcome.{Answers, Outcome}
 use Rattle.ptb_machine.specs.Play.{Finish}
 use Rattle.ptb_explore.specs.declared.fault.AfterFault.{AfterFault}
@@ -11,12 +11,13 @@ use Rattle.ptb_explore.specs.declared.fault.UnderFault.TheVariants as unders
 use Rattle.ptb_answers.specs.declared.form.Marked.{Marked}
 use Rattle.ptb_answers.specs.AnswerText.{answers_of}
 use Rattle.ptb_explore.specs.MarkedRuns.{IsMarkedBeginning, IsMarkedRun}
+use Rattle.ptb_explore.specs.declared.mismatch.Mismatch.{Mismatch}
+use Rattle.ptb_explore.specs.Mismatch.{IsItemMismatch, IsRunMismatch}
 use Rattle.ptb_explore.specs.RunTree.{begins_with}
 use Rattle.ptb_serve.specs.declared.note.Note.{Note}
 use Rattle.ptb_serve.specs.declared.note.Note.TheVariants as notes
-use Rattle.ptb_serve.specs.ListMismatches.{RefusesList, items_of}
+use Rattle.ptb_serve.specs.ListMismatches.{IsUnbegun, after_reason, under_reason}
 use Rattle.ptb_serve.specs.Replies.{answers_under, front_note, is_front, is_share, note_of}
-use Rattle.ptb_serve.specs.Serving.{after_note, under_note}
 
 -- ---- tests one behind the other
 
@@ -43,24 +44,6 @@ note_is false front note e = inl cc
 note_is true false note e = inr cc
 note_is true true note e = absurd cc
 
--- and of what
-share_refused : (share front : Bool) → note_of share front ≡ Some notes.NoBeginning → share ≡ false
-share_refused false front e = refl
-share_refused true false e = absurd cc
-share_refused true true e = absurd cc
-
-front_refused : (share front : Bool) → note_of share front ≡ Some notes.NoRun → front ≡ false
-front_refused false front e = absurd cc
-front_refused true false e = refl
-front_refused true true e = absurd cc
-
-module _ (game : Answers → Outcome Finish (List ℕ)) (under after : Option (List Marked)) (note : Note) (refused : RefusesList note → front_note game under after ≡ Some note) where
-  pub refuses_share : note ≡ notes.NoBeginning → is_share game under ≡ false
-  refuses_share e = share_refused (is_share game under) (is_front game (answers_under under) after) (refused (inl e) ∙ ap Some e)
-
-  pub refuses_front : note ≡ notes.NoRun → is_front game (answers_under under) after ≡ false
-  refuses_front e = front_refused (is_share game under) (is_front game (answers_under under) after) (refused (inr e) ∙ ap Some e)
-
 module _ (game : Answers → Outcome Finish (List ℕ)) where
   -- ---- a beginning, and a run
 
@@ -75,16 +58,6 @@ module _ (game : Answers → Outcome Finish (List ℕ)) where
 
   pub front_false : (under : Answers) (list : List Marked) → (IsMarkedRun game list → begins_with (answers_of list) under ≡ true → ⊥) → is_front game under (Some list) ≡ false
   front_false under list none = false_from_ne_true _ (λ h. let p = three_parts _ _ _ h in none (p.0, p.1) p.2)
-
-  pub not_beginning : (under : List Marked) → is_share game (Some under) ≡ false → IsMarkedBeginning game under → ⊥
-  not_beginning under e b = true≢false (sym (share_true under b) ∙ e)
-
-  pub not_run : (under list : List Marked) → is_front game (answers_of under) (Some list) ≡ false → IsMarkedRun game list × (begins_with (answers_of list) (answers_of under) ≡ true) → ⊥
-  not_run under list e h = true≢false (sym (front_true (answers_of under) list h.0 h.1) ∙ e)
-
-  pub items_answers : (under : Option (List Marked)) → answers_under under ≡ answers_of (items_of under)
-  items_answers None = refl
-  items_answers (Some list) = refl
 
   -- ---- a listing that is begun
 
@@ -105,14 +78,18 @@ module _ (game : Answers → Outcome Finish (List ℕ)) where
   pub no_share : (under : List Marked) (after : Option (List Marked)) → (IsMarkedBeginning game under → ⊥) → front_note game (Some under) after ≡ Some notes.NoBeginning
   no_share under after none = ap (λ t. note_of t (is_front game (answers_of under) after)) (share_false under none)
 
-  pub unbegun_after : (under : Option (List Marked)) (list : List Marked) (fault : AfterFault) → is_share game under ≡ true
-      → (fault ≡ afters.NotARun → IsMarkedRun game list → begins_with (answers_of list) (answers_under under) ≡ true → ⊥)
-      → (after_note fault ≡ notes.OutOfMemory) ⊎ (front_note game under (Some list) ≡ Some (after_note fault))
-  unbegun_after under list afters.NotARun share none = inr (no_front under list share (none refl))
-  unbegun_after under list afters.Memory share none = inl refl
+  pub unbegun_after : (list : List Marked) (fault : AfterFault) → ((m : Mismatch) → fault ≡ afters.NotARun m → IsMarkedRun game list → ⊥)
+      → ((m : Mismatch) → fault ≡ afters.NotARun m → IsRunMismatch game [] list m) → IsUnbegun game None (Some list) (after_reason fault)
+  unbegun_after list (afters.NotARun m) none why = (no_front None list refl (λ run _. none m refl run), why m refl)
+  unbegun_after list afters.Memory none why = tt
 
-  pub unbegun_under : (under : List Marked) (after : Option (List Marked)) (fault : UnderFault)
-      → (fault ≡ unders.NoBeginning → IsMarkedBeginning game under → ⊥)
-      → (under_note fault ≡ notes.OutOfMemory) ⊎ (front_note game (Some under) after ≡ Some (under_note fault))
-  unbegun_under under after unders.NoBeginning none = inr (no_share under after (none refl))
-  unbegun_under under after unders.Memory none = inl refl
+  pub unbegun_under_after : (under list : List Marked) (fault : AfterFault) → is_share game (Some under) ≡ true
+      → ((m : Mismatch) → fault ≡ afters.NotARun m → IsMarkedRun game list → begins_with (answers_of list) (answers_of under) ≡ true → ⊥)
+      → ((m : Mismatch) → fault ≡ afters.NotARun m → IsRunMismatch game under list m) → IsUnbegun game (Some under) (Some list) (after_reason fault)
+  unbegun_under_after under list (afters.NotARun m) share none why = (no_front (Some under) list share (none m refl), why m refl)
+  unbegun_under_after under list afters.Memory share none why = tt
+
+  pub unbegun_under : (under : List Marked) (fault : UnderFault) → ((m : Mismatch) → fault ≡ unders.NoBeginning m → IsMarkedBeginning game under → ⊥)
+      → ((m : Mismatch) → fault ≡ unders.NoBeginning m → IsItemMismatch game under m) → (after : Option (List Marked)) → IsUnbegun game (Some under) after (under_reason fault)
+  unbegun_under under (unders.NoBeginning m) none why after = (no_share under after (none m refl), why m refl)
+  unbegun_under under unders.Memory none why after = tt

@@ -8,4 +8,6 @@ pub mod Listed
 pub mod Mismatching
 pub mod Telling
 pub mod Listing
+pub mod Samples
+pub mod Splits
 pub mod Modes

@@ -32,7 +32,7 @@ use Rattle.ptb_options.specs.declared.request.Request.{Request}
 use Rattle.ptb_serve.specs.Loaded.{ReadsInput, ServesProgram}
 use Rattle.ptb_plain.specs.PlainRuns.{IsUnreadable, input_limit}
 use Rattle.ptb_serve.specs.Replies.{Reply, refusal, success, answers_under, first_front, front_note, is_front, is_share, listed_runs, listing_reply, runs_reply, all_reply}
-use Rattle.ptb_serve.specs.Serving.{outcome_of, input_note, reports_note, IsUnloaded, ListsFewerOf, Serves, SilentBy}
+use Rattle.ptb_serve.specs.Serving.{outcome_of, input_note, reports_note, IsPlainRun, IsUnloaded, ListsFewerOf, NeedsInput, Serves, SilentBy}
 use Rattle.ptb_serve.proofs.Fronts.{note_is}
 use Rattle.ptb_plain.proofs.Playing.{takes_beginning}
 use Rattle.ptb_serve.proofs.Served.{at_known, consumes_nothing, lists_loaded, nothing_told, serves_loaded, takes_nothing, replies_refusal}
@@ -40,10 +40,10 @@ use Rattle.ptb_serve.proofs.Served.{at_known, consumes_nothing, lists_loaded, no
 -- ---- nothing was written but the front of what is due
 
 module _ (report : Answers → List ℕ) where
-  text-beginning : (list done rest : List Answers) → list ≡ done ++ rest → Begins (text report done) (text report list)
+  pub text-beginning : (list done rest : List Answers) → list ≡ done ++ rest → Begins (text report done) (text report list)
   text-beginning list done rest e = (text report rest, ap (text report) e ∙ flat_map-append report done rest)
 
-  text-into : (list done : List Answers) (at : Answers) (rest : List Answers) (part unwritten : List ℕ)
+  pub text-into : (list done : List Answers) (at : Answers) (rest : List Answers) (part unwritten : List ℕ)
       → list ≡ done ++ at ∷ rest → report at ≡ part ++ unwritten → Begins (text report done ++ part) (text report list)
   text-into list done at rest part unwritten e cut =
       let next : text report (at ∷ rest) ≡ part ++ (unwritten ++ text report rest) =
@@ -54,7 +54,7 @@ module _ (report : Answers → List ℕ) where
       )
 
 -- what comes before something is shorter than both
-below_both : (beginning rest list : List Answers) → list ≡ beginning ++ rest → (rest ≡ [] → ⊥) → length beginning < length list
+pub below_both : (beginning rest list : List Answers) → list ≡ beginning ++ rest → (rest ≡ [] → ⊥) → length beginning < length list
 below_both beginning [] list e some = absurd (some refl)
 below_both beginning (a ∷ rest) list e some = let l = length-append beginning (a ∷ rest) in rw e (omega (arith, l))
 
@@ -250,7 +250,7 @@ module _ (p : StoredProgram) (rules : Rules) (under after : Option (List Marked)
 
 -- ---- how it is served, for a program that was loaded
 
-zero_within : (r : Result ℕ Note) → OnOk r (r ≡ Ok 0) → IfOk r (λ n. n ≤ 7)
+pub zero_within : (r : Result ℕ Note) → OnOk r (r ≡ Ok 0) → IfOk r (λ n. n ≤ 7)
 zero_within (Ok n) h =
     let e : n ≡ 0 = cc in
     omega arith
@@ -259,6 +259,58 @@ zero_within (Err note) h = tt
 on_ok : (r : Result ℕ Note) (Q : Type 0) → Q → OnOk r Q
 on_ok (Ok n) Q q = q
 on_ok (Err note) Q q = tt
+
+-- ---- an input that is read to its end
+
+module _ (mode : Mode) (plain : IsPlainRun mode → ⊥) (needs : NeedsInput mode) (i j : Option (List ℕ)) (failed fails gave gives : ℕ) where
+  -- once its lines were read
+  pub whole_reads : (result : Result ℕ Note) → IfSome i (λ c. length c ≤ input_limit) → ConsumesAtMost i j (input_limit + 1) → GivesAtMost gave gives (input_limit + 1)
+      → fails ≡ failed → (IsErrOf result notes.InputUnread → ⊥) → ReadsInput mode i j failed fails gave gives result
+  whole_reads result short bounded given same fine = record {
+    within = λ _. on_ok result (IfSome i (λ c. length c ≤ input_limit)) short;
+    taken_within = λ x. absurd (plain x);
+    no_beginning_within = λ _. short;
+    no_run_within = λ _. short;
+    bounded = bounded;
+    given = given;
+    unread = λ x. absurd (fine x);
+    failed_or_given = λ x. absurd (fine x);
+    read = λ _. same;
+    unneeded = λ x. absurd (x needs);
+  }
+
+  -- where they are not
+  module _ {T : Type 0} (fault : ReadFault) (read : IsErrOf {T = T} (Err fault) reads.Read → HasFailed failed fails) where
+    unread_lines : (fault : ReadFault) → (IsErrOf {T = T} (Err fault) reads.Read → HasFailed failed fails) → (IsErrOf {T = T} (Err fault) reads.TooLong → IfSome i (λ c. input_limit < length c))
+        → IsErrOf {T = ℕ} (Err (input_note fault)) notes.InputUnread → IsUnreadable i failed fails
+    unread_lines reads.Read read long x = inl (read refl)
+    unread_lines reads.TooLong read long x = inr (long refl)
+    unread_lines reads.Memory read long x = absurd cc
+
+    told_lines : (fault : ReadFault) → (IsErrOf {T = T} (Err fault) reads.Read → HasFailed failed fails) → (IsErrOf {T = T} (Err fault) reads.TooLong → GivesExactly gave gives (input_limit + 1))
+        → IsErrOf {T = ℕ} (Err (input_note fault)) notes.InputUnread → HasFailed failed fails ⊎ GivesExactly gave gives (input_limit + 1)
+    told_lines reads.Read read long x = inl (read refl)
+    told_lines reads.TooLong read long x = inr (long refl)
+    told_lines reads.Memory read long x = absurd cc
+
+    pub whole_unread : (IsErrOf {T = T} (Err fault) reads.TooLong → IfSome i (λ c. input_limit < length c))
+        → (IsErrOf {T = T} (Err fault) reads.TooLong → GivesExactly gave gives (input_limit + 1))
+        → ((IsErrOf {T = T} (Err fault) reads.Read → ⊥) → fails ≡ failed)
+        → ConsumesAtMost i j (input_limit + 1) → GivesAtMost gave gives (input_limit + 1) → ReadsInput mode i j failed fails gave gives (Err (input_note fault))
+    whole_unread long exactly unfailed bounded given = record {
+      within = λ _. tt;
+      taken_within = λ x. absurd (plain x);
+      no_beginning_within = λ x. absurd (input_note-beginning fault x);
+      no_run_within = λ x. absurd (input_note-start fault x);
+      bounded = bounded;
+      given = given;
+      unread = unread_lines fault read long;
+      failed_or_given = told_lines fault read exactly;
+      read = λ x. unfailed (input_note-read fault x);
+      unneeded = λ x. absurd (x needs);
+    }
+
+-- ---- a listing of runs
 
 module _ (request : Request) (p : StoredProgram) (memory : p.memory ≡ request.memory) (under after : Option (List Marked)) (first : Option ℕ) (form : Form) (i j : Option (List ℕ)) where
   abbrev listing : Mode
@@ -282,58 +334,18 @@ module _ (request : Request) (p : StoredProgram) (memory : p.memory ≡ request.
     loaded = loaded;
   }
 
-  -- where nothing was written, memory may be wanted
-  pub unexplained_listed : (old new : Option (List ℕ)) → Appends old new [] → ServesProgram listing request p i j old new (Err notes.OutOfMemory)
-  unexplained_listed old new nothing =
-      listing_serves old new (Err notes.OutOfMemory) (λ c _. (0, omega arith, nothing)) tt (λ _ _ _. inl nothing) (λ x. absurd cc) tt (λ x. x)
-
   module _ (failed fails gave gives : ℕ) where
     -- once its lines were read
     pub listing_reads : (result : Result ℕ Note) → IfSome i (λ c. length c ≤ input_limit) → ConsumesAtMost i j (input_limit + 1) → GivesAtMost gave gives (input_limit + 1)
         → fails ≡ failed → (IsErrOf result notes.InputUnread → ⊥) → ReadsInput listing i j failed fails gave gives result
-    listing_reads result short bounded given same fine = record {
-      within = λ _. on_ok result (IfSome i (λ c. length c ≤ input_limit)) short;
-      taken_within = λ x. absurd x;
-      no_beginning_within = λ _. short;
-      no_run_within = λ _. short;
-      bounded = bounded;
-      given = given;
-      unread = λ x. absurd (fine x);
-      failed_or_given = λ x. absurd (fine x);
-      read = λ _. same;
-      unneeded = λ x. absurd (x tt);
-    }
+    listing_reads result = whole_reads listing (λ x. x) tt i j failed fails gave gives result
 
     -- where they are not
-    module _ {T : Type 0} (fault : ReadFault) (read : IsErrOf {T = T} (Err fault) reads.Read → HasFailed failed fails) where
-      unread_lines : (fault : ReadFault) → (IsErrOf {T = T} (Err fault) reads.Read → HasFailed failed fails) → (IsErrOf {T = T} (Err fault) reads.TooLong → IfSome i (λ c. input_limit < length c))
-          → IsErrOf {T = ℕ} (Err (input_note fault)) notes.InputUnread → IsUnreadable i failed fails
-      unread_lines reads.Read read long x = inl (read refl)
-      unread_lines reads.TooLong read long x = inr (long refl)
-      unread_lines reads.Memory read long x = absurd cc
-
-      told_lines : (fault : ReadFault) → (IsErrOf {T = T} (Err fault) reads.Read → HasFailed failed fails) → (IsErrOf {T = T} (Err fault) reads.TooLong → GivesExactly gave gives (input_limit + 1))
-          → IsErrOf {T = ℕ} (Err (input_note fault)) notes.InputUnread → HasFailed failed fails ⊎ GivesExactly gave gives (input_limit + 1)
-      told_lines reads.Read read long x = inl (read refl)
-      told_lines reads.TooLong read long x = inr (long refl)
-      told_lines reads.Memory read long x = absurd cc
-
-      pub lines_unread : (IsErrOf {T = T} (Err fault) reads.TooLong → IfSome i (λ c. input_limit < length c))
-          → (IsErrOf {T = T} (Err fault) reads.TooLong → GivesExactly gave gives (input_limit + 1))
-          → ((IsErrOf {T = T} (Err fault) reads.Read → ⊥) → fails ≡ failed)
-          → ConsumesAtMost i j (input_limit + 1) → GivesAtMost gave gives (input_limit + 1) → ReadsInput listing i j failed fails gave gives (Err (input_note fault))
-      lines_unread long exactly unfailed bounded given = record {
-        within = λ _. tt;
-        taken_within = λ x. absurd x;
-        no_beginning_within = λ x. absurd (input_note-beginning fault x);
-        no_run_within = λ x. absurd (input_note-start fault x);
-        bounded = bounded;
-        given = given;
-        unread = unread_lines fault read long;
-        failed_or_given = told_lines fault read exactly;
-        read = λ x. unfailed (input_note-read fault x);
-        unneeded = λ x. absurd (x tt);
-      }
+    pub lines_unread : {T : Type 0} (fault : ReadFault) (read : IsErrOf {T = T} (Err fault) reads.Read → HasFailed failed fails) → (IsErrOf {T = T} (Err fault) reads.TooLong → IfSome i (λ c. input_limit < length c))
+        → (IsErrOf {T = T} (Err fault) reads.TooLong → GivesExactly gave gives (input_limit + 1))
+        → ((IsErrOf {T = T} (Err fault) reads.Read → ⊥) → fails ≡ failed)
+        → ConsumesAtMost i j (input_limit + 1) → GivesAtMost gave gives (input_limit + 1) → ReadsInput listing i j failed fails gave gives (Err (input_note fault))
+    lines_unread {T = T} fault read = whole_unread listing (λ x. x) tt i j failed fails gave gives {T = T} fault read
 
   -- by the writer, which got nothing
   pub unread_listed : (held : Option (List ℕ)) (fault : ReadFault) → ServesProgram listing request p i j held held (Err (input_note fault))

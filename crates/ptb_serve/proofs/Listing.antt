@@ -1,5 +1,5 @@
 -- This file joins all that is told of a listing of runs, by whether it was begun and written to its end.
-use Rattle.std.proofs.Common.{◌≡◌, ◌⊎◌, ℕ, ◌+◌, ◌<◌, List, length, Option, None, Some, Result, Ok, Err, IfErr, IfSome, IsErrOf, inl, inr, refl, ap, sym, subst, ◌∙◌}
+use Rattle.std.proofs.Common.{◌≡◌, ◌⊎◌, ℕ, ◌+◌, ◌<◌, List, length, Option, None, Some, Result, Ok, Err, IfSome, IsErrOf, inl, inr, refl, ap, sym, subst, ◌∙◌}
 use Rattle.std.specs.Result.{IsErrAnd}
 use Rattle.std.proofs.lemmas.Result.{err_from_is_err_and}
 use Rattle.ptb_text.specs.Device.{GivesAtMost, GivesExactly, HasFailed}
@@ -21,15 +21,17 @@ use Rattle.ptb_options.specs.declared.request.Mode.TheVariants as modes
 use Rattle.ptb_options.specs.declared.request.Request.{Request}
 use Rattle.ptb_serve.specs.declared.note.Note.{Note}
 use Rattle.ptb_serve.specs.declared.note.Note.TheVariants as notes
-use Rattle.ptb_serve.specs.ListMismatches.{RefusesList}
-use Rattle.ptb_serve.specs.Loaded.{ReadsInput, ServesProgram, TellsFailures}
+use Rattle.ptb_serve.specs.declared.list_mismatch.Unbegun.{Unbegun}
+use Rattle.ptb_serve.specs.declared.list_mismatch.Unbegun.TheVariants.{Memory, Refused}
+use Rattle.ptb_serve.specs.ListMismatches.{IsUnbegun, mismatch_note, unbegun_attempt}
+use Rattle.ptb_serve.specs.Loaded.{ReadsInput, RefusesListIn, ServesProgram, TellsFailures}
 use Rattle.ptb_plain.specs.PlainRuns.{input_limit}
 use Rattle.ptb_serve.specs.Replies.{answers_under, first_front, front_note}
 use Rattle.ptb_serve.specs.Serving.{input_note, reports_note}
 use Rattle.ptb_serve.proofs.Listed.{all_listed, front_note-other, input_note-written, lines_unread, reports_note-failed, reports_note-read, reports_note-write, some_listed, unbegun_listed, unread_listed}
 
 -- what a `?` gives back is the error
-gives_err : {T E : Type 0} (r : Result T E) (e : E) → IsErrAnd r (λ y. y ≡ e) → r ≡ Err e
+pub gives_err : {T E : Type 0} (r : Result T E) (e : E) → IsErrAnd r (λ y. y ≡ e) → r ≡ Err e
 gives_err r e h =
     let p = err_from_is_err_and r h in
     p.1 ∙ ap Err p.2
@@ -38,8 +40,8 @@ gives_err r e h =
 pub no_fault : {T E : Type 0} (t : T) (e : E) → IsErrOf (Ok t) e → ⊥
 no_fault t e is = cc
 
--- a listing that is begun refuses no list
-reports_refuse_none : (fault : ExploreFault) → RefusesList (reports_note fault) → ⊥
+-- once reports are written, no list is refused
+pub reports_refuse_none : (fault : ExploreFault) → RefusesListIn (Err (reports_note fault)) → ⊥
 reports_refuse_none (explores.Memory n) (inl x) = cc
 reports_refuse_none (explores.Memory n) (inr x) = cc
 reports_refuse_none (explores.Write n) (inl x) = cc
@@ -74,28 +76,23 @@ module _ (request : Request) (p : StoredProgram) (memory : p.memory ≡ request.
       pub serves : (known left : Option (List ℕ)) → IfSome known (λ c. input ≡ input_lines c) → ServesProgram (modes.All under after first form) request p known left old new result
       pub read : IsErrOf result notes.InputUnread → ⊥
       pub failures : TellsFailures broke breaks result
-      pub unbegun : IfErr result (λ note. RefusesList note → front_note (play p input request.rules) under after ≡ Some note)
 
     -- no listing begins so
-    pub listing_unbegun : (held : Option (List ℕ)) (broke : ℕ) (result : Result ℕ Note) (note : Note) → IsErrAnd result (λ n. n ≡ note)
-        → (note ≡ notes.OutOfMemory) ⊎ (front_note (play p input request.rules) under after ≡ Some note)
-        → IsListedOn held held broke broke result
-    listing_unbegun held broke result note is unbegun =
-        subst (IsListedOn held held broke broke) (sym (gives_err result note is))
-        (record {
-          serves = λ known left lines. unbegun_listed request p memory under after first form known left input lines held note unbegun;
-          read = front_note-other (play p input request.rules) under after note notes.InputUnread unbegun (λ x. absurd cc) (λ x. absurd cc) (λ x. absurd cc);
-          failures = record {
-            unwritten = λ x. absurd (front_note-other (play p input request.rules) under after note notes.Unwritten unbegun (λ x. absurd cc) (λ x. absurd cc) (λ x. absurd cc) x);
-            written = λ _. refl;
-          };
-          unbegun = λ refused. by_note unbegun refused;
-        })
-      where
-        by_note : (note ≡ notes.OutOfMemory) ⊎ (front_note (play p input request.rules) under after ≡ Some note) → RefusesList note → front_note (play p input request.rules) under after ≡ Some note
-        by_note (inl e) (inl x) = cc
-        by_note (inl e) (inr x) = cc
-        by_note (inr e) refused = e
+    unbegun_noted : (held : Option (List ℕ)) (broke : ℕ) (note : Note) → (note ≡ notes.OutOfMemory) ⊎ (front_note (play p input request.rules) under after ≡ Some note)
+        → IsListedOn held held broke broke (Err note)
+    unbegun_noted held broke note unbegun = record {
+      serves = λ known left lines. unbegun_listed request p memory under after first form known left input lines held note unbegun;
+      read = front_note-other (play p input request.rules) under after note notes.InputUnread unbegun (λ x. absurd cc) (λ x. absurd cc) (λ x. absurd cc);
+      failures = record {
+        unwritten = λ x. absurd (front_note-other (play p input request.rules) under after note notes.Unwritten unbegun (λ x. absurd cc) (λ x. absurd cc) (λ x. absurd cc) x);
+        written = λ _. refl;
+      };
+    }
+
+    pub listing_unbegun : (held : Option (List ℕ)) (broke : ℕ) (why : Unbegun) → IsUnbegun (play p input request.rules) under after why
+        → IsListedOn held held broke broke (unbegun_attempt why).served
+    listing_unbegun held broke (Refused m) x = unbegun_noted held broke (mismatch_note m) (inr x.0)
+    listing_unbegun held broke Memory x = unbegun_noted held broke notes.OutOfMemory (inl refl)
 
     -- an explorer went on from its front
     module _ (old new : Option (List ℕ)) (broke breaks : ℕ) (e : Exploration) (f : Front)
@@ -117,7 +114,6 @@ module _ (request : Request) (p : StoredProgram) (memory : p.memory ≡ request.
               unwritten = reports_note-failed {T = T} fault failed;
               written = λ x. unfailed (reports_note-write {T = T} fault x);
             };
-            unbegun = λ refused. absurd (reports_refuse_none fault refused);
           })
 
       -- all are
@@ -126,5 +122,4 @@ module _ (request : Request) (p : StoredProgram) (memory : p.memory ≡ request.
         serves = λ known left lines. all_listed request p memory under after first form known left input lines old new e f same begun n writes;
         read = λ x. absurd cc;
         failures = record { unwritten = λ x. absurd cc; written = λ _. unfailed };
-        unbegun = tt;
       }

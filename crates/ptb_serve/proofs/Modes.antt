@@ -19,7 +19,7 @@ use Rattle.ptb_serve.specs.declared.note.Note.{Note}
 use Rattle.ptb_serve.specs.declared.note.Note.TheVariants as notes
 use Rattle.ptb_plain.specs.PlainRuns.{WantsMemory}
 use Rattle.ptb_plain.specs.Streams.{Reads, Writes}
-use Rattle.ptb_serve.specs.Loaded.{IsRunStatus, ReadsInput, ServesProgram, TellsFailures, TellsMismatch}
+use Rattle.ptb_serve.specs.Loaded.{IsRunStatus, ReadsInput, RefusesListIn, ServesProgram, TellsFailures, TellsMismatch}
 use Rattle.ptb_plain.specs.SeededRuns.{seeded_answers}
 use Rattle.ptb_serve.specs.Serving.{NeedsInput}
 use Rattle.ptb_serve.proofs.Listed.{text_reads, text_serves}
@@ -74,6 +74,26 @@ module _ (request : Request) (p : StoredProgram) where
     served_all result mismatch mode under after first form is serves reads tells said =
         subst (IsServedIn input out result mismatch) (sym is)
         (record { serves = serves; reads = reads; failures = tells; mismatch = said; input_kept = λ x. absurd (x tt) })
+
+    -- the lists that split its runs
+    pub served_shares : (result : Result ℕ Note) (mode : Mode) (n : ℕ) (form : Form) → mode ≡ modes.Shares n form
+        → ServesProgram (modes.Shares n form) request p input.bytes input.left out.before out.after result
+        → ReadsInput (modes.Shares n form) input.bytes input.left input.failed input.fails input.gave input.gives result → TellsFailures out.failed out.fails result
+        → (RefusesListIn result → ⊥)
+        → IsServedIn input out result None mode
+    served_shares result mode n form is serves reads tells no_list =
+        subst (IsServedIn input out result None) (sym is)
+        (record { serves = serves; reads = reads; failures = tells; mismatch = none_told _ _ _ _ _ no_list; input_kept = λ x. absurd (x tt) })
+
+    -- a sample of its runs
+    pub served_sample : (result : Result ℕ Note) (mode : Mode) (seed runs : ℕ) (form : Form) → mode ≡ modes.Sample seed runs form
+        → ServesProgram (modes.Sample seed runs form) request p input.bytes input.left out.before out.after result
+        → ReadsInput (modes.Sample seed runs form) input.bytes input.left input.failed input.fails input.gave input.gives result → TellsFailures out.failed out.fails result
+        → (RefusesListIn result → ⊥)
+        → IsServedIn input out result None mode
+    served_sample result mode seed runs form is serves reads tells no_list =
+        subst (IsServedIn input out result None) (sym is)
+        (record { serves = serves; reads = reads; failures = tells; mismatch = none_told _ _ _ _ _ no_list; input_kept = λ x. absurd (x tt) })
 
   -- a listing of its text, which leaves the input alone
   module _ {R : Type 0} (i : R) (known : Option (List ℕ)) (failed gave : ℕ) (out : Writes) (mode : Mode) (is : mode ≡ modes.List) (memory : p.memory ≡ request.memory) where

@@ -15,6 +15,9 @@ use Rattle.ptb_answers.specs.declared.form.Marked.{Marked}
 use Rattle.ptb_answers.specs.AnswerText.{answers_of, items_in}
 use Rattle.ptb_explore.specs.Laws.{ListingLaws, ReportLaws, ShareLaws, TreeLaws}
 use Rattle.ptb_explore.specs.Report.{report_of}
+use Rattle.ptb_explore.specs.Sampling.{SampleLaws}
+use Rattle.ptb_answers.specs.Drawn.{sampled_runs}
+use Rattle.ptb_answers.specs.Seeds.{generator_after, generator_of}
 use Rattle.ptb_explore.specs.RunTree.{IsRun, Before, begins_with, is_left, runs_after}
 use Rattle.ptb_serve.specs.declared.note.Note.{Note}
 use Rattle.ptb_serve.specs.declared.note.Note.TheVariants as notes
@@ -22,8 +25,8 @@ use Rattle.ptb_options.specs.declared.request.Mode.{Mode}
 use Rattle.ptb_options.specs.declared.request.Mode.TheVariants as modes
 use Rattle.ptb_options.specs.declared.request.Request.{Request}
 use Rattle.ptb_plain.specs.SeededRuns.{SeededLaws, seeded_answers}
-use Rattle.ptb_serve.specs.Replies.{Reply, refusal, plain_reply, seeded_reply, answers_under, first_front, front_note, is_front, note_of, all_reply, listing_reply, program_of_text, reply_or_refusal, program_reply, reply_in_mode}
-use Rattle.ptb_serve.specs.ReplyLaws.{ListsRuns, RunReplies, RunsBySeed, ReplyLaws}
+use Rattle.ptb_serve.specs.Replies.{Reply, refusal, plain_reply, seeded_reply, answers_under, first_front, front_note, is_front, note_of, all_reply, listing_reply, runs_drawn, sample_reply, shares_reply, program_of_text, reply_or_refusal, program_reply, reply_in_mode}
+use Rattle.ptb_serve.specs.ReplyLaws.{ListsRuns, RunReplies, RunsBySeed, SamplesBySeed, ReplyLaws}
 use Rattle.ptb_serve.proofs.Fronts.{begun_after, begun_both, begun_under, both_parts, both_true, no_front, no_share, share_true}
 use Rattle.ptb_serve.proofs.Listed.{reply-listed, reply-refused}
 use Rattle.ptb_serve.proofs.Sharing.{share_replies}
@@ -43,6 +46,8 @@ refused_in_mode : (m : Mode) (r : Request) (b c : List ℕ) (e : ℕ × LoadFaul
 refused_in_mode (modes.Plain a) r b c e h = refused r.memory b (plain_reply r.rules a c) e h
 refused_in_mode (modes.Seeded seed) r b c e h = refused r.memory b (seeded_reply r.rules seed c) e h
 refused_in_mode (modes.All under after first form) r b c e h = refused r.memory b (λ p. all_reply p (input_lines c) r.rules under after first form) e h
+refused_in_mode (modes.Shares answers form) r b c e h = refused r.memory b (λ p. shares_reply p (input_lines c) r.rules answers form) e h
+refused_in_mode (modes.Sample seed runs form) r b c e h = refused r.memory b (λ p. sample_reply p (input_lines c) r.rules seed runs form) e h
 refused_in_mode modes.List r b c e h = refused r.memory b listing_reply e h
 
 -- ---- a text that is accepted
@@ -54,7 +59,7 @@ accepted memory b next p h = ap (reply_or_refusal next memory) h
 module _ (p : StoredProgram) (c : List ℕ) (rules : Rules) (tree : TreeLaws (play p (input_lines c) rules) (most_answers p (input_lines c) rules.limit))
     (laws : ListingLaws (play p (input_lines c) rules) (most_answers p (input_lines c) rules.limit)) (share : ShareLaws (play p (input_lines c) rules) (most_answers p (input_lines c) rules.limit))
     (reports : ReportLaws (play p (input_lines c) rules) (most_answers p (input_lines c) rules.limit))
-    (reads : IsReader (play p (input_lines c) rules) (most_answers p (input_lines c) rules.limit)) (drawn : SeededLaws) where
+    (reads : IsReader (play p (input_lines c) rules) (most_answers p (input_lines c) rules.limit)) (drawn : SeededLaws) (samples : SampleLaws (play p (input_lines c) rules) (most_answers p (input_lines c) rules.limit)) where
   abbrev game : Answers → Outcome Finish (List ℕ)
   game = play p (input_lines c) rules
 
@@ -94,11 +99,26 @@ module _ (p : StoredProgram) (c : List ℕ) (rules : Rules) (tree : TreeLaws (pl
     same = seeded ∙ sym (plain (seeded_answers seed p (input_lines c) rules));
   }
 
+  -- where the reply to a sample is that of the definition
+  samples_by_seed : (seed n : ℕ) (reply : Form → Reply) → ((form : Form) → reply form ≡ sample_reply p (input_lines c) rules seed n form) → SamplesBySeed seed game n reply
+  samples_by_seed seed n reply sampled = record {
+    runs = runs_drawn game (most_answers p (input_lines c) rules.limit) seed n;
+    count = samples.count (generator_of seed) n;
+    members = samples.runs (generator_of seed) n;
+    drawn = samples.words (generator_of seed) n;
+    first = λ a later e d. (
+      sampled_runs (most_answers p (input_lines c) rules.limit) game (generator_after (generator_of seed) (length a)) later,
+      ap (runs_drawn game (most_answers p (input_lines c) rules.limit) seed) e ∙ samples.first (generator_of seed) a later d,
+    );
+    reports = sampled;
+  }
+
   run_replies : (reply : Mode → Reply) → ((a : Answers) → reply (modes.Plain a) ≡ plain_reply rules a c p)
       → ((seed : ℕ) → reply (modes.Seeded seed) ≡ seeded_reply rules seed c p)
       → ((under after : Option (List Marked)) (first : Option ℕ) (form : Form) → reply (modes.All under after first form) ≡ all_reply p (input_lines c) rules under after first form)
+      → ((seed runs : ℕ) (form : Form) → reply (modes.Sample seed runs form) ≡ sample_reply p (input_lines c) rules seed runs form)
       → RunReplies game (most_answers p (input_lines c) rules.limit) reply
-  run_replies reply plain seeded all = record {
+  run_replies reply plain seeded all sample = record {
     tree = tree;
     all_runs = lists_runs None None refl (IsRun game) (λ a. (λ h. h.0, λ h. (h, refl))) (λ first form. reply (modes.All None None first form)) (all None None);
     runs_after = λ list run.
@@ -125,6 +145,7 @@ module _ (p : StoredProgram) (c : List ℕ) (rules : Rules) (tree : TreeLaws (pl
     run_report = λ form a f ends. ap (report_of (items_in form a (bounds game a))) ends;
     plain_run = plain;
     seeded_run = λ seed. runs_by_seed reply plain seed (seeded seed);
+    sampled = λ seed runs. samples_by_seed seed runs (λ form. reply (modes.Sample seed runs form)) (λ form. sample seed runs form);
   }
 
 -- ---- all of them
@@ -133,17 +154,19 @@ pub reply_laws : RunLaws → SeededLaws
     → ((p : StoredProgram) (input : List (List ℕ)) (rules : Rules) → TreeLaws (play p input rules) (most_answers p input rules.limit))
     → ((p : StoredProgram) (input : List (List ℕ)) (rules : Rules) → ListingLaws (play p input rules) (most_answers p input rules.limit))
     → ((p : StoredProgram) (input : List (List ℕ)) (rules : Rules) → ShareLaws (play p input rules) (most_answers p input rules.limit))
-    → ((p : StoredProgram) (input : List (List ℕ)) (rules : Rules) → ReportLaws (play p input rules) (most_answers p input rules.limit)) → ReplyLaws
-reply_laws runs drawn tree laws share reports = record {
+    → ((p : StoredProgram) (input : List (List ℕ)) (rules : Rules) → ReportLaws (play p input rules) (most_answers p input rules.limit))
+    → ((p : StoredProgram) (input : List (List ℕ)) (rules : Rules) → SampleLaws (play p input rules) (most_answers p input rules.limit)) → ReplyLaws
+reply_laws runs drawn tree laws share reports samples = record {
   too_long = λ r b c long. refused_in_mode r.mode r b c (0, TooLong) (too_long_text r.memory b long);
   refused = λ r b c e h. refused_in_mode r.mode r b c e h;
   accepted = λ memory size rules b c p h.
       run_replies (record { lines = p; memory = memory }) c rules (tree (record { lines = p; memory = memory }) (input_lines c) rules)
       (laws (record { lines = p; memory = memory }) (input_lines c) rules) (share (record { lines = p; memory = memory }) (input_lines c) rules)
       (reports (record { lines = p; memory = memory }) (input_lines c) rules)
-      (runs.reads (record { lines = p; memory = memory }) (input_lines c) rules) drawn _
+      (runs.reads (record { lines = p; memory = memory }) (input_lines c) rules) drawn (samples (record { lines = p; memory = memory }) (input_lines c) rules) _
       (λ a. accepted memory b (plain_reply rules a c) p h)
       (λ seed. accepted memory b (seeded_reply rules seed c) p h)
-      (λ under after first form. accepted memory b (λ p. all_reply p (input_lines c) rules under after first form) p h);
+      (λ under after first form. accepted memory b (λ p. all_reply p (input_lines c) rules under after first form) p h)
+      (λ seed runs form. accepted memory b (λ p. sample_reply p (input_lines c) rules seed runs form) p h);
   listed = λ r b c p h mode. ap (λ m. reply_in_mode m r b c) mode ∙ accepted r.memory b listing_reply p h;
 }

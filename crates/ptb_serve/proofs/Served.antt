@@ -27,7 +27,7 @@ use Rattle.ptb_serve.specs.Statuses.{note_status}
 use Rattle.ptb_plain.specs.PlainRuns.{ShowsRun, lines_come, ShowsUnread, ending_wanted, lines_taken, lines_wanted, ReadsFor}
 use Rattle.ptb_plain.specs.Streams.{Reads, Writes}
 use Rattle.ptb_serve.specs.Replies.{Reply, refusal, run_reply, program_of_text, reply_or_refusal, program_reply}
-use Rattle.ptb_serve.specs.Serving.{outcome_of, EndsUnread, ReadsBy, outcome_wanted, wanted_by, load_note, AsksForMore, IsUnloaded, ListsFewerOf, ReadsForRun, Replies, Serves, SilentBy, SilentWithoutMemory, StopsForMemory, TellsLength, TellsRefusal, load_fault_note, seeded_taken}
+use Rattle.ptb_serve.specs.Serving.{outcome_of, EndsUnread, ReadsBy, outcome_wanted, wanted_by, load_note, AsksForMore, IsUnloaded, ListsFewerOf, ReadsForRun, Replies, SamplesFewerOf, Serves, SilentBy, SilentWithoutMemory, SplitsFewerOf, StopsForMemory, TellsLength, TellsRefusal, load_fault_note, seeded_taken}
 
 -- ---- the program of a text
 
@@ -86,6 +86,8 @@ stops_at_once : (mode : Mode) (request : Request) (b c : List ℕ) (held : Optio
 stops_at_once (modes.Plain a) request b c held = tt
 stops_at_once (modes.Seeded seed) request b c held = nothing_of_program held (program_of_text request.memory b) _
 stops_at_once (modes.All under after first form) request b c held = nothing_of_program held (program_of_text request.memory b) _
+stops_at_once (modes.Shares answers form) request b c held = nothing_of_program held (program_of_text request.memory b) _
+stops_at_once (modes.Sample seed runs form) request b c held = nothing_of_program held (program_of_text request.memory b) _
 stops_at_once modes.List request b c held = tt
 
 pub stops_unloaded : (mode : Mode) (request : Request) (known : Option (List ℕ)) (c : List ℕ) (held : Option (List ℕ)) → IfSome known (λ b. StopsForMemory mode request b c held held)
@@ -187,6 +189,8 @@ load_note-silent mode held e = by_fault e.1 where
   without_memory (modes.Plain a) = Appends-nil held
   without_memory (modes.Seeded seed) = tt
   without_memory (modes.All under after first form) = tt
+  without_memory (modes.Shares answers form) = tt
+  without_memory (modes.Sample seed runs form) = tt
   without_memory modes.List = Appends-nil held
 
   by_fault : (fault : LoadFault) → SilentBy mode (Some (load_note (e.0, fault))) held held
@@ -292,6 +296,24 @@ lists_loaded request b c p under after first form old new h e lists =
     rw (program_of_text-ok request.memory b p.lines h)
     (subst (λ q. Appends old new [] ⊎ ListsFewerOf q (input_lines c) request.rules under after first form old new) (sym stored) lists)
 
+-- the lists that split the runs of a loaded program
+pub splits_loaded : (request : Request) (b c : List ℕ) (p : StoredProgram) (n : ℕ) (form : Form) (old new : Option (List ℕ))
+    → IsLoaded request.memory b p.lines → p.memory ≡ request.memory → Appends old new [] ⊎ SplitsFewerOf p (input_lines c) request.rules n form old new
+    → StopsForMemory (modes.Shares n form) request b c old new
+splits_loaded request b c p n form old new h e splits =
+    let stored : record { lines = p.lines; memory = request.memory } ≡ p = ap (λ m. record p { memory = m }) (sym e) in
+    rw (program_of_text-ok request.memory b p.lines h)
+    (subst (λ q. Appends old new [] ⊎ SplitsFewerOf q (input_lines c) request.rules n form old new) (sym stored) splits)
+
+-- a sample of a loaded program
+pub samples_loaded : (request : Request) (b c : List ℕ) (p : StoredProgram) (seed runs : ℕ) (form : Form) (old new : Option (List ℕ))
+    → IsLoaded request.memory b p.lines → p.memory ≡ request.memory → Appends old new [] ⊎ SamplesFewerOf p (input_lines c) request.rules seed runs form old new
+    → StopsForMemory (modes.Sample seed runs form) request b c old new
+samples_loaded request b c p seed runs form old new h e samples =
+    let stored : record { lines = p.lines; memory = request.memory } ≡ p = ap (λ m. record p { memory = m }) (sym e) in
+    rw (program_of_text-ok request.memory b p.lines h)
+    (subst (λ q. Appends old new [] ⊎ SamplesFewerOf q (input_lines c) request.rules seed runs form old new) (sym stored) samples)
+
 -- a run of a loaded program by a seed
 pub asks_loaded : (request : Request) (b c : List ℕ) (p : StoredProgram) (seed : ℕ) (old new : Option (List ℕ))
     → IsLoaded request.memory b p.lines → p.memory ≡ request.memory → Appends old new [] ⊎ AsksForMore p (input_lines c) request.rules seed old new
@@ -366,6 +388,8 @@ takes_nothing_in mode request None known outcome = tt
 takes_nothing_in (modes.Plain a) request (Some b) known outcome = reads_nothing request (λ p lines. lines_taken p lines request.rules a) b known outcome
 takes_nothing_in (modes.Seeded seed) request (Some b) known outcome = reads_nothing request (λ p lines. seeded_taken seed p lines request.rules) b known outcome
 takes_nothing_in (modes.All under after first form) request (Some b) known outcome = nothing_told known
+takes_nothing_in (modes.Shares answers form) request (Some b) known outcome = nothing_told known
+takes_nothing_in (modes.Sample seed runs form) request (Some b) known outcome = nothing_told known
 takes_nothing_in modes.List request (Some b) known outcome = nothing_told known
 
 -- by the outcome as by the result

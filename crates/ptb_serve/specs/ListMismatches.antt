@@ -1,32 +1,36 @@
 -- This file defines why a list of the request fits no run.
 --     mismatch_note m                      the note that it accompanies
---     RefusesList note                     the note refuses a list
 --     items_of list                        the items of a list; one that is not named has none
 --     IsMismatchIn game under after m      m says why one of these lists fits no run
 --     IsMismatchOf mode p input rules m    the same, of the lists of a request
---     Explains game under after note a     the attempt a ends with the note, and says why a list fits no run where one is refused
---     WantsMemoryFor note a                there was no memory to say it
-use Rattle.std.specs.Prelude.{◌≡◌, ◌⊎◌, ℕ, List, [], Option, Some, None, Err, IfSome, IsSome}
+--     under_reason e, after_reason e       why a listing is not begun with some answers, or after a run
+--     unbegun_attempt why                  what the attempt of a listing that is not begun comes to
+--     IsUnbegun game under after why       a list is refused by its note, and for what it does not fit; or memory was refused
+use Rattle.std.specs.Prelude.{◌≡◌, ℕ, List, [], Option, Some, None, Err}
 use Rattle.ptb_text.specs.Statements.{StoredProgram}
 use Rattle.ptb_answers.specs.Outcome.{Answers, Outcome}
 use Rattle.ptb_answers.specs.declared.form.Marked.{Marked}
 use Rattle.ptb_answers.specs.declared.rules.Rules.{Rules}
 use Rattle.ptb_machine.specs.Play.{Finish, play}
+use Rattle.ptb_explore.specs.declared.fault.AfterFault.{AfterFault}
+use Rattle.ptb_explore.specs.declared.fault.AfterFault.TheVariants as afters
+use Rattle.ptb_explore.specs.declared.fault.UnderFault.{UnderFault}
+use Rattle.ptb_explore.specs.declared.fault.UnderFault.TheVariants as unders
 use Rattle.ptb_explore.specs.Mismatch.{IsItemMismatch, IsRunMismatch}
 use Rattle.ptb_options.specs.declared.request.Mode.{Mode}
 use Rattle.ptb_options.specs.declared.request.Mode.TheVariants as modes
 use Rattle.ptb_serve.specs.declared.attempt.Attempt.{Attempt}
 use Rattle.ptb_serve.specs.declared.list_mismatch.ListMismatch.{ListMismatch}
 use Rattle.ptb_serve.specs.declared.list_mismatch.ListMismatch.TheVariants.{Under, After}
+use Rattle.ptb_serve.specs.declared.list_mismatch.Unbegun.{Unbegun}
+use Rattle.ptb_serve.specs.declared.list_mismatch.Unbegun.TheVariants.{Refused, Memory}
 use Rattle.ptb_serve.specs.declared.note.Note.{Note}
 use Rattle.ptb_serve.specs.declared.note.Note.TheVariants as notes
+use Rattle.ptb_serve.specs.Replies.{front_note}
 
 abbrev pub mismatch_note : ListMismatch → Note
 mismatch_note (Under m) = notes.NoBeginning
 mismatch_note (After m) = notes.NoRun
-
-abbrev pub RefusesList : Note → Type 0
-RefusesList note = (note ≡ notes.NoBeginning) ⊎ (note ≡ notes.NoRun)
 
 abbrev pub items_of : Option (List Marked) → List Marked
 items_of None = []
@@ -42,15 +46,25 @@ abbrev pub IsMismatchOf : Mode → StoredProgram → List (List ℕ) → Rules �
 IsMismatchOf (modes.Plain a) p input rules m = ⊥
 IsMismatchOf (modes.Seeded seed) p input rules m = ⊥
 IsMismatchOf (modes.All under after first form) p input rules m = IsMismatchIn (play p input rules) under after m
+IsMismatchOf (modes.Shares answers form) p input rules m = ⊥
+IsMismatchOf (modes.Sample seed runs form) p input rules m = ⊥
 IsMismatchOf modes.List p input rules m = ⊥
 
-pub record Explains (game : Answers → Outcome Finish (List ℕ)) (under after : Option (List Marked)) (note : Note) (attempt : Attempt) : Type 0 where
-  pub served : attempt.served ≡ Err note
-  pub said : RefusesList note → IsSome attempt.mismatch
-  pub noted : IfSome attempt.mismatch (λ m. note ≡ mismatch_note m)
-  pub fits : IfSome attempt.mismatch (IsMismatchIn game under after)
+-- ---- a listing that is not begun
 
-pub record WantsMemoryFor (note : Note) (attempt : Attempt) : Type 0 where
-  pub refused : RefusesList note
-  pub served : attempt.served ≡ Err notes.OutOfMemory
-  pub unsaid : attempt.mismatch ≡ None
+abbrev pub under_reason : UnderFault → Unbegun
+under_reason (unders.NoBeginning m) = Refused (Under m)
+under_reason unders.Memory = Memory
+
+abbrev pub after_reason : AfterFault → Unbegun
+after_reason (afters.NotARun m) = Refused (After m)
+after_reason afters.Memory = Memory
+
+-- a list that fits no run is refused, and it is said why
+abbrev pub unbegun_attempt : Unbegun → Attempt
+unbegun_attempt (Refused m) = record { served = Err (mismatch_note m); mismatch = Some m }
+unbegun_attempt Memory = record { served = Err notes.OutOfMemory; mismatch = None }
+
+abbrev pub IsUnbegun : (Answers → Outcome Finish (List ℕ)) → Option (List Marked) → Option (List Marked) → Unbegun → Type 0
+IsUnbegun game under after (Refused m) = (front_note game under after ≡ Some (mismatch_note m)) × IsMismatchIn game under after m
+IsUnbegun game under after Memory = Unit {0}

@@ -14,8 +14,11 @@ use Rattle.ptb_machine.specs.Questions.{most_answers}
 use Rattle.ptb_answers.specs.declared.form.Form.{Form}
 use Rattle.ptb_answers.specs.declared.form.Marked.{Marked}
 use Rattle.ptb_answers.specs.AnswerText.{answers_of}
+use Rattle.ptb_answers.specs.Drawn.{sampled_runs}
+use Rattle.ptb_answers.specs.Seeds.{generator_of}
 use Rattle.ptb_explore.specs.MarkedRuns.{states_bounds}
 use Rattle.ptb_explore.specs.RunTree.{Front, Start, At, begins_with, runs_left}
+use Rattle.ptb_explore.specs.Beginnings.{beginning_line, beginnings}
 use Rattle.ptb_explore.specs.Listing.{text}
 use Rattle.ptb_explore.specs.Report.{report}
 use Rattle.ptb_serve.specs.declared.note.Note.{Note}
@@ -123,6 +126,22 @@ runs_reply game most under after first form =
 abbrev pub all_reply : StoredProgram → List (List ℕ) → Rules → Option (List Marked) → Option (List Marked) → Option ℕ → Form → Reply
 all_reply p input rules under after first form = runs_reply (play p input rules) (most_answers p input rules.limit) under after first form
 
+-- ---- the lists that split all runs
+
+-- those of at most n answers, a line each
+abbrev pub shares_reply : StoredProgram → List (List ℕ) → Rules → ℕ → Form → Reply
+shares_reply p input rules n form = success (text (beginning_line form (play p input rules)) (beginnings n (play p input rules)))
+
+-- ---- a sample
+
+-- the runs that a seed draws, one after the other, where none has more answers than `most`
+abbrev pub runs_drawn : (Answers → Outcome Finish (List ℕ)) → ℕ → ℕ → ℕ → List Answers
+runs_drawn game most seed runs = sampled_runs most game (generator_of seed) runs
+
+-- their reports
+abbrev pub sample_reply : StoredProgram → List (List ℕ) → Rules → ℕ → ℕ → Form → Reply
+sample_reply p input rules seed runs form = success (text (report form (play p input rules)) (runs_drawn (play p input rules) (most_answers p input rules.limit) seed runs))
+
 -- ---- the whole tool
 
 -- the reply for a program that was loaded
@@ -130,6 +149,8 @@ abbrev pub program_reply_in_mode : Mode → Rules → List ℕ → StoredProgram
 program_reply_in_mode (modes.Plain a) rules c = plain_reply rules a c
 program_reply_in_mode (modes.Seeded seed) rules c = seeded_reply rules seed c
 program_reply_in_mode (modes.All under after first form) rules c = λ p. all_reply p (input_lines c) rules under after first form
+program_reply_in_mode (modes.Shares answers form) rules c = λ p. shares_reply p (input_lines c) rules answers form
+program_reply_in_mode (modes.Sample seed runs form) rules c = λ p. sample_reply p (input_lines c) rules seed runs form
 program_reply_in_mode modes.List rules c = listing_reply
 
 abbrev pub reply_in_mode : Mode → Request → List ℕ → List ℕ → Reply

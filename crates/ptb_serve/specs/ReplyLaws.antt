@@ -1,10 +1,11 @@
 -- This file states the laws of replies.
 --     ListsRuns play IsListed reply    the replies to a listing are the reports of these runs, or of the first n of them
 --     RunsBySeed seed play reply       the reply to a run by a seed is that to one plain run, whose answers are drawn from the seed
+--     SamplesBySeed seed play n reply  the replies to a sample are the reports of n runs that are drawn by the words of the seed's generator
 --     ShareReplies play reply          the replies to the shares of a tree: to the runs that begin with some answers
 --     RunReplies play most reply       what the replies are where a program is run, once or with all answers
 --     ReplyLaws                        what a reply is for every program text and every input
-use Rattle.std.specs.Prelude.{◌≡◌, true, ℕ, ◌<◌, List, [], ◌∷◌, ◌++◌, length, take, Option, Some, None, Ok, Err, ◌↔◌, Contains, ℤ}
+use Rattle.std.specs.Prelude.{◌≡◌, true, ℕ, suc, ◌<◌, List, [], ◌∷◌, ◌++◌, length, take, Option, Some, None, Ok, Err, ◌↔◌, Contains, ℤ}
 use Rattle.std.specs.List.{flat_map}
 use Rattle.ptb_text.specs.declared.fault.LoadFault.{LoadFault}
 use Rattle.ptb_text.specs.declared.fault.LoadFault.TheVariants.{TooLong}
@@ -17,11 +18,13 @@ use Rattle.ptb_machine.specs.Questions.{most_answers}
 use Rattle.ptb_answers.specs.declared.form.Form.{Form}
 use Rattle.ptb_answers.specs.declared.form.Marked.{Marked}
 use Rattle.ptb_answers.specs.AnswerText.{answers_of, items_in, without_bound}
+use Rattle.ptb_answers.specs.Seeds.{drawn_answers}
 use Rattle.ptb_explore.specs.Laws.{ReportLaws, TreeLaws}
 use Rattle.ptb_explore.specs.Listing.{text}
 use Rattle.ptb_explore.specs.MarkedRuns.{IsMarkedBeginning, IsMarkedRun}
 use Rattle.ptb_report.specs.Report.{report_text}
 use Rattle.ptb_explore.specs.Report.{report, word_of}
+use Rattle.ptb_explore.specs.Sampling.{concatenated}
 use Rattle.ptb_explore.specs.RunTree.{IsRun, Before, IsRising, answers_to, begins_with}
 use Rattle.ptb_serve.specs.declared.note.Note.TheVariants as notes
 use Rattle.ptb_options.specs.declared.request.Mode.{Mode}
@@ -49,6 +52,19 @@ pub record RunsBySeed (seed : ℕ) (play : Answers → Outcome Finish (List ℕ)
   pub only : (a : Answers) → IsDrawn seed play a → a ≡ answers
   -- the reply is that to a plain run with these answers
   pub same : reply (modes.Seeded seed) ≡ reply (modes.Plain answers)
+
+-- A seed draws runs one after the other, each by the words that the runs before it left.
+pub record SamplesBySeed (seed : ℕ) (play : Answers → Outcome Finish (List ℕ)) (n : ℕ) (reply : Form → Reply) : Type 0 where
+  pub runs : List Answers
+  pub count : length runs ≡ n
+  pub members : (a : Answers) → Contains runs a → IsRun play a
+  -- the words of the seed's generator, one after the other, draw the answers of all of them for the bounds of their questions: no word
+  -- is left out, and none serves two answers
+  pub drawn : concatenated runs ≡ drawn_answers seed (flat_map (bounds play) runs)
+  -- the first of them is the run by the seed
+  pub first : (a : Answers) (later : ℕ) → n ≡ suc later → IsDrawn seed play a → (rest : List Answers) × (runs ≡ a ∷ rest)
+  -- the report of each is written in this order, and the status is 0
+  pub reports : (form : Form) → reply form ≡ success (text (report form play) runs)
 
 -- A share of all runs are those that begin with some answers.
 pub record ShareReplies (play : Answers → Outcome Finish (List ℕ)) (reply : Mode → Reply) : Type 0 where
@@ -99,6 +115,8 @@ pub record RunReplies (play : Answers → Outcome Finish (List ℕ)) (most : ℕ
   pub plain_run : (a : Answers) → reply (modes.Plain a) ≡ run_reply (plain_of (play a))
   -- a run by a seed is a plain run with the answers that are drawn from the seed
   pub seeded_run : (seed : ℕ) → RunsBySeed seed play reply
+  -- a sample is the reports of as many runs as are asked for, which the seed draws one after the other
+  pub sampled : (seed runs : ℕ) → SamplesBySeed seed play runs (λ form. reply (modes.Sample seed runs form))
 
 pub record ReplyLaws : Type 0 where
   -- a text that is too long is refused as a whole, whatever is asked for and whatever stands in it
@@ -114,7 +132,8 @@ pub record ReplyLaws : Type 0 where
   -- reply is this for the runs that begin so. Where no run begins so, or a bound isn't that of its question, nothing is written,
   -- and the status is 67. With `--first n` it is the first n of the same reports. The status of these replies is 0, except where
   -- 67 is named. The reply to a plain run is what play shows with its answers, and the status is that of the ending. A run by a seed
-  -- is a plain run with the answers that are drawn from the seed.
+  -- is a plain run with the answers that are drawn from the seed. With `--sample n` the reply is the reports of n runs: the first is the
+  -- run by the seed, and each later one is drawn by the words that the runs before it left.
   pub accepted :
       (memory : ℕ) (size : IsMemorySize memory) (rules : Rules) (b c : List ℕ) (p : Statements) → program_of_text memory b ≡ Ok p
       → RunReplies (play (record { lines = p; memory = memory }) (input_lines c) rules) (most_answers (record { lines = p; memory = memory }) (input_lines c) rules.limit)

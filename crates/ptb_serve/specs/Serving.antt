@@ -2,8 +2,6 @@
 --     outcome_of result                 the outcome of a status or a note
 --     load_note e                       the note of a program that is not loaded
 --     input_note e                      the note of an input that is not read
---     under_note e                      the note of a listing that isn't begun with some answers
---     after_note e                      the note of a listing that isn't begun after a run
 --     reports_note e                    the note of reports that are not all written
 --     Serves reply old new outcome      the reply is given, or it is broken off
 --     IsUnloaded note                   the program was not read, or its text is refused
@@ -11,7 +9,7 @@
 --     TellsLength old new note          a text is noted as too long where one byte too many was given
 --     SilentBy mode note old new        nothing was written, unless what was due was broken off
 --     WritesFewer report due old new    the reports of the first of these runs were written, and fewer than all
---     StopsForMemory mode ..            what was written of a listing, or of a run by a seed, where memory was refused
+--     StopsForMemory mode ..            what was written of a listing, of a sample, or of a run by a seed, where memory was refused
 --     EndsUnread choose reply others old new    what was written of the reply to a run that couldn't read a line
 --     ServesUnread mode ..              what was written where the input could not be read
 --     wanted_by choose all k outcome    how many of all lines a run wanted that takes k
@@ -36,12 +34,9 @@ use Rattle.ptb_answers.specs.declared.form.Form.{Form}
 use Rattle.ptb_answers.specs.declared.form.Marked.{Marked}
 use Rattle.ptb_machine.specs.Play.{plain, play, status}
 use Rattle.ptb_machine.specs.Questions.{most_answers}
+use Rattle.ptb_explore.specs.Beginnings.{beginning_line, beginnings}
 use Rattle.ptb_explore.specs.Listing.{text}
 use Rattle.ptb_explore.specs.Report.{report}
-use Rattle.ptb_explore.specs.declared.fault.AfterFault.{AfterFault}
-use Rattle.ptb_explore.specs.declared.fault.AfterFault.TheVariants as afters
-use Rattle.ptb_explore.specs.declared.fault.UnderFault.{UnderFault}
-use Rattle.ptb_explore.specs.declared.fault.UnderFault.TheVariants as unders
 use Rattle.ptb_explore.specs.declared.fault.ExploreFault.{ExploreFault}
 use Rattle.ptb_explore.specs.declared.fault.ExploreFault.TheVariants as explores
 use Rattle.ptb_serve.specs.declared.note.Note.{Note}
@@ -52,7 +47,7 @@ use Rattle.ptb_serve.specs.declared.service.Outcome.{Outcome}
 use Rattle.ptb_serve.specs.Statuses.{note_status}
 use Rattle.ptb_options.specs.declared.request.Request.{Request}
 use Rattle.ptb_plain.specs.PlainRuns.{ReadsFor, ShowsQuestion, lines_come, lines_taken}
-use Rattle.ptb_serve.specs.Replies.{Reply, lines_reply, seeded_lines_reply, program_of_text, program_reply, runs_due}
+use Rattle.ptb_serve.specs.Replies.{Reply, lines_reply, seeded_lines_reply, program_of_text, program_reply, runs_drawn, runs_due}
 use Rattle.ptb_plain.specs.SeededRuns.{seeded_answers}
 
 -- ---- outcomes
@@ -75,14 +70,6 @@ abbrev pub input_note : ReadFault → Note
 input_note reads.Read = notes.InputUnread
 input_note reads.TooLong = notes.InputUnread
 input_note reads.Memory = notes.OutOfMemory
-
-abbrev pub under_note : UnderFault → Note
-under_note unders.NoBeginning = notes.NoBeginning
-under_note unders.Memory = notes.OutOfMemory
-
-abbrev pub after_note : AfterFault → Note
-after_note afters.NotARun = notes.NoRun
-after_note afters.Memory = notes.OutOfMemory
 
 abbrev pub reports_note : ExploreFault → Note
 reports_note (explores.Memory n) = notes.OutOfMemory
@@ -111,11 +98,13 @@ ServesBy (Some note) status reply old new = IsReply reply old new status (Some n
 abbrev pub Serves : Reply → Option (List ℕ) → Option (List ℕ) → Outcome → Type 0
 Serves reply old new outcome = ServesBy outcome.note outcome.status reply old new
 
--- memory is asked for before anything is written, and where runs are listed between their reports, and for the answers of a seed, too
+-- memory is asked for before anything is written, and where runs are listed or sampled between their reports, and for the answers of a seed, too
 abbrev pub SilentWithoutMemory : Mode → Option (List ℕ) → Option (List ℕ) → Type 0
 SilentWithoutMemory (modes.Plain a) old new = Appends old new []
 SilentWithoutMemory (modes.Seeded seed) old new = Unit {0}
 SilentWithoutMemory (modes.All under after first form) old new = Unit {0}
+SilentWithoutMemory (modes.Shares answers form) old new = Unit {0}
+SilentWithoutMemory (modes.Sample seed runs form) old new = Unit {0}
 SilentWithoutMemory modes.List old new = Appends old new []
 
 -- nothing was written, unless a note says that a write failed, that no memory was left for the next report,
@@ -137,6 +126,13 @@ pub record WritesFewer (report : Answers → List ℕ) (due : List Answers) (old
 abbrev pub ListsFewerOf : StoredProgram → List (List ℕ) → Rules → Option (List Marked) → Option (List Marked) → Option ℕ → Form → Option (List ℕ) → Option (List ℕ) → Type 0
 ListsFewerOf p input rules under after first form old new = WritesFewer (report form (play p input rules)) (runs_due (play p input rules) (most_answers p input rules.limit) under after first) old new
 
+-- the first few of the lines that split the runs
+abbrev pub SplitsFewerOf : StoredProgram → List (List ℕ) → Rules → ℕ → Form → Option (List ℕ) → Option (List ℕ) → Type 0
+SplitsFewerOf p input rules n form old new = WritesFewer (beginning_line form (play p input rules)) (beginnings n (play p input rules)) old new
+
+abbrev pub SamplesFewerOf : StoredProgram → List (List ℕ) → Rules → ℕ → ℕ → Form → Option (List ℕ) → Option (List ℕ) → Type 0
+SamplesFewerOf p input rules seed runs form old new = WritesFewer (report form (play p input rules)) (runs_drawn (play p input rules) (most_answers p input rules.limit) seed runs) old new
+
 -- with the first of the answers that a seed gives, the run asks for one more, and what it shows until then was written
 abbrev pub AsksForMore : StoredProgram → List (List ℕ) → Rules → ℕ → Option (List ℕ) → Option (List ℕ) → Type 0
 AsksForMore p input rules seed old new = ShowsQuestion (plain p input rules) (seeded_answers seed p input rules) old new
@@ -146,6 +142,8 @@ abbrev pub StopsForMemory : Mode → Request → List ℕ → List ℕ → Optio
 StopsForMemory (modes.Plain a) request b c old new = Unit {0}
 StopsForMemory (modes.Seeded seed) request b c old new = IfOk (program_of_text request.memory b) (λ p. Appends old new [] ⊎ AsksForMore (record { lines = p; memory = request.memory }) (input_lines c) request.rules seed old new)
 StopsForMemory (modes.All under after first form) request b c old new = IfOk (program_of_text request.memory b) (λ p. Appends old new [] ⊎ ListsFewerOf (record { lines = p; memory = request.memory }) (input_lines c) request.rules under after first form old new)
+StopsForMemory (modes.Shares answers form) request b c old new = IfOk (program_of_text request.memory b) (λ p. Appends old new [] ⊎ SplitsFewerOf (record { lines = p; memory = request.memory }) (input_lines c) request.rules answers form old new)
+StopsForMemory (modes.Sample seed runs form) request b c old new = IfOk (program_of_text request.memory b) (λ p. Appends old new [] ⊎ SamplesFewerOf (record { lines = p; memory = request.memory }) (input_lines c) request.rules seed runs form old new)
 StopsForMemory modes.List request b c old new = Unit {0}
 
 -- its bytes were written, and its status is that of a run which ends for want of a line
@@ -172,11 +170,13 @@ RunUnread request known left b run old new =
     × EndsUnread request.rules.choose (program_reply request.memory b (run (lines_come taken)))
     (λ a. program_reply request.memory b (lines_reply request.rules a (lines_come taken))) old new
 
--- a listing begins once the input was read
+-- a listing or a sample begins once the input was read
 abbrev pub ServesUnread : Mode → Request → Option (List ℕ) → Option (List ℕ) → List ℕ → Option (List ℕ) → Option (List ℕ) → Type 0
 ServesUnread (modes.Plain a) request known left b old new = RunUnread request known left b (lines_reply request.rules a) old new
 ServesUnread (modes.Seeded seed) request known left b old new = RunUnread request known left b (seeded_lines_reply request.rules seed) old new
 ServesUnread (modes.All under after first form) request known left b old new = Appends old new []
+ServesUnread (modes.Shares answers form) request known left b old new = Appends old new []
+ServesUnread (modes.Sample seed runs form) request known left b old new = Appends old new []
 ServesUnread modes.List request known left b old new = Appends old new []
 
 -- the status of such a request alone is that of an ending
@@ -184,6 +184,8 @@ abbrev pub IsPlainRun : Mode → Type 0
 IsPlainRun (modes.Plain a) = Unit {0}
 IsPlainRun (modes.Seeded seed) = Unit {0}
 IsPlainRun (modes.All under after first form) = ⊥
+IsPlainRun (modes.Shares answers form) = ⊥
+IsPlainRun (modes.Sample seed runs form) = ⊥
 IsPlainRun modes.List = ⊥
 
 -- ---- a program that isn't loaded
@@ -246,6 +248,8 @@ abbrev pub ReadsInMode : Mode → Request → List ℕ → List ℕ → Option (
 ReadsInMode (modes.Plain a) request b c left note number = ReadsByNote request (λ p lines. lines_taken p lines request.rules a) b c left note number
 ReadsInMode (modes.Seeded seed) request b c left note number = ReadsByNote request (λ p lines. seeded_taken seed p lines request.rules) b c left note number
 ReadsInMode (modes.All under after first form) request b c left _ _ = Unit {0}
+ReadsInMode (modes.Shares answers form) request b c left _ _ = Unit {0}
+ReadsInMode (modes.Sample seed runs form) request b c left _ _ = Unit {0}
 ReadsInMode modes.List request b c left _ _ = Unit {0}
 
 abbrev pub ReadsForRun : Mode → Request → List ℕ → List ℕ → Option (List ℕ) → Outcome → Type 0
@@ -256,6 +260,8 @@ abbrev pub NeedsInput : Mode → Type 0
 NeedsInput (modes.Plain a) = Unit {0}
 NeedsInput (modes.Seeded seed) = Unit {0}
 NeedsInput (modes.All under after first form) = Unit {0}
+NeedsInput (modes.Shares answers form) = Unit {0}
+NeedsInput (modes.Sample seed runs form) = Unit {0}
 NeedsInput modes.List = ⊥
 
 -- a run reads it only as far as it asks for lines
@@ -263,6 +269,8 @@ abbrev pub NeedsWholeInput : Mode → Type 0
 NeedsWholeInput (modes.Plain a) = ⊥
 NeedsWholeInput (modes.Seeded seed) = ⊥
 NeedsWholeInput (modes.All under after first form) = Unit {0}
+NeedsWholeInput (modes.Shares answers form) = Unit {0}
+NeedsWholeInput (modes.Sample seed runs form) = Unit {0}
 NeedsWholeInput modes.List = ⊥
 
 -- the input, where it is needed and known; any bytes where it isn't looked at
@@ -270,4 +278,6 @@ abbrev pub IsInput : Mode → Option (List ℕ) → List ℕ → Type 0
 IsInput (modes.Plain a) known c = known ≡ Some c
 IsInput (modes.Seeded seed) known c = known ≡ Some c
 IsInput (modes.All under after first form) known c = known ≡ Some c
+IsInput (modes.Shares answers form) known c = known ≡ Some c
+IsInput (modes.Sample seed runs form) known c = known ≡ Some c
 IsInput modes.List known c = Unit {0}

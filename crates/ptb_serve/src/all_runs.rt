@@ -10,12 +10,12 @@ ghost use Rattle.ptb_explore.specs.Listing.{WritesRuns};
 ghost use Rattle.ptb_explore.specs.Report.{report};
 ghost use Rattle.ptb_explore.specs.RunTree.{Front, runs_left};
 ghost use Rattle.ptb_options.specs.declared.request.Mode.TheVariants.{All};
-ghost use Rattle.ptb_serve.specs.ListMismatches.{RefusesList};
+ghost use Rattle.ptb_serve.specs.ListMismatches.{IsUnbegun};
 ghost use Rattle.ptb_serve.specs.Loaded.{ReadsInput, ServesProgram, TellsFailures, TellsMismatch};
 ghost use Rattle.ptb_serve.specs.Replies.{answers_under, first_front, front_note, is_share};
 
 use crate::attempt::Attempt;
-use crate::list_mismatch::explained;
+use crate::list_mismatch::Unbegun;
 use crate::note::Note;
 use ptb_explore::{ExploreFault, Explorer, Form, Marked, write_all_runs};
 use ptb_machine::{Line, Rules, read_lines};
@@ -34,10 +34,10 @@ use std::alloc::Global;
 ///
 /// [`Note::InputUnread`] where the input could not be read or has more than 16,777,216 bytes;
 /// [`Note::NoBeginning`] where no run begins with `under`, [`Note::NoRun`] where `after` is no run of
-/// these, both also where a bound is not that of its question: nothing was written with these.
-/// [`Note::OutOfMemory`] where a growth was refused memory, also where it was wanted to say why a list
-/// fits no run: the reports of the first runs were written, fewer than all. [`Note::Unwritten`] where
-/// the writer failed: a prefix of the reports was written.
+/// these, both also where a bound is not that of its question: nothing was written with these, and the
+/// attempt says why. [`Note::OutOfMemory`] where a growth was refused memory, never where a list was
+/// found to fit no run: nothing was written, or the reports of the first runs, fewer than all.
+/// [`Note::Unwritten`] where the writer failed: a prefix of the reports was written.
 pub fn list_runs<R: Read, W: Write>(
     alloc: Global,
     request: &Request,
@@ -69,8 +69,8 @@ pub fn list_runs<R: Read, W: Write>(
     }
 }
 
-// Writes the reports of a program's runs on the lines of an input that was read, and says why where a
-// list fits no run.
+// Writes the reports of a program's runs on the lines of an input that was read, or says why a list
+// fits no run.
 fn list_runs_on<W: Write>(
     alloc: Global,
     request: &Request,
@@ -92,39 +92,13 @@ fn list_runs_on<W: Write>(
         → TellsMismatch (All under.now after.now first form) request.now program.now known
         result.served result.mismatch }
 {
-    match write_listing(
-        alloc, request, program, lines, under, after, first, form, out,
-    ) {
-        Ok(status) => Attempt::without_mismatch(Ok(status)),
-        Err(note) => explained(alloc, program, lines, request.rules, under, after, note),
+    match explorer_from(alloc, program, lines, request.rules, under, after) {
+        Ok(explorer) => match write_reports(explorer, first, form, out) {
+            Ok(_) => Attempt::without_mismatch(Ok(0)),
+            Err(broken) => Attempt::without_mismatch(Err(Note::from(broken))),
+        },
+        Err(why) => Attempt::unbegun(why),
     }
-}
-
-// Writes the reports of a program's runs on the lines of an input that was read.
-fn write_listing<W: Write>(
-    alloc: Global,
-    request: &Request,
-    program: &Program,
-    lines: &[Line],
-    under: &Option<MarkedAnswers>,
-    after: &Option<MarkedAnswers>,
-    first: Option<u64>,
-    form: Form,
-    out: &mut W,
-) -> Result<u8, Note>
-    requires memory { program.now.memory ≡ request.now.memory }
-    ensures serves { (known left : Option (List ℕ)) → IfSome known (λ c. lines.now ≡ input_lines c)
-        → ServesProgram (All under.now after.now first form) request.now program.now known left
-        (W.contents out.old) (W.contents out.new) result }
-    ensures read { ¬ IsErrOf result Note.InputUnread }
-    ensures failures { TellsFailures (W.failures out.old) (W.failures out.new) result }
-    ensures unbegun { IfErr result (λ note. RefusesList note
-        → front_note (play program.now lines.now request.now.rules) under.now after.now
-        ≡ Some note) }
-{
-    let explorer = explorer_from(alloc, program, lines, request.rules, under, after)?;
-    write_reports(explorer, first, form, out)?;
-    Ok(0)
 }
 
 // Writes the reports of the runs that an explorer has left, or of the first of them, and drops it.
@@ -156,7 +130,7 @@ fn explorer_from<'a>(
     rules: Rules,
     under: &Option<MarkedAnswers>,
     after: &Option<MarkedAnswers>,
-) -> Result<Explorer<'a>, Note>
+) -> Result<Explorer<'a>, Unbegun>
     ensures explorer { IfOk result (λ e. e ≡ record {
       program = program.now;
       input = lines.now;
@@ -168,8 +142,8 @@ fn explorer_from<'a>(
     }) }
     ensures begun { OnOk result
         (front_note (play program.now lines.now rules) under.now after.now ≡ None) }
-    ensures unbegun { IfErr result (λ note. (note ≡ Note.OutOfMemory)
-        ⊎ (front_note (play program.now lines.now rules) under.now after.now ≡ Some note)) }
+    ensures unbegun { IfErr result
+        (IsUnbegun (play program.now lines.now rules) under.now after.now) }
 {
     match (under, after) {
         (None, None) => explorer_of_all(alloc, program, lines, rules),
@@ -188,7 +162,7 @@ fn explorer_of_all<'a>(
     program: &'a Program,
     lines: &'a [Line],
     rules: Rules,
-) -> Result<Explorer<'a>, Note>
+) -> Result<Explorer<'a>, Unbegun>
     ensures explorer { IfOk result (λ e. e ≡ record {
       program = program.now;
       input = lines.now;
@@ -200,8 +174,8 @@ fn explorer_of_all<'a>(
     }) }
     ensures begun { OnOk result
         (front_note (play program.now lines.now rules) None None ≡ None) }
-    ensures unbegun { IfErr result (λ note. (note ≡ Note.OutOfMemory)
-        ⊎ (front_note (play program.now lines.now rules) None None ≡ Some note)) }
+    ensures unbegun { IfErr result
+        (IsUnbegun (play program.now lines.now rules) None None) }
 {
     Ok(Explorer::start(alloc, program, lines, rules)?)
 }
@@ -213,7 +187,7 @@ fn explorer_at<'a>(
     lines: &'a [Line],
     rules: Rules,
     list: &[Marked],
-) -> Result<Explorer<'a>, Note>
+) -> Result<Explorer<'a>, Unbegun>
     ensures explorer { IfOk result (λ e. e ≡ record {
       program = program.now;
       input = lines.now;
@@ -225,8 +199,8 @@ fn explorer_at<'a>(
     }) }
     ensures begun { OnOk result
         (front_note (play program.now lines.now rules) None (Some list.now) ≡ None) }
-    ensures unbegun { IfErr result (λ note. (note ≡ Note.OutOfMemory)
-        ⊎ (front_note (play program.now lines.now rules) None (Some list.now) ≡ Some note)) }
+    ensures unbegun { IfErr result
+        (IsUnbegun (play program.now lines.now rules) None (Some list.now)) }
 {
     Ok(Explorer::after_marked(alloc, program, lines, rules, list)?)
 }
@@ -238,7 +212,7 @@ fn explorer_under<'a>(
     lines: &'a [Line],
     rules: Rules,
     under: &[Marked],
-) -> Result<Explorer<'a>, Note>
+) -> Result<Explorer<'a>, Unbegun>
     ensures explorer { IfOk result (λ e. e ≡ record {
       program = program.now;
       input = lines.now;
@@ -250,8 +224,8 @@ fn explorer_under<'a>(
     }) }
     ensures begun { OnOk result
         (front_note (play program.now lines.now rules) (Some under.now) None ≡ None) }
-    ensures unbegun { IfErr result (λ note. (note ≡ Note.OutOfMemory)
-        ⊎ (front_note (play program.now lines.now rules) (Some under.now) None ≡ Some note)) }
+    ensures unbegun { IfErr result
+        (IsUnbegun (play program.now lines.now rules) (Some under.now) None) }
 {
     Ok(Explorer::under(alloc, program, lines, rules, under)?)
 }
@@ -265,7 +239,7 @@ fn explorer_under_at<'a>(
     rules: Rules,
     under: &[Marked],
     list: &[Marked],
-) -> Result<Explorer<'a>, Note>
+) -> Result<Explorer<'a>, Unbegun>
     ensures explorer { IfOk result (λ e. e ≡ record {
       program = program.now;
       input = lines.now;
@@ -277,29 +251,28 @@ fn explorer_under_at<'a>(
     }) }
     ensures begun { OnOk result
         (front_note (play program.now lines.now rules) (Some under.now) (Some list.now) ≡ None) }
-    ensures unbegun { IfErr result (λ note. (note ≡ Note.OutOfMemory)
-        ⊎ (front_note (play program.now lines.now rules) (Some under.now) (Some list.now) ≡ Some note)) }
+    ensures unbegun { IfErr result
+        (IsUnbegun (play program.now lines.now rules) (Some under.now) (Some list.now)) }
 {
     look_at_beginning(alloc, program, lines, rules, under)?;
     Ok(Explorer::after_under(alloc, program, lines, rules, under, list)?)
 }
 
-// Plays one run that begins with these answers, so that it is noted if there is none.
+// Plays one run that begins with these answers, so that they are refused if there is none.
 fn look_at_beginning(
     alloc: Global,
     program: &Program,
     lines: &[Line],
     rules: Rules,
     under: &[Marked],
-) -> Result<(), Note>
+) -> Result<(), Unbegun>
     ensures begins { OnOk result
         (is_share (play program.now lines.now rules) (Some under.now) ≡ true) }
-    ensures unbegun { IfErr result (λ note. (note ≡ Note.OutOfMemory)
-        ⊎ ((note ≡ Note.NoBeginning)
-        × is_share (play program.now lines.now rules) (Some under.now) ≡ false)) }
+    ensures unbegun { (after : Option (List Marked)) → IfErr result
+        (IsUnbegun (play program.now lines.now rules) (Some under.now) after) }
 {
     match Explorer::under(alloc, program, lines, rules, under) {
         Ok(_) => Ok(()),
-        Err(fault) => Err(Note::from(fault)),
+        Err(fault) => Err(Unbegun::from(fault)),
     }
 }

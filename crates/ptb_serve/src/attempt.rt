@@ -1,8 +1,9 @@
 // This file has the result of serving a request for a program that was loaded.
 
 ghost use Rattle.std.specs.Prelude.{◌≡◌, None};
+ghost use Rattle.ptb_serve.specs.ListMismatches.{unbegun_attempt};
 
-use crate::list_mismatch::ListMismatch;
+use crate::list_mismatch::{ListMismatch, Unbegun};
 use crate::note::Note;
 
 // The status, or the note that says why there is none, and why a list fits no run, where that is
@@ -21,6 +22,19 @@ impl Attempt {
         Attempt {
             served,
             mismatch: None,
+        }
+    }
+    // The attempt of a listing that is not begun. A list that fits no run is refused, and never for want
+    // of memory.
+    pub(crate) fn unbegun(why: Unbegun) -> Attempt
+        ensures { result ≡ unbegun_attempt why }
+    {
+        match why {
+            Unbegun::Refused(mismatch) => Attempt {
+                served: Err(mismatch.note()),
+                mismatch: Some(mismatch),
+            },
+            Unbegun::Memory => Attempt::without_mismatch(Err(Note::OutOfMemory)),
         }
     }
 }

@@ -12,7 +12,9 @@ mod flushing;
 mod laws;
 mod list_mismatch;
 mod note;
+mod sampled;
 mod service;
+mod splitting;
 
 pub use flushing::Flushing;
 pub use laws::reply_laws;

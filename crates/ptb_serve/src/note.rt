@@ -2,11 +2,10 @@
 
 ghost use Rattle.std.specs.Prelude.{◌≡◌};
 ghost use Rattle.ptb_serve.specs.declared.note.Note.TheVariants.{OutOfMemory, Unwritten};
-ghost use Rattle.ptb_serve.specs.Serving.{after_note, input_note, load_note, reports_note};
-ghost use Rattle.ptb_serve.specs.Serving.{under_note};
+ghost use Rattle.ptb_serve.specs.Serving.{input_note, load_note, reports_note};
 ghost use Rattle.ptb_serve.specs.Statuses.{note_status};
 
-use ptb_explore::{AfterFault, ExploreFault, UnderFault};
+use ptb_explore::ExploreFault;
 use ptb_machine::ReadFault;
 use ptb_text::{LoadFault, WriteFault};
 use std::alloc::AllocError;
@@ -82,28 +81,6 @@ impl From<AllocError> for Note {
 
     fn from(_refusal: AllocError) -> Note {
         Note::OutOfMemory
-    }
-}
-
-impl From<UnderFault> for Note {
-    ghost from_gives = { λ fault note. note ≡ under_note fault };
-
-    fn from(fault: UnderFault) -> Note {
-        match fault {
-            UnderFault::NoBeginning => Note::NoBeginning,
-            UnderFault::Memory => Note::OutOfMemory,
-        }
-    }
-}
-
-impl From<AfterFault> for Note {
-    ghost from_gives = { λ fault note. note ≡ after_note fault };
-
-    fn from(fault: AfterFault) -> Note {
-        match fault {
-            AfterFault::NotARun => Note::NoRun,
-            AfterFault::Memory => Note::OutOfMemory,
-        }
     }
 }
 

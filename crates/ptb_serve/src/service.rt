@@ -1,4 +1,5 @@
-// This file serves a request: it loads the program, and runs it, reports all its runs, or lists it.
+// This file serves a request: it loads the program, and runs it, reports all its runs or a sample of
+// them, writes the lists that split its runs, or lists it.
 
 ghost use Rattle.std.specs.Prelude.{◌≡◌, IfSome, IsErrOf};
 ghost use Rattle.ptb_machine.specs.Play.{status};
@@ -14,6 +15,9 @@ use crate::attempt::Attempt;
 use crate::laws::reply_laws;
 use crate::list_mismatch::ListMismatch;
 use crate::note::Note;
+use crate::sampled::list_sample;
+use crate::splitting::list_shares;
+use ptb_explore::Sample;
 use ptb_machine::{Ending, RunFault};
 use ptb_options::{Mode, Request};
 use ptb_plain::{run_plain, run_seeded};
@@ -53,8 +57,8 @@ impl Outcome {
 }
 
 /// Serves a request: the program is loaded from one reader, and is run on the lines of another, or
-/// all its runs are reported, or it is listed. What it shows, the reports or the listing go to the
-/// writer.
+/// all its runs or those of a sample are reported, or the lists that split its runs are written, or it
+/// is listed. What it shows, the reports, the lists or the listing go to the writer.
 ///
 /// The program is loaded before the input is read: a text that is refused or can't be read leaves the
 /// input alone. So does a listing of a program's text. At most 1,048,577 bytes are read of a program,
@@ -62,14 +66,15 @@ impl Outcome {
 ///
 /// A run reads its input only as far as it asks for lines: while fewer lines are complete than it
 /// wants, at most 4096 bytes at once. With answers instead of lines, a run that took all lines may
-/// have looked for another. A report of all runs reads the input to its end.
+/// have looked for another. A report of all runs or of a sample, and the lists that split the runs, take
+/// an input that is read to its end.
 ///
 /// A note says why a request isn't served, or not to its end. With [`Note::Unwritten`] a prefix of
 /// the reply was written. With [`Note::OutOfMemory`] the reports of the first runs were written where
-/// all runs are reported, and nothing or what the run shows up to a question where it is a run by a
-/// seed. With [`Note::InputUnread`] what a run shows before it asks for the line that can't be read
-/// was written. With every other note nothing was written. A write that fails always gives
-/// [`Note::Unwritten`].
+/// all runs or those of a sample are reported, the first lines where lists are written, and nothing or
+/// what the run shows up to a question where it is a run by a seed. With [`Note::InputUnread`] what a
+/// run shows before it asks for the line that can't be read was written. With every other note nothing
+/// was written. A write that fails always gives [`Note::Unwritten`].
 pub fn serve<P: Read, R: Read, W: Write>(
     alloc: Global,
     request: &Request,
@@ -137,6 +142,19 @@ fn serve_program<R: Read, W: Write>(
         } => list_runs(
             alloc, request, program, under, after, *first, *form, input, out,
         ),
+        Mode::Shares { answers, form } => {
+            let served = list_shares(alloc, request, program, *answers, *form, input, out);
+            Attempt::without_mismatch(served)
+        }
+        Mode::Sample { seed, runs, form } => {
+            let sample = Sample {
+                seed: *seed,
+                runs: *runs,
+                form: *form,
+            };
+            let served = list_sample(alloc, request, program, sample, input, out);
+            Attempt::without_mismatch(served)
+        }
         Mode::List => match list(program, out) {
             Ok(()) => Attempt::without_mismatch(Ok(0)),
             Err(fault) => Attempt::without_mismatch(Err(Note::from(fault))),

@@ -1,5 +1,5 @@
--- This file answers that an explorer is begun at a run, or is noted.
-use Rattle.std.proofs.Common.{None, Err, refl, ap}
+-- This file answers that an explorer is begun at a run, or why it isn't.
+use Rattle.std.proofs.Common.{Err, ap}
 use Rattle.std.proofs.lemmas.Result.{err_from_is_err_and}
 use Rattle.ptb_machine.specs.Play.{play}
 use Rattle.ptb_serve.proofs.Fronts.{begun_after, unbegun_after}
@@ -15,5 +15,5 @@ pub returns-in_err-after_marked-clause-unbegun : goal.returns-in_err-after_marke
 returns-in_err-after_marked-clause-unbegun c =
     let p = err_from_is_err_and c.from_residual.result c.from_residual.ensures.1 in
     rw (p.1, p.2)
-    (unbegun_after (play c.args.program.now c.args.lines.now c.args.rules) None c.args.list.now c.in_err-after_marked.field-0.0 refl
-    (λ e run _. c.in_err-after_marked.ensures.not_a_run (ap Err e) run))
+    (unbegun_after (play c.args.program.now c.args.lines.now c.args.rules) c.args.list.now c.in_err-after_marked.field-0.0
+    (λ m e. c.in_err-after_marked.ensures.not_a_run m (ap Err e)) (λ m e. c.in_err-after_marked.ensures.mismatch m (ap Err e)))

@@ -1,18 +1,51 @@
 -- This file answers that the runs on the lines of an input are listed as is due, and what is said of a list that fits no run.
-use Rattle.ptb_serve.proofs.Mismatching.{none_told, served_so, success_refuses_none}
+use Rattle.std.proofs.Common.{Err, subst}
+use Rattle.ptb_serve.specs.declared.note.Note.{Note}
+use Rattle.ptb_serve.specs.Loaded.{RefusesListIn}
+use Rattle.ptb_serve.proofs.Listing.{listing_broken, listing_unbegun, listing_written, no_fault}
+use Rattle.ptb_serve.proofs.Mismatching.{none_told, reports_refuse_none, success_refuses_none, unbegun_told}
 use Rattle.ptb_serve.proofs.all_runs.list_runs_on.Goals as goal
 
-pub returns-in-Ok : goal.returns-in-Ok
-returns-in-Ok g c =
-    let listed = c.in-Ok.ensures in
-    rw c.without_mismatch.ensures (record { serves = listed.serves; read = listed.read; failures = listed.failures; mismatch = λ known _. none_told _ _ _ known _ (success_refuses_none c.in-Ok.status) })
+-- all reports are written
+pub returns-in-Ok-write_reports : goal.returns-in-Ok-write_reports
+returns-in-Ok-write_reports g c =
+    let writes = c.in-Ok-write_reports.ensures in
+    let listed =
+    listing_written c.args.request.now c.args.program.now c.requires.memory c.args.under.now c.args.after.now c.args.first c.args.form c.args.lines.now
+    (g.W.Write.contents c.args.out.now) (g.W.Write.contents c.write_reports.new.out) (g.W.Write.failures c.args.out.now) (g.W.Write.failures c.write_reports.new.out)
+    c.in-Ok.explorer writes.writes.0 c.in-Ok.ensures.explorer c.in-Ok.ensures.begun
+    _ writes.writes.1 (writes.unfailed (λ n. no_fault _ _))
+    in
+    rw c.without_mismatch.ensures (record { serves = listed.serves; read = listed.read; failures = listed.failures; mismatch = λ known _. none_told _ _ _ known _ (success_refuses_none 0) })
 
+-- some are
+pub returns-in-Err-write_reports : goal.returns-in-Err-write_reports
+returns-in-Err-write_reports g c =
+    let writes = c.in-Err-write_reports.ensures in
+    let fault = c.in-Err-write_reports.broken in
+    let listed =
+    listing_broken c.args.request.now c.args.program.now c.requires.memory c.args.under.now c.args.after.now c.args.first c.args.form c.args.lines.now
+    (g.W.Write.contents c.args.out.now) (g.W.Write.contents c.write_reports.new.out) (g.W.Write.failures c.args.out.now) (g.W.Write.failures c.write_reports.new.out)
+    c.in-Ok.explorer writes.writes.0 c.in-Ok.ensures.explorer c.in-Ok.ensures.begun
+    (Err c.from.result) fault c.from.ensures writes.writes.1 writes.failed writes.unfailed
+    in
+    rw c.without_mismatch-in-Err-write_reports.ensures (record {
+      serves = listed.serves;
+      read = listed.read;
+      failures = listed.failures;
+      mismatch = λ known _. none_told _ _ _ known _ (λ refuses. reports_refuse_none fault (subst (λ (n : Note). RefusesListIn (Err n)) c.from.ensures refuses));
+    })
+
+-- the listing is not begun
 pub returns-in-Err : goal.returns-in-Err
 returns-in-Err g c =
-    let listed = c.in-Err.ensures in
-    let told =
-    served_so c.args.request.now c.args.program.now c.requires.memory c.args.lines.now c.args.under.now c.args.after.now c.args.first c.args.form
-    (g.W.Write.contents c.args.out.now) (g.W.Write.contents c.write_listing.new.out) (g.W.Write.failures c.args.out.now) (g.W.Write.failures c.write_listing.new.out)
-    c.in-Err.note listed.serves listed.read listed.failures c.explained.result c.explained.ensures
+    let listed =
+    listing_unbegun c.args.request.now c.args.program.now c.requires.memory c.args.under.now c.args.after.now c.args.first c.args.form c.args.lines.now
+    (g.W.Write.contents c.args.out.now) (g.W.Write.failures c.args.out.now) c.in-Err.why c.in-Err.ensures.unbegun
     in
-    record { serves = told.serves; read = told.read; failures = told.failures; mismatch = told.mismatch }
+    rw c.unbegun.ensures (record {
+      serves = listed.serves;
+      read = listed.read;
+      failures = listed.failures;
+      mismatch = λ known lines. unbegun_told c.args.request.now c.args.program.now known c.args.lines.now lines c.args.under.now c.args.after.now c.args.first c.args.form c.in-Err.why c.in-Err.ensures.unbegun;
+    })

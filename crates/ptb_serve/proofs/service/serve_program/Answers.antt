@@ -2,7 +2,7 @@
 use Rattle.std.proofs.Common.{Err}
 use Rattle.ptb_plain.specs.SeededRuns.{seeded_answers}
 use Rattle.ptb_plain.specs.Streams.{reads_of, writes_of}
-use Rattle.ptb_serve.proofs.Modes.{served_all, served_plain, served_seeded, served_text, text_broken}
+use Rattle.ptb_serve.proofs.Modes.{served_all, served_plain, served_sample, served_seeded, served_shares, served_text, text_broken}
 use Rattle.ptb_serve.proofs.service.serve_program.Goals as goal
 
 -- a run with a list of answers
@@ -50,6 +50,26 @@ returns-in-All g c =
     c.list_runs.result.served c.list_runs.result.mismatch c.args.request.now.mode _ _ _ _ c.in-All.is c.list_runs.ensures.serves c.list_runs.ensures.reads c.list_runs.ensures.failures c.list_runs.ensures.mismatch
     in
     record { serves = told.serves; reads = told.reads; failures = told.failures; mismatch = told.mismatch; input_kept = told.input_kept }
+
+-- the lists that split its runs
+pub returns-in-Shares : goal.returns-in-Shares
+returns-in-Shares g c =
+    let told =
+    served_shares c.args.request.now c.args.program.now (reads_of g.R.Read.remaining g.R.Read.given g.R.Read.failures c.args.input.now c.list_shares-served.new.input)
+    (writes_of g.W.Write.contents g.W.Write.failures c.args.out.now c.list_shares-served.new.out)
+    c.list_shares-served.result c.args.request.now.mode _ _ c.in-Shares.is c.list_shares-served.ensures.serves c.list_shares-served.ensures.reads c.list_shares-served.ensures.failures c.list_shares-served.ensures.no_list
+    in
+    rw c.without_mismatch-in-Shares.ensures (record { serves = told.serves; reads = told.reads; failures = told.failures; mismatch = told.mismatch; input_kept = told.input_kept })
+
+-- a sample of its runs
+pub returns-in-Sample : goal.returns-in-Sample
+returns-in-Sample g c =
+    let told =
+    served_sample c.args.request.now c.args.program.now (reads_of g.R.Read.remaining g.R.Read.given g.R.Read.failures c.args.input.now c.list_sample-served.new.input)
+    (writes_of g.W.Write.contents g.W.Write.failures c.args.out.now c.list_sample-served.new.out)
+    c.list_sample-served.result c.args.request.now.mode _ _ _ c.in-Sample.is c.list_sample-served.ensures.serves c.list_sample-served.ensures.reads c.list_sample-served.ensures.failures c.list_sample-served.ensures.no_list
+    in
+    rw c.without_mismatch-in-Sample.ensures (record { serves = told.serves; reads = told.reads; failures = told.failures; mismatch = told.mismatch; input_kept = told.input_kept })
 
 -- a listing of its text
 pub returns-in-Err : goal.returns-in-Err

@@ -1,0 +1,69 @@
+// This file has the sample of a program's runs, each with its report.
+
+ghost use Rattle.std.specs.Prelude.{◌≡◌, ℕ, List, Option, IfSome, IsErrOf};
+ghost use Rattle.ptb_text.specs.Lines.{input_lines};
+ghost use Rattle.ptb_options.specs.declared.request.Mode.TheVariants as modes;
+ghost use Rattle.ptb_serve.specs.Loaded.{ReadsInput, RefusesListIn, ServesProgram, TellsFailures};
+
+use crate::note::Note;
+use ptb_explore::{Sample, write_sample};
+use ptb_machine::{Line, read_lines};
+use ptb_options::Request;
+use ptb_text::{Program, Read, Write};
+use std::alloc::Global;
+
+/// Writes the reports of the runs that a seed draws, one after the other. The status is 0.
+///
+/// Nothing is written until the input was read to its end.
+///
+/// # Errors
+///
+/// [`Note::InputUnread`] where the input could not be read or has more than 16,777,216 bytes: nothing
+/// was written. [`Note::OutOfMemory`] where a growth was refused memory: the reports of the first runs
+/// were written, fewer than all. [`Note::Unwritten`] where the writer failed: a prefix of the reports
+/// was written.
+pub fn list_sample<R: Read, W: Write>(
+    alloc: Global,
+    request: &Request,
+    program: &Program,
+    sample: Sample,
+    input: &mut R,
+    out: &mut W,
+) -> Result<u8, Note>
+    requires memory { program.now.memory ≡ request.now.memory }
+    ensures serves { ServesProgram (modes.Sample sample.seed sample.runs sample.form) request.now
+        program.now (R.remaining input.old) (R.remaining input.new)
+        (W.contents out.old) (W.contents out.new) result }
+    ensures reads { ReadsInput (modes.Sample sample.seed sample.runs sample.form)
+        (R.remaining input.old) (R.remaining input.new)
+        (R.failures input.old) (R.failures input.new)
+        (R.given input.old) (R.given input.new) result }
+    ensures failures { TellsFailures (W.failures out.old) (W.failures out.new) result }
+    ensures no_list { ¬ RefusesListIn result }
+{
+    match read_lines(alloc, input) {
+        Ok(lines) => sample_lines(alloc, request, program, &lines, sample, out),
+        Err(fault) => Err(Note::from(fault)),
+    }
+}
+
+// Writes the reports of the runs that a seed draws on the lines of an input that was read.
+fn sample_lines<W: Write>(
+    alloc: Global,
+    request: &Request,
+    program: &Program,
+    lines: &[Line],
+    sample: Sample,
+    out: &mut W,
+) -> Result<u8, Note>
+    requires memory { program.now.memory ≡ request.now.memory }
+    ensures serves { (known left : Option (List ℕ)) → IfSome known (λ c. lines.now ≡ input_lines c)
+        → ServesProgram (modes.Sample sample.seed sample.runs sample.form) request.now program.now
+        known left (W.contents out.old) (W.contents out.new) result }
+    ensures read { ¬ IsErrOf result Note.InputUnread }
+    ensures failures { TellsFailures (W.failures out.old) (W.failures out.new) result }
+    ensures no_list { ¬ RefusesListIn result }
+{
+    write_sample(alloc, program, lines, request.rules, sample, out)?;
+    Ok(0)
+}

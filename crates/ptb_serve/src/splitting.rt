@@ -1,0 +1,98 @@
+// This file has the lists of answers that split a program's runs.
+
+ghost use Rattle.std.specs.Prelude.{◌≡◌, ℕ, List, Option, [], None, IfSome, IsErrOf};
+ghost use Rattle.ptb_text.specs.Device.{HasFailed};
+ghost use Rattle.ptb_text.specs.Lines.{input_lines};
+ghost use Rattle.ptb_explore.specs.Beginnings.{beginning_line, split_play, stopped};
+ghost use Rattle.ptb_explore.specs.Listing.{WritesRuns};
+ghost use Rattle.ptb_explore.specs.RunTree.{Front, runs_left};
+ghost use Rattle.ptb_options.specs.declared.request.Mode.TheVariants as modes;
+ghost use Rattle.ptb_serve.specs.Loaded.{ReadsInput, RefusesListIn, ServesProgram, TellsFailures};
+
+use crate::note::Note;
+use ptb_explore::{Beginnings, ExploreFault, Form, write_beginnings};
+use ptb_machine::{Line, read_lines};
+use ptb_options::Request;
+use ptb_text::{Program, Read, Write};
+use std::alloc::Global;
+
+/// Writes the lists of at most so many answers that split a program's runs, a line each. The status
+/// is 0.
+///
+/// Nothing is written until the input was read to its end.
+///
+/// # Errors
+///
+/// [`Note::InputUnread`] where the input could not be read or has more than 16,777,216 bytes: nothing
+/// was written. [`Note::OutOfMemory`] where a growth was refused memory: the lines of the first lists
+/// were written, fewer than all. [`Note::Unwritten`] where the writer failed: a prefix of the lines
+/// was written.
+pub fn list_shares<R: Read, W: Write>(
+    alloc: Global,
+    request: &Request,
+    program: &Program,
+    answers: u8,
+    form: Form,
+    input: &mut R,
+    out: &mut W,
+) -> Result<u8, Note>
+    requires memory { program.now.memory ≡ request.now.memory }
+    ensures serves { ServesProgram (modes.Shares answers form) request.now program.now
+        (R.remaining input.old) (R.remaining input.new)
+        (W.contents out.old) (W.contents out.new) result }
+    ensures reads { ReadsInput (modes.Shares answers form)
+        (R.remaining input.old) (R.remaining input.new)
+        (R.failures input.old) (R.failures input.new)
+        (R.given input.old) (R.given input.new) result }
+    ensures failures { TellsFailures (W.failures out.old) (W.failures out.new) result }
+    ensures no_list { ¬ RefusesListIn result }
+{
+    match read_lines(alloc, input) {
+        Ok(lines) => share_lines(alloc, request, program, &lines, answers, form, out),
+        Err(fault) => Err(Note::from(fault)),
+    }
+}
+
+// Writes the lists that split a program's runs on the lines of an input that was read.
+fn share_lines<W: Write>(
+    alloc: Global,
+    request: &Request,
+    program: &Program,
+    lines: &[Line],
+    answers: u8,
+    form: Form,
+    out: &mut W,
+) -> Result<u8, Note>
+    requires memory { program.now.memory ≡ request.now.memory }
+    ensures serves { (known left : Option (List ℕ)) → IfSome known (λ c. lines.now ≡ input_lines c)
+        → ServesProgram (modes.Shares answers form) request.now program.now
+        known left (W.contents out.old) (W.contents out.new) result }
+    ensures read { ¬ IsErrOf result Note.InputUnread }
+    ensures failures { TellsFailures (W.failures out.old) (W.failures out.new) result }
+    ensures no_list { ¬ RefusesListIn result }
+{
+    let most = usize::from(answers);
+    let beginnings = Beginnings::start(alloc, program, lines, request.rules, most)?;
+    write_lists(beginnings, form, out)?;
+    Ok(0)
+}
+
+// Writes the lists that a search has left, and drops it.
+fn write_lists<W: Write>(
+    mut beginnings: Beginnings<'_>,
+    form: Form,
+    out: &mut W,
+) -> Result<u64, ExploreFault>
+    ensures writes { (front : Front)
+        × WritesRuns (stopped beginnings.entry.most (split_play beginnings.entry)) []
+        (beginning_line form (split_play beginnings.entry))
+        (runs_left (stopped beginnings.entry.most (split_play beginnings.entry))
+        beginnings.entry.most [] beginnings.entry.front None)
+        beginnings.entry.front front (W.contents out.old) (W.contents out.new) result }
+    ensures failed { (n : ℕ) → IsErrOf result (ExploreFault.Write n)
+        → HasFailed (W.failures out.old) (W.failures out.new) }
+    ensures unfailed { ((n : ℕ) → ¬ IsErrOf result (ExploreFault.Write n))
+        → W.failures out.new ≡ W.failures out.old }
+{
+    write_beginnings(&mut beginnings, form, out)
+}
