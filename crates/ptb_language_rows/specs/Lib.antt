@@ -3,3 +3,4 @@ pub mod TextRows
 pub mod ExpressionRows
 pub mod PlayRows
 pub mod TreeRows
+pub mod SampleRows

@@ -2,6 +2,7 @@
 use Rattle.std.specs.Prelude.{◌≡◌, ℕ, [], ◌∷◌, ◌++◌, codes, false, true, Some, None, pos}
 use Rattle.ptb_answers.specs.Outcome.{Answers, is_whole, bounds}
 use Rattle.ptb_language_rows.specs.ExpressionRows.{worth}
+use Rattle.ptb_explore.specs.Beginnings.{beginnings}
 use Rattle.ptb_explore.specs.RunTree.{At, End, is_before, tree, runs_left}
 use Rattle.ptb_answers.specs.AnswerText.{answers_of, marked, spelling, unmarked}
 use Rattle.ptb_explore.specs.MarkedRuns.{states_bounds}
@@ -24,6 +25,13 @@ pub record RunRows : Type 0 where
   pub after_first : runs_left (worth (codes "RND(2)*RND(2)")) 2 [] (At (two 1 1)) (Some 2) ≡ two 1 2 ∷ two 2 1 ∷ []
   pub after_last : runs_left (worth (codes "RND(2)*RND(2)")) 2 [] (At (two 2 2)) None ≡ []
   pub past_end : runs_left (worth (codes "RND(2)*RND(2)")) 2 [] End None ≡ []
+  -- the lists that split the runs after so many answers
+  pub split_after_none : beginnings 0 (worth (codes "RND(2)")) ≡ [] ∷ []
+  pub split_of_no_question : beginnings 1 (worth (codes "7")) ≡ [] ∷ []
+  pub split_after_one : beginnings 1 (worth (codes "RND(2)*RND(2)")) ≡ one 1 ∷ one 2 ∷ []
+  pub split_after_two : beginnings 2 (worth (codes "RND(2)*RND(2)*RND(2)")) ≡ two 1 1 ∷ two 1 2 ∷ two 2 1 ∷ two 2 2 ∷ []
+  pub split_with_fault : beginnings 2 (worth (codes "RND(RND(2)-1)*RND(2)")) ≡ one 1 ∷ two 2 1 ∷ []
+  pub split_past_end : beginnings 9 (worth (codes "RND(RND(2))")) ≡ two 1 1 ∷ two 2 1 ∷ two 2 2 ∷ []
   -- lists that are runs, and that are none
   pub whole : is_whole (worth (codes "RND(RND(2))") (two 2 1)) ≡ true
   pub beginning : is_whole (worth (codes "RND(RND(2))") (one 2)) ≡ false

@@ -5,6 +5,7 @@ ghost use Rattle.ptb_language_rows.specs.ExpressionRows.{ValueRows};
 ghost use Rattle.ptb_language_rows.specs.PlayRows.{AnswerRows, PrintRows, InputRows, LoopRows};
 ghost use Rattle.ptb_language_rows.specs.PlayRows.{FaultRows, ArrayRows, LongRows, StepRows};
 ghost use Rattle.ptb_language_rows.specs.TreeRows.{RunRows, ReportRows};
+ghost use Rattle.ptb_language_rows.specs.SampleRows.{SampleRows};
 
 /// Worked rows of loading and listing.
 #[tactic(auto, using(crate::proofs::TextRows::loading_rows))]
@@ -82,4 +83,10 @@ pub fn run_rows()
 #[tactic(auto, using(crate::proofs::TreeRows::report_rows))]
 pub fn report_rows()
     ensures { ReportRows }
+{}
+
+/// Worked rows of samples.
+#[tactic(auto, using(crate::proofs::SampleRows::sample_rows))]
+pub fn sample_rows()
+    ensures { SampleRows }
 {}

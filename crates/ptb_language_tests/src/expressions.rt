@@ -462,6 +462,33 @@ fn seeded_answers(rt: HostRuntime) {
     }
 }
 
+// Two answers by the seed 7 to questions with bound 6, which are all that it keeps then.
+fn expect_two_rolls(rt: &impl Abort, store: &Store, seeded: &mut Seeded, rolls: &[i16]) {
+    let first = asked(store, seeded, "R.(6)");
+    let second = asked(store, seeded, "R.(6)");
+    expect_same(rt, "bounds", seeded.bounds(), &[6, 6]);
+    expect_same(rt, "answers", seeded.answers(), rolls);
+    let kept = match seeded.answers() {
+        [one, other] => (i64::from(*one), i64::from(*other)),
+        _ => (0, 0),
+    };
+    expect_same(rt, "asked", (first, second), kept);
+}
+
+// Once answers are forgotten, the next ones are drawn by the words that follow. The words are those of
+// the reference implementation of PCG32.
+#[test]
+fn forgotten_answers(rt: HostRuntime) {
+    let store = make_store(&rt, rt.alloc());
+    let mut seeded = Seeded::new(rt.alloc(), 7);
+    expect_two_rolls(&rt, &store, &mut seeded, &[3, 5]);
+    seeded.forget();
+    expect_same(&rt, "no bounds", seeded.bounds().is_empty(), true);
+    expect_two_rolls(&rt, &store, &mut seeded, &[5, 4]);
+    seeded.forget();
+    expect_two_rolls(&rt, &store, &mut seeded, &[4, 4]);
+}
+
 // A question that is asked with a bound below 1 is a fault, and no word is drawn for it.
 #[test]
 fn seeded_faults(rt: HostRuntime) {

@@ -19,7 +19,7 @@ fn lines_of(alloc: Global, input: &[&[u8]]) -> Result<Vec<Line>, AllocError> {
     Ok(lines)
 }
 
-// Does an INPUT with these answers, by these rules: the place behind it, and whether the transcript
+// Does an INPUT with these answers, by these rules: the place after it, and whether the transcript
 // is fresh then.
 fn done<S: Screen>(
     text: &str,
@@ -135,7 +135,7 @@ const WRITES: &[(&str, &[&[u8]], usize, Result<usize, Stop>, &[u8], usize)] = &[
     ("A", &[b"5"], 0, UNWRITTEN, b"", 0),
 ];
 
-// Does an INPUT with a writer that takes so many writes: the place behind it, and how many writes
+// Does an INPUT with a writer that takes so many writes: the place after it, and how many writes
 // are left.
 fn written(
     text: &str,

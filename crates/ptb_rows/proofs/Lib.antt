@@ -9,7 +9,9 @@ pub mod LongRunRows
 pub mod AllRows
 pub mod AfterRows
 pub mod BoundRows
+pub mod SampleRows
 pub mod ShareRows
 pub mod TextRows
 pub mod CommandLineRows
 pub mod ListRows
+pub mod SplitRows

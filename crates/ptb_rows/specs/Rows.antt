@@ -5,7 +5,7 @@ use Rattle.ptb_text.specs.declared.fault.LoadFault.TheVariants.{NoNumber, Number
 use Rattle.clap.specs.Words.{fault_of, matches_of}
 use Rattle.clap.specs.declared.error.ErrorKind.{ErrorKind}
 use Rattle.clap.specs.declared.error.ErrorKind.TheVariants.{ArgumentConflict, DisplayHelp, UnknownArgument, ValueValidation}
-use Rattle.ptb_options.specs.declared.usage.UsageFault.TheVariants.{ListWithOther, AfterWithoutAll, FirstWithoutAll, FormWithoutAll, UnderWithoutAll, AnswersWithAll, SeedWithAll, SeedWithAnswers}
+use Rattle.ptb_options.specs.declared.usage.UsageFault.TheVariants.{ListWithOther, AfterWithoutAll, FirstWithoutAll, FormWithoutAll, UnderWithoutAll, SharesWithoutAll, SharesWithOther, SampleWithoutSeed, AnswersWithAll, SeedWithAll, SeedWithAnswers}
 use Rattle.ptb_options.specs.AnswerLists.{SpellsList, SpellsAnswers, IsMisspelled, HasNoAnswers}
 use Rattle.ptb_options.specs.CommandLine.{tool}
 use Rattle.ptb_options.specs.Options.{default_memory, default_steps, Options, no_options, options_of, clash}
@@ -57,6 +57,30 @@ run answers = record { rules = default_rules; memory = default_memory; mode = mo
 
 abbrev pub seeded : ℕ → Request
 seeded seed = record { rules = default_rules; memory = default_memory; mode = modes.Seeded seed; in_range = default_size }
+
+-- the lists of at most so many answers that split all runs
+abbrev pub splitting : ℕ → Form → Request
+splitting answers form = record { rules = default_rules; memory = default_memory; mode = modes.Shares answers form; in_range = default_size }
+
+-- lists that split the runs
+pub record SplitRows : Type 0 where
+  pub one_answer : reply_to (splitting 1 Two) (codes "10 A=RND(2);IF A=2 B=RND(3);PRINT B") [] ≡ success (codes "1/2\n2/2\n")
+  pub two_answers : reply_to (splitting 2 Two) (codes "10 A=RND(2);IF A=2 B=RND(3);PRINT B") [] ≡ success (codes "1/2\n2/2,1/3\n2/2,2/3\n2/2,3/3\n")
+  pub form_1 : reply_to (splitting 9 One) (codes "10 A=RND(2);IF A=2 B=RND(3);PRINT B") [] ≡ success (codes "1\n2,1\n2,2\n2,3\n")
+  pub no_program : reply_to (splitting 1 Two) [] [] ≡ success (codes "none\n")
+  -- a list may end within a command, and a run at its limit
+  pub within_command : reply_to (splitting 1 Two) (codes "10 P.RND(2)*RND(3)") [] ≡ success (codes "1/2\n2/2\n")
+  pub limit : reply_to (limited 1 (splitting 2 Two)) (codes "10 A=RND(2);B=RND(2)") [] ≡ success (codes "1/2\n2/2\n")
+  pub fault : reply_to (splitting 2 One) (codes "10 A=RND(2)-1;B=RND(A);C=RND(2)") [] ≡ success (codes "1\n2,1\n")
+  -- the input is that of each run
+  pub rolled_input : reply_to (splitting 1 Two) (codes "10 INPUT A;PRINT RND(9)") (one_line (codes "RND(2)")) ≡ success (codes "1/2\n2/2\n")
+  pub instead_of_lines : reply_to (choosing (pos 3) (le_z_yes tt) (splitting 1 Two)) (codes "10 INPUT A,B") [] ≡ success (codes "1/3\n2/3\n3/3\n")
+  pub no_input : reply_to (splitting 1 Two) (codes "10 INPUT A;B=RND(2)") [] ≡ success (codes "none\n")
+  pub refused : reply_to (splitting 1 Two) (codes "0 P.") [] ≡ refusal (notes.Load 1 NoNumber)
+
+-- so many runs that a seed draws
+abbrev pub sampling : ℕ → ℕ → Form → Request
+sampling seed runs form = record { rules = default_rules; memory = default_memory; mode = modes.Sample seed runs form; in_range = default_size }
 
 -- all runs, or the first n of those behind a run
 abbrev pub all_in : Form → Option (List Marked) → Option ℕ → Request
@@ -229,6 +253,20 @@ pub record BoundRows : Type 0 where
   pub only_answer : reply_to (all_in Two None None) (codes "10 A=RND(1)") [] ≡ success (codes "RUN 1/1 END 1 0\n\n")
   pub behind_none : reply_to (bounds_behind []) [] [] ≡ success []
 
+-- runs that a seed draws, one after the other
+pub record SampleRows : Type 0 where
+  pub rolls : reply_to (sampling 7 3 Two) (codes "10 P.RND(6)") [] ≡ success (codes "RUN 3/6 END 1 7\n     3\n\n" ++ codes "RUN 5/6 END 1 7\n     5\n\n" ++ codes "RUN 5/6 END 1 7\n     5\n\n")
+  pub form_1 : reply_to (sampling 7 1 One) (codes "10 P.RND(6)") [] ≡ success (codes "RUN 3 END 1 7\n     3\n\n")
+  pub other_seed : reply_to (sampling 0 1 Two) (codes "10 P.RND(6)") [] ≡ success (codes "RUN 6/6 END 1 7\n     6\n\n")
+  pub once_and_twice : reply_to (sampling 7 4 Two) (codes "10 A=RND(2);IF A=2 B=RND(3);PRINT B") [] ≡ success (codes "RUN 1/2 END 2 0\n\n" ++ codes "RUN 1/2 END 2 0\n\n" ++ codes "RUN 1/2 END 2 0\n\n" ++ codes "RUN 2/2,1/3 END 4 7\n     1\n\n")
+  -- each run begins with the first line
+  pub same_lines : reply_to (sampling 7 2 One) (codes "10 INPUT A") (text (codes "RND(6)" ∷ codes "5" ∷ [])) ≡ success (codes "RUN 3 END 1 9\nA:RND(6)\n\n" ++ codes "RUN 5 END 1 9\nA:RND(6)\n\n")
+  pub instead_of_lines : reply_to (choosing (pos 6) (le_z_yes tt) (sampling 7 1 Two)) (codes "10 INPUT A") [] ≡ success (codes "RUN 3/6 END 1 4\nA:3\n\n")
+  pub no_input : reply_to (sampling 7 1 Two) (codes "10 INPUT A") [] ≡ success (codes "RUN none NOINPUT 1 2\nA:\n")
+  pub limit : reply_to (limited 3 (sampling 7 1 Two)) (codes "10 A=RND(2);GOTO 10") [] ≡ success (codes "RUN 1/2,1/2 LIMIT 3 0\n\n")
+  pub no_question : reply_to (sampling 7 2 Two) [] [] ≡ success (codes "RUN none END 0 0\n\n" ++ codes "RUN none END 0 0\n\n")
+  pub refused : reply_to (sampling 7 3 Two) (codes "0 P.") [] ≡ refusal (notes.Load 1 NoNumber)
+
 -- the runs that begin with these answers, or the first n of those behind one of them
 abbrev pub under : List Marked → Option (List Marked) → Option ℕ → Request
 under list after first = record { rules = default_rules; memory = default_memory; mode = modes.All (Some list) after first Two; in_range = default_size }
@@ -304,6 +342,23 @@ pub record ClashRows : Type 0 where
   pub under_and_answers : clash (options (codes "--answers" ∷ codes "1" ∷ codes "--under" ∷ codes "2" ∷ codes "--seed=7" ∷ [])) ≡ Some UnderWithoutAll
   pub under_listing : clash (options (codes "--under" ∷ codes "2" ∷ codes "--list" ∷ [])) ≡ Some ListWithOther
   pub under_and_all : clash (options (codes "--all" ∷ codes "--under" ∷ codes "2" ∷ codes "--after" ∷ codes "2,1" ∷ [])) ≡ None
+  pub shares_alone : clash (options (codes "--shares" ∷ codes "2" ∷ [])) ≡ Some SharesWithoutAll
+  pub shares_and_sample : clash (options (codes "--sample=3" ∷ codes "--shares" ∷ codes "2" ∷ [])) ≡ Some SharesWithoutAll
+  pub shares_and_form : clash (options (codes "--shares" ∷ codes "2" ∷ codes "--form" ∷ codes "1" ∷ [])) ≡ Some FormWithoutAll
+  pub shares_and_under : clash (options (codes "--shares=2" ∷ codes "--under" ∷ codes "1" ∷ [])) ≡ Some UnderWithoutAll
+  pub shares_beside_after : clash (options (codes "--all" ∷ codes "--shares" ∷ codes "2" ∷ codes "--after" ∷ codes "1" ∷ [])) ≡ Some SharesWithOther
+  pub shares_beside_first : clash (options (codes "--first=3" ∷ codes "--all" ∷ codes "--shares" ∷ codes "2" ∷ [])) ≡ Some SharesWithOther
+  pub shares_beside_under : clash (options (codes "--all" ∷ codes "--under" ∷ codes "2" ∷ codes "--shares=2" ∷ codes "--answers" ∷ codes "1" ∷ [])) ≡ Some SharesWithOther
+  pub shares_listing : clash (options (codes "--list" ∷ codes "--shares" ∷ codes "2" ∷ [])) ≡ Some ListWithOther
+  pub shares_and_answers : clash (options (codes "--all" ∷ codes "--shares" ∷ codes "2" ∷ codes "--answers" ∷ codes "none" ∷ [])) ≡ Some AnswersWithAll
+  pub shares_and_all : clash (options (codes "--all" ∷ codes "--shares" ∷ codes "2" ∷ codes "--form" ∷ codes "1" ∷ codes "--choose=2" ∷ [])) ≡ None
+  pub sample_alone : clash (options (codes "--sample" ∷ codes "3" ∷ [])) ≡ Some SampleWithoutSeed
+  pub sample_and_shares : clash (options (codes "--all" ∷ codes "--shares" ∷ codes "2" ∷ codes "--sample" ∷ codes "3" ∷ codes "--answers" ∷ codes "1" ∷ [])) ≡ Some SampleWithoutSeed
+  pub sample_and_after : clash (options (codes "--sample=3" ∷ codes "--seed=7" ∷ codes "--after" ∷ codes "1" ∷ [])) ≡ Some AfterWithoutAll
+  pub sample_and_all : clash (options (codes "--all" ∷ codes "--seed" ∷ codes "7" ∷ codes "--sample" ∷ codes "3" ∷ [])) ≡ Some SeedWithAll
+  pub sample_and_answers : clash (options (codes "--seed" ∷ codes "7" ∷ codes "--sample" ∷ codes "3" ∷ codes "--answers" ∷ codes "1" ∷ [])) ≡ Some SeedWithAnswers
+  pub sample_listing : clash (options (codes "--sample" ∷ codes "3" ∷ codes "--list" ∷ [])) ≡ Some ListWithOther
+  pub sample_and_seed : clash (options (codes "--seed" ∷ codes "7" ∷ codes "--sample" ∷ codes "3" ∷ codes "--form=1" ∷ [])) ≡ None
   pub answers_and_all : clash (options (codes "--all" ∷ codes "--answers" ∷ codes "none" ∷ [])) ≡ Some AnswersWithAll
   pub seed_listing : clash (options (codes "--seed" ∷ codes "7" ∷ codes "--list" ∷ [])) ≡ Some ListWithOther
   pub seed_and_after : clash (options (codes "--seed" ∷ codes "7" ∷ codes "--after" ∷ codes "0" ∷ [])) ≡ Some AfterWithoutAll
@@ -344,6 +399,8 @@ pub record OptionRows : Type 0 where
   pub choice : options (codes "--choose" ∷ codes "8" ∷ []) ≡ record no_options { choose = Some 8 }
   pub form : options (codes "--all" ∷ codes "--form" ∷ codes "1" ∷ []) ≡ record no_options { all = true; form = Some 1 }
   pub under : options (codes "--all" ∷ codes "--under" ∷ codes "2/2" ∷ []) ≡ record no_options { all = true; under = Some (codes "2/2") }
+  pub shares : options (codes "--all" ∷ codes "--shares" ∷ codes "64" ∷ []) ≡ record no_options { all = true; shares = Some 64 }
+  pub sample : options (codes "--seed" ∷ codes "7" ∷ codes "--sample=1000000000" ∷ []) ≡ record no_options { seed = Some 7; sample = Some 1000000000 }
   pub switches : options (codes "--all" ∷ codes "--list" ∷ []) ≡ record no_options { all = true; list = true }
 
 -- words that clap refuses
@@ -365,6 +422,13 @@ pub record FaultRows : Type 0 where
   pub least_choice : faults (codes "--choose" ∷ codes "1" ∷ []) ≡ []
   pub most_choices : faults (codes "--choose" ∷ codes "32767" ∷ []) ≡ []
   pub many_choices : faults (codes "--choose" ∷ codes "32768" ∷ []) ≡ ValueValidation ∷ []
+  pub no_shares : faults (codes "--shares" ∷ codes "0" ∷ []) ≡ ValueValidation ∷ []
+  pub least_shares : faults (codes "--shares" ∷ codes "1" ∷ []) ≡ []
+  pub most_shares : faults (codes "--shares" ∷ codes "64" ∷ []) ≡ []
+  pub many_shares : faults (codes "--shares" ∷ codes "65" ∷ []) ≡ ValueValidation ∷ []
+  pub no_sample : faults (codes "--sample" ∷ codes "0" ∷ []) ≡ ValueValidation ∷ []
+  pub most_sample : faults (codes "--sample" ∷ codes "1000000000" ∷ []) ≡ []
+  pub many_sample : faults (codes "--sample" ∷ codes "1000000001" ∷ []) ≡ ValueValidation ∷ []
   pub no_number : faults (codes "--steps" ∷ codes "many" ∷ []) ≡ ValueValidation ∷ []
   pub unknown : faults (codes "--stops" ∷ []) ≡ UnknownArgument ∷ []
   pub second_operand : faults (codes "a" ∷ codes "b" ∷ []) ≡ UnknownArgument ∷ []

@@ -3,7 +3,8 @@
 ghost use Rattle.ptb_rows.specs.Rows.{AfterRows, AllRows, BoundRows, ChoiceRows, ClashRows};
 ghost use Rattle.ptb_rows.specs.Rows.{ExampleRows, FaultRows};
 ghost use Rattle.ptb_rows.specs.Rows.{ListRows, ListingRows, LongRunRows, OptionRows, ProgramRows};
-ghost use Rattle.ptb_rows.specs.Rows.{RefusalRows, RunRows, SeedRows, ShareRows};
+ghost use Rattle.ptb_rows.specs.Rows.{RefusalRows, RunRows, SampleRows, SeedRows, ShareRows};
+ghost use Rattle.ptb_rows.specs.Rows.{SplitRows};
 
 /// Worked rows of plain runs.
 #[tactic(auto, using(crate::proofs::RunRows::run_rows))]
@@ -15,6 +16,18 @@ pub fn run_rows()
 #[tactic(auto, using(crate::proofs::SeedRows::seed_rows))]
 pub fn seed_rows()
     ensures { SeedRows }
+{}
+
+/// Worked rows of the lists that split all runs.
+#[tactic(auto, using(crate::proofs::SplitRows::split_rows))]
+pub fn split_rows()
+    ensures { SplitRows }
+{}
+
+/// Worked rows of samples.
+#[tactic(auto, using(crate::proofs::SampleRows::sample_rows))]
+pub fn sample_rows()
+    ensures { SampleRows }
 {}
 
 /// Worked rows of answers in place of missing lines.

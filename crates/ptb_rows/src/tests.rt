@@ -1,5 +1,6 @@
 // This file tests serving, over readers and writers that move few bytes, fail, or never end.
 
+use ptb_explore::Form;
 use ptb_machine::Rules;
 use ptb_options::{DEFAULT_MEMORY, DEFAULT_STEPS, Mode, Request};
 use ptb_serve::{Note, Outcome, serve};
@@ -143,6 +144,10 @@ pub(crate) fn reply_on_endless_input(
 enum Asked<'a> {
     Run(&'a [i16]),
     Seed(u64),
+    // The lists of at most so many answers that split all runs, in this form.
+    Shares(u8, Form),
+    // The runs of seed 7: so many, in this form.
+    Sample(u32, Form),
     List,
 }
 
@@ -188,8 +193,14 @@ macro_rules! row {
     };
 }
 
-// What is done with a program by each kind of request that runs it once or lists it.
-const EACH_KIND: &[Asked<'static>] = &[Asked::Run(&[]), Asked::Seed(7), Asked::List];
+// What is done with a program by each kind of request that runs it once, samples its runs or lists it.
+const EACH_KIND: &[Asked<'static>] = &[
+    Asked::Run(&[]),
+    Asked::Seed(7),
+    Asked::Shares(2, Form::Two),
+    Asked::Sample(3, Form::Two),
+    Asked::List,
+];
 
 pub(crate) const FAILINGS: &[Failing] = &[
     Failing::Breaks,
@@ -210,6 +221,12 @@ fn request_of(alloc: Global, row: &Row<'_>) -> Result<Request, AllocError> {
     let mode = match row.asked {
         Asked::Run(answers) => Mode::Plain(Vec::from_slice(alloc, answers)?.into()),
         Asked::Seed(seed) => Mode::Seeded(seed),
+        Asked::Shares(answers, form) => Mode::Shares { answers, form },
+        Asked::Sample(runs, form) => Mode::Sample {
+            seed: 7,
+            runs,
+            form,
+        },
         Asked::List => Mode::List,
     };
     Ok(Request {
@@ -336,6 +353,155 @@ const SEEDED_RUNS: &[Row<'static>] = &[
 #[test]
 fn seeded_runs(rt: HostRuntime) -> Result<(), Fail> {
     expect_rows(&rt, rt.alloc(), SEEDED_RUNS)?;
+    Ok(())
+}
+
+const SPLITS: &[Row<'static>] = &[
+    row!(
+        b"10 A=RND(2);IF A=2 B=RND(3);PRINT B",
+        b"1/2\n2/2\n",
+        0,
+        asked = Asked::Shares(1, Form::Two)
+    ),
+    row!(
+        b"10 A=RND(2);IF A=2 B=RND(3);PRINT B",
+        b"1/2\n2/2,1/3\n2/2,2/3\n2/2,3/3\n",
+        0,
+        asked = Asked::Shares(2, Form::Two)
+    ),
+    row!(
+        b"10 A=RND(2);IF A=2 B=RND(3);PRINT B",
+        b"1\n2,1\n2,2\n2,3\n",
+        0,
+        asked = Asked::Shares(9, Form::One)
+    ),
+    row!(b"", b"none\n", 0, asked = Asked::Shares(1, Form::Two)),
+    row!(
+        b"10 P.RND(2)",
+        b"none\n",
+        0,
+        asked = Asked::Shares(0, Form::Two)
+    ),
+    row!(
+        b"10 INPUT A;PRINT RND(9)",
+        b"1/2\n2/2\n",
+        0,
+        asked = Asked::Shares(1, Form::Two),
+        input = b"RND(2)\n"
+    ),
+    row!(
+        b"10 INPUT A,B",
+        b"1/3\n2/3\n3/3\n",
+        0,
+        asked = Asked::Shares(1, Form::Two),
+        choose = Some(3)
+    ),
+    row!(
+        b"10 A=RND(2);B=RND(2)",
+        b"1/2\n2/2\n",
+        0,
+        asked = Asked::Shares(2, Form::Two),
+        steps = 1
+    ),
+];
+
+// The lists that split the runs.
+#[test]
+fn lists_that_split(rt: HostRuntime) -> Result<(), Fail> {
+    expect_rows(&rt, rt.alloc(), SPLITS)?;
+    Ok(())
+}
+
+// Nothing is written of these lists until the input was read to its end.
+#[test]
+fn splits_on_unread_inputs(rt: HostRuntime) -> Result<(), Fail> {
+    let asked = Asked::Shares(1, Form::Two);
+    let row = row!(
+        b"10 P.RND(6)\n",
+        b"",
+        66,
+        asked = asked,
+        note = Some(Note::InputUnread)
+    );
+    expect_unread_input(&rt, rt.alloc(), &row, b"5\n")?;
+    let request = request_of(rt.alloc(), &row)?;
+    let (reply, given) = reply_on_endless_input(rt.alloc(), &request, row.program, 1);
+    expect_reply(&rt, reply, (66, Some(Note::InputUnread)), b"");
+    expect_same(&rt, given <= 16_777_217, true);
+    Ok(())
+}
+
+const SAMPLES: &[Row<'static>] = &[
+    row!(
+        b"10 P.RND(6)",
+        b"RUN 3/6 END 1 7\n     3\n\nRUN 5/6 END 1 7\n     5\n\nRUN 5/6 END 1 7\n     5\n\n",
+        0,
+        asked = Asked::Sample(3, Form::Two)
+    ),
+    row!(
+        b"10 P.RND(6)",
+        b"RUN 3 END 1 7\n     3\n\n",
+        0,
+        asked = Asked::Sample(1, Form::One)
+    ),
+    row!(
+        b"10 A=RND(2);IF A=2 B=RND(3);PRINT B",
+        b"RUN 1 END 2 0\n\nRUN 1 END 2 0\n\nRUN 1 END 2 0\n\nRUN 2,1 END 4 7\n     1\n\n",
+        0,
+        asked = Asked::Sample(4, Form::One)
+    ),
+    row!(
+        b"10 INPUT A",
+        b"RUN 3 END 1 9\nA:RND(6)\n\nRUN 5 END 1 9\nA:RND(6)\n\n",
+        0,
+        asked = Asked::Sample(2, Form::One),
+        input = b"RND(6)\n5\n"
+    ),
+    row!(
+        b"10 INPUT A",
+        b"RUN 3/6 END 1 4\nA:3\n\n",
+        0,
+        asked = Asked::Sample(1, Form::Two),
+        choose = Some(6)
+    ),
+    row!(
+        b"10 A=RND(2);GOTO 10",
+        b"RUN 1/2,1/2 LIMIT 3 0\n\n",
+        0,
+        asked = Asked::Sample(1, Form::Two),
+        steps = 3
+    ),
+    row!(
+        b"",
+        b"RUN none END 0 0\n\n",
+        0,
+        asked = Asked::Sample(1, Form::Two)
+    ),
+];
+
+// The reports of the runs that a seed draws, one after the other.
+#[test]
+fn samples(rt: HostRuntime) -> Result<(), Fail> {
+    expect_rows(&rt, rt.alloc(), SAMPLES)?;
+    Ok(())
+}
+
+// Nothing is written of a sample until its input was read to the end.
+#[test]
+fn samples_on_unread_inputs(rt: HostRuntime) -> Result<(), Fail> {
+    let asked = Asked::Sample(3, Form::Two);
+    let row = row!(
+        b"10 P.RND(6)\n",
+        b"",
+        66,
+        asked = asked,
+        note = Some(Note::InputUnread)
+    );
+    expect_unread_input(&rt, rt.alloc(), &row, b"5\n")?;
+    let request = request_of(rt.alloc(), &row)?;
+    let (reply, given) = reply_on_endless_input(rt.alloc(), &request, row.program, 1);
+    expect_reply(&rt, reply, (66, Some(Note::InputUnread)), b"");
+    expect_same(&rt, given <= 16_777_217, true);
     Ok(())
 }
 

@@ -76,12 +76,49 @@ const CLASHES: &[(UsageFault, &str, &[&str])] = &[
             "ptb --under 1 --list",
             "ptb --list --seed 1",
             "ptb --list --form 1",
+            "ptb --list --shares 2",
+            "ptb --sample 3 --list",
         ],
     ),
     (
         UsageFault::UnderWithoutAll,
         "ptb: --under needs --all",
-        &["ptb --under 0", "ptb --under 1 --answers x"],
+        &[
+            "ptb --under 0",
+            "ptb --under 1 --answers x",
+            "ptb --under 1 --shares 2",
+            "ptb --seed 1 --sample 3 --under 1",
+        ],
+    ),
+    (
+        UsageFault::SharesWithoutAll,
+        "ptb: --shares needs --all",
+        &[
+            "ptb --shares 2",
+            "ptb --shares 2 --sample 3",
+            "ptb --shares 2 --seed 1 --answers x",
+        ],
+    ),
+    (
+        UsageFault::SharesWithOther,
+        "ptb: --shares excludes --after, --first and --under",
+        &[
+            "ptb --all --shares 2 --after 1",
+            "ptb --all --shares 2 --first 1",
+            "ptb --all --shares 2 --under x",
+            "ptb --all --shares 2 --under 1 --answers x",
+            "ptb --all --shares 2 --first 1 --sample 3",
+        ],
+    ),
+    (
+        UsageFault::SampleWithoutSeed,
+        "ptb: --sample needs --seed",
+        &[
+            "ptb --sample 3",
+            "ptb --sample 3 --answers x",
+            "ptb --all --sample 3 --answers x",
+            "ptb --all --shares 2 --sample 3",
+        ],
     ),
     (
         UsageFault::FormWithoutAll,
@@ -91,6 +128,7 @@ const CLASHES: &[(UsageFault, &str, &[&str])] = &[
             "ptb --form 1",
             "ptb --form 2 --answers x",
             "ptb --form 2 --seed 1 --answers 1",
+            "ptb --form 2 --shares 2",
         ],
     ),
     (
@@ -118,17 +156,27 @@ const CLASHES: &[(UsageFault, &str, &[&str])] = &[
             "ptb --all --answers none",
             "ptb --all --answers x",
             "ptb --seed 1 --all --answers x",
+            "ptb --all --shares 2 --answers none",
         ],
     ),
     (
         UsageFault::SeedWithAll,
         "ptb: --seed excludes --all",
-        &["ptb --seed 1 --all", "ptb --all --seed 1 --after x"],
+        &[
+            "ptb --seed 1 --all",
+            "ptb --all --seed 1 --after x",
+            "ptb --all --shares 2 --seed 1",
+            "ptb --all --seed 1 --sample 3",
+        ],
     ),
     (
         UsageFault::SeedWithAnswers,
         "ptb: --seed excludes --answers",
-        &["ptb --seed 1 --answers none", "ptb --answers x --seed 1"],
+        &[
+            "ptb --seed 1 --answers none",
+            "ptb --answers x --seed 1",
+            "ptb --answers x --seed 1 --sample 3",
+        ],
     ),
     (
         UsageFault::BadList,
@@ -576,6 +624,60 @@ fn requests_for_a_share(rt: HostRuntime) {
     }
 }
 
+// The most answers, and the form, of a line that asks for the lists that split the runs.
+fn shares(alloc: Global, line: &str) -> Option<(u8, Form)> {
+    match requested(alloc, line)?.mode {
+        Mode::Shares { answers, form } => Some((answers, form)),
+        _ => None,
+    }
+}
+
+const SPLITS: &[(&str, u8, Form)] = &[
+    ("ptb --all --shares 1", 1, Form::Two),
+    ("ptb --shares=64 --form 1 game.bas --all", 64, Form::One),
+    ("ptb --all --shares 9 --form 2 --choose 2", 9, Form::Two),
+];
+
+#[test]
+fn requests_for_lists_that_split(rt: HostRuntime) {
+    for &(line, answers, form) in SPLITS {
+        let found = shares(rt.alloc(), line);
+        expect_same(&rt, line, found, Some((answers, form)));
+    }
+}
+
+// The seed, the number of runs and the form of a line that asks for runs by a seed.
+fn sample(alloc: Global, line: &str) -> Option<(u64, u32, Form)> {
+    match requested(alloc, line)?.mode {
+        Mode::Sample { seed, runs, form } => Some((seed, runs, form)),
+        _ => None,
+    }
+}
+
+const SAMPLES: &[(&str, u64, u32, Form)] = &[
+    ("ptb --seed 0 --sample 1", 0, 1, Form::Two),
+    (
+        "ptb --sample=1000000000 --form 1 game.bas --seed 4294967295",
+        4_294_967_295,
+        1_000_000_000,
+        Form::One,
+    ),
+    (
+        "ptb --seed 7 --sample 3 --form 2 --steps 5",
+        7,
+        3,
+        Form::Two,
+    ),
+];
+
+#[test]
+fn requests_for_samples(rt: HostRuntime) {
+    for &(line, seed, runs, form) in SAMPLES {
+        let found = sample(rt.alloc(), line);
+        expect_same(&rt, line, found, Some((seed, runs, form)));
+    }
+}
+
 // The memory of a request.
 fn memory_of(alloc: Global, line: &str) -> Option<u16> {
     Some(requested(alloc, line)?.memory)
@@ -664,6 +766,10 @@ const REFUSALS: &[(ErrorKind, u8, &[&str])] = &[
             "ptb --form 0 --all",
             "ptb --form 3 --all",
             "ptb --form two --all",
+            "ptb --shares 0 --all",
+            "ptb --shares 65 --all",
+            "ptb --sample 0 --seed 1",
+            "ptb --sample 1000000001 --seed 1",
             "ptb --first 0 --version",
         ],
     ),
@@ -776,6 +882,16 @@ const WRONG_NUMBERS: &[(&str, ErrorKind, &str)] = &[
         ErrorKind::ValueValidation,
         "error: invalid value 'a=b' for '--form <N>': expected a number from 1 to 2",
     ),
+    (
+        "ptb --all --shares 65",
+        ErrorKind::ValueValidation,
+        "error: invalid value '65' for '--shares <N>': expected a number from 1 to 64",
+    ),
+    (
+        "ptb --seed 1 --sample 1e6",
+        ErrorKind::ValueValidation,
+        "error: invalid value '1e6' for '--sample <N>': expected a number from 1 to 1000000000",
+    ),
 ];
 
 // The text on the first wrong number of a command line, if there is one.
@@ -847,8 +963,13 @@ const HELP: &[&str] = &[
     "                      begin with LIST",
     "      --after <LIST>  With --all, only the runs after this one",
     "      --first <N>     With --all, at most N reports (1 to 1000000000)",
-    "      --form <N>      With --all, numbers alone (1), or each with",
-    "                      its bound (2, the default)",
+    "      --shares <N>    With --all, print lists for --under that split",
+    "                      the runs, of at most N numbers (1 to 64)",
+    "      --sample <N>    With --seed, write the reports of N runs that",
+    "                      are drawn one after the other",
+    "                      (1 to 1000000000)",
+    "      --form <N>      In reports and lists, numbers alone (1), or",
+    "                      each with its bound (2, the default)",
     "",
     "List:",
     "      --list  Print the program in the order of its line numbers, and run nothing",
@@ -860,8 +981,8 @@ const HELP: &[&str] = &[
     "and --seed draws a seed and prints it; --seed replays the run.",
     "",
     "Exit status:",
-    "   0  the program ended, or the reports, the listing, this help or the version",
-    "      was written",
+    "   0  the program ended, or the reports, the lists, the listing, this help or",
+    "      the version was written",
     "   1  the program stopped with WHAT?",
     "   2  the program stopped with HOW?",
     "   3  the program stopped with SORRY",

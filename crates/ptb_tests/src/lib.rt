@@ -6,6 +6,8 @@
 #![tactic(auto)]
 
 #[cfg(test)]
+mod beginnings;
+#[cfg(test)]
 mod command_line;
 #[cfg(test)]
 mod copies;
@@ -23,5 +25,7 @@ mod plain_runs;
 mod refused_lists;
 #[cfg(test)]
 mod reports;
+#[cfg(test)]
+mod samples;
 #[cfg(test)]
 mod shared;

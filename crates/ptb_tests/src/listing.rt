@@ -44,7 +44,7 @@ enum Runs<'a> {
 // Why no listing begins behind a run.
 fn why_not_behind(fault: AfterFault) -> &'static str {
     match fault {
-        AfterFault::NotARun => "not a run",
+        AfterFault::NotARun(_) => "not a run",
         AfterFault::Memory => "out of memory",
     }
 }
@@ -52,7 +52,7 @@ fn why_not_behind(fault: AfterFault) -> &'static str {
 // Why there is no listing of the runs that begin so.
 fn why_not_under(fault: UnderFault) -> &'static str {
     match fault {
-        UnderFault::NoBeginning => "no beginning",
+        UnderFault::NoBeginning(_) => "no beginning",
         UnderFault::Memory => "out of memory",
     }
 }

@@ -4,7 +4,7 @@ use crate::shared::{
     FOUR_OF_4, ONE, ONE_OF_2, ONE_OF_3, OUT_OF_MEMORY, THREE, THREE_OF_3, TWO, TWO_OF_2, TWO_OF_3,
     ZERO, expect_same, loaded, plain_rules,
 };
-use ptb_explore::{Marked, Mismatch, beginning_mismatch, run_mismatch};
+use ptb_explore::{AfterFault, Explorer, Marked, Mismatch, UnderFault};
 use ptb_text::Program;
 use std::alloc::{AllocError, Global};
 use std::process::Abort;
@@ -42,6 +42,46 @@ fn missing(item: usize, bound: i16) -> Mismatch {
     Mismatch::Missing { item, bound }
 }
 
+// Why no run begins with a list; `None` where one does.
+fn beginning_mismatch(
+    alloc: Global,
+    program: &Program,
+    list: &[Marked],
+) -> Result<Option<Mismatch>, AllocError> {
+    match Explorer::under(alloc, program, &[], plain_rules(10000), list) {
+        Ok(_) => Ok(None),
+        Err(UnderFault::NoBeginning(mismatch)) => Ok(Some(mismatch)),
+        Err(UnderFault::Memory) => Err(AllocError),
+    }
+}
+
+// Why a list is no run that begins with another; `None` where it is one.
+fn run_mismatch(
+    alloc: Global,
+    program: &Program,
+    under: &[Marked],
+    list: &[Marked],
+) -> Result<Option<Mismatch>, AllocError> {
+    match Explorer::after_under(alloc, program, &[], plain_rules(10000), under, list) {
+        Ok(_) => Ok(None),
+        Err(AfterFault::NotARun(mismatch)) => Ok(Some(mismatch)),
+        Err(AfterFault::Memory) => Err(AllocError),
+    }
+}
+
+// Why answers without bounds are no run; `None` where they are one.
+fn answers_mismatch(
+    alloc: Global,
+    program: &Program,
+    answers: &[i16],
+) -> Result<Option<Mismatch>, AllocError> {
+    match Explorer::after(alloc, program, &[], plain_rules(10000), answers) {
+        Ok(_) => Ok(None),
+        Err(AfterFault::NotARun(mismatch)) => Ok(Some(mismatch)),
+        Err(AfterFault::Memory) => Err(AllocError),
+    }
+}
+
 // Whether a run begins with a list, and whether it is one that begins with another; where not, why.
 fn expect_mismatches(
     rt: &impl Abort,
@@ -51,9 +91,8 @@ fn expect_mismatches(
     list: &[Marked],
     wanted: (Option<Mismatch>, Option<Mismatch>),
 ) -> Result<(), AllocError> {
-    let rules = plain_rules(10000);
-    let beginning = beginning_mismatch(alloc, program, &[], rules, list)?;
-    let run = run_mismatch(alloc, program, &[], rules, under, list)?;
+    let beginning = beginning_mismatch(alloc, program, list)?;
+    let run = run_mismatch(alloc, program, under, list)?;
     expect_same(rt, "mismatches", (beginning, run), wanted);
     Ok(())
 }
@@ -105,6 +144,42 @@ fn items_that_fit(rt: HostRuntime) -> Result<(), Fail> {
     Ok(())
 }
 
+// Answers without bounds, and why they are no run.
+#[test]
+fn answers_that_are_no_run(rt: HostRuntime) -> Result<(), Fail> {
+    let rows: [(&[i16], Option<Mismatch>); 6] = [
+        (&[1], None),
+        (&[2, 3], None),
+        (&[], Some(missing(1, 2))),
+        (&[2], Some(missing(2, 3))),
+        (&[2, 4], Some(out_of_range(2, 4, 3))),
+        (&[1, 1], Some(no_question(1))),
+    ];
+    let (program, _) = loaded(rt.alloc(), BRANCHES, "")?;
+    for (answers, wanted) in rows {
+        let found = answers_mismatch(rt.alloc(), &program, answers)?;
+        expect_same(&rt, "mismatch", found, wanted);
+    }
+    Ok(())
+}
+
+// How a list begins is looked at before its items are: nothing is played then.
+#[test]
+fn lists_that_begin_otherwise(rt: HostRuntime) -> Result<(), Fail> {
+    let rows: [(&[Marked], &[Marked]); 4] = [
+        (&[TWO], &[THREE]),
+        (&[TWO], &[ONE, ONE]),
+        (&[TWO, ONE], &[TWO]),
+        (&[TWO], &[]),
+    ];
+    let (program, _) = loaded(rt.alloc(), BRANCHES, "")?;
+    for (under, list) in rows {
+        let run = run_mismatch(rt.alloc(), &program, under, list)?;
+        expect_same(&rt, "mismatch", run, Some(Mismatch::NotUnder));
+    }
+    Ok(())
+}
+
 // What is found, or nothing where there is no memory.
 fn expect_or_refused(
     rt: &impl Abort,
@@ -117,11 +192,13 @@ fn expect_or_refused(
 }
 
 fn expect_both_or_refused(rt: &impl Abort, alloc: Global, program: &Program) {
-    let rules = plain_rules(10000);
-    let beginning = beginning_mismatch(alloc, program, &[], rules, &[TWO, FOUR]);
+    let beginning = beginning_mismatch(alloc, program, &[TWO, FOUR]);
     expect_or_refused(rt, beginning, out_of_range(2, 4, 3));
-    let run = run_mismatch(alloc, program, &[], rules, &[TWO], &[ONE]);
-    expect_or_refused(rt, run, Mismatch::NotUnder);
+    let run = run_mismatch(alloc, program, &[TWO], &[TWO]);
+    expect_or_refused(rt, run, missing(2, 3));
+    // no memory is wanted here
+    let other = run_mismatch(alloc, program, &[TWO], &[ONE]);
+    expect_same(rt, "mismatch", other, Ok(Some(Mismatch::NotUnder)));
 }
 
 // Passes whichever of its allocations is refused.

@@ -76,7 +76,7 @@ fn is_run_from(
 ) -> Result<bool, &'static str> {
     match Explorer::after_marked(alloc, program, lines, plain_rules(10000), list) {
         Ok(_) => Ok(true),
-        Err(AfterFault::NotARun) => Ok(false),
+        Err(AfterFault::NotARun(_)) => Ok(false),
         Err(AfterFault::Memory) => Err("no memory"),
     }
 }
