@@ -12,7 +12,7 @@ _ptb() {
         mapfile -t COMPREPLY < <(compgen -W '1 2' -- "$current")
         return
         ;;
-    --steps | --memory | --choose | --seed | --first)
+    --steps | --memory | --choose | --seed | --first | --shares | --sample)
         # a number; no file is offered in its place
         compopt +o default 2>/dev/null
         return
@@ -21,7 +21,7 @@ _ptb() {
     case $current in
     -*)
         mapfile -t COMPREPLY < <(compgen -W \
-            '--steps --memory --choose --answers --seed --all --under --after --first --form --list --help -h --version -V' -- "$current")
+            '--steps --memory --choose --answers --seed --all --under --after --first --shares --sample --form --list --help -h --version -V' -- "$current")
         ;;
     *)
         mapfile -t COMPREPLY < <(compgen -f -X '!*.bas' -- "$current"; compgen -d -- "$current")

@@ -141,11 +141,49 @@ refused 'a share with a bound that is another' '10 P.RND(2)\n' 67 \
 refused 'a share with an answer too many' '10 P.RND(2)\n' 67 \
     'ptb: no run begins so\n  --under: the run is over after 1 item' --all --under 1,1
 refused 'a run of another share' '10 P.RND(2)\n' 67 \
-    'ptb: not a run\n  --after: the run does not begin with the items of --under' --all --under 2 --after 1
+    'ptb: not a run\n  --after: the list does not begin with the items of --under' --all --under 2 --after 1
 refused 'a share without all runs' '10 P.RND(2)\n' 64 'ptb: --under needs --all' --under 2
 refused 'a share beside a listing of the text' '10 P.RND(2)\n' 64 'ptb: --list stands alone' --under 2 --list
 refused 'a share that is spelled wrong' '10 P.RND(2)\n' 64 \
     'ptb: bad list\n  --under: item 1 ("01") is not a number from 1 to 32767' --all --under 01
+
+# ---- lists that split the runs
+
+branches='10 A=RND(2);IF A=2 B=RND(3);PRINT B\n'
+plain 'lists of one answer' "$branches" 0 '1/2\n2/2\n' --all --shares 1
+plain 'lists of two answers' "$branches" 0 '1/2\n2/2,1/3\n2/2,2/3\n2/2,3/3\n' --all --shares 2
+plain 'lists of all answers in form 1' "$branches" 0 '1\n2,1\n2,2\n2,3\n' --all --shares 9 --form 1
+plain 'a list of an empty program' '' 0 'none\n' --all --shares 1
+plain 'lists with numbers for lines' '10 INPUT A,B\n' 0 '1/3\n2/3\n3/3\n' --all --shares 1 --choose 3
+plain 'lists of runs that are cut off' '10 A=RND(2);GOTO 10\n' 0 '1/2,1/2\n1/2,2/2\n2/2,1/2\n2/2,2/2\n' --all --shares 9 --steps 3
+refused 'lists without --all' "$branches" 64 'ptb: --shares needs --all' --shares 1
+refused 'lists of a share' "$branches" 64 'ptb: --shares excludes --after, --first and --under' --all --shares 1 --under 2
+refused 'lists after a run' "$branches" 64 'ptb: --shares excludes --after, --first and --under' --all --shares 1 --after 1
+refused 'the first lists' "$branches" 64 'ptb: --shares excludes --after, --first and --under' --all --shares 1 --first 1
+refused 'lists beside a listing of the text' "$branches" 64 'ptb: --list stands alone' --all --shares 1 --list
+refused 'lists of no answers' "$branches" 64 \
+    "error: invalid value '0' for '--shares <N>': expected a number from 1 to 64\\n\\nFor more information, try '--help'." \
+    --all --shares 0
+refused 'lists of a text that is refused' '0 P.\n' 65 'ptb: line 1: no statement number' --all --shares 1
+
+# ---- samples
+
+# the first words of seed 7 give 3, 5 and 5 modulo 6
+rolls='RUN 3/6 END 1 7\n     3\n\nRUN 5/6 END 1 7\n     5\n\nRUN 5/6 END 1 7\n     5\n\n'
+plain 'a sample' '10 P.RND(6)\n' 0 "$rolls" --seed 7 --sample 3
+plain 'a sample in form 1' '10 P.RND(6)\n' 0 'RUN 3 END 1 7\n     3\n\n' --seed 7 --sample 1 --form 1
+plain 'a sample of runs that ask once and twice' '10 A=RND(2);IF A=2 B=RND(3);PRINT B\n' 0 \
+    'RUN 1/2 END 2 0\n\nRUN 1/2 END 2 0\n\nRUN 1/2 END 2 0\n\nRUN 2/2,1/3 END 4 7\n     1\n\n' --seed 7 --sample 4
+plain 'a sample with numbers for lines' '10 INPUT A\n' 0 'RUN 3/6 END 1 4\nA:3\n\n' --seed 7 --sample 1 --choose 6
+plain 'a sample of runs that are cut off' '10 A=RND(2);GOTO 10\n' 0 'RUN 1/2,1/2 LIMIT 3 0\n\n' --seed 7 --sample 1 --steps 3
+plain 'a sample of an empty program' '' 0 'RUN none END 0 0\n\nRUN none END 0 0\n\n' --seed 7 --sample 2
+refused 'a sample without a seed' '10 P.RND(6)\n' 64 'ptb: --sample needs --seed' --sample 3
+refused 'a sample beside all runs' '10 P.RND(6)\n' 64 'ptb: --seed excludes --all' --seed 7 --sample 3 --all
+refused 'a sample beside a listing of the text' '10 P.RND(6)\n' 64 'ptb: --list stands alone' --seed 7 --sample 3 --list
+refused 'a sample of no run' '10 P.RND(6)\n' 64 \
+    "error: invalid value '0' for '--sample <N>': expected a number from 1 to 1000000000\\n\\nFor more information, try '--help'." \
+    --seed 7 --sample 0
+refused 'a sample of a text that is refused' '0 P.\n' 65 'ptb: line 1: no statement number' --seed 7 --sample 3
 
 # ---- files
 
@@ -289,7 +327,7 @@ complains 'an argument that is no text' $'\xff'
 # ---- writers that fail
 
 printf '10 PRINT "HI"\n20 GOTO 10\n' >"$folder/loop.bas"
-for words in '' --list; do
+for words in '' --list '--seed 7 --sample 3'; do
     # shellcheck disable=SC2086
     "$ptb" $words "$folder/loop.bas" </dev/null >/dev/full 2>"$folder/errors"
     status=$?
@@ -305,7 +343,7 @@ for words in --help --version; do
 done
 
 mkfifo "$folder/pipe"
-for words in '' --list; do
+for words in '' --list '--seed 7 --sample 3'; do
     # the reader opens the pipe and goes before the program writes
     (: <"$folder/pipe") &
     reader=$!
@@ -322,18 +360,22 @@ for words in '' --list; do
     count "a pipe whose reader has gone $words" "$(is_as_due 74 '' 'ptb: cannot write\n')"
 done
 
-# a listing into a file at its size limit: a beginning is there, and that the rest is missing is told
-run --all "$root/examples/throw.bas" </dev/null
-head -c 1024 "$folder/output" >"$folder/beginning"
-(
-    trap '' XFSZ
-    ulimit -f 1
-    exec "$ptb" --all "$root/examples/throw.bas" </dev/null >"$folder/limited" 2>"$folder/errors"
-)
-status=$?
-: >"$folder/output"
-count 'a file at its size limit' "$(is_as_due 74 '' 'ptb: cannot write\n')"
-if cmp -s "$folder/beginning" "$folder/limited"; then count 'and what it holds' yes; else count 'and what it holds' no; fi
+# reports into a file at its size limit: it has a prefix, and a line says that the rest is missing
+for words in --all '--seed 7 --sample 200'; do
+    # shellcheck disable=SC2086
+    run $words "$root/examples/throw.bas" </dev/null
+    head -c 1024 "$folder/output" >"$folder/prefix"
+    (
+        trap '' XFSZ
+        ulimit -f 1
+        # shellcheck disable=SC2086
+        exec "$ptb" $words "$root/examples/throw.bas" </dev/null >"$folder/limited" 2>"$folder/errors"
+    )
+    status=$?
+    : >"$folder/output"
+    count "a file at its size limit $words" "$(is_as_due 74 '' 'ptb: cannot write\n')"
+    if cmp -s "$folder/prefix" "$folder/limited"; then count 'and what it holds' yes; else count 'and what it holds' no; fi
+done
 
 # ---- the examples, each with its input and its answers
 

@@ -64,9 +64,9 @@ count_same 'options in the man page' "$(long_in <<<"$man_words")" "$long"
 count_same 'short options in the man page' "$(short_in <<<"$man_words")" "$short"
 count_same 'options that the man page names at all' "$(long_in_page ptb)" "$long"
 
-# the pages of the tools have the options of their help; --all and --choose are those of ptb
+# the pages of the tools have the options of their help; --all, --choose, --sample and --seed are those of ptb
 count_same 'options that the man page of outcomes names' "$(long_in_page ptb-outcomes)" \
-    "$({ echo --all --choose; "$root/tools/outcomes" --help; } | long_in)"
+    "$({ echo --all --choose --sample --seed; "$root/tools/outcomes" --help; } | long_in)"
 count_same 'options that the man page of adapt names' "$(long_in_page ptb-adapt)" "$("$root/tools/adapt" --help | long_in)"
 count_same 'options that the man page of resume names' "$(long_in_page ptb-resume)" "$("$root/tools/resume" --help | long_in)"
 count_same 'options that the man page of shares names' "$(long_in_page ptb-shares)" "$("$root/tools/shares" --help | long_in)"

@@ -57,7 +57,7 @@ shared() {
     printf '%b' "$3" >"$folder/input"
     shift 3
     "$PTB" "$@" --all "$program" <"$folder/input" >"$folder/whole"
-    for depth in 0 1 2 9; do
+    for depth in 1 2 9; do
         rm -f "$folder"/part.*
         "$root/tools/shares" "$program" "$depth" "$@" <"$folder/input" | numbered >"$folder/lists"
         by_xargs "$program" "$@" <"$folder/lists"

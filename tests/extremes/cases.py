@@ -261,6 +261,8 @@ def seeds():
     for seed in (0, 7, 4_294_967_295):
         shown = "".join(f"{answer}\n" for answer in drawn(seed, 32767, 257 * 256))
         yield run(f"65,792 answers by the seed {seed}", SEEDED, shown, words=f"--seed {seed} --steps {steps}")
+        rolls = "".join(f"RUN {roll}/6 END 1 7\n{roll:6}\n\n" for roll in drawn(seed, 6, 20_000))
+        yield run(f"20,000 runs by the seed {seed}", "10 P.RND(6)\n", rolls, words=f"--seed {seed} --sample 20000")
 
 
 # ---- many lines of input

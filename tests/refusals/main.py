@@ -107,7 +107,7 @@ def is_due(row, kind, struck, reply):
     if not struck or kind == "cut":
         return reply == row.due
     if kind in ("refuse", "deplete"):
-        return reply == row.due or is_cut_short(row, reply, OUT_OF_MEMORY)
+        return reply == row.due or is_cut_short(row, reply, OUT_OF_MEMORY) and has_whole_reports(row, reply)
     if kind == "starve":
         return reply == OUT_OF_MEMORY
     if struck == "W1":
@@ -116,7 +116,7 @@ def is_due(row, kind, struck, reply):
         return (reply.status, reply.output) == (row.due.status, row.due.output)
     if struck == "R0" and row.input is not None:
         # A run reads a line when it asks for it, so that it may have shown something before.
-        return reply == NO_INPUT if "--all" in row.words else is_cut_short(row, reply, NO_INPUT)
+        return reply == NO_INPUT if is_reported(row) else is_cut_short(row, reply, NO_INPUT)
     return is_program_unread(row, reply)
 
 
@@ -126,6 +126,19 @@ def is_program_unread(row, reply):
         return reply == noted(66, NO_PROGRAM, f"standard input: {DEVICE_FAILED}")
     named = reply.errors.decode().split("/program.bas: ")
     return len(named) == 2 and reply == noted(66, NO_PROGRAM, f"{named[0].split()[-1]}/program.bas: {DEVICE_FAILED}")
+
+
+def is_reported(row):
+    """Whether a row writes reports of runs."""
+    return "--all" in row.words or "--sample" in row.words
+
+
+def has_whole_reports(row, reply):
+    """Whether the next report was not begun, where reports are written; or the next line, where lists are."""
+    if "--shares" in row.words:
+        return not reply.output or reply.output.endswith(b"\n")
+    rest = row.due.output[len(reply.output) :]
+    return not is_reported(row) or not rest or rest.startswith(b"RUN ")
 
 
 def is_cut_short(row, reply, note):

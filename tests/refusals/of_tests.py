@@ -20,6 +20,8 @@ TESTS = [
     ("ptb_tests", "mismatches::refused_mismatches", set()),
     ("ptb_tests", "plain_runs::refused_seeded_runs", set()),
     ("ptb_tests", "listing::refused_listings_go_on", {"0", "1"}),
+    ("ptb_tests", "beginnings::refused_lists_end_with_a_line", {"0"}),
+    ("ptb_tests", "samples::refused_samples_end_with_a_report", {"0"}),
 ]
 MOST_CALLS = 1000
 SECONDS_OF_A_TEST = 60

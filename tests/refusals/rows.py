@@ -46,6 +46,10 @@ PRODUCTS = [
 BRANCH = "10 A=RND(2);IF A=2 B=RND(3);PRINT B\n"
 BRANCHES = [report("1/2 END 2 0", "")] + [report(f"2/2,{k}/3 END 4 7", f"     {k}\n") for k in (1, 2, 3)]
 DICE = "10 PRINT RND(6),RND(6)\n"
+ROLL = "10 P.RND(6)\n"
+# what the first words of seed 7 make of the questions of these programs, run after run
+ROLLS = [report(f"{k}/6 END 1 7", f"     {k}\n") for k in (3, 5, 5)]
+SAMPLED = [report("1/2 END 2 0", "")] * 3 + [BRANCHES[1]]
 ECHO = "10 INPUT A;PRINT A\n"
 ECHOES = [report(f"{k} END 2 16", f"A:RND(2)\n     {k}\n") for k in (1, 2)]
 ASK = "10 INPUT A\n"
@@ -57,7 +61,7 @@ LONG_REPORT = report(",".join(["1"] * 300) + " END 601 2100", 300 * "     1\n")
 LONG_TEXT = "".join(f"{k} REM {k}\n" for k in range(1, 50))
 
 OTHER_BOUND = "--{}: item 1 states the bound 3, but its question has 2"
-NOT_UNDER = "--after: the run does not begin with the items of --under"
+NOT_UNDER = "--after: the list does not begin with the items of --under"
 
 ROWS = [
     Row("--all --form 1", PRODUCT, "", served("".join(PRODUCTS))),
@@ -73,6 +77,16 @@ ROWS = [
     Row("--seed 7", BRANCH, "", served("")),
     Row("--seed 7", DICE, "", served("     3     5\n")),
     Row("--seed 7", LONG_RUN, "", served(300 * "     1\n")),
+    Row("--all --shares 1", BRANCH, "", served("1/2\n2/2\n")),
+    Row("--all --shares 2", BRANCH, None, served("1/2\n2/2,1/3\n2/2,2/3\n2/2,3/3\n")),
+    Row("--all --shares 1 --form 1", ECHO, "RND(2)\n", served("1\n2\n")),
+    Row("--all --shares 64", LONG_RUN, "", served(",".join(["1/1"] * 64) + "\n")),
+    Row("--shares 1", BRANCH, None, noted(64, "--shares needs --all")),
+    Row("--seed 7 --sample 3", ROLL, "", served("".join(ROLLS))),
+    Row("--seed 7 --sample 4", BRANCH, None, served("".join(SAMPLED))),
+    Row("--seed 7 --sample 1 --form 1", ECHO, "RND(2)\n", served(ECHOES[0])),
+    Row("--seed 7 --sample 2 --form 1", LONG_RUN, "", served(2 * LONG_REPORT)),
+    Row("--sample 3", ROLL, None, noted(64, "--sample needs --seed")),
     Row("--answers 2,3", BRANCH, None, served("     3\n")),
     Row("--all --form 1", ECHO, "RND(2)\n", served("".join(ECHOES))),
     Row("--answers 1", ECHO, "RND(2)\n", served("A:RND(2)\n     1\n")),

@@ -18,7 +18,7 @@ MISFIT = (
     rb"|item [1-9]\d* states the bound [1-9]\d*, but its question has [1-9]\d*"
     rb"|the run is over after (?:1 item|(?:0|[1-9]\d*) items))"
 )
-NOT_A_RUN = rb"(?:%b|item [1-9]\d* is missing; its question allows 1 to [1-9]\d*|the run does not begin with the items of --under)" % MISFIT
+NOT_A_RUN = rb"(?:%b|item [1-9]\d* is missing; its question allows 1 to [1-9]\d*|the list does not begin with the items of --under)" % MISFIT
 
 # The text for errors that goes with each status. Lack of memory has one too, but nothing here is short of memory.
 NOTES = {

@@ -5,9 +5,11 @@ from dataclasses import dataclass, replace
 import calls
 from calls import Call
 from reports import Malformed, marked, raised_place, read_reports, spelled, without_bounds
+from seeds import words
 
 PROGRAM, INPUT = "program.bas", "input.txt"
 REPORTS = 30
+SAMPLED = 5
 RUNS_LOOKED_AT = 3
 BOUNDS_LOOKED_AT = 5
 LONGEST_LIST = 4000
@@ -104,6 +106,11 @@ class Trial:
         options += [("form", form)] if form else self.chance.choice([[], [("form", "2")]])
         return self.call(options, **files)
 
+    def sample(self, seed, runs):
+        """The reports of so many runs that a seed draws, or the run by it where no number is given."""
+        options = [("seed", str(seed)), ("steps", str(self.case.steps)), *self.choose()]
+        return self.call(options + ([("sample", str(runs))] if runs else []))
+
     def text(self, **files):
         """A listing of the program's text."""
         return self.call([("list", "")], **files)
@@ -123,6 +130,7 @@ def check(trial, write):
     check_gaps(trial, reports, is_whole)
     check_portions(trial, reports, is_whole)
     check_shares(trial, reports, is_whole)
+    check_sample(trial)
     for report in reports:
         check_plain(trial, report, listing)
     for report in trial.chance.sample(reports, min(RUNS_LOOKED_AT, len(reports))):
@@ -344,6 +352,24 @@ def check_plain(trial, report, listing):
         trial.hold("a fault shows its statement", is_fault_told(report, listing), seen)
     if report.ending == "NOINPUT":
         trial.hold("a prompt is shown where a line is missing", report.transcript.endswith(b":"), seen)
+
+
+def check_sample(trial):
+    """The words of a seed, one after the other, draw the answers of all runs of its sample, each of which is a run."""
+    seed = trial.chance.randrange(1 << 32)
+    call = trial.sample(seed, SAMPLED)
+    reply = trial.ask(call)
+    reports = reports_in(trial, call, reply)
+    if not trial.hold("as many reports as runs were to be drawn", len(reports) == SAMPLED, (call, reply)):
+        return
+    answers = [answer for report in reports for answer in report.answers]
+    bounds = [bound for report in reports for bound in report.bounds]
+    drawn = [1 + word % bound for bound, word in zip(bounds, words(seed))]
+    trial.hold("a word for each answer, run after run", answers == drawn, (call, reply))
+    trial.expect("a sample of one run", trial.sample(seed, 1), 0, reports[0].text)
+    trial.expect("the run by a seed is the first of its sample", trial.sample(seed, None), *due_of(reports[0]))
+    for report in reports:
+        trial.expect("a plain run of a sampled report", trial.plain(report.answers), *due_of(report))
 
 
 def due_of(report):

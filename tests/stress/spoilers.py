@@ -34,6 +34,16 @@ def in_shares(spoil):
     return spoiled
 
 
+def in_samples(spoil):
+    """Spoils the reports of a sample."""
+
+    def spoiled(call, reply):
+        is_sample = any(os.fsencode(word).startswith(b"--sample") for word in call.words)
+        return in_reports(spoil)(call, reply) if is_sample else reply
+
+    return spoiled
+
+
 def in_plain_runs(spoil):
     """Spoils replies of plain runs that write something."""
 
@@ -53,6 +63,8 @@ SPOILERS = {
     "drops a report in the midst": in_reports(lambda reports: reports[:1] + reports[2:]),
     "repeats a report": in_reports(lambda reports: reports + reports[-1:]),
     "has two reports in each other's place": in_reports(lambda reports: [reports[1], reports[0], *reports[2:]]),
+    "draws each run of a sample by the first words": in_samples(lambda reports: reports[:1] * len(reports)),
+    "leaves out the first run of a sample": in_samples(lambda reports: reports[1:] + reports[:1]),
     "leaves out the first report of a share": in_shares(lambda reports: reports[1:]),
     "takes no run for one of a share": lambda call, reply: (
         replace(reply, status=0, errors=b"") if reply.errors.startswith(b"ptb: no run begins so\n") else reply

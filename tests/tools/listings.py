@@ -92,6 +92,15 @@ def listed(program: str, *arguments: str, lines: bytes = b"") -> bytes:
         return subprocess.run(command, input=lines, stdout=subprocess.PIPE, check=True).stdout
 
 
+def sampled(program: str, seed: int, runs: int, *arguments: str) -> bytes:
+    """The reports of runs of a program's text that ptb draws."""
+    with tempfile.NamedTemporaryFile(suffix=".bas") as file:
+        file.write(program.encode())
+        file.flush()
+        command = [PTB, "--seed", str(seed), "--sample", str(runs), *arguments, file.name]
+        return subprocess.run(command, input=b"", stdout=subprocess.PIPE, check=True).stdout
+
+
 def example(name: str, *arguments: str) -> bytes:
     """The listing of all runs of an example on its lines."""
     with open(f"{ROOT}/examples/{name}.bas") as program, open(f"{ROOT}/examples/{name}.input", "rb") as lines:

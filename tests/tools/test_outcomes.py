@@ -457,6 +457,22 @@ These runs are sampled: in 95 of 100 samples the interval contains the true chan
         self.assertEqual(reply.out.splitlines()[0], "4 sampled runs, 3 endings; this is a part of the sample")
         self.assertIn("the input ends within a report", reply.errors)
 
+    def test_of_the_program(self) -> None:
+        for form in "1", "2":
+            reply = outcomes(listings.sampled("10 PRINT RND(6)\n", 7, 3, "--form", form), "--sampled", "--by", "answer:1")
+            self.assertEqual((reply.status, reply.errors), (0, ""))
+            shares = re.findall(r"([0-9.]+) to ([0-9.]+) % +#+ +(.*)", reply.out)
+            self.assertEqual(shares, [("20.77", "93.85", "answer 5, 2 runs"), ("6.15", "79.23", "answer 3, 1 run")])
+
+    def test_intervals_have_the_chances(self) -> None:
+        """Of the sums of two dice, at least nine of eleven intervals have the chance that is counted by hand."""
+        reply = outcomes(listings.sampled("10 P.RND(6)+RND(6)\n", 1, 10_000), "--sampled", "--by", "last-line")
+        self.assertEqual((reply.status, reply.out.splitlines()[0]), (0, "10,000 sampled runs, 11 last lines"))
+        rows = re.findall(r"([0-9.]+) to ([0-9.]+) % +#+ +([0-9]+), [0-9,]+ runs", reply.out)
+        within = [float(low) <= 100 * (6 - abs(int(total) - 7)) / 36 <= float(high) for low, high, total in rows]
+        self.assertEqual(len(within), 11)
+        self.assertGreaterEqual(sum(within), 9)
+
     def test_each_output_says_so(self) -> None:
         with tempfile.NamedTemporaryFile() as page:
             for arguments in [], ["--csv"], ["--json"], ["--by=ending", "--by=last-line"], ["--html", page.name]:
