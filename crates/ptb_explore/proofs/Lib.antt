@@ -6,6 +6,7 @@ pub mod Next
 pub mod Behind
 pub mod Shares
 pub mod Bounds
+pub mod Chances
 pub mod Raising
 pub mod Attempt
 pub mod Recording

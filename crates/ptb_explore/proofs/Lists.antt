@@ -119,7 +119,7 @@ rising_branches f m (suc n) each apart =
 
 -- ---- a list for each answer to a question
 
-is_answer_from : (n k : ℕ) → 1 ≤ k → k ≤ n → is_answer (pos n) (pos k) ≡ true
+pub is_answer_from : (n k : ℕ) → 1 ≤ k → k ≤ n → is_answer (pos n) (pos k) ≡ true
 is_answer_from n k l u = and_from (int_le (pos 1) (pos k)) (int_le (pos k) (pos n)) (le-leb 1 k l) (le-leb k n u)
 
 pub in_answers : (f : ℤ → List Answers) (a : Answers) (n : ℤ) → IsIn a (flat_map f (answers_to n)) → (k : ℤ) × (is_answer n k ≡ true) × IsIn a (f k)

@@ -7,6 +7,7 @@ pub mod Copies
 pub mod MarkedRuns
 pub mod Mismatch
 pub mod Report
+pub mod Chances
 pub mod Listing
 pub mod Exploring
 pub mod Lending

@@ -6,7 +6,10 @@ ghost use Rattle.ptb_answers.specs.Outcome.{Answers, Outcome, IsReader};
 ghost use Rattle.ptb_answers.specs.declared.rules.Rules.{Rules};
 ghost use Rattle.ptb_machine.specs.Play.{Finish, play};
 ghost use Rattle.ptb_machine.specs.Questions.{most_answers};
+ghost use Rattle.ptb_numbers.specs.Fractions.{Equals};
+ghost use Rattle.ptb_explore.specs.RunTree.{tree};
 ghost use Rattle.ptb_explore.specs.Beginnings.{BeginningLaws};
+ghost use Rattle.ptb_explore.specs.Chances.{chance_of_all};
 ghost use Rattle.ptb_explore.specs.Laws.{ListingLaws, ReportLaws, ShareLaws, TreeLaws};
 ghost use Rattle.ptb_explore.specs.Sampling.{SampleLaws};
 
@@ -40,6 +43,12 @@ pub fn share_laws<A, W>()
 pub fn beginning_laws<A, W>()
     ensures { (play : Answers → Outcome A W) (most n : ℕ) → IsReader play most
         → BeginningLaws play most n }
+{}
+
+/// The chances of all runs add up to 1.
+pub fn chance_laws<A, W>()
+    ensures { (play : Answers → Outcome A W) (most : ℕ) → IsReader play most
+        → Equals (chance_of_all play (tree play most)) (record { numerator = 1; denominator = 1 }) }
 {}
 
 /// Two runs have two different reports, in whatever form, and so the listings of two shares have no

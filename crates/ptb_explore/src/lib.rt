@@ -27,7 +27,8 @@ pub use beginnings::{Beginnings, write_beginnings};
 pub use explorer::Explorer;
 pub use fault::{AfterFault, ExploreFault, UnderFault};
 pub use laws::{
-    beginning_laws, listing_laws, program_laws, report_laws, sample_laws, share_laws, tree_laws,
+    beginning_laws, chance_laws, listing_laws, program_laws, report_laws, sample_laws, share_laws,
+    tree_laws,
 };
 pub use listing::write_all_runs;
 pub use mismatch::{Mismatch, mismatch_laws};

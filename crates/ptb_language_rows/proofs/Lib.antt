@@ -4,4 +4,5 @@ pub mod TextRows
 pub mod ExpressionRows
 pub mod PlayRows
 pub mod TreeRows
+pub mod ChanceRows
 pub mod SampleRows

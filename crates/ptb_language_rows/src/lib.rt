@@ -8,6 +8,6 @@
 mod rows;
 
 pub use rows::{
-    answer_rows, array_rows, fault_rows, input_rows, loading_rows, long_rows, loop_rows,
-    print_rows, report_rows, run_rows, sample_rows, step_rows, value_rows, word_rows,
+    answer_rows, array_rows, chance_rows, fault_rows, input_rows, loading_rows, long_rows,
+    loop_rows, print_rows, report_rows, run_rows, sample_rows, step_rows, value_rows, word_rows,
 };

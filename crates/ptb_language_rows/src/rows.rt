@@ -5,6 +5,7 @@ ghost use Rattle.ptb_language_rows.specs.ExpressionRows.{ValueRows};
 ghost use Rattle.ptb_language_rows.specs.PlayRows.{AnswerRows, PrintRows, InputRows, LoopRows};
 ghost use Rattle.ptb_language_rows.specs.PlayRows.{FaultRows, ArrayRows, LongRows, StepRows};
 ghost use Rattle.ptb_language_rows.specs.TreeRows.{RunRows, ReportRows};
+ghost use Rattle.ptb_language_rows.specs.ChanceRows.{ChanceRows};
 ghost use Rattle.ptb_language_rows.specs.SampleRows.{SampleRows};
 
 /// Worked rows of loading and listing.
@@ -89,4 +90,10 @@ pub fn report_rows()
 #[tactic(auto, using(crate::proofs::SampleRows::sample_rows))]
 pub fn sample_rows()
     ensures { SampleRows }
+{}
+
+/// Worked rows of chances.
+#[tactic(auto, using(crate::proofs::ChanceRows::chance_rows))]
+pub fn chance_rows()
+    ensures { ChanceRows }
 {}
