@@ -228,8 +228,9 @@ fn report_next(
     }
 }
 
-// Plays the answers of a list, which a trial plans, and makes the report of their run, except its
-// ending, if they are a run and each bound that is stated is that of its question.
+// Plays the answers of a list, which a trial plans, gives the number of steps that were played, and
+// makes the report of their run, except its ending, if they are a run and each bound that is stated is
+// that of its question.
 fn check_run(
     alloc: Global,
     player: &mut Player,
@@ -239,6 +240,7 @@ fn check_run(
     trial: &mut Recorder,
     run: &mut Report,
     copies: &mut Copies,
+    played: &mut u64,
 ) -> Result<(), AfterFault>
     requires plan { trial.old.answers.items ≡ answers_of list.now }
     requires fresh { IsFresh trial.old }
@@ -253,12 +255,12 @@ fn check_run(
     ensures copies { OnOk result (AreCopies player.old lines.now rules trial.old.answers.items
         run.new.transcript.items copies.new.kept.items) }
     ensures played { OnOk result (IsPlayed (play player.old lines.now rules)
-        trial.old.answers.items run.new.steps) }
+        trial.old.answers.items played.new) }
     ensures mismatch { (m : Mismatch) → IsErrOf result (AfterFault.NotARun m)
         → IsRunMismatch (play player.old lines.now rules) [] list.now m }
 
     // Memory is refused to the play, before its steps are known, and never to the comparison.
-    ensures memory { IsErrOf result AfterFault.Memory → run.new.steps ≡ run.old.steps }
+    ensures memory { IsErrOf result AfterFault.Memory → played.new ≡ played.old }
 {
     run_laws();
     let mut screen = TextScreen::new(alloc);
@@ -266,6 +268,7 @@ fn check_run(
     run.transcript = screen.into_vec();
     let (ending, steps) = end?;
     run.steps = steps;
+    *played = u64::from(run.steps);
     if let Some(mismatch) = run_mismatch(list, trial, ending) {
         return Err(AfterFault::NotARun(mismatch));
     }
@@ -629,11 +632,21 @@ impl<'a> Explorer<'a> {
         }
         let under = answers_of(alloc, under)?;
         let trial = Recorder::planning(alloc, answers_of(alloc, list)?);
-        Explorer::at_plan(alloc, program, lines, rules, under, trial, list)
+        let mut played = 0;
+        Explorer::at_plan(
+            alloc,
+            program,
+            lines,
+            rules,
+            under,
+            trial,
+            list,
+            &mut played,
+        )
     }
 
     // An explorer of the runs that begin with some answers, which stands at the run of a list, whose
-    // answers are planned.
+    // answers are planned. The steps of that run are the commands that were played.
     fn at_plan(
         alloc: Global,
         program: &'a Program,
@@ -642,6 +655,7 @@ impl<'a> Explorer<'a> {
         under: Vec<i16>,
         mut trial: Recorder,
         list: &[Marked],
+        played: &mut u64,
     ) -> Result<Explorer<'a>, AfterFault>
         requires fresh { IsFresh trial }
         requires plan { trial.answers.items ≡ answers_of list.now }
@@ -663,12 +677,15 @@ impl<'a> Explorer<'a> {
             IsPlayed (play program.now lines.now rules) trial.answers.items e.played) }
         ensures mismatch { (m : Mismatch) → IsErrOf result (AfterFault.NotARun m)
             → IsRunMismatch (play program.now lines.now rules) [] list.now m }
+
+        // Memory is refused before the steps are known, and never to the comparison.
+        ensures memory { IsErrOf result AfterFault.Memory → played.new ≡ played.old }
     {
         run_laws();
         let mut player = Player::new(alloc, program)?;
         let mut run = Report::new(alloc);
         let mut copies = Copies::new();
-        check_run(
+        let checked = check_run(
             alloc,
             &mut player,
             lines,
@@ -677,8 +694,9 @@ impl<'a> Explorer<'a> {
             &mut trial,
             &mut run,
             &mut copies,
-        )?;
-        let played = u64::from(run.steps);
+            played,
+        );
+        checked?;
         Ok(Explorer {
             player,
             lines,
@@ -688,7 +706,7 @@ impl<'a> Explorer<'a> {
             report: run,
             trial,
             copies,
-            played,
+            played: *played,
             alloc,
         })
     }

@@ -34,7 +34,7 @@ returns c =
       bounds = c.hand_over.ensures.bounds ∙ whole.2;
       copies = kept_same p p input input c.args.rules (choices_of new).taken plan.items shown _ _ _
           refl refl (sym (all_given (play p input c.args.rules) new (whole.2 ∙ sym (ap (bounds (play p input c.args.rules)) whole.1)) ∙ whole.1)) c.into_vec.ensures refl c.in_ok-ending.ensures.copies;
-      played = λ f is. ap (λ (x : Finish). x.steps) (result_is _ f [] [] (sym whole.3 ∙ is));
+      played = λ f is. c.from.ensures ∙ ap (λ (x : Finish). x.steps) (result_is _ f [] [] (sym whole.3 ∙ is));
       mismatch = λ _ fault. ok_no_err fault;
       memory = ok_no_err;
     }
