@@ -4,4 +4,5 @@ pub mod CommandLine
 pub mod ListMistakes
 pub mod Options
 pub mod Statuses
+pub mod Messages
 pub mod WrongNumbers

@@ -1,7 +1,8 @@
 // This file finds what is wrong with a text that should spell a list of answers.
 
-ghost use Rattle.std.specs.Prelude.{◌≡◌, IfSome, None};
+ghost use Rattle.std.specs.Prelude.{◌≡◌, IfSome, Some, None};
 ghost use Rattle.ptb_options.specs.ListMistakes.{IsFault, IsItemOf, IsListOf, IsMistakeOf};
+ghost use Rattle.ptb_options.specs.Messages.{option_text};
 
 use crate::items::parse_item;
 use std::fmt;
@@ -53,6 +54,8 @@ pub enum ListOption {
 }
 
 impl fmt::Display for ListOption {
+    ghost output = { λ option. Some (option_text option) };
+
     fn fmt<W: fmt::Write>(&self, f: &mut fmt::Formatter<W>) -> fmt::Result {
         f.write_str(match self {
             ListOption::Under => "--under",

@@ -2,7 +2,9 @@
 
 ghost use Rattle.std.specs.Prelude.{◌≡◌, ◌↔◌, IsTrue, IfSome, Some, None, map, option_copied};
 ghost use Rattle.std.specs.Prelude.{slice_get, false};
+ghost use Rattle.std.specs.Fmt.{WritesOnOk};
 ghost use Rattle.clap.specs.Words.{Accepts};
+ghost use Rattle.ptb_options.specs.Messages.{number_text, range_text};
 ghost use Rattle.ptb_options.specs.WrongNumbers.{HasNoWrongNumber, HasNoWrongValue};
 ghost use Rattle.ptb_options.specs.WrongNumbers.{IsNumberOption, IsNumberRange, IsWrongFor};
 ghost use Rattle.ptb_options.specs.WrongNumbers.{IsWrongNumber, IsWrongValue, NamesNoNumber};
@@ -32,19 +34,24 @@ pub struct WrongNumber<'a> {
 }
 
 impl fmt::Display for WrongNumber<'_> {
+    ghost output = { λ wrong. Some (number_text wrong) };
+
     fn fmt<W: fmt::Write>(&self, f: &mut fmt::Formatter<W>) -> fmt::Result {
         let (name, value) = (self.option.name, self.value);
         write!(f, "error: invalid value '{value}' for '--{name} <N>': ")?;
-        match self.option.range {
-            ValueParser::Signed(least, most) => {
-                write!(f, "expected a number from {least} to {most}")?;
-            }
-            ValueParser::Unsigned(least, most) => {
-                write!(f, "expected a number from {least} to {most}")?;
-            }
-            _ => {}
-        }
+        write_range(self.option.range, f)?;
         f.write_str("\n\nFor more information, try '--help'.\n")
+    }
+}
+
+// Writes which numbers an option takes.
+fn write_range<W: fmt::Write>(range: ValueParser<'_>, f: &mut fmt::Formatter<W>) -> fmt::Result
+    ensures { WritesOnOk W.write_str_gives f.old result (range_text range.entry) f.new }
+{
+    match range {
+        ValueParser::Signed(least, most) => write!(f, "expected a number from {least} to {most}"),
+        ValueParser::Unsigned(least, most) => write!(f, "expected a number from {least} to {most}"),
+        _ => Ok(()),
     }
 }
 
