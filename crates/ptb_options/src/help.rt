@@ -54,14 +54,13 @@ pub const FIRST: &str = "With --all, at most N reports (1 to 1000000000)";
 
 /// The help of `--shares`.
 pub const SHARES: &str = "\
-With --all, print lists for --under that split
-the runs, of at most N numbers (1 to 64)";
+With --all, split the runs: print lists of at
+most N numbers, each for --under (1 to 64)";
 
 /// The help of `--sample`.
 pub const SAMPLE: &str = "\
-With --seed, write the reports of N runs that
-are drawn one after the other
-(1 to 1000000000)";
+With --seed, draw N runs, one after the other,
+and write their reports (1 to 1000000000)";
 
 /// The help of `--form`.
 pub const FORM: &str = "\
