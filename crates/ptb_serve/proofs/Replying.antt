@@ -13,6 +13,7 @@ use Rattle.ptb_machine.specs.Questions.{most_answers}
 use Rattle.ptb_answers.specs.declared.form.Form.{Form}
 use Rattle.ptb_answers.specs.declared.form.Marked.{Marked}
 use Rattle.ptb_answers.specs.AnswerText.{answers_of, items_in}
+use Rattle.ptb_explore.specs.Beginnings.{BeginningLaws}
 use Rattle.ptb_explore.specs.Laws.{ListingLaws, ReportLaws, ShareLaws, TreeLaws}
 use Rattle.ptb_explore.specs.Report.{report_of}
 use Rattle.ptb_explore.specs.Sampling.{SampleLaws}
@@ -29,7 +30,7 @@ use Rattle.ptb_serve.specs.Replies.{Reply, refusal, plain_reply, seeded_reply, a
 use Rattle.ptb_serve.specs.ReplyLaws.{ListsRuns, RunReplies, RunsBySeed, SamplesBySeed, ReplyLaws}
 use Rattle.ptb_serve.proofs.Fronts.{begun_after, begun_both, begun_under, both_parts, both_true, no_front, no_share, share_true}
 use Rattle.ptb_serve.proofs.Listed.{reply-listed, reply-refused}
-use Rattle.ptb_serve.proofs.Sharing.{share_replies}
+use Rattle.ptb_serve.proofs.Sharing.{share_replies, splits_runs}
 
 -- ---- a text that is refused
 
@@ -59,7 +60,8 @@ accepted memory b next p h = ap (reply_or_refusal next memory) h
 module _ (p : StoredProgram) (c : List ℕ) (rules : Rules) (tree : TreeLaws (play p (input_lines c) rules) (most_answers p (input_lines c) rules.limit))
     (laws : ListingLaws (play p (input_lines c) rules) (most_answers p (input_lines c) rules.limit)) (share : ShareLaws (play p (input_lines c) rules) (most_answers p (input_lines c) rules.limit))
     (reports : ReportLaws (play p (input_lines c) rules) (most_answers p (input_lines c) rules.limit))
-    (reads : IsReader (play p (input_lines c) rules) (most_answers p (input_lines c) rules.limit)) (drawn : SeededLaws) (samples : SampleLaws (play p (input_lines c) rules) (most_answers p (input_lines c) rules.limit)) where
+    (reads : IsReader (play p (input_lines c) rules) (most_answers p (input_lines c) rules.limit)) (drawn : SeededLaws) (samples : SampleLaws (play p (input_lines c) rules) (most_answers p (input_lines c) rules.limit))
+    (beginnings : (n : ℕ) → BeginningLaws (play p (input_lines c) rules) (most_answers p (input_lines c) rules.limit) n) where
   abbrev game : Answers → Outcome Finish (List ℕ)
   game = play p (input_lines c) rules
 
@@ -117,8 +119,9 @@ module _ (p : StoredProgram) (c : List ℕ) (rules : Rules) (tree : TreeLaws (pl
       → ((seed : ℕ) → reply (modes.Seeded seed) ≡ seeded_reply rules seed c p)
       → ((under after : Option (List Marked)) (first : Option ℕ) (form : Form) → reply (modes.All under after first form) ≡ all_reply p (input_lines c) rules under after first form)
       → ((seed runs : ℕ) (form : Form) → reply (modes.Sample seed runs form) ≡ sample_reply p (input_lines c) rules seed runs form)
+      → ((n : ℕ) (form : Form) → reply (modes.Shares n form) ≡ shares_reply p (input_lines c) rules n form)
       → RunReplies game (most_answers p (input_lines c) rules.limit) reply
-  run_replies reply plain seeded all sample = record {
+  run_replies reply plain seeded all sample lists = record {
     tree = tree;
     all_runs = lists_runs None None refl (IsRun game) (λ a. (λ h. h.0, λ h. (h, refl))) (λ first form. reply (modes.All None None first form)) (all None None);
     runs_after = λ list run.
@@ -141,6 +144,7 @@ module _ (p : StoredProgram) (c : List ℕ) (rules : Rules) (tree : TreeLaws (pl
         all (Some under) (Some list) first form
         ∙ reply-refused p rules (Some under) (Some list) first form (input_lines c) notes.NoRun (no_front game (Some under) list (share_true game under b) none);
     shares = share_replies p c rules reads laws share reply all (λ after first form. all (Some []) after first form ∙ whole_reply after first form ∙ sym (all None after first form));
+    split = λ n. splits_runs p c rules reads laws share reply all n (beginnings n) (λ form. lists n form);
     reports = reports;
     run_report = λ form a f ends. ap (report_of (items_in form a (bounds game a))) ends;
     plain_run = plain;
@@ -155,18 +159,21 @@ pub reply_laws : RunLaws → SeededLaws
     → ((p : StoredProgram) (input : List (List ℕ)) (rules : Rules) → ListingLaws (play p input rules) (most_answers p input rules.limit))
     → ((p : StoredProgram) (input : List (List ℕ)) (rules : Rules) → ShareLaws (play p input rules) (most_answers p input rules.limit))
     → ((p : StoredProgram) (input : List (List ℕ)) (rules : Rules) → ReportLaws (play p input rules) (most_answers p input rules.limit))
-    → ((p : StoredProgram) (input : List (List ℕ)) (rules : Rules) → SampleLaws (play p input rules) (most_answers p input rules.limit)) → ReplyLaws
-reply_laws runs drawn tree laws share reports samples = record {
+    → ((p : StoredProgram) (input : List (List ℕ)) (rules : Rules) → SampleLaws (play p input rules) (most_answers p input rules.limit))
+    → ((p : StoredProgram) (input : List (List ℕ)) (rules : Rules) (n : ℕ) → BeginningLaws (play p input rules) (most_answers p input rules.limit) n) → ReplyLaws
+reply_laws runs drawn tree laws share reports samples beginnings = record {
   too_long = λ r b c long. refused_in_mode r.mode r b c (0, TooLong) (too_long_text r.memory b long);
   refused = λ r b c e h. refused_in_mode r.mode r b c e h;
   accepted = λ memory size rules b c p h.
       run_replies (record { lines = p; memory = memory }) c rules (tree (record { lines = p; memory = memory }) (input_lines c) rules)
       (laws (record { lines = p; memory = memory }) (input_lines c) rules) (share (record { lines = p; memory = memory }) (input_lines c) rules)
       (reports (record { lines = p; memory = memory }) (input_lines c) rules)
-      (runs.reads (record { lines = p; memory = memory }) (input_lines c) rules) drawn (samples (record { lines = p; memory = memory }) (input_lines c) rules) _
+      (runs.reads (record { lines = p; memory = memory }) (input_lines c) rules) drawn (samples (record { lines = p; memory = memory }) (input_lines c) rules)
+      (beginnings (record { lines = p; memory = memory }) (input_lines c) rules) _
       (λ a. accepted memory b (plain_reply rules a c) p h)
       (λ seed. accepted memory b (seeded_reply rules seed c) p h)
       (λ under after first form. accepted memory b (λ p. all_reply p (input_lines c) rules under after first form) p h)
-      (λ seed runs form. accepted memory b (λ p. sample_reply p (input_lines c) rules seed runs form) p h);
+      (λ seed runs form. accepted memory b (λ p. sample_reply p (input_lines c) rules seed runs form) p h)
+      (λ n form. accepted memory b (λ p. shares_reply p (input_lines c) rules n form) p h);
   listed = λ r b c p h mode. ap (λ m. reply_in_mode m r b c) mode ∙ accepted r.memory b listing_reply p h;
 }

@@ -1,5 +1,6 @@
 -- This file names the files of definitions.
 pub mod Statuses
+pub mod Messages
 pub mod Replies
 pub mod ReplyLaws
 pub mod Flushed

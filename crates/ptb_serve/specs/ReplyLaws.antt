@@ -3,6 +3,8 @@
 --     RunsBySeed seed play reply       the reply to a run by a seed is that to one plain run, whose answers are drawn from the seed
 --     SamplesBySeed seed play n reply  the replies to a sample are the reports of n runs that are drawn by the words of the seed's generator
 --     ShareReplies play reply          the replies to the shares of a tree: to the runs that begin with some answers
+--     line_items form play u           the answers of a list, in a form
+--     SplitsRuns play n reply          the reply to `--shares n` is a line for each list that splits the runs; the replies to their shares are the reply to all runs
 --     RunReplies play most reply       what the replies are where a program is run, once or with all answers
 --     ReplyLaws                        what a reply is for every program text and every input
 use Rattle.std.specs.Prelude.{◌≡◌, true, ℕ, suc, ◌<◌, List, [], ◌∷◌, ◌++◌, length, take, Option, Some, None, Ok, Err, ◌↔◌, Contains, ℤ}
@@ -19,6 +21,7 @@ use Rattle.ptb_answers.specs.declared.form.Form.{Form}
 use Rattle.ptb_answers.specs.declared.form.Marked.{Marked}
 use Rattle.ptb_answers.specs.AnswerText.{answers_of, items_in, without_bound}
 use Rattle.ptb_answers.specs.Seeds.{drawn_answers}
+use Rattle.ptb_explore.specs.Beginnings.{IsBeginning, beginning_line}
 use Rattle.ptb_explore.specs.Laws.{ReportLaws, TreeLaws}
 use Rattle.ptb_explore.specs.Listing.{text}
 use Rattle.ptb_explore.specs.MarkedRuns.{IsMarkedBeginning, IsMarkedRun}
@@ -80,6 +83,27 @@ pub record ShareReplies (play : Answers → Outcome Finish (List ℕ)) (reply : 
   -- where two lists first differ, no run begins with both
   pub apart : (u v a : Answers) → Before u v → IsRun play a → begins_with a u ≡ true → begins_with a v ≡ true → ⊥
 
+-- a list of answers as its line has it
+abbrev pub line_items : Form → (Answers → Outcome Finish (List ℕ)) → Answers → List Marked
+line_items form play u = items_in form u (bounds play u)
+
+-- Lists of at most n answers split all runs into shares.
+pub record SplitsRuns (play : Answers → Outcome Finish (List ℕ)) (n : ℕ) (reply : Mode → Reply) : Type 0 where
+  pub lists : List Answers
+  -- each is before all that follow it, so none is there twice
+  pub rising : IsRising lists
+  -- a list is there exactly where it is a run of at most n answers, or n answers after which one more is asked for
+  pub members : (u : Answers) → Contains lists u ↔ IsBeginning n play u
+  -- none begins with another
+  pub apart : (u later : Answers) (k : ℤ) → Contains lists u → Contains lists (u ++ k ∷ later) → ⊥
+  -- the line of each is written in this order, and the status is 0
+  pub lines : (form : Form) → reply (modes.Shares n form) ≡ success (text (beginning_line form play) lists)
+  -- some run begins with each, and the bounds in its line are those of its questions
+  pub begins : (form : Form) (u : Answers) → Contains lists u → IsMarkedBeginning play (line_items form play u)
+  -- the replies to the shares of these lists, one after the other, are the reply to all runs
+  pub joined : (form shown : Form) → reply (modes.All None None None shown)
+      ≡ success (flat_map (λ u. (reply (modes.All (Some (line_items form play u)) None None shown)).bytes) lists)
+
 -- `play` gives the result of the program on the input, by the list of answers. No run has more answers than `most`.
 pub record RunReplies (play : Answers → Outcome Finish (List ℕ)) (most : ℕ) (reply : Mode → Reply) : Type 0 where
   -- the runs stand in a tree, each once, in rising order; fewer than `most` answers come before a question; and no run begins another
@@ -106,6 +130,8 @@ pub record RunReplies (play : Answers → Outcome Finish (List ℕ)) (most : ℕ
       → reply (modes.All (Some under) (Some list) first form) ≡ refusal notes.NoRun
   -- how the replies to shares fit together
   pub shares : ShareReplies play reply
+  -- the lists that are given for shares are those of the definition, and their shares are all runs
+  pub split : (n : ℕ) → SplitsRuns play n reply
   -- two runs have two different reports, and no report is in two shares
   pub reports : ReportLaws play most
   -- the report of a run has its answers, in form 2 with their bounds, and the ending, the steps and the transcript of its play
@@ -133,7 +159,9 @@ pub record ReplyLaws : Type 0 where
   -- and the status is 67. With `--first n` it is the first n of the same reports. The status of these replies is 0, except where
   -- 67 is named. The reply to a plain run is what play shows with its answers, and the status is that of the ending. A run by a seed
   -- is a plain run with the answers that are drawn from the seed. With `--sample n` the reply is the reports of n runs: the first is the
-  -- run by the seed, and each later one is drawn by the words that the runs before it left.
+  -- run by the seed, and each later one is drawn by the words that the runs before it left. With `--shares n` the reply is a line for each
+  -- run of at most n answers, and for each n answers after which one more is asked for; the replies to `--under` these lists are, one
+  -- after the other, the reply to `--all`.
   pub accepted :
       (memory : ℕ) (size : IsMemorySize memory) (rules : Rules) (b c : List ℕ) (p : Statements) → program_of_text memory b ≡ Ok p
       → RunReplies (play (record { lines = p; memory = memory }) (input_lines c) rules) (most_answers (record { lines = p; memory = memory }) (input_lines c) rules.limit)

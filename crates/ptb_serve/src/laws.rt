@@ -11,7 +11,8 @@ use ptb_plain::seeded_laws;
 /// accepted it is the reports of all its runs, each once, in the order of their answers, or of those
 /// after a run, or of the first of them; what one run shows, with the status of its ending; or the
 /// program's lines. Two runs have two different reports. A run by a seed is the one run whose answers
-/// are drawn from the seed.
+/// are drawn from the seed. The replies to the shares of the lists that split the runs are, one after
+/// the other, the reports of all runs.
 #[tactic(auto, using(crate::proofs::Replying::reply_laws))]
 pub fn reply_laws()
     ensures { ReplyLaws }

@@ -2,6 +2,7 @@
 
 ghost use Rattle.std.specs.Prelude.{◌≡◌};
 ghost use Rattle.ptb_serve.specs.declared.note.Note.TheVariants.{OutOfMemory, Unwritten};
+ghost use Rattle.ptb_serve.specs.Messages.{note_line};
 ghost use Rattle.ptb_serve.specs.Serving.{input_note, load_note, reports_note};
 ghost use Rattle.ptb_serve.specs.Statuses.{note_status};
 
@@ -108,6 +109,8 @@ fn write_refusal<W: fmt::Write>(
 }
 
 impl fmt::Display for Note {
+    ghost output = { λ note. note_line note };
+
     fn fmt<W: fmt::Write>(&self, f: &mut fmt::Formatter<W>) -> fmt::Result {
         f.write_str(match self {
             Note::Load(line, fault) => return write_refusal(*line, *fault, f),
