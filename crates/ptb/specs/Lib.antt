@@ -3,3 +3,4 @@ pub mod Terminal
 pub mod Sources
 pub mod Opened
 pub mod Exits
+pub mod Messages

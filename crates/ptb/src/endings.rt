@@ -1,5 +1,10 @@
 // This file has the lines that say why a run ended, and which option helps.
 
+ghost use Rattle.std.specs.Prelude.{◌≡◌, Some};
+ghost use Rattle.std.specs.Fmt.{WritesOnOk};
+ghost use Rattle.ptb.specs.Messages.{plural, shortage_line};
+ghost use Rattle.ptb.specs.declared.endings.Shortage.TheVariants.{Commands};
+
 use std::fmt;
 
 /// Why a run ended before its program did.
@@ -18,6 +23,8 @@ pub enum Shortage {
 }
 
 impl fmt::Display for Shortage {
+    ghost output = { λ shortage. Some (shortage_line shortage) };
+
     fn fmt<W: fmt::Write>(&self, f: &mut fmt::Formatter<W>) -> fmt::Result {
         f.write_str(match self {
             Shortage::Commands(limit) => return write_limit(*limit, f),
@@ -40,10 +47,19 @@ impl fmt::Display for Shortage {
 }
 
 // Writes that a run stopped at this limit.
-fn write_limit<W: fmt::Write>(limit: u32, f: &mut fmt::Formatter<W>) -> fmt::Result {
-    let plural = if limit == 1 { "" } else { "s" };
+fn write_limit<W: fmt::Write>(limit: u32, f: &mut fmt::Formatter<W>) -> fmt::Result
+    ensures { WritesOnOk W.write_str_gives f.old result (shortage_line (Commands limit)) f.new }
+{
+    let plural = plural(limit);
     write!(
         f,
         "ptb: stopped at the limit of {limit} command{plural}; --steps N allows more"
     )
+}
+
+// How a word ends, by how many there are.
+fn plural(count: u32) -> &'static str
+    ensures { result.now ≡ plural count }
+{
+    if count == 1 { "" } else { "s" }
 }

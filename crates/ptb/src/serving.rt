@@ -4,6 +4,7 @@ ghost use Rattle.std.specs.Prelude.{◌≡◌, ℕ, List, Option, Result, IfSome
 ghost use Rattle.std.specs.Prelude.{option_copied};
 ghost use Rattle.ptb_serve.specs.declared.note.Note.{Note as NoteValue};
 ghost use Rattle.ptb_plain.specs.Streams.{reads_of, writes_of};
+ghost use Rattle.ptb.specs.Messages.{shortage_of};
 ghost use Rattle.ptb.specs.Opened.{ServesOpened, ServesTask, exit_status, no_lines};
 
 use crate::console::Console;
@@ -178,7 +179,10 @@ fn say_shortage<R: Runtime>(console: &Console<'_, R>, task: &Task<'_>, status: u
 }
 
 // Why a run with this status ended before its program did, if it did.
-fn shortage(task: &Task<'_>, status: u8) -> Option<Shortage> {
+fn shortage(task: &Task<'_>, status: u8) -> Option<Shortage>
+    ensures { result ≡ shortage_of (option_copied task.now.path) task.now.request.rules.limit
+        status }
+{
     match status {
         4 => Some(Shortage::Commands(task.request.rules.limit)),
         5 if task.path.is_some() => Some(Shortage::Lines),
