@@ -13,6 +13,7 @@ import sys
 from collections import Counter
 from fractions import Fraction
 from itertools import product
+from math import factorial
 
 sys.dont_write_bytecode = True
 sys.path.insert(0, f"{os.path.dirname(os.path.realpath(__file__))}/shared")
@@ -195,6 +196,44 @@ def check_by_hand():
     same("heads in a row", heads, due)
 
 
+# ---- tic-tac-toe
+
+# Squares are bits, three to an octal digit: rows, columns, diagonals.
+THREE_IN_A_ROW = [0o700, 0o070, 0o007, 0o444, 0o222, 0o111, 0o421, 0o124]
+SQUARES = [1 << place for place in range(9)]
+
+
+def games(moved, to_move, players):
+    """How each game ends after these squares of the player who has moved and of the one to move, and how many stay free."""
+    free = [square for square in SQUARES if not square & (moved | to_move)]
+    if any(moved & row == row for row in THREE_IN_A_ROW):
+        yield f"{players[0]} WINS", len(free)
+    elif not free:
+        yield "A DRAW", 0
+    else:
+        for square in free:
+            yield from games(to_move | square, moved, players[::-1])
+
+
+def check_tic_tac_toe():
+    """The games of the example, in shares by their first move, against those that are played here."""
+    program = f"{ROOT}/examples/tictac.bas"
+    lists = listing(program, "--shares", "1").decode().split()
+    same("the first moves of tic-tac-toe", lists, [f"{square}/9" for square in range(1, 10)])
+    shares = [listing(program, "--under", it) for it in lists]
+    chances = Counter()
+    for it, share, square in zip(lists, shares, SQUARES):
+        ends = Counter()
+        for (end, free), number in Counter(games(square, 0, "XO")).items():
+            ends[end] += number
+            chances[end] += number * Fraction(factorial(free), factorial(9))
+        said = Counter(re.findall("^(?:[XO] WINS|A DRAW)$", share.decode(), re.M))
+        same(f"the games of tic-tac-toe after {it}", said, ends)
+    numbers = {"X WINS": 131184, "O WINS": 77904, "A DRAW": 46080}  # as the literature has them
+    due = {end: (chances[end], number) for end, number in numbers.items()}
+    same("all games of tic-tac-toe", told(b"".join(shares), "last-line"), due)
+
+
 def main():
     program = check_page_of_the_tool()
     check_readme(program)
@@ -206,6 +245,7 @@ def main():
         check_tool(name, example(name))
     check_tool("eight with answers in place of lines", listing(f"{ROOT}/examples/eight.bas", "--choose", "8"))
     check_by_hand()
+    check_tic_tac_toe()
     print(f"{passed} passed, {failed} failed")
     return 1 if failed else 0
 

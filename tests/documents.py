@@ -42,7 +42,7 @@ WITH_COMMANDS = [
 ALL_PAGES = ["README.md", "CHANGELOG.md", "docs/*.md", "docs/*.1", "examples/README.md", "tests/README.md"]
 LINES_OF_README = 200
 BYTES_OF_A_PICTURE = 100_000
-LOOKS_LIKE_COMMAND = re.compile(r"    (\./|rt |tests/|tools/|ptb-|cd |cat |diff |printf |echo |sed |tr |q=)")
+LOOKS_LIKE_COMMAND = re.compile(r"    (\./|rt |tests/|tools/|ptb-|cd |cat |diff |printf |echo |sed |tr |seq |xargs |parallel |q=)")
 # Programs that a reader may do without.
 OPTIONAL = ["parallel"]
 # What is tried elsewhere: the first in a copy of the repository, by tests/installing.sh; the second has this script as a part.

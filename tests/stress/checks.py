@@ -1,15 +1,25 @@
-"""This file holds the checks of a case: what must hold of the program's replies, whatever its programs mean."""
+"""This file holds the checks of a case.
 
+Most of them must hold whatever the programs mean. Others compare the reports, and the lists that split the runs, with what
+tests/stress/language.py makes of the same programs.
+"""
+
+import math
 from dataclasses import dataclass, replace
+from itertools import islice
 
 import calls
+import language
 from calls import Call
-from reports import Malformed, marked, raised_place, read_reports, spelled, without_bounds
+from reports import Malformed, marked, raised_place, read_reports, report_text, spelled, without_bounds
 from seeds import words
 
 PROGRAM, INPUT = "program.bas", "input.txt"
 REPORTS = 30
 SAMPLED = 5
+LISTS = 200
+LISTS_JOINED = 40
+RUNS_JOINED = 2000
 RUNS_LOOKED_AT = 3
 BOUNDS_LOOKED_AT = 5
 LONGEST_LIST = 4000
@@ -17,8 +27,8 @@ FAR_LIMIT = 1_000_000
 ODD_WORDS = [
     *["", "0", "1", "-1", "+1", "01", "1,2", "1,,2", "none", "32768", "1000000001", "1e3"],
     *["x", "5 ", "\t", "١", b"\xff"],
-    *["--steps", "--memory", "--choose", "--choose=0", "--choose=2", "--answers", "--after", "--under", "--first", "--all", "--list", "--lists", "-a", "-h", "--", "-"],
-    *["--steps=7", "--memory=64", "--after=none", "--under=none", "--under=1", "--first=2", "--form", "--form=1", "--form=3", "1/2", "no such file", "."],
+    *["--steps", "--memory", "--choose", "--choose=0", "--choose=2", "--answers", "--after", "--under", "--first", "--all", "--shares", "--sample", "--seed", "--list", "--lists", "-a", "-h", "--", "-"],
+    *["--steps=7", "--memory=64", "--after=none", "--under=none", "--under=1", "--first=2", "--shares=2", "--sample=2", "--seed=7", "--form", "--form=1", "--form=3", "1/2", "no such file", "."],
 ]
 FAULTS = {"WHAT": b"WHAT?", "HOW": b"HOW?", "SORRY": b"SORRY"}
 
@@ -111,6 +121,10 @@ class Trial:
         options = [("seed", str(seed)), ("steps", str(self.case.steps)), *self.choose()]
         return self.call(options + ([("sample", str(runs))] if runs else []))
 
+    def lists(self, answers, form):
+        """The lists of so many answers that split the runs."""
+        return self.call([("all", ""), ("shares", str(answers)), ("steps", str(self.case.steps)), ("form", form), *self.choose()])
+
     def text(self, **files):
         """A listing of the program's text."""
         return self.call([("list", "")], **files)
@@ -120,7 +134,9 @@ def check(trial, write):
     """Checks a case; `write` makes a file of its folder."""
     check_odd_words(trial)
     listing = check_text(trial, write)
-    if listing is None:
+    program = language.statements(trial.case.program, trial.case.memory)
+    trial.hold("a text is refused or accepted as in the language", (program is None) == (listing is None), (trial.text(), "the text"))
+    if listing is None or program is None:
         return
     reports, is_whole = check_listing(trial)
     if not reports:
@@ -131,6 +147,8 @@ def check(trial, write):
     check_portions(trial, reports, is_whole)
     check_shares(trial, reports, is_whole)
     check_sample(trial)
+    check_meaning(trial, setting_of(trial.case, program), reports)
+    check_lists(trial, setting_of(trial.case, program), reports)
     for report in reports:
         check_plain(trial, report, listing)
     for report in trial.chance.sample(reports, min(RUNS_LOOKED_AT, len(reports))):
@@ -336,6 +354,67 @@ def check_share(trial, reports, is_whole, report):
     if others:
         call = trial.runs(trial.chance.choice(others).answers, under=under)
         trial.expect("a share behind a run of another", call, calls.NO_RUN, b"")
+
+
+# ---- what programs mean
+
+
+def setting_of(case, program):
+    """What the case's program is played with."""
+    return language.Setting(program, case.memory, language.input_lines(case.input), case.steps, case.choose)
+
+
+def check_meaning(trial, setting, reports):
+    """The reports are those of the first plays in the language."""
+    due = b"".join(report_text(play) for play in islice(language.plays(setting, math.inf), REPORTS))
+    written = b"".join(report.text for report in reports)
+    trial.hold("reports as in the language", written == due, (trial.runs(), "the reports"), ("due", due), ("written", written))
+
+
+def check_lists(trial, setting, reports):
+    """The lists that split the runs after some answers are those of the definition, and they rise."""
+    longest = max(len(report.answers) for report in reports)
+    answers, due = lists_due(setting, trial.chance.choice([1, 64, *range(2, min(longest, 63) + 2)]))
+    form = trial.chance.choice("12")
+    lines = [marked(it.answers, it.bounds) if form == "2" else spelled(it.answers) for it in due]
+    call = trial.lists(answers, form)
+    reply = trial.expect("the lists of the definition", call, 0, "".join(f"{line}\n" for line in lines).encode())
+    lists = [answers_in(line) for line in reply.output.decode().splitlines()]
+    is_rising = all(one < following and one != following[: len(one)] for one, following in zip(lists, lists[1:]))
+    trial.hold("lists rise, and none begins another", is_rising, (call, reply))
+    if len(due) <= LISTS_JOINED:
+        check_joined_shares(trial, lines)
+    for line, play in trial.chance.sample(list(zip(lines, due)), min(RUNS_LOOKED_AT, len(due))):
+        first = language.played(setting, play.answers, math.inf)
+        trial.expect("a share begins with its first run", trial.runs(under=line, first=1, form="2"), 0, report_text(first))
+
+
+def lists_due(setting, answers):
+    """The plays that are stopped after so many answers; after fewer answers where there are too many of them."""
+    while True:
+        due = list(islice(language.plays(setting, answers), LISTS + 1))
+        if len(due) <= LISTS:
+            return answers, due
+        if answers == 1:
+            bound = due[0].bounds[0]
+            return answers, [replace(due[0], answers=(answer,)) for answer in range(1, bound + 1)]
+        answers -= 1 if answers <= 8 else answers // 2
+
+
+def answers_in(line):
+    """The answers of a line of the lists."""
+    return () if line == "none" else tuple(int(item.split("/")[0]) for item in line.split(","))
+
+
+def check_joined_shares(trial, lines):
+    """The shares of all lists, joined, are the listing of all runs, where that isn't too long."""
+    whole = trial.ask(trial.runs(first=RUNS_JOINED, form="2"))
+    if len(read_reports(whole.output)) == RUNS_JOINED:
+        return
+    shares = [(call, trial.ask(call)) for call in (trial.runs(under=line, first=RUNS_JOINED, form="2") for line in lines)]
+    joined = b"".join(reply.output for _, reply in shares)
+    is_whole = joined == whole.output and all(reply.status == 0 for _, reply in shares)
+    trial.hold("the shares of all lists are all runs", is_whole, *shares, ("due", whole.output), ("joined", joined))
 
 
 # ---- runs

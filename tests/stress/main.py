@@ -19,7 +19,7 @@ from texts import case_of
 FAILURES_TOLD = 5
 PROGRAMS_TOLD = 10
 PROGRAMS_A_SECOND = 12
-PROGRAMS_OF_A_SELF_TEST = 40
+PROGRAMS_OF_A_SELF_TEST = 100
 
 
 @dataclass(frozen=True)

@@ -53,6 +53,12 @@ def read_report(text, place):
     )
 
 
+def report_text(play):
+    """The report of a play in form 2."""
+    header = f"RUN {marked(play.answers, play.bounds)} {play.ending} {play.steps} {len(play.transcript)}\n"
+    return header.encode() + play.transcript + b"\n"
+
+
 def spelled(answers):
     """The list as a word of the command line."""
     return ",".join(map(str, answers)) or "none"

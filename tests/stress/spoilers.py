@@ -34,6 +34,17 @@ def in_shares(spoil):
     return spoiled
 
 
+def in_lists(spoil):
+    """Spoils the lists that split the runs, where there are two or more."""
+
+    def spoiled(call, reply):
+        lines = reply.output.splitlines(keepends=True)
+        is_list = reply.status == 0 and any(os.fsencode(word).startswith(b"--shares") for word in call.words)
+        return replace(reply, output=b"".join(spoil(lines))) if is_list and len(lines) > 1 else reply
+
+    return spoiled
+
+
 def in_samples(spoil):
     """Spoils the reports of a sample."""
 
@@ -66,6 +77,10 @@ SPOILERS = {
     "draws each run of a sample by the first words": in_samples(lambda reports: reports[:1] * len(reports)),
     "leaves out the first run of a sample": in_samples(lambda reports: reports[1:] + reports[:1]),
     "leaves out the first report of a share": in_shares(lambda reports: reports[1:]),
+    "leaves out the last list": in_lists(lambda lines: lines[:-1]),
+    "has the lists in falling order": in_lists(lambda lines: lines[::-1]),
+    "leaves out the runs that ask less": in_lists(lambda lines: longest(lines)),
+    "splits the runs one answer too early": in_lists(lambda lines: list(dict.fromkeys(map(one_answer_less, lines)))),
     "takes no run for one of a share": lambda call, reply: (
         replace(reply, status=0, errors=b"") if reply.errors.startswith(b"ptb: no run begins so\n") else reply
     ),
@@ -85,6 +100,15 @@ SPOILERS = {
         replace(reply, output=reply.output.replace(b"\n", b" \n")) if "--list" in call.words else reply
     ),
 }
+
+
+def longest(lines):
+    most = max(line.count(b",") for line in lines)
+    return [line for line in lines if line.count(b",") == most]
+
+
+def one_answer_less(line):
+    return line.rpartition(b",")[0] + b"\n" if b"," in line else line
 
 
 def one_step_more(report):

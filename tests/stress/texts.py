@@ -207,6 +207,23 @@ class Maker:
         ]
         return numbered(texts) + subroutines
 
+    def branches(self):
+        """Questions after some answers and not after others, and with bounds that answers set."""
+        asks = lambda: self.pick("AB") + "=" + self.random_number(2)
+        test = lambda: self.command("IF") + self.pick("AB") + self.pick(COMPARISONS) + self.pick("1123") + " "
+        parts = [
+            asks,
+            lambda: test() + asks(),
+            lambda: test() + asks(),
+            lambda: self.command("IF") + self.random_number(2) + "=1 " + asks(),
+            lambda: self.pick("AB") + "=" + self.word("RND", FUNCTIONS) + self.pick(["(A+1)", "(A)", "(ABS(B)+1)"]),
+            lambda: test() + self.command("GOTO") + self.pick(["20", "30", "40", "890"]),
+            lambda: test() + self.word("STOP", COMMANDS),
+            lambda: self.command("PRINT") + self.pick(["A", "A,B", "'X'"]),
+        ]
+        texts = [asks(), *(self.pick(parts)() for _ in range(self.chance.randint(1, 4)))]
+        return numbered(texts) + [(890, self.word("STOP", COMMANDS))]
+
     def long_loop(self):
         letter = self.pick(LOOP_LETTERS)
         return [self.loop_head(letter, 3), self.simple(), self.loop(), self.command("NEXT") + letter]
@@ -286,6 +303,9 @@ KINDS = [
     ("tree", Maker.tree),
     ("tree", Maker.tree),
     ("tree", Maker.tree),
+    ("branches", Maker.branches),
+    ("branches", Maker.branches),
+    ("branches", Maker.branches),
     ("soup", Maker.soup),
     ("soup", Maker.soup),
     ("deep", Maker.deep),
