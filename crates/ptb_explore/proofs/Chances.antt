@@ -73,6 +73,19 @@ module _ {A W : Type 0} (play : Answers → Outcome A W) where
       (equals_then (plus (chance_of_all play (g (pos s))) (chance_of_all play rest)) (plus (record { numerator = 1; denominator = d }) (record { numerator = m; denominator = d }))
       (record { numerator = suc m; denominator = d }) (mul-le 1 1 d d some some) sum last)
 
+  -- a sum has a denominator where both parts have one
+  append_positive : (s t : List Answers) → 0 < (chance_of_all play s).denominator → 0 < (chance_of_all play t).denominator → 0 < (chance_of_all play (s ++ t)).denominator
+  append_positive s t first second =
+      subst (λ (f : Ratio). 0 < f.denominator) (sym (all_append s t)) (mul-le 1 1 (chance_of_all play s).denominator (chance_of_all play t).denominator first second)
+
+  groups_positive : (g : ℤ → List Answers) (s m : ℕ)
+      → ((i : ℕ) → s ≤ i → i < s + m → 0 < (chance_of_all play (g (pos i))).denominator)
+      → 0 < (chance_of_all play (flat_map g (map pos (range_with_len s m)))).denominator
+  groups_positive g s zero each = omega arith
+  groups_positive g s (suc m) each =
+      append_positive (g (pos s)) (flat_map g (map pos (range_with_len (s + 1) m))) (each s (omega arith) (omega arith))
+      (groups_positive g (s + 1) m (λ i low high. each i (omega arith) (omega arith)))
+
 module _ {A W : Type 0} (play : Answers → Outcome A W) (most : ℕ) (reads : IsReader play most) where
   asked_bounds : (q : Answers) (k n : ℤ) (w : W) → play q ≡ Asks n w → bounds play (q ++ k ∷ []) ≡ bounds play q ++ n ∷ []
   asked_bounds q k n w asks = bounds-append play [] q (k ∷ []) ∙ ap (λ o. bounds play q ++ bound_of o ∷ []) asks
@@ -126,3 +139,34 @@ module _ {A W : Type 0} (play : Answers → Outcome A W) (most : ℕ) (reads : I
 
   pub whole_chance : Equals (chance_of_all play (tree play most)) (record { numerator = 1; denominator = 1 })
   whole_chance = leaves_chance most [] reads.begins (omega arith) (omega arith)
+
+  -- ---- their denominator
+
+  whole_positive : (d : ℕ) (q : Answers) (x : A) → play q ≡ Done x [] → 0 < bound_product (bounds play q) → 0 < (chance_of_all play (leaves play q d)).denominator
+  whole_positive d q x done some =
+      let one : 0 < (chance_of_all play (q ∷ [])).denominator = omega (arith, some) in
+      subst (λ (runs : List Answers). 0 < (chance_of_all play runs).denominator) (sym (done_leaves d q x done)) one
+
+  split_positive : (d : ℕ) (q : Answers) (n : ℤ) (w : W) → play q ≡ Asks n w
+      → ((k : ℤ) → is_answer n k ≡ true → 0 < (chance_of_all play (leaves play (q ++ k ∷ []) d)).denominator)
+      → 0 < (chance_of_all play (leaves play q (suc d))).denominator
+  split_positive d q (negsuc n) w asks each = absurd (no_bound n (reads.positive q (negsuc n) w asks))
+  split_positive d q (pos n) w asks each =
+      let below : (i : ℕ) → 1 ≤ i → i < 1 + n → 0 < (chance_of_all play (leaves play (q ++ pos i ∷ []) d)).denominator =
+      λ i low high. each (pos i) (is_answer_from n i low (omega arith)) in
+      subst (λ (runs : List Answers). 0 < (chance_of_all play runs).denominator) (sym (asked_leaves d q (pos n) w asks))
+      (groups_positive play (λ k. leaves play (q ++ k ∷ []) d) 1 n below)
+
+  leaves_positive : (d : ℕ) (q : Answers) → is_open (play q) ≡ true → most ≤ length q + d → 0 < bound_product (bounds play q)
+      → 0 < (chance_of_all play (leaves play q d)).denominator
+  leaves_positive zero q whole_or_asks room some = elim (open_is (play q) whole_or_asks) [
+    | inl e ↦ whole_positive zero q e.0 e.1 some
+    | inr e ↦ absurd (omega (arith, reads.few q e.0 e.1 e.2))
+  ]
+  leaves_positive (suc d) q whole_or_asks room some = elim (open_is (play q) whole_or_asks) [
+    | inl e ↦ whole_positive (suc d) q e.0 e.1 some
+    | inr e ↦ split_positive d q e.0 e.1 e.2 (λ k inside. leaves_positive d (q ++ k ∷ []) (reads.inside q e.0 k e.1 e.2 inside) (omega (arith, length-append q (k ∷ []))) (more_positive q k e.0 e.1 e.2 some))
+  ]
+
+  pub sum_positive : 0 < (chance_of_all play (tree play most)).denominator
+  sum_positive = leaves_positive most [] reads.begins (omega arith) (omega arith)

@@ -1,6 +1,6 @@
 // This file states that the laws hold of the definitions.
 
-ghost use Rattle.std.specs.Prelude.{ℕ, List};
+ghost use Rattle.std.specs.Prelude.{ℕ, ◌<◌, List};
 ghost use Rattle.ptb_text.specs.Statements.{StoredProgram};
 ghost use Rattle.ptb_answers.specs.Outcome.{Answers, Outcome, IsReader};
 ghost use Rattle.ptb_answers.specs.declared.rules.Rules.{Rules};
@@ -45,10 +45,12 @@ pub fn beginning_laws<A, W>()
         → BeginningLaws play most n }
 {}
 
-/// The chances of all runs add up to 1.
+/// The chances of all runs add up to 1. Their sum has a denominator, which is not 0.
 pub fn chance_laws<A, W>()
-    ensures { (play : Answers → Outcome A W) (most : ℕ) → IsReader play most
+    ensures sum { (play : Answers → Outcome A W) (most : ℕ) → IsReader play most
         → Equals (chance_of_all play (tree play most)) (record { numerator = 1; denominator = 1 }) }
+    ensures positive { (play : Answers → Outcome A W) (most : ℕ) → IsReader play most
+        → 0 < (chance_of_all play (tree play most)).denominator }
 {}
 
 /// Two runs have two different reports, in whatever form, and so the listings of two shares have no
