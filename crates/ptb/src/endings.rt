@@ -50,15 +50,15 @@ impl fmt::Display for Shortage {
 fn write_limit<W: fmt::Write>(limit: u32, f: &mut fmt::Formatter<W>) -> fmt::Result
     ensures { WritesOnOk W.write_str_gives f.old result (shortage_line (Commands limit)) f.new }
 {
-    let plural = plural(limit);
+    let plural = plural(limit as usize);
     write!(
         f,
         "ptb: stopped at the limit of {limit} command{plural}; --steps N allows more"
     )
 }
 
-// How a word ends, by how many there are.
-fn plural(count: u32) -> &'static str
+/// How a word ends, by how many there are.
+pub(crate) fn plural(count: usize) -> &'static str
     ensures { result.now ≡ plural count }
 {
     if count == 1 { "" } else { "s" }

@@ -6,6 +6,7 @@ ghost use Rattle.ptb_explore.specs.declared.mismatch.Mismatch.TheVariants.{Other
 ghost use Rattle.ptb_explore.specs.declared.mismatch.Mismatch.TheVariants.{OutOfRange};
 ghost use Rattle.ptb.specs.Messages.{list_line, mismatch_text, reason_line};
 
+use crate::endings::plural;
 use ptb_explore::Mismatch;
 use ptb_serve::ListMismatch;
 use std::{fmt, io};
@@ -99,7 +100,7 @@ fn write_other_bound<W: fmt::Write>(
 fn write_over<W: fmt::Write>(items: usize, f: &mut fmt::Formatter<W>) -> fmt::Result
     ensures { WritesOnOk W.write_str_gives f.old result (mismatch_text (NoQuestion items)) f.new }
 {
-    let plural = if items == 1 { "" } else { "s" };
+    let plural = plural(items);
     write!(f, "the run is over after {items} item{plural}")
 }
 
