@@ -11,11 +11,11 @@ HI = b'10 PRINT "HI"\n'
 FILES = {
     "letters of 16 bits (UTF-16)": [(b"\xff\xfe" + HI.decode().encode("utf-16-le"), HI.decode())],
     "a BOM at its start (bytes EF BB BF)": [(b"\xef\xbb\xbf" + HI, HI.decode())],
-    "the parity bits of a paper tape": [
+    "the parity bits of a punched tape": [
         (bytes(byte | 128 for byte in HI), HI.decode()),
         (bytes(byte | (bin(byte).count("1") % 2) << 7 for byte in HI), HI.decode()),
     ],
-    "NULs and rubouts of a paper tape": [(b"\0\0" + HI.replace(b"I", b"I\x7f") + b"\0\0", HI.decode())],
+    "NULs and rubouts of a punched tape": [(b"\0\0" + HI.replace(b"I", b"I\x7f") + b"\0\0", HI.decode())],
     "a Ctrl-Z (byte 26) at its end": [(HI + b"\x1a\x1a", HI.decode())],
     "byte 13 at its line ends, without 10 (old Mac)": [(b"10 END\r20 END\r", "10 STOP\n20 STOP\n")],
     "byte 13 and 10 at its line ends (DOS)": [(b"10 END\r\n20 END\r\n", "10 STOP\n20 STOP\n")],

@@ -33,7 +33,7 @@ class NoListing(Exception):
 
 
 def unparitied(data: bytes) -> bytes:
-    """The bytes without the parity bits of a paper tape, which a good part of its bytes have."""
+    """The bytes without the parity bits of a punched tape, which a good part of its bytes have."""
     high = sum(byte > 127 for byte in data)
     return bytes(byte & 127 for byte in data) if high * BYTES_TO_A_HIGH_ONE > len(data) else data
 
