@@ -230,10 +230,6 @@ module _ (finding : FindingLaws) (spelling : SpellingLaws) (t : List ℕ) where
   expression_on : (i j : ℕ) → LiesOn t i j → EndsOn t i (expression t j)
   expression_on i j a = on_behind t i j (expression t j) a (ends_on t j (expression t j) (expression_ends j))
 
-  -- the place after a word
-  word_on : (i : ℕ) (w : Word × ℕ) → LiesAhead t i w.1 → LiesOn t i w.1
-  word_on i w a = on_ahead t i w.1 a
-
   step_on : (i : ℕ) → EndsOn t i (step_parts t i)
   unfolding step_parts
   step_on i = by_word (word_at Step t i) refl

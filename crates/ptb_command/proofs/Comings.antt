@@ -23,16 +23,6 @@ pub if_ok_never : {X E : Type 0} (P : X → Type 0) (r : Result X E) (e : E) →
 if_ok_never P (Ok x) e h = absurd h
 if_ok_never P (Err y) e h = tt
 
--- what follows from what holds there
-pub if_ok_both : {X E A B C : Type 0} (r : Result X E) → (A → B → C) → OnOk r A → OnOk r B → IfOk r (λ x. C)
-if_ok_both (Ok x) f a b = f a b
-if_ok_both (Err e) f a b = tt
-
--- where nothing is refused, nothing is refused by anybody
-pub comes_unrefused : {A X : Type 0} (refused : Refusal → Type 0) (o n : Trace) (f : Action A) (ok : X → Action A) (r : Result X Stop) → Comes nothing_refused o n f ok r → Comes refused o n f ok r
-comes_unrefused refused o n f ok (Ok x) h = h
-comes_unrefused refused o n f ok (Err e) h = stops_unrefused refused o (with_due (still_due n.due e) n) f e h
-
 -- ---- before these parts, with this width and these operands so far
 
 module _ (refused : Refusal → Type 0) (o n : Trace) (rest : List Part) (w : ℕ) (operands : List ℤ) (p : Part) where
@@ -49,13 +39,3 @@ module _ (refused : Refusal → Type 0) (o n : Trace) (rest : List Part) (w : �
       stops_part rest w operands refused o l p _ e y (show_stops rest w operands refused l x v u k y a (stops_unrefused refused m l _ y h))
 
 -- ---- a newline alone
-
-pub newline_comes : (refused : Refusal → Type 0) (o n : Trace) (ps : List Part) (w : ℕ) → ps ≡ NewLine ∷ [] → (r : Result (Unit {0}) Stop) → Comes nothing_refused o n (show newline) goes_on r → Comes refused o n (parts_action ps w []) (λ u. goes_on []) r
-newline_comes refused o n ps w e (Ok x) h = refines_part_parts w [] ps _ e (refines_part_end w [] (newline_refines_part [] w [] h))
-newline_comes refused o n ps w e (Err x) h =
-    let k = with_due (still_due n.due x) n in
-    stops_parts refused o k w [] ps _ e x (newline_stops [] w [] refused o k x (stops_unrefused refused o k _ x h))
-
--- what holds of what a chooser and a screen were left as
-pub at_ends : {C S : Type 0} (P : C → S → Type 0) {x : C} {y : S} (c : C) (s : S) → x ≡ c → y ≡ s → P c s → P x y
-at_ends P {x = x} {y = y} c s e k p = subst (λ z. P z y) (sym e) (subst (λ z. P c z) (sym k) p)

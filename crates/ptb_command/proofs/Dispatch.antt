@@ -1,9 +1,7 @@
 -- This file proves what a command comes to by its word.
-use Rattle.std.proofs.Common.{◌≡◌, ◌≢◌, ℕ, List, [], ◌++◌, Option, Result, Ok, Err, ℤ, refl, sym, subst, append-nil}
+use Rattle.std.proofs.Common.{◌≡◌, ℕ, List, [], ◌++◌, Option, Result, Ok, Err, ℤ, sym, subst, append-nil}
 use Rattle.ptb_words.specs.declared.word.Word.{Word}
-use Rattle.ptb_words.specs.declared.word.Word.TheVariants as words
 use Rattle.ptb_text.specs.Statements.{Statements}
-use Rattle.ptb_words.specs.Words.{IsCommand}
 use Rattle.ptb_answers.specs.declared.pause.Pause.{Pause}
 use Rattle.ptb_answers.specs.Choices.{Choices}
 use Rattle.ptb_devices.specs.declared.fault.ReadFault.{ReadFault}
@@ -23,25 +21,6 @@ use Rattle.ptb_command.specs.Representation.{NextIs}
 use Rattle.ptb_command.proofs.Stops.{stops_along}
 
 -- ---- words
-
--- every other word that begins a command has its own case
-pub let_word : (word : Word) → word ≢ words.RemKw → word ≢ words.StopKw → word ≢ words.GotoKw → word ≢ words.IfKw → word ≢ words.GosubKw → word ≢ words.ReturnKw → word ≢ words.ForKw → word ≢ words.NextKw → word ≢ words.PrintKw → word ≢ words.InputKw → IsCommand word → word ≡ words.LetKw
-let_word words.RemKw a b c d e f h i j k is = absurd (a refl)
-let_word words.StopKw a b c d e f h i j k is = absurd (b refl)
-let_word words.GotoKw a b c d e f h i j k is = absurd (c refl)
-let_word words.IfKw a b c d e f h i j k is = absurd (d refl)
-let_word words.GosubKw a b c d e f h i j k is = absurd (e refl)
-let_word words.ReturnKw a b c d e f h i j k is = absurd (f refl)
-let_word words.ForKw a b c d e f h i j k is = absurd (h refl)
-let_word words.NextKw a b c d e f h i j k is = absurd (i refl)
-let_word words.PrintKw a b c d e f h i j k is = absurd (j refl)
-let_word words.InputKw a b c d e f h i j k is = absurd (k refl)
-let_word words.LetKw a b c d e f h i j k is = refl
-let_word words.RndKw a b c d e f h i j k is = absurd is
-let_word words.AbsKw a b c d e f h i j k is = absurd is
-let_word words.SizeKw a b c d e f h i j k is = absurd is
-let_word words.ToKw a b c d e f h i j k is = absurd is
-let_word words.StepKw a b c d e f h i j k is = absurd is
 
 -- the word is known
 pub begun_with : (p : Statements) (q : Place) (n : ℕ) (t : List ℕ) (word v : Word) (i : ℕ) → word ≡ v → Begun p q n t word i → Begun p q n t v i

@@ -129,9 +129,6 @@ then_part m next = then_keeps PartChange part_joined m next
 attempt_part : {A : Type 0} (m : Cells → Work A) → Preserves PartChange (attempt m)
 attempt_part m = record { at = λ S a. subst (λ T. PartChange S T) (sym (attempt_state m S a)) (part_itself S) }
 
-halt_part : {A : Type 0} (h : Halt) → Preserves PartChange (halt {A = A} h)
-halt_part h = record { at = λ S a. part_itself S }
-
 show_part : (s : List ℕ) → Preserves PartChange (show s)
 show_part s = record { at = λ S a. record { place = refl; loops = refl; calls = refl; steps = refl; shown = (s, refl) } }
 
@@ -218,10 +215,6 @@ pub parts_take : (parts : List Part) (w : ℕ) (operands : List ℤ) → Preserv
 parts_take = parts_keep LinesTaken taken_joined (λ S. takes_itself S.lines) (λ s. record { at = λ S a. takes_itself S.lines }) (λ at v. record { at = λ S a. takes_itself S.lines }) take_action_takes
 
 -- ---- what a command does with its operands
-
--- one state is reached, whatever the answers
-change_end : (f : State → State) → ((S : State) → EndChange S (f S)) → Preserves EndChange (change f)
-change_end f e = record { at = λ S a. e S }
 
 end_itself : (S : State) → EndChange S S
 end_itself S = record { lines = refl; shown = refl; steps = refl; nested = λ h. h }

@@ -17,7 +17,6 @@ use Rattle.ptb_expr.specs.Reading.{item_of, expression, variable_tree}
 use Rattle.ptb_expr.specs.Store.{Cells}
 use Rattle.ptb_expr.specs.Tree.{Tree}
 use Rattle.ptb_expr.specs.Value.{Work, fault, random_number, chosen, value}
-use Rattle.ptb_command.specs.declared.commands.input.Asking.{Asking}
 use Rattle.ptb_command.specs.declared.ending.Ending.TheVariants as endings
 use Rattle.ptb_devices.specs.declared.fault.ReadFault.{ReadFault}
 use Rattle.ptb_devices.specs.declared.fault.ReadFault.TheVariants as reads
@@ -29,7 +28,7 @@ use Rattle.ptb_command.specs.Commands.{Part, Take, input_item}
 use Rattle.ptb_command.specs.State.{State}
 use Rattle.ptb_command.specs.Actions.{Ends, Progress, Goes, Halts, Action, on_progress, and_then, goes_on, halt, show, attempt, or_halt, work_action}
 use Rattle.ptb_command.specs.Act.{newline, word_of, target_action, store, take_line, ask_for, store_or_again, answer_instead, without_line, input_action, parts_action}
-use Rattle.ptb_command.specs.Asking.{item_action, IsAsked}
+use Rattle.ptb_command.specs.Act.{item_action}
 use Rattle.ptb_command.specs.Reads.{IsRead}
 use Rattle.ptb_command.specs.Effects.{action_state}
 use Rattle.ptb_devices.specs.Sources.{given_lines}
@@ -189,10 +188,6 @@ module _ (said : List ℕ) (x : Tree) (prompt : List ℕ) where
   target_next_adds : Adds target_next
   unfolding target_next
   target_next_adds = then_adds (target_action x) prompt_next (work_action_adds _) prompt_next_adds
-
-  pub ask_adds : Adds (ask_for said x prompt)
-  unfolding target_next prompt_next
-  ask_adds = then_adds (show said) (λ u. target_next) (show_adds said) (λ u. target_next_adds)
 
   said_first : {o m : Trace} → RefinesPart o m (show said) (goes_on tt) → RefinesPart o m (ask_for said x prompt) target_next
   unfolding target_next prompt_next
@@ -480,14 +475,6 @@ module _ (rest : List Part) (w : ℕ) (operands : List ℤ) where
   take_comes refused o n said x prompt p k (Err e) h =
       let m = with_due (still_due n.due e) n in
       stops_part rest w operands refused o m p (Take said x prompt) k e (take_stops refused o m said x prompt e h)
-
--- what was read of an item that asks, is its variable at the end
-pub take_read : {X E : Type 0} (t : List ℕ) (i : ℕ) (a : Asking) (k j : ℕ) (r : Result X E) → IsAsked t i a k → IfOk r (λ x. IsRead t k (variable_tree t k) j) → IfOk r (λ x. IsRead t i (input_item t i) j)
-take_read t i a k j (Ok x) asked read = record {
-  whole = asked.whole j read.whole;
-  ahead = record { after = omega (arith, asked.from, read.ahead.after); within = read.ahead.within; settled = read.ahead.settled };
-}
-take_read t i a k j (Err e) asked read = tt
 
 -- ---- the lines that a source gives
 

@@ -138,10 +138,6 @@ module _ (rest : List Part) (w : ℕ) (operands : List ℤ) where
 
   -- ---- faults
 
-  defect_is : (kind : FaultKind) (m : ℕ) → parts_action (Defect kind m ∷ rest) w operands ≡ halt (Faults (fault kind m))
-  unfolding parts_action
-  defect_is kind m = refl
-
   pub defect_refines_part : (o : Trace) (kind : FaultKind) (m : ℕ) → RefinesPart o o (parts_action (Defect kind m ∷ rest) w operands) (halt (Faults (fault kind m)))
   unfolding parts_action
   defect_refines_part o kind m = refines_part_refl o (halt (Faults (fault kind m)))
@@ -157,7 +153,3 @@ no_end_there t i e = ap (λ (b : Bool). if b then Whole [] i else defect i) e
 pub end_refines_part : (o : Trace) (t : List ℕ) (i w : ℕ) (operands : List ℤ) → at_end t i ≡ true → RefinesPart o o (parts_action (item_of (end_check t i)) w operands) (goes_on operands)
 end_refines_part o t i w operands e =
     subst (λ (f : Action (List ℤ)). RefinesPart o o f (goes_on operands)) (sym (ap (λ r. parts_action (item_of r) w operands) (end_there t i e) ∙ no_parts w operands)) (refines_part_refl o (goes_on operands))
-
-pub end_stops : (o : Trace) (t : List ℕ) (i w : ℕ) (operands : List ℤ) → at_end t i ≡ false → RefinesPart o o (parts_action (item_of (end_check t i)) w operands) (halt (Faults (fault What i)))
-end_stops o t i w operands e =
-    subst (λ (f : Action (List ℤ)). RefinesPart o o f (halt (Faults (fault What i)))) (sym (ap (λ r. parts_action (item_of r) w operands) (no_end_there t i e) ∙ defect_is [] w operands What i)) (refines_part_refl o (halt (Faults (fault What i))))

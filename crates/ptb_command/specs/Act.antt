@@ -96,6 +96,10 @@ input_action said x prompt (l ∷ ls) =
     and_then (take_line l ls) (λ _.
     and_then (attempt (λ c. value c (item_of (expression l 0)))) (store_or_again at (input_action said x prompt ls))))
 
+-- over the lines that the state has left
+abbrev pub item_action : List ℕ → Tree → List ℕ → Action (Unit {0})
+item_action said x prompt S = input_action said x prompt S.lines S
+
 -- ---- parts
 
 -- the parts in order, from a width on and with the values of the operands so far; all these values

@@ -14,8 +14,14 @@ pub mod Reads
 pub mod Configuration
 pub mod Representation
 pub mod Acts
-pub mod Asking
 pub mod Reports
 pub mod Io
 pub mod Stacks
 pub mod Loops
+pub mod Code
+pub mod Execution
+pub mod Showing
+pub mod Translation
+pub mod Plain
+pub mod ProgramCode
+pub mod Literals

@@ -1,6 +1,8 @@
 -- This file defines what is found, closed and removed in a list of open loops and calls, newest first.
 --     call_of os               the place to which the newest call returns, and what is open below it
 --     loop_of x os             the newest level's loop of the variable x, and what is open below it
+--     newest_loop os           the newest of all, if it is a loop
+--     newest_return os         the place to which the newest of all returns, if it is a call
 --     without x os             all of it but the newest level's loops of x
 --     ClosesCall old new result                              the newest call is closed, if there is one
 --     ClosesNewer x old new result                           the loop of the variable x, if there is one, becomes the newest
@@ -20,6 +22,16 @@ abbrev pub loop_of : ℕ → List Open → Option (OpenLoop × List Open)
 loop_of x [] = None
 loop_of x (opens.Loop m ∷ os) = if m.letter == x then Some (m, os) else loop_of x os
 loop_of x (opens.Call back ∷ os) = None
+
+abbrev pub newest_loop : List Open → Option OpenLoop
+newest_loop [] = None
+newest_loop (opens.Loop m ∷ os) = Some m
+newest_loop (opens.Call back ∷ os) = None
+
+abbrev pub newest_return : List Open → Option Location
+newest_return [] = None
+newest_return (opens.Loop m ∷ os) = None
+newest_return (opens.Call back ∷ os) = Some back
 
 abbrev pub without : ℕ → List Open → List Open
 without x [] = []

@@ -52,7 +52,26 @@ impl Gathering {
         ensures full { IsFalse result → self.new ≡ self.old }
         ensures room { IsTrue result ↔ (length self.old + length bytes.now ≤ GATHERING_LIMIT) }
     {
+        // a byte alone, as many strings are, costs less than a call that copies it
+        if let [byte] = bytes {
+            return self.bytes.try_push(*byte).is_ok();
+        }
         self.bytes.try_extend_from_slice(bytes).is_ok()
+    }
+
+    /// Takes bytes and others after them, if there is room for all of them. Whether there was.
+    #[inline(always)]
+    pub(crate) fn takes_both(&mut self, first: &[u8], second: &[u8]) -> bool
+        ensures taken { IsTrue result → self.new ≡ self.old ++ first.now ++ second.now }
+        ensures full { IsFalse result → self.new ≡ self.old }
+        ensures room { IsTrue result ↔
+            (length self.old + (length first.now + length second.now) ≤ GATHERING_LIMIT) }
+    {
+        let room = self.bytes.remaining_capacity();
+        if first.len() > room || second.len() > room - first.len() {
+            return false;
+        }
+        self.takes(first) && self.takes(second)
     }
 
     /// Shows what was gathered. Nothing is gathered then, also where the screen fails.

@@ -1,40 +1,47 @@
-//! The commands of Tiny BASIC: what each does to the store, the loops and calls that are open, and
-//! the place, and what it shows, takes and asks for.
+//! The commands of Tiny BASIC. Each is read once into code (`translation.rt`). Its code
+//! (`operation.rt`, `command_code.rt`) is then executed (`execution.rt`): it changes the store, the
+//! loops and calls that are open, and the place, and it shows, takes and asks.
 //!
 //! It stands on `ptb_devices`, `ptb_expr`, `ptb_answers`, `ptb_text`, `ptb_words`, `arrayvec` and
-//! `itoa`. The crate above may rely on `Registers::do_command` (a command is done as `specs/Act`
-//! says), on `next_command` (which command stands at a place), on `Stack` (a list of loops and
-//! calls, newest first, of limited length), on `Gathering` and `gather_value` (bytes and values
-//! that are to be shown), and on `command_laws` (how the parts of a command and the commands of a
-//! statement follow one another).
+//! `itoa`. The crate above may rely on `translate` (the code is that of the parts that
+//! `specs/Commands` reads), on `Registers::execute` (a command is done by its code as `specs/Act`
+//! says), on `ProgramCode` (the code of a program, which of it is next at a place, and commands
+//! that are done in a row), on `next_command` (which command is next at a place), on `Stack` (a
+//! list of loops and calls, newest first, of limited length), on `Gathering` (bytes that are to be
+//! shown), and on `command_laws` (how the parts of a command and the commands of a statement follow
+//! one another).
 #![tactic(auto)]
 
-mod commands;
+mod command_code;
 mod ending;
+mod execution;
 mod gathering;
 mod io;
 mod laws;
 mod location;
 mod next;
+mod operation;
+mod program_code;
 mod reads;
 mod registers;
 mod showing;
 mod stack;
 mod statements;
 mod stop;
+mod translation;
 
-pub use commands::let_command::store_value;
-pub use commands::loops::end_turn;
-pub use commands::print::{FIRST_WIDTH, gather_value};
+pub use command_code::CommandCode;
 pub use ending::Ending;
 pub use gathering::{GATHERING_LIMIT, Gathering};
 pub use io::Io;
 pub use laws::command_laws;
 pub use location::Location;
 pub use next::next_command;
-pub use reads::{at_end, first_word, pass_separator};
+pub use operation::{Destination, Expression, Literal, Operation, Prompt, Range};
+pub use program_code::{Advance, CommandEntry, NextCode, ProgramCode};
 pub use registers::Registers;
 pub use showing::put;
 pub use stack::{NESTING_LIMIT, Open, OpenLoop, Stack};
 pub use statements::{beginning_of, first_place, is_zero, line_at, place_after};
 pub use stop::{DeviceError, Stop};
+pub use translation::translate;

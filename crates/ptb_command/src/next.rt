@@ -1,4 +1,4 @@
-// This file finds the command that is next.
+// This file finds the command that is next in the text of a program.
 
 ghost use Rattle.std.specs.Prelude.{◌≡◌, ◌≤◌, length, Option, None, IfSome, MatchOption};
 ghost use Rattle.ptb_command.specs.Representation.{PlacesAre, IsPlaceOf, NextIs};

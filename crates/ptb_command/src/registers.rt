@@ -1,20 +1,17 @@
 // This file has the registers, which are what commands change: where the run stands, what is stored,
 // and what is open.
 
-ghost use Rattle.std.specs.Prelude.{◌≡◌, ℕ, ℤ, List, true, false, Option, Some, IfOk, IsOk, OnOk, OnErr};
+ghost use Rattle.std.specs.Prelude.{◌≡◌, ℕ, ℤ, List, true, false, Option, IfOk, IsOk, OnOk, OnErr};
 ghost use Rattle.ptb_command.specs.Configuration.{configuration};
-ghost use Rattle.ptb_command.specs.Reads.{Follows};
 ghost use Rattle.ptb_command.specs.Representation.{Represents};
 ghost use Rattle.ptb_command.specs.State.{first_state};
 
 use crate::laws::command_laws;
 use crate::location::Location;
-use crate::reads::pass_separator;
 use crate::stack::Stack;
 use crate::statements::first_place;
 use ptb_expr::Store;
 use ptb_text::Program;
-use ptb_words::Cursor;
 use std::alloc::{AllocError, Global};
 
 /// What commands change.
@@ -80,18 +77,5 @@ impl Registers {
         self.stack.copy_from(&other.stack);
         self.place = other.place;
         Ok(())
-    }
-
-    /// Goes on behind a command of this statement, which ends at the cursor.
-    pub(crate) fn go_behind(&mut self, statement: usize, cursor: &mut Cursor)
-        ensures place { self.new
-            ≡ record self.old { place = Some (record { statement = statement; at = cursor.new.place }) } }
-        ensures follows { Follows cursor.old.text cursor.old.place cursor.new.place }
-    {
-        pass_separator(cursor);
-        self.place = Some(Location {
-            statement,
-            at: cursor.place(),
-        });
     }
 }

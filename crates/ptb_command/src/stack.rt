@@ -1,8 +1,9 @@
 // This file has the control stack: the loops and calls that are open.
 
 ghost use Rattle.std.specs.Prelude.{◌≡◌, ◌+◌, ◌<◌, ◌≤◌, ◌↔◌, [], ◌∷◌, ◌++◌, length, reverse, take};
-ghost use Rattle.std.specs.Prelude.{IfSome, IsTrue, IsFalse, MatchBool, option_map};
-ghost use Rattle.ptb_command.specs.Stacks.{call_of, loop_of, without};
+ghost use Rattle.std.specs.Prelude.{IfSome, IsSome, IsTrue, IsFalse, MatchBool, Some, None, option_map};
+ghost use Rattle.ptb_command.specs.declared.stack.OpenLoop.{OpenLoop};
+ghost use Rattle.ptb_command.specs.Stacks.{call_of, loop_of, newest_loop, newest_return, without};
 ghost use Rattle.ptb_command.specs.Stacks.{ClosesCall, ClosesNewer, ClosesNewest};
 ghost use Rattle.ptb_command.specs.State.{nesting_limit};
 
@@ -131,23 +132,28 @@ impl Stack {
     pub fn close_call(&mut self) -> Option<Location>
         ensures { ClosesCall self.old self.new result }
     {
-        // most often no loop is open above it, and nothing need be looked for
-        let Some(Open::Call(back)) = self.opens.as_slice().last() else {
-            return self.close_call_below_loops();
-        };
-        let back = *back;
+        if !self.bring_call() {
+            return None;
+        }
+        let back = self.newest_return()?;
         self.close_newest();
         Some(back)
     }
 
     /// Closes the loops that are newer than the newest level's loop of a variable, and gives that
     /// loop, which stays open. Where there is none, nothing is closed.
+    #[inline(always)]
     pub fn close_newer(&mut self, letter: Letter) -> Option<OpenLoop>
         ensures { ClosesNewer letter self.old self.new result }
     {
-        let (below, item) = newest_loop(self.opens.as_slice(), letter)?;
-        self.opens.truncate(below + 1);
-        Some(item)
+        // most often it is the newest, and nothing need be looked for
+        if self.is_newest(letter) {
+            return self.newest();
+        }
+        if !self.close_above(letter) {
+            return None;
+        }
+        self.newest()
     }
 
     /// Closes the newest loop or call, if one is open.
@@ -157,15 +163,92 @@ impl Stack {
         self.opens.pop();
     }
 
-    // Closes the newest call with the loops above it, wherever it stands. Not inlined, so that the code
-    // for the newest of all stays short.
-    #[inline(never)]
-    fn close_call_below_loops(&mut self) -> Option<Location>
-        ensures { ClosesCall self.old self.new result }
+    // The place to which the newest of all returns, if it is a call.
+    #[inline(always)]
+    fn newest_return(&self) -> Option<Location>
+        ensures { result ≡ newest_return self.now }
     {
-        let (below, back) = newest_call(self.opens.as_slice())?;
-        self.opens.truncate(below);
-        Some(back)
+        let newest = self.opens.as_slice().last()?;
+        match *newest {
+            Open::Call(back) => Some(back),
+            Open::Loop(_) => None,
+        }
+    }
+
+    // Whether the newest of all is a call.
+    #[inline(always)]
+    fn is_call_newest(&self) -> bool
+        ensures { IsTrue result → IsSome (newest_return self.now) }
+    {
+        self.newest_return().is_some()
+    }
+
+    // Closes the loops that are newer than the newest call; whether there is a call. Where there is
+    // none, nothing is closed.
+    #[inline(always)]
+    fn bring_call(&mut self) -> bool
+        ensures { MatchBool result
+            (IsSome (newest_return self.new) × (call_of self.new ≡ call_of self.old))
+            (ClosesCall self.old self.new None) }
+    {
+        // most often no loop is open above it, and nothing need be looked for
+        if self.is_call_newest() {
+            return true;
+        }
+        self.close_above_call()
+    }
+
+    // The same wherever the newest call stands. Not inlined, so that the code for the newest of all stays short.
+    #[inline(never)]
+    fn close_above_call(&mut self) -> bool
+        ensures { MatchBool result
+            (IsSome (newest_return self.new) × (call_of self.new ≡ call_of self.old))
+            (ClosesCall self.old self.new None) }
+    {
+        let Some((below, _)) = newest_call(self.opens.as_slice()) else {
+            return false;
+        };
+        let kept = below + 1;
+        self.opens.truncate(kept);
+        true
+    }
+
+    // The newest of all, if it is a loop.
+    #[inline(always)]
+    fn newest(&self) -> Option<OpenLoop>
+        ensures { result ≡ newest_loop self.now }
+    {
+        match *self.opens.as_slice().last()? {
+            Open::Loop(item) => Some(item),
+            Open::Call(_) => None,
+        }
+    }
+
+    // Whether the newest of all is a loop of a variable.
+    #[inline(always)]
+    fn is_newest(&self, letter: Letter) -> bool
+        ensures { IsTrue result → (item : OpenLoop) × ClosesNewer letter self.now self.now (Some item) }
+    {
+        match self.newest() {
+            Some(item) => item.letter == letter,
+            None => false,
+        }
+    }
+
+    // Closes the loops that are newer than the newest level's loop of a variable; whether there is that
+    // loop. Where there is none, nothing is closed. Not inlined, so that the code for the newest of all
+    // stays short.
+    #[inline(never)]
+    fn close_above(&mut self, letter: Letter) -> bool
+        ensures { MatchBool result
+            ((item : OpenLoop) × ClosesNewer letter self.old self.new (Some item))
+            (ClosesNewer letter self.old self.new None) }
+    {
+        let Some((below, _)) = newest_loop(self.opens.as_slice(), letter) else {
+            return false;
+        };
+        self.opens.truncate(below + 1);
+        true
     }
 
     // Adds a loop or a call, where there is room for one more; whether there is.
@@ -203,7 +286,8 @@ impl Stack {
 fn newest_call(opens: &[Open]) -> Option<(usize, Location)>
     ensures found { call_of (reverse opens.now)
         ≡ option_map (λ x. (x.1, reverse (take x.0 opens.now))) result }
-    ensures within { IfSome result (λ x. x.0 < length opens.now) }
+    ensures there { IfSome result
+        (λ x. take (x.0 + 1) opens.now ≡ take x.0 opens.now ++ Open.Call x.1 ∷ []) }
 {
     let mut k = opens.len();
     'levels: while k > 0 {

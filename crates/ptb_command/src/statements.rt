@@ -1,6 +1,7 @@
 // This file finds the places of a program at which a run can go on.
 
-ghost use Rattle.std.specs.Prelude.{◌≡◌, [], Some, None, pos, slice_get};
+ghost use Rattle.std.specs.Prelude.{◌≡◌, ◌≤◌, [], Some, None, length, pos, slice_get};
+ghost use Rattle.ptb_text.specs.Statements.{text_limit};
 ghost use Rattle.std.specs.Ordering.{int_eq};
 ghost use Rattle.ptb_command.specs.State.{Place, first_place, place_after, text_of};
 ghost use Rattle.ptb_command.specs.Act.{statement};
@@ -15,6 +16,7 @@ pub fn line_at(program: &Program, statement: usize) -> (i16, &[u8])
     ensures there { IsLineAt program.now.lines statement result.0 result.1.now }
     ensures absent { slice_get program.now.lines statement ≡ None
         → (result.0 ≡ pos 0) × (result.1.now ≡ []) }
+    ensures short { length result.1.now ≤ text_limit }
 {
     match program.get(statement) {
         Some(line) => line,

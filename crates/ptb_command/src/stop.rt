@@ -42,7 +42,7 @@ pub(crate) fn fault(kind: FaultKind, mark: usize) -> Stop
 }
 
 /// Whether what a command has gathered is shown once it comes to this.
-pub(crate) fn still_shows(done: Result<(), Stop>) -> bool
+pub(crate) fn still_shows<X: Copy>(done: Result<X, Stop>) -> bool
     ensures { result ≡ still_shows done }
 {
     !matches!(done, Err(Stop::NoInput | Stop::Broke(_)))

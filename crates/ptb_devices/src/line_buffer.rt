@@ -2,6 +2,7 @@
 
 ghost use Rattle.std.specs.Prelude.{◌≡◌, ◌↔◌, ◌+◌, ◌<◌, ◌≤◌, true, false, [], length};
 ghost use Rattle.std.specs.Prelude.{slice_range, IsSome, IsTrue, IfOk, IfErr, MatchBool};
+ghost use Rattle.ptb_text.specs.Lines.{line_limit};
 ghost use Rattle.ptb_devices.specs.Cutting.{kept_bytes};
 ghost use Rattle.ptb_devices.specs.Inputs.{fresh_input, fault_at, open_piece, input_now};
 ghost use Rattle.ptb_devices.specs.Inputs.{CutsLine, CutsAll, ReadsOn, Refuses};
@@ -77,7 +78,8 @@ impl LineBuffer {
 
     /// What is kept of the piece that has begun or was given.
     pub(crate) fn kept(&self) -> &[u8]
-        ensures { result.now ≡ kept_bytes self.now.piece }
+        ensures value { result.now ≡ kept_bytes self.now.piece }
+        ensures short { length result.now ≤ line_limit }
     {
         self.cutter.kept()
     }

@@ -6,7 +6,7 @@ ghost use Rattle.std.proofs.Common.{rules};
 ghost use Rattle.std.proofs.lemmas.Grind.{common_steps};
 ghost use Rattle.std.specs.Borrow.{sem};
 ghost use Rattle.std.specs.Io.BufRead.{Rests};
-ghost use Rattle.ptb_text.specs.Lines.{clean_line};
+ghost use Rattle.ptb_text.specs.Lines.{clean_line, line_limit};
 ghost use Rattle.ptb_devices.specs.Cutting.{IsClean};
 ghost use Rattle.ptb_devices.specs.declared.fault.ReadFault.{ReadFault};
 ghost use Rattle.ptb_devices.specs.Sources.{Loses, NoneLeft, given_lines, LineList, Gives};
@@ -33,7 +33,7 @@ pub trait LineSource {
     /// What stands after a fault.
     ghost refused: { Self → ReadFault → Type 0 };
 
-    /// The next line, or none at the end.
+    /// The next line, of at most 255 bytes, or none at the end.
     ///
     /// # Errors
     ///
@@ -46,7 +46,9 @@ pub trait LineSource {
             × IfOk result (λ line. IfNone line (NoneLeft (lines new)))
             × IfOk result (λ line. IfSome line (λ _. missed new ≤ missed self.old))
             × IfOk result (λ line. IfNone line (most new ≡ 0)))) }
-        ensures end { IfOk result (λ line. IfNone line (NoneLeft (lines self.old))) };
+        ensures end { IfOk result (λ line. IfNone line (NoneLeft (lines self.old))) }
+        ensures short { IfOk result (λ line. IfSome line (λ bytes.
+            length bytes.now ≤ line_limit)) };
 
     /// With no call it gives nothing.
     ghost gives_none: { (s : Self) → gives s [] s };

@@ -101,16 +101,21 @@ pub record IsAlone (t : List ℕ) (i : ℕ) : Type 0 where
   pub no_function : word_at Functions t i ≡ None
   pub no_letter : letter_at t i ≡ None
   pub no_element : token_at 64 t i ≡ None
+  pub no_minus : token_at 45 t i ≡ None
+  pub no_plus : token_at 43 t i ≡ None
 
 digit_alone : (t : List ℕ) (i : ℕ) (next : Option ℕ) → StandsNext t i next → is_next is_digit next ≡ true → IsAlone t i
 digit_alone t i None s h = absurd (false≢true h)
 digit_alone t i (Some b) s h =
     let range = and_parts (leb 48 b) (leb b 57) h in
+    let low : 48 ≤ b = leb-true 48 b range.0 in
     let high : b ≤ 57 = leb-true b 57 range.1 in
     record {
       no_function = no_function t i b s (λ e. omega (arith, e)) (λ e. omega (arith, e)) (λ e. omega (arith, e));
       no_letter = s.letter ∙ ap (λ (x : Bool). if x && leb b 90 then Some (b, past_blanks t (past_blanks t i + 1)) else None) (lt-leb 65 b (omega arith));
       no_element = s.token 64 ∙ ap (λ (x : Bool). if x then Some (past_byte t i) else None) (ne_eqb 64 b (λ e. omega (arith, e)));
+      no_minus = s.token 45 ∙ ap (λ (x : Bool). if x then Some (past_byte t i) else None) (ne_eqb 45 b (λ e. omega (arith, e)));
+      no_plus = s.token 43 ∙ ap (λ (x : Bool). if x then Some (past_byte t i) else None) (ne_eqb 43 b (λ e. omega (arith, e)));
     }
 
 pub number_alone : FindingLaws → (t : List ℕ) (i : ℕ) → is_number (number_at t i).0 ≡ true → IsAlone t i

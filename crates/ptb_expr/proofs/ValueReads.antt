@@ -11,7 +11,6 @@ use Rattle.ptb_expr.specs.Store.{Cells, value_at, index_of, element_of, map_ok}
 use Rattle.ptb_answers.specs.Outcome.{answer, success, IsReader}
 use Rattle.ptb_expr.specs.Value.{fault, or_fault, operation, negation, absolute_value, random_number, value, target_of}
 use Rattle.ptb_expr.specs.Laws.{ValueLaws}
-use Rattle.ptb_expr.proofs.PlainValues.{plain_is_value, value_is_plain}
 use Rattle.ptb_answers.proofs.Readers.{success_reader, failure_reader, answer_reader, then_reader, bind_reader, bind_reader_alone}
 
 pub or_fault_reader : {A : Type 0} (r : Result A FaultKind) (m : ℕ) → IsReader (or_fault r m) 0
@@ -49,4 +48,4 @@ target_reader c (Elem x m) = bind_reader_alone _ (value c x) (questions x) (valu
 target_reader c x = bind_reader_alone _ (value c x) (questions x) (value_reader c x) (λ v. failure_reader (fault What 0) 0)
 
 pub value_laws : ValueLaws
-value_laws = record { value_reads = value_reader; target_reads = target_reader; plain = plain_is_value; unasked = λ c x v rest e. (value_is_plain c x v rest e).0 }
+value_laws = record { value_reads = value_reader; target_reads = target_reader }

@@ -1,10 +1,9 @@
 -- This file defines what an expression is worth. The left operand comes first, and hands on the answers that it didn't take.
 --     value c x                the value of the tree x, with the cells c
---     plain_value c x          the same without answers, if x has a value and no RND
 --     target_of c x            what the tree of a variable names: a letter, or an element whose index is worked out
 --     operation op v w         what an operator gives
 --     chosen n                 an answer from 1 to n
-use Rattle.std.specs.Prelude.{ℕ, Bool, not, ◌&&◌, ℤ, pos, ◌+ℤ◌, ◌-ℤ◌, ◌*ℤ◌, Option, Some, None, Result, Ok, Err, if◌then◌else◌, int_lt, int_le, int_div, unsigned_abs, neg_ℤ}
+use Rattle.std.specs.Prelude.{ℕ, Bool, not, ◌&&◌, ℤ, pos, ◌+ℤ◌, ◌-ℤ◌, ◌*ℤ◌, Result, Ok, Err, if◌then◌else◌, int_lt, int_le, int_div, unsigned_abs, neg_ℤ}
 use Rattle.std.specs.Ordering.{int_eq}
 use Rattle.ptb_expr.specs.declared.operator.Operator.{Operator}
 use Rattle.ptb_expr.specs.declared.operator.Operator.TheVariants.{Plus, Minus, Times, Over, AtLeast, NotEqual, Above, Equals, AtMost, Below}
@@ -80,32 +79,6 @@ value c (Neg x m) = value c x >>= λ v. or_fault (negation v) m
 value c (Bin op x y m) = value c x >>= λ v. value c y >>= λ w. or_fault (operation op v w) m
 value c (Bad kind m) = failure (fault kind m)
 value c (Unclosed x m) = value c x >>= λ v. failure (fault What m)
-
--- a value, if there is one
-abbrev pub if_ok : Result ℤ FaultKind → Option ℤ
-if_ok (Ok v) = Some v
-if_ok (Err kind) = None
-
--- what f makes of a value, if there are both
-abbrev pub if_value : Option ℤ → (ℤ → Result ℤ FaultKind) → Option ℤ
-if_value (Some v) f = if_ok (f v)
-if_value None f = None
-
-abbrev pub if_values : Option ℤ → Option ℤ → (ℤ → ℤ → Result ℤ FaultKind) → Option ℤ
-if_values (Some v) w f = if_value w (f v)
-if_values None w f = None
-
-unfoldable pub plain_value : Cells → Tree → Option ℤ
-plain_value c (Num v) = Some v
-plain_value c (Var x) = Some (value_at c x)
-plain_value c Size = Some c.size
-plain_value c (Elem x m) = if_value (plain_value c x) (element_of c)
-plain_value c (Rnd x m) = None
-plain_value c (Abs x m) = if_value (plain_value c x) absolute_value
-plain_value c (Neg x m) = if_value (plain_value c x) negation
-plain_value c (Bin op x y m) = if_values (plain_value c x) (plain_value c y) (operation op)
-plain_value c (Bad kind m) = None
-plain_value c (Unclosed x m) = None
 
 -- a variable's index is worked out, and is in its range
 unfoldable pub target_of : Cells → Tree → Work Target

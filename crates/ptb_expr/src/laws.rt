@@ -1,6 +1,6 @@
 // This file states that the laws of expressions hold.
 
-ghost use Rattle.ptb_expr.specs.Laws.{ValueLaws};
+ghost use Rattle.ptb_expr.specs.Laws.{ValueLaws, CodeLaws};
 ghost use Rattle.ptb_expr.specs.Spells.{SpellingLaws};
 ghost use Rattle.ptb_expr.specs.Marks.{MarkLaws};
 
@@ -25,4 +25,10 @@ pub fn mark_laws()
 #[tactic(auto, using(crate::proofs::ValueReads::value_laws))]
 pub fn value_laws()
     ensures { ValueLaws }
+{}
+
+/// Running the steps of a tree evaluates the tree, with its questions and its fault.
+#[tactic(auto, using(crate::proofs::Stepping::code_laws))]
+pub fn code_laws()
+    ensures { CodeLaws }
 {}

@@ -1,26 +1,33 @@
-//! Expressions of Tiny BASIC: the store of variables and array, and the evaluation of an expression
-//! while it is read.
+//! Expressions of Tiny BASIC: the store of variables and array, and expressions, which are read into
+//! steps (`reader.rt`) and run (`running.rt`).
 //!
-//! It stands on `ptb_words` and `ptb_answers`, on `arrayvec` and `thiserror`. The crate above may rely
-//! on `evaluate` and `target`: whoever answers, they come to what `specs/Value` makes of the tree that
-//! `specs/Spells` reads at the cursor, be it a value, a fault with its mark or a question; and on `Code`
-//! and `Codes`, expressions without RND that are read once and worked out often. It passes on what
-//! `ptb_answers` has: the choosers, the rules of a run, and the forms of lists of answers.
+//! It stands on `ptb_words` and `ptb_answers`, and on `thiserror`. The crate above may rely on
+//! `evaluate` and `target`: whoever answers, their result is the one that `specs/Value` gives the tree
+//! that `specs/Spells` reads at the cursor, a value, a fault with its mark or a question. What is
+//! evaluated often is read once, by `read_value` and `read_variable`; `run_steps` runs the steps, and
+//! `plain_value` runs those that ask nothing and have a value. The crate passes on what `ptb_answers`
+//! has: the choosers, the rules of a run, and the forms of lists of answers.
 #![tactic(auto)]
 
-mod code;
-mod codes;
 mod eval;
 mod fault;
 mod laws;
 mod operator;
+mod plain;
+mod reader;
+mod running;
+mod step;
 mod store;
+mod translation;
+mod waiting;
 
-pub use code::Code;
-pub use codes::Codes;
-pub use eval::{answer_to, evaluate, target};
+pub use eval::{evaluate, target};
 pub use fault::{Fault, FaultKind, Stop};
-pub use laws::{mark_laws, spelling_laws, value_laws};
+pub use laws::{code_laws, mark_laws, spelling_laws, value_laws};
 pub use operator::Operator;
+pub use plain::{plain_value, plain_value_of_one, plain_value_of_two};
 pub use ptb_answers::{Chooser, Form, Listed, Marked, Pause, Rules, Seeded};
+pub use running::{answer_to, run_steps};
+pub use step::{Step, Steps};
 pub use store::{Store, Target};
+pub use translation::{VariableRead, read_value, read_variable};

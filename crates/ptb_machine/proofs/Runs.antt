@@ -1,5 +1,5 @@
 -- This file proves what a run comes to: its steps, one after the other.
-use Rattle.std.proofs.Common.{◌≡◌, inl, inr, ℕ, ◌+◌, ◌-◌, ◌<◌, ◌≤◌, length, Bool, true, false, List, [], ◌++◌, Option, Some, None, IfSome, Result, Ok, Err, ℤ, pos, ◌≤ℤ◌, refl, sym, ap, subst, ◌∙◌, append-nil, append_assoc, arith}
+use Rattle.std.proofs.Common.{◌≡◌, inl, inr, ℕ, zero, suc, ◌+◌, ◌-◌, ◌<◌, ◌≤◌, length, Bool, true, false, List, [], ◌++◌, Option, Some, None, IfSome, Result, Ok, Err, ℤ, pos, ◌≤ℤ◌, refl, sym, ap, subst, ◌∙◌, append-nil, append_assoc, arith}
 use Rattle.std.specs.Result.{IsErrAnd}
 use Rattle.std.proofs.Math.Path.{fun_ext}
 use Rattle.std.proofs.lemmas.Bool.{false≢true}
@@ -20,13 +20,13 @@ use Rattle.ptb_command.specs.State.{State, first_state}
 use Rattle.ptb_command.specs.Act.{StepResult, Next, Over}
 use Rattle.ptb_machine.specs.Play.{Last, last_in, after_turn, turn, all_turns, last_state, unasked_lines, Finish, finish_of, turns, play}
 use Rattle.ptb_command.specs.Effects.{act_state, Begins, TakesLines}
-use Rattle.ptb_command.specs.Devices.{ScreenState, Devices, with_screen, Shows, Exchange, no_exchange, both_exchanges, Exchanges, MayFollow, Refusal}
+use Rattle.ptb_command.specs.Devices.{ScreenState, Devices, with_screen, Shows, Exchange, no_exchange, both_exchanges, Exchanges, MayFollow, Refusal, nothing_refused}
 use Rattle.ptb_command.specs.Traces.{Leaves}
 use Rattle.ptb_command.specs.Stops.{LacksLine, Waits, IsDry, Breaks}
 use Rattle.ptb_answers.specs.declared.rules.Rules.{Rules}
 use Rattle.ptb_command.specs.Configuration.{Configuration}
 use Rattle.ptb_command.specs.Representation.{Represents}
-use Rattle.ptb_machine.specs.Steps.{StepsTo, goes, ends, StepComes, Steps}
+use Rattle.ptb_machine.specs.Steps.{StepsTo, goes, ends, StepComes, Steps, QuietTurns}
 use Rattle.ptb_machine.specs.Runs.{played_bytes, Plays, refused_answers, IsFinished, IsUnanswered, IsUnfinished, LacksInput, RunComes, Runs}
 use Rattle.ptb_command.proofs.Effects.{begins_joined, takes_joined}
 use Rattle.ptb_command.proofs.Exchanges.{shows_then, exchanges_none, exchanges_then, no_lines, has_broken_from}
@@ -357,6 +357,20 @@ module _ (refused : Refusal → Type 0) (p : StoredProgram) (rules : Rules) (m n
 
   pub run_breaks : (fault : RunFault) → (fault ≡ faults.Spent → ⊥) → Steps refused p rules.limit m n (record d { given = [] }) e (Err fault) → Runs refused p rules o (onto d e) (Err fault)
   run_breaks fault fresh s rest f = comes_broken rest f fault fresh (s (b rest f).leads.state rest (b rest f).leads.represents (chosen (b rest f)) f (b rest f).leads.lines)
+
+-- ---- quiet turns
+
+run_quietly : (p : StoredProgram) (rules : Rules) (n : ℕ) (old new : Configuration) (o d : Devices) → o.choose ≡ rules.choose → HasRun p rules old o d → QuietTurns p rules.limit n old new → HasRun p rules new o d
+run_quietly p rules zero old new o d chosen h same = subst (λ (m : Configuration). HasRun p rules m o d) (sym same) h
+run_quietly p rules (suc n) old new o d chosen h turns =
+    let quiet = record d { given = [] } in
+    subst (λ (given : List (List ℕ)). HasRun p rules new o (record d { given = given })) (append-nil d.given)
+    (run_on nothing_refused p rules turns.0 new o d quiet chosen (omega arith) (run_quietly p rules n old turns.0 o d chosen h turns.1) (turns.2 quiet refl))
+
+-- the same by a player that plays q
+pub run_advanced : (p q : StoredProgram) (rules : Rules) (n : ℕ) (old new : Configuration) (o d : Devices) → o.choose ≡ rules.choose → q ≡ p → HasRun p rules old o d → QuietTurns p rules.limit n old new → HasRun q rules new o d
+run_advanced p q rules n old new o d chosen program h turns =
+    subst (λ (s : StoredProgram). HasRun s rules new o d) (sym program) (run_quietly p rules n old new o d chosen h turns)
 
 -- ---- at the exits of the loop
 

@@ -3,8 +3,8 @@ pub mod Play
 pub mod Questions
 pub mod Laws
 pub mod EndingLaws
+pub mod RunDevices
 pub mod Steps
-pub mod Instructions
 pub mod Beginnings
 pub mod Runs
 pub mod RunEffects

@@ -1,9 +1,12 @@
--- This file defines what a whole run comes to: the play of its program.
+-- A run is the play of the definition: its ending, the bytes that it shows, the answers that it takes
+-- and the lines that it asks for are those of `play`. Where a device refuses something, a prefix of
+-- that play was done.
+--     IsRun .. p rules o n r          all that a run promises: with devices o, then n, it has the result r
+--     Runs refused p rules o n r      the same, by what the devices hold
 --     played_bytes o                  what a run has shown, where it is over or asks
 --     Plays p rules input o n x left  with what was exchanged, this is left of the run
 --     refused_answers z later         the answer that is refused as out of range, if one is, and later ones
 --     LacksInput ..                   without a line the run ends, or asks for an answer
---     Runs refused p rules o n r      the run comes to the result r
 --     UnlessRunMissed refused P r     P holds, unless a line was wanted and the source gave none
 use Rattle.std.specs.Prelude.{◌≡◌, ◌⊎◌, ℕ, ◌≤◌, List, [], ◌∷◌, ◌++◌, Result, Ok, Err, ℤ, Option, Some, None}
 use Rattle.ptb_text.specs.Statements.{StoredProgram}
@@ -17,13 +20,17 @@ use Rattle.ptb_machine.specs.declared.fault.RunFault.{RunFault}
 use Rattle.ptb_machine.specs.declared.fault.RunFault.TheVariants as faults
 use Rattle.ptb_command.specs.declared.stop.DeviceError.{DeviceError}
 use Rattle.ptb_command.specs.declared.stop.DeviceError.TheVariants as errors
+use Rattle.ptb_answers.specs.declared.chooser.Chooser as choosers
 use Rattle.ptb_answers.specs.declared.rules.Rules.{Rules}
+use Rattle.ptb_devices.specs.declared.lines.LineSource as sources
+use Rattle.ptb_devices.specs.declared.screen.Screen as screens
 use Rattle.ptb_machine.specs.Play.{Finish, play, unasked_lines}
 use Rattle.ptb_command.specs.Effects.{Begins}
 use Rattle.ptb_command.specs.Devices.{Devices, with_failures, Exchange, Exchanges, MayFollow, Refusal, Unanswered, NoLine, HasBroken}
 use Rattle.ptb_command.specs.Traces.{Leaves}
 use Rattle.ptb_devices.specs.declared.fault.ReadFault.{ReadFault}
 use Rattle.ptb_machine.specs.Steps.{UnlessEndingMissed, UnlessFaultMissed}
+use Rattle.ptb_machine.specs.RunDevices.{RunDevices, held, refusals, NoneMissed}
 
 abbrev pub played_bytes : Outcome Finish (List ℕ) → List ℕ
 played_bytes (Done f rest) = f.shown
@@ -112,3 +119,13 @@ Runs refused p rules o n r = (rest : List (List ℕ)) → MayFollow n rest → R
 abbrev pub UnlessRunMissed : (ReadFault → Type 0) → Type 0 → Result Ending RunFault → Type 0
 UnlessRunMissed refused P (Ok ending) = UnlessEndingMissed P ending
 UnlessRunMissed refused P (Err fault) = UnlessFaultMissed refused P fault
+
+-- the devices held o before the run and hold n after it
+pub record IsRun {C S L : Type 0} (chooser : choosers.Ghosts C) (screen : screens.Ghosts S) (source : sources.Ghosts L) (p : StoredProgram) (rules : Rules) (o n : RunDevices C S L) (r : Result Ending RunFault) : Type 0 where
+  -- the source gave these lines, and no line was asked for without success unless the result says so
+  pub given : List (List ℕ)
+  pub gives : source.gives o.source given n.source
+  pub runs :
+      Runs (refusals chooser screen source n) p rules
+      (held chooser screen source rules o []) (held chooser screen source rules n given) r
+  pub missed : UnlessRunMissed (source.refused n.source) (NoneMissed chooser screen source rules o n) r

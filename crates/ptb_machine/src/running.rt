@@ -1,16 +1,15 @@
 // This file does whole runs.
 
-ghost use Rattle.std.specs.Prelude.{◌≡◌, ◌≤◌, ℕ, ℤ, List, [], Option, false, IfOk};
-ghost use Rattle.ptb_command.specs.Devices.{devices, screen_state, refused_by};
+ghost use Rattle.std.specs.Prelude.{◌≡◌, ℕ, ℤ, List, Option, false, IfOk};
 ghost use Rattle.ptb_command.specs.Representation.{Represents};
 ghost use Rattle.ptb_command.specs.State.{first_state};
-ghost use Rattle.ptb_command.specs.Stops.{NotMissed};
-ghost use Rattle.ptb_machine.specs.Runs.{Runs, UnlessRunMissed};
+ghost use Rattle.ptb_machine.specs.RunDevices.{run_devices};
+ghost use Rattle.ptb_machine.specs.Runs.{IsRun};
 ghost use Rattle.ptb_machine.specs.Steps.{FitsProgram};
 
 use crate::fault::RunFault;
-use crate::kept::Player;
 use crate::machine::Machine;
+use crate::player::Player;
 use ptb_answers::{Chooser, Rules};
 use ptb_command::Ending;
 use ptb_devices::{LineSource, Screen};
@@ -33,15 +32,9 @@ pub fn run<C: Chooser, S: Screen, L: LineSource>(
     screen: &mut S,
     source: &mut L,
 ) -> Result<Ending, RunFault>
-    ensures runs { (given : List (List ℕ)) × (L.gives source.old given source.new
-        × Runs (refused_by (C.refused chooser.new) (L.refused source.new) (L.lines source.new))
-        program.now rules
-        (devices (C.choices chooser.old) (screen_state S.Screen screen.old)
-        (L.most source.old) rules.choose [])
-        (devices (C.choices chooser.new) (screen_state S.Screen screen.new)
-        (L.most source.new) rules.choose given) result) }
-    ensures missed { UnlessRunMissed (L.refused source.new) (NotMissed rules.choose
-        (L.missed source.old) (L.missed source.new) (L.most source.new)) result }
+    ensures { IsRun C.Chooser S.Screen L.LineSource program.now rules
+        (run_devices chooser.old screen.old source.old)
+        (run_devices chooser.new screen.new source.new) result }
 {
     let (mut player, mut machine) = begun(alloc, program)?;
     play(&mut player, &mut machine, rules, chooser, screen, source)
@@ -73,17 +66,12 @@ fn play<C: Chooser, S: Screen, L: LineSource>(
         Represents player.old.lines machine.old (first_state player.old input choose) }
     requires fits { FitsProgram player.old machine.old }
     requires unspent { machine.old.spent ≡ false }
-    ensures runs { (given : List (List ℕ)) × (L.gives source.old given source.new
-        × Runs (refused_by (C.refused chooser.new) (L.refused source.new) (L.lines source.new))
-        player.old rules
-        (devices (C.choices chooser.old) (screen_state S.Screen screen.old)
-        (L.most source.old) rules.choose [])
-        (devices (C.choices chooser.new) (screen_state S.Screen screen.new)
-        (L.most source.new) rules.choose given) result) }
-    ensures missed { UnlessRunMissed (L.refused source.new) (NotMissed rules.choose
-        (L.missed source.old) (L.missed source.new) (L.most source.new)) result }
+    ensures { IsRun C.Chooser S.Screen L.LineSource player.old rules
+        (run_devices chooser.old screen.old source.old)
+        (run_devices chooser.new screen.new source.new) result }
 {
     'steps: loop {
+        player.advance(machine, rules.limit);
         if let Some(ending) = player.step(machine, rules, chooser, screen, source)? {
             return Ok(ending);
         }

@@ -1,14 +1,14 @@
 // This file tests what each command does, and where a run stands.
 
-use crate::shared::{MEMORY, expect_same, fault, letter, plain_rules};
+use crate::shared::{MEMORY, execute_first, expect_same, fault, letter, plain_rules};
 use ptb_command::{
-    Io, Location, OpenLoop, Registers, Stack, Stop, at_end, beginning_of, end_turn, first_place,
-    first_word, is_zero, line_at, next_command, pass_separator, place_after, put,
+    Io, Location, OpenLoop, Registers, Stack, Stop, beginning_of, first_place, is_zero, line_at,
+    next_command, place_after, put,
 };
 use ptb_devices::{Line, Lines, TextScreen};
 use ptb_expr::{Listed, Pause, Store};
 use ptb_text::{LoadFault, Program};
-use ptb_words::{Cursor, Letter, Word};
+use ptb_words::Letter;
 use std::alloc::{AllocError, Global};
 use std::process::Abort;
 use std::test::Fail;
@@ -78,13 +78,10 @@ fn done(
     screen: &mut TextScreen,
     lines: &[Line],
 ) -> (Result<(), Stop>, bool) {
-    let (_, text) = line_at(program, 0);
-    let mut cursor = Cursor::new(text, 0);
-    let word = first_word(&mut cursor);
     let mut list = Listed::new(&[4]);
     let mut source = Lines::new(lines);
     let mut io = Io::new(&mut list, screen, &mut source, true, plain_rules(1));
-    let result = registers.do_command(program, 0, word, &mut cursor, &mut io);
+    let result = execute_first(program, registers, &mut io);
     (result, io.fresh)
 }
 
@@ -116,6 +113,18 @@ const COMMANDS: &[(&str, Result<(), Stop>, (usize, usize), &[u8], i16)] = &[
     ("10 PRINT 1 2", fault!(What, 8), (0, 0), b"     1\n", 1),
     ("10 INPUT A;P.A", Ok(()), (0, 8), b"A:5\n", 5),
     ("10 INPUT A,A", Err(Stop::NoInput), (0, 0), b"A:5\nA:", 5),
+    // one malformed command of each kind that is not above
+    ("10 LET A 2", fault!(What, 6), (0, 0), b"", 1),
+    ("10 IF", fault!(What, 2), (0, 0), b"", 1),
+    ("10 IF A*(2 P.1", fault!(What, 8), (0, 0), b"", 1),
+    ("10 GOTO", fault!(What, 4), (0, 0), b"", 1),
+    ("10 PRINT 'X", fault!(What, 6), (0, 0), b"", 1),
+    ("10 INPUT 5", fault!(What, 6), (0, 0), b"", 1),
+    ("10 INPUT A,", fault!(What, 8), (0, 0), b"A:5\n", 5),
+    ("10 FOR 5", fault!(What, 4), (0, 0), b"", 1),
+    ("10 NEXT 5", fault!(What, 5), (0, 0), b"", 1),
+    ("10 GOSUB 20,", fault!(What, 8), (0, 0), b"", 1),
+    ("10 RETURN 5", fault!(What, 7), (0, 0), b"", 1),
 ];
 
 const NO_ANSWER: Result<(), Stop> = Err(Stop::Pause(Pause::Ended));
@@ -158,6 +167,27 @@ const LOOPS_AND_CALLS: &[(
     ("10 RETURN", b"A", fault!(What, 6), (0, 0), 0, None, 1),
     ("10 FOR A=3 TO 5;P.1", b"", Ok(()), (0, 13), 3, None, 1),
     ("10 FOR A=3 S.2", b"", fault!(What, 8), (0, 0), 3, None, 0),
+    // the first value is stored before the limit and the step are evaluated
+    (
+        "10 FOR A=3 TO 1/0",
+        b"",
+        fault!(How, 14),
+        (0, 0),
+        3,
+        None,
+        0,
+    ),
+    (
+        "10 F.A=A+1TO 9S.A/0",
+        b"",
+        fault!(How, 16),
+        (0, 0),
+        1,
+        None,
+        0,
+    ),
+    ("10 F.A=2TO A,", b"", fault!(What, 9), (0, 0), 2, None, 0),
+    ("10 F.A=1/0TO 9", b"", fault!(How, 7), (0, 0), 0, None, 0),
     ("10 NEXT A", b"A", Ok(()), (1, 2), 1, None, 1),
     ("10 NEXT A", b"AB", Ok(()), (1, 2), 1, None, 1),
     ("10 NEXT B;P.1", b"AB", Ok(()), (0, 7), 0, None, 1),
@@ -346,33 +376,6 @@ fn first_commands(rt: HostRuntime) -> Result<(), Fail> {
     Ok(())
 }
 
-// What stands at the beginning of a text: whether a command ends there, the place behind its
-// separator, and the word of a command with the place behind it.
-const BEGINS: &[(&str, bool, usize, Word, usize)] = &[
-    ("GOTO 10", false, 0, Word::GotoKw, 5),
-    ("P.1", false, 0, Word::PrintKw, 2),
-    (",", false, 0, Word::LetKw, 0),
-    ("", true, 0, Word::LetKw, 0),
-    ("  ", true, 0, Word::LetKw, 0),
-    (";P.1", true, 1, Word::LetKw, 0),
-    (" ; P.1", true, 3, Word::LetKw, 0),
-    (";;", true, 1, Word::LetKw, 0),
-];
-
-#[test]
-fn reads(rt: HostRuntime) {
-    for &(text, ends, behind, word, from) in BEGINS {
-        let mut cursor = Cursor::new(text.as_bytes(), 0);
-        let is_end = at_end(&cursor);
-        pass_separator(&mut cursor);
-        let place = cursor.place();
-        let mut cursor = Cursor::new(text.as_bytes(), 0);
-        let is_word = first_word(&mut cursor) == word;
-        let found = (is_end, place, is_word, cursor.place());
-        expect_same(&rt, text, found, (ends, behind, true, from));
-    }
-}
-
 #[test]
 fn zeros(rt: HostRuntime) {
     expect_same(
@@ -403,23 +406,27 @@ fn freshness(rt: HostRuntime) {
     }
 }
 
-// Where a loop up to 1 goes from its end, and A then: it has a turn, is over, and then there is
-// none.
-const TURNS: &[(Option<(usize, usize)>, i16)] = &[(Some((1, 2)), 1), (Some((0, 6)), 2), (None, 2)];
+// How NEXT is done again and again, where A goes up to 1, the place then, and A: the loop has a turn,
+// is over, and then there is none.
+const TURNS: &[(Result<(), Stop>, (usize, usize), i16)] = &[
+    (Ok(()), (1, 2), 1),
+    (Ok(()), (0, 7), 2),
+    (fault!(What, 6), (0, 7), 2),
+];
 
 #[test]
 fn turns(rt: HostRuntime) -> Result<(), Fail> {
-    let mut store = Store::new(rt.alloc(), 5)?;
-    let mut stack = Stack::new();
-    let next = Location {
-        statement: 0,
-        at: 6,
-    };
-    expect_same(&rt, "loop", open(&mut stack, b'A'), true);
-    for &(place, a) in TURNS {
-        let to = end_turn(&mut store, &mut stack, letter(b'A'), next);
-        let found = (numbers(to), store.get(letter(b'A')));
-        expect_same(&rt, "turn", found, (place, a));
+    let (program, mut registers) = begun(rt.alloc(), "10 NEXT A;P.1", 0)?;
+    let mut screen = TextScreen::new(rt.alloc());
+    expect_same(&rt, "loop", open(&mut registers.stack, b'A'), true);
+    for &(want, place, a) in TURNS {
+        let (result, _) = done(&mut registers, &program, &mut screen, &[]);
+        let found = (
+            result,
+            numbers(registers.place),
+            registers.store.get(letter(b'A')),
+        );
+        expect_same(&rt, "turn", found, (want, Some(place), a));
     }
     Ok(())
 }

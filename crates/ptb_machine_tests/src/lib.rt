@@ -1,6 +1,6 @@
 //! Tests of devices, commands and the machine, over their public names: lines and how they are read,
-//! screens, the stack of what is open, what each command does, reports of faults, steps, and whole
-//! runs.
+//! screens, the stack of what is open, the code of commands, what each command does, reports of faults,
+//! steps, and whole runs.
 //!
 //! It stands on `ptb_devices`, `ptb_command` and `ptb_machine`, and on `ptb_expr`, `ptb_text` and
 //! `ptb_words`, whose stores, programs and cursors commands work on. No crate stands on it: a crate with
@@ -20,6 +20,8 @@ mod players;
 #[cfg(test)]
 mod print;
 #[cfg(test)]
+mod program_codes;
+#[cfg(test)]
 mod reader_lines;
 #[cfg(test)]
 mod reports;
@@ -31,5 +33,7 @@ mod screens;
 mod shared;
 #[cfg(test)]
 mod stack;
+#[cfg(test)]
+mod translations;
 #[cfg(test)]
 mod whole_input;

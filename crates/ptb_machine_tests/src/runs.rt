@@ -468,7 +468,7 @@ fn programs_with_the_same_places(rt: HostRuntime) -> Result<(), Fail> {
 
 // The run of a program ends so and shows this after so many steps, and stops at its limit with one
 // fewer.
-fn expect_end(
+pub(crate) fn expect_end(
     rt: &impl Abort,
     alloc: Global,
     program: &Program,
@@ -534,8 +534,8 @@ const COMMANDS_WITHOUT_A_VALUE: &[(&[u8], u32, Ending, &[u8])] = &[
     ),
 ];
 
-// Commands that are done often, up to one whose expression has no value. The run takes as many
-// steps as it is given, and one fewer are too few.
+// Commands in a loop, up to one whose expression has no value. The run takes as many steps as it is
+// given, and one fewer are too few.
 #[test]
 fn commands_without_a_value(rt: HostRuntime) -> Result<(), Fail> {
     expect_ends(&rt, rt.alloc(), COMMANDS_WITHOUT_A_VALUE)
@@ -550,7 +550,7 @@ const JUMPS: &[(&[u8], u32, Ending, &[u8])] = &[(
 
 // Jumps to a number beside jumps to the value of a variable.
 #[test]
-fn jumps_done_often(rt: HostRuntime) -> Result<(), Fail> {
+fn jumps_in_a_loop(rt: HostRuntime) -> Result<(), Fail> {
     expect_ends(&rt, rt.alloc(), JUMPS)
 }
 
@@ -583,9 +583,9 @@ const CONDITIONS: &[(&[u8], u32, Ending, &[u8])] = &[
     ),
 ];
 
-// Conditions that change, one behind which the text is over, and one that has no value at last.
+// Conditions that change, one after which the text is over, and one that has no value at last.
 #[test]
-fn conditions_done_often(rt: HostRuntime) -> Result<(), Fail> {
+fn conditions_in_a_loop(rt: HostRuntime) -> Result<(), Fail> {
     expect_ends(&rt, rt.alloc(), CONDITIONS)
 }
 
@@ -616,10 +616,10 @@ const PLACES: &[(&[u8], u32, Ending, &[u8])] = &[
     ),
 ];
 
-// Commands behind one another, at the end of a text and behind blanks, and assignments of more
-// than one value.
+// Commands after one another, at the end of a text and after blanks, and assignments of more than one
+// value.
 #[test]
-fn places_of_commands_done_often(rt: HostRuntime) -> Result<(), Fail> {
+fn places_of_commands_in_a_loop(rt: HostRuntime) -> Result<(), Fail> {
     expect_ends(&rt, rt.alloc(), PLACES)
 }
 
@@ -652,7 +652,7 @@ const CALLS: &[(&[u8], u32, Ending, &[u8])] = &[
 
 // Calls until no room is left, and RETURN where no call is open any more.
 #[test]
-fn calls_done_often(rt: HostRuntime) -> Result<(), Fail> {
+fn calls_in_a_loop(rt: HostRuntime) -> Result<(), Fail> {
     expect_ends(&rt, rt.alloc(), CALLS)
 }
 
@@ -686,7 +686,7 @@ const LOOPS: &[(&[u8], u32, Ending, &[u8])] = &[
 // A downward loop, loops closed by an outer one and by RETURN, and NEXT where none is open any
 // more.
 #[test]
-fn loops_done_often(rt: HostRuntime) -> Result<(), Fail> {
+fn loops_in_a_loop(rt: HostRuntime) -> Result<(), Fail> {
     expect_ends(&rt, rt.alloc(), LOOPS)
 }
 
@@ -717,7 +717,7 @@ fn loops_to_the_ends_of_the_range(rt: HostRuntime) -> Result<(), Fail> {
     expect_ends(&rt, rt.alloc(), LOOPS_TO_THE_ENDS)
 }
 
-const SHARED_ENTRIES: &[(&[u8], u32, Ending, &[u8])] = &[
+const FAR_PLACES: &[(&[u8], u32, Ending, &[u8])] = &[
     (
         b"10 A=A+10;B=B+1;C=C+1;D=2+0+0+0+0;E=A-B;IF B<G GOTO 10\n20 G=G+5;IF G<20 GOTO 10\n30 P.A,B,C,D,E,G\n",
         113,
@@ -732,11 +732,10 @@ const SHARED_ENTRIES: &[(&[u8], u32, Ending, &[u8])] = &[
     ),
 ];
 
-// The place 37 of the first statement and the beginning of the second share the room that is kept
-// for what was read of a command.
+// The last command of a statement with many commands, and the first one of the next.
 #[test]
-fn places_that_share_an_entry(rt: HostRuntime) -> Result<(), Fail> {
-    expect_ends(&rt, rt.alloc(), SHARED_ENTRIES)
+fn far_places(rt: HostRuntime) -> Result<(), Fail> {
+    expect_ends(&rt, rt.alloc(), FAR_PLACES)
 }
 
 const LIMITS: &[(u32, &[i16], Ending, &[u8])] = &[
@@ -754,9 +753,9 @@ const LIMITS: &[(u32, &[i16], Ending, &[u8])] = &[
     ),
 ];
 
-// Each command counts as one step, however it is done: only every third one is shown.
+// Each command counts as one step, also those that show nothing.
 #[test]
-fn limits_on_commands_done_often(rt: HostRuntime) -> Result<(), Fail> {
+fn limits_on_commands_in_a_loop(rt: HostRuntime) -> Result<(), Fail> {
     expect_limits(&rt, rt.alloc(), b"10 A=A+1;P.A,;GOTO 10", LIMITS)
 }
 
@@ -768,9 +767,9 @@ fn long_statement(alloc: Global) -> Result<Vec<u8>, Fail> {
     Ok(text)
 }
 
-// The places 0 and 128 of a statement share the room that is kept for what was read.
+// A command that begins at a place over 127 is found.
 #[test]
-fn places_of_one_statement_that_share_an_entry(rt: HostRuntime) -> Result<(), Fail> {
+fn far_place_of_a_statement(rt: HostRuntime) -> Result<(), Fail> {
     let text = long_statement(rt.alloc())?;
     let rows = [(text.as_slice(), 15, Ending::End, b"     5\n".as_slice())];
     expect_ends(&rt, rt.alloc(), &rows)
@@ -796,9 +795,9 @@ fn many_statements(alloc: Global) -> Result<Vec<u8>, Fail> {
     Ok(text)
 }
 
-// The beginnings of the first statement and of the 129th share it, too.
+// So is one whose statement is the 129th.
 #[test]
-fn statements_that_share_an_entry(rt: HostRuntime) -> Result<(), Fail> {
+fn far_statements(rt: HostRuntime) -> Result<(), Fail> {
     let text = many_statements(rt.alloc())?;
     let rows = [(text.as_slice(), 20, Ending::End, b"     5\n".as_slice())];
     expect_ends(&rt, rt.alloc(), &rows)

@@ -4,11 +4,14 @@ ghost use Rattle.std.specs.Prelude.{◌≡◌, None, Ok, IfOk, IsTrue};
 ghost use Rattle.ptb_text.specs.Statements.{program};
 ghost use Rattle.ptb_words.specs.Words.{is_letter};
 
-use ptb_command::{DeviceError, Registers, Stack, Stop};
-use ptb_expr::Store;
+use ptb_command::{
+    CommandCode, DeviceError, Io, Registers, Stack, Stop, first_place, line_at, translate,
+};
+use ptb_devices::{LineSource, Screen};
+use ptb_expr::{Chooser, Store};
 use ptb_machine::Rules;
 use ptb_text::{ByteSink, ByteSource, Device, Program, load};
-use ptb_words::Letter;
+use ptb_words::{Cursor, Letter};
 use std::alloc::{AllocError, Global};
 use std::fmt::Debug;
 use std::io;
@@ -24,6 +27,12 @@ pub(crate) fn expect_same<T: Copy + PartialEq + Debug>(
     wanted: T,
 ) {
     assert_eq!(rt; found, wanted, "{what}");
+}
+
+// A cursor in front of a text, which has at most 255 bytes.
+pub(crate) fn cursor_in_front<'a>(rt: &impl Abort, text: &'a [u8]) -> Cursor<'a> {
+    assert!(rt; text.len() <= 255);
+    Cursor::new(text, 0)
 }
 
 // Gives some bytes a call, and then the end or a fault, and counts its calls.
@@ -128,15 +137,34 @@ pub(crate) const UNWRITTEN: Result<usize, Stop> = Err(Stop::Broke(DeviceError::W
 // The memory of the programs.
 pub(crate) const MEMORY: u16 = 4096;
 
-// A program without a line, and registers with a small array, for commands that need no more of a
-// program.
-pub(crate) fn without_lines(alloc: Global) -> Result<(Program, Registers), AllocError> {
+// The program of one line, and registers at its beginning with an array of 27 elements.
+pub(crate) fn with_line(alloc: Global, line: &str) -> Result<(Program, Registers), Fail> {
+    let mut program = Program::new(alloc, MEMORY);
+    program.enter(line.as_bytes())?;
     let registers = Registers {
-        place: None,
+        place: first_place(&program),
         store: Store::new(alloc, 54)?,
         stack: Stack::new(),
     };
-    Ok((Program::new(alloc, MEMORY), registers))
+    Ok((program, registers))
+}
+
+// Does the first command of a program by its code.
+pub(crate) fn execute_first<C: Chooser, S: Screen, L: LineSource>(
+    program: &Program,
+    registers: &mut Registers,
+    io: &mut Io<'_, C, S, L>,
+) -> Result<(), Stop> {
+    let (_, text) = line_at(program, 0);
+    let mut cursor = Cursor::new(text, 0);
+    let mut code = CommandCode::new();
+    translate(&mut cursor, &mut code);
+    registers.execute(program, 0, code.operations(), code.steps(), io)
+}
+
+// The place in its statement at which a run continues after a command that was done so.
+pub(crate) fn next_place(done: Result<(), Stop>, registers: &Registers) -> Result<usize, Stop> {
+    done.map(|()| registers.place.map_or(0, |place| place.at))
 }
 
 // Rules by which a run ends where no line is left.

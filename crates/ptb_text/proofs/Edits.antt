@@ -1,6 +1,6 @@
 -- This file proves that a program stays one when a text is stored or a statement deleted, and what it then costs.
-use Rattle.std.proofs.Common.{◌≡◌, ℕ, zero, suc, ◌+◌, ◌<◌, ◌≤◌, Bool, true, false, not, cond, ◌==◌, ◌&&◌, List, [], ◌∷◌, length, map, get_or, set, Ok, Err, refl, sym, ap, ◌∙◌, arith}
-use Rattle.std.specs.List.{insert, remove, list_all}
+use Rattle.std.proofs.Common.{◌≡◌, ℕ, ◌+◌, ◌<◌, ◌≤◌, Bool, true, false, not, cond, ◌==◌, ◌&&◌, List, [], ◌∷◌, length, get_or, Ok, Err, refl, sym, ap, ◌∙◌, arith}
+use Rattle.std.specs.List.{list_all}
 use Rattle.std.specs.Ordering.{nat_cmp}
 use Rattle.std.specs.FinMap.{put}
 use Rattle.std.proofs.Math.Dec.{T}
@@ -9,16 +9,12 @@ use Rattle.std.specs.FinMap.Entries.{by_order, is_sorted-put, is_sorted-where_ke
 use Rattle.std.proofs.lemmas.Cmp.{nat_cmp_total}
 use Rattle.std.proofs.lemmas.Bool.Decides.{nat_tests}
 use Rattle.std.proofs.lemmas.Float.{T_from_true}
-use Rattle.std.proofs.lemmas.List.{map-set}
 use Rattle.std.proofs.lemmas.List.Sums.{get_or-le-sum_by, sum_by-set, sum_by-insert, sum_by-remove}
 use Rattle.ptb_text.specs.declared.fault.LoadFault.{LoadFault}
 use Rattle.ptb_text.specs.declared.fault.LoadFault.TheVariants.{Full, Memory}
-use Rattle.ptb_text.specs.declared.program.Statement.{Statement}
-use Rattle.ptb_text.specs.declared.program.Program.TheInside.{Inside}
-use Rattle.ptb_text.specs.Statements.{Statements, StoredProgram, IsMemorySize, cost, if_room, is_program, is_statement, with_text, without_number}
+use Rattle.ptb_text.specs.Statements.{Statements, StoredProgram, cost, if_room, is_program, is_statement, with_text, without_number}
 use Rattle.ptb_text.specs.Entry.{Enters}
 use Rattle.ptb_text.specs.Places.{IsAt, IsGapFor}
-use Rattle.ptb_text.specs.Program.{stored_program, IsKept}
 use Rattle.ptb_text.proofs.Entries.{with_text-place, with_text-gap, without_number-place}
 use Rattle.ptb_text.proofs.Sound.{both_true}
 use Rattle.ptb_text.proofs.Searching.{same_from_equal}

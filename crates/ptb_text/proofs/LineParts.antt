@@ -12,10 +12,9 @@ use Rattle.ptb_text.specs.Lines.{is_printable}
 use Rattle.ptb_text.specs.Statements.{HasText, Statements, StoredProgram, after_line, after_trimmed, after_statement, unless_bad_byte, trim_start, with_text, cost, if_room, is_statement, text_limit}
 use Rattle.ptb_words.specs.Digits.{number_limit, digits_value, is_digit, is_blank}
 use Rattle.ptb_text.specs.Entry.{Enters, EntersNothing, IsLineFault, IsRefused, IsNumbered}
-use Rattle.ptb_words.specs.CursorState.{CursorState}
 use Rattle.ptb_words.specs.declared.word.Number.{Number}
 use Rattle.ptb_words.specs.declared.word.Number.TheVariants.{Absent, Value, TooBig}
-use Rattle.ptb_words.specs.Words.{past_blanks, is_over, number_at, small_number}
+use Rattle.ptb_words.specs.Words.{past_blanks, number_at, small_number}
 use Rattle.ptb_text.proofs.ByteTests.{list_all-from_none, list_all-drop, prefix_len-behind}
 
 -- a text without the blanks in front has none in front
@@ -229,12 +228,9 @@ number_value line v j e = elim (number_cases line (Value v) j e) [
       }
 ]
 
--- what a cursor at the front of the line finds
-pub over_in_front : (s : CursorState) (line : List ℕ) (b : Bool) → s ≡ record { text = line; place = 0 } → is_over s.text s.place ≡ b → is_over line 0 ≡ b
-over_in_front s line b e over = subst (λ (u : CursorState). is_over u.text u.place ≡ b) e over
-
-pub number_in_front : (s : CursorState) (line : List ℕ) (n : Number) (j : ℕ) → s ≡ record { text = line; place = 0 } → number_at s.text s.place ≡ (n, j) → number_at line 0 ≡ (n, j)
-number_in_front s line n j e found = subst (λ (u : CursorState). number_at u.text u.place ≡ (n, j)) e found
+-- which number was found in front
+pub found : (line : List ℕ) (n m : Number) (j : ℕ) → number_at line 0 ≡ (n, j) → n ≡ m → number_at line 0 ≡ (m, j)
+found line n m j e is = e ∙ ap (λ (x : Number). (x, j)) is
 
 -- ---- what entering a line comes to
 

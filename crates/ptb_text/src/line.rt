@@ -6,7 +6,7 @@ ghost use Rattle.ptb_text.specs.Entry.{EntersNothing, IsNumbered, IsRefused};
 ghost use Rattle.ptb_text.specs.Lines.{is_printable};
 
 use crate::LoadFault;
-use ptb_words::{Cursor, Number, finding_laws};
+use ptb_words::{Number, is_all_blank, number_in_front};
 
 /// A line with a number: its text is stored under the number, or deletes the statement if empty.
 #[derive(Clone, Copy)]
@@ -32,12 +32,11 @@ pub(crate) fn numbered_line(line: &[u8]) -> Result<Option<NumberedLine<'_>>, Loa
     if let Some(place) = first_unprintable(line) {
         return Err(LoadFault::BadByte(place + 1));
     }
-    finding_laws();
-    let mut cursor = Cursor::new(line, 0);
-    if cursor.at_end() {
+    if is_all_blank(line) {
         return Ok(None);
     }
-    let number = match cursor.number() {
+    let (number, place) = number_in_front(line);
+    let number = match number {
         Number::Value(number) => number.unsigned_abs(),
         Number::TooBig => return Err(LoadFault::NumberTooBig),
         Number::Absent => return Err(LoadFault::NoNumber),
@@ -47,7 +46,7 @@ pub(crate) fn numbered_line(line: &[u8]) -> Result<Option<NumberedLine<'_>>, Loa
     }
     Ok(Some(NumberedLine {
         number,
-        text: &line[cursor.place()..],
+        text: &line[place..],
     }))
 }
 

@@ -142,6 +142,7 @@ impl Program {
         ensures value { option_map {U = ℤ × List ℕ} (λ s. (s.0, s.1.now)) result
             ≡ statement_at self.now.lines index }
         ensures sound { IsSound self.now }
+        ensures short { IfSome result (λ s. length s.1.now ≤ text_limit) }
     {
         if index >= self.len() {
             return None;

@@ -23,7 +23,7 @@ const TOO_BIG: u32 = 32768;
 ///
 /// Each call passes the blanks that stand at the place, takes what it finds with the blanks
 /// behind it, and takes nothing else. A call that finds nothing leaves the place as it was,
-/// before the blanks. The text stays the same.
+/// before the blanks. The text stays the same. It has at most 255 bytes.
 #[derive(Debug, Drop)]
 pub struct Cursor<'a> {
     text: &'a [u8],
@@ -38,7 +38,7 @@ impl<'a> Model for Cursor<'a> {
     ghost view = { λ c. record { text = c.text.now; place = c.place } };
 
     ghost invariant = { λ c. (c.next ≡ past_blanks c.text.now c.place) × (c.place ≤ c.next)
-        × (c.next ≤ length c.text.now) };
+        × (c.next ≤ length c.text.now) × (length c.text.now ≤ 255) };
 }
 
 // Where the blanks that stand at `place` end.
@@ -79,10 +79,41 @@ fn bytes_before(text: &[u8], byte: u8) -> Option<usize>
     text.iter().position(|b| *b == byte)
 }
 
+/// The number that stands in front of a text, blanks before it aside, and the place after it and the
+/// blanks that follow. The text may have any length.
+///
+/// As [`Cursor::number`] at place 0: a number over 32767 is passed too, and where no digit stands the
+/// place is 0.
+pub fn number_in_front(text: &[u8]) -> (Number, usize)
+    ensures value { number_at text.now 0 ≡ (result.0, result.1) }
+    ensures within { result.1 ≤ length text.now }
+{
+    let start = after_blanks(text, 0);
+    let (value, count) = leading_digits(&text[start..]);
+    if count == 0 {
+        return (Number::Absent, 0);
+    }
+    let place = after_blanks(text, start + count);
+    match i16::try_from(value) {
+        Ok(value) => (Number::Value(value), place),
+        Err(_) => (Number::TooBig, place),
+    }
+}
+
+/// Whether a text of any length has nothing but blanks.
+pub fn is_all_blank(text: &[u8]) -> bool
+    ensures { result ≡ is_over text.now 0 }
+{
+    after_blanks(text, 0) == text.len()
+}
+
 impl<'a> Cursor<'a> {
     /// A cursor at a place of a text, which counts the bytes before it: at most the text's length.
+    ///
+    /// The text has at most 255 bytes, as every statement and every input line has.
     pub fn new(text: &'a [u8], place: usize) -> Self
-        requires { place ≤ length text.now }
+        requires within { place ≤ length text.now }
+        requires short { length text.now ≤ 255 }
         ensures { result ≡ record { text = text.now; place = place } }
     {
         let next = after_blanks(text, place);
@@ -94,6 +125,15 @@ impl<'a> Cursor<'a> {
         ensures { result ≡ self.now.place }
     {
         self.place
+    }
+
+    /// States that the place lies within the text, which has at most 255 bytes. It does nothing.
+    #[inline(always)]
+    pub fn bounds(&self)
+        ensures within { self.now.place ≤ length self.now.text }
+        ensures short { length self.now.text ≤ 255 }
+    {
+        let _within = self.place;
     }
 
     /// The whole text.

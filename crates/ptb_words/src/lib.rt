@@ -11,7 +11,7 @@ mod letter;
 mod spelling;
 mod word;
 
-pub use cursor::Cursor;
+pub use cursor::{Cursor, is_all_blank, number_in_front};
 pub use laws::finding_laws;
 pub use letter::Letter;
 pub use word::{Number, Quoted, Table, Word};

@@ -11,3 +11,6 @@ returns-in-Call-clause-found c = grind (arith, common_steps)
 
 pub levels-preserved : goal.levels-preserved
 levels-preserved c = grind (arith, common_steps)
+
+pub returns-in-Call-clause-there : goal.returns-in-Call-clause-there
+returns-in-Call-clause-there c = grind (arith, common_steps)

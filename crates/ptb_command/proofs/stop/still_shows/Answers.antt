@@ -3,4 +3,4 @@ use Rattle.std.proofs.Common.{rules}
 use Rattle.ptb_command.proofs.stop.still_shows.Goals as goal
 
 pub returns : goal.returns
-returns c = search rules fits 50 depth 2
+returns g c = search rules fits 50 depth 2

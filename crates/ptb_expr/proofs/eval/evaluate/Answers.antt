@@ -1,32 +1,53 @@
 -- This file answers what is left to prove of the public call that works an expression out.
-use Rattle.std.proofs.Common.{arith, length, refl}
+use Rattle.std.proofs.Common.{◌≡◌, ◌∷◌, [], ℤ, Some, Ok, refl, sym, rules, to_z, of_z, w16}
+use Rattle.std.proofs.lemmas.Bool.{false≢true}
+use Rattle.ptb_expr.specs.declared.step.Step.TheVariants as steps
+use Rattle.ptb_expr.specs.Spells.{Expr}
 use Rattle.ptb_expr.specs.Reading.{item_of, expression}
-use Rattle.ptb_expr.proofs.Evaluation.{expression_worked_out, where_whole, where_faulty}
+use Rattle.ptb_expr.proofs.Coded.{coded, worked_out, is_whole_then}
+use Rattle.ptb_expr.proofs.Compiling.{if_read}
+use Rattle.ptb_expr.proofs.Evaluation.{where_whole, where_faulty}
+use Rattle.ptb_expr.proofs.OnlyNumber.{only_run}
+use Rattle.ptb_expr.proofs.PlainSteps.{evaluates_plain}
 use Rattle.ptb_expr.proofs.eval.evaluate.Goals as goal
 
-pub returns-clause-value : goal.returns-clause-value
-returns-clause-value g c =
-    let t = c.args.cursor.now.text in
-    (expression_worked_out _ t c.args.store.now c.args.cursor.now.place _ _ _ _ (c.expr.ensures.value t (length t) refl (omega arith))).evaluates
+-- ---- a number that nothing follows
 
-pub returns-clause-whole : goal.returns-clause-whole
-returns-clause-whole g c =
-    let t = c.args.cursor.now.text in
-    (expression_worked_out _ t c.args.store.now c.args.cursor.now.place _ _ _ _ (c.expr.ensures.value t (length t) refl (omega arith))).whole
-
-pub returns-clause-ahead : goal.returns-clause-ahead
-returns-clause-ahead g c =
+pub returns-in-Some : goal.returns-in-Some
+returns-in-Some g c =
     let t = c.args.cursor.now.text in
     let i = c.args.cursor.now.place in
-    let worked = expression_worked_out _ t c.args.store.now i _ _ _ _ (c.expr.ensures.value t (length t) refl (omega arith)) in
-    where_whole (expression t i) _ _ _ worked.whole (c.spelling_laws.ensures.expression_ahead t i _)
+    let same : to_z w16 (of_z w16 c.in-Some.value) ≡ c.in-Some.value = search rules in
+    let spelled = c.spelling_laws.ensures.expression_spelled t i in
+    let code = coded c.spelling_laws.ensures t Expr i c.in-Some.end (expression t i) (steps.Number c.in-Some.value ∷ []) (Some tt) spelled (c.in-Some.ensures.reads t refl) (λ none. absurd (false≢true (sym none))) in
+    let ran = evaluates_plain (g.C.Chooser.refused c.args.chooser.now) _ (g.C.Chooser.choices c.args.chooser.now) c.in-Some.value (only_run c.args.store.now c.in-Some.value) in
+    let value = worked_out _ _ _ _ _ _ _ _ code ran in
+    let whole = is_whole_then _ _ _ _ _ _ _ _ code ran in
+    rw (same, c.go_to.ensures) (record {
+      text = refl;
+      value = value;
+      spelled = spelled;
+      whole = whole;
+      ahead = where_whole {V = ℤ} (expression t i) c.in-Some.end _ (Ok c.in-Some.value) whole (c.spelling_laws.ensures.expression_ahead t i _);
+      left = c.in-Some.ensures.left;
+      mark = λ low. where_faulty _ t _ _ _ _ value (λ a rest e. c.mark_laws.ensures.value_faults _ c.args.store.now (item_of (expression t i)) a rest e (c.mark_laws.ensures.expression_marks t i low));
+    })
 
-pub returns-clause-mark : goal.returns-clause-mark
-returns-clause-mark g c = λ low.
+-- ---- anything else
+
+pub returns : goal.returns
+returns g c =
     let t = c.args.cursor.now.text in
     let i = c.args.cursor.now.place in
-    let worked = expression_worked_out _ t c.args.store.now i _ _ _ _ (c.expr.ensures.value t (length t) refl (omega arith)) in
-    where_faulty _ t _ _ _ _ worked.evaluates (λ a rest e. c.mark_laws.ensures.value_faults (length t) c.args.store.now (item_of (expression t i)) a rest e (c.mark_laws.ensures.expression_marks t i low))
-
-pub returns-clause-spelled : goal.returns-clause-spelled
-returns-clause-spelled g c = c.spelling_laws.ensures.expression_spelled c.args.cursor.now.text c.args.cursor.now.place
+    let spelled = c.spelling_laws.ensures.expression_spelled t i in
+    let code = coded c.spelling_laws.ensures t Expr i c.read_expr.new.cursor.place (expression t i) c.read_expr.new.steps c.read_expr.result spelled (rw c.new-steps.ensures at (if_read c.read_expr.result _ _ c.read_expr.ensures.reads (λ h. h t refl))) (λ none. rw c.new-steps.ensures at (c.read_expr.ensures.fails none t refl)) in
+    let value = worked_out _ _ _ _ _ _ _ _ code c.run.ensures in
+    let whole = is_whole_then _ _ _ _ _ _ _ _ code c.run.ensures in record {
+      text = c.read_expr.ensures.text;
+      value = value;
+      spelled = spelled;
+      whole = whole;
+      ahead = where_whole (expression t i) _ _ _ whole (c.spelling_laws.ensures.expression_ahead t i _);
+      left = c.read_expr.ensures.left;
+      mark = λ low. where_faulty _ t _ _ _ _ value (λ a rest e. c.mark_laws.ensures.value_faults _ c.args.store.now (item_of (expression t i)) a rest e (c.mark_laws.ensures.expression_marks t i low));
+    }

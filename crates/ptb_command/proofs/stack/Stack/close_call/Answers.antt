@@ -1,7 +1,6 @@
--- This file proves goals of `close_call` by short searches, so that a wrong body is refused soon.
-use Rattle.std.proofs.Common.{arith}
-use Rattle.std.proofs.lemmas.Grind.{common_steps}
+-- This file answers that the newest call is closed.
+use Rattle.ptb_command.proofs.Newest.{call_closed}
 use Rattle.ptb_command.proofs.stack.Stack.close_call.Goals as goal
 
 pub returns : goal.returns
-returns c = grind (arith, common_steps)
+returns c = call_closed c.args.self.now c.bring_call.new.self c.close_newest.new.self c.in_ok-back.back c.if-not-bring_call.ensures.1 c.in_ok-back.ensures c.close_newest.ensures

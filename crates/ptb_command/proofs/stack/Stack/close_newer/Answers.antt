@@ -1,17 +1,10 @@
--- This file answers the goals of the loops that end where an older one is the newest again.
-use Rattle.std.proofs.Common.{◌+◌, List, ap, sym, ◌∙◌, reverse, take}
-use Rattle.ptb_command.specs.declared.stack.Open.{Open}
-use Rattle.ptb_command.specs.declared.stack.Open.TheVariants as opens
-use Rattle.ptb_command.specs.Stacks.{loop_of}
-use Rattle.ptb_command.proofs.Nesting.{reverse_push}
+-- This file answers which loop becomes the newest.
+use Rattle.std.proofs.Common.{refl}
+use Rattle.ptb_command.proofs.Newest.{newest_given}
 use Rattle.ptb_command.proofs.stack.Stack.close_newer.Goals as goal
 
+pub returns-then-is_newest : goal.returns-then-is_newest
+returns-then-is_newest c = newest_given c.args.letter c.args.self.now c.args.self.now c.newest.result (c.if-is_newest.ensures refl) c.newest.ensures
+
 pub returns : goal.returns
-returns c =
-    let below = take c.in_ok-below.below c.as_slice.result.now in (
-      reverse below,
-      sym (ap (loop_of c.args.letter) (ap (λ (xs : List Open). reverse xs) c.as_slice.ensures.value ∙ c.self.view_is)) ∙ c.in_ok-below.ensures.found,
-      ap (λ (xs : List Open). reverse xs)
-          (c.truncate.ensures.items ∙ ap (λ (xs : List Open). take (c.in_ok-below.below + 1) xs) (sym c.as_slice.ensures.value) ∙ c.in_ok-below.ensures.there)
-          ∙ reverse_push below (opens.Loop c.in_ok-below.item),
-    )
+returns c = newest_given c.args.letter c.args.self.now c.close_above.new.self c.newest-2.result c.if-not-close_above.ensures c.newest-2.ensures

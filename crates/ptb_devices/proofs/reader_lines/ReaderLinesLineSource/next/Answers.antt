@@ -34,7 +34,7 @@ returns-in_err-fill g c =
           tt,
         ),
       ),
-      record { after = tt; end = tt },
+      record { after = tt; end = tt; short = tt },
     )
 
 pub returns-then-give_last : goal.returns-then-give_last
@@ -50,7 +50,7 @@ returns-then-give_last g c =
         (
           record {
             same_borrow = c.loop-self.invariant.same_borrow;
-            reads = rw c.kept.ensures
+            reads = rw c.kept.ensures.value
                 (last_given _ _ (read_on _ _ cut _ on) given none ended _ c.give_last.result c.give_last.ensures.given c.if-give_last.true (c.give_last.ensures.begun.0 c.if-give_last.true));
           },
           tt,
@@ -59,7 +59,7 @@ returns-then-give_last g c =
           tt,
         ),
       ),
-      record { after = tt; end = tt },
+      record { after = tt; end = tt; short = c.kept.ensures.short },
     )
 
 pub returns-then-not-branch : goal.returns-then-not-branch
@@ -78,7 +78,7 @@ returns-then-not-branch g c =
         λ _. tt,
         (record { same_borrow = c.loop-self.invariant.same_borrow; reads = last.0 }, tt, last.1, tt, more),
       ),
-      record { after = tt; end = none_left_before _ _ last.0.loses last.1 },
+      record { after = tt; end = none_left_before _ _ last.0.loses last.1; short = tt },
     )
 
 pub loop-self-preserved : goal.loop-self-preserved
@@ -98,12 +98,12 @@ returns g c =
         refl,
         λ _. tt,
         (
-          record { same_borrow = c.loop-self.invariant.same_borrow; reads = rw c.kept-2.ensures given },
+          record { same_borrow = c.loop-self.invariant.same_borrow; reads = rw c.kept-2.ensures.value given },
           tt,
           tt,
           cut_asked _ _ (line_input c.args.self.now) c.loop-self-test.ensures c.loop-self.invariant.same_fault,
           tt,
         ),
       ),
-      record { after = tt; end = tt },
+      record { after = tt; end = tt; short = c.kept-2.ensures.short },
     )

@@ -1,12 +1,12 @@
 -- This file answers what is left to prove of `Program::delete`.
-use Rattle.std.proofs.Common.{◌≡◌, ◌+◌, ◌-◌, ◌++◌, length, take, drop, sym, ap, ◌∙◌, arith}
+use Rattle.std.proofs.Common.{◌≡◌, ◌-◌, ◌++◌, length, take, drop, sym, ap, ◌∙◌, arith}
 use Rattle.std.proofs.lemmas.Grind.{common_steps}
 use Rattle.std.specs.List.{remove, remove_range}
 use Rattle.std.specs.Vec.{with_items}
 use Rattle.std.proofs.lemmas.List.Sums.{sum_by-remove}
 use Rattle.ptb_text.specs.declared.program.Program.TheInside.{Inside}
 use Rattle.ptb_text.specs.Program.{lengths}
-use Rattle.ptb_text.specs.Statements.{cost, without_number}
+use Rattle.ptb_text.specs.Statements.{without_number}
 use Rattle.ptb_text.proofs.Edits.{cost-without_place, is_program-without_number}
 use Rattle.ptb_text.proofs.Entries.{without_number-gap, without_number-place}
 use Rattle.ptb_text.proofs.Pool.{IsEntry, laid_items, lengths-part}

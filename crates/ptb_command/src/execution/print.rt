@@ -1,0 +1,165 @@
+// This file shows what the operations of a command show.
+
+ghost use Rattle.std.specs.Prelude.{◌≡◌, ◌↔◌, ◌≤◌, ◌+◌, ◌++◌, ◌∷◌, ℕ, ℤ, Bool, List, length};
+ghost use Rattle.std.specs.Prelude.{IsOk, IsTrue, IsFalse};
+ghost use Rattle.std.specs.Fmt.{signed_decimal};
+ghost use Rattle.ptb_expr.specs.Store.{Cells};
+ghost use Rattle.ptb_expr.specs.Translation.{HasNoValue};
+ghost use Rattle.ptb_expr.specs.Tree.{Tree};
+ghost use Rattle.ptb_expr.specs.Value.{or_fault};
+ghost use Rattle.ptb_command.specs.Act.{padded_decimal, parts_action, width_of};
+ghost use Rattle.ptb_command.specs.Actions.{goes_on, show, work_action};
+ghost use Rattle.ptb_command.specs.Code.{AreStepsAt, IsIn, IsLiteralIn, bytes_in, literal_bytes};
+ghost use Rattle.ptb_command.specs.Commands.{Part, Show, Width};
+ghost use Rattle.ptb_command.specs.Devices.{Devices, nothing_refused, refused_answers, with_choices};
+ghost use Rattle.ptb_command.specs.Io.{due_trace, SameDevices};
+ghost use Rattle.ptb_command.specs.Stops.{Comes};
+ghost use Rattle.ptb_command.specs.Traces.{Trace, trace, with_due};
+
+use crate::execution::values::value;
+use crate::gathering::{GATHERING_LIMIT, Gathering};
+use crate::io::Io;
+use crate::operation::{Expression, Literal, Range};
+use crate::stop::{Stop, fault};
+use itoa::Buffer;
+use ptb_answers::Chooser;
+use ptb_devices::{LineSource, Screen};
+use ptb_expr::{FaultKind, Step, Store};
+
+/// The width of the values at the start of each command.
+pub const FIRST_WIDTH: u8 = 6;
+
+/// The greatest width.
+const WIDTH_LIMIT: usize = 255;
+
+/// The blanks of a value: as many as the greatest width has.
+static BLANKS: [u8; WIDTH_LIMIT] = [b' '; WIDTH_LIMIT];
+
+/// What a command has gathered, and the width of the values that it shows.
+#[derive(Drop)]
+pub(crate) struct Output {
+    /// The bytes that are shown later.
+    pub(crate) gathering: Gathering,
+    /// The width.
+    pub(crate) width: u8,
+}
+
+/// The bytes of a text in a range; none where the range ends after the text.
+pub(crate) fn bytes_in(text: &[u8], range: Range) -> &[u8]
+    ensures { IsIn text.now range → result.now ≡ bytes_in text.now range }
+{
+    let from = usize::from(range.from);
+    let to = usize::from(range.to);
+    text.get(from..to).unwrap_or(&[])
+}
+
+/// The bytes of a literal, which may be in this text.
+pub(crate) fn literal_bytes(text: &[u8], literal: Literal) -> &[u8]
+    ensures { IsLiteralIn text.now literal → result.now ≡ literal_bytes text.now literal }
+{
+    match literal {
+        Literal::Text(range) => bytes_in(text, range),
+        Literal::Return => b"\r",
+    }
+}
+
+// A value as a width.
+fn width_of(value: i16, mark: usize) -> Result<u8, Stop>
+    ensures { (o : Trace) → Comes nothing_refused o o
+        (work_action (λ _. or_fault (width_of value) mark)) goes_on result }
+{
+    match u8::try_from(value) {
+        Ok(width) => Ok(width),
+        Err(_) => Err(fault(FaultKind::How, mark)),
+    }
+}
+
+// The blanks before the digits of a value, up to the width.
+fn blanks_before(digits: &[u8], width: u8) -> &'static [u8]
+    ensures { (v : ℤ) → digits.now ≡ signed_decimal v →
+        result.now ++ digits.now ≡ padded_decimal width v }
+{
+    let count = usize::from(width).saturating_sub(digits.len());
+    &BLANKS[..count]
+}
+
+/// Gathers a value with blanks before it up to the width, if there is room. Whether there was.
+#[inline(always)]
+pub fn gather_value(gathering: &mut Gathering, width: u8, value: i16) -> bool
+    ensures gathered { IsTrue result
+        → gathering.new ≡ gathering.old ++ padded_decimal width value }
+    ensures full { IsFalse result → gathering.new ≡ gathering.old }
+    ensures room { IsTrue result
+        ↔ (length gathering.old + length (padded_decimal width value) ≤ GATHERING_LIMIT) }
+{
+    let mut buffer = Buffer::new();
+    let digits = buffer.format(value).as_bytes();
+    gathering.takes_both(blanks_before(digits, width), digits)
+}
+
+// Shows a value with blanks before it up to the width.
+fn show_value<C: Chooser, S: Screen, L: LineSource>(
+    io: &mut Io<'_, C, S, L>,
+    gathering: &mut Gathering,
+    width: u8,
+    value: i16,
+) -> Result<(), Stop>
+    ensures comes { (given : List (List ℕ)) (cells : Cells) → Comes nothing_refused
+        (due_trace C.choices S.Screen L.most io.old given cells
+        gathering.old)
+        (due_trace C.choices S.Screen L.most io.new given cells
+        gathering.new)
+        (show (padded_decimal width value)) goes_on result }
+    ensures same { SameDevices io.old io.new }
+{
+    let mut buffer = Buffer::new();
+    let digits = buffer.format(value).as_bytes();
+    io.show(gathering, blanks_before(digits, width))?;
+    io.show(gathering, digits)
+}
+
+/// Shows the value of an expression.
+pub(crate) fn show_expression<C: Chooser, S: Screen, L: LineSource>(
+    steps: &[Step],
+    expression: Expression,
+    store: &Store,
+    io: &mut Io<'_, C, S, L>,
+    output: &mut Output,
+) -> Result<(), Stop>
+    ensures comes { (given : List (List ℕ)) (x : Tree) (rest : List Part) (operands : List ℤ) →
+        AreStepsAt steps.now expression x →
+        Comes (refused_answers (C.refused io.new.chooser.now))
+        (due_trace C.choices S.Screen L.most io.old given store.now output.old.gathering)
+        (due_trace C.choices S.Screen L.most io.new given store.now output.new.gathering)
+        (parts_action (Show x ∷ rest) output.old.width operands)
+        (λ _. parts_action rest output.new.width operands) result }
+    ensures valued { (x : Tree) → AreStepsAt steps.now expression x → HasNoValue x →
+        IsOk result → ⊥ }
+    ensures same { SameDevices io.old io.new }
+{
+    let value = value(steps, expression, store, io.chooser)?;
+    show_value(io, &mut output.gathering, output.width, value)
+}
+
+/// The value of an expression as a width; `mark` is the mark of a value that is no width.
+pub(crate) fn new_width<C: Chooser>(
+    steps: &[Step],
+    expression: Expression,
+    mark: u8,
+    store: &Store,
+    chooser: &mut C,
+) -> Result<u8, Stop>
+    ensures comes { (d : Devices) (fresh : Bool) (due : List ℕ) (x : Tree) (rest : List Part)
+        (w : ℕ) (operands : List ℤ) →
+        AreStepsAt steps.now expression x →
+        Comes (refused_answers (C.refused chooser.new))
+        (with_due due (trace (with_choices (C.choices chooser.old) d) fresh store.now))
+        (with_due due (trace (with_choices (C.choices chooser.new) d) fresh store.now))
+        (parts_action (Width x mark ∷ rest) w operands)
+        (λ width. parts_action rest width operands) result }
+    ensures valued { (x : Tree) → AreStepsAt steps.now expression x → HasNoValue x →
+        IsOk result → ⊥ }
+{
+    let value = value(steps, expression, store, chooser)?;
+    width_of(value, usize::from(mark))
+}

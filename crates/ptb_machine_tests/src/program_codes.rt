@@ -1,0 +1,200 @@
+// This file tests the code of a whole program: which command it finds at a place, how many commands
+// are done by it in a row, and a program that has more commands than there is room for their code.
+
+use crate::runs::expect_end;
+use crate::shared::{MEMORY, expect_same, letter};
+use ptb_command::{Location, Operation, ProgramCode, Registers};
+use ptb_machine::Ending;
+use ptb_text::{Device, LoadFault, Program, load};
+use std::alloc::{AllocError, Global};
+use std::process::Abort;
+use std::test::Fail;
+
+// The program of these lines.
+fn program_of(alloc: Global, lines: &[&str]) -> Result<Program, LoadFault> {
+    let mut program = Program::new(alloc, MEMORY);
+    for line in lines {
+        program.enter(line.as_bytes())?;
+    }
+    Ok(program)
+}
+
+// Three lines with four commands.
+const FOUR_COMMANDS: &[&str] = &["10 A=1;GOTO 30", "20 STOP", "30 PRINT 7"];
+
+// What an operation is, of those with which the commands begin.
+fn name(operation: Option<&Operation>) -> &'static str {
+    match operation {
+        Some(Operation::Set(_, _)) => "set",
+        Some(Operation::GoTo { .. }) => "goto",
+        Some(Operation::Stop) => "stop",
+        Some(Operation::Show(_)) => "show",
+        _ => "other",
+    }
+}
+
+// A statement and a place in it, a guess; the command that is next there: its index, its statement,
+// the place at which it begins, and its first operation.
+const PLACES: &[(usize, usize, usize, Option<(usize, usize, usize, &str)>)] = &[
+    // the guess is the command before, another one, none
+    (0, 4, 0, Some((1, 0, 4, "goto"))),
+    (0, 4, 1, Some((1, 0, 4, "goto"))),
+    (0, 4, 9, Some((1, 0, 4, "goto"))),
+    (0, 0, 0, Some((0, 0, 0, "set"))),
+    (0, 0, 2, Some((0, 0, 0, "set"))),
+    // at the end of a statement the first command of the next one is next
+    (0, 11, 1, Some((2, 1, 0, "stop"))),
+    (0, 11, 2, Some((2, 1, 0, "stop"))),
+    (1, 0, 0, Some((2, 1, 0, "stop"))),
+    (1, 4, 0, Some((3, 2, 0, "show"))),
+    (2, 7, 3, None),
+    // no command begins there
+    (0, 3, 0, None),
+    (3, 0, 0, None),
+];
+
+// Passes whichever of its allocations is refused.
+#[test]
+fn next_code_of_a_program(rt: HostRuntime) -> Result<(), Fail> {
+    let program = match program_of(rt.alloc(), FOUR_COMMANDS) {
+        Ok(program) => program,
+        Err(fault) => {
+            expect_same(&rt, "fault", fault, LoadFault::Memory);
+            return Ok(());
+        }
+    };
+    let code = match ProgramCode::new(rt.alloc(), &program) {
+        Ok(code) => code,
+        Err(AllocError) => return Ok(()),
+    };
+    for &(statement, at, guess, wanted) in PLACES {
+        let found = code
+            .next(&program, Location { statement, at }, guess)
+            .map(|next| {
+                (
+                    next.index,
+                    next.place.statement,
+                    next.place.at,
+                    name(next.operations.first()),
+                )
+            });
+        expect_same(&rt, "next", found, wanted);
+    }
+    Ok(())
+}
+
+// Lines, and how many commands may be done; how many are done, the statement and the place in it at
+// which the next command is sought then, and the value of A.
+type Row = (&'static [&'static str], u32, u32, (usize, usize), i16);
+
+const RUNS: &[Row] = &[
+    (&["10 A=1;A=A+1", "20 GOTO 10"], 0, 0, (0, 0), 0),
+    (&["10 A=1;A=A+1", "20 GOTO 10"], 1, 1, (0, 4), 1),
+    (&["10 A=1;A=A+1", "20 GOTO 10"], 5, 5, (0, 9), 2),
+    // up to a command that shows something, ends the run or has a fault
+    (&["10 A=7", "20 PRINT A"], 9, 1, (0, 3), 7),
+    (&["10 A=7;STOP"], 9, 1, (0, 4), 7),
+    (&["10 A=7;A=A/0"], 9, 1, (0, 4), 7),
+    (&["10 A=7;A=RND(1)"], 9, 1, (0, 4), 7),
+    (&["10 A=7;INPUT A"], 9, 1, (0, 4), 7),
+    // a command that has a fault after its first part isn't begun
+    (&["10 A=7", "20 A=8,B=A/0"], 9, 1, (0, 3), 7),
+    (&["10 A=7", "20 F.A=8TO A/0"], 9, 1, (0, 3), 7),
+    // up to the end of the program
+    (&["10 A=7", "20 A=8"], 9, 2, (1, 3), 8),
+    (
+        &["10 FOR I=1 TO 3", "20 A=A+I", "30 NEXT I", "40 STOP"],
+        99,
+        7,
+        (2, 6),
+        6,
+    ),
+    (
+        &["10 GOSUB 100;A=A+1", "20 STOP", "100 A=5;RETURN"],
+        9,
+        4,
+        (0, 15),
+        6,
+    ),
+    (
+        &["10 A=A+1;IF A<3 GOTO 10", "20 A=-A;STOP"],
+        99,
+        9,
+        (1, 5),
+        -3,
+    ),
+];
+
+// The commands of a row are done so, whichever entry is the guess.
+fn expect_row(rt: &impl Abort, alloc: Global, row: &Row, guess: usize) -> Result<(), Fail> {
+    let &(lines, most, wanted, place, a) = row;
+    let program = program_of(alloc, lines)?;
+    let mut code = ProgramCode::new(alloc, &program)?;
+    let mut registers = Registers::new(alloc, &program)?;
+    let done = code.advance(&program, &mut registers, most, guess).done;
+    let at = registers.place.map(|place| (place.statement, place.at));
+    let found = (done, at, registers.store.get(letter(b'A')));
+    expect_same(rt, "run", found, (wanted, Some(place), a));
+    Ok(())
+}
+
+#[test]
+fn commands_in_a_row(rt: HostRuntime) -> Result<(), Fail> {
+    for row in RUNS {
+        expect_row(&rt, rt.alloc(), row, 0)?;
+        expect_row(&rt, rt.alloc(), row, 1)?;
+        expect_row(&rt, rt.alloc(), row, 99)?;
+    }
+    Ok(())
+}
+
+// 110 statements that begin with IF A, numbered from 1000 on. Each has 64 commands.
+fn long_statements(text: &mut Vec<u8>) -> Result<(), Fail> {
+    for n in 0..110_u8 {
+        text.push(b'1')?;
+        text.push((n / 100).wrapping_add(b'0'))?;
+        text.push((n / 10 % 10).wrapping_add(b'0'))?;
+        text.push((n % 10).wrapping_add(b'0'))?;
+        text.extend_from_slice(b" IFA")?;
+        for _ in 0..63 {
+            text.extend_from_slice(b"P.A;")?;
+        }
+        text.push(b'\n')?;
+    }
+    Ok(())
+}
+
+// A PRINT has an entry of 14 bytes, three operations of 8 bytes and a step of 6, thus 44. So the code
+// of all commands would take more than 110 * 63 * 44 = 304,920 bytes.
+fn program_with_much_code(alloc: Global) -> Result<Program, Fail> {
+    let mut text = Vec::from_slice(alloc, b"10 B=B+1\n")?;
+    long_statements(&mut text)?;
+    text.extend_from_slice(b"2000 C=C+1;GOS.2040\n2010 F.I=1TO4;D=D+I;N.I\n")?;
+    text.extend_from_slice(b"2020 IF C<3 GOTO 10\n2030 P.B,C,D,E;STOP\n2040 E=E+C;R.\n")?;
+    let mut bytes = text.as_slice();
+    Ok(load(alloc, 32_767, &mut Device::new(&mut bytes))?)
+}
+
+// Whether the command at the beginning of a statement has code.
+fn has_code(code: &ProgramCode, program: &Program, statement: usize) -> bool {
+    let place = Location { statement, at: 0 };
+    code.next(program, place, 0).is_some()
+}
+
+// The last statements have no code. The program has three rounds: two of 126 commands, and one of 125,
+// which does not jump back, before a PRINT and a STOP.
+#[test]
+fn commands_without_code(rt: HostRuntime) -> Result<(), Fail> {
+    let program = program_with_much_code(rt.alloc())?;
+    let code = ProgramCode::new(rt.alloc(), &program)?;
+    let first = (has_code(&code, &program, 0), has_code(&code, &program, 100));
+    let last = (
+        has_code(&code, &program, 110),
+        has_code(&code, &program, 111),
+    );
+    expect_same(&rt, "code", (first, last), ((true, true), (false, false)));
+    drop(code);
+    let shown = b"     3     3    30     6\n".as_slice();
+    expect_end(&rt, rt.alloc(), &program, 379, (Ending::Stop, shown));
+    Ok(())
+}
