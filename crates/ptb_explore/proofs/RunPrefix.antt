@@ -1,5 +1,5 @@
 -- This file proves how a run goes on that is played step by step, and how it ends.
-use Rattle.std.proofs.Common.{◌≡◌, ℕ, ◌+◌, ◌-◌, ◌<◌, ◌≤◌, List, [], ◌∷◌, ◌++◌, true, Option, Some, None, Result, Ok, Err, ℤ, inl, inr, refl, sym, ap, subst, ◌∙◌, arith, append_assoc, append-nil, length, drop, length-append, length-drop}
+use Rattle.std.proofs.Common.{◌≡◌, ℕ, ◌+◌, ◌-◌, ◌<◌, ◌≤◌, List, [], ◌∷◌, ◌++◌, zero, suc, true, Option, Some, None, Result, Ok, Err, ℤ, inl, inr, refl, sym, ap, subst, ◌∙◌, arith, append_assoc, append-nil, length, drop, length-append, length-drop}
 use Rattle.std.proofs.Math.Path.{fun_ext}
 use Rattle.ptb_text.specs.Statements.{StoredProgram}
 use Rattle.ptb_answers.specs.declared.pause.Pause.{Pause}
@@ -15,12 +15,12 @@ use Rattle.ptb_command.specs.State.{State, first_state}
 use Rattle.ptb_command.specs.Act.{StepResult, Next, Over}
 use Rattle.ptb_machine.specs.Play.{Finish, turn, after_step_result, turns, play}
 use Rattle.ptb_machine.specs.Laws.{RunLaws}
-use Rattle.ptb_command.specs.Devices.{ScreenState, devices, Refusal, refused_by}
+use Rattle.ptb_command.specs.Devices.{ScreenState, devices, Refusal, nothing_refused, refused_by}
 use Rattle.ptb_command.specs.Configuration.{Configuration}
 use Rattle.ptb_command.specs.Effects.{act_state}
 use Rattle.ptb_command.specs.Representation.{Represents}
 use Rattle.ptb_command.specs.Stops.{Waits, IsDry}
-use Rattle.ptb_machine.specs.Steps.{StepsTo, goes, ends, StepComes, Steps}
+use Rattle.ptb_machine.specs.Steps.{QuietTurns, StepsTo, goes, ends, StepComes, Steps}
 use Rattle.ptb_answers.specs.declared.rules.Rules.{Rules}
 use Rattle.ptb_machine.specs.Questions.{most_answers}
 use Rattle.ptb_explore.specs.Laws.{TreeLaws}
@@ -188,6 +188,18 @@ module _ (laws : RunLaws) (p : StoredProgram) (input : List (List ℕ)) (rules :
   step_goes m new c d s t given left rest most few refused r e u l follows steps =
       let x = subst (λ r. StepComes refused (StepsTo p.lines new (devices c (text_state s) most rules.choose []) u.state rest (turn p rules.limit u.state)) (devices d (text_state t) few rules.choose given) r) e (steps u.state rest u.represents u.choose follows (u.left_is ∙ l)) in
       ((turn_holds m new c d s t given left rest most few u goes x).0, goes_run_prefix m new c d s t given left rest most few u x, goes_below m new c d s t given left rest most few u x)
+
+  -- ---- turns that ask nothing
+
+  turns_prefix : (n : ℕ) (old new : Configuration) (c : Choices) (s : List ℕ) (left : List (List ℕ)) → IsRunPrefix p input rules c s left old → QuietTurns p rules.limit n old new → IsRunPrefix p input rules c s left new
+  turns_prefix zero old new c s left u same = subst (IsRunPrefix p input rules c s left) (sym same) u
+  turns_prefix (suc n) old new c s left u turns =
+      (step_goes turns.0 new c c s s [] left left 1 1 nothing_refused (Ok None) refl (turns_prefix n old turns.0 c s left u turns.1) refl (λ none. absurd (omega (arith, none)))
+      (turns.2 (devices c (text_state s) 1 rules.choose []) refl)).1
+
+  -- by a player that plays q
+  pub advanced : (q : StoredProgram) (n : ℕ) (old new : Configuration) (c : Choices) (s : List ℕ) (left : List (List ℕ)) → q ≡ p → IsRunPrefix p input rules c s left old → QuietTurns p rules.limit n old new → IsRunPrefix q input rules c s left new
+  advanced q n old new c s left same u turns = subst (λ (x : StoredProgram). IsRunPrefix x input rules c s left new) (sym same) (turns_prefix n old new c s left u turns)
 
   pub step_ends : (m new : Configuration) (c d : Choices) (bound : ℤ) (s t : List ℕ) (given left rest : List (List ℕ)) (most few : ℕ) (e : Ending) (r : Result (Option Ending) RunFault) → r ≡ Ok (Some e) → IsRunPrefix p input rules c s left m → left ≡ given ++ rest → (few ≡ 0 → rest ≡ []) → Steps (refused_by (RefusedByPlan d bound) (λ _. ⊥) (Some rest)) p rules.limit m new (devices c (text_state s) most rules.choose []) (devices d (text_state t) few rules.choose given) r → (d.plan ≡ c.plan) × PlayEnds (play p input rules) d bound new.steps t e
   step_ends m new c d bound s t given left rest most few e r is u l follows steps =

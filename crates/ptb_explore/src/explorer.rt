@@ -319,9 +319,9 @@ fn check_beginning(
 /// Finds the runs of a program, one after the other, in the order of their answers.
 ///
 /// It holds the report of one run, one list of answers more and the answers of its share, however
-/// many runs there are. One player plays them all, so that a command that was read in one run need
-/// not be read in the next. Copies of the machine are kept where the run took answers, at most 64, so
-/// that the next run goes on from the last place at which it is the same.
+/// many runs there are. One player plays them all, so that the program is translated once. Copies of
+/// the machine are kept where the run took answers, at most 64, so that the next run continues from
+/// the last place at which it is the same.
 #[derive(Drop)]
 pub struct Explorer<'a> {
     /// Plays the runs.

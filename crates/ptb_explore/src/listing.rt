@@ -11,12 +11,14 @@ use crate::explorer::Explorer;
 use crate::fault::{ExploreFault, NextFault};
 use ptb_answers::Form;
 use ptb_machine::run_laws;
+use ptb_report::ReportWriter;
 use ptb_text::Write;
 
 // Writes the report of the next run, and says whether there is one.
 fn write_next<W: Write>(
     explorer: &mut Explorer,
     form: Form,
+    reports: &mut ReportWriter,
     writer: &mut W,
 ) -> Result<bool, NextFault>
     ensures same { explorer.new ≡ record explorer.old {
@@ -35,7 +37,7 @@ fn write_next<W: Write>(
     match explorer.next() {
         Err(_) => Err(NextFault::Memory),
         Ok(None) => Ok(false),
-        Ok(Some(run)) => match run.write(form, writer) {
+        Ok(Some(run)) => match run.write(form, reports, writer) {
             Ok(()) => Ok(true),
             Err(_) => Err(NextFault::Write),
         },
@@ -84,10 +86,11 @@ pub fn write_all_runs<W: Write>(
         → W.failures writer.new ≡ W.failures writer.old }
 {
     run_laws();
+    let mut reports = ReportWriter::new();
     let mut written: u64 = 0;
     let mut remaining = first;
     while remaining != Some(0) {
-        match write_next(explorer, form, writer) {
+        match write_next(explorer, form, &mut reports, writer) {
             Ok(true) => {}
             Ok(false) => return Ok(written),
             Err(NextFault::Memory) => return Err(ExploreFault::Memory(written)),

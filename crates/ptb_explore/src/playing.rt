@@ -46,6 +46,7 @@ pub(crate) fn play_on(
 {
     run_laws();
     loop {
+        player.advance(machine, rules.limit);
         let before = trial.bounds.len();
         match player.step(machine, rules, trial, screen, source) {
             Ok(None) => {}

@@ -9,7 +9,7 @@ ghost use Rattle.ptb_explore.specs.Report.{word_of};
 
 use ptb_answers::Form;
 use ptb_machine::Ending;
-use ptb_report::write_report;
+use ptb_report::ReportWriter;
 use ptb_text::{DeviceFault, Write};
 use std::alloc::Global;
 
@@ -47,7 +47,12 @@ impl Report {
     /// # Errors
     ///
     /// [`DeviceFault`] where the writer failed. A beginning of the report may have been taken then.
-    pub(crate) fn write<W: Write>(&self, form: Form, writer: &mut W) -> Result<(), DeviceFault>
+    pub(crate) fn write<W: Write>(
+        &self,
+        form: Form,
+        reports: &mut ReportWriter,
+        writer: &mut W,
+    ) -> Result<(), DeviceFault>
         requires { length self.now.answers.items ≡ length self.now.bounds.items }
         ensures ok { OnOk result (Appends (W.contents writer.old) (W.contents writer.new)
             (report_text (items_in form self.now.answers.items self.now.bounds.items)
@@ -58,7 +63,7 @@ impl Report {
         ensures failed { OnErr result (HasFailed (W.failures writer.old) (W.failures writer.new)) }
         ensures unfailed { OnOk result (W.failures writer.new ≡ W.failures writer.old) }
     {
-        write_report(
+        reports.write(
             writer,
             form,
             &self.answers,

@@ -15,7 +15,7 @@ use crate::fault::{ExploreFault, NextFault};
 use crate::report::word;
 use ptb_answers::{Form, Seeded};
 use ptb_machine::{Ending, Line, Lines, Machine, Player, Rules, RunFault, TextScreen, run_laws};
-use ptb_report::write_report;
+use ptb_report::ReportWriter;
 use ptb_text::{Program, Write};
 use std::alloc::{AllocError, Global};
 
@@ -41,6 +41,8 @@ struct Sampler<'a> {
     chooser: Seeded,
     // Has what this run shows.
     screen: TextScreen,
+    // Writes the reports.
+    reports: ReportWriter,
 }
 
 // Plays a run of the player's program from its beginning, with the answers that the chooser draws.
@@ -65,6 +67,7 @@ fn play_drawn(
     run_laws();
     let mut source = Lines::new(lines);
     'steps: loop {
+        player.advance(machine, rules.limit);
         match player.step(machine, rules, chooser, screen, &mut source) {
             Ok(None) => {}
             Ok(Some(ending)) => return Ok(ending),
@@ -137,7 +140,7 @@ fn write_run<W: Write>(
         return Err(NextFault::Memory);
     };
     let chooser = &sampler.chooser;
-    match write_report(
+    match sampler.reports.write(
         writer,
         form,
         chooser.answers(),
@@ -202,6 +205,7 @@ fn begun(alloc: Global, program: &Program, seed: u64) -> Result<Sampler<'_>, All
         machine,
         chooser: Seeded::new(alloc, seed),
         screen: TextScreen::new(alloc),
+        reports: ReportWriter::new(),
     })
 }
 

@@ -1,7 +1,7 @@
 // This file tries the cursor at texts whose words, tokens, numbers and strings are known.
 
-use crate::shared::expect_same;
-use ptb_words::{Cursor, Letter, Number, Quoted, Table, Word};
+use crate::shared::{cursor_in_front, expect_same};
+use ptb_words::{Cursor, Letter, Number, Quoted, Table, Word, is_all_blank, number_in_front};
 use std::process::Abort;
 
 // A table, a text, the word that is found in front of it, and the place behind that.
@@ -45,7 +45,7 @@ const WORDS: &[(Table, &str, Option<Word>, usize)] = &[
 #[test]
 fn finds_words(rt: HostRuntime) {
     for &(table, text, word, after) in WORDS {
-        let mut cursor = Cursor::new(text.as_bytes(), 0);
+        let mut cursor = cursor_in_front(&rt, text.as_bytes());
         let found = cursor.word(table);
         expect_same(&rt, text, (found, cursor.place()), (word, after));
     }
@@ -54,6 +54,7 @@ fn finds_words(rt: HostRuntime) {
 // A cursor at a place that the text has.
 fn cursor_at<'a>(rt: &impl Abort, text: &'a str, place: usize) -> Cursor<'a> {
     assert!(rt; place <= text.len());
+    assert!(rt; text.len() <= 255);
     Cursor::new(text.as_bytes(), place)
 }
 
@@ -117,13 +118,13 @@ const LONE_LETTERS: &[(&str, Option<u8>, usize)] = &[
 #[test]
 fn finds_letters(rt: HostRuntime) {
     for &(text, letter, after) in LETTERS {
-        let mut cursor = Cursor::new(text.as_bytes(), 0);
+        let mut cursor = cursor_in_front(&rt, text.as_bytes());
         let found = cursor.letter();
         let letter = letter.and_then(Letter::new);
         expect_same(&rt, text, (found, cursor.place()), (letter, after));
     }
     for &(text, letter, after) in LONE_LETTERS {
-        let mut cursor = Cursor::new(text.as_bytes(), 0);
+        let mut cursor = cursor_in_front(&rt, text.as_bytes());
         let found = cursor.lone_letter();
         let letter = letter.and_then(Letter::new);
         expect_same(&rt, text, (found, cursor.place()), (letter, after));
@@ -145,17 +146,36 @@ const NUMBERS: &[(&str, Number, usize)] = &[
 #[test]
 fn finds_numbers(rt: HostRuntime) {
     for &(text, number, after) in NUMBERS {
-        let mut cursor = Cursor::new(text.as_bytes(), 0);
+        let mut cursor = cursor_in_front(&rt, text.as_bytes());
         let found = cursor.number();
         expect_same(&rt, text, (found, cursor.place()), (number, after));
+        let in_front = number_in_front(text.as_bytes());
+        expect_same(&rt, text, in_front, (number, after));
     }
+}
+
+// A text of any length may be asked for the number in front of it.
+#[test]
+fn passes_long_blanks(rt: HostRuntime) {
+    let mut text = [b' '; 300];
+    expect_same(&rt, "all blank", is_all_blank(&text), true);
+    expect_same(
+        &rt,
+        "no number",
+        number_in_front(&text),
+        (Number::Absent, 0),
+    );
+    text[290] = b'7';
+    expect_same(&rt, "not all blank", is_all_blank(&text), false);
+    let found = number_in_front(&text);
+    expect_same(&rt, "a number", found, (Number::Value(7), 300));
 }
 
 #[test]
 fn reads_two_hundred_digits(rt: HostRuntime) {
     for (digit, number) in [(b'9', Number::TooBig), (b'0', Number::Value(0))] {
         let text = [digit; 200];
-        let mut cursor = Cursor::new(&text, 0);
+        let mut cursor = cursor_in_front(&rt, &text);
         let found = cursor.number();
         expect_same(&rt, "digits", (found, cursor.place()), (number, 200));
     }
@@ -176,7 +196,7 @@ const STRINGS: &[(&str, Quoted, usize)] = &[
 #[test]
 fn finds_strings(rt: HostRuntime) {
     for &(text, quoted, after) in STRINGS {
-        let mut cursor = Cursor::new(text.as_bytes(), 0);
+        let mut cursor = cursor_in_front(&rt, text.as_bytes());
         let found = cursor.quoted();
         expect_same(&rt, text, (found, cursor.place()), (quoted, after));
     }
@@ -215,7 +235,7 @@ const PLACES: &[(usize, bool, Option<u8>)] = &[
 #[test]
 fn goes_to_places(rt: HostRuntime) {
     let text: &[u8] = b"A  B";
-    let mut cursor = Cursor::new(text, 0);
+    let mut cursor = cursor_in_front(&rt, text);
     for &(place, at_end, next) in PLACES {
         assert!(rt; place <= cursor.text().len());
         cursor.go_to(place);
@@ -227,7 +247,7 @@ fn goes_to_places(rt: HostRuntime) {
 
 #[test]
 fn looks_ahead(rt: HostRuntime) {
-    let mut cursor = Cursor::new(b" A  ", 0);
+    let mut cursor = cursor_in_front(&rt, b" A  ");
     let before = (cursor.place(), cursor.at_end());
     expect_same(&rt, "before A", before, (0, false));
     // only behind this is it known that there is a byte to take

@@ -1,12 +1,12 @@
-// This file tests expressions, variables, the store, the choosers and codes, by worked rows.
+// This file tests expressions, variables, the store and the choosers, by worked rows.
 
 ghost use Rattle.std.specs.Prelude.{◌≡◌, ◌≤◌, ◌≤ℤ◌, length, pos, take, Some, IsTrue};
 ghost use Rattle.ptb_words.specs.Words.{is_letter};
 
-use crate::shared::expect_same;
+use crate::shared::{cursor_in_front, expect_same};
 use ptb_expr::{
-    Chooser, Code, Codes, Fault, FaultKind, Listed, Pause, Seeded, Stop, Store, Target, answer_to,
-    evaluate, target,
+    Chooser, Fault, FaultKind, Listed, Pause, Seeded, Steps, Stop, Store, Target, answer_to,
+    evaluate, plain_value, read_value, target,
 };
 use ptb_words::{Cursor, Letter};
 use rand_core::utils::NextWord;
@@ -35,8 +35,8 @@ fn fault(kind: FaultKind, mark: usize) -> Worked {
 }
 
 // What the text is worth, and how many answers are left.
-fn worth(store: &Store, text: &[u8], answers: &[i16]) -> (Worked, usize) {
-    let mut cursor = Cursor::new(text, 0);
+fn worth(rt: &impl Abort, store: &Store, text: &[u8], answers: &[i16]) -> (Worked, usize) {
+    let mut cursor = cursor_in_front(rt, text);
     let mut list = Listed::new(answers);
     let result = match evaluate(&mut cursor, store, &mut list) {
         Ok(value) => Ok((value, cursor.place())),
@@ -54,7 +54,7 @@ fn expect_worth(
     wanted: Worked,
     left: usize,
 ) {
-    let found = worth(store, text.as_bytes(), answers);
+    let found = worth(rt, store, text.as_bytes(), answers);
     expect_same(rt, text, found, (wanted, left));
 }
 
@@ -244,10 +244,10 @@ fn long_texts(rt: HostRuntime) {
         nested[at] = b')';
     }
     let found = [
-        worth(&store, &nested, &[]),
-        worth(&store, &[b'('; 253], &[]),
-        worth(&store, &[b'9'; 200], &[]),
-        worth(&store, &[b'0'; 200], &[]),
+        worth(&rt, &store, &nested, &[]),
+        worth(&rt, &store, &[b'('; 253], &[]),
+        worth(&rt, &store, &[b'9'; 200], &[]),
+        worth(&rt, &store, &[b'0'; 200], &[]),
     ];
     let wanted = [
         (Ok((1, 253)), 0),
@@ -261,8 +261,8 @@ fn long_texts(rt: HostRuntime) {
 // What a variable names, and the place where the cursor is left.
 type Named = (Result<Target, Stop>, usize);
 
-fn named(store: &Store, text: &[u8]) -> Named {
-    let mut cursor = Cursor::new(text, 0);
+fn named(rt: &impl Abort, store: &Store, text: &[u8]) -> Named {
+    let mut cursor = cursor_in_front(rt, text);
     let result = target(&mut cursor, store, &mut Listed::new(&[]));
     (result, cursor.place())
 }
@@ -278,7 +278,10 @@ const UNNAMED: &[(&str, FaultKind, usize)] = &[
 #[test]
 fn targets(rt: HostRuntime) {
     let store = make_store(&rt, rt.alloc());
-    let found = [named(&store, b"B=1"), named(&store, b" @ (1+1) =")];
+    let found = [
+        named(&rt, &store, b"B=1"),
+        named(&rt, &store, b" @ (1+1) ="),
+    ];
     let wanted = [
         (Ok(Target::Var(letter(b'B'))), 1),
         (Ok(Target::Element(2)), 9),
@@ -286,7 +289,7 @@ fn targets(rt: HostRuntime) {
     expect_same(&rt, "targets", found, wanted);
     for &(text, kind, mark) in UNNAMED {
         let stop = Stop::Fault(Fault { kind, mark });
-        let found = named(&store, text.as_bytes());
+        let found = named(&rt, &store, text.as_bytes());
         expect_same(&rt, text, found, (Err(stop), mark));
     }
 }
@@ -307,6 +310,26 @@ fn stored_values(rt: HostRuntime) {
     let wanted = (-7, Ok(2), Ok(12), Err(FaultKind::Sorry));
     expect_same(&rt, "values", found, wanted);
     expect_worth(&rt, &store, "Z-A*@(2)+S.", &[], Ok((98, 11)), 0);
+}
+
+// The values of all variables are taken and stored together; the array stays.
+#[test]
+fn all_variables(rt: HostRuntime) {
+    let mut store = Store::new(rt.alloc(), 5).expect(&rt, "memory");
+    store.set(letter(b'A'), -7);
+    store.set(letter(b'Z'), 9);
+    let values = store.variables();
+    let mut wanted = [0; 26];
+    wanted[0] = -7;
+    wanted[25] = 9;
+    expect_same(&rt, "values", values, wanted);
+    store.set(letter(b'A'), 1);
+    store.set(letter(b'M'), 2);
+    store.set_element(2, 12);
+    store.set_variables(values);
+    expect_same(&rt, "values put back", store.variables(), wanted);
+    expect_worth(&rt, &store, "A+M+Z", &[], Ok((2, 5)), 0);
+    expect_same(&rt, "element", store.element(2), Ok(12));
 }
 
 // Passes whether or not the array is refused memory.
@@ -398,13 +421,13 @@ impl<'a> Chooser for Kept<'a> {
 fn kept_bounds(rt: HostRuntime) {
     let store = make_store(&rt, rt.alloc());
     let mut kept = Kept::new(rt.alloc(), &[2, 1, 1, 9]);
-    let mut cursor = Cursor::new(b"R.(R.(3))+R.(1)*R.(8)", 0);
+    let mut cursor = cursor_in_front(&rt, b"R.(R.(3))+R.(1)*R.(8)");
     let found = evaluate(&mut cursor, &store, &mut kept);
     let wanted = Err(Stop::Pause(Pause::OutOfRange(9)));
     expect_same(&rt, "value", found, wanted);
     expect_same(&rt, "bounds", kept.bounds.as_slice(), &[3, 2, 1]);
     let mut kept = Kept::new(rt.alloc(), &[2]);
-    let mut cursor = Cursor::new(b"@(R.(2))", 0);
+    let mut cursor = cursor_in_front(&rt, b"@(R.(2))");
     let found = target(&mut cursor, &store, &mut kept);
     expect_same(&rt, "target", found, Ok(Target::Element(2)));
     expect_same(&rt, "bounds", kept.bounds.as_slice(), &[2]);
@@ -416,8 +439,8 @@ fn next_answer(generator: &mut Lcg64Xsh32, bound: u32) -> i64 {
 }
 
 // What RND of the bound is, and i64::MAX where it is a fault or a pause.
-fn asked(store: &Store, seeded: &mut Seeded, text: &str) -> i64 {
-    match evaluate(&mut Cursor::new(text.as_bytes(), 0), store, seeded) {
+fn asked(rt: &impl Abort, store: &Store, seeded: &mut Seeded, text: &str) -> i64 {
+    match evaluate(&mut cursor_in_front(rt, text.as_bytes()), store, seeded) {
         Ok(value) => i64::from(value),
         Err(_) => i64::MAX,
     }
@@ -439,7 +462,7 @@ fn expect_seeded(rt: &impl Abort, alloc: Global, store: &Store, seed: u64) {
     let mut generator = Lcg64Xsh32::new(seed, 1);
     for &(text, bound) in SEEDED {
         let wanted = next_answer(&mut generator, bound);
-        let found = asked(store, &mut seeded, text);
+        let found = asked(rt, store, &mut seeded, text);
         expect_same(rt, text, (seed, found), (seed, wanted));
     }
     let bounds = [6, 1, 32767, 6, 100, 2, 20000];
@@ -464,8 +487,8 @@ fn seeded_answers(rt: HostRuntime) {
 
 // Two answers by the seed 7 to questions with bound 6, which are all that it keeps then.
 fn expect_two_rolls(rt: &impl Abort, store: &Store, seeded: &mut Seeded, rolls: &[i16]) {
-    let first = asked(store, seeded, "R.(6)");
-    let second = asked(store, seeded, "R.(6)");
+    let first = asked(rt, store, seeded, "R.(6)");
+    let second = asked(rt, store, seeded, "R.(6)");
     expect_same(rt, "bounds", seeded.bounds(), &[6, 6]);
     expect_same(rt, "answers", seeded.answers(), rolls);
     let kept = match seeded.answers() {
@@ -494,7 +517,7 @@ fn forgotten_answers(rt: HostRuntime) {
 fn seeded_faults(rt: HostRuntime) {
     let store = make_store(&rt, rt.alloc());
     let mut seeded = Seeded::new(rt.alloc(), 7);
-    let mut cursor = Cursor::new(b"R.(0)", 0);
+    let mut cursor = cursor_in_front(&rt, b"R.(0)");
     let how = Fault {
         kind: FaultKind::How,
         mark: 5,
@@ -503,7 +526,7 @@ fn seeded_faults(rt: HostRuntime) {
     expect_same(&rt, "R.(0)", found, Err(Stop::Fault(how)));
     expect_same(&rt, "no bounds", seeded.bounds().is_empty(), true);
     let wanted = next_answer(&mut Lcg64Xsh32::new(7, 1), 9);
-    let found = asked(&store, &mut seeded, "R.(9)");
+    let found = asked(&rt, &store, &mut seeded, "R.(9)");
     expect_same(&rt, "R.(9)", found, wanted);
 }
 
@@ -547,72 +570,68 @@ fn lettered_store(rt: &impl Abort, alloc: Global) -> Store {
     store
 }
 
-// The place after the expression at the front of a text, and its value by its code.
-fn by_code(store: &Store, text: &[u8]) -> Option<(usize, Option<i16>)> {
+// The place after the expression at the front of a text, and its value by `plain_value`.
+fn plainly(rt: &impl Abort, store: &Store, text: &[u8]) -> (usize, Option<i16>) {
+    assert!(rt; text.len() <= 254);
     let mut cursor = Cursor::new(text, 0);
-    let mut code = Code::new();
-    code.read(&mut cursor)?;
-    Some((cursor.place(), code.value(store)))
+    let mut steps = Steps::new();
+    read_value(&mut cursor, &mut steps);
+    (cursor.place(), plain_value(steps.as_slice(), store))
 }
 
-// A text, the place behind its expression, and its value, if it has one.
-const CODES: &[(&str, usize, Option<i16>)] = &[
-    ("7", 1, Some(7)),
-    (" J )", 3, Some(100)),
-    ("A+1", 3, Some(6)),
-    ("A<30000", 7, Some(1)),
-    ("A*3+B", 5, Some(8)),
-    ("A*B*I*I*A", 9, Some(-700)),
-    ("J/7*7+I", 7, Some(100)),
-    ("A+B*I", 5, Some(-9)),
-    ("A*(B)", 5, Some(-35)),
-    ("(A)", 3, Some(5)),
-    ("A<B+1", 5, Some(0)),
-    ("A<-1", 4, Some(0)),
-    ("A+B+I+J<A", 9, Some(0)),
-    ("-A", 2, Some(-5)),
-    ("A-1-B", 5, Some(11)),
-    ("A-(B-J)", 7, Some(112)),
-    ("(A-B)/(I+1)-J", 13, Some(-96)),
-    ("I/3*2-I+A/2+(J>I)*7", 19, Some(7)),
-    ("ABS(A-J)/3+1", 12, Some(32)),
-    ("-B*2+A", 6, Some(19)),
-    ("+A", 2, Some(5)),
-    ("S.-A", 4, Some(-1)),
-    ("A-S.", 4, Some(1)),
-    ("@(I)*@(I*0)+@(I)", 16, Some(9)),
-    ("A>B=1", 3, Some(1)),
-    ("(A<B)+(A<=B)+(A#B)", 18, Some(1)),
-    ("32767+1", 7, None),
-    ("-(-32767-1)", 11, None),
-    ("A.(-32767-1)", 12, None),
-    ("A*32767", 7, None),
-    ("A/(B+7)", 7, None),
-    ("@(I+1)", 6, None),
-    ("@(B)", 4, None),
-    (
-        "1+1+1+1+1+1+1+1+1+1+1+1+1+1+1+1+1+1+1+1+1+1+1+1",
-        47,
-        Some(24),
-    ),
-    (
-        "A-(A-(A-(A-(A-(A-(A-(A-(A-(A-(A-(A-0)))))))))))",
-        47,
-        Some(0),
-    ),
+// A text, its value, and the place after its expression.
+const PLAIN_VALUES: &[(&str, i16, usize)] = &[
+    ("7", 7, 1),
+    (" J )", 100, 3),
+    ("A+1", 6, 3),
+    ("A<30000", 1, 7),
+    ("A*3+B", 8, 5),
+    ("A*B*I*I*A", -700, 9),
+    ("J/7*7+I", 100, 7),
+    ("A+B*I", -9, 5),
+    ("A*(B)", -35, 5),
+    ("(A)", 5, 3),
+    ("A<B+1", 0, 5),
+    ("A<-1", 0, 4),
+    ("A+B+I+J<A", 0, 9),
+    ("-A", -5, 2),
+    ("A-1-B", 11, 5),
+    ("A-(B-J)", 112, 7),
+    ("(A-B)/(I+1)-J", -96, 13),
+    ("I/3*2-I+A/2+(J>I)*7", 7, 19),
+    ("ABS(A-J)/3+1", 32, 12),
+    ("-B*2+A", 19, 6),
+    ("+A", 5, 2),
+    ("S.-A", -1, 4),
+    ("A-S.", 1, 4),
+    ("@(I)*@(I*0)+@(I)", 9, 16),
+    ("A>B=1", 1, 3),
+    ("(A<B)+(A<=B)+(A#B)", 1, 18),
+    ("1+1+1+1+1+1+1+1+1+1+1+1+1+1+1+1+1+1+1+1+1+1+1+1", 24, 47),
+    ("A-(A-(A-(A-(A-(A-(A-(A-(A-(A-(A-(A-0)))))))))))", 0, 47),
+    ("1+1+1+1+1+1+1+1+1+1+1+1+1+1+1+1+1+1+1+1+1+1+1+1+1", 25, 49),
 ];
 
+// An expression that asks nothing and has a value has it plainly, and otherwise, too.
 #[test]
-fn codes(rt: HostRuntime) {
+fn plain_values(rt: HostRuntime) {
     let store = lettered_store(&rt, rt.alloc());
-    for &(text, place, value) in CODES {
-        let found = by_code(&store, text.as_bytes());
-        expect_same(&rt, text, found, Some((place, value)));
+    for &(text, value, place) in PLAIN_VALUES {
+        let found = plainly(&rt, &store, text.as_bytes());
+        expect_same(&rt, text, found, (place, Some(value)));
+        expect_worth(&rt, &store, text, &[], Ok((value, place)), 0);
     }
 }
 
-// Texts that are no expression, or have an RND, or more operations than there is room for.
-const NO_CODES: &[&str] = &[
+// Texts of expressions that have no value, that ask, or in which too many values wait.
+const NOT_PLAIN: &[&str] = &[
+    "32767+1",
+    "-(-32767-1)",
+    "A.(-32767-1)",
+    "A*32767",
+    "A/(B+7)",
+    "@(I+1)",
+    "@(B)",
     "",
     "A+",
     "A*",
@@ -625,84 +644,19 @@ const NO_CODES: &[&str] = &[
     "32768",
     "RND(5)",
     "1+R.(2)",
-    "1+1+1+1+1+1+1+1+1+1+1+1+1+1+1+1+1+1+1+1+1+1+1+1+1",
+    "R.(2)+1",
+    "(A-B)*R.(2)",
+    "A/0",
+    "(A-B)/(A-A)",
+    "@(I)/@(0)",
     "A-(A-(A-(A-(A-(A-(A-(A-(A-(A-(A-(A-(A-0))))))))))))",
 ];
 
 #[test]
-fn no_codes(rt: HostRuntime) {
-    let store = make_store(&rt, rt.alloc());
-    for &text in NO_CODES {
-        expect_same(&rt, text, by_code(&store, text.as_bytes()), None);
-    }
-}
-
-// The number that stands alone at the front of a text.
-fn constant(text: &[u8]) -> Option<i16> {
-    let mut code = Code::new();
-    code.read(&mut Cursor::new(text, 0))?;
-    code.constant()
-}
-
-const CONSTANTS: &[(&str, Option<i16>)] = &[
-    (" 7 ", Some(7)),
-    ("(7)", Some(7)),
-    ("A", None),
-    ("S.", None),
-    ("7+1", None),
-    ("-7", None),
-    ("ABS(7)", None),
-];
-
-#[test]
-fn constants(rt: HostRuntime) {
-    for &(text, wanted) in CONSTANTS {
-        expect_same(&rt, text, constant(text.as_bytes()), wanted);
-    }
-    expect_same(&rt, "no code", Code::new().constant(), None);
-}
-
-// The codes of these expressions, where all of them find room.
-fn codes_of(texts: &[&str]) -> Option<Codes> {
-    let mut codes = Codes::new();
-    for text in texts {
-        let mut code = Code::new();
-        code.read(&mut Cursor::new(text.as_bytes(), 0))?;
-        codes.add(&code)?;
-    }
-    Some(codes)
-}
-
-// The value of one of the codes of these expressions and of a number behind them.
-fn value_among(store: &Store, texts: &[&str], number: i16, before: usize) -> Option<i16> {
-    let mut codes = codes_of(texts)?;
-    codes.add(&Code::of_number(number))?;
-    codes.value(before, store)
-}
-
-const FOUR_TEXTS: &[&str] = &["A+1", "J", "A/0", "I/3*2-I+A/2+(J>I)*7"];
-
-// Each has a value of its own, or none.
-#[test]
-fn several_codes(rt: HostRuntime) {
+fn not_plain(rt: HostRuntime) {
     let store = lettered_store(&rt, rt.alloc());
-    let wanted = [Some(6), Some(100), None, Some(7), Some(-3), None];
-    let found = [0, 1, 2, 3, 4, 5].map(|before| value_among(&store, FOUR_TEXTS, -3, before));
-    expect_same(&rt, "values", found, wanted);
-}
-
-// There is room for 24 operations and for 12 codes.
-#[test]
-fn room_of_codes(rt: HostRuntime) {
-    let store = lettered_store(&rt, rt.alloc());
-    let long = "A*B*I*I*A*B*I*I*A*B*I*I*A*B*I*I*A*B*I*I*A*B*I";
-    let found = [
-        value_among(&store, &[long], 7, 1),
-        value_among(&store, &[long, "A"], 7, 1),
-        value_among(&store, &["A"; 11], 7, 11),
-        value_among(&store, &["A"; 12], 7, 11),
-    ];
-    expect_same(&rt, "values", found, [Some(7), None, Some(7), None]);
-    let long_and_more = codes_of(&[long, "A+1"]);
-    expect_same(&rt, "no room", long_and_more.is_none(), true);
+    for &text in NOT_PLAIN {
+        let (_, found) = plainly(&rt, &store, text.as_bytes());
+        expect_same(&rt, text, found, None);
+    }
 }

@@ -1,5 +1,6 @@
 // This file has what all the tests use: values that must be the same.
 
+use ptb_words::Cursor;
 use std::fmt::Debug;
 use std::process::Abort;
 
@@ -11,4 +12,10 @@ pub(crate) fn expect_same<T: Copy + PartialEq + Debug>(
     wanted: T,
 ) {
     assert_eq!(rt; found, wanted, "{what}");
+}
+
+/// A cursor in front of a text, which has at most 255 bytes.
+pub(crate) fn cursor_in_front<'a>(rt: &impl Abort, text: &'a [u8]) -> Cursor<'a> {
+    assert!(rt; text.len() <= 255);
+    Cursor::new(text, 0)
 }

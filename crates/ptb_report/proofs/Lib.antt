@@ -1,4 +1,5 @@
 -- This file names the files of lemmas.
+pub mod Begun
 pub mod Gathering
 pub mod ReportText
 pub mod Reporting

@@ -1,2 +1,3 @@
 -- This file names the files of definitions.
+pub mod Begun
 pub mod Report

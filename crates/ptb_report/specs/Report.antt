@@ -2,6 +2,7 @@
 --     header items word steps size            the first line: RUN, the answers, how the run ended, its steps, how many bytes it showed
 --     report_text items word steps shown      the header, what the run showed, and a newline
 --     list_line items                         a list of answers, and a newline
+--     report_ending word steps shown          what a report has after its answers
 --     Gathers old new bytes pending           a beginning of the bytes was taken, and the others are pending
 use Rattle.std.specs.Prelude.{◌≡◌, ℕ, List, ◌++◌, length, codes, decimal, Option}
 use Rattle.std.specs.Io.KnownBytes.{Appends}
@@ -19,6 +20,9 @@ header items word steps size = codes "RUN " ++ spelling items ++ field word ++ f
 
 abbrev pub report_text : List Marked → List ℕ → ℕ → List ℕ → List ℕ
 report_text items word steps shown = header items word steps (length shown) ++ shown ++ codes "\n"
+
+abbrev pub report_ending : List ℕ → ℕ → List ℕ → List ℕ
+report_ending word steps shown = field word ++ field (decimal steps) ++ field (decimal (length shown)) ++ codes "\n" ++ shown ++ codes "\n"
 
 abbrev pub list_line : List Marked → List ℕ
 list_line items = spelling items ++ codes "\n"

@@ -2,10 +2,12 @@
 //! answers is written as reports show it.
 //!
 //! It stands on `ptb_answers` for how answers are written, on `ptb_text` for the writer, and on
-//! `arrayvec` and `itoa`. The crate above may rely on `write_report` and `write_list` (the writer
+//! `arrayvec` and `itoa`. The crate above may rely on `ReportWriter::write` and `write_list` (the writer
 //! takes the text of `specs/Report`, or a prefix of it where it fails).
 #![tactic(auto)]
 
 mod report;
+mod report_writer;
 
-pub use report::{write_list, write_report};
+pub use report::write_list;
+pub use report_writer::ReportWriter;

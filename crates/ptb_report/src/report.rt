@@ -134,15 +134,8 @@ fn put_answers<W: Write>(
     Ok(())
 }
 
-/// Writes the report of a run: its answers as the form has them, the word of its ending, its steps,
-/// and what it showed. Each answer has its bound.
-///
-/// It takes no memory, and writes a short report in one piece.
-///
-/// # Errors
-///
-/// [`DeviceFault`] where the writer failed. A beginning of the report may have been taken then.
-pub fn write_report<W: Write>(
+/// Writes the report of a run piece by piece, whatever its length.
+pub(crate) fn write_in_pieces<W: Write>(
     out: &mut W,
     form: Form,
     answers: &[i16],

@@ -8,23 +8,23 @@ use Rattle.ptb_answers.proofs.Seeds.{length-drawn}
 use Rattle.ptb_explore.proofs.DrawnRuns.{words_left, written_is}
 use Rattle.ptb_explore.proofs.sampling.write_run.Goals as goal
 
-pub write_report-requires : goal.write_report-requires
-write_report-requires g c =
+pub write-requires : goal.write-requires
+write-requires g c =
     let chooser = c.play_next.new.sampler.chooser in
     ap length c.answers.ensures ∙ length-drawn chooser.first chooser.bounds ∙ sym (ap length c.bounds.ensures)
 
-pub returns-in-Ok-write_report-clause-writes : goal.returns-in-Ok-write_report-clause-writes
-returns-in-Ok-write_report-clause-writes g c =
+pub returns-in-Ok-write-clause-writes : goal.returns-in-Ok-write-clause-writes
+returns-in-Ok-write-clause-writes g c =
     let p = c.args.sampler.now.player in
     let lines = c.args.lines.now in
     let game = play p lines c.args.rules in
     let most = most_answers p lines c.args.rules.limit in
-    subst (Appends (g.W.Write.contents c.args.writer.now) (g.W.Write.contents c.write_report.new.out))
+    subst (Appends (g.W.Write.contents c.args.writer.now) (g.W.Write.contents c.write.new.out))
     (written_is game most (c.run_laws.ensures.reads p lines c.args.rules) c.args.sampler.now.chooser.first c.play_next.new.sampler.chooser _ c.in-Ok.ensures.drawn c.args.form _ _ _ _ _ c.answers.ensures c.bounds.ensures c.word.ensures c.steps.ensures c.bytes.ensures)
-    c.in-Ok-write_report.ensures.ok
+    c.in-Ok-write.ensures.ok
 
-pub returns-in-Ok-write_report-clause-leaves : goal.returns-in-Ok-write_report-clause-leaves
-returns-in-Ok-write_report-clause-leaves g c =
+pub returns-in-Ok-write-clause-leaves : goal.returns-in-Ok-write-clause-leaves
+returns-in-Ok-write-clause-leaves g c =
     let p = c.args.sampler.now.player in
     let lines = c.args.lines.now in
     c.forget.ensures ∙ words_left (play p lines c.args.rules) (most_answers p lines c.args.rules.limit) (c.run_laws.ensures.reads p lines c.args.rules) c.args.sampler.now.chooser.first c.play_next.new.sampler.chooser _ c.in-Ok.ensures.drawn
@@ -35,6 +35,6 @@ returns-in-Err-clause-writes g c =
     let lines = c.args.lines.now in
     let game = play p lines c.args.rules in
     let most = most_answers p lines c.args.rules.limit in
-    subst (TakesSome (g.W.Write.contents c.args.writer.now) (g.W.Write.contents c.write_report.new.out))
+    subst (TakesSome (g.W.Write.contents c.args.writer.now) (g.W.Write.contents c.write.new.out))
     (written_is game most (c.run_laws.ensures.reads p lines c.args.rules) c.args.sampler.now.chooser.first c.play_next.new.sampler.chooser _ c.in-Ok.ensures.drawn c.args.form _ _ _ _ _ c.answers.ensures c.bounds.ensures c.word.ensures c.steps.ensures c.bytes.ensures)
     c.in-Err.ensures.fault
