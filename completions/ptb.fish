@@ -13,6 +13,7 @@ complete -c ptb -l shares -x -d 'With --all, print lists of at most N answers th
 complete -c ptb -l sample -x -d 'With --seed, draw N runs and write their reports'
 complete -c ptb -l form -x -a '1 2' -d 'In reports and lists, write answers alone, or with their bounds'
 complete -c ptb -l list -d 'Write the lines of the program, and run nothing'
+complete -c ptb -l check -d 'Print each mistake in the text of the program, and run nothing'
 complete -c ptb -s h -l help -d 'Print help'
 complete -c ptb -s V -l version -d 'Print version'
 complete -c ptb -k -a '(__fish_complete_suffix .bas)'

@@ -6,3 +6,4 @@ pub mod PlayRows
 pub mod TreeRows
 pub mod ChanceRows
 pub mod SampleRows
+pub mod CheckRows

@@ -5,3 +5,4 @@ pub mod PlayRows
 pub mod TreeRows
 pub mod ChanceRows
 pub mod SampleRows
+pub mod CheckRows

@@ -1,5 +1,5 @@
-//! Worked rows of the language and of reports: what texts, words, expressions, plain runs, trees of
-//! runs and samples come to, by the definitions.
+//! Worked rows of the language and of reports: what texts, words, expressions, plain runs, mistakes,
+//! trees of runs and samples come to, by the definitions.
 //!
 //! It stands on `ptb_explore` and the crates below it. No crate stands on it: neither a build of the
 //! program nor the trial of a wrong body computes its rows.
@@ -8,6 +8,7 @@
 mod rows;
 
 pub use rows::{
-    answer_rows, array_rows, chance_rows, fault_rows, input_rows, loading_rows, long_rows,
-    loop_rows, print_rows, report_rows, run_rows, sample_rows, step_rows, value_rows, word_rows,
+    answer_rows, array_rows, chance_rows, check_rows, fault_rows, input_rows, loading_rows,
+    long_rows, loop_rows, print_rows, report_rows, run_rows, sample_rows, step_rows, value_rows,
+    word_rows,
 };

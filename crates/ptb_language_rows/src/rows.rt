@@ -7,6 +7,7 @@ ghost use Rattle.ptb_language_rows.specs.PlayRows.{FaultRows, ArrayRows, LongRow
 ghost use Rattle.ptb_language_rows.specs.TreeRows.{RunRows, ReportRows};
 ghost use Rattle.ptb_language_rows.specs.ChanceRows.{ChanceRows};
 ghost use Rattle.ptb_language_rows.specs.SampleRows.{SampleRows};
+ghost use Rattle.ptb_language_rows.specs.CheckRows.{CheckRows};
 
 /// Worked rows of loading and listing.
 #[tactic(auto, using(crate::proofs::TextRows::loading_rows))]
@@ -96,4 +97,10 @@ pub fn sample_rows()
 #[tactic(auto, using(crate::proofs::ChanceRows::chance_rows))]
 pub fn chance_rows()
     ensures { ChanceRows }
+{}
+
+/// Worked rows of the mistakes in the text of a program.
+#[tactic(auto, using(crate::proofs::CheckRows::check_rows))]
+pub fn check_rows()
+    ensures { CheckRows }
 {}

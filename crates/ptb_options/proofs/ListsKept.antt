@@ -18,7 +18,7 @@ use Rattle.ptb_options.specs.declared.mistakes.Mistake.{Mistake}
 use Rattle.ptb_options.specs.declared.mistakes.MisspelledList.{MisspelledList}
 use Rattle.ptb_options.specs.declared.request.Mode.{Mode}
 use Rattle.ptb_options.specs.declared.request.Mode.TheVariants as modes
-use Rattle.ptb_options.specs.Options.{HasMistake, IsFirstMisspelled, IsMisspelledIn, IsSpelled, Options, RefusesAnswers, RefusesIfGiven, SpellsIfGiven, WantsMemory, bounds_in, form_of, text_of}
+use Rattle.ptb_options.specs.Options.{HasMistake, IsFirstMisspelled, IsMisspelledIn, IsSpelled, Options, RunsIt, RefusesAnswers, RefusesIfGiven, SpellsIfGiven, WantsMemory, bounds_in, form_of, text_of}
 
 -- a list with a mistake is none
 mistaken : (bounds : Bounds) (text : Option (List ℕ)) (m : Mistake) → HasMistake bounds text m → IsSomeAnd text (λ s. IsListOf bounds s → ⊥)
@@ -60,7 +60,7 @@ list_if_given None spelled = (None, tt)
 list_if_given (Some s) spelled = let list = spelled s refl in (Some list.0, list.1)
 
 -- o are the options, all of whose lists are spelled, and v is how the code has them; a list was refused
-module _ (o v : Options) (same : v ≡ o) (all_spelled : (x : ListOption) → IsSpelled o x) (result : Result Mode ListFault) (fault : ListFault) (is : IsErrAnd result (λ y. y ≡ fault)) (runs : v.list ≡ false) where
+module _ (o v : Options) (same : v ≡ o) (all_spelled : (x : ListOption) → IsSpelled o x) (result : Result Mode ListFault) (fault : ListFault) (is : IsErrAnd result (λ y. y ≡ fault)) (runs : RunsIt v) where
   spelled : (x : ListOption) → IsSpelled v x
   spelled x = subst (λ (z : Options). IsSpelled z x) (sym same) (all_spelled x)
 

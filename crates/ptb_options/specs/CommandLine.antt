@@ -41,6 +41,7 @@ rules =
     ∷ number_option (codes "sample") (Unsigned 1 1000000000)
     ∷ number_option (codes "form") (Signed (pos 1) (pos 2))
     ∷ flag (codes "list")
+    ∷ flag (codes "check")
     ∷ operand (codes "program")
     ∷ []
 

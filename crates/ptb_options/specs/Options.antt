@@ -41,7 +41,7 @@ use Rattle.ptb_options.specs.declared.request.Mode.{Mode}
 use Rattle.ptb_options.specs.declared.request.Mode.TheVariants as modes
 use Rattle.ptb_options.specs.declared.request.Request.{Request}
 use Rattle.ptb_options.specs.declared.usage.UsageFault.{UsageFault}
-use Rattle.ptb_options.specs.declared.usage.UsageFault.TheVariants.{ListWithOther, AfterWithoutAll, FirstWithoutAll, FormWithoutAll, UnderWithoutAll, SharesWithoutAll, SharesWithOther, SampleWithoutSeed, AnswersWithAll, SeedWithAll, SeedWithAnswers, BadList, Memory}
+use Rattle.ptb_options.specs.declared.usage.UsageFault.TheVariants.{ListWithOther, CheckWithOther, AfterWithoutAll, FirstWithoutAll, FormWithoutAll, UnderWithoutAll, SharesWithoutAll, SharesWithOther, SampleWithoutSeed, AnswersWithAll, SeedWithAll, SeedWithAnswers, BadList, Memory}
 
 -- ---- the options
 
@@ -60,10 +60,11 @@ pub record Options : Type 0 where
   pub sample : Option ℕ
   pub form : Option ℕ
   pub list : Bool
+  pub check : Bool
 
 -- an empty command line
 abbrev pub no_options : Options
-no_options = record { steps = None; memory = None; choose = None; answers = None; seed = None; all = false; under = None; after = None; first = None; shares = None; sample = None; form = None; list = false }
+no_options = record { steps = None; memory = None; choose = None; answers = None; seed = None; all = false; under = None; after = None; first = None; shares = None; sample = None; form = None; list = false; check = false }
 
 -- what clap found for each option
 abbrev pub entries_of : ArgMatches → List Row
@@ -103,6 +104,7 @@ options_of entries = record {
   sample = number_of 32 (codes "sample") entries;
   form = number_of 8 (codes "form") entries;
   list = is_given (codes "list") entries;
+  check = is_given (codes "check") entries;
 }
 
 -- the size that --memory gives, if it is there, is one
@@ -115,10 +117,16 @@ HasBound o = ForSome o.choose (λ n. (1 ≤ n) × (n ≤ 32767))
 
 -- ---- what they ask for
 
+-- what may stand beside neither --list nor --check
+abbrev pub asks_for_runs : Options → Bool
+asks_for_runs o =
+    o.all || is_some o.answers || is_some o.seed || is_some o.under || is_some o.after || is_some o.first || is_some o.form || is_some o.choose || is_some o.shares || is_some o.sample
+
 -- the rules are looked at in this order
 abbrev pub clash : Options → Option UsageFault
 clash o =
-    if o.list && (o.all || is_some o.answers || is_some o.seed || is_some o.under || is_some o.after || is_some o.first || is_some o.form || is_some o.choose || is_some o.shares || is_some o.sample) then Some ListWithOther
+    if o.list && (asks_for_runs o || o.check) then Some ListWithOther
+    else (if o.check && asks_for_runs o then Some CheckWithOther
     else (if is_some o.after && not o.all then Some AfterWithoutAll
     else (if is_some o.first && not o.all then Some FirstWithoutAll
     else (if is_some o.form && not (o.all || is_some o.sample) then Some FormWithoutAll
@@ -129,7 +137,7 @@ clash o =
     else (if is_some o.answers && o.all then Some AnswersWithAll
     else (if is_some o.seed && o.all then Some SeedWithAll
     else (if is_some o.seed && is_some o.answers then Some SeedWithAnswers
-    else None))))))))))
+    else None)))))))))))
 
 -- a list that may be left out
 abbrev pub SpellsIfGiven : Option (List ℕ) → Option (List Marked) → Type 0
@@ -143,14 +151,20 @@ abbrev pub form_of : Option ℕ → Form
 form_of None = Two
 form_of (Some n) = if n == 1 then One else Two
 
--- with neither --list nor --all there are runs by a seed, if it is given, and otherwise one run by a list of answers
+-- with neither --list nor --check the program is run
+pub record RunsIt (o : Options) : Type 0 where
+  pub unlisted : o.list ≡ false
+  pub unchecked : o.check ≡ false
+
+-- without --all there are runs by a seed, if it is given, and otherwise one run by a list of answers
 abbrev pub AsksMode : Options → Mode → Type 0
 AsksMode o modes.List = o.list ≡ true
-AsksMode o (modes.All under after first form) = (o.list ≡ false) × (o.all ≡ true) × (o.shares ≡ None) × SpellsIfGiven o.under under × SpellsIfGiven o.after after × (first ≡ o.first) × (form ≡ form_of o.form)
-AsksMode o (modes.Shares answers form) = (o.list ≡ false) × (o.all ≡ true) × (o.shares ≡ Some answers) × (form ≡ form_of o.form)
-AsksMode o (modes.Plain a) = (o.list ≡ false) × (o.all ≡ false) × (o.seed ≡ None) × SpellsAnswers (unwrap_or o.answers (codes "none")) a
-AsksMode o (modes.Seeded seed) = (o.list ≡ false) × (o.all ≡ false) × (o.seed ≡ Some seed) × (o.sample ≡ None)
-AsksMode o (modes.Sample seed runs form) = (o.list ≡ false) × (o.all ≡ false) × (o.seed ≡ Some seed) × (o.sample ≡ Some runs) × (form ≡ form_of o.form)
+AsksMode o modes.Check = (o.list ≡ false) × (o.check ≡ true)
+AsksMode o (modes.All under after first form) = RunsIt o × (o.all ≡ true) × (o.shares ≡ None) × SpellsIfGiven o.under under × SpellsIfGiven o.after after × (first ≡ o.first) × (form ≡ form_of o.form)
+AsksMode o (modes.Shares answers form) = RunsIt o × (o.all ≡ true) × (o.shares ≡ Some answers) × (form ≡ form_of o.form)
+AsksMode o (modes.Plain a) = RunsIt o × (o.all ≡ false) × (o.seed ≡ None) × SpellsAnswers (unwrap_or o.answers (codes "none")) a
+AsksMode o (modes.Seeded seed) = RunsIt o × (o.all ≡ false) × (o.seed ≡ Some seed) × (o.sample ≡ None)
+AsksMode o (modes.Sample seed runs form) = RunsIt o × (o.all ≡ false) × (o.seed ≡ Some seed) × (o.sample ≡ Some runs) × (form ≡ form_of o.form)
 
 -- without --steps a run begins at most so many commands
 abbrev pub default_steps : ℕ
@@ -219,6 +233,7 @@ HasItems (modes.All under after first form) = IsSomeAnd under (λ u. u ≢ []) �
 HasItems (modes.Shares answers form) = ⊥
 HasItems (modes.Sample seed runs form) = ⊥
 HasItems modes.List = ⊥
+HasItems modes.Check = ⊥
 
 abbrev pub WantsMemory : Options → ListFault → Type 0
 WantsMemory o fault = (fault ≡ lists.Memory) × ((mode : Mode) × AsksMode o mode × HasItems mode)

@@ -139,6 +139,12 @@ pub(crate) const ARGS: &[ListedArg] = &[
         help: help::LIST,
     },
     ListedArg {
+        name: "check",
+        kind: ArgKind::Flag,
+        heading: Some(help::PRINT),
+        help: help::CHECK,
+    },
+    ListedArg {
         name: "program",
         kind: ArgKind::Operand,
         heading: None,

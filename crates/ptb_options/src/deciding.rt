@@ -26,11 +26,12 @@ use std::marker::Model;
 /// # Errors
 ///
 /// The first that applies, in this order: [`UsageFault::ListWithOther`],
-/// [`UsageFault::AfterWithoutAll`], [`UsageFault::FirstWithoutAll`],
-/// [`UsageFault::FormWithoutAll`], [`UsageFault::UnderWithoutAll`],
-/// [`UsageFault::SharesWithoutAll`], [`UsageFault::SharesWithOther`],
-/// [`UsageFault::SampleWithoutSeed`], [`UsageFault::AnswersWithAll`], [`UsageFault::SeedWithAll`],
-/// [`UsageFault::SeedWithAnswers`], [`UsageFault::BadList`]. [`UsageFault::Memory`] comes only while the items of a list are kept, and
+/// [`UsageFault::CheckWithOther`], [`UsageFault::AfterWithoutAll`],
+/// [`UsageFault::FirstWithoutAll`], [`UsageFault::FormWithoutAll`],
+/// [`UsageFault::UnderWithoutAll`], [`UsageFault::SharesWithoutAll`],
+/// [`UsageFault::SharesWithOther`], [`UsageFault::SampleWithoutSeed`],
+/// [`UsageFault::AnswersWithAll`], [`UsageFault::SeedWithAll`], [`UsageFault::SeedWithAnswers`],
+/// [`UsageFault::BadList`]. [`UsageFault::Memory`] comes only while the items of a list are kept, and
 /// no list is kept before all are found to be spelled.
 pub fn decide(alloc: Global, matches: &ArgMatches<'_>) -> Result<Request, UsageFault>
     requires memory { HasMemorySize (options_of (entries_of matches.now)) }
@@ -79,6 +80,7 @@ struct GivenOptions<'a> {
     sample: Option<u32>,
     form: Option<u8>,
     list: bool,
+    check: bool,
 }
 
 impl<'a> Model for GivenOptions<'a> {
@@ -101,6 +103,7 @@ impl<'a> Model for GivenOptions<'a> {
       sample = line.sample;
       form = line.form;
       list = line.list;
+      check = line.check;
     } };
 }
 
@@ -123,6 +126,7 @@ impl<'a> GivenOptions<'a> {
             sample: matches.get_one("sample"),
             form: matches.get_one("form"),
             list: is_given(matches, "list"),
+            check: is_given(matches, "check"),
         }
     }
 
@@ -137,8 +141,10 @@ impl<'a> GivenOptions<'a> {
         let (shares, sample) = (self.shares.is_some(), self.sample.is_some());
         let (under, all) = (self.under.is_some(), self.all);
         let any = all | answers | seed | under | after | first | form | choose | shares | sample;
-        if self.list & any {
+        if self.list & (any | self.check) {
             Some(UsageFault::ListWithOther)
+        } else if self.check & any {
+            Some(UsageFault::CheckWithOther)
         } else if after & !all {
             Some(UsageFault::AfterWithoutAll)
         } else if first & !all {
@@ -212,6 +218,9 @@ impl<'a> GivenOptions<'a> {
     {
         if self.list {
             return Ok(Mode::List);
+        }
+        if self.check {
+            return Ok(Mode::Check);
         }
         if self.all {
             if let Some(answers) = self.shares {

@@ -12,8 +12,8 @@ pub const RUN: &str = "Run";
 /// The heading of the options for all runs.
 pub const EXPLORE: &str = "Explore";
 
-/// The heading of the option that lists the program.
-pub const PRINT: &str = "List";
+/// The heading of the options that run nothing.
+pub const PRINT: &str = "Text";
 
 /// The help of `--steps`.
 pub const STEPS: &str = "\
@@ -68,7 +68,10 @@ In reports and lists, numbers alone (1), or
 each with its bound (2, the default)";
 
 /// The help of `--list`.
-pub const LIST: &str = "Print the program in the order of its line numbers, and run nothing";
+pub const LIST: &str = "Print the program in the order of its line numbers; run nothing";
+
+/// The help of `--check`.
+pub const CHECK: &str = "Print each mistake in the program's text; run nothing";
 
 /// The help of the argument that names the program's file.
 pub const PROGRAM: &str = "\
@@ -86,8 +89,8 @@ and --seed draws a seed and prints it; --seed replays the run.
 
 Exit status:
    0  the program ended, or the reports, the lists, the listing, this help or
-      the version was written
-   1  the program stopped with WHAT?
+      the version was written, or --check found no mistake
+   1  the program stopped with WHAT?, or --check found a mistake
    2  the program stopped with HOW?
    3  the program stopped with SORRY
    4  the run reached the limit of --steps

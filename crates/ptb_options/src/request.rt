@@ -50,6 +50,8 @@ pub enum Mode {
     },
     /// Its text is listed.
     List,
+    /// The mistakes in its text are listed.
+    Check,
 }
 
 /// What the tool is asked to do.

@@ -20,7 +20,7 @@ pub enum UsageFault {
     #[error("ptb: --answers excludes --all")]
     AnswersWithAll,
     /// `--list` with `--all`, `--answers`, `--seed`, `--under`, `--after`, `--first`, `--form`,
-    /// `--choose`, `--shares` or `--sample`.
+    /// `--choose`, `--shares`, `--sample` or `--check`.
     #[error("ptb: --list stands alone")]
     ListWithOther,
     /// A list of answers isn't spelled as one.
@@ -50,6 +50,10 @@ pub enum UsageFault {
     /// `--sample` without `--seed`.
     #[error("ptb: --sample needs --seed")]
     SampleWithoutSeed,
+    /// `--check` with `--all`, `--answers`, `--seed`, `--under`, `--after`, `--first`, `--form`,
+    /// `--choose`, `--shares` or `--sample`.
+    #[error("ptb: --check stands alone")]
+    CheckWithOther,
 }
 
 impl UsageFault {

@@ -51,6 +51,13 @@ clash_rows = record {
   choice_and_all = refl;
   choice_alone = refl;
   steps_listing = refl;
+  check_listing = refl;
+  check_and_all = refl;
+  check_and_answers = refl;
+  check_and_after = refl;
+  check_and_sample = refl;
+  check_and_choice = refl;
+  check_alone = refl;
 }
 
 pub option_rows : OptionRows
@@ -67,6 +74,7 @@ option_rows = record {
   shares = refl;
   sample = refl;
   switches = refl;
+  check = refl;
 }
 
 pub fault_rows : FaultRows

@@ -15,3 +15,4 @@ pub mod TextRows
 pub mod CommandLineRows
 pub mod ListRows
 pub mod SplitRows
+pub mod CheckRows

@@ -5,7 +5,7 @@ use Rattle.ptb_text.specs.declared.fault.LoadFault.TheVariants.{NoNumber, Number
 use Rattle.clap.specs.Words.{fault_of, matches_of}
 use Rattle.clap.specs.declared.error.ErrorKind.{ErrorKind}
 use Rattle.clap.specs.declared.error.ErrorKind.TheVariants.{ArgumentConflict, DisplayHelp, UnknownArgument, ValueValidation}
-use Rattle.ptb_options.specs.declared.usage.UsageFault.TheVariants.{ListWithOther, AfterWithoutAll, FirstWithoutAll, FormWithoutAll, UnderWithoutAll, SharesWithoutAll, SharesWithOther, SampleWithoutSeed, AnswersWithAll, SeedWithAll, SeedWithAnswers}
+use Rattle.ptb_options.specs.declared.usage.UsageFault.TheVariants.{ListWithOther, CheckWithOther, AfterWithoutAll, FirstWithoutAll, FormWithoutAll, UnderWithoutAll, SharesWithoutAll, SharesWithOther, SampleWithoutSeed, AnswersWithAll, SeedWithAll, SeedWithAnswers}
 use Rattle.ptb_options.specs.AnswerLists.{SpellsList, SpellsAnswers, IsMisspelled, HasNoAnswers}
 use Rattle.ptb_options.specs.CommandLine.{tool}
 use Rattle.ptb_options.specs.Options.{default_memory, default_steps, Options, no_options, options_of, clash}
@@ -98,6 +98,25 @@ behind a = all_from (Some a) None
 
 abbrev pub list : Request
 list = record { rules = default_rules; memory = default_memory; mode = modes.List; in_range = default_size }
+
+-- the mistakes in a text
+abbrev pub check : Request
+check = record { rules = default_rules; memory = default_memory; mode = modes.Check; in_range = default_size }
+
+-- some mistakes
+abbrev pub mistaken : List ℕ → Reply
+mistaken bytes = record { bytes = bytes; status = 1; note = None }
+
+pub record CheckRows : Type 0 where
+  pub no_mistake : reply_to check (codes "10 PRINT \"HI\"\n") [] ≡ success []
+  pub in_rising_order : reply_to check (codes "30 LET A=(3+4, X=4\n20 GOTO 412\n10 IF 0 PTINT \"X\"\n") [] ≡ mistaken (codes "WHAT?\n10 IF 0 P?TINT \"X\"\nHOW?\n20 GOTO 412?\nWHAT?\n30 LET A=(3+4?, X=4\n")
+  pub several_in_one : reply_to check (codes "10 GOSUB 99;A=32768;PRINT )\n") [] ≡ mistaken (codes "HOW?\n10 GOSUB 99?;A=32768;PRINT )\nHOW?\n10 GOSUB 99;A=32768?;PRINT )\n")
+  pub only_in_the_text : reply_to check (codes "10 GOTO A\n20 RETURN\n") [] ≡ success []
+  pub fault_of_a_run_before_it : reply_to check (codes "10 PRINT (1/0\n") [] ≡ mistaken (codes "WHAT?\n10 PRINT (1/0?\n")
+  pub no_program : reply_to check [] [] ≡ success []
+  -- whatever the input is
+  pub input_ignored : reply_to check (codes "10 INPUT A") (one_line (codes ")")) ≡ success []
+  pub refused : reply_to check (codes "0 P.") [] ≡ refusal (notes.Load 1 NoNumber)
 
 -- the report of a run whose answers are 69 times 1 and then these
 abbrev pub long_report : List ℕ → List ℕ
@@ -370,6 +389,13 @@ pub record ClashRows : Type 0 where
   pub choice_and_all : clash (options (codes "--choose" ∷ codes "2" ∷ codes "--all" ∷ [])) ≡ None
   pub choice_alone : clash (options (codes "--choose=2" ∷ [])) ≡ None
   pub steps_listing : clash (options (codes "--list" ∷ codes "--steps" ∷ codes "5" ∷ [])) ≡ None
+  pub check_listing : clash (options (codes "--check" ∷ codes "--list" ∷ [])) ≡ Some ListWithOther
+  pub check_and_all : clash (options (codes "--check" ∷ codes "--all" ∷ [])) ≡ Some CheckWithOther
+  pub check_and_answers : clash (options (codes "--answers" ∷ codes "x" ∷ codes "--check" ∷ [])) ≡ Some CheckWithOther
+  pub check_and_after : clash (options (codes "--check" ∷ codes "--after" ∷ codes "1" ∷ [])) ≡ Some CheckWithOther
+  pub check_and_sample : clash (options (codes "--check" ∷ codes "--sample=3" ∷ [])) ≡ Some CheckWithOther
+  pub check_and_choice : clash (options (codes "--choose" ∷ codes "2" ∷ codes "--check" ∷ [])) ≡ Some CheckWithOther
+  pub check_alone : clash (options (codes "--check" ∷ codes "--steps" ∷ codes "5" ∷ codes "--memory=64" ∷ [])) ≡ None
 
 -- texts that write a list of answers, and texts that write none
 pub record ListRows : Type 0 where
@@ -402,6 +428,7 @@ pub record OptionRows : Type 0 where
   pub shares : options (codes "--all" ∷ codes "--shares" ∷ codes "64" ∷ []) ≡ record no_options { all = true; shares = Some 64 }
   pub sample : options (codes "--seed" ∷ codes "7" ∷ codes "--sample=1000000000" ∷ []) ≡ record no_options { seed = Some 7; sample = Some 1000000000 }
   pub switches : options (codes "--all" ∷ codes "--list" ∷ []) ≡ record no_options { all = true; list = true }
+  pub check : options (codes "--check" ∷ []) ≡ record no_options { check = true }
 
 -- words that clap refuses
 pub record FaultRows : Type 0 where

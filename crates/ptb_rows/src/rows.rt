@@ -1,7 +1,7 @@
 // This file states that the worked rows hold of the definitions.
 
-ghost use Rattle.ptb_rows.specs.Rows.{AfterRows, AllRows, BoundRows, ChoiceRows, ClashRows};
-ghost use Rattle.ptb_rows.specs.Rows.{ExampleRows, FaultRows};
+ghost use Rattle.ptb_rows.specs.Rows.{AfterRows, AllRows, BoundRows, CheckRows, ChoiceRows};
+ghost use Rattle.ptb_rows.specs.Rows.{ClashRows, ExampleRows, FaultRows};
 ghost use Rattle.ptb_rows.specs.Rows.{ListRows, ListingRows, LongRunRows, OptionRows, ProgramRows};
 ghost use Rattle.ptb_rows.specs.Rows.{RefusalRows, RunRows, SampleRows, SeedRows, ShareRows};
 ghost use Rattle.ptb_rows.specs.Rows.{SplitRows};
@@ -88,6 +88,12 @@ pub fn refusal_rows()
 #[tactic(auto, using(crate::proofs::TextRows::listing_rows))]
 pub fn listing_rows()
     ensures { ListingRows }
+{}
+
+/// Worked rows of the mistakes in a text.
+#[tactic(auto, using(crate::proofs::CheckRows::check_rows))]
+pub fn check_rows()
+    ensures { CheckRows }
 {}
 
 /// Worked rows of options that don't go together.

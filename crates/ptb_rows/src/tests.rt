@@ -149,6 +149,7 @@ enum Asked<'a> {
     // The runs of seed 7: so many, in this form.
     Sample(u32, Form),
     List,
+    Check,
 }
 
 // A request with its program and input, and what is due: the bytes, the status and the note.
@@ -193,13 +194,15 @@ macro_rules! row {
     };
 }
 
-// What is done with a program by each kind of request that runs it once, samples its runs or lists it.
+// What is done with a program by each kind of request that runs it once, samples its runs, or lists it or
+// its mistakes.
 const EACH_KIND: &[Asked<'static>] = &[
     Asked::Run(&[]),
     Asked::Seed(7),
     Asked::Shares(2, Form::Two),
     Asked::Sample(3, Form::Two),
     Asked::List,
+    Asked::Check,
 ];
 
 pub(crate) const FAILINGS: &[Failing] = &[
@@ -228,6 +231,7 @@ fn request_of(alloc: Global, row: &Row<'_>) -> Result<Request, AllocError> {
             form,
         },
         Asked::List => Mode::List,
+        Asked::Check => Mode::Check,
     };
     Ok(Request {
         rules: rules_of(row.steps, row.choose),
@@ -329,6 +333,81 @@ const LISTINGS: &[Row<'static>] = &[
 #[test]
 fn listings(rt: HostRuntime) -> Result<(), Fail> {
     expect_rows(&rt, rt.alloc(), LISTINGS)?;
+    Ok(())
+}
+
+const THREE_MISTAKES: &[u8] = b"30 LET A=(3+4, X=4\n20 GOTO 412\n10 IF 0 PTINT \"X\"\n";
+
+const CHECKS: &[Row<'static>] = &[
+    row!(b"10 PRINT \"HI\"", b"", 0, asked = Asked::Check),
+    row!(
+        THREE_MISTAKES,
+        b"WHAT?\n10 IF 0 P?TINT \"X\"\nHOW?\n20 GOTO 412?\nWHAT?\n30 LET A=(3+4?, X=4\n",
+        1,
+        asked = Asked::Check
+    ),
+    row!(
+        b"10 GOSUB 99;A=32768;PRINT )",
+        b"HOW?\n10 GOSUB 99?;A=32768;PRINT )\nHOW?\n10 GOSUB 99;A=32768?;PRINT )\n",
+        1,
+        asked = Asked::Check
+    ),
+    row!(b"10 GOTO A\n20 RETURN", b"", 0, asked = Asked::Check),
+    row!(
+        b"10 PRINT (1/0",
+        b"WHAT?\n10 PRINT (1/0?\n",
+        1,
+        asked = Asked::Check
+    ),
+    row!(b"", b"", 0, asked = Asked::Check),
+    row!(
+        b"10 GOTO 20\n20 GOSUB 10;GOTO (10)",
+        b"",
+        0,
+        asked = Asked::Check
+    ),
+    row!(
+        b"10 IF 1 GOTO +412 ",
+        b"HOW?\n10 IF 1 GOTO +412 ?\n",
+        1,
+        asked = Asked::Check
+    ),
+    row!(
+        b"10 GOSUB 0;GOTO 32767",
+        b"HOW?\n10 GOSUB 0?;GOTO 32767\nHOW?\n10 GOSUB 0;GOTO 32767?\n",
+        1,
+        asked = Asked::Check
+    ),
+    row!(
+        b"32767 GOTO 411+1;P.1",
+        b"WHAT?\n32767 GOTO 411+1?;P.1\n",
+        1,
+        asked = Asked::Check,
+        steps = 1,
+        memory = 64
+    ),
+    // in each kind of command
+    row!(
+        b"10 F.I=1TO;N.I\n20 N.1\n30 IN.A,)\n40 P.#,A\n50 @(\n60 STOP 1\n70 RETURN;\n80 P.1;;P.2",
+        b"WHAT?\n10 F.I=1TO?;N.I\nWHAT?\n20 N.?1\nWHAT?\n30 IN.A,?)\nWHAT?\n40 P.#?,A\n\
+          WHAT?\n50 @(?\nWHAT?\n60 STOP ?1\nWHAT?\n70 RETURN?;\nWHAT?\n80 P.1;?;P.2\n",
+        1,
+        asked = Asked::Check
+    ),
+    // whatever stands after REM, and mistakes of the input
+    row!(
+        b"10 REM GOTO 99;(\n20 INPUT A",
+        b"",
+        0,
+        asked = Asked::Check,
+        input = b")\n"
+    ),
+];
+
+// The mistakes in a text.
+#[test]
+fn checks(rt: HostRuntime) -> Result<(), Fail> {
+    expect_rows(&rt, rt.alloc(), CHECKS)?;
     Ok(())
 }
 
@@ -718,14 +797,26 @@ fn endless_programs(rt: HostRuntime) -> Result<(), Fail> {
     Ok(())
 }
 
-// A listing leaves its input alone.
+const WITHOUT_INPUT: &[Row<'static>] = &[
+    row!(b"10 INPUT A\n", b"10 INPUT A\n", 0, asked = Asked::List),
+    row!(b"10 INPUT A\n", b"", 0, asked = Asked::Check),
+    row!(
+        b"10 INPUT A,\n",
+        b"WHAT?\n10 INPUT A,?\n",
+        1,
+        asked = Asked::Check
+    ),
+];
+
+// A listing of a text or of its mistakes leaves its input alone.
 #[test]
 fn inputs_left_alone(rt: HostRuntime) -> Result<(), Fail> {
-    let row = row!(b"10 INPUT A\n", b"10 INPUT A\n", 0, asked = Asked::List);
-    let request = request_of(rt.alloc(), &row)?;
-    let (reply, given) = reply_on_endless_input(rt.alloc(), &request, row.program, 3);
-    expect_reply(&rt, reply, (0, None), row.bytes);
-    expect_same(&rt, given, 0);
+    for row in WITHOUT_INPUT {
+        let request = request_of(rt.alloc(), row)?;
+        let (reply, given) = reply_on_endless_input(rt.alloc(), &request, row.program, 3);
+        expect_reply(&rt, reply, (row.status, None), row.bytes);
+        expect_same(&rt, given, 0);
+    }
     Ok(())
 }
 
@@ -742,7 +833,7 @@ fn expect_broken_off(
     let due = if length < row.bytes.len() {
         (74, Some(Note::Unwritten))
     } else {
-        (0, None)
+        (row.status, None)
     };
     let bytes = &row.bytes[..length.min(row.bytes.len())];
     expect_reply(rt, (outcome, sink.taken), due, bytes);
@@ -756,6 +847,25 @@ fn listings_that_cannot_be_written(rt: HostRuntime) -> Result<(), Fail> {
     let row = row!(b"20 P.34\n10 P.12\n", listing, 0, asked = Asked::List);
     for &failing in FAILINGS {
         for calls in 0..=8 {
+            let sink = make_sink(rt.alloc(), 2, calls, failing);
+            expect_broken_off(&rt, rt.alloc(), &row, sink, 2 * calls)?;
+        }
+    }
+    Ok(())
+}
+
+// What was written of the mistakes of a text, 35 bytes, is their beginning, whichever call fails.
+#[test]
+fn checks_that_cannot_be_written(rt: HostRuntime) -> Result<(), Fail> {
+    let mistakes = b"WHAT?\n10 PRINT ?)\nHOW?\n20 GOTO 30?\n";
+    let row = row!(
+        b"20 GOTO 30\n10 PRINT )\n",
+        mistakes,
+        1,
+        asked = Asked::Check
+    );
+    for &failing in FAILINGS {
+        for calls in 0..=19 {
             let sink = make_sink(rt.alloc(), 2, calls, failing);
             expect_broken_off(&rt, rt.alloc(), &row, sink, 2 * calls)?;
         }

@@ -10,4 +10,5 @@ pub mod Telling
 pub mod Listing
 pub mod Samples
 pub mod Splits
+pub mod Checks
 pub mod Modes

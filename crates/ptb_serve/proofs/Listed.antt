@@ -330,7 +330,8 @@ module _ (request : Request) (p : StoredProgram) (memory : p.memory ≡ request.
     silent = quiet;
     stopped = λ b c l is h. lists_loaded request b c p under after first form old new l memory (stopped c is h);
     status = zero_within result success;
-    success = λ _. success;
+    success = λ _ _. success;
+    checked = λ x. absurd x;
     loaded = loaded;
   }
 
@@ -393,7 +394,8 @@ module _ (request : Request) (p : StoredProgram) (memory : p.memory ≡ request.
     silent = quiet;
     stopped = λ b c _ _ _. tt;
     status = zero_within result success;
-    success = λ _. success;
+    success = λ _ _. success;
+    checked = λ x. absurd x;
     loaded = loaded;
   }
 

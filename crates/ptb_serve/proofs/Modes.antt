@@ -22,6 +22,7 @@ use Rattle.ptb_plain.specs.Streams.{Reads, Writes}
 use Rattle.ptb_serve.specs.Loaded.{IsRunStatus, ReadsInput, RefusesListIn, ServesProgram, TellsFailures, TellsMismatch}
 use Rattle.ptb_plain.specs.SeededRuns.{seeded_answers}
 use Rattle.ptb_serve.specs.Serving.{NeedsInput}
+use Rattle.ptb_serve.proofs.Checks.{check_reads}
 use Rattle.ptb_serve.proofs.Listed.{text_reads, text_serves}
 use Rattle.ptb_serve.proofs.Served.{unread}
 use Rattle.ptb_serve.proofs.Mismatching.{none_told, run_refuses_none, success_refuses_none}
@@ -122,3 +123,10 @@ module _ (request : Request) (p : StoredProgram) where
           mismatch = none_told _ _ _ _ _ (run_refuses_none (Err faults.Write) (Err notes.Unwritten) refl);
           input_kept = λ _. refl;
         }))
+
+  -- the mistakes in it, which leave the input alone, too
+  pub served_check : {R : Type 0} (i : R) (known : Option (List ℕ)) (failed gave : ℕ) (out : Writes) (mode : Mode) (result : Result ℕ Note) → mode ≡ modes.Check → ServesProgram modes.Check request p known known out.before out.after result
+      → (IsErrOf result notes.InputUnread → ⊥) → TellsFailures out.failed out.fails result → (RefusesListIn result → ⊥) → IsServedIn (unread i known gave failed) out result None mode
+  served_check i known failed gave out mode result is serves fine tells no_list =
+      subst (IsServedIn (unread i known gave failed) out result None) (sym is)
+      (record { serves = serves; reads = check_reads known result failed gave fine no_list; failures = tells; mismatch = none_told _ _ _ _ _ no_list; input_kept = λ _. refl })

@@ -1,5 +1,5 @@
 -- This file proves the laws of replies.
-use Rattle.std.proofs.Common.{◌≡◌, refl, sym, ap, ◌∙◌, ℕ, ◌<◌, List, [], length, Bool, true, false, Option, Some, None, Ok, Err, ◌↔◌}
+use Rattle.std.proofs.Common.{◌≡◌, refl, sym, ap, ◌∙◌, ℕ, ◌<◌, List, [], ◌∷◌, length, Bool, true, false, Option, Some, None, Ok, Err, ◌↔◌}
 use Rattle.std.proofs.lemmas.Bool.{lt-ltb}
 use Rattle.ptb_text.specs.declared.fault.LoadFault.{LoadFault}
 use Rattle.ptb_text.specs.declared.fault.LoadFault.TheVariants.{TooLong}
@@ -25,9 +25,12 @@ use Rattle.ptb_serve.specs.declared.note.Note.TheVariants as notes
 use Rattle.ptb_options.specs.declared.request.Mode.{Mode}
 use Rattle.ptb_options.specs.declared.request.Mode.TheVariants as modes
 use Rattle.ptb_options.specs.declared.request.Request.{Request}
+use Rattle.ptb_check.specs.Laws.{CheckLaws}
+use Rattle.ptb_check.specs.Mistakes.{Mistake, mistakes}
+use Rattle.ptb_check.specs.Writing.{has_any}
 use Rattle.ptb_plain.specs.SeededRuns.{SeededLaws, seeded_answers}
-use Rattle.ptb_serve.specs.Replies.{Reply, refusal, plain_reply, seeded_reply, answers_under, first_front, front_note, is_front, note_of, all_reply, listing_reply, runs_drawn, sample_reply, shares_reply, program_of_text, reply_or_refusal, program_reply, reply_in_mode}
-use Rattle.ptb_serve.specs.ReplyLaws.{ListsRuns, RunReplies, RunsBySeed, SamplesBySeed, ReplyLaws}
+use Rattle.ptb_serve.specs.Replies.{Reply, refusal, plain_reply, seeded_reply, answers_under, first_front, front_note, is_front, note_of, all_reply, check_reply, check_status, listing_reply, runs_drawn, sample_reply, shares_reply, program_of_text, reply_or_refusal, program_reply, reply_in_mode}
+use Rattle.ptb_serve.specs.ReplyLaws.{ChecksText, ListsRuns, RunReplies, RunsBySeed, SamplesBySeed, ReplyLaws}
 use Rattle.ptb_serve.proofs.Fronts.{begun_after, begun_both, begun_under, both_parts, both_true, no_front, no_share, share_true}
 use Rattle.ptb_serve.proofs.Listed.{reply-listed, reply-refused}
 use Rattle.ptb_serve.proofs.Sharing.{share_replies, splits_runs}
@@ -50,6 +53,7 @@ refused_in_mode (modes.All under after first form) r b c e h = refused r.memory 
 refused_in_mode (modes.Shares answers form) r b c e h = refused r.memory b (λ p. shares_reply p (input_lines c) r.rules answers form) e h
 refused_in_mode (modes.Sample seed runs form) r b c e h = refused r.memory b (λ p. sample_reply p (input_lines c) r.rules seed runs form) e h
 refused_in_mode modes.List r b c e h = refused r.memory b listing_reply e h
+refused_in_mode modes.Check r b c e h = refused r.memory b check_reply e h
 
 -- ---- a text that is accepted
 
@@ -152,6 +156,25 @@ module _ (p : StoredProgram) (c : List ℕ) (rules : Rules) (tree : TreeLaws (pl
     sampled = λ seed runs. samples_by_seed seed runs (λ form. reply (modes.Sample seed runs form)) (λ form. sample seed runs form);
   }
 
+-- ---- a check
+
+-- the status by the mistakes
+module _ (p : Statements) where
+  status_none : (ms : List Mistake) → ms ≡ [] → check_status (has_any ms) ≡ 0
+  status_none ms e = ap (λ xs. check_status (has_any xs)) e
+
+  status_some : (ms : List Mistake) → (ms ≡ [] → ⊥) → check_status (has_any ms) ≡ 1
+  status_some [] none = absurd (none refl)
+  status_some (m ∷ ms) none = refl
+
+  checks_text : (memory : ℕ) (reply : Reply) → reply ≡ check_reply (record { lines = p; memory = memory }) → ChecksText p reply
+  checks_text memory reply is = record {
+    bytes = ap (λ (r : Reply). r.bytes) is;
+    none = λ e. ap (λ (r : Reply). r.status) is ∙ status_none (mistakes p) e;
+    some = λ e. ap (λ (r : Reply). r.status) is ∙ status_some (mistakes p) e;
+    note = ap (λ (r : Reply). r.note) is;
+  }
+
 -- ---- all of them
 
 pub reply_laws : RunLaws → SeededLaws
@@ -160,8 +183,8 @@ pub reply_laws : RunLaws → SeededLaws
     → ((p : StoredProgram) (input : List (List ℕ)) (rules : Rules) → ShareLaws (play p input rules) (most_answers p input rules.limit))
     → ((p : StoredProgram) (input : List (List ℕ)) (rules : Rules) → ReportLaws (play p input rules) (most_answers p input rules.limit))
     → ((p : StoredProgram) (input : List (List ℕ)) (rules : Rules) → SampleLaws (play p input rules) (most_answers p input rules.limit))
-    → ((p : StoredProgram) (input : List (List ℕ)) (rules : Rules) (n : ℕ) → BeginningLaws (play p input rules) (most_answers p input rules.limit) n) → ReplyLaws
-reply_laws runs drawn tree laws share reports samples beginnings = record {
+    → ((p : StoredProgram) (input : List (List ℕ)) (rules : Rules) (n : ℕ) → BeginningLaws (play p input rules) (most_answers p input rules.limit) n) → CheckLaws → ReplyLaws
+reply_laws runs drawn tree laws share reports samples beginnings checks = record {
   too_long = λ r b c long. refused_in_mode r.mode r b c (0, TooLong) (too_long_text r.memory b long);
   refused = λ r b c e h. refused_in_mode r.mode r b c e h;
   accepted = λ memory size rules b c p h.
@@ -176,4 +199,6 @@ reply_laws runs drawn tree laws share reports samples beginnings = record {
       (λ seed runs form. accepted memory b (λ p. sample_reply p (input_lines c) rules seed runs form) p h)
       (λ n form. accepted memory b (λ p. shares_reply p (input_lines c) rules n form) p h);
   listed = λ r b c p h mode. ap (λ m. reply_in_mode m r b c) mode ∙ accepted r.memory b listing_reply p h;
+  checked = λ r b c p h mode. checks_text p r.memory _ (ap (λ m. reply_in_mode m r b c) mode ∙ accepted r.memory b check_reply p h);
+  mistakes = checks;
 }

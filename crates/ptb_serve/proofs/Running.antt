@@ -23,7 +23,7 @@ use Rattle.ptb_plain.specs.Streams.{Reads, Writes}
 use Rattle.ptb_serve.specs.Replies.{Reply, program_reply, program_reply_in_mode, run_reply}
 use Rattle.ptb_plain.specs.SeededRuns.{seeded_answers}
 use Rattle.ptb_serve.specs.Serving.{AsksForMore, EndsUnread, IsInput, IsPlainRun, IsUnloaded, NeedsInput, NeedsWholeInput, ReadsBy, ReadsForRun, Serves, ServesUnread, SilentBy, StopsForMemory, outcome_of, outcome_wanted}
-use Rattle.ptb_serve.proofs.Served.{asks_loaded, at_known, each_known, reads_loaded, serves_ended, serves_loaded, status_within, unread_loaded, wanted_ended}
+use Rattle.ptb_serve.proofs.Served.{asks_loaded, at_known, each_known, reads_loaded, run_no_check, serves_ended, serves_loaded, status_within, unread_loaded, wanted_ended}
 
 -- the program was played with these answers, which may depend on the lines
 pub record Ran {R : Type 0} (request : Request) (p : StoredProgram) (answers : List (List ℕ) → Answers) (input : Reads R) (out : Writes) (r : Result Ending RunFault) : Type 0 where
@@ -134,7 +134,8 @@ module _ {R : Type 0} (request : Request) (p : StoredProgram) (answers : StoredP
         silent = quiet;
         stopped = λ b c _ _ x. absurd cc;
         status = status_within e;
-        success = λ x. absurd (x is_run);
+        success = λ x _. absurd (x is_run);
+        checked = λ x. absurd (run_no_check mode is_run x);
         loaded = λ x. x;
       }
 
@@ -152,7 +153,8 @@ module _ {R : Type 0} (request : Request) (p : StoredProgram) (answers : StoredP
         silent = quiet;
         stopped = stopped;
         status = tt;
-        success = λ _. tt;
+        success = λ _ _. tt;
+        checked = λ _. tt;
         loaded = loaded;
       }
 

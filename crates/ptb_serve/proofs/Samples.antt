@@ -91,7 +91,8 @@ module _ (request : Request) (p : StoredProgram) (memory : p.memory ≡ request.
       silent = quiet;
       stopped = λ b c l is h. samples_loaded request b c p seed runs form old new l memory (stopped c is h);
       status = zero_within result success;
-      success = λ _. success;
+      success = λ _ _. success;
+      checked = λ x. absurd x;
       loaded = loaded;
     }
 

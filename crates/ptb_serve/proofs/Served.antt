@@ -27,7 +27,7 @@ use Rattle.ptb_serve.specs.Statuses.{note_status}
 use Rattle.ptb_plain.specs.PlainRuns.{ShowsRun, lines_come, ShowsUnread, ending_wanted, lines_taken, lines_wanted, ReadsFor}
 use Rattle.ptb_plain.specs.Streams.{Reads, Writes}
 use Rattle.ptb_serve.specs.Replies.{Reply, refusal, run_reply, program_of_text, reply_or_refusal, program_reply}
-use Rattle.ptb_serve.specs.Serving.{outcome_of, EndsUnread, ReadsBy, outcome_wanted, wanted_by, load_note, AsksForMore, IsUnloaded, ListsFewerOf, ReadsForRun, Replies, SamplesFewerOf, Serves, SilentBy, SilentWithoutMemory, SplitsFewerOf, StopsForMemory, TellsLength, TellsRefusal, load_fault_note, seeded_taken}
+use Rattle.ptb_serve.specs.Serving.{outcome_of, EndsUnread, IsCheck, IsPlainRun, ReadsBy, outcome_wanted, wanted_by, load_note, AsksForMore, IsUnloaded, ListsFewerOf, ReadsForRun, Replies, SamplesFewerOf, Serves, SilentBy, SilentWithoutMemory, SplitsFewerOf, StopsForMemory, TellsLength, TellsRefusal, load_fault_note, seeded_taken}
 
 -- ---- the program of a text
 
@@ -89,6 +89,7 @@ stops_at_once (modes.All under after first form) request b c held = nothing_of_p
 stops_at_once (modes.Shares answers form) request b c held = nothing_of_program held (program_of_text request.memory b) _
 stops_at_once (modes.Sample seed runs form) request b c held = nothing_of_program held (program_of_text request.memory b) _
 stops_at_once modes.List request b c held = tt
+stops_at_once modes.Check request b c held = tt
 
 pub stops_unloaded : (mode : Mode) (request : Request) (known : Option (List ℕ)) (c : List ℕ) (held : Option (List ℕ)) → IfSome known (λ b. StopsForMemory mode request b c held held)
 stops_unloaded mode request None c held = tt
@@ -192,6 +193,7 @@ load_note-silent mode held e = by_fault e.1 where
   without_memory (modes.Shares answers form) = tt
   without_memory (modes.Sample seed runs form) = tt
   without_memory modes.List = Appends-nil held
+  without_memory modes.Check = Appends-nil held
 
   by_fault : (fault : LoadFault) → SilentBy mode (Some (load_note (e.0, fault))) held held
   by_fault loads.NoNumber = Appends-nil held
@@ -391,6 +393,7 @@ takes_nothing_in (modes.All under after first form) request (Some b) known outco
 takes_nothing_in (modes.Shares answers form) request (Some b) known outcome = nothing_told known
 takes_nothing_in (modes.Sample seed runs form) request (Some b) known outcome = nothing_told known
 takes_nothing_in modes.List request (Some b) known outcome = nothing_told known
+takes_nothing_in modes.Check request (Some b) known outcome = nothing_told known
 
 -- by the outcome as by the result
 wanted_same : (result : Result Ending RunFault) (outcome : Outcome) → ((k : ℕ) → ending_wanted k result ≡ outcome_wanted k outcome)
@@ -442,6 +445,19 @@ outcome_of-none (Err n) Q q h = absurd cc
 pub outcome_of-success : (r : Result ℕ Note) → OnOk r (r ≡ Ok 0) → (outcome_of r).note ≡ None → (outcome_of r).status ≡ 0
 outcome_of-success (Ok status) q h = cc
 outcome_of-success (Err n) q h = absurd cc
+
+pub outcome_of-checked : (r : Result ℕ Note) → IfOk r (λ n. n ≤ 1) → (outcome_of r).note ≡ None → (outcome_of r).status ≤ 1
+outcome_of-checked (Ok status) q h = q
+outcome_of-checked (Err n) q h = absurd cc
+
+pub run_no_check : (mode : Mode) → IsPlainRun mode → IsCheck mode → ⊥
+run_no_check (modes.Plain a) run check = check
+run_no_check (modes.Seeded seed) run check = check
+run_no_check (modes.All under after first form) run check = check
+run_no_check (modes.Shares answers form) run check = check
+run_no_check (modes.Sample seed runs form) run check = check
+run_no_check modes.List run check = check
+run_no_check modes.Check run check = run
 
 pub outcome_of-err : (r : Result ℕ Note) (note : Note) → IsErrOf r note → (outcome_of r).note ≡ Some note
 outcome_of-err r note h = ap (λ x. (outcome_of x).note) h

@@ -115,7 +115,8 @@ module _ (request : Request) (p : StoredProgram) (memory : p.memory ≡ request.
       silent = quiet;
       stopped = λ b c l is h. splits_loaded request b c p n form old new l memory (stopped c is h);
       status = zero_within result success;
-      success = λ _. success;
+      success = λ _ _. success;
+      checked = λ x. absurd x;
       loaded = loaded;
     }
 

@@ -20,7 +20,7 @@ use Rattle.ptb_serve.specs.Promises.{Served, ReadsOnlyWhatIsAsked, FailsLoudly}
 use Rattle.ptb_serve.specs.Replies.{listing_reply, program_of_text, program_reply_in_mode, reply_in_mode}
 use Rattle.ptb_serve.specs.Serving.{IsUnloaded, NeedsInput, ReadsForRun, Serves, ServesUnread, StopsForMemory, load_note, outcome_of}
 use Rattle.ptb_serve.proofs.Mismatching.{mismatch_loaded, noted_outcome, said_outcome}
-use Rattle.ptb_serve.proofs.Served.{consumes_nothing, each_known, load_note-length, load_note-other, load_note-read, load_note-refusal, load_note-silent, load_note-unread, loaded_length, loaded_refusal, loaded_unrefused, outcome_of-err, outcome_of-none, outcome_of-note, outcome_of-status, outcome_of-success, serves_refusal, serves_unloaded, stops_unloaded, takes_nothing_in, unread, unwritten, when_refused}
+use Rattle.ptb_serve.proofs.Served.{consumes_nothing, each_known, load_note-length, load_note-other, load_note-read, load_note-refusal, load_note-silent, load_note-unread, loaded_length, loaded_refusal, loaded_unrefused, outcome_of-err, outcome_of-none, outcome_of-note, outcome_of-status, outcome_of-checked, outcome_of-success, serves_refusal, serves_unloaded, stops_unloaded, takes_nothing_in, unread, unwritten, when_refused}
 
 -- without a mismatch nothing is said of any program
 nothing_said : (memory : ℕ) (known : Option (List ℕ)) → IfSome known (λ b. IfOk (program_of_text memory b) (λ _. Unit {0}))
@@ -53,7 +53,8 @@ module _ {P R : Type 0} (request : Request) (text : Reads P) (consumed : Consume
           refusal = loaded_unrefused request.memory text.bytes p.lines _ loaded;
           refused_at = loaded_refusal request.memory text.bytes (outcome_of result).note serves.loaded;
           status = outcome_of-status result serves.status;
-          success = λ h. outcome_of-success result (serves.success h);
+          success = λ h k. outcome_of-success result (serves.success h k);
+          checked = λ h. outcome_of-checked result (serves.checked h);
           silent = serves.silent;
           stopped = λ h c i. each_known (λ b. IsLoaded request.memory b p.lines) (λ b. StopsForMemory request.mode request b c out.before out.after) text.bytes (λ b l. serves.stopped b c l i (outcome_of-note result notes.OutOfMemory h)) loaded;
           mismatch_said = said_outcome result mismatch said.said;
@@ -108,7 +109,8 @@ module _ {P R : Type 0} (request : Request) (text : Reads P) (consumed : Consume
           refusal = serves_refusal request.memory text.bytes listing_reply held held (Err (load_note e)) (serves_unloaded request.memory text.bytes listing_reply held e refused too_long);
           refused_at = load_note-refusal request.memory text.bytes e refused too_long;
           status = refl;
-          success = λ _ h. absurd cc;
+          success = λ _ _ h. absurd cc;
+          checked = λ _ h. absurd cc;
           silent = load_note-silent request.mode held e;
           stopped = λ _ c _. stops_unloaded request.mode request text.bytes c held;
           mismatch_said = λ h. absurd (elim h [ inl x ↦ other notes.NoBeginning (λ u. u) (λ y. absurd cc) x | inr x ↦ other notes.NoRun (λ u. u) (λ y. absurd cc) x ]);

@@ -49,6 +49,7 @@ IsMismatchOf (modes.All under after first form) p input rules m = IsMismatchIn (
 IsMismatchOf (modes.Shares answers form) p input rules m = ⊥
 IsMismatchOf (modes.Sample seed runs form) p input rules m = ⊥
 IsMismatchOf modes.List p input rules m = ⊥
+IsMismatchOf modes.Check p input rules m = ⊥
 
 -- ---- a listing that is not begun
 

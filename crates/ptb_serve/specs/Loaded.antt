@@ -23,7 +23,7 @@ use Rattle.ptb_serve.specs.declared.note.Note.TheVariants as notes
 use Rattle.ptb_plain.specs.PlainRuns.{IsUnreadable, input_limit}
 use Rattle.ptb_serve.specs.ListMismatches.{IsMismatchOf, mismatch_note}
 use Rattle.ptb_serve.specs.Replies.{reply_in_mode}
-use Rattle.ptb_serve.specs.Serving.{IsInput, IsPlainRun, IsUnloaded, NeedsInput, NeedsWholeInput, ReadsForRun, Serves, ServesUnread, SilentBy, StopsForMemory, outcome_of}
+use Rattle.ptb_serve.specs.Serving.{IsCheck, IsInput, IsPlainRun, IsUnloaded, NeedsInput, NeedsWholeInput, ReadsForRun, Serves, ServesUnread, SilentBy, StopsForMemory, outcome_of}
 
 -- a run that is begun isn't spent
 abbrev pub IsRunStatus : Result Ending RunFault → Result ℕ Note → Type 0
@@ -41,7 +41,8 @@ pub record ServesProgram (mode : Mode) (request : Request) (p : StoredProgram) (
   pub silent : SilentBy mode (outcome_of result).note old new
   pub stopped : (b c : List ℕ) → IsLoaded request.memory b p.lines → IsInput mode known c → IsErrOf result notes.OutOfMemory → StopsForMemory mode request b c old new
   pub status : IfOk result (λ n. n ≤ 7)
-  pub success : (IsPlainRun mode → ⊥) → OnOk result (result ≡ Ok 0)
+  pub success : (IsPlainRun mode → ⊥) → (IsCheck mode → ⊥) → OnOk result (result ≡ Ok 0)
+  pub checked : IsCheck mode → IfOk result (λ n. n ≤ 1)
   -- no note says that the program was not loaded
   pub loaded : IsUnloaded (outcome_of result).note → ⊥
 

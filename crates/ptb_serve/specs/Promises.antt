@@ -14,7 +14,7 @@ use Rattle.ptb_serve.specs.declared.note.Note.TheVariants as notes
 use Rattle.ptb_serve.specs.declared.service.Outcome.{Outcome}
 use Rattle.ptb_serve.specs.ListMismatches.{IsMismatchOf, mismatch_note}
 use Rattle.ptb_serve.specs.Replies.{program_of_text, refusal, reply_to}
-use Rattle.ptb_serve.specs.Serving.{IsInput, IsPlainRun, IsUnloaded, NeedsInput, NeedsWholeInput, ReadsForRun, Serves, ServesUnread, SilentBy, StopsForMemory, TellsLength, TellsRefusal}
+use Rattle.ptb_serve.specs.Serving.{IsCheck, IsInput, IsPlainRun, IsUnloaded, NeedsInput, NeedsWholeInput, ReadsForRun, Serves, ServesUnread, SilentBy, StopsForMemory, TellsLength, TellsRefusal}
 use Rattle.ptb_serve.specs.Statuses.{note_status}
 
 module _ {P R : Type 0} (request : Request) (text : Reads P) (input : Reads R) where
@@ -28,8 +28,10 @@ module _ {P R : Type 0} (request : Request) (text : Reads P) (input : Reads R) w
     pub refused_at : TellsRefusal request.memory text.bytes outcome.note
     -- Each note has its own status, 64 or more. Without a note the status is at most 7,
     pub status : MatchOption outcome.note (outcome.status ≤ 7) (λ note. outcome.status ≡ note_status note)
-    -- and it is 0 where the request is no plain run.
-    pub success : ¬ IsPlainRun request.mode → outcome.note ≡ None → outcome.status ≡ 0
+    -- and it is 0 where the request is no plain run and no check,
+    pub success : ¬ IsPlainRun request.mode → ¬ IsCheck request.mode → outcome.note ≡ None → outcome.status ≡ 0
+    -- and at most 1 where it is a check.
+    pub checked : IsCheck request.mode → outcome.note ≡ None → outcome.status ≤ 1
     -- With a note nothing is written, except where a write failed, where memory was refused within a listing or a run by a seed,
     -- or where a line that a run asked for could not be read.
     pub silent : SilentBy request.mode outcome.note out.before out.after

@@ -26,6 +26,8 @@ use Rattle.ptb_serve.specs.declared.note.Note.TheVariants as notes
 use Rattle.ptb_options.specs.declared.request.Mode.{Mode}
 use Rattle.ptb_options.specs.declared.request.Mode.TheVariants as modes
 use Rattle.ptb_options.specs.declared.request.Request.{Request}
+use Rattle.ptb_check.specs.Mistakes.{mistakes, mistakes_text}
+use Rattle.ptb_check.specs.Writing.{has_any}
 use Rattle.ptb_plain.specs.SeededRuns.{seeded_run}
 use Rattle.ptb_serve.specs.Statuses.{note_status}
 
@@ -61,8 +63,16 @@ seeded_lines_reply rules seed lines p = run_reply (seeded_run seed p lines rules
 abbrev pub seeded_reply : Rules → ℕ → List ℕ → StoredProgram → Reply
 seeded_reply rules seed c p = seeded_lines_reply rules seed (input_lines c) p
 
+abbrev pub check_status : Bool → ℕ
+check_status false = 0
+check_status true = 1
+
 abbrev pub listing_reply : StoredProgram → Reply
 listing_reply p = success (listing p.lines)
+
+-- each mistake in the text, and status 1 where there is one
+abbrev pub check_reply : StoredProgram → Reply
+check_reply p = record { bytes = mistakes_text p.lines; status = check_status (has_any (mistakes p.lines)); note = None }
 
 -- ---- the program
 
@@ -152,6 +162,7 @@ program_reply_in_mode (modes.All under after first form) rules c = λ p. all_rep
 program_reply_in_mode (modes.Shares answers form) rules c = λ p. shares_reply p (input_lines c) rules answers form
 program_reply_in_mode (modes.Sample seed runs form) rules c = λ p. sample_reply p (input_lines c) rules seed runs form
 program_reply_in_mode modes.List rules c = listing_reply
+program_reply_in_mode modes.Check rules c = check_reply
 
 abbrev pub reply_in_mode : Mode → Request → List ℕ → List ℕ → Reply
 reply_in_mode mode request b c = program_reply request.memory b (program_reply_in_mode mode request.rules c)

@@ -6,6 +6,7 @@
 --     line_items form play u           the answers of a list, in a form
 --     SplitsRuns play n reply          the reply to `--shares n` is a line for each list that splits the runs; the replies to their shares are the reply to all runs
 --     RunReplies play most reply       what the replies are where a program is run, once or with all answers
+--     ChecksText p reply               the reply to a check of the program p
 --     ReplyLaws                        what a reply is for every program text and every input
 use Rattle.std.specs.Prelude.{◌≡◌, true, ℕ, suc, ◌<◌, List, [], ◌∷◌, ◌++◌, length, take, Option, Some, None, Ok, Err, ◌↔◌, Contains, ℤ}
 use Rattle.std.specs.List.{flat_map}
@@ -33,6 +34,8 @@ use Rattle.ptb_serve.specs.declared.note.Note.TheVariants as notes
 use Rattle.ptb_options.specs.declared.request.Mode.{Mode}
 use Rattle.ptb_options.specs.declared.request.Mode.TheVariants as modes
 use Rattle.ptb_options.specs.declared.request.Request.{Request}
+use Rattle.ptb_check.specs.Laws.{CheckLaws}
+use Rattle.ptb_check.specs.Mistakes.{mistakes, mistakes_text}
 use Rattle.ptb_plain.specs.SeededRuns.{IsDrawn}
 use Rattle.ptb_serve.specs.Replies.{Reply, refusal, success, run_reply, program_of_text, reply_to}
 
@@ -144,6 +147,14 @@ pub record RunReplies (play : Answers → Outcome Finish (List ℕ)) (most : ℕ
   -- a sample is the reports of as many runs as are asked for, which the seed draws one after the other
   pub sampled : (seed runs : ℕ) → SamplesBySeed seed play runs (λ form. reply (modes.Sample seed runs form))
 
+-- The reply to a check is each mistake in the text of the program, as a run reports it on a fresh line, and the status tells whether
+-- there is one.
+pub record ChecksText (p : Statements) (reply : Reply) : Type 0 where
+  pub bytes : reply.bytes ≡ mistakes_text p
+  pub none : mistakes p ≡ [] → reply.status ≡ 0
+  pub some : (mistakes p ≡ [] → ⊥) → reply.status ≡ 1
+  pub note : reply.note ≡ None
+
 pub record ReplyLaws : Type 0 where
   -- a text that is too long is refused as a whole, whatever is asked for and whatever stands in it
   pub too_long : (r : Request) (b c : List ℕ) → program_limit < length b → reply_to r b c ≡ refusal (notes.Load 0 TooLong)
@@ -168,3 +179,7 @@ pub record ReplyLaws : Type 0 where
       (λ mode. reply_to (record { rules = rules; memory = memory; mode = mode; in_range = size }) b c)
   -- the reply to a listing of a text that is accepted is the listing of its lines
   pub listed : (r : Request) (b c : List ℕ) (p : Statements) → program_of_text r.memory b ≡ Ok p → r.mode ≡ modes.List → reply_to r b c ≡ success (listing p)
+  -- the reply to a check of a text that is accepted is its mistakes
+  pub checked : (r : Request) (b c : List ℕ) (p : Statements) → program_of_text r.memory b ≡ Ok p → r.mode ≡ modes.Check → ChecksText p (reply_to r b c)
+  -- and where a run of it ends with WHAT, HOW or SORRY, the command at its place is whole, or its mistake is one of these
+  pub mistakes : CheckLaws

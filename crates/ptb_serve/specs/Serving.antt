@@ -15,6 +15,7 @@
 --     wanted_by choose all k outcome    how many of all lines a run wanted that takes k
 --     ReadsForRun mode ..               what a run takes of its input
 --     IsPlainRun mode                   the program is run once
+--     IsCheck mode                      its mistakes are listed
 --     NeedsInput mode                   the input may be read
 --     NeedsWholeInput mode              the input is read to its end
 --     IsInput mode known c              c is the input, where the mode needs it
@@ -106,6 +107,7 @@ SilentWithoutMemory (modes.All under after first form) old new = Unit {0}
 SilentWithoutMemory (modes.Shares answers form) old new = Unit {0}
 SilentWithoutMemory (modes.Sample seed runs form) old new = Unit {0}
 SilentWithoutMemory modes.List old new = Appends old new []
+SilentWithoutMemory modes.Check old new = Appends old new []
 
 -- nothing was written, unless a note says that a write failed, that no memory was left for the next report,
 -- or that a line that a run asked for could not be read
@@ -145,6 +147,7 @@ StopsForMemory (modes.All under after first form) request b c old new = IfOk (pr
 StopsForMemory (modes.Shares answers form) request b c old new = IfOk (program_of_text request.memory b) (λ p. Appends old new [] ⊎ SplitsFewerOf (record { lines = p; memory = request.memory }) (input_lines c) request.rules answers form old new)
 StopsForMemory (modes.Sample seed runs form) request b c old new = IfOk (program_of_text request.memory b) (λ p. Appends old new [] ⊎ SamplesFewerOf (record { lines = p; memory = request.memory }) (input_lines c) request.rules seed runs form old new)
 StopsForMemory modes.List request b c old new = Unit {0}
+StopsForMemory modes.Check request b c old new = Unit {0}
 
 -- its bytes were written, and its status is that of a run which ends for want of a line
 pub record LacksLine (reply : Reply) (old new : Option (List ℕ)) : Type 0 where
@@ -178,6 +181,7 @@ ServesUnread (modes.All under after first form) request known left b old new = A
 ServesUnread (modes.Shares answers form) request known left b old new = Appends old new []
 ServesUnread (modes.Sample seed runs form) request known left b old new = Appends old new []
 ServesUnread modes.List request known left b old new = Appends old new []
+ServesUnread modes.Check request known left b old new = Appends old new []
 
 -- the status of such a request alone is that of an ending
 abbrev pub IsPlainRun : Mode → Type 0
@@ -187,6 +191,17 @@ IsPlainRun (modes.All under after first form) = ⊥
 IsPlainRun (modes.Shares answers form) = ⊥
 IsPlainRun (modes.Sample seed runs form) = ⊥
 IsPlainRun modes.List = ⊥
+IsPlainRun modes.Check = ⊥
+
+-- its status tells whether there is a mistake
+abbrev pub IsCheck : Mode → Type 0
+IsCheck (modes.Plain a) = ⊥
+IsCheck (modes.Seeded seed) = ⊥
+IsCheck (modes.All under after first form) = ⊥
+IsCheck (modes.Shares answers form) = ⊥
+IsCheck (modes.Sample seed runs form) = ⊥
+IsCheck modes.List = ⊥
+IsCheck modes.Check = Unit {0}
 
 -- ---- a program that isn't loaded
 
@@ -251,11 +266,12 @@ ReadsInMode (modes.All under after first form) request b c left _ _ = Unit {0}
 ReadsInMode (modes.Shares answers form) request b c left _ _ = Unit {0}
 ReadsInMode (modes.Sample seed runs form) request b c left _ _ = Unit {0}
 ReadsInMode modes.List request b c left _ _ = Unit {0}
+ReadsInMode modes.Check request b c left _ _ = Unit {0}
 
 abbrev pub ReadsForRun : Mode → Request → List ℕ → List ℕ → Option (List ℕ) → Outcome → Type 0
 ReadsForRun mode request b c left outcome = ReadsInMode mode request b c left outcome.note outcome.status
 
--- a listing of the program's lines alone doesn't read it
+-- a listing of the program's lines or of its mistakes doesn't read it
 abbrev pub NeedsInput : Mode → Type 0
 NeedsInput (modes.Plain a) = Unit {0}
 NeedsInput (modes.Seeded seed) = Unit {0}
@@ -263,6 +279,7 @@ NeedsInput (modes.All under after first form) = Unit {0}
 NeedsInput (modes.Shares answers form) = Unit {0}
 NeedsInput (modes.Sample seed runs form) = Unit {0}
 NeedsInput modes.List = ⊥
+NeedsInput modes.Check = ⊥
 
 -- a run reads it only as far as it asks for lines
 abbrev pub NeedsWholeInput : Mode → Type 0
@@ -272,6 +289,7 @@ NeedsWholeInput (modes.All under after first form) = Unit {0}
 NeedsWholeInput (modes.Shares answers form) = Unit {0}
 NeedsWholeInput (modes.Sample seed runs form) = Unit {0}
 NeedsWholeInput modes.List = ⊥
+NeedsWholeInput modes.Check = ⊥
 
 -- the input, where it is needed and known; any bytes where it isn't looked at
 abbrev pub IsInput : Mode → Option (List ℕ) → List ℕ → Type 0
@@ -281,3 +299,4 @@ IsInput (modes.All under after first form) known c = known ≡ Some c
 IsInput (modes.Shares answers form) known c = known ≡ Some c
 IsInput (modes.Sample seed runs form) known c = known ≡ Some c
 IsInput modes.List known c = Unit {0}
+IsInput modes.Check known c = Unit {0}

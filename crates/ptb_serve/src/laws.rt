@@ -2,6 +2,7 @@
 
 ghost use Rattle.ptb_serve.specs.ReplyLaws.{ReplyLaws};
 
+use ptb_check::check_laws;
 use ptb_explore::program_laws;
 use ptb_machine::run_laws;
 use ptb_plain::seeded_laws;
@@ -10,9 +11,10 @@ use ptb_plain::seeded_laws;
 /// that is refused, as every text of more than 1,048,576 bytes is, is its refusal. For a text that is
 /// accepted it is the reports of all its runs, each once, in the order of their answers, or of those
 /// after a run, or of the first of them; what one run shows, with the status of its ending; or the
-/// program's lines. Two runs have two different reports. A run by a seed is the one run whose answers
+/// program's lines, or the mistakes in them. Two runs have two different reports. A run by a seed is the one run whose answers
 /// are drawn from the seed. The replies to the shares of the lists that split the runs are, one after
-/// the other, the reports of all runs.
+/// the other, the reports of all runs. Where a run ends with a fault, the command at its place is
+/// whole, or its mistake is among those that a check lists.
 #[tactic(auto, using(crate::proofs::Replying::reply_laws))]
 pub fn reply_laws()
     ensures { ReplyLaws }
@@ -20,4 +22,5 @@ pub fn reply_laws()
     run_laws();
     seeded_laws();
     program_laws();
+    check_laws();
 }

@@ -1,6 +1,7 @@
-//! How a request is served: a run of a program, a listing of its runs, or one of its text.
+//! How a request is served: a run of a program, a listing of its runs, of its text, or of the mistakes
+//! in its text.
 //!
-//! It stands on `ptb_options`, `ptb_explore`, `ptb_machine`, on definitions of the two crates below
+//! It stands on `ptb_options`, `ptb_explore`, `ptb_check`, `ptb_machine`, on definitions of the two crates below
 //! that, on `ptb_answers` and `ptb_text`. The crate above may rely on `serve` (bytes, status and note
 //! are those of `specs/Replies`, or the note says what failed: `specs/Promises`), on `Flushing` (a
 //! writer whose bytes are those of its inner writer, which it flushes) and on `reply_laws`.
@@ -8,6 +9,7 @@
 
 mod all_runs;
 mod attempt;
+mod checking;
 mod flushing;
 mod laws;
 mod list_mismatch;

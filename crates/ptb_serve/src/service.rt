@@ -1,5 +1,5 @@
 // This file serves a request: it loads the program, and runs it, reports all its runs or a sample of
-// them, writes the lists that split its runs, or lists it.
+// them, writes the lists that split its runs, or lists it or its mistakes.
 
 ghost use Rattle.std.specs.Prelude.{◌≡◌, IfSome, IsErrOf};
 ghost use Rattle.ptb_machine.specs.Play.{status};
@@ -12,6 +12,7 @@ ghost use Rattle.ptb_serve.specs.Serving.{NeedsInput, outcome_of};
 
 use crate::all_runs::list_runs;
 use crate::attempt::Attempt;
+use crate::checking::list_mistakes;
 use crate::laws::reply_laws;
 use crate::list_mismatch::ListMismatch;
 use crate::note::Note;
@@ -58,10 +59,11 @@ impl Outcome {
 
 /// Serves a request: the program is loaded from one reader, and is run on the lines of another, or
 /// all its runs or those of a sample are reported, or the lists that split its runs are written, or it
-/// is listed. What it shows, the reports, the lists or the listing go to the writer.
+/// or the mistakes in its text are listed. What it shows, the reports, the lists or the listing go to
+/// the writer.
 ///
 /// The program is loaded before the input is read: a text that is refused or can't be read leaves the
-/// input alone. So does a listing of a program's text. At most 1,048,577 bytes are read of a program,
+/// input alone. So does a listing of a program's text or of its mistakes. At most 1,048,577 bytes are read of a program,
 /// and at most 16,777,217 of an input, also of one that never ends.
 ///
 /// A run reads its input only as far as it asks for lines: while fewer lines are complete than it
@@ -159,6 +161,7 @@ fn serve_program<R: Read, W: Write>(
             Ok(()) => Attempt::without_mismatch(Ok(0)),
             Err(fault) => Attempt::without_mismatch(Err(Note::from(fault))),
         },
+        Mode::Check => Attempt::without_mismatch(list_mistakes(program, out)),
     }
 }
 

@@ -78,6 +78,25 @@ const CLASHES: &[(UsageFault, &str, &[&str])] = &[
             "ptb --list --form 1",
             "ptb --list --shares 2",
             "ptb --sample 3 --list",
+            "ptb --list --check",
+            "ptb --check --all --list",
+        ],
+    ),
+    (
+        UsageFault::CheckWithOther,
+        "ptb: --check stands alone",
+        &[
+            "ptb --check --all",
+            "ptb --answers none --check",
+            "ptb --check --after 1",
+            "ptb --check --first 1",
+            "ptb --choose 2 --check",
+            "ptb --check --seed 1",
+            "ptb --check --form 1",
+            "ptb --check --under 1",
+            "ptb --check --shares 2",
+            "ptb --sample 3 --check",
+            "ptb --check --answers x",
         ],
     ),
     (
@@ -744,6 +763,28 @@ fn requests_for_a_listing(rt: HostRuntime) {
     expect_same(&rt, line, program_listing(rt.alloc(), line), Some((5, 64)));
 }
 
+// The limit and the memory of a line that asks for the mistakes of the program.
+fn program_check(alloc: Global, line: &str) -> Option<(u32, u16)> {
+    let request = requested(alloc, line)?;
+    match request.mode {
+        Mode::Check => Some((request.rules.limit, request.memory)),
+        _ => None,
+    }
+}
+
+#[test]
+fn requests_for_a_check(rt: HostRuntime) {
+    let line = "ptb --check";
+    expect_same(
+        &rt,
+        line,
+        program_check(rt.alloc(), line),
+        Some((10_000, 4096)),
+    );
+    let line = "ptb --steps 5 --check game.bas --memory 64";
+    expect_same(&rt, line, program_check(rt.alloc(), line), Some((5, 64)));
+}
+
 // Kinds of clap's errors, the status of each, and command lines that are refused by it.
 const REFUSALS: &[(ErrorKind, u8, &[&str])] = &[
     (
@@ -970,8 +1011,9 @@ const HELP: &[&str] = &[
     "      --form <N>      In reports and lists, numbers alone (1), or",
     "                      each with its bound (2, the default)",
     "",
-    "List:",
-    "      --list  Print the program in the order of its line numbers, and run nothing",
+    "Text:",
+    "      --list   Print the program in the order of its line numbers; run nothing",
+    "      --check  Print each mistake in the program's text; run nothing",
     "",
     "LIST is none, or numbers from 1 to 32767 with commas between them, as 2,1,6.",
     "With --under and --after an item may have its bound, as 2/2,1/3.",
@@ -981,8 +1023,8 @@ const HELP: &[&str] = &[
     "",
     "Exit status:",
     "   0  the program ended, or the reports, the lists, the listing, this help or",
-    "      the version was written",
-    "   1  the program stopped with WHAT?",
+    "      the version was written, or --check found no mistake",
+    "   1  the program stopped with WHAT?, or --check found a mistake",
     "   2  the program stopped with HOW?",
     "   3  the program stopped with SORRY",
     "   4  the run reached the limit of --steps",

@@ -1,8 +1,12 @@
 -- This file answers that the value of an option is wrong, or is not.
 use Rattle.std.proofs.Common.{ap}
 use Rattle.std.specs.Option.{option_copied}
-use Rattle.ptb_options.proofs.WrongValues.{accepted_after, accepted_next, last, wrong_after}
+use Rattle.ptb_options.proofs.WrongValues.{accepted_after, accepted_next, last, unnamed_after, wrong_after}
 use Rattle.ptb_options.proofs.wrong_numbers.wrong_value.Goals as goal
+
+pub returns-in_err-number_option-in-Some-clause-none : goal.returns-in_err-number_option-in-Some-clause-none
+returns-in_err-number_option-in-Some-clause-none c = λ _.
+    unnamed_after c.args.word.now (option_copied c.args.next) c.in-Some.name c.in-Some.value c.in-Some.ensures.cases (c.number_option.ensures.none c.in_err-number_option-in-Some.was)
 
 pub returns-in_err-next-in-None-clause-none : goal.returns-in_err-next-in-None-clause-none
 returns-in_err-next-in-None-clause-none c = λ _. last c.args.word.now (option_copied c.args.next) c.in-None.ensures.cases (ap option_copied c.in_err-next-in-None.was)

@@ -2,7 +2,7 @@
 use Rattle.std.proofs.Common.{Err}
 use Rattle.ptb_plain.specs.SeededRuns.{seeded_answers}
 use Rattle.ptb_plain.specs.Streams.{reads_of, writes_of}
-use Rattle.ptb_serve.proofs.Modes.{served_all, served_plain, served_sample, served_seeded, served_shares, served_text, text_broken}
+use Rattle.ptb_serve.proofs.Modes.{served_all, served_check, served_plain, served_sample, served_seeded, served_shares, served_text, text_broken}
 use Rattle.ptb_serve.proofs.service.serve_program.Goals as goal
 
 -- a run with a list of answers
@@ -89,3 +89,13 @@ returns-in-Ok g c =
     c.in-Ok.ensures.ok c.in-Ok.ensures.unfailed
     in
     rw c.without_mismatch-in-Ok.ensures (record { serves = told.serves; reads = told.reads; failures = told.failures; mismatch = told.mismatch; input_kept = told.input_kept })
+
+-- the mistakes in its text
+pub returns-in-Check : goal.returns-in-Check
+returns-in-Check g c =
+    let told =
+    served_check c.args.request.now c.args.program.now c.args.input.now (g.R.Read.remaining c.args.input.now) (g.R.Read.failures c.args.input.now) (g.R.Read.given c.args.input.now)
+    (writes_of g.W.Write.contents g.W.Write.failures c.args.out.now c.list_mistakes.new.out) c.args.request.now.mode c.list_mistakes.result c.in-Check.is
+    (c.list_mistakes.ensures.serves c.args.request.now c.requires.memory (g.R.Read.remaining c.args.input.now)) c.list_mistakes.ensures.read c.list_mistakes.ensures.failures c.list_mistakes.ensures.no_list
+    in
+    rw c.without_mismatch-in-Check.ensures (record { serves = told.serves; reads = told.reads; failures = told.failures; mismatch = told.mismatch; input_kept = told.input_kept })

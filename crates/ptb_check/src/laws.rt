@@ -1,0 +1,27 @@
+// This file states the laws of mistakes.
+
+ghost use Rattle.ptb_check.specs.Laws.{CheckLaws, CodeMistakeLaws};
+
+use ptb_command::command_laws;
+use ptb_expr::spelling_laws;
+use ptb_machine::effect_laws;
+
+/// The mistake of a command is found by its code.
+#[tactic(auto, using(crate::proofs::Lawful::code_mistake_laws))]
+pub(crate) fn code_mistake_laws()
+    ensures { CodeMistakeLaws }
+{
+    spelling_laws();
+    command_laws();
+}
+
+/// The command at which a run ends with a fault is whole, or its mistake is among those of its
+/// program.
+#[tactic(auto, using(crate::proofs::Lawful::check_laws))]
+pub fn check_laws()
+    ensures { CheckLaws }
+{
+    spelling_laws();
+    command_laws();
+    effect_laws();
+}

@@ -1,0 +1,133 @@
+// This file finds the mistake of a command by its code.
+
+ghost use Rattle.std.specs.Prelude.{◌≡◌, ℕ, List};
+ghost use Rattle.ptb_command.specs.Code.{steps_at};
+ghost use Rattle.ptb_command.specs.Commands.{command_at};
+ghost use Rattle.ptb_command.specs.Translation.{IsTranslated};
+ghost use Rattle.ptb_expr.specs.Written.{first_fail, only_number};
+ghost use Rattle.ptb_check.specs.CodeMistakes.{code_mistake, destination_fail, part_fail};
+ghost use Rattle.ptb_check.specs.Mistakes.{command_mistake, jump_mistake};
+
+use crate::laws::code_mistake_laws;
+use ptb_command::{CommandCode, Destination, Expression, Operation, beginning_of};
+use ptb_expr::{Fault, FaultKind, Step};
+use ptb_text::Program;
+
+// The steps of an expression.
+fn steps_of(steps: &[Step], expression: Expression) -> &[Step]
+    ensures { result.now ≡ steps_at steps.now expression }
+{
+    let count = steps.len();
+    let from = usize::from(expression.from).min(count);
+    let to = (usize::from(expression.from) + usize::from(expression.count)).min(count);
+    &steps[from..to]
+}
+
+// The fault of the first step that always has one.
+fn first_fail(steps: &[Step]) -> Option<Fault>
+    ensures { result ≡ first_fail steps.now }
+{
+    let mut rest = steps;
+    while let Some((step, after)) = rest.split_first() {
+        if let Step::Fail(kind, mark) = *step {
+            return Some(Fault {
+                kind,
+                mark: usize::from(mark),
+            });
+        }
+        rest = after;
+    }
+    None
+}
+
+// The number of a single step.
+fn only_number(steps: &[Step]) -> Option<i16>
+    ensures { result ≡ only_number steps.now }
+{
+    match steps {
+        [Step::Number(value)] => Some(*value),
+        _ => None,
+    }
+}
+
+// The mistake of a jump to a written number that no statement has.
+fn jump_mistake(program: &Program, number: Option<i16>, end: u8) -> Option<Fault>
+    ensures { result ≡ jump_mistake program.now.lines end number }
+{
+    if beginning_of(program, number?).is_some() {
+        return None;
+    }
+    Some(Fault {
+        kind: FaultKind::How,
+        mark: usize::from(end),
+    })
+}
+
+// The fault in what a value is stored in.
+fn destination_fail(steps: &[Step], destination: Destination) -> Option<Fault>
+    ensures { result ≡ destination_fail steps.now destination }
+{
+    match destination {
+        Destination::Letter(_) => None,
+        Destination::Element(index, _) => first_fail(steps_of(steps, index)),
+        Destination::Missing(fault) => first_fail(steps_of(steps, fault)),
+    }
+}
+
+// The fault in a part of a command.
+fn part_fail(steps: &[Step], operation: Operation) -> Option<Fault>
+    ensures { result ≡ part_fail steps.now operation }
+{
+    match operation {
+        Operation::Set(destination, value) => match destination_fail(steps, destination) {
+            Some(fault) => Some(fault),
+            None => first_fail(steps_of(steps, value)),
+        },
+        Operation::Show(value) | Operation::Width(value, _) | Operation::Discard(value) => {
+            first_fail(steps_of(steps, value))
+        }
+        Operation::Input(_, destination) => destination_fail(steps, destination),
+        _ => None,
+    }
+}
+
+/// The mistake of the command that was translated into this code, if it has one: the fault in its
+/// text, or that of a GOTO or a GOSUB to a written number that no statement has. Nothing is run.
+pub fn mistake_of(program: &Program, code: &CommandCode) -> Option<Fault>
+    ensures { (t : List ℕ) (i : ℕ) → IsTranslated t i code.now
+        → result ≡ command_mistake program.now.lines (command_at t i) }
+{
+    code_mistake_laws();
+    code_mistake(program, code.steps(), code.operations())
+}
+
+// The mistake that the operations of a command tell.
+fn code_mistake(program: &Program, steps: &[Step], operations: &[Operation]) -> Option<Fault>
+    ensures { result ≡ code_mistake program.now.lines steps.now operations.now }
+{
+    let mut rest = operations;
+    while let Some((operation, after)) = rest.split_first() {
+        match *operation {
+            Operation::Fail(kind, mark) => return Some(Fault {
+                kind,
+                mark: usize::from(mark),
+            }),
+            Operation::GoTo { number, end } | Operation::GoSub { number, end, .. } => {
+                return jump_mistake(program, only_number(steps_of(steps, number)), end);
+            }
+            Operation::Done { .. }
+            | Operation::If { .. }
+            | Operation::Return { .. }
+            | Operation::For { .. }
+            | Operation::EndTurn { .. }
+            | Operation::Stop
+            | Operation::Remark => return None,
+            _ => {}
+        }
+        if let Some(fault) = part_fail(steps, *operation) {
+            return Some(fault);
+        }
+        rest = after;
+    }
+    None
+}

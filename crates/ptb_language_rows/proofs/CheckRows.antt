@@ -1,0 +1,18 @@
+-- This file proves the worked rows of mistakes by computation.
+use Rattle.std.specs.Prelude.{refl}
+use Rattle.ptb_language_rows.proofs.OnPrograms.{on_programs}
+use Rattle.ptb_language_rows.specs.CheckRows.{CheckRows}
+
+pub check_rows : CheckRows
+unfolding on_programs
+check_rows = record {
+  no_mistake = refl;
+  in_rising_order = refl;
+  up_to_a_malformed_one = refl;
+  only_in_the_text = refl;
+  fault_of_a_run_before_it = refl;
+  number_there = refl;
+  number_in_parentheses = refl;
+  number_with_a_sign = refl;
+  number_that_is_computed = refl;
+}

@@ -1,0 +1,89 @@
+-- This file proves how the mistakes in a program's text are served, from what was written of them.
+use Rattle.std.proofs.Common.{◌≡◌, ◌∙◌, ℕ, ◌+◌, ◌≤◌, Bool, true, false, List, Option, None, Some, Result, Ok, Err, IsErrOf, ap, sym, subst, refl, arith, inl, inr}
+use Rattle.std.specs.Result.{IsErrAnd}
+use Rattle.std.proofs.lemmas.Result.{err_from_is_err_and}
+use Rattle.ptb_text.specs.Device.{HasFailed}
+use Rattle.ptb_text.specs.Statements.{StoredProgram}
+use Rattle.ptb_text.specs.declared.listing.WriteFault.{WriteFault}
+use Rattle.ptb_check.specs.Mistakes.{mistakes}
+use Rattle.ptb_check.specs.Writing.{WritesMistakes}
+use Rattle.ptb_machine.specs.declared.fault.RunFault.TheVariants as faults
+use Rattle.ptb_options.specs.declared.request.Mode.TheVariants as modes
+use Rattle.ptb_options.specs.declared.request.Request.{Request}
+use Rattle.ptb_plain.specs.PlainRuns.{input_limit}
+use Rattle.ptb_serve.specs.declared.note.Note.{Note}
+use Rattle.ptb_serve.specs.declared.note.Note.TheVariants as notes
+use Rattle.ptb_serve.specs.Loaded.{ReadsInput, RefusesListIn, ServesProgram, TellsFailures}
+use Rattle.ptb_serve.specs.Replies.{check_reply, check_status}
+use Rattle.ptb_serve.proofs.Mismatching.{run_refuses_none, success_refuses_none}
+use Rattle.ptb_serve.proofs.Served.{consumes_nothing, nothing_told, serves_loaded}
+
+module _ (request : Request) (p : StoredProgram) (memory : p.memory ≡ request.memory) (old new known : Option (List ℕ)) where
+  pub mistakes_served : (any : Bool) (n : ℕ) → n ≡ check_status any → WritesMistakes (mistakes p.lines) old new (Ok any) → n ≤ 1 → ServesProgram modes.Check request p known known old new (Ok n)
+  mistakes_served any n is written within = record {
+    served = λ b c l _. serves_loaded request.memory (Some b) check_reply p old new (Ok n) l memory (record { bytes = written.ok; status = is ∙ ap check_status written.any; note = refl });
+    taken = λ b l. nothing_told known;
+    unread = λ b l x. absurd cc;
+    silent = tt;
+    stopped = λ b c _ _ _. tt;
+    status = omega (arith, within);
+    success = λ _ x. absurd (x tt);
+    checked = λ _. within;
+    loaded = λ x. x;
+  }
+
+  pub mistakes_unwritten : (fault : WriteFault) → WritesMistakes (mistakes p.lines) old new (Err fault) → ServesProgram modes.Check request p known known old new (Err notes.Unwritten)
+  mistakes_unwritten fault written = record {
+    served = λ b c l _. serves_loaded request.memory (Some b) check_reply p old new (Err notes.Unwritten) l memory written.fault;
+    taken = λ b l. nothing_told known;
+    unread = λ b l x. absurd cc;
+    silent = tt;
+    stopped = λ b c _ _ _. tt;
+    status = tt;
+    success = λ _ _. tt;
+    checked = λ _. tt;
+    loaded = λ x. x;
+  }
+
+-- ---- the whole contract
+
+module _ (p : StoredProgram) (old new : Option (List ℕ)) (broke breaks : ℕ) where
+  pub record IsChecked (result : Result ℕ Note) : Type 0 where
+    pub serves : (request : Request) → p.memory ≡ request.memory → (known : Option (List ℕ)) → ServesProgram modes.Check request p known known old new result
+    pub read : IsErrOf result notes.InputUnread → ⊥
+    pub failures : TellsFailures broke breaks result
+    pub no_list : RefusesListIn result → ⊥
+
+  pub check_written : (any : Bool) (n : ℕ) → n ≡ check_status any → n ≤ 1 → WritesMistakes (mistakes p.lines) old new (Ok any) → breaks ≡ broke → IsChecked (Ok n)
+  check_written any n is within written unfailed = record {
+    serves = λ request memory known. mistakes_served request p memory old new known any n is written within;
+    read = λ x. absurd cc;
+    failures = record { unwritten = λ x. absurd cc; written = λ _. unfailed };
+    no_list = success_refuses_none n;
+  }
+
+  pub check_broken : (result : Result ℕ Note) (fault : WriteFault) → IsErrAnd result (λ note. note ≡ notes.Unwritten) → WritesMistakes (mistakes p.lines) old new (Err fault) → HasFailed broke breaks → IsChecked result
+  check_broken result fault noted written has_failed =
+      let e = err_from_is_err_and result noted in
+      subst IsChecked (sym (e.1 ∙ ap Err e.2))
+      (record {
+        serves = λ request memory known. mistakes_unwritten request p memory old new known fault written;
+        read = λ x. absurd cc;
+        failures = record { unwritten = λ _. has_failed; written = λ x. absurd (x refl) };
+        no_list = run_refuses_none (Err faults.Write) (Err notes.Unwritten) refl;
+      })
+
+-- the input is left alone
+pub check_reads : (known : Option (List ℕ)) (result : Result ℕ Note) (failed gave : ℕ) → (IsErrOf result notes.InputUnread → ⊥) → (RefusesListIn result → ⊥) → ReadsInput modes.Check known known failed failed gave gave result
+check_reads known result failed gave fine no_list = record {
+  within = λ x. absurd x;
+  taken_within = λ x. absurd x;
+  no_beginning_within = λ x. absurd (no_list (inl x));
+  no_run_within = λ x. absurd (no_list (inr x));
+  bounded = consumes_nothing known (input_limit + 1);
+  given = (omega arith, omega arith);
+  unread = λ x. absurd (fine x);
+  failed_or_given = λ x. absurd (fine x);
+  read = λ _. refl;
+  unneeded = λ _. fine;
+}

@@ -1,0 +1,31 @@
+// This file has the listing of the mistakes in a program's text.
+
+ghost use Rattle.std.specs.Prelude.{◌≡◌, ℕ, List, Option, IsErrOf};
+ghost use Rattle.ptb_options.specs.declared.request.Mode.TheVariants.{Check};
+ghost use Rattle.ptb_options.specs.declared.request.Request.{Request};
+ghost use Rattle.ptb_serve.specs.Loaded.{RefusesListIn, ServesProgram, TellsFailures};
+
+use crate::note::Note;
+use ptb_check::write_mistakes;
+use ptb_text::{Program, Write};
+
+/// Writes each mistake in a program's text, as a run reports it. The status is 1 where there is one,
+/// and 0 where there is none. Nothing is run, and no memory is taken.
+///
+/// # Errors
+///
+/// [`Note::Unwritten`] where the writer failed: a prefix of the mistakes was written.
+pub fn list_mistakes<W: Write>(program: &Program, out: &mut W) -> Result<u8, Note>
+    ensures serves { (request : Request) → program.now.memory ≡ request.memory
+        → (known : Option (List ℕ)) → ServesProgram Check request program.now known known
+        (W.contents out.old) (W.contents out.new) result }
+    ensures read { ¬ IsErrOf result Note.InputUnread }
+    ensures failures { TellsFailures (W.failures out.old) (W.failures out.new) result }
+    ensures no_list { ¬ RefusesListIn result }
+{
+    let any = write_mistakes(program, out)?;
+    if any {
+        return Ok(1);
+    }
+    Ok(0)
+}
