@@ -34,6 +34,9 @@ const DOTS: &[u8] = b"................................................";
 
 // The values of an expression, added up over all turns.
 fn sum(text: &[u8], store: &Store) -> Result<i64, Stop> {
+    if text.len() > 255 {
+        return Ok(0);
+    }
     let mut sum: i64 = 0;
     for _ in 0..TURNS {
         let mut cursor = Cursor::new(text, 0);

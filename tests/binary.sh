@@ -185,6 +185,28 @@ refused 'a sample of no run' '10 P.RND(6)\n' 64 \
     --seed 7 --sample 0
 refused 'a sample of a text that is refused' '0 P.\n' 65 'ptb: line 1: no statement number' --seed 7 --sample 3
 
+# ---- mistakes in a text
+
+typos='30 LET A=(3+4, X=4\n20 GOTO 412\n10 IF 0 PTINT "X"\n'
+mistakes='WHAT?\n10 IF 0 P?TINT "X"\nHOW?\n20 GOTO 412?\nWHAT?\n30 LET A=(3+4?, X=4\n'
+plain 'a text without mistakes' '10 PRINT "HI"\n' 0 '' --check
+plain 'three mistakes, by the numbers of their lines' "$typos" 1 "$mistakes" --check
+plain 'mistakes with a limit of commands' "$typos" 1 "$mistakes" --check --steps 1 --memory 64
+plain 'two mistakes of a line, and none after a malformed command' '10 GOSUB 99;A=32768;PRINT )\n' 1 \
+    'HOW?\n10 GOSUB 99?;A=32768;PRINT )\nHOW?\n10 GOSUB 99;A=32768?;PRINT )\n' --check
+plain 'faults that depend on values' '10 GOTO A\n20 RETURN\n' 0 '' --check
+plain 'a parenthesis that is missing after a division by 0' '10 PRINT (1/0\n' 1 'WHAT?\n10 PRINT (1/0?\n' --check
+plain 'the fault of a run there' '10 PRINT (1/0\n' 2 'HOW?\n10 PRINT (1/0?\n'
+plain 'jumps to written numbers' '10 GOTO (20)\n20 GOSUB +10;GOTO (30)\n' 1 'HOW?\n20 GOSUB +10;GOTO (30)?\n' --check
+plain 'a jump to a number that is computed' '10 GOTO 411+1\n' 0 '' --check
+plain 'an empty program has no mistakes' '' 0 '' --check
+refused 'mistakes of a text that is refused' '0 P.\n' 65 'ptb: line 1: no statement number' --check
+refused 'mistakes beside a listing of the text' '10 P.1\n' 64 'ptb: --list stands alone' --check --list
+for words in --all '--answers x' '--after 1' '--first 1' '--choose 2' '--seed 7' '--form 1' '--under 2' '--shares 2' '--sample 3'; do
+    # shellcheck disable=SC2086
+    refused "mistakes beside $words" '10 P.1\n' 64 'ptb: --check stands alone' --check $words
+done
+
 # ---- files
 
 printf '10 INPUT A\n20 PRINT A+1\n' >"$folder/game.bas"
@@ -198,6 +220,10 @@ count 'a file with input from a pipe' "$(is_as_due 0 'A:41\n    42\n' '')"
 
 run --list "$folder/game.bas" </dev/null
 count 'the listing of a file' "$(is_as_due 0 '10 INPUT A\n20 PRINT A+1\n' '')"
+
+printf '10 INPUT A,\n' >"$folder/typo.bas"
+run --check "$folder/typo.bas" <"$folder"
+count 'the mistakes of a file, with an input that cannot be read' "$(is_as_due 1 'WHAT?\n10 INPUT A,?\n' '')"
 
 run "$folder/missing.bas" </dev/null
 count 'a missing file' "$(is_as_due 66 '' \
@@ -290,7 +316,7 @@ count 'a program that asks for no line waits for none' "$(is_as_due 0 'HI\n' '')
 
 run --help </dev/null
 helps=yes
-for option in steps memory answers all after first list help; do
+for option in steps memory answers all after first list check help; do
     grep -q -e "--$option" "$folder/output" || helps=no
 done
 if [ "$status" = 0 ] && [ ! -s "$folder/errors" ]; then count '--help' "$helps"; else count '--help' no; fi
@@ -326,8 +352,8 @@ complains 'an argument that is no text' $'\xff'
 
 # ---- writers that fail
 
-printf '10 PRINT "HI"\n20 GOTO 10\n' >"$folder/loop.bas"
-for words in '' --list '--seed 7 --sample 3'; do
+printf '10 PRINT "HI"\n20 GOTO 10\n30 GOTO 31\n' >"$folder/loop.bas"
+for words in '' --list --check '--seed 7 --sample 3'; do
     # shellcheck disable=SC2086
     "$ptb" $words "$folder/loop.bas" </dev/null >/dev/full 2>"$folder/errors"
     status=$?
@@ -343,7 +369,7 @@ for words in --help --version; do
 done
 
 mkfifo "$folder/pipe"
-for words in '' --list '--seed 7 --sample 3'; do
+for words in '' --list --check '--seed 7 --sample 3'; do
     # the reader opens the pipe and goes before the program writes
     (: <"$folder/pipe") &
     reader=$!
@@ -399,6 +425,24 @@ for runs in "$root"/examples/*.runs; do
         count "all runs of the example $(basename "$example")" yes
     else
         count "all runs of the example $(basename "$example")" no
+    fi
+done
+
+# the mistakes in their texts: none where no file has them
+for program in "$root"/examples/*.bas; do
+    example=${program%.bas}
+    run --check "$program" </dev/null
+    if [ -f "$example.check" ]; then
+        cp "$example.check" "$folder/mistakes"
+    else
+        : >"$folder/mistakes"
+    fi
+    due=0
+    if [ -s "$folder/mistakes" ]; then due=1; fi
+    if [ "$status" = "$due" ] && cmp -s "$folder/output" "$folder/mistakes" && [ ! -s "$folder/errors" ]; then
+        count "mistakes of the example $(basename "$example")" yes
+    else
+        count "mistakes of the example $(basename "$example")" no
     fi
 done
 

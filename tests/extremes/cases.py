@@ -326,8 +326,31 @@ def arguments():
         yield run(f"a program named {name!r}", '10 P."FILE"\n', "FILE\n", words=words, lines=other, file=name)
 
 
+# ---- mistakes
+
+
+def mistakes():
+    """Texts with as many mistakes as they have room for, and the longest ones."""
+    unclosed = "P." + "(" * 253
+    report_of_it = f"WHAT?\n32767 {unclosed}?\n"
+    yield run("the mistake of 253 open parentheses", f"32767 {unclosed}\n", report_of_it, 1, "--check")
+    nines = "A=" + "9" * 253
+    yield run("the mistake of 253 nines", f"1 {nines}\n", f"HOW?\n1 {nines}?\n", 1, "--check")
+    jumps = ["GOS.9"] * 42
+    lines = range(10, 126)
+    text = "".join(f"{line} {';'.join(jumps)}\n" for line in lines)
+    reports = (
+        f"HOW?\n{line} {';'.join(jumps[:k])}?{''.join(';' + jump for jump in jumps[k:])}\n"
+        for line in lines
+        for k in range(1, len(jumps) + 1)
+    )
+    yield run("4872 jumps to a missing line", text, "".join(reports), 1, "--check --memory 32767")
+    found = "".join(f"{line} GOS.{line + 1}\n" for line in range(1, 3000)) + "3000 R.\n"
+    yield run("2999 calls of the next line", found, "", 0, "--check --memory 32767")
+
+
 def cases():
     """All of them, those that take longest first."""
     parts = [most_steps, deepest, long_lines, long_lists, long_texts, long_statements, expressions]
-    parts += [answers_of_input, too_deep, seeds, many_lines, memories, arguments]
+    parts += [answers_of_input, too_deep, seeds, many_lines, memories, arguments, mistakes]
     return [each for part in parts for each in part()]

@@ -66,14 +66,15 @@ class Command(unittest.TestCase):
     """The command."""
 
     def test_examples(self):
-        """Each example is found to be in Palo Alto Tiny BASIC, and plays as before."""
+        """Each example is found to be in Palo Alto Tiny BASIC, and plays as before. Lines with mistakes are left to a person."""
         examples = sorted(glob.glob(f"{ROOT}/examples/*.bas"))
         self.assertTrue(examples)
         for path in examples:
             base = path[: -len(".bas")]
             named = ("--dialect", "palo-alto") if os.path.basename(base) in IN_ANY_DIALECT else ()
             status, program, report = adapt(contents(path), *named)
-            self.assertEqual((status, report.split("\n")[0]), (0, f"adapt: changed: {PALO_ALTO}"), path)
+            due = 1 if os.path.exists(f"{base}.check") else 0
+            self.assertEqual((status, report.split("\n")[0]), (due, f"adapt: changed: {PALO_ALTO}"), path)
             answers = contents(f"{base}.answers").strip() if os.path.exists(f"{base}.answers") else "none"
             limits = ["--steps", "1000000", "--memory", "32767", "--answers", answers]
             self.assertEqual(play(program, limits, contents(f"{base}.input"))[1], contents(f"{base}.transcript"), path)

@@ -8,7 +8,7 @@ ROOT = os.path.dirname(os.path.dirname(os.path.dirname(os.path.realpath(__file__
 ADAPT = f"{ROOT}/tools/adapt"
 PTB = os.environ.get("PTB") or f"{ROOT}/ptb"
 # How an adapted program is checked without running it: arguments of ptb that must succeed.
-CHECKS = [["--list"]]
+CHECKS = [["--list"], ["--check"]]
 
 
 def adapt(listing, *arguments):

@@ -17,6 +17,8 @@ TESTS = [
     ("ptb_numbers_tests", "fractions::refused_fractions", set()),
     ("ptb_machine_tests", "commands::first_registers", set()),
     ("ptb_machine_tests", "commands::copied_registers", set()),
+    ("ptb_machine_tests", "program_codes::next_code_of_a_program", set()),
+    ("ptb_machine_tests", "players::refused_players", set()),
     ("ptb_tests", "copies::refused_copies", set()),
     ("ptb_tests", "copies::refused_behind_a_run", set()),
     ("ptb_tests", "copies::refused_shares", set()),

@@ -55,6 +55,11 @@ ECHOES = [report(f"{k} END 2 16", f"A:RND(2)\n     {k}\n") for k in (1, 2)]
 ASK = "10 INPUT A\n"
 EDITED = "10 P.1\n20 P.2\n010\tP.3\r\n20"
 FAULT = "10 PRINT 1;A=1/0\n"
+# lines with mistakes, in two reports and in many
+TYPOS = "20 GOTO 30\n10 PRINT )\n"
+MISTAKES = "WHAT?\n10 PRINT ?)\nHOW?\n20 GOTO 30?\n"
+MANY_TYPOS = "".join(f"{k} @(\n" for k in range(1, 50))
+MANY_MISTAKES = "".join(f"WHAT?\n{k} @(?\n" for k in range(1, 50))
 # what takes room again and again: answers and a transcript, and the lines of a program
 LONG_RUN = "10 F.I=1TO300;P.RND(1);N.I\n"
 LONG_REPORT = report(",".join(["1"] * 300) + " END 601 2100", 300 * "     1\n")
@@ -97,6 +102,11 @@ ROWS = [
     Row("--list", EDITED, None, served("10 P.3\n")),
     Row("--all --form 1", LONG_RUN, "", served(LONG_REPORT)),
     Row("--list", LONG_TEXT, None, served(LONG_TEXT)),
+    Row("--check", TYPOS, "", served(MISTAKES, status=1)),
+    Row("--check", TYPOS, None, served(MISTAKES, status=1)),
+    Row("--check", MANY_TYPOS, None, served(MANY_MISTAKES, status=1)),
+    Row("--check", EDITED, "", served("")),
+    Row("--check --all", TYPOS, None, noted(64, "--check stands alone")),
     Row("", FAULT, None, served("     1\nHOW?\n10 PRINT 1;A=1/0?\n", status=2)),
     Row("", "32768 P.1\n", None, noted(65, "line 1: number too big")),
     Row("--all --after 2", BRANCH, None, noted(67, "not a run", "--after: item 2 is missing; its question allows 1 to 3")),

@@ -5,6 +5,7 @@ tests/stress/language.py makes of the same programs.
 """
 
 import math
+import re
 from dataclasses import dataclass, replace
 from itertools import islice
 
@@ -27,10 +28,12 @@ FAR_LIMIT = 1_000_000
 ODD_WORDS = [
     *["", "0", "1", "-1", "+1", "01", "1,2", "1,,2", "none", "32768", "1000000001", "1e3"],
     *["x", "5 ", "\t", "١", b"\xff"],
-    *["--steps", "--memory", "--choose", "--choose=0", "--choose=2", "--answers", "--after", "--under", "--first", "--all", "--shares", "--sample", "--seed", "--list", "--lists", "-a", "-h", "--", "-"],
+    *["--steps", "--memory", "--choose", "--choose=0", "--choose=2", "--answers", "--after", "--under", "--first", "--all", "--shares", "--sample", "--seed", "--list", "--check", "--lists", "-a", "-h", "--", "-"],
     *["--steps=7", "--memory=64", "--after=none", "--under=none", "--under=1", "--first=2", "--shares=2", "--sample=2", "--seed=7", "--form", "--form=1", "--form=3", "1/2", "no such file", "."],
 ]
 FAULTS = {"WHAT": b"WHAT?", "HOW": b"HOW?", "SORRY": b"SORRY"}
+# A report of a fault whose mark is after RETURN, or after NEXT and a letter.
+WITHOUT_PARTNER = re.compile(rb"(?:RETURN|RE?T?U?R?N?\.|NEXT *[A-Z]|NE?X?T?\. *[A-Z]) *\?[^\n]*\n\Z")
 
 
 @dataclass(frozen=True)
@@ -129,6 +132,10 @@ class Trial:
         """A listing of the program's text."""
         return self.call([("list", "")], **files)
 
+    def mistakes(self, **files):
+        """The mistakes in the program's text."""
+        return self.call([("check", "")], **files)
+
 
 def check(trial, write):
     """Checks a case; `write` makes a file of its folder."""
@@ -149,6 +156,7 @@ def check(trial, write):
     check_sample(trial)
     check_meaning(trial, setting_of(trial.case, program), reports)
     check_lists(trial, setting_of(trial.case, program), reports)
+    check_mistakes(trial, reports, listing)
     for report in reports:
         check_plain(trial, report, listing)
     for report in trial.chance.sample(reports, min(RUNS_LOOKED_AT, len(reports))):
@@ -190,7 +198,7 @@ def check_text(trial, write):
 
 def check_refused(trial, call, refusal):
     """A text that is refused by this call is refused whatever is asked for, in the same words."""
-    for other in (trial.plain([]), trial.runs(), trial.text(program=None, stdin=PROGRAM)):
+    for other in (trial.plain([]), trial.runs(), trial.mistakes(), trial.text(program=None, stdin=PROGRAM)):
         reply = trial.ask(other)
         trial.hold("refused in the same words", reply == refusal, (call, refusal), (other, reply))
 
@@ -451,6 +459,26 @@ def check_sample(trial):
         trial.expect("a plain run of a sampled report", trial.plain(report.answers), *due_of(report))
 
 
+def check_mistakes(trial, reports, listing):
+    """Each mistake shows a statement of the listing, in rising order, and the status says whether there are any.
+
+    A run that ends with WHAT has one of them, unless it is at a RETURN or a NEXT without its partner.
+    """
+    call = trial.mistakes()
+    reply = trial.same("the mistakes of the listed text", call, trial.mistakes(program="listed.bas"))
+    lines = reply.output.split(b"\n")[:-1]
+    found = list(zip(lines[::2], lines[1::2]))
+    trial.hold("status 1 with mistakes, and 0 without", reply.status == (1 if found else 0), (call, reply))
+    is_shown = len(lines) % 2 == 0 and all(word in FAULTS.values() and is_marked(line, listing) for word, line in found)
+    trial.hold("a mistake shows its statement", is_shown, (call, reply))
+    numbers = [int(line.split(b" ")[0]) for _, line in found]
+    trial.hold("mistakes are in the order of their lines", numbers == sorted(numbers), (call, reply))
+    for report in reports:
+        if report.ending == "WHAT" and not WITHOUT_PARTNER.search(report.transcript):
+            is_found = tuple(report.transcript.split(b"\n")[-3:-1]) in found
+            trial.hold("WHAT? of a run is a mistake", is_found, (call, reply), (trial.plain(report.answers), "the run"))
+
+
 def due_of(report):
     """The status and the bytes of a plain run with a report's answers."""
     return calls.ENDINGS[report.ending], report.transcript
@@ -458,9 +486,14 @@ def due_of(report):
 
 def is_fault_told(report, listing):
     """Whether the transcript ends with a line of the fault's word and a line of the listing with a `?` put in."""
-    *_, word, marked, rest = [b"", b"", *report.transcript.split(b"\n")]
-    unmarked = {marked[:k] + marked[k + 1 :] for k in range(len(marked)) if marked[k : k + 1] == b"?"}
-    return word == FAULTS[report.ending] and rest == b"" and not unmarked.isdisjoint(listing.split(b"\n")[:-1])
+    *_, word, line, rest = [b"", b"", *report.transcript.split(b"\n")]
+    return word == FAULTS[report.ending] and rest == b"" and is_marked(line, listing)
+
+
+def is_marked(line, listing):
+    """Whether it is a line of the listing with a `?` put in."""
+    unmarked = {line[:k] + line[k + 1 :] for k in range(len(line)) if line[k : k + 1] == b"?"}
+    return not unmarked.isdisjoint(listing.split(b"\n")[:-1])
 
 
 def check_run(trial, report):

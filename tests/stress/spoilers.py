@@ -65,6 +65,10 @@ def in_plain_runs(spoil):
     return spoiled
 
 
+def is_check(call):
+    return "--check" in call.words
+
+
 def with_status(status, of):
     return lambda call, reply: replace(reply, status=status) if of(reply) else reply
 
@@ -96,6 +100,12 @@ SPOILERS = {
         replace(reply, errors=reply.errors.split(b"\n")[0] + b"\n") if reply.status == 67 else reply
     ),
     "writes what it refuses": lambda call, reply: replace(reply, output=b"?") if reply.status == 67 else reply,
+    "leaves out the last mistake": lambda call, reply: (
+        replace(reply, output=b"\n".join(reply.output.split(b"\n")[:-3] + [b""])) if is_check(call) and reply.status == 1 else reply
+    ),
+    "takes a text for one with mistakes": lambda call, reply: (
+        replace(reply, status=1) if is_check(call) and reply.status == 0 else reply
+    ),
     "lists a blank behind each line": lambda call, reply: (
         replace(reply, output=reply.output.replace(b"\n", b" \n")) if "--list" in call.words else reply
     ),
