@@ -1,17 +1,17 @@
 -- This file proves what a part of a command comes to, whether it is done or stops.
-use Rattle.std.proofs.Common.{◌≡◌, ℕ, List, [], ◌∷◌, Result, Ok, Err, ℤ, subst, sym}
-use Rattle.std.specs.Prelude.{IfOk, OnOk}
+use Rattle.std.proofs.Common.{◌≡◌, ℕ, List, ◌∷◌, Result, Ok, Err, ℤ}
+use Rattle.std.specs.Prelude.{IfOk}
 use Rattle.std.specs.Result.{IsErrAnd}
 use Rattle.ptb_expr.specs.Tree.{Tree}
 use Rattle.ptb_command.specs.declared.stop.Stop.{Stop}
-use Rattle.ptb_command.specs.Act.{value_action, padded_decimal, newline, parts_action}
-use Rattle.ptb_command.specs.Commands.{Part, Say, Show, NewLine}
-use Rattle.ptb_command.specs.Actions.{Action, goes_on, show}
+use Rattle.ptb_command.specs.Act.{value_action, padded_decimal, parts_action}
+use Rattle.ptb_command.specs.Commands.{Part, Say, Show}
+use Rattle.ptb_command.specs.Actions.{goes_on, show}
 use Rattle.ptb_command.specs.Devices.{Refusal, nothing_refused}
 use Rattle.ptb_command.specs.Traces.{Trace, with_due, still_due, RefinesPart}
 use Rattle.ptb_command.specs.Stops.{Comes}
 use Rattle.ptb_command.proofs.Actions.{stops_unrefused}
-use Rattle.ptb_command.proofs.Parts.{say_refines_part, say_stops, show_refines_part, show_stops, newline_refines_part, newline_stops, refines_part_part, stops_part, refines_part_parts, stops_parts, refines_part_end}
+use Rattle.ptb_command.proofs.Parts.{say_refines_part, say_stops, show_refines_part, show_stops, refines_part_part, stops_part}
 
 -- what holds, holds where something is done
 pub if_ok_always : {X E : Type 0} (P : Type 0) (r : Result X E) → P → IfOk r (λ x. P)

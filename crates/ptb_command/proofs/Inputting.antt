@@ -1,7 +1,7 @@
 -- This file proves what an item of INPUT comes to, step by step.
 use Rattle.std.proofs.Common.{◌≡◌, ◌≤◌, ◌+◌, ℕ, Bool, true, List, [], ◌∷◌, ◌++◌, Option, Some, None, Result, Ok, Err, ℤ, pos, refl, sym, ap, subst, ◌∙◌, append_assoc, append-nil, arith, inl, inr, Bor}
 use Rattle.std.proofs.lemmas.Int.{ints}
-use Rattle.std.specs.Prelude.{IfOk, if◌then◌else◌, int_le, ◌≤ℤ◌}
+use Rattle.std.specs.Prelude.{if◌then◌else◌, int_le, ◌≤ℤ◌}
 use Rattle.std.specs.Fmt.{signed_decimal}
 use Rattle.ptb_expr.specs.declared.fault.FaultKind.TheVariants.{How}
 use Rattle.std.proofs.Math.Path.{fun_ext}
@@ -13,7 +13,7 @@ use Rattle.ptb_expr.specs.declared.store.Target.{Target}
 use Rattle.ptb_answers.specs.Choices.{Choices}
 use Rattle.ptb_expr.specs.Evaluate.{WorkComes}
 use Rattle.ptb_answers.specs.Outcome.{Answers, Outcome, Done, Asks, Out, go_on, map_outcome, failure, answer}
-use Rattle.ptb_expr.specs.Reading.{item_of, expression, variable_tree}
+use Rattle.ptb_expr.specs.Reading.{item_of, expression}
 use Rattle.ptb_expr.specs.Store.{Cells}
 use Rattle.ptb_expr.specs.Tree.{Tree}
 use Rattle.ptb_expr.specs.Value.{Work, fault, random_number, chosen, value}
@@ -24,12 +24,11 @@ use Rattle.ptb_command.specs.declared.stop.DeviceError.{DeviceError}
 use Rattle.ptb_command.specs.declared.stop.DeviceError.TheVariants as errors
 use Rattle.ptb_command.specs.declared.stop.Stop.{Stop}
 use Rattle.ptb_command.specs.declared.stop.Stop.TheVariants as stops
-use Rattle.ptb_command.specs.Commands.{Part, Take, input_item}
+use Rattle.ptb_command.specs.Commands.{Part, Take}
 use Rattle.ptb_command.specs.State.{State}
 use Rattle.ptb_command.specs.Actions.{Ends, Progress, Goes, Halts, Action, on_progress, and_then, goes_on, halt, show, attempt, or_halt, work_action}
 use Rattle.ptb_command.specs.Act.{newline, word_of, target_action, store, take_line, ask_for, store_or_again, answer_instead, without_line, input_action, parts_action}
 use Rattle.ptb_command.specs.Act.{item_action}
-use Rattle.ptb_command.specs.Reads.{IsRead}
 use Rattle.ptb_command.specs.Effects.{action_state}
 use Rattle.ptb_devices.specs.Sources.{given_lines}
 use Rattle.ptb_command.specs.Devices.{Devices, Exchanges, no_exchange, with_choices, Refusal, Unanswered, Unread, NoLine, refused_answers, refused_by, HasBroken}

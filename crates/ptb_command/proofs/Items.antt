@@ -1,12 +1,11 @@
 -- This file proves what the items of PRINT are, by what stands there.
-use Rattle.std.proofs.Common.{◌≡◌, ℕ, Bool, true, false, List, [], ◌∷◌, Option, Some, None, refl, ap, ◌∙◌}
-use Rattle.ptb_words.specs.Words.{token_at, NoQuote, OpenQuote, QuotedText}
-use Rattle.ptb_expr.specs.declared.fault.FaultKind.TheVariants.{What}
+use Rattle.std.proofs.Common.{◌≡◌, ℕ, Bool, true, false, List, [], ◌∷◌, Some, None, refl, ap, ◌∙◌}
+use Rattle.ptb_words.specs.Words.{token_at, NoQuote, QuotedText}
 use Rattle.ptb_expr.specs.Tree.{Tree}
 use Rattle.ptb_expr.specs.Reading.{Reading, Whole, Malformed, item_of, after, map_reading, expression}
 use Rattle.ptb_expr.specs.Evaluate.{IsWhole}
 use Rattle.ptb_command.specs.Items.{Last, Onward, in_front, with_others, items}
-use Rattle.ptb_command.specs.Commands.{Part, Say, Width, Show, NewLine, Defect, at_end, end_check, string_at, string_or_value, width_or, print_item, next_item, after_item, item_round, print_parts_if, print_parts}
+use Rattle.ptb_command.specs.Commands.{Part, Say, Width, Show, NewLine, at_end, end_check, string_at, string_or_value, width_or, print_item, next_item, after_item, item_round, print_parts_if, print_parts}
 use Rattle.ptb_command.proofs.Going.{item_in_front}
 
 -- ---- an item

@@ -53,3 +53,4 @@ pub mod PrintTranslation
 pub mod InputTranslation
 pub mod Answering
 pub mod ShownParts
+pub mod Shortly

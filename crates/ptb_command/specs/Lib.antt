@@ -25,3 +25,5 @@ pub mod Translation
 pub mod Plain
 pub mod ProgramCode
 pub mod Literals
+pub mod Entries
+pub mod ShortForms

@@ -16,3 +16,4 @@ pub mod Compiling
 pub mod Runs
 pub mod Coded
 pub mod Translating
+pub mod ShortForms

@@ -14,3 +14,4 @@ pub use Rattle.ptb_words.specs.Words
 pub use Rattle.ptb_words.specs.Finding
 pub mod Stepping
 pub mod Translation
+pub mod Short

@@ -5,8 +5,9 @@
 //! `evaluate` and `target`: whoever answers, their result is the one that `specs/Value` gives the tree
 //! that `specs/Spells` reads at the cursor, a value, a fault with its mark or a question. What is
 //! evaluated often is read once, by `read_value` and `read_variable`; `run_steps` runs the steps, and
-//! `plain_value` runs those that ask nothing and have a value. The crate passes on what `ptb_answers`
-//! has: the choosers, the rules of a run, and the forms of lists of answers.
+//! `plain_value` runs those that ask nothing and have a value. A `ShortValue` has the value of a few
+//! steps without a loop over them. The crate passes on what `ptb_answers` has: the choosers, the rules
+//! of a run, and the forms of lists of answers.
 #![tactic(auto)]
 
 mod eval;
@@ -16,6 +17,7 @@ mod operator;
 mod plain;
 mod reader;
 mod running;
+mod short;
 mod step;
 mod store;
 mod translation;
@@ -28,6 +30,7 @@ pub use operator::Operator;
 pub use plain::{plain_value, plain_value_of_one, plain_value_of_two};
 pub use ptb_answers::{Chooser, Form, Listed, Marked, Pause, Rules, Seeded};
 pub use running::{answer_to, run_steps};
+pub use short::ShortValue;
 pub use step::{Step, Steps};
 pub use store::{Store, Target};
 pub use translation::{VariableRead, read_value, read_variable};

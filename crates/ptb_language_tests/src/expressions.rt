@@ -5,8 +5,8 @@ ghost use Rattle.ptb_words.specs.Words.{is_letter};
 
 use crate::shared::{cursor_in_front, expect_same};
 use ptb_expr::{
-    Chooser, Fault, FaultKind, Listed, Pause, Seeded, Steps, Stop, Store, Target, answer_to,
-    evaluate, plain_value, read_value, target,
+    Chooser, Fault, FaultKind, Listed, Operator, Pause, Seeded, ShortValue, Step, Steps, Stop,
+    Store, Target, answer_to, evaluate, plain_value, read_value, target,
 };
 use ptb_words::{Cursor, Letter};
 use rand_core::utils::NextWord;
@@ -659,4 +659,122 @@ fn not_plain(rt: HostRuntime) {
         let (_, found) = plainly(&rt, &store, text.as_bytes());
         expect_same(&rt, text, found, None);
     }
+}
+
+// The value of the expression at the front of a text by its short form. `None` if it asks, and
+// `Some(None)` if it has no short form or no value.
+fn shortly(rt: &impl Abort, store: &Store, text: &[u8]) -> Option<Option<i16>> {
+    assert!(rt; text.len() <= 254);
+    let mut cursor = Cursor::new(text, 0);
+    let mut steps = Steps::new();
+    read_value(&mut cursor, &mut steps);
+    let short = ShortValue::of(steps.as_slice())?;
+    Some(short.value(store))
+}
+
+// A text of an expression that has a short form, and its value.
+const SHORT_VALUES: &[(&str, i16)] = &[
+    ("7", 7),
+    ("A", 5),
+    ("A+1", 6),
+    ("A-1", 4),
+    ("B-32761", -32768),
+    ("A+32762", 32767),
+    ("A*3", 15),
+    ("J/7", 14),
+    ("B/2", -3),
+    ("A>=5", 1),
+    ("A>=6", 0),
+    ("A#5", 0),
+    ("A#6", 1),
+    ("A>4", 1),
+    ("A>5", 0),
+    ("A>32767", 0),
+    ("A=5", 1),
+    ("A=6", 0),
+    ("A<=5", 1),
+    ("A<=4", 0),
+    ("A<6", 1),
+    ("A<5", 0),
+    ("A+B", -2),
+    ("A-B", 12),
+    ("B*A", -35),
+    ("J/A", 20),
+    ("B<A", 1),
+    ("@(I)", 9),
+    ("@(I)+1", 10),
+    ("@(I)-10", -1),
+    ("@(I)/2", 4),
+    ("@(I)<9", 0),
+];
+
+#[test]
+fn short_values(rt: HostRuntime) {
+    let store = lettered_store(&rt, rt.alloc());
+    for &(text, value) in SHORT_VALUES {
+        let found = shortly(&rt, &store, text.as_bytes());
+        expect_same(&rt, text, found, Some(Some(value)));
+        expect_worth(&rt, &store, text, &[], Ok((value, text.len())), 0);
+    }
+}
+
+// Texts of expressions that ask nothing and have no short form, or no value.
+const NOT_SHORT: &[&str] = &[
+    "S.",
+    "-A",
+    "-1",
+    "2+3",
+    "A+B+I",
+    "A+1+1",
+    "@(2)",
+    "@(I+1)",
+    "@(I)+A",
+    "@(I)*@(I)",
+    "A+32763",
+    "B-32762",
+    "B*32767",
+    "A/0",
+    "@(A)",
+    "@(B)",
+    "@(I)*32767",
+    "@(I)/0",
+    "",
+    "A+",
+    "@A",
+    "32768",
+];
+
+// Texts of expressions that ask.
+const ASKING: &[&str] = &[
+    "R.(2)",
+    "R.(A)",
+    "A+R.(2)",
+    "R.(A)+1",
+    "@(R.(2))",
+    "S.*A-R.(I)",
+];
+
+#[test]
+fn not_short(rt: HostRuntime) {
+    let store = lettered_store(&rt, rt.alloc());
+    for &text in NOT_SHORT {
+        let found = shortly(&rt, &store, text.as_bytes());
+        expect_same(&rt, text, found, Some(None));
+    }
+    for &text in ASKING {
+        let found = shortly(&rt, &store, text.as_bytes());
+        expect_same(&rt, text, found, None);
+    }
+}
+
+// The least number has no opposite, so that no sum has the value of this difference.
+#[test]
+fn short_difference_with_the_least_number(rt: HostRuntime) {
+    let store = lettered_store(&rt, rt.alloc());
+    let steps = [
+        Step::Variable(letter(b'B')),
+        Step::ApplyNumber(Operator::Minus, i16::MIN, 2),
+    ];
+    let found = ShortValue::of(&steps).map(|short| short.value(&store));
+    expect_same(&rt, "B-(-32768)", found, Some(Some(32761)));
 }

@@ -3,7 +3,7 @@
 use crate::shared::expect_same;
 use ptb_text::{
     ByteSink, ByteSource, Device, DeviceFault, LoadFault, Program, Read, Write, WriteFault, list,
-    load,
+    load, split_line,
 };
 use std::alloc::{AllocError, Global};
 use std::collections::BTreeMap;
@@ -574,6 +574,31 @@ fn entered_lines_are_those_of_a_map(rt: HostRuntime) {
         expect_same(&rt, "a line", found, (count, Ok(Ok(())), true));
     }
     expect_same(&rt, "many lines", program.len() > 50, true);
+}
+
+// Texts, the first line of each, and the text after it.
+const FIRST_LINES: &[(&[u8], &[u8], &[u8])] = &[
+    (b"A\nB", b"A", b"B"),
+    (b"A\r\n", b"A", b""),
+    (b"A\r\r\nB\n", b"A\r", b"B\n"),
+    (b"\n\n", b"", b"\n"),
+    (b"\r", b"", b""),
+    (b"A\rB\r", b"A\rB", b""),
+];
+
+// The first line of a text that isn't empty.
+fn first_line(text: &[u8]) -> Option<(&[u8], &[u8])> {
+    if text.is_empty() {
+        return None;
+    }
+    Some(split_line(text))
+}
+
+#[test]
+fn lines_are_split_off(rt: HostRuntime) {
+    for &(text, line, after) in FIRST_LINES {
+        expect_same(&rt, "line", first_line(text), Some((line, after)));
+    }
 }
 
 const FAULTS: &[(LoadFault, &str)] = &[

@@ -2,6 +2,7 @@
 pub mod Beginning
 pub mod Budgets
 pub mod Endings
+mod Ends
 pub mod EndSpends
 pub mod Lawful
 pub mod PartsSpend

@@ -1,7 +1,5 @@
 -- This file proves which results a step can have.
 use Rattle.std.proofs.Common.{◌≡◌, ◌↔◌, ◌∙◌, ℕ, Bool, true, false, List, Option, Some, None, Result, Ok, Err, is_err, inl, inr, refl, sym, ap, subst}
-use Rattle.std.specs.Result.{IsErrAnd}
-use Rattle.std.proofs.lemmas.Result.{err_from_is_err_and}
 use Rattle.ptb_expr.specs.declared.fault.Fault.{Fault}
 use Rattle.ptb_expr.specs.declared.fault.FaultKind.{FaultKind}
 use Rattle.ptb_expr.specs.declared.fault.FaultKind.TheVariants as kinds
@@ -22,7 +20,6 @@ use Rattle.ptb_command.specs.Traces.{Trace}
 use Rattle.ptb_command.specs.Reports.{IsShown}
 use Rattle.ptb_command.specs.Stops.{UnlessStopMissed, UnlessMissed}
 use Rattle.ptb_machine.specs.Steps.{fault_of, reported, IsResultOf, UnlessEndingMissed, UnlessFaultMissed, UnlessStepMissed}
-use Rattle.ptb_machine.specs.Runs.{UnlessRunMissed}
 
 -- nothing is shown where it was done, or stopped by s
 pub result_done : (o : Trace) (number : ℕ) (text : List ℕ) (done : Result (Unit {0}) Stop) (x : Unit {0}) → done ≡ Ok x → IsResultOf o o number text done (Ok None)
@@ -136,11 +133,6 @@ result_missed refused P o n number text done r is h = by_result done is h
     by_result (Err (stops.Broke x)) is h = is_so _ is.is (error_missed refused P x h)
 
 -- at the exits of a run
-pub run_missed_err : (refused : ReadFault → Type 0) (P : Type 0) (r : Result Ending RunFault) (e : RunFault) → IsErrAnd r (λ y. y ≡ e) → UnlessFaultMissed refused P e → UnlessRunMissed refused P r
-run_missed_err refused P r e k h =
-    let q = err_from_is_err_and r k in
-    subst (λ (x : Result Ending RunFault). UnlessRunMissed refused P x) (sym (q.1 ∙ ap Err q.2)) h
-
 pub fault_missed_from : (refused : ReadFault → Type 0) (P Q : Type 0) → (P → Q) → (e : RunFault) → UnlessFaultMissed refused P e → UnlessFaultMissed refused Q e
 fault_missed_from refused P Q follows faults.Memory h = elim h [ inl p ↦ inl (follows p) | inr r ↦ inr r ]
 fault_missed_from refused P Q follows faults.Read h = tt

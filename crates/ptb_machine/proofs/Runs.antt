@@ -1,10 +1,8 @@
 -- This file proves what a run comes to: its steps, one after the other.
-use Rattle.std.proofs.Common.{◌≡◌, inl, inr, ℕ, zero, suc, ◌+◌, ◌-◌, ◌<◌, ◌≤◌, length, Bool, true, false, List, [], ◌++◌, Option, Some, None, IfSome, Result, Ok, Err, ℤ, pos, ◌≤ℤ◌, refl, sym, ap, subst, ◌∙◌, append-nil, append_assoc, arith}
-use Rattle.std.specs.Result.{IsErrAnd}
+use Rattle.std.proofs.Common.{◌≡◌, inr, ℕ, zero, suc, ◌+◌, ◌-◌, ◌<◌, ◌≤◌, length, Bool, true, false, List, [], ◌++◌, Option, Some, None, IfSome, Result, Ok, Err, ℤ, pos, ◌≤ℤ◌, refl, sym, ap, subst, ◌∙◌, append-nil, append_assoc, arith}
 use Rattle.std.proofs.Math.Path.{fun_ext}
 use Rattle.std.proofs.lemmas.Bool.{false≢true}
 use Rattle.std.proofs.lemmas.List.{append_cancel_left}
-use Rattle.std.proofs.lemmas.Result.{err_from_is_err_and}
 use Rattle.ptb_text.specs.Statements.{StoredProgram}
 use Rattle.ptb_answers.specs.declared.pause.Pause.{Pause}
 use Rattle.ptb_answers.specs.declared.pause.Pause.TheVariants as pauses
@@ -16,18 +14,18 @@ use Rattle.ptb_machine.specs.declared.fault.RunFault.{RunFault}
 use Rattle.ptb_machine.specs.declared.fault.RunFault.TheVariants as faults
 use Rattle.ptb_command.specs.declared.stop.DeviceError.{DeviceError}
 use Rattle.ptb_command.specs.declared.stop.DeviceError.TheVariants as errors
-use Rattle.ptb_command.specs.State.{State, first_state}
+use Rattle.ptb_command.specs.State.{Place, State, first_state}
 use Rattle.ptb_command.specs.Act.{StepResult, Next, Over}
-use Rattle.ptb_machine.specs.Play.{Last, last_in, after_turn, turn, all_turns, last_state, unasked_lines, Finish, finish_of, turns, play}
+use Rattle.ptb_machine.specs.Play.{Last, last_in, after_turn, turn, all_turns, last_state, unasked_lines, next_number, Finish, finish_of, turns, play}
 use Rattle.ptb_command.specs.Effects.{act_state, Begins, TakesLines}
 use Rattle.ptb_command.specs.Devices.{ScreenState, Devices, with_screen, Shows, Exchange, no_exchange, both_exchanges, Exchanges, MayFollow, Refusal, nothing_refused}
 use Rattle.ptb_command.specs.Traces.{Leaves}
 use Rattle.ptb_command.specs.Stops.{LacksLine, Waits, IsDry, Breaks}
 use Rattle.ptb_answers.specs.declared.rules.Rules.{Rules}
 use Rattle.ptb_command.specs.Configuration.{Configuration}
-use Rattle.ptb_command.specs.Representation.{Represents}
+use Rattle.ptb_command.specs.Representation.{PlacesAre, Represents}
 use Rattle.ptb_machine.specs.Steps.{StepsTo, goes, ends, StepComes, Steps, QuietTurns}
-use Rattle.ptb_machine.specs.Runs.{played_bytes, Plays, refused_answers, IsFinished, IsUnanswered, IsUnfinished, LacksInput, RunComes, Runs}
+use Rattle.ptb_machine.specs.Runs.{played_bytes, Plays, refused_answers, IsFinished, IsUnanswered, IsUnfinished, LacksInput, RunComes, Runs, StopsAt}
 use Rattle.ptb_command.proofs.Effects.{begins_joined, takes_joined}
 use Rattle.ptb_command.proofs.Exchanges.{shows_then, exchanges_none, exchanges_then, no_lines, has_broken_from}
 use Rattle.ptb_command.proofs.PartRefinement.{leaves_itself, leaves_then, leaves_to, leaves_under, leaves_at}
@@ -355,6 +353,20 @@ module _ (refused : Refusal → Type 0) (p : StoredProgram) (rules : Rules) (m n
   pub run_over : (ending : Ending) → Steps refused p rules.limit m n (record d { given = [] }) e (Ok (Some ending)) → Runs refused p rules o (onto d e) (Ok ending)
   run_over ending s rest f = comes_ended rest f ending (s (b rest f).leads.state rest (b rest f).leads.represents (chosen (b rest f)) f (b rest f).leads.lines)
 
+  -- at its limit, where this is the line of the machine's next command
+  pub run_stops : (line : Option ℕ) → ((q : Option Place) → PlacesAre p.lines q n.place → line ≡ next_number p.lines q)
+      → Steps refused p rules.limit m n (record d { given = [] }) e (Ok (Some endings.Limit))
+      → (rest : List (List ℕ)) → MayFollow e rest → StopsAt p rules ((d.given ++ e.given) ++ rest) o (onto d e) line
+  run_stops line is s rest f =
+      let b = before ((d.given ++ e.given) ++ rest) rest f refl in
+      let x = run_then p rules m n o d e ((d.given ++ e.given) ++ rest) (e.given ++ rest) rest (ends endings.Limit) b (s b.leads.state rest b.leads.represents (chosen b) f b.leads.lines) in
+      record {
+        exchange = x.exchange;
+        left = playing (then_turns p rules.limit (ends endings.Limit)) x.leads.state;
+        plays = plays_to p rules n o (onto d e) ((d.given ++ e.given) ++ rest) rest (then_turns p rules.limit (ends endings.Limit)) x;
+        stops = λ a. is x.leads.state.place x.leads.represents.place ∙ sym (ap (λ u. next_number p.lines (last_state u).place) (leaves_at x.leads.leaves a));
+      }
+
   pub run_breaks : (fault : RunFault) → (fault ≡ faults.Spent → ⊥) → Steps refused p rules.limit m n (record d { given = [] }) e (Err fault) → Runs refused p rules o (onto d e) (Err fault)
   run_breaks fault fresh s rest f = comes_broken rest f fault fresh (s (b rest f).leads.state rest (b rest f).leads.represents (chosen (b rest f)) f (b rest f).leads.lines)
 
@@ -373,16 +385,6 @@ run_advanced p q rules n old new o d chosen program h turns =
     subst (λ (s : StoredProgram). HasRun s rules new o d) (sym program) (run_quietly p rules n old new o d chosen h turns)
 
 -- ---- at the exits of the loop
-
-pub runs_nothing : (refused : Refusal → Type 0) (p : StoredProgram) (rules : Rules) (o : Devices) (r : Result Ending RunFault) → IsErrAnd r (λ y. y ≡ faults.Memory) → Runs refused p rules o o r
-runs_nothing refused p rules o r k =
-    let q = err_from_is_err_and r k in
-    subst (λ (x : Result Ending RunFault). Runs refused p rules o o x) (sym (q.1 ∙ ap Err q.2)) (λ rest _. inl refl)
-
-pub runs_err : (refused : Refusal → Type 0) (p : StoredProgram) (rules : Rules) (o n : Devices) (r : Result Ending RunFault) (e : RunFault) → IsErrAnd r (λ y. y ≡ e) → Runs refused p rules o n (Err e) → Runs refused p rules o n r
-runs_err refused p rules o n r e k h =
-    let q = err_from_is_err_and r k in
-    subst (λ (x : Result Ending RunFault). Runs refused p rules o n x) (sym (q.1 ∙ ap Err q.2)) h
 
 pub steps_at : (refused : Refusal → Type 0) (p : StoredProgram) (rules : Rules) (m n : Configuration) (o d : Devices) (x y : Option Ending) → x ≡ y → Steps refused p rules.limit m n o d (Ok x) → Steps refused p rules.limit m n o d (Ok y)
 steps_at refused p rules m n o d x y e s = subst (λ (z : Option Ending). Steps refused p rules.limit m n o d (Ok z)) e s

@@ -8,7 +8,10 @@
 --     refused_answers z later         the answer that is refused as out of range, if one is, and later ones
 --     LacksInput ..                   without a line the run ends, or asks for an answer
 --     UnlessRunMissed refused P r     P holds, unless a line was wanted and the source gave none
-use Rattle.std.specs.Prelude.{◌≡◌, ◌⊎◌, ℕ, ◌≤◌, List, [], ◌∷◌, ◌++◌, Result, Ok, Err, ℤ, Option, Some, None}
+--     ending_alone r                  the result of a run, without the line of its end
+--     IsLineOf p rules o n end        that line is the one at which the limit stopped the run
+--     IsRunToEnd .. p rules o n r     a run whose result has that line
+use Rattle.std.specs.Prelude.{◌≡◌, ◌⊎◌, ℕ, ◌≤◌, List, [], ◌∷◌, ◌++◌, Result, Ok, Err, IfOk, ℤ, Option, Some, None}
 use Rattle.ptb_text.specs.Statements.{StoredProgram}
 use Rattle.ptb_answers.specs.declared.pause.Pause.{Pause}
 use Rattle.ptb_answers.specs.declared.pause.Pause.TheVariants as pauses
@@ -18,13 +21,14 @@ use Rattle.ptb_command.specs.declared.ending.Ending.{Ending}
 use Rattle.ptb_command.specs.declared.ending.Ending.TheVariants as endings
 use Rattle.ptb_machine.specs.declared.fault.RunFault.{RunFault}
 use Rattle.ptb_machine.specs.declared.fault.RunFault.TheVariants as faults
+use Rattle.ptb_machine.specs.declared.run_end.RunEnd.{RunEnd}
 use Rattle.ptb_command.specs.declared.stop.DeviceError.{DeviceError}
 use Rattle.ptb_command.specs.declared.stop.DeviceError.TheVariants as errors
 use Rattle.ptb_answers.specs.declared.chooser.Chooser as choosers
 use Rattle.ptb_answers.specs.declared.rules.Rules.{Rules}
 use Rattle.ptb_devices.specs.declared.lines.LineSource as sources
 use Rattle.ptb_devices.specs.declared.screen.Screen as screens
-use Rattle.ptb_machine.specs.Play.{Finish, play, unasked_lines}
+use Rattle.ptb_machine.specs.Play.{Finish, play, stopping_line, unasked_lines}
 use Rattle.ptb_command.specs.Effects.{Begins}
 use Rattle.ptb_command.specs.Devices.{Devices, with_failures, Exchange, Exchanges, MayFollow, Refusal, Unanswered, NoLine, HasBroken}
 use Rattle.ptb_command.specs.Traces.{Leaves}
@@ -129,3 +133,25 @@ pub record IsRun {C S L : Type 0} (chooser : choosers.Ghosts C) (screen : screen
       Runs (refusals chooser screen source n) p rules
       (held chooser screen source rules o []) (held chooser screen source rules n given) r
   pub missed : UnlessRunMissed (source.refused n.source) (NoneMissed chooser screen source rules o n) r
+
+-- ---- the line of an end
+
+abbrev pub ending_alone : Result RunEnd RunFault → Result Ending RunFault
+ending_alone (Ok end) = Ok end.ending
+ending_alone (Err fault) = Err fault
+
+-- the run has stopped there, whatever answers follow those that it took
+pub record StopsAt (p : StoredProgram) (rules : Rules) (input : List (List ℕ)) (o n : Devices) (line : Option ℕ) : Type 0 where
+  pub exchange : Exchange
+  pub left : Answers → Outcome Finish (List ℕ)
+  pub plays : Plays p rules input o n exchange left
+  pub stops : (a : Answers) → line ≡ stopping_line p input rules (exchange.answers ++ a)
+
+-- no other ending has a line
+pub record IsLineOf (p : StoredProgram) (rules : Rules) (o n : Devices) (end : RunEnd) : Type 0 where
+  pub at_limit : end.ending ≡ endings.Limit → (rest : List (List ℕ)) → MayFollow n rest → StopsAt p rules (n.given ++ rest) o n end.line
+  pub elsewhere : ¬ (end.ending ≡ endings.Limit) → end.line ≡ None
+
+pub record IsRunToEnd {C S L : Type 0} (chooser : choosers.Ghosts C) (screen : screens.Ghosts S) (source : sources.Ghosts L) (p : StoredProgram) (rules : Rules) (o n : RunDevices C S L) (r : Result RunEnd RunFault) : Type 0 where
+  pub run : IsRun chooser screen source p rules o n (ending_alone r)
+  pub line : IfOk r (IsLineOf p rules (held chooser screen source rules o []) (held chooser screen source rules n run.given))

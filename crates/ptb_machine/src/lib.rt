@@ -4,8 +4,9 @@
 //! `arrayvec`, `itoa` and `thiserror`. The crate above may rely on `Machine::step` (one turn of
 //! `specs/Play`: the state after it, what it shows, the lines and answers it takes), on `Player::step`
 //! (the same by the code of the program, without its text), on `Player::advance` (some turns that touch
-//! no device), on `run` (all turns), on `run_laws` (answers are taken one by one, a limited number of
-//! them), and on the devices of the crate below, which it passes on.
+//! no device), on `run` (all turns), on `run_to_end` (the same, and the line at which a limit
+//! stopped it), on `run_laws` (answers are taken one by one, a limited number of them), and on the
+//! devices of the crate below, which it passes on.
 #![tactic(auto)]
 
 mod fault;
@@ -13,6 +14,7 @@ mod laws;
 mod machine;
 mod player;
 mod reports;
+mod run_end;
 mod running;
 mod stop_result;
 
@@ -27,4 +29,5 @@ pub use ptb_devices::{
     WriterScreen, read_lines,
 };
 pub use reports::report;
-pub use running::run;
+pub use run_end::RunEnd;
+pub use running::{run, run_to_end};

@@ -4,12 +4,13 @@ ghost use Rattle.std.specs.Prelude.{◌≡◌, ℕ, ℤ, List, Option, false, If
 ghost use Rattle.ptb_command.specs.Representation.{Represents};
 ghost use Rattle.ptb_command.specs.State.{first_state};
 ghost use Rattle.ptb_machine.specs.RunDevices.{run_devices};
-ghost use Rattle.ptb_machine.specs.Runs.{IsRun};
+ghost use Rattle.ptb_machine.specs.Runs.{IsRun, IsRunToEnd};
 ghost use Rattle.ptb_machine.specs.Steps.{FitsProgram};
 
 use crate::fault::RunFault;
 use crate::machine::Machine;
 use crate::player::Player;
+use crate::run_end::RunEnd;
 use ptb_answers::{Chooser, Rules};
 use ptb_command::Ending;
 use ptb_devices::{LineSource, Screen};
@@ -33,6 +34,27 @@ pub fn run<C: Chooser, S: Screen, L: LineSource>(
     source: &mut L,
 ) -> Result<Ending, RunFault>
     ensures { IsRun C.Chooser S.Screen L.LineSource program.now rules
+        (run_devices chooser.old screen.old source.old)
+        (run_devices chooser.new screen.new source.new) result }
+{
+    let end = run_to_end(alloc, program, rules, chooser, screen, source)?;
+    Ok(end.ending)
+}
+
+/// Runs a program as [`run`] does, and also gives the line at which a limit stopped it.
+///
+/// # Errors
+///
+/// As [`run`].
+pub fn run_to_end<C: Chooser, S: Screen, L: LineSource>(
+    alloc: Global,
+    program: &Program,
+    rules: Rules,
+    chooser: &mut C,
+    screen: &mut S,
+    source: &mut L,
+) -> Result<RunEnd, RunFault>
+    ensures { IsRunToEnd C.Chooser S.Screen L.LineSource program.now rules
         (run_devices chooser.old screen.old source.old)
         (run_devices chooser.new screen.new source.new) result }
 {
@@ -61,19 +83,19 @@ fn play<C: Chooser, S: Screen, L: LineSource>(
     chooser: &mut C,
     screen: &mut S,
     source: &mut L,
-) -> Result<Ending, RunFault>
+) -> Result<RunEnd, RunFault>
     requires first { (input : List (List ℕ)) (choose : Option ℤ) →
         Represents player.old.lines machine.old (first_state player.old input choose) }
     requires fits { FitsProgram player.old machine.old }
     requires unspent { machine.old.spent ≡ false }
-    ensures { IsRun C.Chooser S.Screen L.LineSource player.old rules
+    ensures { IsRunToEnd C.Chooser S.Screen L.LineSource player.old rules
         (run_devices chooser.old screen.old source.old)
         (run_devices chooser.new screen.new source.new) result }
 {
     'steps: loop {
         player.advance(machine, rules.limit);
         if let Some(ending) = player.step(machine, rules, chooser, screen, source)? {
-            return Ok(ending);
+            return Ok(player.end(machine, ending));
         }
     }
 }

@@ -129,7 +129,7 @@ const RUNS: &[Row] = &[
 fn expect_row(rt: &impl Abort, alloc: Global, row: &Row, guess: usize) -> Result<(), Fail> {
     let &(lines, most, wanted, place, a) = row;
     let program = program_of(alloc, lines)?;
-    let mut code = ProgramCode::new(alloc, &program)?;
+    let code = ProgramCode::new(alloc, &program)?;
     let mut registers = Registers::new(alloc, &program)?;
     let done = code.advance(&program, &mut registers, most, guess).done;
     let at = registers.place.map(|place| (place.statement, place.at));
@@ -164,8 +164,9 @@ fn long_statements(text: &mut Vec<u8>) -> Result<(), Fail> {
     Ok(())
 }
 
-// A PRINT has an entry of 14 bytes, three operations of 8 bytes and a step of 6, thus 44. So the code
-// of all commands would take more than 110 * 63 * 44 = 304,920 bytes.
+// A PRINT has an entry of 24 bytes, three operations of 8 bytes and a step of 6, thus 54. So the code
+// of all commands would take more than 110 * 63 * 54 = 374,220 bytes, and that of the first 80
+// statements less than 80 * 64 * 54 = 276,480.
 fn program_with_much_code(alloc: Global) -> Result<Program, Fail> {
     let mut text = Vec::from_slice(alloc, b"10 B=B+1\n")?;
     long_statements(&mut text)?;
@@ -187,7 +188,7 @@ fn has_code(code: &ProgramCode, program: &Program, statement: usize) -> bool {
 fn commands_without_code(rt: HostRuntime) -> Result<(), Fail> {
     let program = program_with_much_code(rt.alloc())?;
     let code = ProgramCode::new(rt.alloc(), &program)?;
-    let first = (has_code(&code, &program, 0), has_code(&code, &program, 100));
+    let first = (has_code(&code, &program, 0), has_code(&code, &program, 70));
     let last = (
         has_code(&code, &program, 110),
         has_code(&code, &program, 111),

@@ -5,7 +5,9 @@ ghost use Rattle.ptb_machine_tests.specs.Programs.{IsCounting, IsPrinting};
 
 use crate::shared::{expect_same, loaded, plain_rules};
 use ptb_expr::Listed;
-use ptb_machine::{Ending, Lines, Machine, ReaderLines, Rules, RunFault, TextScreen, run};
+use ptb_machine::{
+    Ending, Lines, Machine, ReaderLines, Rules, RunEnd, RunFault, TextScreen, run, run_to_end,
+};
 use ptb_text::{Device, Program};
 use std::alloc::Global;
 use std::process::Abort;
@@ -165,6 +167,47 @@ fn limits_and_answers(rt: HostRuntime) -> Result<(), Fail> {
 fn an_endless_run(rt: HostRuntime) -> Result<(), Fail> {
     let rows: &[(&[u8], Ending, &[u8])] = &[(b"10 GOTO 10", Ending::Limit, b"")];
     expect_runs(&rt, rt.alloc(), 5, rows)
+}
+
+// A text, a limit, how its run ends, and at which line the limit stopped it.
+const STOPS: &[(&[u8], u32, Ending, Option<u16>)] = &[
+    (b"10 GOTO 10", 5, Ending::Limit, Some(10)),
+    (b"10 A=1\n20 A=2\n30 A=3", 0, Ending::Limit, Some(10)),
+    (b"10 A=1\n20 A=2\n30 A=3", 1, Ending::Limit, Some(20)),
+    (b"10 A=1\n20 A=2\n30 A=3", 2, Ending::Limit, Some(30)),
+    (b"10 A=1\n20 A=2\n30 A=3", 3, Ending::End, None),
+    (b"10 A=1;B=2;C=3\n20 D=4", 2, Ending::Limit, Some(10)),
+    (b"10 A=1;B=2;C=3\n20 D=4", 3, Ending::Limit, Some(20)),
+    (b"10 IF 0 A=1;A=2\n20 A=3", 1, Ending::Limit, Some(20)),
+    (b"10 GOS.300;A=2\n300 A=1;R.", 1, Ending::Limit, Some(300)),
+    (b"10 GOS.300;A=2\n300 A=1;R.", 3, Ending::Limit, Some(10)),
+    (b"10 F.I=1TO9\n20 N.I", 6, Ending::Limit, Some(20)),
+    (b"32767 GOTO 32767", 1, Ending::Limit, Some(32767)),
+    (b"10 A=1;STOP", 2, Ending::Stop, None),
+    (b"10 A=1/0", 1, Ending::How, None),
+    (b"10 INPUT A", 1, Ending::NoInput, None),
+    (b"10 A=RND(6)", 1, Ending::NoAnswer, None),
+    (b"", 0, Ending::End, None),
+];
+
+// How a run of a text without input or answers ends, and where.
+fn end_of(alloc: Global, text: &[u8], limit: u32) -> Result<Result<RunEnd, RunFault>, Fail> {
+    let program = loaded(alloc, text)?;
+    let mut list = Listed::new(&[]);
+    let mut screen = TextScreen::new(alloc);
+    let mut input = Lines::new(&[]);
+    let rules = plain_rules(limit);
+    Ok(run_to_end(alloc, &program, rules, &mut list, &mut screen, &mut input))
+}
+
+// Where the limit stops a run: in the statement in which its next command begins.
+#[test]
+fn stops(rt: HostRuntime) -> Result<(), Fail> {
+    for &(text, limit, ending, line) in STOPS {
+        let end = end_of(rt.alloc(), text, limit)?;
+        expect_same(&rt, "the end of a run", end, Ok(RunEnd { ending, line }));
+    }
+    Ok(())
 }
 
 // A run with this input, by these rules and answers, ends so and shows this.

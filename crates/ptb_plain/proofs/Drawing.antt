@@ -1,10 +1,10 @@
 -- This file proves that a chooser by a seed gives the answers that the seed has for a run.
-use Rattle.std.proofs.Common.{◌≡◌, ◌∙◌, ℕ, zero, suc, ◌<◌, List, [], ◌∷◌, ◌++◌, length, refl, sym, ap, arith, subst}
+use Rattle.std.proofs.Common.{◌≡◌, ◌∙◌, ℕ, zero, suc, List, [], ◌∷◌, ◌++◌, refl, sym, ap, arith, subst}
 use Rattle.std.specs.Prelude.{ℤ, Some}
 use Rattle.rand_pcg.specs.Lcg.{Lcg}
 use Rattle.rand_pcg.specs.Pcg.{pcg32}
 use Rattle.ptb_text.specs.Statements.{StoredProgram}
-use Rattle.ptb_answers.specs.Outcome.{Answers, Outcome, Asks}
+use Rattle.ptb_answers.specs.Outcome.{Answers, Outcome}
 use Rattle.ptb_answers.specs.Choices.{Asked, with_answers}
 use Rattle.ptb_answers.specs.Seeds.{SeededAnswers, RefusedForMemory, drawn_answer, drawn_from, generator_of, seeded_choices}
 use Rattle.ptb_answers.specs.Drawn.{answers_by, to_question}

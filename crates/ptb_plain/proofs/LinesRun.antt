@@ -1,5 +1,5 @@
--- This file joins all that is told of a run on the lines of a reader, by whether its source has come to a fault.
-use Rattle.std.proofs.Common.{◌≡◌, ◌≤◌, ◌≤ℤ◌, ◌+◌, ◌⊎◌, inl, inr, Bool, ℕ, ℤ, pos, List, [], ◌++◌, length, Option, Some, None, Result, Err, IfSome, IsErrOf, OnOk, refl, sym, ap, subst, ◌∙◌}
+-- This file joins all that is known of a run on the lines of a reader, by whether its source has come to a fault.
+use Rattle.std.proofs.Common.{◌≡◌, ◌≤◌, ◌+◌, ◌⊎◌, inl, inr, Bool, ℕ, ℤ, List, [], ◌++◌, length, Option, Some, None, Result, Ok, Err, IfOk, IfSome, IsErrOf, OnOk, refl, sym, ap, subst, ◌∙◌}
 use Rattle.std.specs.Borrow.{MutBor}
 use Rattle.std.specs.Io.KnownBytes.{Appends, Consumes}
 use Rattle.ptb_text.specs.Device.{GivesAtMost, GivesExactly, HasFailed}
@@ -21,12 +21,14 @@ use Rattle.ptb_devices.specs.Readers.{GivesFrom, input_of, line_input, line_read
 use Rattle.ptb_devices.specs.Sources.{ConsumesAtMost, NoneLeft}
 use Rattle.ptb_machine.specs.declared.fault.RunFault.{RunFault}
 use Rattle.ptb_machine.specs.declared.fault.RunFault.TheVariants as runs
-use Rattle.ptb_machine.specs.Runs.{Runs, UnlessRunMissed}
+use Rattle.ptb_machine.specs.declared.run_end.RunEnd.{RunEnd}
+use Rattle.ptb_machine.specs.Play.{stopping_line}
+use Rattle.ptb_machine.specs.Runs.{IsLineOf, Runs, UnlessRunMissed}
 use Rattle.ptb_plain.specs.Noted.{noted, noted_result}
-use Rattle.ptb_plain.specs.PlainRuns.{GoesBy, IsUnreadable, PlaysWith, ReadsFor, ReadsLines, WantsMemory, input_limit, lines_taken, lines_wanted, run_fault}
+use Rattle.ptb_plain.specs.PlainRuns.{GoesBy, HasLine, IsUnreadable, PlaysWith, ReadsFor, ReadsLines, WantsMemory, input_limit, lines_taken, lines_wanted, run_fault}
 use Rattle.ptb_plain.specs.Streams.{Reads, Writes, reads_of, writes_of}
-use Rattle.ptb_plain.proofs.Playing.{IsRunBetween, IsUnreadBetween, led_run, led_run_dry, led_run_takes, run_between, state_of, unread_between}
-use Rattle.ptb_plain.proofs.Taking.{begins_input, failed_or_given, fault_missed, fault_unread, fault_without_memory, fresh, given_at_most, is_unreadable, never_unread, noted_read, noted_within, reads_for, reads_unfailed, shows_come, shows_input, stops_input, taken_by, takes_at_most, takes_within, wanted_at_fault, wanted_within, where_err, where_ok}
+use Rattle.ptb_plain.proofs.Playing.{IsRunBetween, IsUnreadBetween, led_line, led_run, led_run_dry, led_run_takes, run_between, state_of, unread_between}
+use Rattle.ptb_plain.proofs.Taking.{begins_input, failed_or_given, fault_missed, fault_unread, fault_without_memory, fresh, given_at_most, is_unreadable, never_unread, noted_read, noted_within, of_input, reads_for, reads_unfailed, shows_come, shows_input, stops_input, taken_by, takes_at_most, takes_within, wanted_at_fault, wanted_within, where_err, where_ok}
 
 -- what is known of a run whose chooser refuses so and had these choices before and after
 pub record RanOn {R : Type 0} (p : StoredProgram) (rules : Rules) (refuses : Pause → ℤ → Type 0) (c d : Choices) (input : Reads R) (out : Writes) (result : Result Ending RunFault) : Type 0 where
@@ -34,6 +36,11 @@ pub record RanOn {R : Type 0} (p : StoredProgram) (rules : Rules) (refuses : Pau
   pub refused : (answers : List (List ℕ) → Answers) → GoesBy refuses c d answers p rules → IsErrOf result runs.Memory → Appends out.before out.after [] ⊎ ((n : ℤ) × refuses pauses.Memory n)
   pub memory : (answers : List (List ℕ) → Answers) → GoesBy refuses c d answers p rules → IsErrOf result runs.Memory → WantsMemory p rules answers input out
   pub reads : ReadsLines input result
+
+-- what holds of the end of a run holds of the end that is concluded from it
+pub concluded : (P Q : RunEnd → Type 0) (r ended : Result RunEnd RunFault) → IfOk r (λ end. ended ≡ Ok end) → ((end : RunEnd) → P end → Q end) → IfOk ended P → IfOk r Q
+concluded P Q (Ok end) ended is each h = each end (subst (λ (x : Result RunEnd RunFault). IfOk x P) is h)
+concluded P Q (Err fault) ended is each h = tt
 
 -- a reader and a writer, by what their contracts say of them
 module _ {R W : Type 0} (remaining : R → Option (List ℕ)) (counted failures : R → ℕ) (contents : W → Option (List ℕ)) (written : W → ℕ) where
@@ -66,13 +73,24 @@ module _ {R W : Type 0} (remaining : R → Option (List ℕ)) (counted failures 
     left_by : j ≡ (line_reader later).now
     left_by = ends gives.same_borrow
 
-    -- what is said of the run, whatever lines stand behind those that it was given
+    -- what is said of the run, whatever lines come after those that it was given
     between : (answers : List (List ℕ) → Answers) → Goes answers → (behind : List (List ℕ)) → (NoneLeft (known_lines now) → behind ≡ [])
         → IsRunBetween contents written p rules (lines ++ behind) (answers (lines ++ behind)) refuses w v result
     between answers goes behind none =
         run_between contents written p rules (lines ++ behind) (answers (lines ++ behind)) refuses screen screen_later w v result writer writes
         (led_run p rules answers refuses noticed c d (state_of contents written screen) (state_of contents written screen_later) (most_lines (line_input source)) (most_lines (line_input later)) lines
         (Refuses (line_input later).end) (known_lines now) ended goes ran (none_known now) refl (fault_without_memory (line_input later).end) behind none)
+
+    -- where the limit stopped it
+    pub has_line : (end : RunEnd) → IsLineOf p rules (devices c (state_of contents written screen) (most_lines (line_input source)) rules.choose []) (devices d (state_of contents written screen_later) (most_lines (line_input later)) rules.choose lines) end
+        → (answers : List (List ℕ) → Answers) → Goes answers → HasLine p rules answers (reads_of remaining counted failures i j) end
+    has_line end h answers goes = record {
+      at_limit = λ is.
+          of_input (λ ls. end.line ≡ stopping_line p ls rules (answers ls)) (asked (line_input later)) (counted i) (failures i) now lines
+          (led_line p rules answers refuses noticed c d (state_of contents written screen) (state_of contents written screen_later) (most_lines (line_input source)) (most_lines (line_input later)) lines
+          (Refuses (line_input later).end) (known_lines now) goes (none_known now) end h is) (remaining i) on;
+      elsewhere = h.elsewhere;
+    }
 
     -- it took the lines that it was given
     takes : (answers : List (List ℕ) → Answers) → Goes answers → (behind : List (List ℕ)) → (NoneLeft (known_lines now) → behind ≡ [])

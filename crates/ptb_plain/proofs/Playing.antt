@@ -1,5 +1,5 @@
--- This file proves what a run comes to that goes by a list of answers, from a whole run with a chooser, a screen over a writer and a list of lines.
-use Rattle.std.proofs.Common.{◌≡◌, ℕ, ◌+◌, ◌≤◌, ◌⊎◌, inl, inr, Bool, true, false, List, [], ◌++◌, length, take, Option, Some, None, Result, Ok, Err, IfOk, IfSome, IsErrOf, ℤ, pos, ◌≤ℤ◌, refl, sym, ap, subst, ◌∙◌, arith, append-nil, length-append}
+-- This file proves the result of a run that goes by a list of answers, from a complete run with a chooser, a screen over a writer and a list of lines.
+use Rattle.std.proofs.Common.{◌≡◌, ℕ, ◌+◌, ◌≤◌, ◌⊎◌, inl, inr, Bool, true, false, List, [], ◌++◌, length, take, Option, Some, None, Result, Ok, Err, IfOk, IsErrOf, ℤ, refl, sym, ap, subst, ◌∙◌, arith, append-nil, length-append}
 use Rattle.std.specs.Borrow.{MutBor}
 use Rattle.std.specs.Io.KnownBytes.{Appends}
 use Rattle.std.proofs.KnownBytes.{Appends-nil}
@@ -15,7 +15,8 @@ use Rattle.ptb_command.specs.declared.ending.Ending.TheVariants as endings
 use Rattle.ptb_machine.specs.declared.fault.RunFault.{RunFault}
 use Rattle.ptb_machine.specs.declared.fault.RunFault.TheVariants as runs
 use Rattle.ptb_answers.specs.declared.rules.Rules.{Rules}
-use Rattle.ptb_machine.specs.Play.{Finish, play, unasked_lines, plain, plain_of}
+use Rattle.ptb_machine.specs.declared.run_end.RunEnd.{RunEnd}
+use Rattle.ptb_machine.specs.Play.{Finish, play, stopping_line, unasked_lines, plain, plain_of}
 use Rattle.ptb_command.specs.Effects.{Begins}
 use Rattle.ptb_devices.specs.declared.fault.ReadFault.{ReadFault}
 use Rattle.ptb_devices.specs.declared.fault.ReadFault.TheVariants as reads
@@ -23,7 +24,7 @@ use Rattle.ptb_devices.specs.Sources.{NoneLeft}
 use Rattle.ptb_command.specs.declared.stop.DeviceError.{DeviceError}
 use Rattle.ptb_command.specs.declared.stop.DeviceError.TheVariants as errors
 use Rattle.ptb_command.specs.Devices.{ScreenState, Devices, devices, with_failures, Exchange, Refusal, refused_by}
-use Rattle.ptb_machine.specs.Runs.{played_bytes, Plays, IsFinished, IsUnanswered, IsUnfinished, LacksInput, RunComes, Runs, UnlessRunMissed}
+use Rattle.ptb_machine.specs.Runs.{played_bytes, Plays, IsFinished, IsUnanswered, IsUnfinished, LacksInput, RunComes, Runs, UnlessRunMissed, StopsAt, IsLineOf}
 use Rattle.ptb_machine.proofs.Endings.{HasRunEnding, play_ends}
 use Rattle.ptb_plain.specs.Noted.{ended_for, noted, noted_result}
 use Rattle.ptb_plain.specs.PlainRuns.{ShowsRun, ShowsQuestion, ShowsUnread, lines_taken, IsLed, GoesBy}
@@ -43,7 +44,7 @@ plain_bytes (Done f rest) = refl
 plain_bytes (Asks n shown) = refl
 plain_bytes (Out n shown) = refl
 
--- ---- a whole run
+-- ---- a complete run
 
 pub takes_all : (old new : Option (List ℕ)) (bytes : List ℕ) → Appends old new bytes → TakesSome old new bytes
 takes_all old new bytes h = takes_beginning old new bytes bytes h ([], sym (append-nil bytes))
@@ -221,6 +222,12 @@ module _ (p : StoredProgram) (rules : Rules) (a : Answers) (refuses : Pause → 
         unspent = λ f. cc;
       }
 
+  -- the play with all of the answers stops where the run did
+  pub stops_at : (line : Option ℕ) → StopsAt p rules lines before later line → line ≡ stopping_line p lines rules a
+  stops_at line h =
+      let behind = left_by new.failures h.exchange h.left h.plays in
+      h.stops behind.rest ∙ ap (stopping_line p lines rules) (sym behind.whole)
+
   -- ---- the lines that it takes
 
   -- the given lines are no more than it takes, with all of the answers
@@ -349,6 +356,15 @@ module _ (p : StoredProgram) (rules : Rules) (answers : List (List ℕ) → Answ
       → IsUnreadRun p rules (given ++ []) (answers (given ++ [])) old new
   led_run_dry no_memory P never missed =
       ends_dry p rules (answers (given ++ [])) refuses noticed c d old new could can given [] unread left (goes (given ++ [])) P never no_memory refl result missed (h [] (λ _. refl))
+
+-- the line of its end is that of the play
+module _ (p : StoredProgram) (rules : Rules) (answers : List (List ℕ) → Answers) (refuses : Pause → ℤ → Type 0) (noticed : Bool) (c d : Choices) (old new : ScreenState) (could can : ℕ) (given : List (List ℕ)) (unread : ReadFault → Type 0) (left : Option (List (List ℕ)))
+    (goes : GoesBy refuses c d answers p rules) (over : can ≡ 0 → NoneLeft left)
+    (end : RunEnd) (h : IsLineOf p rules (devices c old could rules.choose []) (devices d new can rules.choose given) end) where
+  pub led_line : end.ending ≡ endings.Limit → (behind : List (List ℕ)) → (NoneLeft left → behind ≡ [])
+      → end.line ≡ stopping_line p (given ++ behind) rules (answers (given ++ behind))
+  led_line is behind none =
+      stops_at p rules (answers (given ++ behind)) refuses noticed c d old new could can given behind unread left (goes (given ++ behind)) end.line (h.at_limit is behind (λ e. none (over e)))
 
 -- ---- the screen of a writer
 

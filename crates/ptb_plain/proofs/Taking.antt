@@ -29,14 +29,14 @@ use Rattle.ptb_command.specs.declared.ending.Ending.{Ending}
 use Rattle.ptb_command.specs.declared.ending.Ending.TheVariants as endings
 use Rattle.ptb_machine.specs.declared.fault.RunFault.{RunFault}
 use Rattle.ptb_machine.specs.Play.{plain}
-use Rattle.ptb_plain.specs.Noted.{noted, noted_result}
+use Rattle.ptb_plain.specs.Noted.{noted_result}
 use Rattle.ptb_plain.specs.PlainRuns.{IsUnreadable, ShowsRun, ShowsQuestion, ShowsUnread, run_fault, lines_come, lines_taken, ending_wanted, lines_wanted, ReadsFor}
 use Rattle.ptb_plain.proofs.Playing.{IsRunBetween, IsUnreadBetween}
 
 abbrev pub fresh : Option (List ℕ) → ℕ → ℕ → InputNow
 fresh known x f = record { state = fresh_input; bytes = known; given = x; failures = f }
 
--- the lines of an input that stand behind those that were given
+-- the lines of an input that come after those that were given
 pub record IsBehind (c : List ℕ) (given : List (List ℕ)) (n : InputNow) : Type 0 where
   pub rest : List (List ℕ)
   pub whole : input_lines c ≡ given ++ rest
@@ -178,7 +178,7 @@ module _ (wanted : ℕ) (known : Option (List ℕ)) (x f : ℕ) (n : InputNow) (
   pub reads_unfailed : fault_at n.state.end ≡ None → n.failures ≡ f
   reads_unfailed h = on.unfailed (unfailed_end n.state.end h)
 
-  -- where one has, the lines given are those that came whole
+  -- where one has, the lines given are those that came complete
   module _ (fault : ReadFault) (is : fault_at n.state.end ≡ Some fault) where
     closed : n.state.end ≡ Open → ⊥
     closed e = absurd (let clash : None ≡ Some fault = sym (ap fault_at e) ∙ is in cc)
@@ -224,7 +224,7 @@ asked_one a = by_end a.end a.is_given where
   by_end Failed given = omega arith
   by_end Exceeded given = omega arith
 
--- where a fault has come, a line was asked for in vain
+-- where a fault has come, a line was asked for without success
 pub fault_asked : (a : InputState) (fault : ReadFault) → fault_at a.end ≡ Some fault → asked a ≤ 0 → ⊥
 fault_asked a fault e h = by_end a.end a.is_given e h where
   by_end : (end : InputEnd) (given : Bool) → fault_at end ≡ Some fault → asked_at end given ≤ 0 → ⊥
@@ -289,7 +289,7 @@ wanted_at_fault a most rules fault e = by_choose rules.choose where
     by_all true = omega (arith, fits, asked_one a)
     by_all false = let within = fault_within a fault e k in omega (arith, fits, within)
 
--- where a fault has come, a line was asked for in vain, though more could have come
+-- where a fault has come, a line was asked for without success, though more could have come
 pub fault_missed : (a : InputState) (choose : Option ℤ) (fault : ReadFault) → fault_at a.end ≡ Some fault → NotMissed choose 0 (asked a) (most_lines a) → ⊥
 fault_missed a None fault e m = fault_asked a fault e m
 fault_missed a (Some n) fault e (inl q) = fault_asked a fault e q
@@ -369,7 +369,16 @@ module _ {W : Type 0} (contents : W → Option (List ℕ)) (written : W → ℕ)
       subst (λ i. Appends (contents w) (contents v) [] ⊎ ShowsQuestion (plain p i rules) (a i) (contents w) (contents v)) (sym b.whole)
       (elim ((between b.rest b.none).memory is) [ inl nothing ↦ inl nothing | inr asks ↦ inr asks.1 ])
 
--- on the lines that came whole, where a fault has come, it ends for want of a line, or would ask for an answer
+-- what holds of the lines that were given, whatever lines come after them, holds of those of the input
+pub of_input : (P : List (List ℕ) → Type 0) (wanted x f : ℕ) (n : InputNow) (given : List (List ℕ))
+    → ((behind : List (List ℕ)) → (NoneLeft (known_lines n) → behind ≡ []) → P (given ++ behind))
+    → (known : Option (List ℕ)) → ReadsOn wanted (fresh known x f) given n → IfSome known (λ c. P (input_lines c))
+of_input P wanted x f n given each None on = tt
+of_input P wanted x f n given each (Some c) on =
+    let b = lines_behind wanted c x f n given on in
+    subst P (sym b.whole) (each b.rest b.none)
+
+-- on the lines that came complete, where a fault has come, it ends for want of a line, or would ask for an answer
 pub shows_come : {W : Type 0} (contents : W → Option (List ℕ)) (written : W → ℕ) (p : StoredProgram) (rules : Rules) (a : List (List ℕ) → Answers) (w v : W) (wanted x f : ℕ) (n : InputNow) (given : List (List ℕ)) (known : Option (List ℕ)) (on : ReadsOn wanted (fresh known x f) given n) (fault : ReadFault)
     → fault_at n.state.end ≡ Some fault → IsUnreadBetween contents written p rules (given ++ []) (a (given ++ [])) w v
     → ShowsUnread rules.choose (plain p (lines_come on.taken) rules) (a (lines_come on.taken)) (contents w) (contents v)

@@ -1,4 +1,4 @@
--- This file defines what a run comes to whose chooser notes where another one was refused memory.
+-- This file defines the result of a run whose chooser notes where another one was refused memory.
 --     noted refused refuses z n      why it gives no answer, where `refuses` says why the other one doesn't
 --     noted_result refused result    the result of a run: want of memory where the run stopped for that
 use Rattle.std.specs.Prelude.{ℤ, Bool, true, false, Result, Ok, Err, if◌then◌else◌}

@@ -1,7 +1,7 @@
 -- This file defines what a plain run shows and reads.
 --     ShowsRun r old new e       of a run with the bytes and the ending r, the bytes were shown and the ending is e
 --     run_fault fault            the fault of a run whose input isn't read
---     lines_come taken           the lines that came whole in these bytes
+--     lines_come taken           the lines that came complete in these bytes
 --     IsUnreadable known old new the input could not be read, or is too long
 --     IsLed refuses taken all    what a chooser is to answer begins with what it has answered
 --     GoesBy refuses c d answers p rules    a chooser goes by these answers on the lines of each input
@@ -13,6 +13,7 @@
 --     PlaysWith p rules answers ..    the program was played with these answers, and what was shown was written
 --     WantsMemory p rules answers ..  where a run that was refused memory stopped
 --     ReadsLines input result    how much was read of the input, and when it is at fault
+--     HasLine p rules answers input end    the line at which the limit stopped the run
 use Rattle.std.specs.Prelude.{◌≡◌, ◌⊎◌, ◌+◌, ◌-◌, ◌==◌, if◌then◌else◌, ◌<◌, ◌≤◌, ℕ, List, [], ◌++◌, length, take, ◌∷◌, Option, Some, None, Result, Ok, Err, IfOk, IfSome, IsErrOf, OnErr, OnOk, ℤ}
 use Rattle.std.specs.Io.KnownBytes.{Appends, Consumes}
 use Rattle.ptb_text.specs.Device.{GivesAtMost, GivesExactly, HasFailed, TakesSome}
@@ -30,9 +31,10 @@ use Rattle.ptb_devices.specs.declared.fault.ReadFault.TheVariants as reads
 use Rattle.ptb_devices.specs.declared.whole_input.TheConstants.{INPUT_LIMIT}
 use Rattle.ptb_devices.specs.Sources.{ConsumesAtMost}
 use Rattle.ptb_answers.specs.declared.rules.Rules.{Rules}
-use Rattle.ptb_machine.specs.Play.{plain, play, unasked_lines}
+use Rattle.ptb_machine.specs.Play.{plain, play, stopping_line, unasked_lines}
 use Rattle.ptb_machine.specs.declared.fault.RunFault.{RunFault}
 use Rattle.ptb_machine.specs.declared.fault.RunFault.TheVariants as runs
+use Rattle.ptb_machine.specs.declared.run_end.RunEnd.{RunEnd}
 use Rattle.ptb_plain.specs.Streams.{Reads, Writes}
 
 pub record ShowsRun (r : List ℕ × Ending) (old new : Option (List ℕ)) (e : Ending) : Type 0 where
@@ -48,7 +50,7 @@ run_fault reads.Memory = runs.Memory
 abbrev pub input_limit : ℕ
 input_limit = INPUT_LIMIT
 
--- the lines that came whole in these bytes, within what an input may have
+-- the lines that came complete in these bytes, within what an input may have
 abbrev pub lines_come : List ℕ → List (List ℕ)
 lines_come taken = whole_lines None (take input_limit taken)
 
@@ -58,7 +60,7 @@ IsUnreadable known old new = HasFailed old new ⊎ IfSome known (λ c. input_lim
 
 -- ---- the answers by which a run goes
 
--- `all` is what a chooser is to answer, and some of it was taken; `refuses` is what stands after a refusal
+-- `all` is what a chooser is to answer, and some of it was taken; `refuses` is what holds after a refusal
 pub record IsLed (refuses : Pause → ℤ → Type 0) (taken all : Answers) : Type 0 where
   pub rest : Answers
   pub whole : all ≡ taken ++ rest
@@ -74,7 +76,7 @@ GoesBy refuses c d answers p rules =
 
 -- ---- a line that can't be read
 
--- On the lines that came whole, a run ends for want of the next one. With answers instead of lines it would ask for one:
+-- On the lines that came complete, a run ends for want of the next one. With answers instead of lines it would ask for one:
 -- what was shown is all that it shows before, and so a prefix of what it shows with the answers `a`.
 abbrev pub ShowsUnread : Option ℤ → (Answers → List ℕ × Ending) → Answers → Option (List ℕ) → Option (List ℕ) → Type 0
 ShowsUnread None run a old new = ShowsRun (run a) old new endings.NoInput
@@ -121,7 +123,7 @@ lines_wanted (Some n) all k result = if k == all then k + 1 else ending_wanted k
 abbrev pub piece_limit : ℕ
 piece_limit = 4096
 
--- the last read gave at most so many bytes, and before it fewer lines were whole than wanted
+-- the last read gave at most so many bytes, and before it fewer lines were complete than wanted
 pub record IsReadFor (taken : List ℕ) (wanted : ℕ) : Type 0 where
   pub before : List ℕ
   pub piece : List ℕ
@@ -142,10 +144,10 @@ pub record PlaysWith {R : Type 0} (p : StoredProgram) (rules : Rules) (answers :
   pub ended : IfOk result (λ ending. IfSome input.bytes (λ c. ShowsRun (plain p (input_lines c) rules (answers (input_lines c))) out.before out.after ending))
   -- After a fault it is a prefix of that.
   pub broken_off : OnErr result (IfSome input.bytes (λ c. TakesSome out.before out.after (plain p (input_lines c) rules (answers (input_lines c))).0))
-  -- Where a line could not be read, it is what the play on the lines that came whole shows.
+  -- Where a line could not be read, it is what the play on the lines that came complete shows.
   pub unread : IsErrOf result runs.Read
       → (taken : List ℕ) × Consumes input.bytes input.left taken × ShowsUnread rules.choose (plain p (lines_come taken) rules) (answers (lines_come taken)) out.before out.after
-  -- The input was read on only while fewer lines were whole than the play asks for.
+  -- The input was read on only while fewer lines were complete than the play asks for.
   pub asked : (taken : List ℕ) × Consumes input.bytes input.left taken
       × IfSome input.bytes (λ c. ReadsFor taken (lines_wanted rules.choose (length (input_lines c)) (lines_taken p (input_lines c) rules (answers (input_lines c))) result))
   -- The writer is at fault where it failed, and only there.
@@ -170,3 +172,10 @@ pub record ReadsLines {R : Type 0} (input : Reads R) (result : Result Ending Run
   pub unfailed : ¬ IsErrOf result runs.Read → input.fails ≡ input.failed
   -- and gave 16,777,217.
   pub failed_or_given : IsErrOf result runs.Read → HasFailed input.failed input.fails ⊎ GivesExactly input.gave input.gives (input_limit + 1)
+
+-- Where it ended at its limit, it has the number of the statement in which the next command of the play begins. No other ending has
+-- a line.
+pub record HasLine {R : Type 0} (p : StoredProgram) (rules : Rules) (answers : List (List ℕ) → Answers) (input : Reads R) (end : RunEnd) : Type 0 where
+  pub at_limit : end.ending ≡ endings.Limit
+      → IfSome input.bytes (λ c. end.line ≡ stopping_line p (input_lines c) rules (answers (input_lines c)))
+  pub elsewhere : ¬ (end.ending ≡ endings.Limit) → end.line ≡ None

@@ -1,10 +1,11 @@
 // This file has the chooser that notes where another one was refused memory.
 
-ghost use Rattle.std.specs.Prelude.{◌≡◌, false};
+ghost use Rattle.std.specs.Prelude.{◌≡◌, IfOk, Ok, false};
+ghost use Rattle.ptb_machine.specs.Runs.{ending_alone};
 ghost use Rattle.ptb_plain.specs.Noted.{noted, noted_result};
 
 use ptb_answers::{Chooser, Pause};
-use ptb_machine::{Ending, RunFault};
+use ptb_machine::{Ending, RunEnd, RunFault};
 
 /// Answers as another chooser does. Where that one is refused memory, no answer is left, and the
 /// refusal is noted.
@@ -31,12 +32,14 @@ impl<C> MemoryNoted<C> {
     }
 
     /// The result of a run that asked it: want of memory where the run stopped for that.
-    pub(crate) fn conclude(&self, ended: Result<Ending, RunFault>) -> Result<Ending, RunFault>
-        ensures { result ≡ noted_result self.now.refused ended }
+    pub(crate) fn conclude(&self, ended: Result<RunEnd, RunFault>) -> Result<RunEnd, RunFault>
+        ensures result { ending_alone result ≡ noted_result self.now.refused (ending_alone ended) }
+        ensures end { IfOk result (λ end. ended ≡ Ok end) }
     {
-        match ended {
-            Ok(Ending::NoAnswer) if self.refused => Err(RunFault::Memory),
-            ended => ended,
+        let end = ended?;
+        match end.ending {
+            Ending::NoAnswer if self.refused => Err(RunFault::Memory),
+            _ => Ok(end),
         }
     }
 }

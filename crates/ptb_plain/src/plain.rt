@@ -1,16 +1,20 @@
 // This file has the runs that play a program once, with a list of answers or with those of a seed.
 
-ghost use Rattle.std.specs.Prelude.{◌≡◌, ◌⊎◌, ℕ, ℤ, List, [], IfSome, IsErrOf};
+ghost use Rattle.std.specs.Prelude.{◌≡◌, ◌⊎◌, ℕ, ℤ, List, [], IfOk, IfSome, IsErrOf};
 ghost use Rattle.std.specs.Io.KnownBytes.{Appends};
 ghost use Rattle.ptb_machine.specs.Play.{play};
-ghost use Rattle.ptb_plain.specs.PlainRuns.{GoesBy, PlaysWith, ReadsLines, WantsMemory, run_fault};
+ghost use Rattle.ptb_machine.specs.Runs.{ending_alone};
+ghost use Rattle.ptb_plain.specs.PlainRuns.{GoesBy, HasLine, PlaysWith, ReadsLines};
+ghost use Rattle.ptb_plain.specs.PlainRuns.{WantsMemory, run_fault};
 ghost use Rattle.ptb_plain.specs.SeededRuns.{IsDrawn, SeededLaws};
 ghost use Rattle.ptb_plain.specs.Streams.{reads_of, writes_of};
 
 use crate::laws::seeded_laws;
 use crate::memory_noted::MemoryNoted;
 use ptb_answers::{Chooser, Listed, Pause, Seeded};
-use ptb_machine::{Ending, ReadFault, ReaderLines, Rules, RunFault, WriterScreen, run, run_laws};
+use ptb_machine::{
+    Ending, ReadFault, ReaderLines, Rules, RunEnd, RunFault, WriterScreen, run_laws, run_to_end,
+};
 use ptb_text::{Program, Read, Write};
 use std::alloc::Global;
 
@@ -18,13 +22,13 @@ use std::alloc::Global;
 /// shows goes to the writer.
 ///
 /// A line is read when the run asks for it, and what it shows before was shown then: the input is
-/// read on only while fewer lines are whole than were asked for. Answers that are left over are not
-/// looked at.
+/// read on only while fewer lines are complete than were asked for. Answers that are left over are
+/// not looked at.
 ///
 /// # Errors
 ///
 /// [`RunFault::Read`] where a line could not be read, or more than 16,777,216 bytes would have to
-/// be: on the lines that came whole the run ends for want of a line, and the writer got what it
+/// be: on the lines that came complete the run ends for want of a line, and the writer got what it
 /// shows. With answers instead of lines, the writer got what the run shows up to the question that
 /// this line would have answered.
 /// [`RunFault::Memory`] where a growth was refused memory: nothing was shown then.
@@ -45,6 +49,33 @@ pub fn run_plain<R: Read, W: Write>(
         → Appends (W.contents out.old) (W.contents out.new) [] }
     ensures reads { ReadsLines (reads_of R.remaining R.given R.failures input.old input.new) result }
 {
+    let end = run_plain_to_end(alloc, program, answers, rules, input, out)?;
+    Ok(end.ending)
+}
+
+/// Runs a program as [`run_plain`] does, and also gives the line at which a limit stopped it.
+///
+/// # Errors
+///
+/// As [`run_plain`].
+pub fn run_plain_to_end<R: Read, W: Write>(
+    alloc: Global,
+    program: &Program,
+    answers: &[i16],
+    rules: Rules,
+    input: &mut R,
+    out: &mut W,
+) -> Result<RunEnd, RunFault>
+    ensures plays { PlaysWith program.now rules (λ _. answers.now)
+        (reads_of R.remaining R.given R.failures input.old input.new)
+        (writes_of W.contents W.failures out.old out.new) (ending_alone result) }
+    ensures memory { IsErrOf (ending_alone result) RunFault.Memory
+        → Appends (W.contents out.old) (W.contents out.new) [] }
+    ensures reads { ReadsLines (reads_of R.remaining R.given R.failures input.old input.new)
+        (ending_alone result) }
+    ensures line { IfOk result (HasLine program.now rules (λ _. answers.now)
+        (reads_of R.remaining R.given R.failures input.old input.new)) }
+{
     let mut chooser = MemoryNoted::new(Listed::new(answers));
     run_on_input(alloc, program, rules, &mut chooser, input, out)
 }
@@ -59,9 +90,9 @@ pub fn run_plain<R: Read, W: Write>(
 /// # Errors
 ///
 /// [`RunFault::Read`] and [`RunFault::Write`] as for a plain run; the answers are then those of the
-/// run on the lines that came whole. [`RunFault::Memory`] where a growth was refused memory: either
-/// nothing was shown, or the writer got what the run shows up to a question, whose answer there was
-/// no memory for. Never [`RunFault::Spent`].
+/// run on the lines that came complete. [`RunFault::Memory`] where a growth was refused memory:
+/// either nothing was shown, or the writer got what the run shows up to a question, whose answer
+/// there was no memory for. Never [`RunFault::Spent`].
 pub fn run_seeded<R: Read, W: Write>(
     alloc: Global,
     program: &Program,
@@ -85,6 +116,43 @@ pub fn run_seeded<R: Read, W: Write>(
     // There is one such list for each input.
     ensures laws { SeededLaws }
 {
+    let end = run_seeded_to_end(alloc, program, seed, rules, input, out)?;
+    Ok(end.ending)
+}
+
+/// Runs a program as [`run_seeded`] does, and also gives the line at which a limit stopped it.
+///
+/// # Errors
+///
+/// As [`run_seeded`].
+pub fn run_seeded_to_end<R: Read, W: Write>(
+    alloc: Global,
+    program: &Program,
+    seed: u64,
+    rules: Rules,
+    input: &mut R,
+    out: &mut W,
+) -> Result<RunEnd, RunFault>
+    ensures plays { (answers : List (List ℕ) → List ℤ)
+        → ((lines : List (List ℕ)) → IsDrawn seed (play program.now lines rules) (answers lines))
+        → PlaysWith program.now rules answers
+        (reads_of R.remaining R.given R.failures input.old input.new)
+        (writes_of W.contents W.failures out.old out.new) (ending_alone result) }
+    ensures memory { (answers : List (List ℕ) → List ℤ)
+        → ((lines : List (List ℕ)) → IsDrawn seed (play program.now lines rules) (answers lines))
+        → IsErrOf (ending_alone result) RunFault.Memory → WantsMemory program.now rules answers
+        (reads_of R.remaining R.given R.failures input.old input.new)
+        (writes_of W.contents W.failures out.old out.new) }
+    ensures reads { ReadsLines (reads_of R.remaining R.given R.failures input.old input.new)
+        (ending_alone result) }
+    ensures line { (answers : List (List ℕ) → List ℤ)
+        → ((lines : List (List ℕ)) → IsDrawn seed (play program.now lines rules) (answers lines))
+        → IfOk result (HasLine program.now rules answers
+        (reads_of R.remaining R.given R.failures input.old input.new)) }
+
+    // There is one such list for each input.
+    ensures laws { SeededLaws }
+{
     run_laws();
     seeded_laws();
     let mut chooser = MemoryNoted::new(Seeded::new(alloc, seed));
@@ -99,27 +167,32 @@ fn run_on_input<C: Chooser, R: Read, W: Write>(
     chooser: &mut MemoryNoted<C>,
     input: &mut R,
     out: &mut W,
-) -> Result<Ending, RunFault>
+) -> Result<RunEnd, RunFault>
     ensures plays { (answers : List (List ℕ) → List ℤ) → GoesBy (C.refused chooser.new.chooser)
         (C.choices chooser.old.chooser) (C.choices chooser.new.chooser) answers program.now rules
         → PlaysWith program.now rules answers
         (reads_of R.remaining R.given R.failures input.old input.new)
-        (writes_of W.contents W.failures out.old out.new) result }
+        (writes_of W.contents W.failures out.old out.new) (ending_alone result) }
     ensures refused { (answers : List (List ℕ) → List ℤ) → GoesBy (C.refused chooser.new.chooser)
         (C.choices chooser.old.chooser) (C.choices chooser.new.chooser) answers program.now rules
-        → IsErrOf result RunFault.Memory
+        → IsErrOf (ending_alone result) RunFault.Memory
         → Appends (W.contents out.old) (W.contents out.new) []
         ⊎ ((n : ℤ) × C.refused chooser.new.chooser Pause.Memory n) }
     ensures memory { (answers : List (List ℕ) → List ℤ) → GoesBy (C.refused chooser.new.chooser)
         (C.choices chooser.old.chooser) (C.choices chooser.new.chooser) answers program.now rules
-        → IsErrOf result RunFault.Memory → WantsMemory program.now rules answers
+        → IsErrOf (ending_alone result) RunFault.Memory → WantsMemory program.now rules answers
         (reads_of R.remaining R.given R.failures input.old input.new)
         (writes_of W.contents W.failures out.old out.new) }
-    ensures reads { ReadsLines (reads_of R.remaining R.given R.failures input.old input.new) result }
+    ensures reads { ReadsLines (reads_of R.remaining R.given R.failures input.old input.new)
+        (ending_alone result) }
+    ensures line { (answers : List (List ℕ) → List ℤ) → GoesBy (C.refused chooser.new.chooser)
+        (C.choices chooser.old.chooser) (C.choices chooser.new.chooser) answers program.now rules
+        → IfOk result (HasLine program.now rules answers
+        (reads_of R.remaining R.given R.failures input.old input.new)) }
 {
     let mut screen = WriterScreen::new(out);
     let mut source = ReaderLines::new(input);
-    let ended = run(alloc, program, rules, chooser, &mut screen, &mut source);
+    let ended = run_to_end(alloc, program, rules, chooser, &mut screen, &mut source);
     // The source keeps its fault, so that it is reported however the run ended.
     match source.fault() {
         Some(fault) => Err(run_fault(fault)),

@@ -1,18 +1,13 @@
--- This file answers that a run by a seed is the plain run with the answers that are drawn from the seed.
-use Rattle.std.proofs.Common.{◌∙◌}
-use Rattle.ptb_plain.proofs.Drawing.{goes_by_drawn}
+-- This file answers that a run by a seed is the same without the line of its end.
+use Rattle.std.proofs.Common.{Err, ap, ◌∙◌}
+use Rattle.std.proofs.lemmas.Result.{err_from_is_err_and}
 use Rattle.ptb_plain.proofs.plain.run_seeded.Goals as goal
 
+pub returns-in_err-end : goal.returns-in_err-end
+returns-in_err-end g c =
+    let run = c.in_err-end.ensures in
+    let same = err_from_is_err_and c.from_residual.result c.from_residual.ensures.1 in
+    rw (same.1 ∙ ap Err same.2) (record { plays = run.plays; memory = run.memory; reads = run.reads; laws = run.laws })
+
 pub returns : goal.returns
-returns g c =
-    let run = c.run_on_input.ensures in
-    let goes =
-    goes_by_drawn c.run_laws.ensures c.seeded_laws.ensures c.args.seed c.new-chooser.result.chooser c.run_on_input.new.chooser.chooser c.args.program.now c.args.rules
-    (c.new-chooser.ensures.chooser ∙ c.new.ensures)
-    in
-    record {
-      plays = λ answers drawn. run.plays answers (goes answers drawn);
-      memory = λ answers drawn. run.memory answers (goes answers drawn);
-      reads = run.reads;
-      laws = c.seeded_laws.ensures;
-    }
+returns g c = let run = c.in_ok-end.ensures in record { plays = run.plays; memory = run.memory; reads = run.reads; laws = run.laws }

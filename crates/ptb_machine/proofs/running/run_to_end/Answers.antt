@@ -1,0 +1,20 @@
+-- This file answers what is left to prove of `run_to_end`.
+use Rattle.std.proofs.Common.{[], arith, inl, refl}
+use Rattle.ptb_command.proofs.Missed.{not_missed}
+use Rattle.ptb_machine.specs.RunDevices.{run_devices}
+use Rattle.ptb_machine.proofs.Ends.{end_broken}
+use Rattle.ptb_machine.proofs.running.run_to_end.Goals as goal
+
+pub returns-in_err-player : goal.returns-in_err-player
+returns-in_err-player g c =
+    let d = run_devices c.args.chooser.now c.args.screen.now c.args.source.now in
+    end_broken g.C.Chooser g.S.Screen g.L.LineSource c.args.program.now c.args.rules d d _ _ c.from_residual.ensures.1
+    (record {
+      given = [];
+      gives = g.met.L.LineSource.gives_none c.args.source.now;
+      runs = λ rest _. inl refl;
+      missed = inl (not_missed _ _ _ _ (omega arith));
+    })
+
+pub returns : goal.returns
+returns g c = rw c.in_ok-player.ensures.player at c.play.ensures
