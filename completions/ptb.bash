@@ -21,7 +21,7 @@ _ptb() {
     case $current in
     -*)
         mapfile -t COMPREPLY < <(compgen -W \
-            '--steps --memory --choose --answers --seed --all --under --after --first --shares --sample --form --list --check --help -h --version -V' -- "$current")
+            '--steps --memory --choose --answers --seed --all --under --after --first --shares --sample --form --chances --list --check --help -h --version -V' -- "$current")
         ;;
     *)
         mapfile -t COMPREPLY < <(compgen -f -X '!*.bas' -- "$current"; compgen -d -- "$current")

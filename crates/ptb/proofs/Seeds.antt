@@ -29,40 +29,45 @@ no_seed_for_answers i o n p h = grind arith
 pub seed_for_none : (i o n p : Bool) → i ≡ true → o ≡ true → n ≡ false → p ≡ true → true ≡ (i && o && not n && p)
 seed_for_none i o n p h k l m = grind arith
 
--- ---- over input, output, answers, the listing of the text or of its mistakes, all runs and a seed
+-- ---- over input, output, answers, the listing of the text or of its mistakes, the chances, all runs and a seed
 
-of_answers : (i o n l k a s : Bool) → l ≡ false → k ≡ false → a ≡ false → s ≡ false → (i && o && not n && true) ≡ (i && o && not l && not k && not a && not n && not s)
-of_answers i o n l k a s p q r t = grind arith
+of_answers : (i o n l k x a s : Bool) → l ≡ false → k ≡ false → x ≡ false → a ≡ false → s ≡ false → (i && o && not n && true) ≡ (i && o && not l && not k && not x && not a && not n && not s)
+of_answers i o n l k x a s p q r t u = grind arith
 
-of_text : (i o n l k a s : Bool) → l ≡ true → (i && o && not n && false) ≡ (i && o && not l && not k && not a && not n && not s)
-of_text i o n l k a s p = grind arith
+of_text : (i o n l k x a s : Bool) → l ≡ true → (i && o && not n && false) ≡ (i && o && not l && not k && not x && not a && not n && not s)
+of_text i o n l k x a s p = grind arith
 
-of_check : (i o n l k a s : Bool) → k ≡ true → (i && o && not n && false) ≡ (i && o && not l && not k && not a && not n && not s)
-of_check i o n l k a s p = grind arith
+of_check : (i o n l k x a s : Bool) → k ≡ true → (i && o && not n && false) ≡ (i && o && not l && not k && not x && not a && not n && not s)
+of_check i o n l k x a s p = grind arith
 
-of_all : (i o n l k a s : Bool) → a ≡ true → (i && o && not n && false) ≡ (i && o && not l && not k && not a && not n && not s)
-of_all i o n l k a s p = grind arith
+of_chances : (i o n l k x a s : Bool) → x ≡ true → (i && o && not n && false) ≡ (i && o && not l && not k && not x && not a && not n && not s)
+of_chances i o n l k x a s p = grind arith
 
-of_seed : (i o n l k a s : Bool) → s ≡ true → (i && o && not n && false) ≡ (i && o && not l && not k && not a && not n && not s)
-of_seed i o n l k a s p = grind arith
+of_all : (i o n l k x a s : Bool) → a ≡ true → (i && o && not n && false) ≡ (i && o && not l && not k && not x && not a && not n && not s)
+of_all i o n l k x a s p = grind arith
+
+of_seed : (i o n l k x a s : Bool) → s ≡ true → (i && o && not n && false) ≡ (i && o && not l && not k && not x && not a && not n && not s)
+of_seed i o n l k x a s p = grind arith
 
 -- ---- of the mode that the options ask for
 
 module _ (t : Terminals) (o : Options) where
   draws-wants : (mode : Mode) → AsksMode o mode → draws_seed t o mode ≡ wants_seed t o
-  draws-wants (modes.Plain a) h = of_answers t.input t.output (is_some o.answers) o.list o.check o.all (is_some o.seed) h.0.unlisted h.0.unchecked h.1 (ap is_some h.2)
-  draws-wants (modes.Seeded seed) h = of_seed t.input t.output (is_some o.answers) o.list o.check o.all (is_some o.seed) (ap is_some h.2)
-  draws-wants (modes.All under after first form) h = of_all t.input t.output (is_some o.answers) o.list o.check o.all (is_some o.seed) h.1
-  draws-wants (modes.Shares answers form) h = of_all t.input t.output (is_some o.answers) o.list o.check o.all (is_some o.seed) h.1
-  draws-wants (modes.Sample seed runs form) h = of_seed t.input t.output (is_some o.answers) o.list o.check o.all (is_some o.seed) (ap is_some h.2)
-  draws-wants modes.List h = of_text t.input t.output (is_some o.answers) o.list o.check o.all (is_some o.seed) h
-  draws-wants modes.Check h = of_check t.input t.output (is_some o.answers) o.list o.check o.all (is_some o.seed) h.1
+  draws-wants (modes.Plain a) h = of_answers t.input t.output (is_some o.answers) o.list o.check o.chances o.all (is_some o.seed) h.0.unlisted h.0.unchecked h.0.no_chances h.1 (ap is_some h.2)
+  draws-wants (modes.Seeded seed) h = of_seed t.input t.output (is_some o.answers) o.list o.check o.chances o.all (is_some o.seed) (ap is_some h.2)
+  draws-wants (modes.All under after first form) h = of_all t.input t.output (is_some o.answers) o.list o.check o.chances o.all (is_some o.seed) h.1
+  draws-wants (modes.Shares answers form) h = of_all t.input t.output (is_some o.answers) o.list o.check o.chances o.all (is_some o.seed) h.1
+  draws-wants (modes.Sample seed runs form) h = of_seed t.input t.output (is_some o.answers) o.list o.check o.chances o.all (is_some o.seed) (ap is_some h.2)
+  draws-wants modes.List h = of_text t.input t.output (is_some o.answers) o.list o.check o.chances o.all (is_some o.seed) h
+  draws-wants modes.Check h = of_check t.input t.output (is_some o.answers) o.list o.check o.chances o.all (is_some o.seed) h.1
+  draws-wants modes.Chances h = of_chances t.input t.output (is_some o.answers) o.list o.check o.chances o.all (is_some o.seed) h.2
 
 -- a seed goes with the options of a run that is given neither answers nor a seed
 clash_drawn : (o : Options) (seed : ℕ) → RunsIt o → o.all ≡ false → o.answers ≡ None → clash o ≡ None → clash (with_seed o (Some seed)) ≡ None
 clash_drawn o seed runs every answers h =
     let list = runs.unlisted in
     let check = runs.unchecked in
+    let chances = runs.no_chances in
     grind arith
 
 -- no sample is asked for without a seed
@@ -70,6 +75,7 @@ unsampled : (o : Options) → RunsIt o → o.all ≡ false → o.seed ≡ None �
 unsampled o runs every seed h =
     let list = runs.unlisted in
     let check = runs.unchecked in
+    let chances = runs.no_chances in
     grind arith
 
 asks_undrawn : (t : Terminals) (o : Options) (r : Request) → Asks o r → false ≡ draws_seed t o r.mode → AsksAt t o None r
@@ -81,12 +87,13 @@ asks_drawn t o r seed asks draws small =
     let wants : true ≡ wants_seed t o = draws ∙ draws-wants t o r.mode asks.mode in
     let list : o.list ≡ false = grind arith in
     let check : o.check ≡ false = grind arith in
-    let runs : RunsIt o = record { unlisted = list; unchecked = check } in
+    let chances : o.chances ≡ false = grind arith in
+    let runs : RunsIt o = record { unlisted = list; unchecked = check; no_chances = chances } in
     let every : o.all ≡ false = grind arith in
     let answers : o.answers ≡ None = grind arith in
     let undrawn : o.seed ≡ None = grind arith in
     record {
-      asks = record { clash = clash_drawn o seed runs every answers asks.clash; rules = record { limit = asks.rules.limit; choose = asks.rules.choose }; memory = asks.memory; mode = (record { unlisted = list; unchecked = check }, every, refl, unsampled o runs every undrawn asks.clash) };
+      asks = record { clash = clash_drawn o seed runs every answers asks.clash; rules = record { limit = asks.rules.limit; choose = asks.rules.choose }; memory = asks.memory; mode = (record { unlisted = list; unchecked = check; no_chances = chances }, every, refl, unsampled o runs every undrawn asks.clash) };
       draws = wants;
       small = small;
     }

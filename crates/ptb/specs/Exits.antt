@@ -39,7 +39,7 @@ unread_status _ = 64
 -- at a terminal a run that is given neither answers nor a seed draws its seed
 abbrev pub wants_seed : Terminals → Options → Bool
 wants_seed terminals o =
-    terminals.input && terminals.output && not o.list && not o.check && not o.all && not (is_some o.answers) && not (is_some o.seed)
+    terminals.input && terminals.output && not o.list && not o.check && not o.chances && not o.all && not (is_some o.answers) && not (is_some o.seed)
 
 abbrev pub is_answered : Mode → Bool
 is_answered (modes.Plain a) = true

@@ -1,9 +1,9 @@
 -- This file defines the lines that say why a run ended, and what was wrong.
---     shortage_of path limit n     why a run with the status n ended before its program did, if it did
+--     shortage_of path limit n line     why a run with the status n ended before its program did, if it did
 --     shortage_line s       which option helps
 --     mismatch_text m       why the items of a list fit no run
 --     reason_line reason    what was wrong, except where reading failed: that line ends with the text of an error
-use Rattle.std.specs.Prelude.{List, ◌++◌, ℕ, ◌==◌, if◌then◌else◌, Option, None, Some, [], codes, decimal}
+use Rattle.std.specs.Prelude.{List, ◌++◌, ℕ, ◌==◌, if◌then◌else◌, Option, None, Some, [], codes, decimal, option_map}
 use Rattle.std.specs.Fmt.{signed_decimal}
 use Rattle.ptb_explore.specs.declared.mismatch.Mismatch.{Mismatch}
 use Rattle.ptb_explore.specs.declared.mismatch.Mismatch.TheVariants.{Missing, NoQuestion, NotUnder, OtherBound, OutOfRange}
@@ -21,9 +21,10 @@ abbrev pub no_line : Option (List ℕ) → Shortage
 no_line (Some path) = shortages.Lines
 no_line None = shortages.LinesBesideProgram
 
-abbrev pub shortage_of : Option (List ℕ) → ℕ → ℕ → Option Shortage
-shortage_of path limit n =
-    if n == 4 then Some (shortages.Commands limit)
+-- the line is the one at which a limit stopped the run
+abbrev pub shortage_of : Option (List ℕ) → ℕ → ℕ → Option ℕ → Option Shortage
+shortage_of path limit n line =
+    if n == 4 then option_map (λ number. shortages.Commands number limit) line
     else (if n == 5 then Some (no_line path)
     else (if n == 6 then Some shortages.Answers
     else (if n == 7 then Some shortages.LargeAnswer
@@ -34,7 +35,7 @@ abbrev pub plural : ℕ → List ℕ
 plural n = if n == 1 then [] else codes "s"
 
 abbrev pub shortage_line : Shortage → List ℕ
-shortage_line (shortages.Commands limit) = codes "ptb: stopped at the limit of " ++ decimal limit ++ codes " command" ++ plural limit ++ codes "; --steps N allows more"
+shortage_line (shortages.Commands line limit) = codes "ptb: stopped at line " ++ decimal line ++ codes " by the limit of " ++ decimal limit ++ codes " command" ++ plural limit ++ codes "; --steps N allows more"
 shortage_line shortages.Lines = codes "ptb: INPUT found no line left; give more lines, or use --choose N"
 shortage_line shortages.LinesBesideProgram = codes "ptb: INPUT found no line, since standard input was the program; name its file as PROGRAM"
 shortage_line shortages.Answers = codes "ptb: a random number was wanted and none is left; use --seed N, or give more --answers"

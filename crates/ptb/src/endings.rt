@@ -10,8 +10,13 @@ use std::fmt;
 /// Why a run ended before its program did.
 #[derive(Clone, Copy)]
 pub enum Shortage {
-    /// It had begun as many commands as it may: this many.
-    Commands(u32),
+    /// It had begun as many commands as it may.
+    Commands {
+        /// The number of the statement in which its next command begins.
+        line: u16,
+        /// How many commands it may begin.
+        limit: u32,
+    },
     /// INPUT found no line left of standard input.
     Lines,
     /// INPUT found no line, since standard input was the program.
@@ -27,7 +32,7 @@ impl fmt::Display for Shortage {
 
     fn fmt<W: fmt::Write>(&self, f: &mut fmt::Formatter<W>) -> fmt::Result {
         f.write_str(match self {
-            Shortage::Commands(limit) => return write_limit(*limit, f),
+            Shortage::Commands { line, limit } => return write_limit(*line, *limit, f),
             Shortage::Lines => {
                 "ptb: INPUT found no line left; give more lines, or use --choose N"
             }
@@ -46,14 +51,15 @@ impl fmt::Display for Shortage {
     }
 }
 
-// Writes that a run stopped at this limit.
-fn write_limit<W: fmt::Write>(limit: u32, f: &mut fmt::Formatter<W>) -> fmt::Result
-    ensures { WritesOnOk W.write_str_gives f.old result (shortage_line (Commands limit)) f.new }
+// Writes at which line this limit stopped a run.
+fn write_limit<W: fmt::Write>(line: u16, limit: u32, f: &mut fmt::Formatter<W>) -> fmt::Result
+    ensures { WritesOnOk W.write_str_gives f.old result (shortage_line (Commands line limit))
+        f.new }
 {
     let plural = plural(limit as usize);
     write!(
         f,
-        "ptb: stopped at the limit of {limit} command{plural}; --steps N allows more"
+        "ptb: stopped at line {line} by the limit of {limit} command{plural}; --steps N allows more"
     )
 }
 

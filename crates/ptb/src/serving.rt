@@ -128,7 +128,7 @@ fn conclude<R: Runtime>(
                     reason(console, task, note, outcome.mismatch),
                     note,
                 ),
-                None => say_shortage(console, task, outcome.status),
+                None => say_shortage(console, task, outcome.status, outcome.line),
             }
             outcome.status
         }
@@ -169,22 +169,30 @@ fn reason<'a, R: Runtime>(
 }
 
 // Says at a terminal why a run ended before its program did, if it did.
-fn say_shortage<R: Runtime>(console: &Console<'_, R>, task: &Task<'_>, status: u8) {
+fn say_shortage<R: Runtime>(
+    console: &Console<'_, R>,
+    task: &Task<'_>,
+    status: u8,
+    line: Option<u16>,
+) {
     if !console.terminals.output || !console.terminals.errors || !is_run(&task.request.mode) {
         return;
     }
-    if let Some(shortage) = shortage(task, status) {
+    if let Some(shortage) = shortage(task, status, line) {
         console.say_on_fresh_line(shortage);
     }
 }
 
-// Why a run with this status ended before its program did, if it did.
-fn shortage(task: &Task<'_>, status: u8) -> Option<Shortage>
+// Why a run with this status ended before its program did, if it did; at a limit, at this line.
+fn shortage(task: &Task<'_>, status: u8, line: Option<u16>) -> Option<Shortage>
     ensures { result ≡ shortage_of (option_copied task.now.path) task.now.request.rules.limit
-        status }
+        status line }
 {
     match status {
-        4 => Some(Shortage::Commands(task.request.rules.limit)),
+        4 => Some(Shortage::Commands {
+            line: line?,
+            limit: task.request.rules.limit,
+        }),
         5 if task.path.is_some() => Some(Shortage::Lines),
         5 => Some(Shortage::LinesBesideProgram),
         6 => Some(Shortage::Answers),

@@ -22,14 +22,14 @@ drop_cons {X = X} s n l = by_cases (drop n s) refl
     by_cases (x ∷ rest) e = (x, rest, sym (take-append-drop n s) ∙ ap (λ d. take n s ++ d) e)
 
 module _ {A W : Type 0} (play : Answers → Outcome A W) (most : ℕ) (reads : IsReader play most) where
-  -- an answer out of range closes every list that goes on with it
+  -- an answer out of range closes every list that continues with it
   pub out_closes : (plan t rest : Answers) (x n : ℤ) (w : W) → plan ≡ t ++ x ∷ rest → play t ≡ Asks n w → is_answer n x ≡ false → is_open (play plan) ≡ true → ⊥
   out_closes plan t rest x n w e a o h =
       let f = reads.out (t ++ x ∷ []) rest n w (reads.outside t n x w a o) in
       let s : play plan ≡ Out n w = ap play (e ∙ sym (append_assoc t (x ∷ []) rest)) ∙ f in
       let c : is_open (play plan) ≡ false = ap is_open s in cc
 
-  -- what goes on after a run is not open
+  -- what continues after a run is not open
   pub run_closes : (t rest : Answers) (x : ℤ) (f : A) → play t ≡ Done f [] → is_open (play (t ++ x ∷ rest)) ≡ true → ⊥
   run_closes t rest x f e h = let s : is_open (play (t ++ x ∷ rest)) ≡ false = ap is_open (reads.done t (x ∷ rest) [] f e) in cc
 
@@ -69,7 +69,7 @@ module _ {A W : Type 0} (play : Answers → Outcome A W) (most : ℕ) (reads : I
         bounds_are = b ∙ ap (bounds play) t;
       }
 
-  -- a plan that was not taken whole, or that ones followed, is no run
+  -- a plan that was not taken completely, or that ones followed, is no run
   pub not_whole : (count ≡ length plan → length answers ≡ length plan → ⊥) → IsRun play plan → ⊥
   not_whole differ r = by_more (length answers - planned) refl
     where

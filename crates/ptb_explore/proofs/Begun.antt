@@ -19,7 +19,7 @@ module _ (p : StoredProgram) (input : List (List ℕ)) (rules : Rules) (list : L
   pub list_opens : is_open (play p input rules plan) ≡ true → is_open (play p input rules (answers_of list)) ≡ true
   list_opens h = subst (λ (a : Answers). is_open (play p input rules a) ≡ true) is h
 
-  -- bounds of the plan and of what stands after it
+  -- bounds of the plan and of what comes after it
   module _ (given : List ℤ) (front : take (length plan) given ≡ bounds (play p input rules) plan) where
     states_same : states_bounds list given ≡ states_bounds list (bounds (play p input rules) (answers_of list))
     states_same = states_begun list plan given _ is (front ∙ ap (bounds (play p input rules)) is)

@@ -1,4 +1,4 @@
--- This file proves what a listing has left, and that one that begins behind a run goes on where one that ended with it stopped.
+-- This file proves what a listing has left, and that one that begins after a run resumes where one that ended with it stopped.
 use Rattle.std.proofs.Common.{◌≡◌, ℕ, List, [], ◌∷◌, ◌++◌, Bool, true, false, ◌↔◌, inl, refl, sym, ap, ◌∙◌, append_assoc}
 use Rattle.std.specs.Prelude.{Contains}
 use Rattle.std.specs.List.{filter, AllByRecursion}
@@ -15,7 +15,7 @@ filter-all : (p : Answers → Bool) (xs : List Answers) → AllByRecursion (λ b
 filter-all p [] h = refl
 filter-all p (x ∷ xs) h = rw h.0 (ap (λ s. x ∷ s) (filter-all p xs h.1))
 
--- in a rising list, what is behind a member stands behind it
+-- in a rising list, what is after a member comes after it
 filter-behind : (xs ys : List Answers) (r : Answers) → IsRising (xs ++ r ∷ ys) → filter (is_before r) (xs ++ r ∷ ys) ≡ ys
 filter-behind [] ys r up =
     let self : is_before r r ≡ false = false_from_ne_true _ (λ t. before_self r t) in

@@ -15,7 +15,7 @@ module _ {A W : Type 0} (play : Answers → Outcome A W) where
   bounds-append p (k ∷ s) t =
       ap (λ l. bound_of (play p) ∷ l) (bounds-append (p ++ k ∷ []) s t ∙ ap (λ q. bounds_after play (p ++ k ∷ []) s ++ bounds_after play q t) (append_assoc p (k ∷ []) s))
 
-  -- the bounds of answers that go on from t
+  -- the bounds of answers that continue from t
   pub bounds_from : (t q a : Answers) → bounds_after play (t ++ q) a ≡ bounds_after (λ later. play (t ++ later)) q a
   bounds_from t q [] = refl
   bounds_from t q (k ∷ a) = ap (λ l. bound_of (play (t ++ q)) ∷ l) (ap (λ p. bounds_after play p a) (append_assoc t q (k ∷ [])) ∙ bounds_from t (q ++ k ∷ []) a)
@@ -33,7 +33,7 @@ bounds_same : {A W : Type 0} (f g : Answers → Outcome A W) → ((a : Answers) 
 bounds_same f g same q [] = refl
 bounds_same f g same q (k ∷ a) = ap (λ v. bound_of v ∷ bounds_after f (q ++ k ∷ []) a) (same q) ∙ ap (λ l. bound_of (g q) ∷ l) (bounds_same f g same (q ++ k ∷ []) a)
 
--- a call that asks goes on from what the chooser held before
+-- a call that asks continues from what the chooser held before
 pub holds_on : {A W : Type 0} (play : Answers → Outcome A W) (c d : Choices) (f g : Answers → Outcome A W) → Holds play c f → Reaches f c d g → (d.plan ≡ c.plan) × Holds play d g
 holds_on play c d f g h r =
     let ts = r.answers in

@@ -21,7 +21,7 @@ use Rattle.ptb_explore.proofs.Keep.{GoesOn, agreed_bounds, agreed_len, agreed_ta
 use Rattle.ptb_explore.proofs.Raising.{plan_begins}
 use Rattle.ptb_explore.proofs.RunPrefix.{prefix_to}
 
--- the plan begins as the run does at which the listing stands
+-- the plan begins as the run does at which the listing is
 pub next_agrees : {A W : Type 0} (play : Answers → Outcome A W) (under : Answers) (position : Position) (answers plan : Answers) (bounded : List ℤ) (i : ℕ) → IsPosition play under position answers bounded → PlansNext under position answers bounded plan (Some i) → Agrees play i plan answers bounded
 next_agrees play under AtStart answers plan bounded i s n = rw n.0 (omega arith, refl, refl)
 next_agrees play under AtRun answers plan bounded i s n =
@@ -72,7 +72,7 @@ module _ (p : StoredProgram) (input : List (List ℕ)) (rules : Rules) where
   next_played under position r plan ones answers i old played steps new n h e plays =
       plays.2 ∙ ap (λ k. more_played played (steps - k)) (sym (next_steps under position r plan ones answers i old plays.0 n h e plays.1))
 
--- ---- where the run goes on from a copy
+-- ---- where the run continues from a copy
 
 module _ (p : StoredProgram) (input : List (List ℕ)) (rules : Rules) (most : ℕ) (plan answers : Answers) (bounded : List ℤ) (w : List ℕ) (left : List KeptCopy) (j : KeptCopy)
     (agrees : Agrees (play p input rules) most plan answers bounded) (on : GoesOn p input rules most answers w left j) where

@@ -1,4 +1,4 @@
--- This file proves that copies that are kept stay sound, and which of them a run goes on from.
+-- This file proves that copies that are kept stay sound, and which of them a run continues from.
 use Rattle.std.proofs.Common.{◌≡◌, ℕ, zero, suc, ◌+◌, ◌-◌, ◌<◌, ◌≤◌, List, [], ◌∷◌, ◌++◌, length, take, drop, true, false, Some, inl, inr, refl, ap, sym, subst, ◌∙◌, arith, length-append, length-take}
 use Rattle.std.specs.Prelude.{ℤ, pos, ◌<ℤ◌, slice_index_or, if◌then◌else◌}
 use Rattle.std.specs.Ordering.{int_eq}
@@ -38,7 +38,7 @@ module _ (p : StoredProgram) (input : List (List ℕ)) (rules : Rules) where
       let r = kept_within t w k.taken k.shown ks h.3 in
       (h.0, h.1, rw (take-append-le k.taken t u r.0, take-append-le k.shown w v r.1) h.2, kept_longer t u w v k.taken k.shown ks h.3)
 
-  -- the same, and one more copy, of where play stands then
+  -- the same, and one more copy, of where play is then
   pub kept_push : (t u : Answers) (w v : List ℕ) (m n : ℕ) (ks : List KeptCopy) (k : KeptCopy) → KeptFrom p input rules t w m n ks → length t < k.taken → k.taken ≡ length (t ++ u) → k.shown ≡ length (w ++ v) → StandsAt p input rules k (t ++ u) (w ++ v) → KeptFrom p input rules (t ++ u) (w ++ v) m n (ks ++ k ∷ [])
   kept_push t u w v m n [] k h l e f r =
       let a : take k.taken (t ++ u) ≡ t ++ u = ap (λ i. take i (t ++ u)) e ∙ take-length (t ++ u) in
@@ -94,7 +94,7 @@ module _ (p : StoredProgram) (input : List (List ℕ)) (rules : Rules) where
   pub kept_none : (t : Answers) (w : List ℕ) (ks : List KeptCopy) → ks ≡ [] → AreCopies p input rules t w ks
   kept_none t w ks e = rw e (omega arith, omega arith)
 
-  -- a copy's machine is where it stands
+  -- a copy's machine is where it is
   pub stands_machine : (k : KeptCopy) (t : Answers) (w : List ℕ) (m : Configuration) (s : StandsAt p input rules k t w) → machine_of k ≡ Some m → s.machine ≡ m
   stands_machine k t w m s h =
       let e : Some s.machine ≡ Some m = sym s.machine_is ∙ h in
@@ -119,7 +119,7 @@ module _ (p : StoredProgram) (input : List (List ℕ)) (rules : Rules) where
       let steps : s.machine.steps ≡ steps_of k = sym (ap steps_or_none s.machine_is) in
       (subst (λ (i : ℕ). AreTakenBy p input rules (take k.taken t) i) steps s.taken_by, kept_places t w k.taken k.shown ks h.3)
 
-  -- a copy of a copy stands where it does
+  -- a copy of a copy is where it does
   same_stands : (k j : KeptCopy) (t : Answers) (w : List ℕ) → IsSameCopy k j → StandsAt p input rules k t w → StandsAt p input rules j t w
   same_stands k j t w same s = record {
     machine = s.machine;
@@ -134,7 +134,7 @@ module _ (p : StoredProgram) (input : List (List ℕ)) (rules : Rules) where
 pub kept_same : (p q : StoredProgram) (input lines : List (List ℕ)) (rules : Rules) (t u : Answers) (w v : List ℕ) (ks js : List KeptCopy) → q ≡ p → lines ≡ input → u ≡ t → v ≡ w → js ≡ ks → AreCopies p input rules t w ks → AreCopies q lines rules u v js
 kept_same p q input lines rules t u w v ks js a b c d e h = rw (a, b, c, d, e) h
 
--- ---- which of them a run goes on from
+-- ---- which of them a run continues from
 
 pub last_at : (n : ℕ) (front : List KeptCopy) (k : KeptCopy) → last_steps_of n (front ++ k ∷ []) ≡ steps_of k
 last_at n [] k = refl
@@ -178,7 +178,7 @@ module _ (p : StoredProgram) (input : List (List ℕ)) (rules : Rules) (i : ℕ)
   kept_behind w m n [] dropped h = (m, n, h)
   kept_behind w m n (k ∷ front) dropped h = kept_behind w k.taken k.shown front dropped h.3
 
-  -- where a run with the answer at i raised goes on from what is left, that is the newest copy that its answers begin with
+  -- where a run with the answer at i raised continues from what is left, that is the newest copy that its answers begin with
   pub steps_behind : (w : List ℕ) (old left : List KeptCopy) → AreCopies p input rules a w old → WentBack i old left → kept_steps next (kept_runs a old) ≡ last_steps left
   steps_behind w old left h (back, inl none) =
       let split : old ≡ back.dropped = back.split ∙ ap (λ s. s ++ back.dropped) none in
@@ -220,7 +220,7 @@ module _ (p : StoredProgram) (input : List (List ℕ)) (rules : Rules) where
         steps = ap last_steps is ∙ last_at 0 front k ∙ ap steps_or_none (sym same.machine);
       }
 
--- ---- going on from a beginning of an earlier run
+-- ---- continuing from a beginning of an earlier run
 
 bounds-take : {A W : Type 0} (play : Answers → Outcome A W) (n : ℕ) (p a : Answers) → take n (bounds_after play p a) ≡ bounds_after play p (take n a)
 bounds-take play zero p a = refl

@@ -22,7 +22,7 @@ use Rattle.ptb_explore.proofs.Stopped.{bounds_within, run_within, stopped_reads}
 answers_are : (answers u : Answers) → ◌≡◌ {A = Front} (At answers) (At u) → answers ≡ u
 answers_are answers u e = cc
 
--- where the search stands at a list, the bounds that it has are those of its answers
+-- where the search is at a list, the bounds that it has are those of its answers
 bounds_at : (laws : RunLaws) (v : Splitting) (position : Position) (answers u : Answers) (bounded : List ℤ) → IsPosition (stopped v.most (split_play v)) [] position answers bounded → front_at position answers ≡ At u → bounded ≡ bounds (split_play v) u
 bounds_at laws v AtStart answers u bounded s e = absurd cc
 bounds_at laws v AtRun answers u bounded s e =
@@ -52,7 +52,7 @@ game_of s = stopped s.most (split_play s)
 pub game_reads : RunLaws → (s : Splitting) → IsReader (game_of s) s.most
 game_reads laws s = stopped_reads (split_play s) s.most (most_answers s.program s.input s.rules.limit) (laws.reads s.program s.input s.rules)
 
--- The search stands at s, and stood at `first` when the first line was to be written.
+-- The search is at s, and was at `first` when the first line was to be written.
 module _ (form : Form) (first s : Splitting) (same : s ≡ record first { front = s.front }) where
   pub same_search : (n : Splitting) → n ≡ record s { front = n.front } → n ≡ record first { front = n.front }
   same_search n h = h ∙ ap (λ (x : Splitting). record x { front = n.front }) same

@@ -38,7 +38,7 @@ after_then Start a b h k = refl
 after_then (At f) a b h k = before_then f a b h k
 after_then End a b h k = h
 
--- in a rising list, what is left begins with the first that is, and goes on with what is left behind that
+-- in a rising list, what is left begins with the first that is, and continues with what is left after that
 filter_next : (under : Answers) (front : Front) (r : Answers) (xs : List Answers) → IsRising xs → IsIn r xs → is_left under front r ≡ true → ((b : Answers) → IsIn b xs → is_left under front b ≡ true → Before b r → ⊥) → filter (is_left under front) xs ≡ r ∷ filter (is_left under (At r)) xs
 filter_next under front r [] up i h none = absurd i
 filter_next under front r (x ∷ xs) up (inl e) h none =
@@ -108,7 +108,7 @@ module _ {A W : Type 0} (play : Answers → Outcome A W) (most : ℕ) (reads : I
     | inr q ↦ top_last (p ++ x ∷ []) s t (rw (← q.0) o.1) (rw append_assoc r) q.1
   ]
 
-  -- no run is between a list whose last answers are at their bounds, and the list with the answer before these raised by one and ones behind it
+  -- no run is between a list whose last answers are at their bounds, and the list with the answer before these raised by one and ones after it
   pub between_none : (p q c t ones : Answers) (k : ℤ) → AtTop play ((p ++ q) ++ k ∷ []) t → AllOnes ones → IsRun play (p ++ c) → Before (q ++ k ∷ t) c → Before c (q ++ (k +ℤ pos 1) ∷ ones) → ⊥
   between_none p [] [] t ones k top o r low high = absurd cc
   between_none p (x ∷ q) [] t ones k top o r low high = absurd cc

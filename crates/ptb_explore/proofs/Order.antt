@@ -132,7 +132,7 @@ pub begins_from : (u s : Answers) → begins_with (u ++ s) u ≡ true
 begins_from [] s = refl
 begins_from (x ∷ u) s = and_from (int_eq x x) (begins_with (u ++ s) u) (same_from x) (begins_from u s)
 
--- what goes on after one list that is before another is before what goes on after that
+-- what continues after one list that is before another is before what continues after that
 pub before_more : (u v s t : Answers) → Before u v → Before (u ++ s) (v ++ t)
 before_more [] v s t h = absurd cc
 before_more (x ∷ u) [] s t h = absurd cc

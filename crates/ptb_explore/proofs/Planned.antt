@@ -1,4 +1,4 @@
--- This file proves what is known of an explorer that stands at the run of a plan, from what is known of each step.
+-- This file proves what is known of an explorer that is at the run of a plan, from what is known of each step.
 use Rattle.std.proofs.Common.{◌≡◌, ◌∙◌, ap, sym, subst, ℕ, List, [], true, Result, Ok, Err}
 use Rattle.std.specs.Prelude.{ℤ}
 use Rattle.ptb_answers.specs.declared.form.Marked.{Marked}

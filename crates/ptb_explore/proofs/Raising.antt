@@ -15,13 +15,13 @@ use Rattle.ptb_explore.proofs.Order.{before_from_differ, before_front, begins_fr
 use Rattle.ptb_explore.proofs.Tree.{run_asks}
 use Rattle.ptb_explore.proofs.Next.{AtTop, is_answer_is, between_none, ones_first, top_last, left_after, left_begins, left_from}
 
--- a list at a place: what stands before it, there and behind it
+-- a list at a place: what is before it, there and after it
 pub split_at : {X : Type 0} (s : List X) (i : ℕ) (d : X) → i < length s → s ≡ take i s ++ slice_index_or s i d ∷ drop (i + 1) s
 split_at [] i d l = absurd (omega arith)
 split_at (x ∷ s) zero d l = refl
 split_at (x ∷ s) (suc i) d l = let e = split_at s i d (omega arith) in let n : suc i + 1 ≡ suc (i + 1) = omega arith in rw n (ap (λ r. x ∷ r) e)
 
--- what begins with a list does so up to a place behind it
+-- what begins with a list does so up to a place after it
 begins_take : (under a b : Answers) (i : ℕ) → begins_with a under ≡ true → length under ≤ i → begins_with (take i a ++ b) under ≡ true
 begins_take [] a b i h l = refl
 begins_take (y ∷ under) [] b i h l = absurd cc
@@ -39,7 +39,7 @@ is_answer_of : (n k : ℤ) → pos 1 ≤ℤ k → k ≤ℤ n → is_answer n k �
 is_answer_of n k l u = and_from (int_le (pos 1) k) (int_le k n) (grind (arith, ints)) (grind (arith, ints))
 
 module _ {A W : Type 0} (play : Answers → Outcome A W) where
-  -- the bound of the answer behind q
+  -- the bound of the answer after q
   bound_there : (p q t : Answers) (x : ℤ) → slice_index_or (bounds_after play p (q ++ x ∷ t)) (length q) (pos 0) ≡ bound_of (play (p ++ q))
   bound_there p [] t x = ap (λ s. bound_of (play s)) (sym (append-nil p))
   bound_there p (y ∷ q) t x = bound_there (p ++ y ∷ []) q t x ∙ ap (λ s. bound_of (play s)) (append_assoc p (y ∷ []) q)
@@ -56,7 +56,7 @@ module _ {A W : Type 0} (play : Answers → Outcome A W) where
       rw append-nil (first, rw append-nil at r)
 
 module _ {A W : Type 0} (play : Answers → Outcome A W) (most : ℕ) (reads : IsReader play most) where
-  -- of the runs that begin with some answers, the first goes on with the least
+  -- of the runs that begin with some answers, the first continues with the least
   pub start_plan : (under : Answers) → is_open (play under) ≡ true → IsPlan play under Start under
   start_plan under opens = record {
     opens = opens;
@@ -93,11 +93,11 @@ module _ {A W : Type 0} (play : Answers → Outcome A W) (most : ℕ) (reads : I
       (λ k l u. rw (s ∙ sym e) (top k (omega (arith, length-append q (x ∷ []))) (omega (arith, ap length (s ∙ sym e))))) in
       rw e (raise_split q t x asks.0 asks.1 run asks.2 within.0 (rw b at lower) (top_from play [] (q ++ x ∷ []) t upper))
 
-  -- the answer at i is below its bound and those behind it are not: the next run raises it by one
+  -- the answer at i is below its bound and those after it are not: the next run raises it by one
   pub raise_plan : (a : Answers) (i : ℕ) → IsRun play a → i < length a → slice_index_or a i (pos 0) <ℤ slice_index_or (bounds play a) i (pos 0) → ((k : ℕ) → i < k → k < length a → slice_index_or (bounds play a) k (pos 0) ≤ℤ slice_index_or a k (pos 0)) → IsPlan play [] (At a) (take i a ++ (slice_index_or a i (pos 0) +ℤ pos 1) ∷ [])
   raise_plan a i r l low top = raise_from a (take i a) (drop (i + 1) a) (slice_index_or a i (pos 0)) i (split_at a i (pos 0) l) (length-take-le i a (omega arith)) r low top
 
-  -- what is raised goes on with the answers in front
+  -- what is raised continues with the answers in front
   raise_under : (under a : Answers) (i : ℕ) → begins_with a under ≡ true → length under ≤ i → (y : ℤ) → IsPlan play [] (At a) (take i a ++ y ∷ []) → IsPlan play under (At a) (take i a ++ y ∷ [])
   raise_under under a i b f y p = record {
     opens = p.opens;
@@ -111,7 +111,7 @@ module _ {A W : Type 0} (play : Answers → Outcome A W) (most : ℕ) (reads : I
         };
   }
 
-  -- where no answer behind those of `under` is below its bound, no run that begins with these is after
+  -- where no answer after those of `under` is below its bound, no run that begins with these is after
   top_plan : (under a : Answers) → IsRun play a → begins_with a under ≡ true → ((k : ℕ) → length under ≤ k → k < length a → slice_index_or (bounds play a) k (pos 0) ≤ℤ slice_index_or a k (pos 0)) → IsLast play under (At a)
   top_plan under a r b top c s h =
       let p = begins_is a under b in
@@ -121,7 +121,7 @@ module _ {A W : Type 0} (play : Answers → Outcome A W) (most : ℕ) (reads : I
       let at : (k : ℕ) → length under ≤ k → k < length (under ++ p.0) → slice_index_or (bounds_after play [] (under ++ p.0)) k (pos 0) ≤ℤ slice_index_or (under ++ p.0) k (pos 0) = rw (← p.1) top in
       top_last play most reads under q.0 p.0 (top_from play [] under p.0 at) run (before_front under p.0 q.0 later)
 
-  -- ---- the plan that follows where a listing stands
+  -- ---- the plan that follows where a listing is
 
   pub next_plan : (under : Answers) (position : Position) (answers plan : Answers) (bounded : List ℤ) (i : ℕ) → IsPosition play under position answers bounded → PlansNext under position answers bounded plan (Some i) → IsPlan play under (front_at position answers) plan
   next_plan under AtStart answers plan bounded i s p = rw p.1 (start_plan under s)
@@ -147,7 +147,7 @@ plan_begins under answers plan bounded i p =
     let u = p.0.within in
     (omega arith, ap (take i) p.1 ∙ take_front i answers (_ ∷ []) (omega arith))
 
--- where it stands at a run, there are as many bounds as answers
+-- where it is at a run, there are as many bounds as answers
 pub position_lengths : {A W : Type 0} (play : Answers → Outcome A W) (under : Answers) (position : Position) (answers : Answers) (bounded : List ℤ) → IsPosition play under position answers bounded → position ≡ AtRun → length answers ≡ length bounded
 position_lengths play under position answers bounded s e =
     let at = subst (λ (s : Position). IsPosition play under s answers bounded) e s in

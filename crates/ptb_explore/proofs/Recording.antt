@@ -1,4 +1,4 @@
--- This file proves what a recorder's plan has next, and that ones stand behind it.
+-- This file proves what a recorder's plan has next, and that ones come after it.
 use Rattle.std.proofs.Common.{◌≡◌, ℕ, zero, suc, ◌+◌, ◌-◌, ◌<◌, ◌≤◌, List, [], ◌∷◌, ◌++◌, length, get_or, take, replicate, arith, ap, sym, ◌∙◌, length-append, append_assoc}
 use Rattle.std.specs.Prelude.{ℤ, pos}
 use Rattle.std.proofs.lemmas.List.{take-append-le, replicate-append-replicate}
@@ -10,7 +10,7 @@ next_planned (x ∷ xs) n zero g l u e = absurd (omega arith)
 next_planned (x ∷ xs) zero (suc p) g l u e = (take p xs, ap (λ y. y ∷ take p xs) (sym e))
 next_planned (x ∷ xs) (suc n) (suc p) g l u e = let r = next_planned xs n p g (omega arith) (omega arith) e in (r.0, ap (λ y. x ∷ y) r.1)
 
--- one more 1 behind a plan and ones
+-- one more 1 after a plan and ones
 pub ones_push : (xs : List ℤ) (p : ℕ) → p ≤ length xs → xs ≡ take p xs ++ replicate (length xs - p) (pos 1) → xs ++ pos 1 ∷ [] ≡ take p (xs ++ pos 1 ∷ []) ++ replicate (length (xs ++ pos 1 ∷ []) - p) (pos 1)
 ones_push xs p l e =
     let n : length (xs ++ pos 1 ∷ []) - p ≡ (length xs - p) + 1 = omega (arith, length-append xs (pos 1 ∷ [])) in

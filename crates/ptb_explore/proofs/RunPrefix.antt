@@ -1,4 +1,4 @@
--- This file proves how a run goes on that is played step by step, and how it ends.
+-- This file proves how a run continues that is played step by step, and how it ends.
 use Rattle.std.proofs.Common.{◌≡◌, ℕ, ◌+◌, ◌-◌, ◌<◌, ◌≤◌, List, [], ◌∷◌, ◌++◌, zero, suc, true, Option, Some, None, Result, Ok, Err, ℤ, inl, inr, refl, sym, ap, subst, ◌∙◌, arith, append_assoc, append-nil, length, drop, length-append, length-drop}
 use Rattle.std.proofs.Math.Path.{fun_ext}
 use Rattle.ptb_text.specs.Statements.{StoredProgram}
@@ -93,7 +93,7 @@ module _ (laws : RunLaws) (p : StoredProgram) (input : List (List ℕ)) (rules :
     shown_there : there.shown ≡ t
     shown_there = x.leads.shown ∙ ap (λ b. b ++ x.exchange.bytes) u.shown_is ∙ sym x.exchanges.shows.shown
 
-  -- it goes on
+  -- it continues
   module _ (m new : Configuration) (c d : Choices) (s t : List ℕ) (given left rest : List (List ℕ)) (most few : ℕ) (u : IsRunPrefix p input rules c s left m) (x : StepsTo p.lines new (devices c (text_state s) most rules.choose []) u.state rest (turn p rules.limit u.state) (devices d (text_state t) few rules.choose given) goes) where
     goes_reached : (limit : ℕ) → x.leads.state.steps ≤ limit → (later : Answers) → play p input (limited rules limit) (d.taken ++ later) ≡ run_from p (limited rules limit) x.leads.state later
     goes_reached limit within later =

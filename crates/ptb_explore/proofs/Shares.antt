@@ -1,4 +1,4 @@
--- This file proves that the runs that begin with some answers are those of its shares, one behind the other.
+-- This file proves that the runs that begin with some answers are those of its shares, one after the other.
 use Rattle.std.proofs.Common.{◌≡◌, ℕ, zero, suc, ◌+◌, ◌≤◌, List, [], ◌∷◌, ◌++◌, length, true, ◌↔◌, inl, inr, refl, ap, sym, ◌∙◌, subst, arith, append_assoc, append-nil, length-append}
 use Rattle.std.specs.Prelude.{ℤ, pos, Contains, ◌<ℤ◌, int_le}
 use Rattle.std.proofs.lemmas.Bool.{and_from}
@@ -18,7 +18,7 @@ use Rattle.ptb_explore.proofs.Tree.{run_apart, run_asks, run_open, tree_rises, t
 
 -- ---- rising lists with the same members
 
--- behind the same first member
+-- after the same first member
 behind_first : (x y : Answers) (xs ys : List Answers) → x ≡ y → AllByRecursion (Before x) xs → ((a : Answers) → IsIn a (x ∷ xs) → IsIn a (y ∷ ys)) → (a : Answers) → IsIn a xs → IsIn a ys
 behind_first x y xs ys e up f a i = elim (f a (inr i)) [
   | inl d ↦ absurd (before_self x (subst (Before x) (d ∙ sym e) (all_at (Before x) xs a up i)))
@@ -60,7 +60,7 @@ module _ {A W : Type 0} (play : Answers → Outcome A W) (most : ℕ) (reads : I
     abbrev share : ℤ → List Answers
     share k = runs_after play most (under ++ k ∷ []) f
 
-    -- a run that begins with the answers has one to the question behind them
+    -- a run that begins with the answers has one to the question after them
     share_of : (a s : Answers) → a ≡ under ++ s → IsRun play a → is_after f a ≡ true → IsIn a (flat_map share (answers_to n))
     share_of a [] e r h = let v = whole_is (play a) r in let g : play a ≡ Asks n w = ap play (e ∙ append-nil under) ∙ asks in absurd cc
     share_of a (k ∷ s) e r h =
@@ -99,7 +99,7 @@ module _ {A W : Type 0} (play : Answers → Outcome A W) (most : ℕ) (reads : I
     pub question : (report : Answers → List ℕ) → text report (runs_after play most under f) ≡ flat_map (λ k. text report (runs_after play most (under ++ k ∷ []) f)) (answers_to n)
     question report = ap (text report) joined ∙ text_each report share (answers_to n)
 
-  -- with ones behind a question, a run is reached
+  -- with ones after a question, a run is reached
   some_run : (d : ℕ) (u : Answers) → most ≤ length u + d → is_open (play u) ≡ true → (s : Answers) × AllOnes s × IsRun play (u ++ s)
   some_run zero u l o = elim (open_is (play u) o) [
     | inl e ↦ ([], tt, rw (append-nil u, e.1) refl)
@@ -114,7 +114,7 @@ module _ {A W : Type 0} (play : Answers → Outcome A W) (most : ℕ) (reads : I
         (pos 1 ∷ p.0, (refl, p.1), rw (append_assoc u (pos 1 ∷ []) p.0) at p.2)
   ]
 
-  -- where a run goes on from a plan, some run is left
+  -- where a run continues from a plan, some run is left
   pub plan_left : {P : Type 0} (under : Answers) (front : Front) (plan : Answers) → IsPlan play under front plan → IsLast play under front → P
   plan_left under front plan p last =
       let s = some_run most plan (omega arith) p.opens in

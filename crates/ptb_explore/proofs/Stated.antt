@@ -14,7 +14,7 @@ use Rattle.ptb_explore.specs.RunTree.{IsRun, begins_with}
 use Rattle.ptb_explore.proofs.Bounds.{length-bounds}
 use Rattle.ptb_explore.proofs.Order.{same_from, same_is}
 
--- bounds behind those of the list are not looked at
+-- bounds after those of the list are not looked at
 pub states_front : (list : List Marked) (bounds : List ℤ) (n : ℕ) → length list ≤ n → states_bounds list (take n bounds) ≡ states_bounds list bounds
 states_front [] bounds n l = refl
 states_front (m ∷ list) bounds zero l = absurd (omega arith)

@@ -1,4 +1,4 @@
--- This file proves that the tree has the runs and nothing else, in rising order, and that none of its runs goes on from another.
+-- This file proves that the tree has the runs and nothing else, in rising order, and that none of its runs continues from another.
 use Rattle.std.proofs.Common.{◌≡◌, ℕ, zero, suc, ◌+◌, ◌≤◌, [], ◌∷◌, ◌++◌, length, true, false, ◌⊎◌, ◌↔◌, inl, inr, refl, ap, sym, ◌∙◌, arith, append_assoc, append-nil, length-append}
 use Rattle.std.specs.Prelude.{ℤ}
 use Rattle.std.proofs.lemmas.Bool.{cases_Bool}
@@ -49,7 +49,7 @@ module _ {A W : Type 0} (play : Answers → Outcome A W) (most : ℕ) (reads : I
   pub run_apart : (q b : Answers) (k : ℤ) → IsRun play q → IsRun play (q ++ k ∷ b) → ⊥
   run_apart q b k r t = let p = run_asks q b k t in let w = whole_is (play q) r in absurd cc
 
-  -- what stands below q begins with q, and is a run
+  -- what is below q begins with q, and is a run
   pub leaf_begins : (d : ℕ) (q a : Answers) → is_open (play q) ≡ true → IsIn a (leaves play q d) → (b : Answers) × (a ≡ q ++ b)
   leaf_begins zero q a o h = elim (open_is (play q) o) [
     | inl d ↦ elim (rw (leaves-done play 0 q [] d.0 d.1) at h) [ inl e ↦ ([], e ∙ sym (append-nil q)) | inr f ↦ absurd f ]
@@ -75,7 +75,7 @@ module _ {A W : Type 0} (play : Answers → Outcome A W) (most : ℕ) (reads : I
         leaf_is_run m (q ++ i.0 ∷ []) a (reads.inside q d.0 i.0 d.1 d.2 i.1) i.2
   ]
 
-  -- each run that begins with q stands below q
+  -- each run that begins with q is below q
   pub run_is_leaf : (d : ℕ) (q b : Answers) → most ≤ length q + d → IsRun play (q ++ b) → IsIn (q ++ b) (leaves play q d)
   run_is_leaf d q [] l r =
       let w = whole_is (play (q ++ [])) r in

@@ -40,7 +40,7 @@ module _ {A W : Type 0} (play : Answers → Outcome A W) (r : Recorder) (result 
   pub trial_ends : (most : ℕ) → IsReader play most → is_open (play (take r.planned r.answers.items)) ≡ true → EndsAt play (take r.planned r.answers.items) r.answers.items r.bounds.items result
   trial_ends most reads o = ends_at play most reads (take r.planned r.answers.items) r.answers.items r.planned (length r.bounds.items) result recorder_took r.bounds.items o taken_bounds
 
-  -- a plan that was not taken whole, or that ones followed, is no run
+  -- a plan that was not taken completely, or that ones followed, is no run
   pub trial_not_whole : (most : ℕ) → IsReader play most → (length r.bounds.items ≡ length (take r.planned r.answers.items) → length r.answers.items ≡ length (take r.planned r.answers.items) → ⊥) → IsRun play (take r.planned r.answers.items) → ⊥
   trial_not_whole most reads differ run = not_whole play most reads (take r.planned r.answers.items) r.answers.items r.planned (length r.bounds.items) result recorder_took differ run
 
@@ -76,7 +76,7 @@ module _ (play : Answers → Outcome Finish (List ℕ)) (r : Recorder) (steps : 
         let closed : is_open (play plan) ≡ false = ap is_open (ap play (sym planned) ∙ h.out) in
         cc
 
-  -- a plan that is taken whole, and that nothing follows, is a run
+  -- a plan that is taken completely, and that nothing follows, is a run
   module _ (taken : length r.bounds.items ≡ length plan) (alone : length r.answers.items ≡ length plan) where
     all_planned : r.answers.items ≡ plan
     all_planned =

@@ -21,7 +21,7 @@ memory_no_write is h = absurd cc
 pub memory_told : {T P : Type 0} {n k : ℕ} → ◌≡◌ {A = Result T ExploreFault} (Err (Memory n)) (Err (Write k)) → P
 memory_told h = absurd cc
 
--- The explorer stands at e, and stood at `first` when the first report was to be written.
+-- The explorer is at e, and was at `first` when the first report was to be written.
 module _ (form : Form) (first e : Exploration) (same : e ≡ record first { front = e.front; kept = e.kept; played = e.played }) where
   pub same_after : (n : Exploration) → n ≡ record e { front = n.front; kept = n.kept; played = n.played } → n ≡ record first { front = n.front; kept = n.kept; played = n.played }
   same_after n h = h ∙ ap (λ (x : Exploration). record x { front = n.front; kept = n.kept; played = n.played }) same
@@ -63,7 +63,7 @@ module _ (form : Form) (first e : Exploration) (same : e ≡ record first { fron
             let stays = of_first f new new' (Err next.Memory) (subst (λ (y : NextFault). NextWrites (play_of e) e.under (report form (play_of e)) e.front f new new' (Err y)) is h) in
             rw (stays.1, stays.2) (progress_some (play_of first) (most_of first) reads first.under (report form (play_of first)) list first.front old e.front remaining new n progress unused stays.0)
 
-        -- a beginning of it was written
+        -- a prefix of it was written
         pub part_written : (x : NextFault) → x ≡ next.Write → NextWrites (play_of e) e.under (report form (play_of e)) e.front f new new' (Err x) → WritesInto (play_of first) first.under (report form (play_of first)) list first.front f old new' n
         part_written x is h =
             let part = of_first f new new' (Err next.Write) (subst (λ (y : NextFault). NextWrites (play_of e) e.under (report form (play_of e)) e.front f new new' (Err y)) is h) in

@@ -6,7 +6,7 @@
 --     beginning_line form play u    the line of a list: its answers, in a form
 --     Splitting                 what contracts see of a search for these lists
 --     split_play s              what is searched
---     MovesTo play f f' found   the search stands at the next list, or past the last
+--     MovesTo play f f' found   the search is at the next list, or past the last
 --     FindsBeginning play f r found     r has the answers and bounds of the next list, or there is none
 use Rattle.std.specs.Prelude.{◌≡◌, ℕ, ◌≤◌, nat_lt, List, [], ◌∷◌, ◌++◌, length, take, drop, Bool, true, false, ◌⊎◌, ◌↔◌, ℤ, Contains}
 use Rattle.std.specs.List.{flat_map}

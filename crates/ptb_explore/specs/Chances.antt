@@ -35,7 +35,7 @@ last_line [] = []
 last_line (l ∷ []) = l
 last_line (l ∷ m ∷ ls) = last_line (m ∷ ls)
 
--- what is no run has none, and stands for one that shows nothing
+-- what is no run has none, and counts as one that shows nothing
 abbrev pub result_of : Outcome Finish (List ℕ) → RunResult
 result_of (Done f rest) = record { ending = f.ending; line = last_line (lines f.shown) }
 result_of (Asks n shown) = record { ending = endings.NoAnswer; line = [] }

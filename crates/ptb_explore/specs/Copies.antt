@@ -1,4 +1,4 @@
--- This file defines when the copies of machines that are kept of a run are sound, and which run goes on from which.
+-- This file defines when the copies of machines that are kept of a run are sound, and which run continues from which.
 --     machine_of k, steps_of k               the machine of a copy, and how many commands it had begun
 --     IsCopyOf m taken shown lines k         a copy of this machine, which had come so far
 --     IsSameCopy k j                         j is a copy as k is
@@ -14,7 +14,7 @@
 --     AreBeginnings m answers runs           each took a beginning of the answers, longer than that of the one before it
 --     ArePlaces p input rules runs           the steps of each are those of the command that took its last answer
 --     play_limit                             more commands than one play can add
---     PlaysOn common old played steps new    so many steps are played after a run that goes on from what is left of the copies
+--     PlaysOn common old played steps new    so many steps are played after a run that continues from what is left of the copies
 use Rattle.std.specs.Prelude.{◌≡◌, ℕ, ◌+◌, ◌-◌, ◌^◌, min, ◌<◌, ◌≤◌, List, [], ◌∷◌, ◌++◌, length, take, drop, map, false, if◌then◌else◌, ◌⊎◌, Option, Some, None, option_map, ℤ}
 use Rattle.std.specs.List.{AllByRecursion}
 use Rattle.ptb_answers.specs.declared.rules.Rules.{Rules}
@@ -96,7 +96,7 @@ module _ (p : StoredProgram) (input : List (List ℕ)) (rules : Rules) where
     pub all : IsRun (play p input (limited rules steps)) answers
     pub no_sooner : IsRun (play p input (limited rules (steps - 1))) answers → ⊥
 
-  -- after the answers t, with the bytes w shown, play stands where the copy does
+  -- after the answers t, with the bytes w shown, play is where the copy does
   pub record StandsAt (k : KeptCopy) (t : Answers) (w : List ℕ) : Type 0 where
     pub machine : Configuration
     pub machine_is : machine_of k ≡ Some machine
@@ -105,7 +105,7 @@ module _ (p : StoredProgram) (input : List (List ℕ)) (rules : Rules) where
     pub taken_by : AreTakenBy t machine.steps
     pub run_prefix : IsRunPrefix p input rules (taken_choices (play p input rules) t) w (drop k.lines input) machine
 
-  -- each took a beginning of the answers, longer than that of the copy before it, and showed a beginning of the bytes
+  -- each took a beginning of the answers, longer than that of the copy before it, and showed a prefix of the bytes
   abbrev pub KeptFrom : Answers → List ℕ → ℕ → ℕ → List KeptCopy → Type 0
   KeptFrom t w m n [] = (m ≤ length t) × (n ≤ length w)
   KeptFrom t w m n (k ∷ ks) = (m < k.taken) × (n ≤ k.shown) × StandsAt k (take k.taken t) (take k.shown w) × KeptFrom t w k.taken k.shown ks

@@ -1,11 +1,11 @@
 -- This file defines what contracts see of an explorer, and what its calls leave.
---     Exploration                  what is explored, and where the explorer stands
+--     Exploration                  what is explored, and where the explorer is
 --     play_of e, most_of e         what is played, and how many answers a run can have
 --     finish_of r                  how the run of a report ended
 --     Reports play r               r is the report of the run of its answers
 --     NextReports play u f r found it is that of the next run, or there is none
 --     NextLeaves old result new    what the search for the next run leaves
---     AreCopiesAt ..               the copies are of the run at which an explorer stands
+--     AreCopiesAt ..               the copies are of the run at which an explorer is
 --     AreKeptAt f runs             the same, of what contracts see of them
 --     IsPlayed play a n            the run of these answers has so many steps
 --     NextPlays ..                 how many steps were played after the next run
@@ -33,7 +33,7 @@ pub record Exploration : Type 0 where
   -- each of its runs begins with these answers
   pub under : Answers
   pub front : Front
-  -- the copies that are kept of the run at which it stands, the one with the fewest answers first
+  -- the copies that are kept of the run at which it is, the one with the fewest answers first
   pub kept : List KeptRun
   -- how many commands were played in all
   pub played : ℕ
@@ -57,13 +57,13 @@ abbrev pub NextReports : (Answers → Outcome Finish (List ℕ)) → Answers →
 NextReports play under f r true = Reports play r × IsNextRun play under f r.answers.items
 NextReports play under f r false = IsLast play under f
 
--- ---- what is left behind
+-- ---- what is left
 
 -- the commands that a run has in common with that of a copy are not played again
 abbrev pub played_after : List KeptRun → ℕ → Report → ℕ
 played_after kept played r = more_played played (r.steps - kept_steps r.answers.items kept)
 
--- it stands at the run whose report is lent
+-- it is at the run whose report is lent
 pub record FoundNext (old : Exploration) (r : Report) (new : Exploration) : Type 0 where
   pub now : new ≡ record old { front = At r.answers.items; kept = new.kept; played = played_after old.kept old.played r }
   pub kept : AreBeginnings 0 r.answers.items new.kept
@@ -82,7 +82,7 @@ NextLeaves old (Err e) new = RefusedNext old new
 
 -- ---- copies
 
--- where it stands at no run there are none
+-- where it is at no run there are none
 abbrev pub AreCopiesAt : StoredProgram → List (List ℕ) → Rules → Position → Report → List KeptCopy → Type 0
 AreCopiesAt p input rules AtStart r ks = ks ≡ []
 AreCopiesAt p input rules AtRun r ks = AreCopies p input rules r.answers.items r.transcript.items ks

@@ -1,7 +1,7 @@
 -- This file states the laws of runs.
 --     TreeLaws        the tree has the runs, each once, in order
---     ListingLaws     what a listing has left, and that one behind a run goes on where one that ended with it stopped
---     ShareLaws       the runs that begin with some answers are those of its shares, one behind the other
+--     ListingLaws     what a listing has left, and that one after a run resumes where one that ended with it stopped
+--     ShareLaws       the runs that begin with some answers are those of its shares, one after the other
 --     AreNumbers a    each answer is at most 32767
 --     ReportLaws      two runs have two different reports
 use Rattle.std.specs.Prelude.{◌≡◌, ℕ, ◌<◌, List, [], ◌∷◌, ◌++◌, length, true, ℤ, pos, ◌≤ℤ◌, ◌↔◌, Contains}
@@ -19,18 +19,18 @@ pub record TreeLaws {A W : Type 0} (play : Answers → Outcome A W) (most : ℕ)
   pub order : IsRising (tree play most)
   -- where something is asked, fewer answers were given
   pub few : (q : Answers) (n : ℤ) (w : W) → play q ≡ Asks n w → length q < most
-  -- a run with more answers behind it is no run
+  -- a run with more answers after it is no run
   pub apart : (a later : Answers) (k : ℤ) → IsRun play a → IsRun play (a ++ k ∷ later) → ⊥
 
 pub record ListingLaws {A W : Type 0} (play : Answers → Outcome A W) (most : ℕ) : Type 0 where
-  -- behind a run stand those that the tree has behind it
+  -- after a run come those that the tree has after it
   pub behind :
       (front back : List Answers) (r : Answers) → tree play most ≡ front ++ r ∷ back → runs_after play most [] (At r) ≡ back
-  -- so the reports up to a run, and those behind it, are all reports
+  -- so the reports up to a run, and those after it, are all reports
   pub whole_text :
       (report : Answers → List ℕ) (front back : List Answers) (r : Answers) → tree play most ≡ front ++ r ∷ back
       → text report (front ++ r ∷ []) ++ text report (runs_after play most [] (At r)) ≡ text report (tree play most)
-  -- what a listing has left are the runs after the place where it stands and nothing else, in rising order
+  -- what a listing has left are the runs after the place where it is and nothing else, in rising order
   pub runs : (under : Answers) (f : Front) (a : Answers) → Contains (runs_after play most under f) a ↔ (IsRun play a × (is_left under f a ≡ true))
   pub order : (under : Answers) (f : Front) → IsRising (runs_after play most under f)
 
@@ -38,11 +38,11 @@ pub record ListingLaws {A W : Type 0} (play : Answers → Outcome A W) (most : �
 pub record ShareLaws {A W : Type 0} (play : Answers → Outcome A W) (most : ℕ) : Type 0 where
   -- the share of no answers is the whole
   pub whole : (f : Front) → runs_after play most [] f ≡ filter (is_after f) (tree play most)
-  -- where a question comes behind the answers, the reports of its shares, in the order of their answers, are all reports
+  -- where a question comes after the answers, the reports of its shares, in the order of their answers, are all reports
   pub question :
       (report : Answers → List ℕ) (under : Answers) (n : ℤ) (w : W) (f : Front) → play under ≡ Asks n w
       → text report (runs_after play most under f) ≡ flat_map (λ k. text report (runs_after play most (under ++ k ∷ []) f)) (answers_to n)
-  -- some run begins with answers where they are one, or where a question comes behind them, and nowhere else
+  -- some run begins with answers where they are one, or where a question comes after them, and nowhere else
   pub beginning : (under : Answers) → (is_open (play under) ≡ true) ↔ ((a : Answers) × IsRun play a × (begins_with a under ≡ true))
   -- the share of a run is that run
   pub run : (a : Answers) → IsRun play a → runs_after play most a Start ≡ a ∷ []

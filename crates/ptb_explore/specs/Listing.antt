@@ -1,6 +1,6 @@
--- This file defines what a listing of the runs that begin with `under` leaves behind it. `report` gives the text of the report of a run.
+-- This file defines what a listing of the runs that begin with `under` leaves. `report` gives the text of the report of a run.
 --     text report list                  the reports of a list of runs, one after the other
---     behind f list                     where a listing stands after a list of runs
+--     behind f list                     where a listing is after a list of runs
 --     less_one n                        how many may still be written after one more
 --     NextWrites ..                     what the writing of the next report leaves
 --     WritesRuns ..                     what the writing of a list of reports leaves
@@ -32,20 +32,20 @@ abbrev pub count_of : List Answers → ℕ
 count_of list = min (length list) (2 ^ 64 - 1)
 
 module _ {A W : Type 0} (play : Answers → Outcome A W) (under : Answers) (report : Answers → List ℕ) where
-  -- its report was written, or no run is left, or one is left and nothing was written, or a beginning of its report was
+  -- its report was written, or no run is left, or one is left and nothing was written, or a prefix of its report was
   abbrev pub NextWrites : Front → Front → Option (List ℕ) → Option (List ℕ) → Result Bool NextFault → Type 0
   NextWrites f f' old new (Ok true) = (a : Answers) × IsNextRun play under f a × (f' ≡ At a) × Appends old new (report a)
   NextWrites f f' old new (Ok false) = IsLast play under f × (f' ≡ End) × (new ≡ old)
   NextWrites f f' old new (Err next.Memory) = (IsLast play under f → ⊥) × (f' ≡ f) × (new ≡ old)
   NextWrites f f' old new (Err next.Write) = (a : Answers) × IsNextRun play under f a × (f' ≡ At a) × TakesSome old new (report a)
 
-  -- the reports of the whole list were written; it stands behind the list, or past the last run
+  -- the reports of the complete list were written; it is after the list, or past the last run
   pub record WritesList (list : List Answers) (f f' : Front) (old new : Option (List ℕ)) (n : ℕ) : Type 0 where
     pub bytes : Appends old new (text report list)
     pub count : n ≡ count_of list
     pub front : (f' ≡ behind f list) ⊎ ((f' ≡ End) × IsLast play under (behind f list))
 
-  -- the reports of a beginning of the list were written, and not the whole list; it stands after them
+  -- the reports of a beginning of the list were written, and not the complete list; it is after them
   pub record WritesSome (list : List Answers) (f f' : Front) (old new : Option (List ℕ)) (n : ℕ) : Type 0 where
     pub beginning : List Answers
     pub rest : List Answers
@@ -55,7 +55,7 @@ module _ {A W : Type 0} (play : Answers → Outcome A W) (under : Answers) (repo
     pub count : n ≡ count_of beginning
     pub front : f' ≡ behind f beginning
 
-  -- the reports of a beginning of the list were written, and a beginning of the next; it stands at that one
+  -- the reports of a beginning of the list were written, and a prefix of the next; it is at that one
   pub record WritesInto (list : List Answers) (f f' : Front) (old new : Option (List ℕ)) (n : ℕ) : Type 0 where
     pub beginning : List Answers
     pub at : Answers

@@ -23,6 +23,6 @@ states_bounds (m ∷ list) (n ∷ bounds) = is_bound m.bound n && states_bounds 
 abbrev pub IsMarkedRun : {A W : Type 0} → (Answers → Outcome A W) → List Marked → Type 0
 IsMarkedRun play list = IsRun play (answers_of list) × (states_bounds list (bounds play (answers_of list)) ≡ true)
 
--- a run begins with the answers where they are one, or a question comes behind them
+-- a run begins with the answers where they are one, or a question comes after them
 abbrev pub IsMarkedBeginning : {A W : Type 0} → (Answers → Outcome A W) → List Marked → Type 0
 IsMarkedBeginning play list = (is_open (play (answers_of list)) ≡ true) × (states_bounds list (bounds play (answers_of list)) ≡ true)

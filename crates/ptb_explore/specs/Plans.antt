@@ -1,9 +1,9 @@
--- This file defines plans: the first answers of the next run, which goes on with the least answers.
---     IsPlan play under front plan                what goes on from the plan with ones and is a run is the next run that is left
+-- This file defines plans: the first answers of the next run, which continues with the least answers.
+--     IsPlan play under front plan                what continues from the plan with ones and is a run is the next run that is left
 --     IsLastBelow floor answers bounds i          the last answer from a place on that can be raised is the one at i
---     PlansNext under position answers bounds plan o    the plan raises that answer by one and drops those behind it; `under` stays
+--     PlansNext under position answers bounds plan o    the plan raises that answer by one and drops those after it; `under` stays
 --     HasPlan under position answers bounds       there is such a plan
---     IsPosition play under position answers bounds     where it stands at a run, it is that of the answers, with these bounds
+--     IsPosition play under position answers bounds     where it is at a run, it is that of the answers, with these bounds
 --     stopping_plan n plan                        the plan, ones up to n answers, and then no answer
 --     IsFresh recorder                            all that a recorder holds is a plan
 --     IsTakenAlone planned stated recorder        all answers of a plan were taken and no more, with the bounds that are stated
@@ -54,7 +54,7 @@ PlansNext under AtEnd answers bounds plan (Some i) = ⊥
 abbrev pub HasPlan : Answers → Position → Answers → List ℤ → Type 0
 HasPlan under position answers bounds = (plan : Answers) × (i : ℕ) × PlansNext under position answers bounds plan (Some i)
 
--- ---- where a listing stands
+-- ---- where a listing is
 
 abbrev pub front_at : Position → Answers → Front
 front_at AtStart answers = Start

@@ -1,10 +1,10 @@
--- This file defines what it comes to that a run is played with the answers of a plan, and 1 to each question behind them.
+-- This file defines the result of a run that is played with the answers of a plan, and 1 to each question after them.
 --     Holds play c left                      what a chooser holds, and what of the play is left to be done
 --     NextIsOutside play c bound             the plan's next answer is outside the bound of its question
 --     PlayEnds play c bound steps shown ending    the play has this ending; the bound is that of the question where an answer is outside it
 --     run_from p rules S                     what is left of a run from the state S on
 --     limited rules n                        the same rules with the limit n
---     IsRunPrefix p input rules c shown left m    with what a chooser holds, a run has come to where a machine stands
+--     IsRunPrefix p input rules c shown left m    with what a chooser holds, a run has come to where a machine is
 use Rattle.std.specs.Prelude.{◌≡◌, ℕ, ◌≤◌, List, ◌∷◌, ◌++◌, false, Some, ℤ}
 use Rattle.ptb_text.specs.Statements.{StoredProgram}
 use Rattle.ptb_answers.specs.Outcome.{Answers, Outcome, Done, Asks, Out, bounds, is_answer, map_outcome}
@@ -18,7 +18,7 @@ use Rattle.ptb_answers.specs.declared.rules.Rules.{Rules}
 use Rattle.ptb_machine.specs.Play.{Finish, turns, play}
 
 module _ {A W : Type 0} (play : Answers → Outcome A W) where
-  -- the bounds of the answers that were taken are kept, and what is left does what play does behind them
+  -- the bounds of the answers that were taken are kept, and what is left does what play does after them
   pub record Holds (c : Choices) (left : Answers → Outcome A W) : Type 0 where
     pub bounds_are : c.kept ≡ Some (bounds play c.taken)
     pub rest : (later : Answers) → play (c.taken ++ later) ≡ left later
@@ -49,7 +49,7 @@ run_from p rules S a = map_outcome (λ f. f) (λ (T : State). T.shown) (turns p 
 abbrev pub limited : Rules → ℕ → Rules
 limited rules n = record rules { limit = n }
 
--- a run was begun, and with what the chooser holds it has come to where the machine stands
+-- a run was begun, and with what the chooser holds it has come to where the machine is
 pub record IsRunPrefix (p : StoredProgram) (input : List (List ℕ)) (rules : Rules) (c : Choices) (shown : List ℕ) (left : List (List ℕ)) (m : Configuration) : Type 0 where
   pub state : State
   pub represents : Represents p.lines m state

@@ -2,7 +2,7 @@
 --     IsRun play a                     play comes to a result, and uses up the answers
 --     is_before a b, Before a b        where a and b first differ, a's answer is the smaller
 --     tree play most                   all runs, where none has more answers than this
---     Front                            where a listing stands
+--     Front                            where a listing is
 --     begins_with a under              whether a begins with these answers
 --     is_left under front a            whether a begins with these answers and is after the front
 --     runs_after play most under front     the runs that a listing of those that begin with these answers has left
@@ -21,7 +21,7 @@ IsRun play a = is_whole (play a) ≡ true
 
 -- ---- their order
 
--- no list is before another that it begins, and none behind it
+-- no list is before another that it begins, and none after it
 abbrev pub is_before : Answers → Answers → Bool
 is_before [] b = false
 is_before (x ∷ a) [] = false
@@ -30,7 +30,7 @@ is_before (x ∷ a) (y ∷ b) = int_lt x y || (int_eq x y && is_before a b)
 abbrev pub Before : Answers → Answers → Type 0
 Before a b = is_before a b ≡ true
 
--- each list is before all that stand behind it
+-- each list is before all that come after it
 abbrev pub IsRising : List Answers → Type 0
 IsRising [] = Unit {0}
 IsRising (a ∷ list) = AllByRecursion (Before a) list × IsRising list

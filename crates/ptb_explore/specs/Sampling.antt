@@ -1,5 +1,5 @@
 -- This file defines what the writing of a sample leaves, and states the laws of samples. `report` gives the text of the report of a run.
---     WritesRun report a old new r         the report of the run a was written, or nothing, or a beginning of it
+--     WritesRun report a old new r         the report of the run a was written, or nothing, or a prefix of it
 --     WritesSample report list old new r   the reports of these runs were written, or those of the first of them
 --     PlaysDrawn play first s f            the run whose answers a chooser has drawn ends so
 --     concatenated list                    the answers of all runs, one after the other
@@ -28,7 +28,7 @@ module _ (report : Answers → List ℕ) where
   WritesRun a old new (Err next.Memory) = new ≡ old
   WritesRun a old new (Err next.Write) = TakesSome old new (report a)
 
-  -- the reports of the first n runs were written, and not of the whole list
+  -- the reports of the first n runs were written, and not of the complete list
   pub record WritesFirst (list : List Answers) (old new : Option (List ℕ)) (n : ℕ) : Type 0 where
     pub beginning : List Answers
     pub rest : List Answers
@@ -37,7 +37,7 @@ module _ (report : Answers → List ℕ) where
     pub bytes : Appends old new (text report beginning)
     pub count : n ≡ length beginning
 
-  -- the reports of the first n runs were written, and a beginning of the next
+  -- the reports of the first n runs were written, and a prefix of the next
   pub record WritesPart (list : List Answers) (old new : Option (List ℕ)) (n : ℕ) : Type 0 where
     pub beginning : List Answers
     pub at : Answers

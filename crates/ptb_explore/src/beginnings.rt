@@ -131,9 +131,9 @@ pub struct Beginnings<'a> {
     rules: Rules,
     /// The most answers that a list has.
     most: usize,
-    /// Where the search stands.
+    /// Where the search is.
     position: Position,
-    /// Its answers and bounds are those of the list at which the search stands.
+    /// Its answers and bounds are those of the list at which the search is.
     report: Report,
     /// Plans the next list, and answers the questions of its play.
     trial: Recorder,
@@ -210,8 +210,8 @@ impl<'a> Beginnings<'a> {
     ///
     /// # Errors
     ///
-    /// Where a growth was refused memory, never where no list is left. The search stands where it
-    /// stood then, and a further call looks for that list once more.
+    /// Where a growth was refused memory, never where no list is left. The search is where it
+    /// was then, and a further call looks for that list once more.
     pub fn next(&mut self) -> Result<bool, AllocError>
         ensures same { self.new ≡ record self.old { front = self.new.front } }
         ensures next { IfOk result (MovesTo (stopped self.old.most (split_play self.old))
@@ -249,7 +249,7 @@ impl<'a> Beginnings<'a> {
         }
     }
 
-    /// The answers of the list at which the search stands.
+    /// The answers of the list at which the search is.
     pub fn answers(&self) -> &[i16]
         ensures { (u : Answers) → self.now.front ≡ At u → result.now ≡ u }
     {
@@ -299,7 +299,7 @@ fn write_next_line<W: Write>(
 /// # Errors
 ///
 /// [`ExploreFault::Memory`] where a growth was refused memory, [`ExploreFault::Write`] where the
-/// writer failed, each with the number of complete lines that were written. The search then stands
+/// writer failed, each with the number of complete lines that were written. The search is then
 /// at the last of these lists, or at the one whose line was begun. Both come only while a line was
 /// still to be written.
 pub fn write_beginnings<W: Write>(

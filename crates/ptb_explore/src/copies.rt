@@ -1,4 +1,4 @@
-// This file has the copies of a machine that are kept of a run, from which the next runs go on.
+// This file has the copies of a machine that are kept of a run, from which the next runs continue.
 
 ghost use Rattle.std.specs.Prelude.{◌≡◌, ℕ, ℤ, List, Option, [], false, IfOk};
 ghost use Rattle.ptb_command.specs.Representation.{Represents};
@@ -175,7 +175,7 @@ impl Copies {
     }
 
     /// Drops the copies that took more answers than `most`, and gives a copy of the newest that is
-    /// left, from which a run can go on.
+    /// left, from which a run can continue.
     ///
     /// # Errors
     ///

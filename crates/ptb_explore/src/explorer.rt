@@ -34,7 +34,7 @@ use std::marker::Model;
 use std::mem;
 
 // Goes back to the newest copy whose answers are among the first that the plan and the report have
-// in common, or to the beginning of a run, and gives the machine that stands there.
+// in common, or to the beginning of a run, and gives the machine that is there.
 fn go_back(
     alloc: Global,
     player: &mut Player,
@@ -334,11 +334,11 @@ pub struct Explorer<'a> {
     position: Position,
     /// The answers with which each of the runs begins.
     under: Vec<i16>,
-    /// Its answers and bounds are those of the run at which the explorer stands.
+    /// Its answers and bounds are those of the run at which the explorer is.
     report: Report,
     /// Plans the next run, and answers its questions.
     trial: Recorder,
-    /// Copies of the machine, as it stood in the run at which the explorer stands.
+    /// Copies of the machine, as it was in the run at which the explorer is.
     copies: Copies,
     /// How many commands were played.
     played: u64,
@@ -447,7 +447,7 @@ impl<'a> Explorer<'a> {
         }
     }
 
-    /// An explorer that stands at the run of these answers.
+    /// An explorer that is at the run of these answers.
     ///
     /// # Errors
     ///
@@ -487,7 +487,7 @@ impl<'a> Explorer<'a> {
         Explorer::after_marked(alloc, program, lines, rules, &list)
     }
 
-    /// An explorer that stands at the run of the answers of a list, of which some may have their
+    /// An explorer that is at the run of the answers of a list, of which some may have their
     /// bounds.
     ///
     /// # Errors
@@ -527,7 +527,7 @@ impl<'a> Explorer<'a> {
     }
 
     /// An explorer before the first of the runs that begin with the answers of a list, of which some
-    /// may have their bounds. It has played the first of them, which tells that a run begins so.
+    /// may have their bounds. It has played the first of them, which shows that a run begins so.
     ///
     /// # Errors
     ///
@@ -581,7 +581,7 @@ impl<'a> Explorer<'a> {
         Ok(Explorer::at_start(alloc, player, lines, rules, under, trial, played))
     }
 
-    /// An explorer of the runs that begin with the answers of a list, which stands at the run of the
+    /// An explorer of the runs that begin with the answers of a list, which is at the run of the
     /// answers of a second one. Some of these may have their bounds; the bounds of the first list are
     /// not looked at.
     ///
@@ -645,7 +645,7 @@ impl<'a> Explorer<'a> {
         )
     }
 
-    // An explorer of the runs that begin with some answers, which stands at the run of a list, whose
+    // An explorer of the runs that begin with some answers, which is at the run of a list, whose
     // answers are planned. The steps of that run are the commands that were played.
     fn at_plan(
         alloc: Global,
@@ -762,7 +762,7 @@ impl<'a> Explorer<'a> {
     }
 
     /// The number of copies of the machine that are kept now, at most 64. They are of the run at which
-    /// the explorer stands; there are none where it stands at no run.
+    /// the explorer is; there are none where it is at no run.
     pub fn kept(&self) -> usize
         ensures number { result ≡ length self.now.kept }
         ensures most { result ≤ 64 }

@@ -16,7 +16,7 @@ pub enum ExploreFault {
     /// A growth was refused memory. Nothing of the next report was written.
     #[error("out of memory")]
     Memory(u64),
-    /// The writer failed. A beginning of the next report may have been written.
+    /// The writer failed. A prefix of the next report may have been written.
     #[error("cannot write")]
     Write(u64),
 }

@@ -21,17 +21,17 @@ pub fn tree_laws<A, W>()
         → TreeLaws play most }
 {}
 
-/// What a listing has left are the runs after the place where it stands, in rising order, and one
-/// that begins behind a run goes on where one that ended with it stopped.
+/// What a listing has left are the runs after the place where it is, in rising order, and one
+/// that begins after a run resumes where one that ended with it stopped.
 pub fn listing_laws<A, W>()
     ensures { (play : Answers → Outcome A W) (most : ℕ) → IsReader play most
         → ListingLaws play most }
 {}
 
-/// The runs that begin with some answers are, one behind the other, those that go on with 1, with 2 and
-/// so on up to the bound of the question behind them; some run begins with answers exactly where they are
-/// one, or something is asked behind them; a run is alone with its answers; and lists that differ at
-/// some place share no run.
+/// The runs that begin with some answers are, one after the other, those that continue with 1, with
+/// 2 and so on up to the bound of the question after them; some run begins with answers exactly
+/// where they are one, or something is asked after them; a run is alone with its answers; and lists
+/// that differ at some place share no run.
 pub fn share_laws<A, W>()
     ensures { (play : Answers → Outcome A W) (most : ℕ) → IsReader play most
         → ShareLaws play most }

@@ -33,5 +33,5 @@ pub use laws::{
 pub use listing::write_all_runs;
 pub use mismatch::{Mismatch, mismatch_laws};
 pub use ptb_answers::{Form, Marked};
-pub use report::Report;
+pub use report::{Report, word};
 pub use sampling::{Sample, write_sample};

@@ -60,7 +60,7 @@ fn one_less(remaining: Option<u64>) -> Option<u64>
 /// # Errors
 ///
 /// [`ExploreFault::Memory`] where a growth was refused memory, [`ExploreFault::Write`] where the
-/// writer failed, each with the number of reports that were written. The explorer then stands at
+/// writer failed, each with the number of reports that were written. The explorer is then at
 /// the last run of them, or at the one whose report was begun. Both come only while a report was
 /// still to be written, never after the last of those asked for.
 pub fn write_all_runs<W: Write>(

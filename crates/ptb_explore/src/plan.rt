@@ -14,11 +14,11 @@ pub(crate) enum Position {
     AtStart,
     /// At a run.
     AtRun,
-    /// Behind the last run.
+    /// After the last run.
     AtEnd,
 }
 
-// The last place at which the answer is below its bound, but for those in front of the floor.
+// The last place at which the answer is below its bound, except those in front of the floor.
 fn last_below(answers: &[i16], bounds: &[i16], floor: usize) -> Option<usize>
     requires { length answers.now ≡ length bounds.now }
     ensures place { MatchOption result
@@ -36,8 +36,8 @@ fn last_below(answers: &[i16], bounds: &[i16], floor: usize) -> Option<usize>
     None
 }
 
-/// Plans the run behind the one at which the listing stands: the last answer that its bound leaves
-/// room for is raised by one, and those behind it are dropped. The answers with which each run of
+/// Plans the run after the one at which the listing is: the last answer that its bound leaves
+/// room for is raised by one, and those after it are dropped. The answers with which each run of
 /// the listing begins stay.
 ///
 /// It gives the number of answers in front of the raised one, or `None` where no run is left.

@@ -12,15 +12,15 @@ use crate::recorder::Recorder;
 use ptb_machine::{Ending, Line, Lines, Machine, Player, Rules, RunFault, TextScreen, run_laws};
 use std::alloc::{AllocError, Global};
 
-/// Plays a run of the player's program on from where it stands: with the answers of the plan, and 1
-/// to each question behind them. Copies of the machine are kept where answers were taken.
+/// Plays a run of the player's program on from where it is: with the answers of the plan, and 1
+/// to each question after them. Copies of the machine are kept where answers were taken.
 ///
 /// The ending is `BadAnswer` where an answer of the plan is outside its bound. It is never
 /// `NoAnswer`.
 ///
 /// # Errors
 ///
-/// Where a growth was refused memory, but for that of a copy, which isn't kept then.
+/// Where a growth was refused memory, except that of a copy, which isn't kept then.
 pub(crate) fn play_on(
     alloc: Global,
     player: &mut Player,
@@ -109,7 +109,7 @@ pub(crate) fn play_counted(
 ///
 /// # Errors
 ///
-/// Where a growth was refused memory, but for that of a copy.
+/// Where a growth was refused memory, except that of a copy.
 pub(crate) fn play_from_start(
     alloc: Global,
     player: &mut Player,

@@ -12,11 +12,11 @@ const NO_ANSWER: i16 = 0;
 
 /// Answers from a plan, and then 1 each time. It keeps each answer with its bound.
 ///
-/// The first `planned` of the answers are the plan, those behind it are ones. As many answers were
+/// The first `planned` of the answers are the plan, those after it are ones. As many answers were
 /// given as there are bounds.
 #[derive(Drop)]
 pub(crate) struct Recorder {
-    /// The answers that were given, and behind them those that are planned and not given yet.
+    /// The answers that were given, and after them those that are planned and not given yet.
     pub(crate) answers: Vec<i16>,
     /// The bound of each answer that was given.
     pub(crate) bounds: Vec<i16>,
@@ -62,11 +62,11 @@ impl Recorder {
         }
     }
 
-    /// Plans these answers and the raised one behind them. None was given yet.
+    /// Plans these answers and the raised one after them. None was given yet.
     ///
     /// # Errors
     ///
-    /// Where the plan is refused memory; a beginning of it is planned then.
+    /// Where the plan is refused memory; a prefix of it is planned then.
     pub(crate) fn restart(&mut self, front: &[i16], raised: i16) -> Result<(), AllocError>
         ensures answers { OnOk result (self.new.answers.items ≡ front.now ++ raised ∷ []) }
         ensures planned { OnOk result (self.new.planned ≡ length front.now + 1) }

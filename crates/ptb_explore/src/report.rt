@@ -46,7 +46,7 @@ impl Report {
     ///
     /// # Errors
     ///
-    /// [`DeviceFault`] where the writer failed. A beginning of the report may have been taken then.
+    /// [`DeviceFault`] where the writer failed. A prefix of the report may have been taken then.
     pub(crate) fn write<W: Write>(
         &self,
         form: Form,
@@ -76,7 +76,7 @@ impl Report {
 }
 
 /// The word of an ending. The two that no report has are empty.
-pub(crate) fn word(ending: Ending) -> &'static [u8]
+pub fn word(ending: Ending) -> &'static [u8]
     ensures { result.now ≡ word_of ending }
 {
     match ending {

@@ -82,7 +82,7 @@ no_comma m h =
     All-append (λ b. (b == 44) ≡ false) (signed_decimal m.answer) (bound_text m.bound)
     (none_of 44 (signed_decimal m.answer) (number_lacks 44 (omega arith) m.answer h.0)) (no_comma_in_bound m.bound h.1)
 
--- what stands behind `/`
+-- what comes after `/`
 abbrev number_behind : Option ℤ → List ℕ
 number_behind None = []
 number_behind (Some n) = signed_decimal n
@@ -155,7 +155,7 @@ item_is_number s m lacks h = go m.bound refl
     go None e = ((h.0.0, sym (append-nil (signed_decimal m.answer)) ∙ ap (λ (p : Option ℤ). signed_decimal m.answer ++ bound_text p) (sym e) ∙ h.1), ap (λ (p : Option ℤ). record { answer = m.answer; bound = p }) e)
     go (Some n) e = absurd (lacks_if 47 s (signed_decimal m.answer) (signed_decimal n) (sym h.1 ∙ ap (λ (p : Option ℤ). signed_decimal m.answer ++ bound_text p) e) lacks)
 
--- and one whose text has it is what stands before it and behind it
+-- and one whose text has it is what comes before it and after it
 pub item_is_numbers : (s a b : List ℕ) (m : Marked) → s ≡ a ++ 47 ∷ b → Lacks 47 a → SpellsItem s m → (n : ℤ) × SpellsNumber a m.answer × SpellsNumber b n × (m ≡ with_bound m.answer n)
 item_is_numbers s a b m parts lacks h = go m.bound refl
   where

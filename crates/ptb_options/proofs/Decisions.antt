@@ -12,61 +12,65 @@ use Rattle.ptb_options.specs.declared.mistakes.MisspelledList.{MisspelledList}
 use Rattle.ptb_options.specs.declared.request.Mode.{Mode}
 use Rattle.ptb_options.specs.declared.request.Request.{Request}
 use Rattle.ptb_options.specs.declared.usage.UsageFault.{UsageFault}
-use Rattle.ptb_options.specs.declared.usage.UsageFault.TheVariants.{ListWithOther, CheckWithOther, AfterWithoutAll, FirstWithoutAll, FormWithoutAll, UnderWithoutAll, SharesWithoutAll, SharesWithOther, SampleWithoutSeed, AnswersWithAll, SeedWithAll, SeedWithAnswers, BadList, Memory}
+use Rattle.ptb_options.specs.declared.usage.UsageFault.TheVariants.{ListWithOther, CheckWithOther, ChancesWithOther, AfterWithoutAll, FirstWithoutAll, FormWithoutAll, UnderWithoutAll, SharesWithoutAll, SharesWithOther, SampleWithoutSeed, AnswersWithAll, SeedWithAll, SeedWithAnswers, BadList, Memory}
 use Rattle.ptb_options.specs.Options.{Asks, AsksMode, HasBound, HasMemorySize, IsFirstMisspelled, Options, Refuses, WantsMemory, clash, IsRulesOf, default_memory, default_steps, usage_fault}
 use Rattle.ptb_options.proofs.ListsKept.{first_misspelled}
 
 -- the first of these faults whose test is true
-abbrev first_fault : Bool → Bool → Bool → Bool → Bool → Bool → Bool → Bool → Bool → Bool → Bool → Bool → Option UsageFault
-first_fault a b c d e f g h i j k l =
+abbrev first_fault : Bool → Bool → Bool → Bool → Bool → Bool → Bool → Bool → Bool → Bool → Bool → Bool → Bool → Option UsageFault
+first_fault a b c d e f g h i j k l m =
     if a then Some ListWithOther
     else (if b then Some CheckWithOther
-    else (if c then Some AfterWithoutAll
-    else (if d then Some FirstWithoutAll
-    else (if e then Some FormWithoutAll
-    else (if f then Some UnderWithoutAll
-    else (if g then Some SharesWithoutAll
-    else (if h then Some SharesWithOther
-    else (if i then Some SampleWithoutSeed
-    else (if j then Some AnswersWithAll
-    else (if k then Some SeedWithAll
-    else (if l then Some SeedWithAnswers
-    else None)))))))))))
+    else (if c then Some ChancesWithOther
+    else (if d then Some AfterWithoutAll
+    else (if e then Some FirstWithoutAll
+    else (if f then Some FormWithoutAll
+    else (if g then Some UnderWithoutAll
+    else (if h then Some SharesWithoutAll
+    else (if i then Some SharesWithOther
+    else (if j then Some SampleWithoutSeed
+    else (if k then Some AnswersWithAll
+    else (if l then Some SeedWithAll
+    else (if m then Some SeedWithAnswers
+    else None))))))))))))
 
-not_bad : (a b c d e f g h i j k l : Bool) → first_fault a b c d e f g h i j k l ≡ Some BadList → ⊥
-not_bad true b c d e f g h i j k l is = cc
-not_bad false true c d e f g h i j k l is = cc
-not_bad false false true d e f g h i j k l is = cc
-not_bad false false false true e f g h i j k l is = cc
-not_bad false false false false true f g h i j k l is = cc
-not_bad false false false false false true g h i j k l is = cc
-not_bad false false false false false false true h i j k l is = cc
-not_bad false false false false false false false true i j k l is = cc
-not_bad false false false false false false false false true j k l is = cc
-not_bad false false false false false false false false false true k l is = cc
-not_bad false false false false false false false false false false true l is = cc
-not_bad false false false false false false false false false false false true is = cc
-not_bad false false false false false false false false false false false false is = cc
+not_bad : (a b c d e f g h i j k l m : Bool) → first_fault a b c d e f g h i j k l m ≡ Some BadList → ⊥
+not_bad true b c d e f g h i j k l m is = cc
+not_bad false true c d e f g h i j k l m is = cc
+not_bad false false true d e f g h i j k l m is = cc
+not_bad false false false true e f g h i j k l m is = cc
+not_bad false false false false true f g h i j k l m is = cc
+not_bad false false false false false true g h i j k l m is = cc
+not_bad false false false false false false true h i j k l m is = cc
+not_bad false false false false false false false true i j k l m is = cc
+not_bad false false false false false false false false true j k l m is = cc
+not_bad false false false false false false false false false true k l m is = cc
+not_bad false false false false false false false false false false true l m is = cc
+not_bad false false false false false false false false false false false true m is = cc
+not_bad false false false false false false false false false false false false true is = cc
+not_bad false false false false false false false false false false false false false is = cc
 
-not_memory : (a b c d e f g h i j k l : Bool) → first_fault a b c d e f g h i j k l ≡ Some Memory → ⊥
-not_memory true b c d e f g h i j k l is = cc
-not_memory false true c d e f g h i j k l is = cc
-not_memory false false true d e f g h i j k l is = cc
-not_memory false false false true e f g h i j k l is = cc
-not_memory false false false false true f g h i j k l is = cc
-not_memory false false false false false true g h i j k l is = cc
-not_memory false false false false false false true h i j k l is = cc
-not_memory false false false false false false false true i j k l is = cc
-not_memory false false false false false false false false true j k l is = cc
-not_memory false false false false false false false false false true k l is = cc
-not_memory false false false false false false false false false false true l is = cc
-not_memory false false false false false false false false false false false true is = cc
-not_memory false false false false false false false false false false false false is = cc
+not_memory : (a b c d e f g h i j k l m : Bool) → first_fault a b c d e f g h i j k l m ≡ Some Memory → ⊥
+not_memory true b c d e f g h i j k l m is = cc
+not_memory false true c d e f g h i j k l m is = cc
+not_memory false false true d e f g h i j k l m is = cc
+not_memory false false false true e f g h i j k l m is = cc
+not_memory false false false false true f g h i j k l m is = cc
+not_memory false false false false false true g h i j k l m is = cc
+not_memory false false false false false false true h i j k l m is = cc
+not_memory false false false false false false false true i j k l m is = cc
+not_memory false false false false false false false false true j k l m is = cc
+not_memory false false false false false false false false false true k l m is = cc
+not_memory false false false false false false false false false false true l m is = cc
+not_memory false false false false false false false false false false false true m is = cc
+not_memory false false false false false false false false false false false false true is = cc
+not_memory false false false false false false false false false false false false false is = cc
 
 -- why options clash
 Refuses-clash : (o : Options) (fault : UsageFault) → clash o ≡ Some fault → Refuses o fault
 Refuses-clash o ListWithOther e = e
 Refuses-clash o CheckWithOther e = e
+Refuses-clash o ChancesWithOther e = e
 Refuses-clash o AfterWithoutAll e = e
 Refuses-clash o FirstWithoutAll e = e
 Refuses-clash o FormWithoutAll e = e
@@ -77,8 +81,8 @@ Refuses-clash o SampleWithoutSeed e = e
 Refuses-clash o AnswersWithAll e = e
 Refuses-clash o SeedWithAll e = e
 Refuses-clash o SeedWithAnswers e = e
-Refuses-clash o BadList e = absurd (not_bad _ _ _ _ _ _ _ _ _ _ _ _ e)
-Refuses-clash o Memory e = absurd (not_memory _ _ _ _ _ _ _ _ _ _ _ _ e)
+Refuses-clash o BadList e = absurd (not_bad _ _ _ _ _ _ _ _ _ _ _ _ _ e)
+Refuses-clash o Memory e = absurd (not_memory _ _ _ _ _ _ _ _ _ _ _ _ _ e)
 
 -- the size that is given, or the default
 pub size_of : (kept : Option ℕ) (memory : ℕ) → ForSome kept IsMemorySize → memory ≡ unwrap_or kept 4096 → IsMemorySize memory

@@ -1,4 +1,4 @@
--- This file proves what rule clap is told of an argument, from what each of its parts says.
+-- This file proves which rule clap gets for an argument, from what each of its parts says.
 use Rattle.std.proofs.Common.{◌≡◌, ◌∙◌, ap, ap₂, sym, List, ℕ, Option, Some, false}
 use Rattle.std.specs.Borrow.{Bor}
 use Rattle.clap.specs.declared.builder.Arg.{Arg}

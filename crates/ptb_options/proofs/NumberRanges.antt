@@ -37,14 +37,14 @@ some_injective n k e = cc
 -- an option with a number: its place among the options, where no other has its name, and its range
 record IsOption (name : List ℕ) (place low high : ℕ) : Type 0 where
   there : (r : Rule) → get_or tool_rules place r ≡ number_option name (Signed (pos low) (pos high))
-  only : (j : ℕ) (r : Rule) → j < 15 → bytes_eq (get_or tool_rules j r).id name ≡ true → j ≡ place
-  inside : place < 15
+  only : (j : ℕ) (r : Rule) → j < 16 → bytes_eq (get_or tool_rules j r).id name ≡ true → j ≡ place
+  inside : place < 16
   fits : high < 65536
   some : name ≡ [] → ⊥
   no_help : name ≡ codes "help" → ⊥
   no_version : name ≡ codes "version" → ⊥
 
-memory_only : (j : ℕ) (r : Rule) → j < 15 → bytes_eq (get_or tool_rules j r).id (codes "memory") ≡ true → j ≡ 1
+memory_only : (j : ℕ) (r : Rule) → j < 16 → bytes_eq (get_or tool_rules j r).id (codes "memory") ≡ true → j ≡ 1
 memory_only zero r lt e = absurd (cc)
 memory_only (suc zero) r lt e = refl
 memory_only (suc (suc zero)) r lt e = absurd (cc)
@@ -60,9 +60,10 @@ memory_only (suc (suc (suc (suc (suc (suc (suc (suc (suc (suc (suc zero)))))))))
 memory_only (suc (suc (suc (suc (suc (suc (suc (suc (suc (suc (suc (suc zero)))))))))))) r lt e = absurd (cc)
 memory_only (suc (suc (suc (suc (suc (suc (suc (suc (suc (suc (suc (suc (suc zero))))))))))))) r lt e = absurd (cc)
 memory_only (suc (suc (suc (suc (suc (suc (suc (suc (suc (suc (suc (suc (suc (suc zero)))))))))))))) r lt e = absurd (cc)
-memory_only (suc (suc (suc (suc (suc (suc (suc (suc (suc (suc (suc (suc (suc (suc (suc j))))))))))))))) r lt e = absurd (omega arith)
+memory_only (suc (suc (suc (suc (suc (suc (suc (suc (suc (suc (suc (suc (suc (suc (suc zero))))))))))))))) r lt e = absurd (cc)
+memory_only (suc (suc (suc (suc (suc (suc (suc (suc (suc (suc (suc (suc (suc (suc (suc (suc j)))))))))))))))) r lt e = absurd (omega arith)
 
-choose_only : (j : ℕ) (r : Rule) → j < 15 → bytes_eq (get_or tool_rules j r).id (codes "choose") ≡ true → j ≡ 2
+choose_only : (j : ℕ) (r : Rule) → j < 16 → bytes_eq (get_or tool_rules j r).id (codes "choose") ≡ true → j ≡ 2
 choose_only zero r lt e = absurd (cc)
 choose_only (suc zero) r lt e = absurd (cc)
 choose_only (suc (suc zero)) r lt e = refl
@@ -78,7 +79,8 @@ choose_only (suc (suc (suc (suc (suc (suc (suc (suc (suc (suc (suc zero)))))))))
 choose_only (suc (suc (suc (suc (suc (suc (suc (suc (suc (suc (suc (suc zero)))))))))))) r lt e = absurd (cc)
 choose_only (suc (suc (suc (suc (suc (suc (suc (suc (suc (suc (suc (suc (suc zero))))))))))))) r lt e = absurd (cc)
 choose_only (suc (suc (suc (suc (suc (suc (suc (suc (suc (suc (suc (suc (suc (suc zero)))))))))))))) r lt e = absurd (cc)
-choose_only (suc (suc (suc (suc (suc (suc (suc (suc (suc (suc (suc (suc (suc (suc (suc j))))))))))))))) r lt e = absurd (omega arith)
+choose_only (suc (suc (suc (suc (suc (suc (suc (suc (suc (suc (suc (suc (suc (suc (suc zero))))))))))))))) r lt e = absurd (cc)
+choose_only (suc (suc (suc (suc (suc (suc (suc (suc (suc (suc (suc (suc (suc (suc (suc (suc j)))))))))))))))) r lt e = absurd (omega arith)
 
 memory_option : IsOption (codes "memory") 1 64 32767
 memory_option = record {
@@ -106,7 +108,7 @@ module _ (name : List ℕ) (place low high : ℕ) (option : IsOption name place 
   rules_are : map rule_of (args_of c) ≡ tool_rules
   rules_are = ap (λ a. a.top.rules) is_tool
 
-  count : length (args_of c) ≡ 15
+  count : length (args_of c) ≡ 16
   count = sym (length-map (args_of c) rule_of) ∙ ap length rules_are
 
   rule_at : (j : ℕ) (d : Arg) → j < length (args_of c) → rule_of (get_or (args_of c) j d) ≡ get_or tool_rules j (rule_of d)

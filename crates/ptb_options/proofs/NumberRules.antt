@@ -32,7 +32,7 @@ module _ (P : List ℕ → ValueParser → Type 0)
       let parsers : r.parser ≡ Some range = ap (λ (x : Rule). x.parser) e in
       absurd cc
 
-  at : (i : ℕ) (name : List ℕ) (range : ValueParser) → i < 15 → get_or tool_rules i (number_option name range) ≡ number_option name range → P name range
+  at : (i : ℕ) (name : List ℕ) (range : ValueParser) → i < 16 → get_or tool_rules i (number_option name range) ≡ number_option name range → P name range
   at zero name range lt e = same _ _ name range steps e
   at (suc zero) name range lt e = same _ _ name range memory e
   at (suc (suc zero)) name range lt e = same _ _ name range choose e
@@ -48,7 +48,8 @@ module _ (P : List ℕ → ValueParser → Type 0)
   at (suc (suc (suc (suc (suc (suc (suc (suc (suc (suc (suc (suc zero)))))))))))) name range lt e = other _ name range refl e
   at (suc (suc (suc (suc (suc (suc (suc (suc (suc (suc (suc (suc (suc zero))))))))))))) name range lt e = other _ name range refl e
   at (suc (suc (suc (suc (suc (suc (suc (suc (suc (suc (suc (suc (suc (suc zero)))))))))))))) name range lt e = other _ name range refl e
-  at (suc (suc (suc (suc (suc (suc (suc (suc (suc (suc (suc (suc (suc (suc (suc j))))))))))))))) name range lt e = absurd (omega arith)
+  at (suc (suc (suc (suc (suc (suc (suc (suc (suc (suc (suc (suc (suc (suc (suc zero))))))))))))))) name range lt e = other _ name range refl e
+  at (suc (suc (suc (suc (suc (suc (suc (suc (suc (suc (suc (suc (suc (suc (suc (suc j)))))))))))))))) name range lt e = absurd (omega arith)
 
   pub each_number : (name : List ℕ) (range : ValueParser) → Contains tool_rules (number_option name range) → P name range
   each_number name range there = at there.0 name range there.1 there.2

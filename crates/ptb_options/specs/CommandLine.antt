@@ -40,6 +40,7 @@ rules =
     ∷ number_option (codes "shares") (Signed (pos 1) (pos 64))
     ∷ number_option (codes "sample") (Unsigned 1 1000000000)
     ∷ number_option (codes "form") (Signed (pos 1) (pos 2))
+    ∷ flag (codes "chances")
     ∷ flag (codes "list")
     ∷ flag (codes "check")
     ∷ operand (codes "program")

@@ -41,7 +41,7 @@ use Rattle.ptb_options.specs.declared.request.Mode.{Mode}
 use Rattle.ptb_options.specs.declared.request.Mode.TheVariants as modes
 use Rattle.ptb_options.specs.declared.request.Request.{Request}
 use Rattle.ptb_options.specs.declared.usage.UsageFault.{UsageFault}
-use Rattle.ptb_options.specs.declared.usage.UsageFault.TheVariants.{ListWithOther, CheckWithOther, AfterWithoutAll, FirstWithoutAll, FormWithoutAll, UnderWithoutAll, SharesWithoutAll, SharesWithOther, SampleWithoutSeed, AnswersWithAll, SeedWithAll, SeedWithAnswers, BadList, Memory}
+use Rattle.ptb_options.specs.declared.usage.UsageFault.TheVariants.{ListWithOther, CheckWithOther, ChancesWithOther, AfterWithoutAll, FirstWithoutAll, FormWithoutAll, UnderWithoutAll, SharesWithoutAll, SharesWithOther, SampleWithoutSeed, AnswersWithAll, SeedWithAll, SeedWithAnswers, BadList, Memory}
 
 -- ---- the options
 
@@ -59,12 +59,13 @@ pub record Options : Type 0 where
   pub shares : Option ℕ
   pub sample : Option ℕ
   pub form : Option ℕ
+  pub chances : Bool
   pub list : Bool
   pub check : Bool
 
 -- an empty command line
 abbrev pub no_options : Options
-no_options = record { steps = None; memory = None; choose = None; answers = None; seed = None; all = false; under = None; after = None; first = None; shares = None; sample = None; form = None; list = false; check = false }
+no_options = record { steps = None; memory = None; choose = None; answers = None; seed = None; all = false; under = None; after = None; first = None; shares = None; sample = None; form = None; chances = false; list = false; check = false }
 
 -- what clap found for each option
 abbrev pub entries_of : ArgMatches → List Row
@@ -103,6 +104,7 @@ options_of entries = record {
   shares = number_of 8 (codes "shares") entries;
   sample = number_of 32 (codes "sample") entries;
   form = number_of 8 (codes "form") entries;
+  chances = is_given (codes "chances") entries;
   list = is_given (codes "list") entries;
   check = is_given (codes "check") entries;
 }
@@ -117,16 +119,21 @@ HasBound o = ForSome o.choose (λ n. (1 ≤ n) × (n ≤ 32767))
 
 -- ---- what they ask for
 
+-- what may stand beside none of --list, --check and --chances
+abbrev pub says_which_runs : Options → Bool
+says_which_runs o =
+    o.all || is_some o.answers || is_some o.seed || is_some o.under || is_some o.after || is_some o.first || is_some o.form || is_some o.shares || is_some o.sample
+
 -- what may stand beside neither --list nor --check
 abbrev pub asks_for_runs : Options → Bool
-asks_for_runs o =
-    o.all || is_some o.answers || is_some o.seed || is_some o.under || is_some o.after || is_some o.first || is_some o.form || is_some o.choose || is_some o.shares || is_some o.sample
+asks_for_runs o = says_which_runs o || is_some o.choose || o.chances
 
 -- the rules are looked at in this order
 abbrev pub clash : Options → Option UsageFault
 clash o =
     if o.list && (asks_for_runs o || o.check) then Some ListWithOther
     else (if o.check && asks_for_runs o then Some CheckWithOther
+    else (if o.chances && says_which_runs o then Some ChancesWithOther
     else (if is_some o.after && not o.all then Some AfterWithoutAll
     else (if is_some o.first && not o.all then Some FirstWithoutAll
     else (if is_some o.form && not (o.all || is_some o.sample) then Some FormWithoutAll
@@ -137,7 +144,7 @@ clash o =
     else (if is_some o.answers && o.all then Some AnswersWithAll
     else (if is_some o.seed && o.all then Some SeedWithAll
     else (if is_some o.seed && is_some o.answers then Some SeedWithAnswers
-    else None)))))))))))
+    else None))))))))))))
 
 -- a list that may be left out
 abbrev pub SpellsIfGiven : Option (List ℕ) → Option (List Marked) → Type 0
@@ -151,15 +158,17 @@ abbrev pub form_of : Option ℕ → Form
 form_of None = Two
 form_of (Some n) = if n == 1 then One else Two
 
--- with neither --list nor --check the program is run
+-- with none of --list, --check and --chances runs are shown or reported
 pub record RunsIt (o : Options) : Type 0 where
   pub unlisted : o.list ≡ false
   pub unchecked : o.check ≡ false
+  pub no_chances : o.chances ≡ false
 
 -- without --all there are runs by a seed, if it is given, and otherwise one run by a list of answers
 abbrev pub AsksMode : Options → Mode → Type 0
 AsksMode o modes.List = o.list ≡ true
 AsksMode o modes.Check = (o.list ≡ false) × (o.check ≡ true)
+AsksMode o modes.Chances = (o.list ≡ false) × (o.check ≡ false) × (o.chances ≡ true)
 AsksMode o (modes.All under after first form) = RunsIt o × (o.all ≡ true) × (o.shares ≡ None) × SpellsIfGiven o.under under × SpellsIfGiven o.after after × (first ≡ o.first) × (form ≡ form_of o.form)
 AsksMode o (modes.Shares answers form) = RunsIt o × (o.all ≡ true) × (o.shares ≡ Some answers) × (form ≡ form_of o.form)
 AsksMode o (modes.Plain a) = RunsIt o × (o.all ≡ false) × (o.seed ≡ None) × SpellsAnswers (unwrap_or o.answers (codes "none")) a
@@ -234,6 +243,7 @@ HasItems (modes.Shares answers form) = ⊥
 HasItems (modes.Sample seed runs form) = ⊥
 HasItems modes.List = ⊥
 HasItems modes.Check = ⊥
+HasItems modes.Chances = ⊥
 
 abbrev pub WantsMemory : Options → ListFault → Type 0
 WantsMemory o fault = (fault ≡ lists.Memory) × ((mode : Mode) × AsksMode o mode × HasItems mode)

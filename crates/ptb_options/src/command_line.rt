@@ -133,6 +133,12 @@ pub(crate) const ARGS: &[ListedArg] = &[
         help: help::FORM,
     },
     ListedArg {
+        name: "chances",
+        kind: ArgKind::Flag,
+        heading: Some(help::EXPLORE),
+        help: help::CHANCES,
+    },
+    ListedArg {
         name: "list",
         kind: ArgKind::Flag,
         heading: Some(help::PRINT),

@@ -26,13 +26,14 @@ use std::marker::Model;
 /// # Errors
 ///
 /// The first that applies, in this order: [`UsageFault::ListWithOther`],
-/// [`UsageFault::CheckWithOther`], [`UsageFault::AfterWithoutAll`],
-/// [`UsageFault::FirstWithoutAll`], [`UsageFault::FormWithoutAll`],
-/// [`UsageFault::UnderWithoutAll`], [`UsageFault::SharesWithoutAll`],
-/// [`UsageFault::SharesWithOther`], [`UsageFault::SampleWithoutSeed`],
-/// [`UsageFault::AnswersWithAll`], [`UsageFault::SeedWithAll`], [`UsageFault::SeedWithAnswers`],
-/// [`UsageFault::BadList`]. [`UsageFault::Memory`] comes only while the items of a list are kept, and
-/// no list is kept before all are found to be spelled.
+/// [`UsageFault::CheckWithOther`], [`UsageFault::ChancesWithOther`],
+/// [`UsageFault::AfterWithoutAll`], [`UsageFault::FirstWithoutAll`],
+/// [`UsageFault::FormWithoutAll`], [`UsageFault::UnderWithoutAll`],
+/// [`UsageFault::SharesWithoutAll`], [`UsageFault::SharesWithOther`],
+/// [`UsageFault::SampleWithoutSeed`], [`UsageFault::AnswersWithAll`],
+/// [`UsageFault::SeedWithAll`], [`UsageFault::SeedWithAnswers`], [`UsageFault::BadList`].
+/// [`UsageFault::Memory`] comes only while the items of a list are kept, and no list is kept before
+/// all are found to be spelled.
 pub fn decide(alloc: Global, matches: &ArgMatches<'_>) -> Result<Request, UsageFault>
     requires memory { HasMemorySize (options_of (entries_of matches.now)) }
     requires bound { HasBound (options_of (entries_of matches.now)) }
@@ -79,6 +80,7 @@ struct GivenOptions<'a> {
     shares: Option<u8>,
     sample: Option<u32>,
     form: Option<u8>,
+    chances: bool,
     list: bool,
     check: bool,
 }
@@ -102,6 +104,7 @@ impl<'a> Model for GivenOptions<'a> {
       shares = line.shares;
       sample = line.sample;
       form = line.form;
+      chances = line.chances;
       list = line.list;
       check = line.check;
     } };
@@ -125,6 +128,7 @@ impl<'a> GivenOptions<'a> {
             shares: matches.get_one("shares"),
             sample: matches.get_one("sample"),
             form: matches.get_one("form"),
+            chances: is_given(matches, "chances"),
             list: is_given(matches, "list"),
             check: is_given(matches, "check"),
         }
@@ -140,11 +144,14 @@ impl<'a> GivenOptions<'a> {
         let (form, choose) = (self.form.is_some(), self.choose.is_some());
         let (shares, sample) = (self.shares.is_some(), self.sample.is_some());
         let (under, all) = (self.under.is_some(), self.all);
-        let any = all | answers | seed | under | after | first | form | choose | shares | sample;
+        let which = all | answers | seed | under | after | first | form | shares | sample;
+        let any = which | choose | self.chances;
         if self.list & (any | self.check) {
             Some(UsageFault::ListWithOther)
         } else if self.check & any {
             Some(UsageFault::CheckWithOther)
+        } else if self.chances & which {
+            Some(UsageFault::ChancesWithOther)
         } else if after & !all {
             Some(UsageFault::AfterWithoutAll)
         } else if first & !all {
@@ -221,6 +228,9 @@ impl<'a> GivenOptions<'a> {
         }
         if self.check {
             return Ok(Mode::Check);
+        }
+        if self.chances {
+            return Ok(Mode::Chances);
         }
         if self.all {
             if let Some(answers) = self.shares {

@@ -67,6 +67,11 @@ pub const FORM: &str = "\
 In reports and lists, numbers alone (1), or
 each with its bound (2, the default)";
 
+/// The help of `--chances`.
+pub const CHANCES: &str = "\
+Print the exact chance of each result of a run:
+how it ends, and the last line that it shows";
+
 /// The help of `--list`.
 pub const LIST: &str = "Print the program in the order of its line numbers; run nothing";
 
@@ -88,8 +93,8 @@ INPUT reads lines from standard input. A run at a terminal without --answers
 and --seed draws a seed and prints it; --seed replays the run.
 
 Exit status:
-   0  the program ended, or the reports, the lists, the listing, this help or
-      the version was written, or --check found no mistake
+   0  the program ended, or the reports, the lists, the chances, the listing,
+      this help or the version was written, or --check found no mistake
    1  the program stopped with WHAT?, or --check found a mistake
    2  the program stopped with HOW?
    3  the program stopped with SORRY

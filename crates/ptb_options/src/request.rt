@@ -52,6 +52,8 @@ pub enum Mode {
     List,
     /// The mistakes in its text are listed.
     Check,
+    /// Each result that its runs have is listed, with its exact chance.
+    Chances,
 }
 
 /// What the tool is asked to do.

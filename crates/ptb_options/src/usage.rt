@@ -20,7 +20,7 @@ pub enum UsageFault {
     #[error("ptb: --answers excludes --all")]
     AnswersWithAll,
     /// `--list` with `--all`, `--answers`, `--seed`, `--under`, `--after`, `--first`, `--form`,
-    /// `--choose`, `--shares`, `--sample` or `--check`.
+    /// `--choose`, `--shares`, `--sample`, `--check` or `--chances`.
     #[error("ptb: --list stands alone")]
     ListWithOther,
     /// A list of answers isn't spelled as one.
@@ -51,9 +51,13 @@ pub enum UsageFault {
     #[error("ptb: --sample needs --seed")]
     SampleWithoutSeed,
     /// `--check` with `--all`, `--answers`, `--seed`, `--under`, `--after`, `--first`, `--form`,
-    /// `--choose`, `--shares` or `--sample`.
+    /// `--choose`, `--shares`, `--sample` or `--chances`.
     #[error("ptb: --check stands alone")]
     CheckWithOther,
+    /// `--chances` with `--all`, `--answers`, `--seed`, `--under`, `--after`, `--first`, `--form`,
+    /// `--shares` or `--sample`.
+    #[error("ptb: --chances stands alone")]
+    ChancesWithOther,
 }
 
 impl UsageFault {

@@ -57,6 +57,14 @@ clash_rows = record {
   check_and_after = refl;
   check_and_sample = refl;
   check_and_choice = refl;
+  chances_listing = refl;
+  chances_check = refl;
+  chances_and_all = refl;
+  chances_and_answers = refl;
+  chances_and_after = refl;
+  chances_and_form = refl;
+  chances_and_sample = refl;
+  chances_alone = refl;
   check_alone = refl;
 }
 
@@ -75,6 +83,7 @@ option_rows = record {
   sample = refl;
   switches = refl;
   check = refl;
+  chances = refl;
 }
 
 pub fault_rows : FaultRows

@@ -16,3 +16,4 @@ pub mod CommandLineRows
 pub mod ListRows
 pub mod SplitRows
 pub mod CheckRows
+pub mod ChanceRows

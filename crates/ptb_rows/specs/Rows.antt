@@ -5,7 +5,7 @@ use Rattle.ptb_text.specs.declared.fault.LoadFault.TheVariants.{NoNumber, Number
 use Rattle.clap.specs.Words.{fault_of, matches_of}
 use Rattle.clap.specs.declared.error.ErrorKind.{ErrorKind}
 use Rattle.clap.specs.declared.error.ErrorKind.TheVariants.{ArgumentConflict, DisplayHelp, UnknownArgument, ValueValidation}
-use Rattle.ptb_options.specs.declared.usage.UsageFault.TheVariants.{ListWithOther, CheckWithOther, AfterWithoutAll, FirstWithoutAll, FormWithoutAll, UnderWithoutAll, SharesWithoutAll, SharesWithOther, SampleWithoutSeed, AnswersWithAll, SeedWithAll, SeedWithAnswers}
+use Rattle.ptb_options.specs.declared.usage.UsageFault.TheVariants.{ListWithOther, CheckWithOther, ChancesWithOther, AfterWithoutAll, FirstWithoutAll, FormWithoutAll, UnderWithoutAll, SharesWithoutAll, SharesWithOther, SampleWithoutSeed, AnswersWithAll, SeedWithAll, SeedWithAnswers}
 use Rattle.ptb_options.specs.AnswerLists.{SpellsList, SpellsAnswers, IsMisspelled, HasNoAnswers}
 use Rattle.ptb_options.specs.CommandLine.{tool}
 use Rattle.ptb_options.specs.Options.{default_memory, default_steps, Options, no_options, options_of, clash}
@@ -117,6 +117,26 @@ pub record CheckRows : Type 0 where
   -- whatever the input is
   pub input_ignored : reply_to check (codes "10 INPUT A") (one_line (codes ")")) ≡ success []
   pub refused : reply_to check (codes "0 P.") [] ≡ refusal (notes.Load 1 NoNumber)
+
+-- the chances of all results
+abbrev pub chances : Request
+chances = record { rules = default_rules; memory = default_memory; mode = modes.Chances; in_range = default_size }
+
+pub record ChanceRows : Type 0 where
+  pub no_program : reply_to chances [] [] ≡ success (codes "CHANCE 1/1 1 END 0\n\n")
+  pub rolled_again : reply_to chances (codes "10 A=RND(2);IF A=2 A=RND(3)\n20 P.#1,A") [] ≡ success (codes "CHANCE 2/3 2 END 1\n1\nCHANCE 1/6 1 END 1\n2\nCHANCE 1/6 1 END 1\n3\n")
+  pub limit : reply_to (limited 5 chances) (codes "10 A=RND(2)\n20 IF A=1 GOTO 10") [] ≡ success (codes "CHANCE 3/4 2 END 0\n\nCHANCE 1/4 1 LIMIT 0\n\n")
+  -- the signs of the sums are bytes of the lines, and a minus sign comes before the digits
+  pub four_tosses :
+      reply_to chances (codes "10 F.I=1TO4;A=A+RND(2)*2-3;N.I;P.#1,A") []
+      ≡ success (codes "CHANCE 1/4 4 END 2\n-2\nCHANCE 1/16 1 END 2\n-4\nCHANCE 3/8 6 END 1\n0\nCHANCE 1/4 4 END 1\n2\nCHANCE 1/16 1 END 1\n4\n")
+  pub each_ending :
+      reply_to chances (codes "10 A=RND(3);P.#1,A;IF A=1 STOP\n20 IF A=2 P.1/0") []
+      ≡ success (codes "CHANCE 1/3 1 END 1\n3\nCHANCE 1/3 1 STOP 1\n1\nCHANCE 1/3 1 HOW 16\n20 IF A=2 P.1/0?\n")
+  pub rolled_input : reply_to chances (codes "10 INPUT A;P.#1,A") (one_line (codes "RND(2)")) ≡ success (codes "CHANCE 1/2 1 END 1\n1\nCHANCE 1/2 1 END 1\n2\n")
+  pub instead_of_lines : reply_to (choosing (pos 2) (le_z_yes tt) chances) (codes "10 INPUT A") [] ≡ success (codes "CHANCE 1/2 1 END 3\nA:1\nCHANCE 1/2 1 END 3\nA:2\n")
+  pub no_input : reply_to chances (codes "10 INPUT A;P.RND(2)") [] ≡ success (codes "CHANCE 1/1 1 NOINPUT 2\nA:\n")
+  pub refused : reply_to chances (codes "0 P.") [] ≡ refusal (notes.Load 1 NoNumber)
 
 -- the report of a run whose answers are 69 times 1 and then these
 abbrev pub long_report : List ℕ → List ℕ
@@ -395,6 +415,14 @@ pub record ClashRows : Type 0 where
   pub check_and_after : clash (options (codes "--check" ∷ codes "--after" ∷ codes "1" ∷ [])) ≡ Some CheckWithOther
   pub check_and_sample : clash (options (codes "--check" ∷ codes "--sample=3" ∷ [])) ≡ Some CheckWithOther
   pub check_and_choice : clash (options (codes "--choose" ∷ codes "2" ∷ codes "--check" ∷ [])) ≡ Some CheckWithOther
+  pub chances_listing : clash (options (codes "--chances" ∷ codes "--list" ∷ [])) ≡ Some ListWithOther
+  pub chances_check : clash (options (codes "--check" ∷ codes "--chances" ∷ codes "--all" ∷ [])) ≡ Some CheckWithOther
+  pub chances_and_all : clash (options (codes "--chances" ∷ codes "--all" ∷ [])) ≡ Some ChancesWithOther
+  pub chances_and_answers : clash (options (codes "--answers" ∷ codes "x" ∷ codes "--chances" ∷ [])) ≡ Some ChancesWithOther
+  pub chances_and_after : clash (options (codes "--chances" ∷ codes "--after" ∷ codes "1" ∷ [])) ≡ Some ChancesWithOther
+  pub chances_and_form : clash (options (codes "--form=1" ∷ codes "--chances" ∷ [])) ≡ Some ChancesWithOther
+  pub chances_and_sample : clash (options (codes "--chances" ∷ codes "--sample=3" ∷ [])) ≡ Some ChancesWithOther
+  pub chances_alone : clash (options (codes "--chances" ∷ codes "--steps" ∷ codes "5" ∷ codes "--memory=64" ∷ codes "--choose=2" ∷ [])) ≡ None
   pub check_alone : clash (options (codes "--check" ∷ codes "--steps" ∷ codes "5" ∷ codes "--memory=64" ∷ [])) ≡ None
 
 -- texts that write a list of answers, and texts that write none
@@ -429,6 +457,7 @@ pub record OptionRows : Type 0 where
   pub sample : options (codes "--seed" ∷ codes "7" ∷ codes "--sample=1000000000" ∷ []) ≡ record no_options { seed = Some 7; sample = Some 1000000000 }
   pub switches : options (codes "--all" ∷ codes "--list" ∷ []) ≡ record no_options { all = true; list = true }
   pub check : options (codes "--check" ∷ []) ≡ record no_options { check = true }
+  pub chances : options (codes "--chances" ∷ []) ≡ record no_options { chances = true }
 
 -- words that clap refuses
 pub record FaultRows : Type 0 where

@@ -8,9 +8,9 @@
 mod rows;
 
 pub use rows::{
-    after_rows, all_rows, check_rows, choice_rows, clash_rows, example_rows, fault_rows, list_rows,
-    listing_rows, long_run_rows, option_rows, program_rows, refusal_rows, run_rows, sample_rows,
-    seed_rows, share_rows, split_rows,
+    after_rows, all_rows, chance_rows, check_rows, choice_rows, clash_rows, example_rows,
+    fault_rows, list_rows, listing_rows, long_run_rows, option_rows, program_rows, refusal_rows,
+    run_rows, sample_rows, seed_rows, share_rows, split_rows,
 };
 
 #[cfg(test)]

@@ -1,7 +1,7 @@
 // This file states that the worked rows hold of the definitions.
 
-ghost use Rattle.ptb_rows.specs.Rows.{AfterRows, AllRows, BoundRows, CheckRows, ChoiceRows};
-ghost use Rattle.ptb_rows.specs.Rows.{ClashRows, ExampleRows, FaultRows};
+ghost use Rattle.ptb_rows.specs.Rows.{AfterRows, AllRows, BoundRows, ChanceRows, CheckRows};
+ghost use Rattle.ptb_rows.specs.Rows.{ChoiceRows, ClashRows, ExampleRows, FaultRows};
 ghost use Rattle.ptb_rows.specs.Rows.{ListRows, ListingRows, LongRunRows, OptionRows, ProgramRows};
 ghost use Rattle.ptb_rows.specs.Rows.{RefusalRows, RunRows, SampleRows, SeedRows, ShareRows};
 ghost use Rattle.ptb_rows.specs.Rows.{SplitRows};
@@ -94,6 +94,12 @@ pub fn listing_rows()
 #[tactic(auto, using(crate::proofs::CheckRows::check_rows))]
 pub fn check_rows()
     ensures { CheckRows }
+{}
+
+/// Worked rows of the chances of results.
+#[tactic(auto, using(crate::proofs::ChanceRows::chance_rows))]
+pub fn chance_rows()
+    ensures { ChanceRows }
 {}
 
 /// Worked rows of options that don't go together.

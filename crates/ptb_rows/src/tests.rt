@@ -150,6 +150,7 @@ enum Asked<'a> {
     Sample(u32, Form),
     List,
     Check,
+    Chances,
 }
 
 // A request with its program and input, and what is due: the bytes, the status and the note.
@@ -194,8 +195,8 @@ macro_rules! row {
     };
 }
 
-// What is done with a program by each kind of request that runs it once, samples its runs, or lists it or
-// its mistakes.
+// What is done with a program by each kind of request that runs it once, samples its runs, adds their
+// chances up, or lists it or its mistakes.
 const EACH_KIND: &[Asked<'static>] = &[
     Asked::Run(&[]),
     Asked::Seed(7),
@@ -203,6 +204,7 @@ const EACH_KIND: &[Asked<'static>] = &[
     Asked::Sample(3, Form::Two),
     Asked::List,
     Asked::Check,
+    Asked::Chances,
 ];
 
 pub(crate) const FAILINGS: &[Failing] = &[
@@ -232,6 +234,7 @@ fn request_of(alloc: Global, row: &Row<'_>) -> Result<Request, AllocError> {
         },
         Asked::List => Mode::List,
         Asked::Check => Mode::Check,
+        Asked::Chances => Mode::Chances,
     };
     Ok(Request {
         rules: rules_of(row.steps, row.choose),
@@ -408,6 +411,83 @@ const CHECKS: &[Row<'static>] = &[
 #[test]
 fn checks(rt: HostRuntime) -> Result<(), Fail> {
     expect_rows(&rt, rt.alloc(), CHECKS)?;
+    Ok(())
+}
+
+const TABLES: &[Row<'static>] = &[
+    row!(b"", b"CHANCE 1/1 1 END 0\n\n", 0, asked = Asked::Chances),
+    row!(
+        b"10 A=RND(2);IF A=2 A=RND(3)\n20 P.#1,A",
+        b"CHANCE 2/3 2 END 1\n1\nCHANCE 1/6 1 END 1\n2\nCHANCE 1/6 1 END 1\n3\n",
+        0,
+        asked = Asked::Chances
+    ),
+    row!(
+        b"10 A=RND(2)\n20 IF A=1 GOTO 10",
+        b"CHANCE 3/4 2 END 0\n\nCHANCE 1/4 1 LIMIT 0\n\n",
+        0,
+        asked = Asked::Chances,
+        steps = 5
+    ),
+    // a minus sign comes before the digits
+    row!(
+        b"10 F.I=1TO4;A=A+RND(2)*2-3;N.I;P.#1,A",
+        b"CHANCE 1/4 4 END 2\n-2\nCHANCE 1/16 1 END 2\n-4\nCHANCE 3/8 6 END 1\n0\n\
+          CHANCE 1/4 4 END 1\n2\nCHANCE 1/16 1 END 1\n4\n",
+        0,
+        asked = Asked::Chances
+    ),
+    // by the endings first, then by the lines
+    row!(
+        b"10 A=RND(3);P.#1,A;IF A=1 STOP\n20 IF A=2 P.1/0",
+        b"CHANCE 1/3 1 END 1\n3\nCHANCE 1/3 1 STOP 1\n1\nCHANCE 1/3 1 HOW 16\n20 IF A=2 P.1/0?\n",
+        0,
+        asked = Asked::Chances
+    ),
+    row!(
+        b"10 INPUT A;P.#1,A",
+        b"CHANCE 1/2 1 END 1\n1\nCHANCE 1/2 1 END 1\n2\n",
+        0,
+        asked = Asked::Chances,
+        input = b"RND(2)\n"
+    ),
+    row!(
+        b"10 INPUT A",
+        b"CHANCE 1/2 1 END 3\nA:1\nCHANCE 1/2 1 END 3\nA:2\n",
+        0,
+        asked = Asked::Chances,
+        choose = Some(2)
+    ),
+    row!(
+        b"10 INPUT A;P.RND(2)",
+        b"CHANCE 1/1 1 NOINPUT 2\nA:\n",
+        0,
+        asked = Asked::Chances
+    ),
+];
+
+// The chances of all results.
+#[test]
+fn tables_of_chances(rt: HostRuntime) -> Result<(), Fail> {
+    expect_rows(&rt, rt.alloc(), TABLES)?;
+    Ok(())
+}
+
+// Nothing is written of a table until its input was read to its end.
+#[test]
+fn tables_on_unread_inputs(rt: HostRuntime) -> Result<(), Fail> {
+    let row = row!(
+        b"10 P.RND(6)\n",
+        b"",
+        66,
+        asked = Asked::Chances,
+        note = Some(Note::InputUnread)
+    );
+    expect_unread_input(&rt, rt.alloc(), &row, b"5\n")?;
+    let request = request_of(rt.alloc(), &row)?;
+    let (reply, given) = reply_on_endless_input(rt.alloc(), &request, row.program, 1);
+    expect_reply(&rt, reply, (66, Some(Note::InputUnread)), b"");
+    expect_same(&rt, given <= 16_777_217, true);
     Ok(())
 }
 
@@ -866,6 +946,20 @@ fn checks_that_cannot_be_written(rt: HostRuntime) -> Result<(), Fail> {
     );
     for &failing in FAILINGS {
         for calls in 0..=19 {
+            let sink = make_sink(rt.alloc(), 2, calls, failing);
+            expect_broken_off(&rt, rt.alloc(), &row, sink, 2 * calls)?;
+        }
+    }
+    Ok(())
+}
+
+// What was written of a table of 42 bytes is its beginning, whichever call fails.
+#[test]
+fn tables_that_cannot_be_written(rt: HostRuntime) -> Result<(), Fail> {
+    let table = b"CHANCE 1/2 1 END 1\n1\nCHANCE 1/2 1 END 1\n2\n";
+    let row = row!(b"10 P.#1,RND(2)\n", table, 0, asked = Asked::Chances);
+    for &failing in FAILINGS {
+        for calls in 0..=22 {
             let sink = make_sink(rt.alloc(), 2, calls, failing);
             expect_broken_off(&rt, rt.alloc(), &row, sink, 2 * calls)?;
         }

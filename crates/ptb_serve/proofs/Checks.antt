@@ -45,7 +45,7 @@ module _ (request : Request) (p : StoredProgram) (memory : p.memory ≡ request.
     loaded = λ x. x;
   }
 
--- ---- the whole contract
+-- ---- the complete contract
 
 module _ (p : StoredProgram) (old new : Option (List ℕ)) (broke breaks : ℕ) where
   pub record IsChecked (result : Result ℕ Note) : Type 0 where

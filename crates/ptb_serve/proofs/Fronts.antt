@@ -19,7 +19,7 @@ use Rattle.ptb_serve.specs.declared.note.Note.TheVariants as notes
 use Rattle.ptb_serve.specs.ListMismatches.{IsUnbegun, after_reason, under_reason}
 use Rattle.ptb_serve.specs.Replies.{answers_under, front_note, is_front, is_share, note_of}
 
--- ---- tests one behind the other
+-- ---- tests one after the other
 
 pub both_true : (a b : Bool) → a ≡ true → b ≡ true → (a && b) ≡ true
 both_true a b h g = rw (h, g) refl

@@ -8,7 +8,9 @@ pub mod Listed
 pub mod Mismatching
 pub mod Telling
 pub mod Listing
+mod Lines
 pub mod Samples
 pub mod Splits
 pub mod Checks
+pub mod Tables
 pub mod Modes

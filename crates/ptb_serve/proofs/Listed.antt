@@ -60,7 +60,7 @@ below_both beginning (a ∷ rest) list e some = let l = length-append beginning 
 
 -- ---- the notes
 
--- of an input that isn't read, where a listing was to begin isn't told
+-- of an input that isn't read, where a listing was to begin isn't noted
 pub input_note-start : (fault : ReadFault) → IsErrOf {T = ℕ} (Err (input_note fault)) notes.NoRun → ⊥
 input_note-start reads.Read h = absurd cc
 input_note-start reads.TooLong h = absurd cc
@@ -71,7 +71,7 @@ input_note-beginning reads.Read h = absurd cc
 input_note-beginning reads.TooLong h = absurd cc
 input_note-beginning reads.Memory h = absurd cc
 
--- the note tells the fault that came
+-- the note has the fault that came
 pub input_note-read : {T : Type 0} (fault : ReadFault) → (IsErrOf {T = ℕ} (Err (input_note fault)) notes.InputUnread → ⊥)
     → IsErrOf {T = T} (Err fault) reads.Read → ⊥
 input_note-read reads.Read h e = h refl
@@ -91,7 +91,7 @@ module _ (game : Answers → Outcome Finish (List ℕ)) (under after : Option (L
     | inr b ↦ subst (λ m. IsUnloaded (Some m)) b h
   ]
 
-  -- of a listing that isn't begun a note tells nothing else
+  -- of a listing that isn't begun a note says nothing else
   pub front_note-other : (note other : Note) → (note ≡ notes.OutOfMemory) ⊎ (front_note game under after ≡ Some note)
       → (other ≡ notes.OutOfMemory → ⊥) → (other ≡ notes.NoBeginning → ⊥) → (other ≡ notes.NoRun → ⊥) → IsErrOf {T = ℕ} (Err note) other → ⊥
   front_note-other note other (inl e) memory beginning run h = memory cc

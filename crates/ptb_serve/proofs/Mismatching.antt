@@ -80,6 +80,11 @@ unbegun_told request p known input lines under after first form (Refused m) x = 
   fits = λ c is. subst (λ i. IsMismatchIn (play p i request.rules) under after m) (at_known (λ d. input ≡ input_lines d) c is lines) x.1;
 }
 
+-- and no line stopped it
+pub unbegun_line : (why : Unbegun) → (unbegun_attempt why).line ≡ None
+unbegun_line Memory = refl
+unbegun_line (Refused m) = refl
+
 -- ---- for a program that was loaded
 
 pub said_outcome : (result : Result ℕ Note) (mismatch : Option ListMismatch) → (RefusesListIn result → IsSome mismatch)

@@ -25,11 +25,12 @@ use Rattle.ptb_serve.specs.declared.note.Note.TheVariants as notes
 use Rattle.ptb_options.specs.declared.request.Mode.{Mode}
 use Rattle.ptb_options.specs.declared.request.Mode.TheVariants as modes
 use Rattle.ptb_options.specs.declared.request.Request.{Request}
+use Rattle.ptb_chances.specs.TableLaws.{TableLaws}
 use Rattle.ptb_check.specs.Laws.{CheckLaws}
 use Rattle.ptb_check.specs.Mistakes.{Mistake, mistakes}
 use Rattle.ptb_check.specs.Writing.{has_any}
 use Rattle.ptb_plain.specs.SeededRuns.{SeededLaws, seeded_answers}
-use Rattle.ptb_serve.specs.Replies.{Reply, refusal, plain_reply, seeded_reply, answers_under, first_front, front_note, is_front, note_of, all_reply, check_reply, check_status, listing_reply, runs_drawn, sample_reply, shares_reply, program_of_text, reply_or_refusal, program_reply, reply_in_mode}
+use Rattle.ptb_serve.specs.Replies.{Reply, refusal, plain_reply, seeded_reply, answers_under, first_front, front_note, is_front, note_of, all_reply, chances_reply, check_reply, check_status, listing_reply, runs_drawn, sample_reply, shares_reply, program_of_text, reply_or_refusal, program_reply, reply_in_mode}
 use Rattle.ptb_serve.specs.ReplyLaws.{ChecksText, ListsRuns, RunReplies, RunsBySeed, SamplesBySeed, ReplyLaws}
 use Rattle.ptb_serve.proofs.Fronts.{begun_after, begun_both, begun_under, both_parts, both_true, no_front, no_share, share_true}
 use Rattle.ptb_serve.proofs.Listed.{reply-listed, reply-refused}
@@ -54,6 +55,7 @@ refused_in_mode (modes.Shares answers form) r b c e h = refused r.memory b (λ p
 refused_in_mode (modes.Sample seed runs form) r b c e h = refused r.memory b (λ p. sample_reply p (input_lines c) r.rules seed runs form) e h
 refused_in_mode modes.List r b c e h = refused r.memory b listing_reply e h
 refused_in_mode modes.Check r b c e h = refused r.memory b check_reply e h
+refused_in_mode modes.Chances r b c e h = refused r.memory b (λ p. chances_reply p (input_lines c) r.rules) e h
 
 -- ---- a text that is accepted
 
@@ -65,11 +67,12 @@ module _ (p : StoredProgram) (c : List ℕ) (rules : Rules) (tree : TreeLaws (pl
     (laws : ListingLaws (play p (input_lines c) rules) (most_answers p (input_lines c) rules.limit)) (share : ShareLaws (play p (input_lines c) rules) (most_answers p (input_lines c) rules.limit))
     (reports : ReportLaws (play p (input_lines c) rules) (most_answers p (input_lines c) rules.limit))
     (reads : IsReader (play p (input_lines c) rules) (most_answers p (input_lines c) rules.limit)) (drawn : SeededLaws) (samples : SampleLaws (play p (input_lines c) rules) (most_answers p (input_lines c) rules.limit))
-    (beginnings : (n : ℕ) → BeginningLaws (play p (input_lines c) rules) (most_answers p (input_lines c) rules.limit) n) where
+    (beginnings : (n : ℕ) → BeginningLaws (play p (input_lines c) rules) (most_answers p (input_lines c) rules.limit) n)
+    (tables : TableLaws (play p (input_lines c) rules) (most_answers p (input_lines c) rules.limit)) where
   abbrev game : Answers → Outcome Finish (List ℕ)
   game = play p (input_lines c) rules
 
-  -- a listing begins with the first run, or behind one that is named; these are the runs that are to be listed
+  -- a listing begins with the first run, or after one that is named; these are the runs that are to be listed
   lists_runs : (under after : Option (List Marked)) → front_note game under after ≡ None → (IsListed : Answers → Type 0)
       → ((a : Answers) → (IsRun game a × (is_left (answers_under under) (first_front after) a ≡ true)) ↔ IsListed a)
       → (reply : Option ℕ → Form → Reply) → ((first : Option ℕ) (form : Form) → reply first form ≡ all_reply p (input_lines c) rules under after first form)
@@ -124,8 +127,9 @@ module _ (p : StoredProgram) (c : List ℕ) (rules : Rules) (tree : TreeLaws (pl
       → ((under after : Option (List Marked)) (first : Option ℕ) (form : Form) → reply (modes.All under after first form) ≡ all_reply p (input_lines c) rules under after first form)
       → ((seed runs : ℕ) (form : Form) → reply (modes.Sample seed runs form) ≡ sample_reply p (input_lines c) rules seed runs form)
       → ((n : ℕ) (form : Form) → reply (modes.Shares n form) ≡ shares_reply p (input_lines c) rules n form)
+      → reply modes.Chances ≡ chances_reply p (input_lines c) rules
       → RunReplies game (most_answers p (input_lines c) rules.limit) reply
-  run_replies reply plain seeded all sample lists = record {
+  run_replies reply plain seeded all sample lists chances = record {
     tree = tree;
     all_runs = lists_runs None None refl (IsRun game) (λ a. (λ h. h.0, λ h. (h, refl))) (λ first form. reply (modes.All None None first form)) (all None None);
     runs_after = λ list run.
@@ -154,6 +158,7 @@ module _ (p : StoredProgram) (c : List ℕ) (rules : Rules) (tree : TreeLaws (pl
     plain_run = plain;
     seeded_run = λ seed. runs_by_seed reply plain seed (seeded seed);
     sampled = λ seed runs. samples_by_seed seed runs (λ form. reply (modes.Sample seed runs form)) (λ form. sample seed runs form);
+    chances = record { rows = chances; laws = tables };
   }
 
 -- ---- a check
@@ -183,8 +188,9 @@ pub reply_laws : RunLaws → SeededLaws
     → ((p : StoredProgram) (input : List (List ℕ)) (rules : Rules) → ShareLaws (play p input rules) (most_answers p input rules.limit))
     → ((p : StoredProgram) (input : List (List ℕ)) (rules : Rules) → ReportLaws (play p input rules) (most_answers p input rules.limit))
     → ((p : StoredProgram) (input : List (List ℕ)) (rules : Rules) → SampleLaws (play p input rules) (most_answers p input rules.limit))
-    → ((p : StoredProgram) (input : List (List ℕ)) (rules : Rules) (n : ℕ) → BeginningLaws (play p input rules) (most_answers p input rules.limit) n) → CheckLaws → ReplyLaws
-reply_laws runs drawn tree laws share reports samples beginnings checks = record {
+    → ((p : StoredProgram) (input : List (List ℕ)) (rules : Rules) (n : ℕ) → BeginningLaws (play p input rules) (most_answers p input rules.limit) n)
+    → ((play : Answers → Outcome Finish (List ℕ)) (most : ℕ) → IsReader play most → TableLaws play most) → CheckLaws → ReplyLaws
+reply_laws runs drawn tree laws share reports samples beginnings tables checks = record {
   too_long = λ r b c long. refused_in_mode r.mode r b c (0, TooLong) (too_long_text r.memory b long);
   refused = λ r b c e h. refused_in_mode r.mode r b c e h;
   accepted = λ memory size rules b c p h.
@@ -192,12 +198,14 @@ reply_laws runs drawn tree laws share reports samples beginnings checks = record
       (laws (record { lines = p; memory = memory }) (input_lines c) rules) (share (record { lines = p; memory = memory }) (input_lines c) rules)
       (reports (record { lines = p; memory = memory }) (input_lines c) rules)
       (runs.reads (record { lines = p; memory = memory }) (input_lines c) rules) drawn (samples (record { lines = p; memory = memory }) (input_lines c) rules)
-      (beginnings (record { lines = p; memory = memory }) (input_lines c) rules) _
+      (beginnings (record { lines = p; memory = memory }) (input_lines c) rules)
+      (tables (play (record { lines = p; memory = memory }) (input_lines c) rules) (most_answers (record { lines = p; memory = memory }) (input_lines c) rules.limit) (runs.reads (record { lines = p; memory = memory }) (input_lines c) rules)) _
       (λ a. accepted memory b (plain_reply rules a c) p h)
       (λ seed. accepted memory b (seeded_reply rules seed c) p h)
       (λ under after first form. accepted memory b (λ p. all_reply p (input_lines c) rules under after first form) p h)
       (λ seed runs form. accepted memory b (λ p. sample_reply p (input_lines c) rules seed runs form) p h)
-      (λ n form. accepted memory b (λ p. shares_reply p (input_lines c) rules n form) p h);
+      (λ n form. accepted memory b (λ p. shares_reply p (input_lines c) rules n form) p h)
+      (accepted memory b (λ p. chances_reply p (input_lines c) rules) p h);
   listed = λ r b c p h mode. ap (λ m. reply_in_mode m r b c) mode ∙ accepted r.memory b listing_reply p h;
   checked = λ r b c p h mode. checks_text p r.memory _ (ap (λ m. reply_in_mode m r b c) mode ∙ accepted r.memory b check_reply p h);
   mistakes = checks;

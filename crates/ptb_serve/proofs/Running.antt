@@ -64,7 +64,7 @@ module _ {R : Type 0} (request : Request) (p : StoredProgram) (answers : StoredP
       unneeded = λ x. absurd (x is_needed);
     }
 
-    -- a note that tells nothing of the input
+    -- a note that says nothing of the input
     reads_note : (note : Note) (fault : RunFault) → (IsErrOf {T = Ending} (Err fault) faults.Read → ⊥) → (IsErrOf {T = ℕ} (Err note) notes.InputUnread → ⊥)
         → (IsErrOf {T = ℕ} (Err note) notes.NoBeginning → ⊥) → (IsErrOf {T = ℕ} (Err note) notes.NoRun → ⊥) → RanBy (Err fault) → ReadsAs (Err note)
     reads_note note fault fine known begun started ran = record {

@@ -116,7 +116,7 @@ module _ (request : Request) (p : StoredProgram) (memory : p.memory ≡ request.
           (λ c is refused. inr (subst (λ l. SamplesFewerOf p l request.rules seed runs form old new) (at_known (λ d. input ≡ input_lines d) c is lines) (fewer_sampled p request seed runs form input old new fault w refused)))
           (λ x. absurd (reports_note-read fault x)) tt (reports_note-loaded fault)
 
-  -- ---- the whole contract
+  -- ---- the complete contract
 
   pub record IsSampled (known left : Option (List ℕ)) (failed fails gave gives : ℕ) (old new : Option (List ℕ)) (broke breaks : ℕ) (result : Result ℕ Note) : Type 0 where
     pub serves : ServesProgram sample request p known left old new result

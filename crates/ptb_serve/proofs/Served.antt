@@ -90,6 +90,7 @@ stops_at_once (modes.Shares answers form) request b c held = nothing_of_program 
 stops_at_once (modes.Sample seed runs form) request b c held = nothing_of_program held (program_of_text request.memory b) _
 stops_at_once modes.List request b c held = tt
 stops_at_once modes.Check request b c held = tt
+stops_at_once modes.Chances request b c held = tt
 
 pub stops_unloaded : (mode : Mode) (request : Request) (known : Option (List ℕ)) (c : List ℕ) (held : Option (List ℕ)) → IfSome known (λ b. StopsForMemory mode request b c held held)
 stops_unloaded mode request None c held = tt
@@ -152,7 +153,7 @@ when_refused memory (Some b) Q q = by_text (program_of_text memory b) where
   by_text (Ok p) = tt
   by_text (Err e) = q
 
--- ---- what a note tells of a program that isn't loaded
+-- ---- what a note says of a program that isn't loaded
 
 -- that it isn't loaded, or that memory was refused, and nothing else
 pub load_note-other : (e : ℕ × LoadFault) (note : Note) → (IsUnloaded (Some note) → ⊥) → (note ≡ notes.OutOfMemory → ⊥) → Some (load_note e) ≡ Some note → ⊥
@@ -194,6 +195,7 @@ load_note-silent mode held e = by_fault e.1 where
   without_memory (modes.Sample seed runs form) = tt
   without_memory modes.List = Appends-nil held
   without_memory modes.Check = Appends-nil held
+  without_memory modes.Chances = Appends-nil held
 
   by_fault : (fault : LoadFault) → SilentBy mode (Some (load_note (e.0, fault))) held held
   by_fault loads.NoNumber = Appends-nil held
@@ -247,7 +249,7 @@ load_note-length old new e exactly = by_fault e.1 exactly where
 
 -- ---- a program that is loaded
 
--- of a text that was loaded no note tells a refusal
+-- of a text that was loaded no note is a refusal
 pub loaded_refusal : (memory : ℕ) (known : Option (List ℕ)) (note : Option Note) → (IsUnloaded note → ⊥) → TellsRefusal memory known note
 loaded_refusal memory known None h = tt
 loaded_refusal memory known (Some (notes.Load line fault)) h = absurd (h tt)
@@ -338,7 +340,7 @@ status_within endings.NoInput = omega arith
 status_within endings.NoAnswer = omega arith
 status_within endings.BadAnswer = omega arith
 
--- what a run comes to on the lines of an input
+-- the result of a run on the lines of an input
 module _ (run : List (List ℕ) → List ℕ × Ending) (known : Option (List ℕ)) (c : List ℕ) (old new : Option (List ℕ)) where
   abbrev due : Reply
   due = run_reply (run (input_lines c))
@@ -351,7 +353,7 @@ module _ (run : List (List ℕ) → List ℕ × Ending) (known : Option (List �
 
 -- ---- an input that can't be read
 
--- on the lines that came whole a run ends for want of a line, or asks for an answer
+-- on the lines that came complete a run ends for want of a line, or asks for an answer
 module _ (memory : ℕ) (choose : Option ℤ) (run : StoredProgram → List (List ℕ) → Answers → List ℕ × Ending) (given : StoredProgram → List (List ℕ) → Answers) (p : StoredProgram) (i j old new : Option (List ℕ)) where
   abbrev unread_run : StoredProgram → List (List ℕ) → Reply
   unread_run q lines = run_reply (run q lines (given q lines))
@@ -394,6 +396,7 @@ takes_nothing_in (modes.Shares answers form) request (Some b) known outcome = no
 takes_nothing_in (modes.Sample seed runs form) request (Some b) known outcome = nothing_told known
 takes_nothing_in modes.List request (Some b) known outcome = nothing_told known
 takes_nothing_in modes.Check request (Some b) known outcome = nothing_told known
+takes_nothing_in modes.Chances request (Some b) known outcome = nothing_told known
 
 -- by the outcome as by the result
 wanted_same : (result : Result Ending RunFault) (outcome : Outcome) → ((k : ℕ) → ending_wanted k result ≡ outcome_wanted k outcome)
@@ -458,6 +461,7 @@ run_no_check (modes.Shares answers form) run check = check
 run_no_check (modes.Sample seed runs form) run check = check
 run_no_check modes.List run check = check
 run_no_check modes.Check run check = run
+run_no_check modes.Chances run check = check
 
 pub outcome_of-err : (r : Result ℕ Note) (note : Note) → IsErrOf r note → (outcome_of r).note ≡ Some note
 outcome_of-err r note h = ap (λ x. (outcome_of x).note) h

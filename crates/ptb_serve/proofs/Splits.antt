@@ -140,7 +140,7 @@ module _ (request : Request) (p : StoredProgram) (memory : p.memory ≡ request.
           (λ c is refused. inr (subst (λ l. SplitsFewerOf p l request.rules n form old new) (at_known (λ d. input ≡ input_lines d) c is lines) (fewer_split p request n form input old new f fault w refused)))
           (λ x. absurd (reports_note-read fault x)) tt (reports_note-loaded fault)
 
-  -- ---- the whole contract
+  -- ---- the complete contract
 
   pub record IsSplit (known left : Option (List ℕ)) (failed fails gave gives : ℕ) (old new : Option (List ℕ)) (broke breaks : ℕ) (result : Result ℕ Note) : Type 0 where
     pub serves : ServesProgram shares request p known left old new result

@@ -14,11 +14,13 @@ use Rattle.ptb_serve.specs.declared.list_mismatch.ListMismatch.{ListMismatch}
 use Rattle.ptb_serve.specs.declared.note.Note.{Note}
 use Rattle.ptb_serve.specs.declared.note.Note.TheVariants as notes
 use Rattle.ptb_serve.specs.declared.service.Outcome.{Outcome}
-use Rattle.ptb_serve.specs.Loaded.{ServesProgram, ReadsInput, TellsFailures, TellsMismatch}
+use Rattle.ptb_serve.specs.Loaded.{ServesProgram, ReadsInput, TellsFailures, TellsLine, TellsMismatch, line_in_mode}
 use Rattle.ptb_serve.specs.ListMismatches.{IsMismatchOf}
 use Rattle.ptb_serve.specs.Promises.{Served, ReadsOnlyWhatIsAsked, FailsLoudly}
 use Rattle.ptb_serve.specs.Replies.{listing_reply, program_of_text, program_reply_in_mode, reply_in_mode}
 use Rattle.ptb_serve.specs.Serving.{IsUnloaded, NeedsInput, ReadsForRun, Serves, ServesUnread, StopsForMemory, load_note, outcome_of}
+use Rattle.ptb_serve.specs.Statuses.{note_status}
+use Rattle.ptb_serve.proofs.Lines.{line_loaded, note_beyond, served_at_limit, status_at_limit}
 use Rattle.ptb_serve.proofs.Mismatching.{mismatch_loaded, noted_outcome, said_outcome}
 use Rattle.ptb_serve.proofs.Served.{consumes_nothing, each_known, load_note-length, load_note-other, load_note-read, load_note-refusal, load_note-silent, load_note-unread, loaded_length, loaded_refusal, loaded_unrefused, outcome_of-err, outcome_of-none, outcome_of-note, outcome_of-status, outcome_of-checked, outcome_of-success, serves_refusal, serves_unloaded, stops_unloaded, takes_nothing_in, unread, unwritten, when_refused}
 
@@ -37,15 +39,16 @@ pub record Told {P R : Type 0} (request : Request) (text : Reads P) (input : Rea
 
 module _ {P R : Type 0} (request : Request) (text : Reads P) (consumed : ConsumesAtMost text.bytes text.left (program_limit + 1)) (given : GivesAtMost text.gave text.gives (program_limit + 1)) where
   -- the program p was loaded
-  pub told_loaded : (input : Reads R) (out : Writes) (outcome : Outcome) (result : Result ℕ Note) (mismatch : Option ListMismatch) (p : StoredProgram)
-      → outcome ≡ record (outcome_of result) { mismatch = mismatch } → p.memory ≡ request.memory → IfSome text.bytes (λ b. IsLoaded request.memory b p.lines) → text.fails ≡ text.failed
+  pub told_loaded : (input : Reads R) (out : Writes) (outcome : Outcome) (result : Result ℕ Note) (mismatch : Option ListMismatch) (line : Option ℕ) (p : StoredProgram)
+      → outcome ≡ record (outcome_of result) { mismatch = mismatch; line = line } → p.memory ≡ request.memory → IfSome text.bytes (λ b. IsLoaded request.memory b p.lines) → text.fails ≡ text.failed
       → ServesProgram request.mode request p input.bytes input.left out.before out.after result
       → ReadsInput request.mode input.bytes input.left input.failed input.fails input.gave input.gives result
       → TellsFailures out.failed out.fails result
       → TellsMismatch request.mode request p input.bytes result mismatch
+      → TellsLine request.mode request p input.bytes result line
       → ((NeedsInput request.mode → ⊥) → input.new ≡ input.old)
       → Told request text input out outcome
-  told_loaded input out outcome result mismatch p is memory loaded unfailed serves reads tells said kept =
+  told_loaded input out outcome result mismatch line p is memory loaded unfailed serves reads tells said stopped kept =
       subst (Told request text input out) (sym is)
       (record {
         served = record {
@@ -63,6 +66,11 @@ module _ {P R : Type 0} (request : Request) (text : Reads P) (consumed : Consume
               each_known (λ b. IsLoaded request.memory b p.lines)
               (λ b. IfOk (program_of_text request.memory b) (λ q. IfSome mismatch (IsMismatchOf request.mode (record { lines = q; memory = request.memory }) (input_lines c) request.rules))) text.bytes
               (λ b l. mismatch_loaded request.mode request b c p mismatch l memory (said.fits c i)) loaded;
+          line = λ h c i.
+              each_known (λ b. IsLoaded request.memory b p.lines)
+              (λ b. IfOk (program_of_text request.memory b) (λ q. line ≡ line_in_mode request.mode (record { lines = q; memory = request.memory }) (input_lines c) request.rules)) text.bytes
+              (λ b l. line_loaded request.mode request b (input_lines c) p line l memory (stopped.at_limit (served_at_limit result h) c i)) loaded;
+          no_line = λ h. stopped.elsewhere (λ e. h (status_at_limit result e));
           unread = λ h. each_known (λ b. IsLoaded request.memory b p.lines) (λ b. ServesUnread request.mode request input.bytes input.left b out.before out.after) text.bytes (λ b l. serves.unread b l (outcome_of-note result notes.InputUnread h)) loaded;
         };
         reads = record {
@@ -117,6 +125,8 @@ module _ {P R : Type 0} (request : Request) (text : Reads P) (consumed : Consume
           unread = λ h. absurd (no_input h);
           mismatch_noted = tt;
           mismatch = λ c _. nothing_said request.memory text.bytes;
+          line = λ h _ _. absurd (note_beyond (load_note e) h);
+          no_line = λ _. refl;
         };
         reads = record {
           load_first = when_refused request.memory text.bytes _ (refl, no_input);

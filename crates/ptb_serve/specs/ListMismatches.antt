@@ -4,7 +4,7 @@
 --     IsMismatchIn game under after m      m says why one of these lists fits no run
 --     IsMismatchOf mode p input rules m    the same, of the lists of a request
 --     under_reason e, after_reason e       why a listing is not begun with some answers, or after a run
---     unbegun_attempt why                  what the attempt of a listing that is not begun comes to
+--     unbegun_attempt why                  the attempt of a listing that is not begun
 --     IsUnbegun game under after why       a list is refused by its note, and for what it does not fit; or memory was refused
 use Rattle.std.specs.Prelude.{◌≡◌, ℕ, List, [], Option, Some, None, Err}
 use Rattle.ptb_text.specs.Statements.{StoredProgram}
@@ -50,6 +50,7 @@ IsMismatchOf (modes.Shares answers form) p input rules m = ⊥
 IsMismatchOf (modes.Sample seed runs form) p input rules m = ⊥
 IsMismatchOf modes.List p input rules m = ⊥
 IsMismatchOf modes.Check p input rules m = ⊥
+IsMismatchOf modes.Chances p input rules m = ⊥
 
 -- ---- a listing that is not begun
 
@@ -63,8 +64,8 @@ after_reason afters.Memory = Memory
 
 -- a list that fits no run is refused, and it is said why
 abbrev pub unbegun_attempt : Unbegun → Attempt
-unbegun_attempt (Refused m) = record { served = Err (mismatch_note m); mismatch = Some m }
-unbegun_attempt Memory = record { served = Err notes.OutOfMemory; mismatch = None }
+unbegun_attempt (Refused m) = record { served = Err (mismatch_note m); mismatch = Some m; line = None }
+unbegun_attempt Memory = record { served = Err notes.OutOfMemory; mismatch = None; line = None }
 
 abbrev pub IsUnbegun : (Answers → Outcome Finish (List ℕ)) → Option (List Marked) → Option (List Marked) → Unbegun → Type 0
 IsUnbegun game under after (Refused m) = (front_note game under after ≡ Some (mismatch_note m)) × IsMismatchIn game under after m

@@ -5,22 +5,30 @@
 --     TellsFailures old new result    that the writer failed is noted, and is noted of no other
 --     RefusesListIn result        a list is refused
 --     TellsMismatch mode ..       what is said of a list goes with its note, and is so; and it is said with each such note
-use Rattle.std.specs.Prelude.{◌≡◌, ◌⊎◌, ◌+◌, ◌≤◌, ℕ, List, length, Option, Result, Ok, Err, IfOk, IfSome, IsErrOf, IsSome, OnOk}
+--     line_of ended               the line at which the limit stopped a run
+--     line_in_mode mode p lines rules     the same of the play on these lines
+--     TellsLine mode ..           where the limit stopped a run, the line is that of the play
+use Rattle.std.specs.Prelude.{◌≡◌, ◌⊎◌, ◌+◌, ◌≤◌, ℕ, List, length, Option, None, Result, Ok, Err, IfOk, IfSome, IsErrOf, IsSome, OnOk}
 use Rattle.ptb_text.specs.Device.{GivesAtMost, GivesExactly, HasFailed}
 use Rattle.ptb_text.specs.Lines.{input_lines}
 use Rattle.ptb_text.specs.Loading.{IsLoaded}
 use Rattle.ptb_text.specs.Statements.{StoredProgram}
 use Rattle.ptb_command.specs.declared.ending.Ending.{Ending}
+use Rattle.ptb_command.specs.declared.ending.Ending.TheVariants as endings
 use Rattle.ptb_devices.specs.Sources.{ConsumesAtMost}
-use Rattle.ptb_machine.specs.Play.{status}
+use Rattle.ptb_machine.specs.Play.{status, stopping_line}
+use Rattle.ptb_machine.specs.declared.run_end.RunEnd.{RunEnd}
 use Rattle.ptb_machine.specs.declared.fault.RunFault.{RunFault}
 use Rattle.ptb_machine.specs.declared.fault.RunFault.TheVariants as faults
+use Rattle.ptb_answers.specs.declared.rules.Rules.{Rules}
 use Rattle.ptb_options.specs.declared.request.Mode.{Mode}
+use Rattle.ptb_options.specs.declared.request.Mode.TheVariants as modes
 use Rattle.ptb_options.specs.declared.request.Request.{Request}
 use Rattle.ptb_serve.specs.declared.list_mismatch.ListMismatch.{ListMismatch}
 use Rattle.ptb_serve.specs.declared.note.Note.{Note}
 use Rattle.ptb_serve.specs.declared.note.Note.TheVariants as notes
 use Rattle.ptb_plain.specs.PlainRuns.{IsUnreadable, input_limit}
+use Rattle.ptb_plain.specs.SeededRuns.{seeded_answers}
 use Rattle.ptb_serve.specs.ListMismatches.{IsMismatchOf, mismatch_note}
 use Rattle.ptb_serve.specs.Replies.{reply_in_mode}
 use Rattle.ptb_serve.specs.Serving.{IsCheck, IsInput, IsPlainRun, IsUnloaded, NeedsInput, NeedsWholeInput, ReadsForRun, Serves, ServesUnread, SilentBy, StopsForMemory, outcome_of}
@@ -70,3 +78,22 @@ pub record TellsMismatch (mode : Mode) (request : Request) (p : StoredProgram) (
   pub said : RefusesListIn result → IsSome mismatch
   pub noted : IfSome mismatch (λ m. IsErrOf result (mismatch_note m))
   pub fits : (c : List ℕ) → IsInput mode known c → IfSome mismatch (IsMismatchOf mode p (input_lines c) request.rules)
+
+abbrev pub line_of : Result RunEnd RunFault → Option ℕ
+line_of (Ok end) = end.line
+line_of (Err fault) = None
+
+abbrev pub line_in_mode : Mode → StoredProgram → List (List ℕ) → Rules → Option ℕ
+line_in_mode (modes.Plain a) p lines rules = stopping_line p lines rules a
+line_in_mode (modes.Seeded seed) p lines rules = stopping_line p lines rules (seeded_answers seed p lines rules)
+line_in_mode (modes.All under after first form) p lines rules = None
+line_in_mode (modes.Shares answers form) p lines rules = None
+line_in_mode (modes.Sample seed runs form) p lines rules = None
+line_in_mode modes.List p lines rules = None
+line_in_mode modes.Check p lines rules = None
+line_in_mode modes.Chances p lines rules = None
+
+pub record TellsLine (mode : Mode) (request : Request) (p : StoredProgram) (known : Option (List ℕ)) (result : Result ℕ Note) (line : Option ℕ) : Type 0 where
+  pub at_limit : result ≡ Ok (status endings.Limit) → (c : List ℕ) → IsInput mode known c → line ≡ line_in_mode mode p (input_lines c) request.rules
+  -- nothing else has a line
+  pub elsewhere : ¬ (result ≡ Ok (status endings.Limit)) → line ≡ None

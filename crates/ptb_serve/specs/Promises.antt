@@ -13,6 +13,7 @@ use Rattle.ptb_options.specs.declared.request.Request.{Request}
 use Rattle.ptb_serve.specs.declared.note.Note.TheVariants as notes
 use Rattle.ptb_serve.specs.declared.service.Outcome.{Outcome}
 use Rattle.ptb_serve.specs.ListMismatches.{IsMismatchOf, mismatch_note}
+use Rattle.ptb_serve.specs.Loaded.{line_in_mode}
 use Rattle.ptb_serve.specs.Replies.{program_of_text, refusal, reply_to}
 use Rattle.ptb_serve.specs.Serving.{IsCheck, IsInput, IsPlainRun, IsUnloaded, NeedsInput, NeedsWholeInput, ReadsForRun, Serves, ServesUnread, SilentBy, StopsForMemory, TellsLength, TellsRefusal}
 use Rattle.ptb_serve.specs.Statuses.{note_status}
@@ -39,7 +40,7 @@ module _ {P R : Type 0} (request : Request) (text : Reads P) (input : Reads R) w
     -- Where it is refused in a run by a seed, nothing is written, or exactly what the run shows up to a question.
     pub stopped : outcome.note ≡ Some notes.OutOfMemory
         → (c : List ℕ) → IsInput request.mode input.bytes c → IfSome text.bytes (λ b. StopsForMemory request.mode request b c out.before out.after)
-    -- Where a line can't be read, what a run shows on the lines that came whole is written.
+    -- Where a line can't be read, what a run shows on the lines that came complete is written.
     pub unread : outcome.note ≡ Some notes.InputUnread
         → IfSome text.bytes (λ b. ServesUnread request.mode request input.bytes input.left b out.before out.after)
     -- Where a list fits no run, it is said why. This is said only with the note that refuses the list, and it is what the
@@ -48,6 +49,11 @@ module _ {P R : Type 0} (request : Request) (text : Reads P) (input : Reads R) w
     pub mismatch_noted : IfSome outcome.mismatch (λ m. outcome.note ≡ Some (mismatch_note m))
     pub mismatch : (c : List ℕ) → IsInput request.mode input.bytes c
         → IfSome text.bytes (λ b. IfOk (program_of_text request.memory b) (λ p. IfSome outcome.mismatch (IsMismatchOf request.mode (record { lines = p; memory = request.memory }) (input_lines c) request.rules)))
+    -- Where the limit stopped a run, the line is the number of the statement in which its next command begins. There is no line
+    -- with any other status.
+    pub line : outcome.status ≡ 4 → (c : List ℕ) → IsInput request.mode input.bytes c
+        → IfSome text.bytes (λ b. IfOk (program_of_text request.memory b) (λ p. outcome.line ≡ line_in_mode request.mode (record { lines = p; memory = request.memory }) (input_lines c) request.rules))
+    pub no_line : ¬ (outcome.status ≡ 4) → outcome.line ≡ None
 
   pub record ReadsOnlyWhatIsAsked (outcome : Outcome) : Type 0 where
     -- The text is loaded first: where it is refused, the input is left alone, and is not at fault.
@@ -56,7 +62,7 @@ module _ {P R : Type 0} (request : Request) (text : Reads P) (input : Reads R) w
     pub unloaded : IsUnloaded outcome.note → input.new ≡ input.old
     -- and where the request needs no input.
     pub unneeded : ¬ NeedsInput request.mode → (input.new ≡ input.old) × ¬ (outcome.note ≡ Some notes.InputUnread)
-    -- A run reads on only while fewer lines are whole than it asked for.
+    -- A run reads on only while fewer lines are complete than it asked for.
     pub for_run : IfSome text.bytes (λ b. IfSome input.bytes (λ c. ReadsForRun request.mode request b c input.left outcome))
     -- A run that ends has taken at most 16,777,216 bytes,
     pub run_within : IsPlainRun request.mode → outcome.note ≡ None → ConsumesAtMost input.bytes input.left input_limit

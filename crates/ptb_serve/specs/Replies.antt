@@ -19,6 +19,7 @@ use Rattle.ptb_answers.specs.Seeds.{generator_of}
 use Rattle.ptb_explore.specs.MarkedRuns.{states_bounds}
 use Rattle.ptb_explore.specs.RunTree.{Front, Start, At, begins_with, runs_left}
 use Rattle.ptb_explore.specs.Beginnings.{beginning_line, beginnings}
+use Rattle.ptb_explore.specs.Chances.{chances}
 use Rattle.ptb_explore.specs.Listing.{text}
 use Rattle.ptb_explore.specs.Report.{report}
 use Rattle.ptb_serve.specs.declared.note.Note.{Note}
@@ -152,7 +153,13 @@ runs_drawn game most seed runs = sampled_runs most game (generator_of seed) runs
 abbrev pub sample_reply : StoredProgram → List (List ℕ) → Rules → ℕ → ℕ → Form → Reply
 sample_reply p input rules seed runs form = success (text (report form (play p input rules)) (runs_drawn (play p input rules) (most_answers p input rules.limit) seed runs))
 
--- ---- the whole tool
+-- ---- the chances
+
+-- the table of all results that runs have
+abbrev pub chances_reply : StoredProgram → List (List ℕ) → Rules → Reply
+chances_reply p input rules = success (chances (play p input rules) (most_answers p input rules.limit))
+
+-- ---- the complete tool
 
 -- the reply for a program that was loaded
 abbrev pub program_reply_in_mode : Mode → Rules → List ℕ → StoredProgram → Reply
@@ -163,6 +170,7 @@ program_reply_in_mode (modes.Shares answers form) rules c = λ p. shares_reply p
 program_reply_in_mode (modes.Sample seed runs form) rules c = λ p. sample_reply p (input_lines c) rules seed runs form
 program_reply_in_mode modes.List rules c = listing_reply
 program_reply_in_mode modes.Check rules c = check_reply
+program_reply_in_mode modes.Chances rules c = λ p. chances_reply p (input_lines c) rules
 
 abbrev pub reply_in_mode : Mode → Request → List ℕ → List ℕ → Reply
 reply_in_mode mode request b c = program_reply request.memory b (program_reply_in_mode mode request.rules c)

@@ -7,6 +7,7 @@
 --     SplitsRuns play n reply          the reply to `--shares n` is a line for each list that splits the runs; the replies to their shares are the reply to all runs
 --     RunReplies play most reply       what the replies are where a program is run, once or with all answers
 --     ChecksText p reply               the reply to a check of the program p
+--     TellsChances play most reply     the reply to `--chances` is the table of all results that runs have
 --     ReplyLaws                        what a reply is for every program text and every input
 use Rattle.std.specs.Prelude.{◌≡◌, true, ℕ, suc, ◌<◌, List, [], ◌∷◌, ◌++◌, length, take, Option, Some, None, Ok, Err, ◌↔◌, Contains, ℤ}
 use Rattle.std.specs.List.{flat_map}
@@ -23,17 +24,19 @@ use Rattle.ptb_answers.specs.declared.form.Marked.{Marked}
 use Rattle.ptb_answers.specs.AnswerText.{answers_of, items_in, without_bound}
 use Rattle.ptb_answers.specs.Seeds.{drawn_answers}
 use Rattle.ptb_explore.specs.Beginnings.{IsBeginning, beginning_line}
+use Rattle.ptb_explore.specs.Chances.{table, table_text}
 use Rattle.ptb_explore.specs.Laws.{ReportLaws, TreeLaws}
 use Rattle.ptb_explore.specs.Listing.{text}
 use Rattle.ptb_explore.specs.MarkedRuns.{IsMarkedBeginning, IsMarkedRun}
 use Rattle.ptb_report.specs.Report.{report_text}
 use Rattle.ptb_explore.specs.Report.{report, word_of}
 use Rattle.ptb_explore.specs.Sampling.{concatenated}
-use Rattle.ptb_explore.specs.RunTree.{IsRun, Before, IsRising, answers_to, begins_with}
+use Rattle.ptb_explore.specs.RunTree.{IsRun, Before, IsRising, answers_to, begins_with, tree}
 use Rattle.ptb_serve.specs.declared.note.Note.TheVariants as notes
 use Rattle.ptb_options.specs.declared.request.Mode.{Mode}
 use Rattle.ptb_options.specs.declared.request.Mode.TheVariants as modes
 use Rattle.ptb_options.specs.declared.request.Request.{Request}
+use Rattle.ptb_chances.specs.TableLaws.{TableLaws}
 use Rattle.ptb_check.specs.Laws.{CheckLaws}
 use Rattle.ptb_check.specs.Mistakes.{mistakes, mistakes_text}
 use Rattle.ptb_plain.specs.SeededRuns.{IsDrawn}
@@ -72,6 +75,13 @@ pub record SamplesBySeed (seed : ℕ) (play : Answers → Outcome Finish (List �
   -- the report of each is written in this order, and the status is 0
   pub reports : (form : Form) → reply form ≡ success (text (report form play) runs)
 
+-- The results of all runs, each with its exact chance and the number of its runs. A result is an ending and the last line that was shown.
+pub record TellsChances (play : Answers → Outcome Finish (List ℕ)) (most : ℕ) (reply : Reply) : Type 0 where
+  -- the table of the tree is written, whose members are the runs, and the status is 0
+  pub rows : reply ≡ success (table_text (table play (tree play most)))
+  -- the results rise, their chances add up to 1, and their numbers of runs to that of all runs
+  pub laws : TableLaws play most
+
 -- A share of all runs are those that begin with some answers.
 pub record ShareReplies (play : Answers → Outcome Finish (List ℕ)) (reply : Mode → Reply) : Type 0 where
   -- a run begins with some answers exactly where they are a run, or are asked for one more
@@ -109,7 +119,7 @@ pub record SplitsRuns (play : Answers → Outcome Finish (List ℕ)) (n : ℕ) (
 
 -- `play` gives the result of the program on the input, by the list of answers. No run has more answers than `most`.
 pub record RunReplies (play : Answers → Outcome Finish (List ℕ)) (most : ℕ) (reply : Mode → Reply) : Type 0 where
-  -- the runs stand in a tree, each once, in rising order; fewer than `most` answers come before a question; and no run begins another
+  -- the runs are in a tree, each once, in rising order; fewer than `most` answers come before a question; and no run begins another
   pub tree : TreeLaws play most
   -- all runs are listed, and nothing else
   pub all_runs : ListsRuns play (IsRun play) (λ first form. reply (modes.All None None first form))
@@ -146,8 +156,10 @@ pub record RunReplies (play : Answers → Outcome Finish (List ℕ)) (most : ℕ
   pub seeded_run : (seed : ℕ) → RunsBySeed seed play reply
   -- a sample is the reports of as many runs as are asked for, which the seed draws one after the other
   pub sampled : (seed runs : ℕ) → SamplesBySeed seed play runs (λ form. reply (modes.Sample seed runs form))
+  -- the table of chances has each result that a run has
+  pub chances : TellsChances play most (reply modes.Chances)
 
--- The reply to a check is each mistake in the text of the program, as a run reports it on a fresh line, and the status tells whether
+-- The reply to a check is each mistake in the text of the program, as a run reports it on a fresh line, and the status shows whether
 -- there is one.
 pub record ChecksText (p : Statements) (reply : Reply) : Type 0 where
   pub bytes : reply.bytes ≡ mistakes_text p
@@ -156,7 +168,7 @@ pub record ChecksText (p : Statements) (reply : Reply) : Type 0 where
   pub note : reply.note ≡ None
 
 pub record ReplyLaws : Type 0 where
-  -- a text that is too long is refused as a whole, whatever is asked for and whatever stands in it
+  -- a text that is too long is refused as a whole, whatever is asked for and whatever it contains
   pub too_long : (r : Request) (b c : List ℕ) → program_limit < length b → reply_to r b c ≡ refusal (notes.Load 0 TooLong)
   -- where a text is refused nothing is written, whatever is asked for, and the note has the line that is refused, and why
   pub refused : (r : Request) (b c : List ℕ) (e : ℕ × LoadFault) → program_of_text r.memory b ≡ Err e → reply_to r b c ≡ refusal (notes.Load e.0 e.1)
@@ -172,7 +184,9 @@ pub record ReplyLaws : Type 0 where
   -- is a plain run with the answers that are drawn from the seed. With `--sample n` the reply is the reports of n runs: the first is the
   -- run by the seed, and each later one is drawn by the words that the runs before it left. With `--shares n` the reply is a line for each
   -- run of at most n answers, and for each n answers after which one more is asked for; the replies to `--under` these lists are, one
-  -- after the other, the reply to `--all`.
+  -- after the other, the reply to `--all`. With `--chances` the reply is a row for each result that a run has: an ending and a last
+  -- line. It has the chance of this result in lowest terms, where each answer to a question is equally likely, and the number of its
+  -- runs.
   pub accepted :
       (memory : ℕ) (size : IsMemorySize memory) (rules : Rules) (b c : List ℕ) (p : Statements) → program_of_text memory b ≡ Ok p
       → RunReplies (play (record { lines = p; memory = memory }) (input_lines c) rules) (most_answers (record { lines = p; memory = memory }) (input_lines c) rules.limit)
@@ -181,5 +195,5 @@ pub record ReplyLaws : Type 0 where
   pub listed : (r : Request) (b c : List ℕ) (p : Statements) → program_of_text r.memory b ≡ Ok p → r.mode ≡ modes.List → reply_to r b c ≡ success (listing p)
   -- the reply to a check of a text that is accepted is its mistakes
   pub checked : (r : Request) (b c : List ℕ) (p : Statements) → program_of_text r.memory b ≡ Ok p → r.mode ≡ modes.Check → ChecksText p (reply_to r b c)
-  -- and where a run of it ends with WHAT, HOW or SORRY, the command at its place is whole, or its mistake is one of these
+  -- and where a run of it ends with WHAT, HOW or SORRY, the command at its place is well formed, or its mistake is one of these
   pub mistakes : CheckLaws

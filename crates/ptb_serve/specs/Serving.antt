@@ -3,6 +3,7 @@
 --     load_note e                       the note of a program that is not loaded
 --     input_note e                      the note of an input that is not read
 --     reports_note e                    the note of reports that are not all written
+--     chances_note e                    the note of a table of chances that is not written
 --     Serves reply old new outcome      the reply is given, or it is broken off
 --     IsUnloaded note                   the program was not read, or its text is refused
 --     TellsRefusal memory known note    a text is noted as refused as it is refused, where it is known
@@ -40,6 +41,8 @@ use Rattle.ptb_explore.specs.Listing.{text}
 use Rattle.ptb_explore.specs.Report.{report}
 use Rattle.ptb_explore.specs.declared.fault.ExploreFault.{ExploreFault}
 use Rattle.ptb_explore.specs.declared.fault.ExploreFault.TheVariants as explores
+use Rattle.ptb_chances.specs.declared.fault.ChancesFault.{ChancesFault}
+use Rattle.ptb_chances.specs.declared.fault.ChancesFault.TheVariants as tables
 use Rattle.ptb_serve.specs.declared.note.Note.{Note}
 use Rattle.ptb_serve.specs.declared.note.Note.TheVariants as notes
 use Rattle.ptb_options.specs.declared.request.Mode.{Mode}
@@ -55,8 +58,8 @@ use Rattle.ptb_plain.specs.SeededRuns.{seeded_answers}
 
 -- a note has its own status
 abbrev pub outcome_of : Result ℕ Note → Outcome
-outcome_of (Ok status) = record { status = status; note = None; mismatch = None }
-outcome_of (Err note) = record { status = note_status note; note = Some note; mismatch = None }
+outcome_of (Ok status) = record { status = status; note = None; mismatch = None; line = None }
+outcome_of (Err note) = record { status = note_status note; note = Some note; mismatch = None; line = None }
 
 -- a line that is refused is no want of memory, and no fault of the reader
 abbrev pub load_fault_note : ℕ → LoadFault → Note
@@ -75,6 +78,10 @@ input_note reads.Memory = notes.OutOfMemory
 abbrev pub reports_note : ExploreFault → Note
 reports_note (explores.Memory n) = notes.OutOfMemory
 reports_note (explores.Write n) = notes.Unwritten
+
+abbrev pub chances_note : ChancesFault → Note
+chances_note tables.Memory = notes.OutOfMemory
+chances_note tables.Write = notes.Unwritten
 
 -- ---- how a request is served
 
@@ -108,6 +115,7 @@ SilentWithoutMemory (modes.Shares answers form) old new = Unit {0}
 SilentWithoutMemory (modes.Sample seed runs form) old new = Unit {0}
 SilentWithoutMemory modes.List old new = Appends old new []
 SilentWithoutMemory modes.Check old new = Appends old new []
+SilentWithoutMemory modes.Chances old new = Appends old new []
 
 -- nothing was written, unless a note says that a write failed, that no memory was left for the next report,
 -- or that a line that a run asked for could not be read
@@ -148,6 +156,7 @@ StopsForMemory (modes.Shares answers form) request b c old new = IfOk (program_o
 StopsForMemory (modes.Sample seed runs form) request b c old new = IfOk (program_of_text request.memory b) (λ p. Appends old new [] ⊎ SamplesFewerOf (record { lines = p; memory = request.memory }) (input_lines c) request.rules seed runs form old new)
 StopsForMemory modes.List request b c old new = Unit {0}
 StopsForMemory modes.Check request b c old new = Unit {0}
+StopsForMemory modes.Chances request b c old new = Unit {0}
 
 -- its bytes were written, and its status is that of a run which ends for want of a line
 pub record LacksLine (reply : Reply) (old new : Option (List ℕ)) : Type 0 where
@@ -166,14 +175,14 @@ abbrev pub EndsUnread : Option ℤ → Reply → (Answers → Reply) → Option 
 EndsUnread None reply others old new = LacksLine reply old new
 EndsUnread (Some n) reply others old new = AsksUnread reply others old new
 
--- the reply to a run of the text b, on the lines that came whole in the bytes that were taken of the input
+-- the reply to a run of the text b, on the lines that came complete in the bytes that were taken of the input
 abbrev pub RunUnread : Request → Option (List ℕ) → Option (List ℕ) → List ℕ → (List (List ℕ) → StoredProgram → Reply) → Option (List ℕ) → Option (List ℕ) → Type 0
 RunUnread request known left b run old new =
     (taken : List ℕ) × Consumes known left taken
     × EndsUnread request.rules.choose (program_reply request.memory b (run (lines_come taken)))
     (λ a. program_reply request.memory b (lines_reply request.rules a (lines_come taken))) old new
 
--- a listing or a sample begins once the input was read
+-- a listing, a sample or a table begins once the input was read
 abbrev pub ServesUnread : Mode → Request → Option (List ℕ) → Option (List ℕ) → List ℕ → Option (List ℕ) → Option (List ℕ) → Type 0
 ServesUnread (modes.Plain a) request known left b old new = RunUnread request known left b (lines_reply request.rules a) old new
 ServesUnread (modes.Seeded seed) request known left b old new = RunUnread request known left b (seeded_lines_reply request.rules seed) old new
@@ -182,6 +191,7 @@ ServesUnread (modes.Shares answers form) request known left b old new = Appends 
 ServesUnread (modes.Sample seed runs form) request known left b old new = Appends old new []
 ServesUnread modes.List request known left b old new = Appends old new []
 ServesUnread modes.Check request known left b old new = Appends old new []
+ServesUnread modes.Chances request known left b old new = Appends old new []
 
 -- the status of such a request alone is that of an ending
 abbrev pub IsPlainRun : Mode → Type 0
@@ -192,8 +202,9 @@ IsPlainRun (modes.Shares answers form) = ⊥
 IsPlainRun (modes.Sample seed runs form) = ⊥
 IsPlainRun modes.List = ⊥
 IsPlainRun modes.Check = ⊥
+IsPlainRun modes.Chances = ⊥
 
--- its status tells whether there is a mistake
+-- its status shows whether there is a mistake
 abbrev pub IsCheck : Mode → Type 0
 IsCheck (modes.Plain a) = ⊥
 IsCheck (modes.Seeded seed) = ⊥
@@ -202,6 +213,7 @@ IsCheck (modes.Shares answers form) = ⊥
 IsCheck (modes.Sample seed runs form) = ⊥
 IsCheck modes.List = ⊥
 IsCheck modes.Check = Unit {0}
+IsCheck modes.Chances = ⊥
 
 -- ---- a program that isn't loaded
 
@@ -267,6 +279,7 @@ ReadsInMode (modes.Shares answers form) request b c left _ _ = Unit {0}
 ReadsInMode (modes.Sample seed runs form) request b c left _ _ = Unit {0}
 ReadsInMode modes.List request b c left _ _ = Unit {0}
 ReadsInMode modes.Check request b c left _ _ = Unit {0}
+ReadsInMode modes.Chances request b c left _ _ = Unit {0}
 
 abbrev pub ReadsForRun : Mode → Request → List ℕ → List ℕ → Option (List ℕ) → Outcome → Type 0
 ReadsForRun mode request b c left outcome = ReadsInMode mode request b c left outcome.note outcome.status
@@ -280,6 +293,7 @@ NeedsInput (modes.Shares answers form) = Unit {0}
 NeedsInput (modes.Sample seed runs form) = Unit {0}
 NeedsInput modes.List = ⊥
 NeedsInput modes.Check = ⊥
+NeedsInput modes.Chances = Unit {0}
 
 -- a run reads it only as far as it asks for lines
 abbrev pub NeedsWholeInput : Mode → Type 0
@@ -290,6 +304,7 @@ NeedsWholeInput (modes.Shares answers form) = Unit {0}
 NeedsWholeInput (modes.Sample seed runs form) = Unit {0}
 NeedsWholeInput modes.List = ⊥
 NeedsWholeInput modes.Check = ⊥
+NeedsWholeInput modes.Chances = Unit {0}
 
 -- the input, where it is needed and known; any bytes where it isn't looked at
 abbrev pub IsInput : Mode → Option (List ℕ) → List ℕ → Type 0
@@ -300,3 +315,4 @@ IsInput (modes.Shares answers form) known c = known ≡ Some c
 IsInput (modes.Sample seed runs form) known c = known ≡ Some c
 IsInput modes.List known c = Unit {0}
 IsInput modes.Check known c = Unit {0}
+IsInput modes.Chances known c = known ≡ Some c

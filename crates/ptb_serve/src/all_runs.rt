@@ -60,6 +60,7 @@ pub fn list_runs<R: Read, W: Write>(
     ensures failures { TellsFailures (W.failures out.old) (W.failures out.new) result.served }
     ensures mismatch { TellsMismatch (All under.now after.now first form) request.now program.now
         (R.remaining input.old) result.served result.mismatch }
+    ensures no_line { result.line ≡ None }
 {
     match read_lines(alloc, input) {
         Ok(lines) => list_runs_on(
@@ -91,6 +92,7 @@ fn list_runs_on<W: Write>(
     ensures mismatch { (known : Option (List ℕ)) → IfSome known (λ c. lines.now ≡ input_lines c)
         → TellsMismatch (All under.now after.now first form) request.now program.now known
         result.served result.mismatch }
+    ensures no_line { result.line ≡ None }
 {
     match explorer_from(alloc, program, lines, request.rules, under, after) {
         Ok(explorer) => match write_reports(explorer, first, form, out) {

@@ -6,24 +6,27 @@ ghost use Rattle.ptb_serve.specs.ListMismatches.{unbegun_attempt};
 use crate::list_mismatch::{ListMismatch, Unbegun};
 use crate::note::Note;
 
-// The status, or the note that says why there is none, and why a list fits no run, where that is
-// known.
+// The status, or the note that says why there is none; why a list fits no run, where that is known;
+// and the line at which the limit stopped a run.
 #[derive(Drop)]
 pub(crate) struct Attempt {
     pub served: Result<u8, Note>,
     pub mismatch: Option<ListMismatch>,
+    pub line: Option<u16>,
 }
 
 impl Attempt {
     // An attempt of which nothing more is known.
     pub(crate) fn without_mismatch(served: Result<u8, Note>) -> Attempt
-        ensures { result ≡ record { served = served; mismatch = None } }
+        ensures { result ≡ record { served = served; mismatch = None; line = None } }
     {
         Attempt {
             served,
             mismatch: None,
+            line: None,
         }
     }
+
     // The attempt of a listing that is not begun. A list that fits no run is refused, and never for want
     // of memory.
     pub(crate) fn unbegun(why: Unbegun) -> Attempt
@@ -33,6 +36,7 @@ impl Attempt {
             Unbegun::Refused(mismatch) => Attempt {
                 served: Err(mismatch.note()),
                 mismatch: Some(mismatch),
+                line: None,
             },
             Unbegun::Memory => Attempt::without_mismatch(Err(Note::OutOfMemory)),
         }

@@ -1,14 +1,16 @@
-//! How a request is served: a run of a program, a listing of its runs, of its text, or of the mistakes
-//! in its text.
+//! How a request is served: a run of a program, a listing of its runs, of their chances, of its text,
+//! or of the mistakes in its text.
 //!
-//! It stands on `ptb_options`, `ptb_explore`, `ptb_check`, `ptb_machine`, on definitions of the two crates below
-//! that, on `ptb_answers` and `ptb_text`. The crate above may rely on `serve` (bytes, status and note
-//! are those of `specs/Replies`, or the note says what failed: `specs/Promises`), on `Flushing` (a
-//! writer whose bytes are those of its inner writer, which it flushes) and on `reply_laws`.
+//! It stands on `ptb_options`, `ptb_chances`, `ptb_explore`, `ptb_check`, `ptb_machine`, on definitions
+//! of the two crates below that, on `ptb_answers` and `ptb_text`. The crate above may rely on `serve`
+//! (bytes, status and note are those of `specs/Replies`, or the note says what failed:
+//! `specs/Promises`), on `Flushing` (a writer whose bytes are those of its inner writer, which it
+//! flushes) and on `reply_laws`.
 #![tactic(auto)]
 
 mod all_runs;
 mod attempt;
+mod chances;
 mod checking;
 mod flushing;
 mod laws;
@@ -22,5 +24,5 @@ pub use flushing::Flushing;
 pub use laws::reply_laws;
 pub use list_mismatch::ListMismatch;
 pub use note::Note;
-pub use ptb_plain::{run_plain, run_seeded};
+pub use ptb_plain::{run_plain, run_plain_to_end, run_seeded, run_seeded_to_end};
 pub use service::{Outcome, serve};

@@ -3,9 +3,10 @@
 ghost use Rattle.std.specs.Prelude.{◌≡◌};
 ghost use Rattle.ptb_serve.specs.declared.note.Note.TheVariants.{OutOfMemory, Unwritten};
 ghost use Rattle.ptb_serve.specs.Messages.{note_line};
-ghost use Rattle.ptb_serve.specs.Serving.{input_note, load_note, reports_note};
+ghost use Rattle.ptb_serve.specs.Serving.{chances_note, input_note, load_note, reports_note};
 ghost use Rattle.ptb_serve.specs.Statuses.{note_status};
 
+use ptb_chances::ChancesFault;
 use ptb_explore::ExploreFault;
 use ptb_machine::ReadFault;
 use ptb_text::{LoadFault, WriteFault};
@@ -92,6 +93,17 @@ impl From<ExploreFault> for Note {
         match fault {
             ExploreFault::Memory(_) => Note::OutOfMemory,
             ExploreFault::Write(_) => Note::Unwritten,
+        }
+    }
+}
+
+impl From<ChancesFault> for Note {
+    ghost from_gives = { λ fault note. note ≡ chances_note fault };
+
+    fn from(fault: ChancesFault) -> Note {
+        match fault {
+            ChancesFault::Memory => Note::OutOfMemory,
+            ChancesFault::Write => Note::Unwritten,
         }
     }
 }

@@ -1,17 +1,20 @@
 // This file serves a request: it loads the program, and runs it, reports all its runs or a sample of
-// them, writes the lists that split its runs, or lists it or its mistakes.
+// them, writes the lists that split its runs or the table of their chances, or lists it or its
+// mistakes.
 
-ghost use Rattle.std.specs.Prelude.{◌≡◌, IfSome, IsErrOf};
+ghost use Rattle.std.specs.Prelude.{◌≡◌, IfSome, IsErrOf, None};
 ghost use Rattle.ptb_machine.specs.Play.{status};
+ghost use Rattle.ptb_machine.specs.Runs.{ending_alone};
 ghost use Rattle.ptb_plain.specs.Streams.{reads_of, writes_of};
 ghost use Rattle.ptb_serve.specs.Loaded.{IsRunStatus, ReadsInput, ServesProgram, TellsFailures};
-ghost use Rattle.ptb_serve.specs.Loaded.{TellsMismatch};
+ghost use Rattle.ptb_serve.specs.Loaded.{TellsLine, TellsMismatch, line_of};
 ghost use Rattle.ptb_serve.specs.Promises.{FailsLoudly, ReadsOnlyWhatIsAsked, Served};
 ghost use Rattle.ptb_serve.specs.ReplyLaws.{ReplyLaws};
 ghost use Rattle.ptb_serve.specs.Serving.{NeedsInput, outcome_of};
 
 use crate::all_runs::list_runs;
 use crate::attempt::Attempt;
+use crate::chances::list_table;
 use crate::checking::list_mistakes;
 use crate::laws::reply_laws;
 use crate::list_mismatch::ListMismatch;
@@ -19,9 +22,9 @@ use crate::note::Note;
 use crate::sampled::list_sample;
 use crate::splitting::list_shares;
 use ptb_explore::Sample;
-use ptb_machine::{Ending, RunFault};
+use ptb_machine::{Ending, RunEnd, RunFault};
 use ptb_options::{Mode, Request};
-use ptb_plain::{run_plain, run_seeded};
+use ptb_plain::{run_plain_to_end, run_seeded_to_end};
 use ptb_text::{Program, Read, Write, list, load};
 use std::alloc::Global;
 
@@ -34,42 +37,51 @@ pub struct Outcome {
     pub note: Option<Note>,
     /// Why a list of the request fits no run: with each note that refuses a list, and with no other.
     pub mismatch: Option<ListMismatch>,
+    /// Where the limit stopped a run, so that the status is 4, the number of the statement in which
+    /// its next command begins. There is none with any other status.
+    pub line: Option<u16>,
 }
 
 impl Outcome {
     // The status of a request that was served, or the note of one that wasn't.
     fn of(attempt: Attempt) -> Outcome
-        ensures { result ≡ record (outcome_of attempt.served) { mismatch = attempt.mismatch } }
+        ensures { result ≡ record (outcome_of attempt.served) {
+          mismatch = attempt.mismatch;
+          line = attempt.line;
+        } }
     {
         let mismatch = attempt.mismatch;
+        let line = attempt.line;
         match attempt.served {
             Ok(status) => Outcome {
                 status,
                 note: None,
                 mismatch,
+                line,
             },
             Err(note) => Outcome {
                 status: note.status(),
                 note: Some(note),
                 mismatch,
+                line,
             },
         }
     }
 }
 
 /// Serves a request: the program is loaded from one reader, and is run on the lines of another, or
-/// all its runs or those of a sample are reported, or the lists that split its runs are written, or it
-/// or the mistakes in its text are listed. What it shows, the reports, the lists or the listing go to
-/// the writer.
+/// all its runs or those of a sample are reported, or the lists that split its runs or the table of
+/// their chances are written, or it or the mistakes in its text are listed. What it shows, the reports,
+/// the lists, the table or the listing go to the writer.
 ///
 /// The program is loaded before the input is read: a text that is refused or can't be read leaves the
-/// input alone. So does a listing of a program's text or of its mistakes. At most 1,048,577 bytes are read of a program,
-/// and at most 16,777,217 of an input, also of one that never ends.
+/// input alone. So does a listing of a program's text or of its mistakes. At most 1,048,577 bytes are
+/// read of a program, and at most 16,777,217 of an input, also of one that never ends.
 ///
 /// A run reads its input only as far as it asks for lines: while fewer lines are complete than it
 /// wants, at most 4096 bytes at once. With answers instead of lines, a run that took all lines may
-/// have looked for another. A report of all runs or of a sample, and the lists that split the runs, take
-/// an input that is read to its end.
+/// have looked for another. A report of all runs or of a sample, the lists that split the runs, and the
+/// table of their chances take an input that is read to its end.
 ///
 /// A note says why a request isn't served, or not to its end. With [`Note::Unwritten`] a prefix of
 /// the reply was written. With [`Note::OutOfMemory`] the reports of the first runs were written where
@@ -96,7 +108,7 @@ pub fn serve<P: Read, R: Read, W: Write>(
         (reads_of R.remaining R.given R.failures input.old input.new)
         (writes_of W.contents W.failures out.old out.new) result }
 
-    // What a reply is, in the words of runs.
+    // What a reply is, in terms of runs.
     ensures laws { ReplyLaws }
 {
     reply_laws();
@@ -124,17 +136,19 @@ fn serve_program<R: Read, W: Write>(
     ensures failures { TellsFailures (W.failures out.old) (W.failures out.new) result.served }
     ensures mismatch { TellsMismatch request.now.mode request.now program.now
         (R.remaining input.old) result.served result.mismatch }
+    ensures line { TellsLine request.now.mode request.now program.now
+        (R.remaining input.old) result.served result.line }
     ensures input_kept { ¬ NeedsInput request.now.mode → input.new ≡ input.old }
 {
     match &request.mode {
         Mode::Plain(answers) => {
             let answers = answers.as_slice();
-            let ended = run_plain(alloc, program, answers, request.rules, input, out);
-            Attempt::without_mismatch(run_status(ended))
+            let ended = run_plain_to_end(alloc, program, answers, request.rules, input, out);
+            run_attempt(ended)
         }
         Mode::Seeded(seed) => {
-            let ended = run_seeded(alloc, program, *seed, request.rules, input, out);
-            Attempt::without_mismatch(run_status(ended))
+            let ended = run_seeded_to_end(alloc, program, *seed, request.rules, input, out);
+            run_attempt(ended)
         }
         Mode::All {
             under,
@@ -162,6 +176,24 @@ fn serve_program<R: Read, W: Write>(
             Err(fault) => Attempt::without_mismatch(Err(Note::from(fault))),
         },
         Mode::Check => Attempt::without_mismatch(list_mistakes(program, out)),
+        Mode::Chances => Attempt::without_mismatch(list_table(alloc, request, program, input, out)),
+    }
+}
+
+// The attempt of a run.
+fn run_attempt(ended: Result<RunEnd, RunFault>) -> Attempt
+    requires { ¬ IsErrOf (ending_alone ended) RunFault.Spent }
+    ensures status { IsRunStatus (ending_alone ended) result.served }
+    ensures mismatch { result.mismatch ≡ None }
+    ensures line { result.line ≡ line_of ended }
+{
+    match ended {
+        Ok(end) => Attempt {
+            served: run_status(Ok(end.ending)),
+            mismatch: None,
+            line: end.line,
+        },
+        Err(fault) => Attempt::without_mismatch(run_status(Err(fault))),
     }
 }
 

@@ -80,6 +80,8 @@ const CLASHES: &[(UsageFault, &str, &[&str])] = &[
             "ptb --sample 3 --list",
             "ptb --list --check",
             "ptb --check --all --list",
+            "ptb --list --chances",
+            "ptb --chances --check --list",
         ],
     ),
     (
@@ -97,6 +99,25 @@ const CLASHES: &[(UsageFault, &str, &[&str])] = &[
             "ptb --check --shares 2",
             "ptb --sample 3 --check",
             "ptb --check --answers x",
+            "ptb --check --chances",
+            "ptb --chances --all --check",
+        ],
+    ),
+    (
+        UsageFault::ChancesWithOther,
+        "ptb: --chances stands alone",
+        &[
+            "ptb --chances --all",
+            "ptb --answers none --chances",
+            "ptb --chances --after 1",
+            "ptb --chances --first 1",
+            "ptb --chances --seed 1",
+            "ptb --chances --form 1",
+            "ptb --chances --under 1",
+            "ptb --chances --shares 2",
+            "ptb --sample 3 --chances",
+            "ptb --chances --choose 2 --seed 1",
+            "ptb --chances --answers x",
         ],
     ),
     (
@@ -785,6 +806,25 @@ fn requests_for_a_check(rt: HostRuntime) {
     expect_same(&rt, line, program_check(rt.alloc(), line), Some((5, 64)));
 }
 
+// The limit, the memory and the bound of a line that asks for the chances of results.
+fn program_chances(alloc: Global, line: &str) -> Option<(u32, u16, Option<i16>)> {
+    let request = requested(alloc, line)?;
+    match request.mode {
+        Mode::Chances => Some((request.rules.limit, request.memory, request.rules.choose)),
+        _ => None,
+    }
+}
+
+#[test]
+fn requests_for_chances(rt: HostRuntime) {
+    let line = "ptb --chances";
+    let found = program_chances(rt.alloc(), line);
+    expect_same(&rt, line, found, Some((10_000, 4096, None)));
+    let line = "ptb --steps 5 --chances game.bas --memory 64 --choose 6";
+    let found = program_chances(rt.alloc(), line);
+    expect_same(&rt, line, found, Some((5, 64, Some(6))));
+}
+
 // Kinds of clap's errors, the status of each, and command lines that are refused by it.
 const REFUSALS: &[(ErrorKind, u8, &[&str])] = &[
     (
@@ -1010,6 +1050,8 @@ const HELP: &[&str] = &[
     "                      and write their reports (1 to 1000000000)",
     "      --form <N>      In reports and lists, numbers alone (1), or",
     "                      each with its bound (2, the default)",
+    "      --chances       Print the exact chance of each result of a run:",
+    "                      how it ends, and the last line that it shows",
     "",
     "Text:",
     "      --list   Print the program in the order of its line numbers; run nothing",
@@ -1022,8 +1064,8 @@ const HELP: &[&str] = &[
     "and --seed draws a seed and prints it; --seed replays the run.",
     "",
     "Exit status:",
-    "   0  the program ended, or the reports, the lists, the listing, this help or",
-    "      the version was written, or --check found no mistake",
+    "   0  the program ended, or the reports, the lists, the chances, the listing,",
+    "      this help or the version was written, or --check found no mistake",
     "   1  the program stopped with WHAT?, or --check found a mistake",
     "   2  the program stopped with HOW?",
     "   3  the program stopped with SORRY",

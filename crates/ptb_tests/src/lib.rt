@@ -29,3 +29,5 @@ mod reports;
 mod samples;
 #[cfg(test)]
 mod shared;
+#[cfg(test)]
+mod stops;

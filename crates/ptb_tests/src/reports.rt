@@ -1,8 +1,8 @@
 // This file tests the reports of runs: what they are of, their text in both forms, and writers that fail.
 
 use crate::shared::{ONE_OF_6, THREE, THREE_OF_3, ZERO, expect_same, loaded, plain_rules};
-use ptb_explore::{AfterFault, ExploreFault, Explorer, Form, Marked, Report, write_all_runs};
-use ptb_machine::Line;
+use ptb_explore::{AfterFault, ExploreFault, Explorer, Form, Marked, Report, word, write_all_runs};
+use ptb_machine::{Ending, Line};
 use ptb_text::{Device, Program};
 use std::alloc::{AllocError, Global};
 use std::process::Abort;
@@ -268,4 +268,23 @@ fn writes_a_beginning(rt: HostRuntime) -> Result<(), Fail> {
         expect_beginning(&rt, rt.alloc(), &program, &lines, &mut room[..size]);
     }
     Ok(())
+}
+
+// Endings, and their words in reports.
+const WORDS: &[(Ending, &[u8])] = &[
+    (Ending::End, b"END"),
+    (Ending::Stop, b"STOP"),
+    (Ending::What, b"WHAT"),
+    (Ending::How, b"HOW"),
+    (Ending::Sorry, b"SORRY"),
+    (Ending::Limit, b"LIMIT"),
+    (Ending::NoInput, b"NOINPUT"),
+    (Ending::NoAnswer, b""),
+];
+
+#[test]
+fn words_of_endings(rt: HostRuntime) {
+    for &(ending, due) in WORDS {
+        expect_same(&rt, "word", word(ending), due);
+    }
 }

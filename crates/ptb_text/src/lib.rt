@@ -20,6 +20,6 @@ pub use device::{Device, DeviceFault, Read, Write};
 pub use fault::LoadFault;
 pub use laws::statement_laws;
 pub use listing::{WriteFault, list};
-pub use loading::load;
+pub use loading::{load, split_line};
 pub use program::Program;
 pub use ptb_words::{Cursor, Letter, Number, Quoted, Table, Word, finding_laws};

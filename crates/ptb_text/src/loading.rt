@@ -83,8 +83,8 @@ fn tabs_to_spaces(text: &mut [u8])
     }
 }
 
-// The first line of a text that isn't empty, and the text behind it.
-fn split_line(text: &[u8]) -> (&[u8], &[u8])
+/// The first line of a text that isn't empty, and the text after it.
+pub fn split_line(text: &[u8]) -> (&[u8], &[u8])
     requires { 0 < length text.now }
     ensures lines { lines text.now ≡ result.0.now ∷ lines result.1.now }
     ensures shorter { length result.1.now < length text.now }

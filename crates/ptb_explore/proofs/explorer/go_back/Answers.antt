@@ -1,4 +1,4 @@
--- This file answers that a run goes on from where the newest copy that is left stands, or begins.
+-- This file answers that a run continues from where the newest copy that is left is, or begins.
 use Rattle.std.proofs.Common.{arith, ◌≡◌, take, refl, sym, ap, subst, ◌∙◌, Some, None}
 use Rattle.std.proofs.lemmas.Grind.{common_steps}
 use Rattle.std.specs.Prelude.{option_map}

@@ -1,4 +1,4 @@
--- This file says that the answers behind the place are at their bounds.
+-- This file says that the answers after the place are at their bounds.
 use Rattle.std.proofs.Common.{ℕ, ◌<◌, ◌≤◌, length}
 use Rattle.ptb_explore.specs.Plans.{IsAtBound}
 use Rattle.ptb_explore.proofs.plan.last_below.Given as goal

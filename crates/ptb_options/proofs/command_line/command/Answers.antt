@@ -10,14 +10,14 @@ use Rattle.ptb_options.specs.declared.command_line.ListedArg.{ListedArg}
 use Rattle.ptb_options.proofs.command_line.command.Goals as goal
 use Rattle.ptb_options.proofs.command_line.command.Invariants.{tool_with}
 
--- with the next argument's rule behind them, these are the rules of one more
+-- with the next argument's rule after them, these are the rules of one more
 one_more : (old new : Command) (a : Arg) (args : List ListedArg) (i : ℕ) (next : ListedArg) → i < length args
     → app_of old ≡ tool_with (map rule_of_listed (take i args)) → rule_of a ≡ rule_of_listed (get_or args i next) → a.global ≡ false
     → AddsArg old a new → app_of new ≡ tool_with (map rule_of_listed (take (i + 1) args))
 one_more old new a args i next within before its_rule local added =
     added.shape local ∙ (ap₂ with_rule before its_rule ∙ ap tool_with (sym (map_more rule_of_listed args i next within)))
 
--- behind the last argument they are the rules of all
+-- after the last argument they are the rules of all
 all : (app : App) (args : List ListedArg) (i : ℕ) → length args ≤ i → app ≡ tool_with (map rule_of_listed (take i args)) → app ≡ tool_with (map rule_of_listed args)
 all app args i behind so_far = so_far ∙ ap (λ (ws : List ListedArg). tool_with (map rule_of_listed ws)) (take_all i args behind)
 

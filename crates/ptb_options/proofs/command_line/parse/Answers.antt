@@ -31,7 +31,7 @@ returns-clause-bound g c =
     IfOk-weaker c.try_get_matches_from.result _ _ (λ m parsed. choose_in_range c.in_ok-command.field-0 m c.in_ok-command.ensures parsed)
     c.try_get_matches_from.ensures.parsed
 
--- tool has only what clap's rules of faults are told of
+-- tool has only what clap's rules of faults know
 is_free-tool : is_simple_and_free tool ≡ true
 is_free-tool = refl
 

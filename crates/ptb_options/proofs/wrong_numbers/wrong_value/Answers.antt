@@ -1,8 +1,12 @@
 -- This file answers that the value of an option is wrong, or is not.
 use Rattle.std.proofs.Common.{ap}
 use Rattle.std.specs.Option.{option_copied}
+use Rattle.ptb_options.proofs.NumberRules.{number_range}
 use Rattle.ptb_options.proofs.WrongValues.{accepted_after, accepted_next, last, unnamed_after, wrong_after}
 use Rattle.ptb_options.proofs.wrong_numbers.wrong_value.Goals as goal
+
+pub wrong_for-requires-in-None : goal.wrong_for-requires-in-None
+wrong_for-requires-in-None c = number_range c.in_ok-number_option-in-None.field-0.name.now c.in_ok-number_option-in-None.field-0.range c.in_ok-number_option-in-None.ensures.some.rule
 
 pub returns-in_err-number_option-in-Some-clause-none : goal.returns-in_err-number_option-in-Some-clause-none
 returns-in_err-number_option-in-Some-clause-none c = λ _.

@@ -15,7 +15,7 @@ returns-in-Err g c =
     (g.R.Read.given c.args.input.now) (g.R.Read.given c.read_lines.new.reader) (g.W.Write.contents c.args.out.now) (g.W.Write.failures c.args.out.now)
     (Err c.from.result) c.in-Err.fault c.from.ensures lines.reads.has_failed lines.reads.longer lines.reads.given_longer lines.reads.unfailed lines.reads.consumed lines.reads.given
     in
-    rw c.without_mismatch.ensures (record { serves = told.serves; reads = told.reads; failures = told.failures; mismatch = none_told _ _ _ _ _ (unread_refuses_none c.from.result c.in-Err.fault c.from.ensures) })
+    rw c.without_mismatch.ensures (record { serves = told.serves; reads = told.reads; failures = told.failures; mismatch = none_told _ _ _ _ _ (unread_refuses_none c.from.result c.in-Err.fault c.from.ensures); no_line = refl })
 
 -- they are
 pub returns-in-Ok : goal.returns-in-Ok
@@ -28,4 +28,5 @@ returns-in-Ok g c =
           (lines.reads.within refl) lines.reads.consumed lines.reads.given (lines.reads.unfailed (no_fault _ _)) c.list_runs_on.ensures.read;
       failures = c.list_runs_on.ensures.failures;
       mismatch = c.list_runs_on.ensures.mismatch _ (rw c.deref.ensures.value lines.lines);
+      no_line = c.list_runs_on.ensures.no_line;
     }

@@ -1,9 +1,9 @@
 -- This file answers that the runs on the lines of an input are listed as is due, and what is said of a list that fits no run.
-use Rattle.std.proofs.Common.{Err, subst}
+use Rattle.std.proofs.Common.{Err, refl, subst}
 use Rattle.ptb_serve.specs.declared.note.Note.{Note}
 use Rattle.ptb_serve.specs.Loaded.{RefusesListIn}
 use Rattle.ptb_serve.proofs.Listing.{listing_broken, listing_unbegun, listing_written, no_fault}
-use Rattle.ptb_serve.proofs.Mismatching.{none_told, reports_refuse_none, success_refuses_none, unbegun_told}
+use Rattle.ptb_serve.proofs.Mismatching.{none_told, reports_refuse_none, success_refuses_none, unbegun_line, unbegun_told}
 use Rattle.ptb_serve.proofs.all_runs.list_runs_on.Goals as goal
 
 -- all reports are written
@@ -16,7 +16,7 @@ returns-in-Ok-write_reports g c =
     c.in-Ok.explorer writes.writes.0 c.in-Ok.ensures.explorer c.in-Ok.ensures.begun
     _ writes.writes.1 (writes.unfailed (λ n. no_fault _ _))
     in
-    rw c.without_mismatch.ensures (record { serves = listed.serves; read = listed.read; failures = listed.failures; mismatch = λ known _. none_told _ _ _ known _ (success_refuses_none 0) })
+    rw c.without_mismatch.ensures (record { serves = listed.serves; read = listed.read; failures = listed.failures; mismatch = λ known _. none_told _ _ _ known _ (success_refuses_none 0); no_line = refl })
 
 -- some are
 pub returns-in-Err-write_reports : goal.returns-in-Err-write_reports
@@ -34,6 +34,7 @@ returns-in-Err-write_reports g c =
       read = listed.read;
       failures = listed.failures;
       mismatch = λ known _. none_told _ _ _ known _ (λ refuses. reports_refuse_none fault (subst (λ (n : Note). RefusesListIn (Err n)) c.from.ensures refuses));
+      no_line = refl;
     })
 
 -- the listing is not begun
@@ -48,4 +49,5 @@ returns-in-Err g c =
       read = listed.read;
       failures = listed.failures;
       mismatch = λ known lines. unbegun_told c.args.request.now c.args.program.now known c.args.lines.now lines c.args.under.now c.args.after.now c.args.first c.args.form c.in-Err.why c.in-Err.ensures.unbegun;
+      no_line = unbegun_line c.in-Err.why;
     })

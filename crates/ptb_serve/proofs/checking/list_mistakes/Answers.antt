@@ -1,5 +1,5 @@
 -- This file answers that the mistakes of a program are written as is due.
-use Rattle.std.proofs.Common.{ap, arith, sym, refl}
+use Rattle.std.proofs.Common.{ap, arith, sym}
 use Rattle.ptb_serve.specs.Replies.{check_status}
 use Rattle.ptb_serve.proofs.Checks.{check_broken, check_written}
 use Rattle.ptb_serve.proofs.checking.list_mistakes.Goals as goal

@@ -1,4 +1,4 @@
--- This file answers that an explorer stands at the run of a list, and that the runs of the program have their laws.
+-- This file answers that an explorer is at the run of a list, and that the runs of the program have their laws.
 use Rattle.std.proofs.Common.{[], ◌∙◌, refl, rules, sym}
 use Rattle.ptb_machine.specs.Play.{play}
 use Rattle.ptb_machine.specs.Questions.{most_answers}

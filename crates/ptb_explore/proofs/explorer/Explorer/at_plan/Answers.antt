@@ -1,4 +1,4 @@
--- This file answers that an explorer stands at the run of a plan, if its bounds are as they are stated.
+-- This file answers that an explorer is at the run of a plan, if its bounds are as they are stated.
 use Rattle.std.proofs.Common.{refl}
 use Rattle.std.proofs.lemmas.Result.{IfOk-from_err}
 use Rattle.ptb_explore.proofs.Exits.{memory_no_run, ok_no_err, passed_on}

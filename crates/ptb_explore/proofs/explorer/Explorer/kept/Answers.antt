@@ -1,4 +1,4 @@
--- This file answers that the copies that are kept are of the run at which the explorer stands.
+-- This file answers that the copies that are kept are of the run at which the explorer is.
 use Rattle.std.proofs.Common.{arith, subst}
 use Rattle.std.proofs.lemmas.Grind.{common_steps}
 use Rattle.ptb_explore.specs.Copies.{ArePlaces}

@@ -1,4 +1,4 @@
--- This file answers that the explorer stands at the run whose report it lends, with copies of that run.
+-- This file answers that the explorer is at the run whose report it lends, with copies of that run.
 use Rattle.std.proofs.Common.{rules, ◌≡◌, ℕ, List, [], true, refl, ap, sym, ◌∙◌, subst}
 use Rattle.ptb_answers.specs.Outcome.{Answers}
 use Rattle.ptb_text.specs.Statements.{StoredProgram}

@@ -1,4 +1,4 @@
--- This file answers that an explorer stands before the runs that begin with a list, if its bounds are as they are stated.
+-- This file answers that an explorer is before the runs that begin with a list, if its bounds are as they are stated.
 use Rattle.std.proofs.Common.{◌∙◌, ap, sym}
 use Rattle.std.proofs.lemmas.Result.{IfOk-from_err}
 use Rattle.ptb_machine.specs.Play.{play}

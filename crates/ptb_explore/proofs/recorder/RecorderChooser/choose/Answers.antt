@@ -1,11 +1,11 @@
--- This file answers that a recorder refuses only what its plan has next, and that ones stand behind the plan.
+-- This file answers that a recorder refuses only what its plan has next, and that ones come after the plan.
 use Rattle.std.proofs.Common.{rules, ◌≡◌, ◌-◌, ◌<◌, [], ◌∷◌, ◌++◌, length, get_or, take, replicate, vec_len, arith, ap, sym, ◌∙◌, inl, inr, pos, FitsSigned, w16, to_z-of_z}
 use Rattle.std.proofs.lemmas.Grind.{common_steps}
 use Rattle.std.proofs.lemmas.Bool.{cases_lt}
 use Rattle.ptb_explore.proofs.Recording.{next_planned, ones_push}
 use Rattle.ptb_explore.proofs.recorder.RecorderChooser.choose.Goals as goal
 
--- the plan has this answer next, since it isn't one of the ones behind it: as many were given as there are answers once there are ones
+-- the plan has this answer next, since it isn't one of the ones after it: as many were given as there are answers once there are ones
 pub returns-then-answer-lt1-clause-refused : goal.returns-then-answer-lt1-clause-refused
 returns-then-answer-lt1-clause-refused c =
     let self = c.args.self.now in

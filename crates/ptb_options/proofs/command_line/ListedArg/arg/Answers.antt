@@ -1,4 +1,4 @@
--- This file answers what rule clap is told of an argument, by what the argument is.
+-- This file answers which rule clap gets for an argument, by what the argument is.
 use Rattle.std.proofs.Common.{◌∙◌, ap, Some}
 use Rattle.clap.specs.declared.builder.Arg.{Arg}
 use Rattle.clap.specs.Words.{rule_of}

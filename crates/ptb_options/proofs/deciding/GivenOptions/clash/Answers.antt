@@ -9,7 +9,7 @@ pub returns-then-first-all : goal.returns-then-first-all
 returns-then-first-all c = search rules fits 100
 
 pub returns-then-under-all : goal.returns-then-under-all
-returns-then-under-all c = search rules fits 100
+returns-then-under-all c = search rules
 
 pub returns-else-seed-answers : goal.returns-else-seed-answers
 returns-else-seed-answers c = search rules

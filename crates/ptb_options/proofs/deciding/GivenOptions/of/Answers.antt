@@ -27,4 +27,4 @@ returns c =
     let answers = first_of-get_str m (codes "answers") c.get_str.result c.get_str.ensures in
     let under = first_of-get_str m (codes "under") c.get_str-2.result c.get_str-2.ensures in
     let after = first_of-get_str m (codes "after") c.get_str-3.result c.get_str-3.ensures in
-    rw (steps, memory, choose, answers, seed, first, shares, sample, form, under, after, c.is_given.ensures, c.is_given-2.ensures, c.is_given-3.ensures) refl
+    rw (steps, memory, choose, answers, seed, first, shares, sample, form, under, after, c.is_given.ensures, c.is_given-2.ensures, c.is_given-3.ensures, c.is_given-4.ensures) refl

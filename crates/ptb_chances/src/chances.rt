@@ -1,0 +1,73 @@
+// This file writes the table of the chances of all results of a program's runs.
+
+ghost use Rattle.std.specs.Prelude.{◌≡◌, IfOk, OnOk, IsErrOf};
+ghost use Rattle.std.specs.Io.KnownBytes.{Appends};
+ghost use Rattle.ptb_text.specs.Device.{HasFailed, TakesSome};
+ghost use Rattle.ptb_machine.specs.Play.{play};
+ghost use Rattle.ptb_machine.specs.Questions.{most_answers};
+ghost use Rattle.ptb_explore.specs.Chances.{chances};
+
+use crate::counting::count_runs;
+use crate::fault::ChancesFault;
+use ptb_machine::{Line, Rules, run_laws};
+use ptb_text::{Program, Write};
+use std::alloc::{AllocError, Global};
+
+/// The text of the table of a program's runs on these input lines, by these rules: each result that
+/// a run has, with the sum of the chances of its runs and their number.
+///
+/// Each answer of a question has the same chance. The result of a run is its ending and the last
+/// line that it showed. The chances of the table add up to 1.
+///
+/// # Errors
+///
+/// Where a growth was refused memory.
+pub fn chances_text(
+    alloc: Global,
+    program: &Program,
+    lines: &[Line],
+    rules: Rules,
+) -> Result<Vec<u8>, AllocError>
+    ensures { IfOk result (λ text. text.items ≡ chances (play program.now lines.now rules)
+        (most_answers program.now lines.now rules.limit)) }
+{
+    run_laws();
+    let tally = count_runs(alloc, program, lines, rules)?;
+    let text = tally.text(alloc)?;
+    Ok(text)
+}
+
+/// Writes the table that [`chances_text`] gives.
+///
+/// # Errors
+///
+/// [`ChancesFault::Memory`] where a growth was refused memory: nothing was written.
+/// [`ChancesFault::Write`] where the writer failed: a prefix of the table was written.
+pub fn write_chances<W: Write>(
+    alloc: Global,
+    program: &Program,
+    lines: &[Line],
+    rules: Rules,
+    writer: &mut W,
+) -> Result<(), ChancesFault>
+    ensures written { OnOk result (Appends (W.contents writer.old) (W.contents writer.new)
+        (chances (play program.now lines.now rules)
+        (most_answers program.now lines.now rules.limit))) }
+    ensures memory { IsErrOf result ChancesFault.Memory → writer.new ≡ writer.old }
+    ensures prefix { IsErrOf result ChancesFault.Write
+        → TakesSome (W.contents writer.old) (W.contents writer.new)
+        (chances (play program.now lines.now rules)
+        (most_answers program.now lines.now rules.limit)) }
+    ensures failed { IsErrOf result ChancesFault.Write
+        → HasFailed (W.failures writer.old) (W.failures writer.new) }
+    ensures unfailed { ¬ IsErrOf result ChancesFault.Write
+        → W.failures writer.new ≡ W.failures writer.old }
+{
+    let Ok(text) = chances_text(alloc, program, lines, rules) else {
+        return Err(ChancesFault::Memory);
+    };
+    match writer.write_all(text.as_slice()) {
+        Ok(()) => Ok(()),
+        Err(_) => Err(ChancesFault::Write),
+    }
+}

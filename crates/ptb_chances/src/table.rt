@@ -1,0 +1,101 @@
+// This file writes the table of a tally.
+
+ghost use Rattle.std.specs.Prelude.{◌≡◌, ◌++◌, map, IfOk, OnOk};
+ghost use Rattle.ptb_numbers.specs.Fractions.{lowest};
+ghost use Rattle.ptb_numbers.specs.Decimals.{decimals};
+ghost use Rattle.ptb_numbers.specs.Lowest.{ratio_of};
+ghost use Rattle.ptb_report.specs.Report.{field};
+ghost use Rattle.ptb_explore.specs.Chances.{ratio_text, row_text, table_text};
+ghost use Rattle.ptb_chances.specs.Accounts.{IsRising, reduced};
+ghost use Rattle.ptb_chances.specs.Keys.{key_result, result_text, row_of_share, share_text};
+
+use crate::result_key::ResultKey;
+use crate::tally::{Share, Tally};
+use ptb_explore::word;
+use ptb_numbers::{LowestTerms, Natural};
+use std::alloc::{AllocError, Global};
+
+// A number of 64 bits, as one of any size.
+fn natural(alloc: Global, number: u64) -> Result<Natural, AllocError>
+    ensures { IfOk result (λ n. n ≡ number) }
+{
+    let mut natural = Natural::from_word(alloc, (number / 0x1_0000_0000) as u32)?;
+    natural.multiply(0x1_0000)?;
+    natural.multiply(0x1_0000)?;
+    natural.add_word((number % 0x1_0000_0000) as u32)?;
+    Ok(natural)
+}
+
+// Writes a fraction at the end of a text.
+fn write_ratio(alloc: Global, ratio: &LowestTerms, text: &mut Vec<u8>) -> Result<(), AllocError>
+    ensures { OnOk result (text.new.items ≡ text.old.items ++ ratio_text (ratio_of ratio.now)) }
+{
+    ratio.numerator.write_decimals(alloc, text)?;
+    text.extend_from_slice(b"/")?;
+    ratio.denominator.write_decimals(alloc, text)
+}
+
+// Writes a number at the end of a text, behind a space.
+fn write_number(alloc: Global, number: &Natural, text: &mut Vec<u8>) -> Result<(), AllocError>
+    ensures { OnOk result (text.new.items ≡ text.old.items ++ field (decimals number.now)) }
+{
+    text.extend_from_slice(b" ")?;
+    number.write_decimals(alloc, text)
+}
+
+// Writes a chance in lowest terms, and a number of runs, at the end of a text.
+fn write_share(alloc: Global, share: &Share, text: &mut Vec<u8>) -> Result<(), AllocError>
+    ensures { OnOk result (text.new.items ≡ text.old.items ++ share_text (lowest share.now.chance)
+        share.now.runs) }
+{
+    text.extend_from_slice(b"CHANCE ")?;
+    write_ratio(alloc, &share.chance.lowest_terms(alloc)?, text)?;
+    write_number(alloc, &share.runs, text)?;
+    Ok(())
+}
+
+// Writes a result at the end of a text.
+fn write_result(alloc: Global, key: &ResultKey, text: &mut Vec<u8>) -> Result<(), AllocError>
+    ensures { OnOk result (text.new.items ≡ text.old.items ++ result_text (key_result key.now)) }
+{
+    text.extend_from_slice(b" ")?;
+    text.extend_from_slice(word(key.ending))?;
+    write_number(alloc, &natural(alloc, key.line.len() as u64)?, text)?;
+    text.extend_from_slice(b"\n")?;
+    text.extend_from_slice(&key.line)?;
+    text.extend_from_slice(b"\n")?;
+    Ok(())
+}
+
+// Writes a row, with its chance in lowest terms, at the end of a text.
+fn write_row(
+    alloc: Global,
+    key: &ResultKey,
+    share: &Share,
+    text: &mut Vec<u8>,
+) -> Result<(), AllocError>
+    ensures { OnOk result (text.new.items
+        ≡ text.old.items ++ row_text (reduced (row_of_share (key.now, share.now)))) }
+{
+    write_share(alloc, share, text)?;
+    write_result(alloc, key, text)?;
+    Ok(())
+}
+
+impl Tally {
+    /// The text of the table, and the order of its rows.
+    ///
+    /// # Errors
+    ///
+    /// Where a growth was refused memory.
+    pub(crate) fn text(&self, alloc: Global) -> Result<Vec<u8>, AllocError>
+        ensures text { IfOk result (λ text. text.items ≡ table_text (map reduced self.now)) }
+        ensures rising { IsRising self.now }
+    {
+        let mut text = Vec::new(alloc);
+        for (key, share) in self.shares.iter() {
+            write_row(alloc, key, share, &mut text)?;
+        }
+        Ok(text)
+    }
+}

@@ -1,0 +1,92 @@
+// This file has the tally, which adds up the chances of each result.
+
+ghost use Rattle.std.specs.Prelude.{◌≡◌, ◌+◌, ◌<◌, [], Option, None, Some, OnOk, IfOk};
+ghost use Rattle.ptb_numbers.specs.Fractions.{Equals, Ratio, plus};
+ghost use Rattle.ptb_chances.specs.Accounts.{AddsRow};
+ghost use Rattle.ptb_chances.specs.Keys.{key_result, Joins};
+
+use crate::result_key::ResultKey;
+use ptb_numbers::{Fraction, Natural};
+use std::alloc::{AllocError, Global};
+use std::collections::BTreeMap;
+use std::marker::Model;
+
+/// The sum of the chances of some runs, and how many they are.
+#[derive(Drop)]
+pub(crate) struct Share {
+    pub(crate) chance: Fraction,
+    pub(crate) runs: Natural,
+}
+
+/// What some runs result in, with the chance of each result.
+#[derive(Drop)]
+pub(crate) struct Tally {
+    pub(crate) shares: BTreeMap<ResultKey, Share>,
+}
+
+impl Model for Tally {
+    ghost use Rattle.std.specs.Prelude.{List};
+    ghost use Rattle.ptb_explore.specs.Chances.{Row};
+    ghost use Rattle.ptb_chances.specs.Keys.{rows_of};
+
+    ghost Value = { List Row };
+
+    ghost view = { λ t. rows_of t.shares.entries };
+}
+
+// A share with a chance and a number of runs more, or one that has these alone.
+fn joined(
+    alloc: Global,
+    old: Option<Share>,
+    chance: &Fraction,
+    runs: &Natural,
+) -> Result<Share, AllocError>
+    ensures { IfOk result (λ share. Joins old chance.now runs.now share) }
+{
+    match old {
+        None => Ok(Share {
+            chance: chance.copy(alloc)?,
+            runs: runs.copy(alloc)?,
+        }),
+        Some(mut share) => {
+            share.chance.add(alloc, chance)?;
+            share.runs.add(runs)?;
+            Ok(share)
+        }
+    }
+}
+
+impl Tally {
+    /// A tally of no runs.
+    pub(crate) fn new(alloc: Global) -> Tally
+        ensures { result ≡ [] }
+    {
+        Tally {
+            shares: BTreeMap::new(alloc),
+        }
+    }
+
+    /// Adds so many runs with this result, which have this chance together.
+    ///
+    /// # Errors
+    ///
+    /// Where a growth was refused memory.
+    pub(crate) fn add(
+        &mut self,
+        alloc: Global,
+        key: ResultKey,
+        chance: &Fraction,
+        runs: &Natural,
+    ) -> Result<(), AllocError>
+        ensures { OnOk result (AddsRow self.old (record {
+          result = key_result key;
+          chance = chance.now;
+          runs = runs.now;
+        }) self.new) }
+    {
+        let old = self.shares.remove(&key);
+        let share = joined(alloc, old, chance, runs)?;
+        self.shares.insert(key, share)?;
+        Ok(())
+    }
+}

@@ -1,0 +1,8 @@
+//! Tests of tables of chances, over the public names of `ptb_chances`.
+//!
+//! It stands on `ptb_chances`, and on `ptb_machine` and `ptb_text`, whose programs and lines it uses. No
+//! crate stands on it: a crate with tests is proved once more together with them.
+#![tactic(auto)]
+
+#[cfg(test)]
+mod tables;
