@@ -12,7 +12,7 @@ from typing import Any, Dict, Iterable, List, Optional, TextIO
 
 from .tables import Gathering, Row, Table, grouping_of
 from .text import last_line
-from .tree import Overlap, Span, joined, values_of
+from .tree import NO_ANSWERS, Overlap, Span, joined, values_of
 
 FORMAT = "ptb outcomes 1"
 DIGITS = 12  # of a chance as a decimal
@@ -61,6 +61,8 @@ def write_json(table: Table, out: TextIO) -> None:
         "program": table.program,
         "options": table.options,
     }
+    if table.summed:
+        head["summed"] = True
     out.write(json.dumps(head) + "\n")
     out.writelines(json.dumps(fields_of(row, table)) + "\n" for row in table.rows)
 
@@ -76,6 +78,9 @@ def fields_of(row: Row, table: Table) -> Dict[str, Any]:
         "first": row.answers.decode(),
         "transcript": (row.transcript or b"").decode("latin-1"),
     }
+    if table.summed:
+        fields["line"] = fields["transcript"]
+        fields["first"] = fields["transcript"] = None
     if table.sampled:
         fields["sampled"] = True
         fields["low"], fields["high"] = table.interval(row)
@@ -118,14 +123,15 @@ class Merge:
         if first is None:
             self._head = first = head
             self._gathering = Gathering([grouping_of(name) for name in head["by"]])
-        for name in ("by", "sampled", "program", "options"):
+        for name in ("by", "sampled", "summed", "program", "options"):
             if head[name] != first[name]:
                 raise BadTable(1, f"this table has another {name!r} than the first one")
         self._partial |= head["partial"]
         if head["sampled"]:
             self._spans = None
         elif head["spans"] is None:
-            raise BadTable(1, "this table has too many gaps to be merged")
+            gaps = "is a part of a table of --chances" if head["summed"] else "has too many gaps to be merged"
+            raise BadTable(1, f"this table {gaps}")
         else:
             try:
                 self._spans = joined(self._spans or [], head["spans"])
@@ -150,6 +156,7 @@ class Merge:
             options=head["options"],
             answers_tree=None,
             spans=self._spans,
+            summed=head["summed"],
         )
 
 
@@ -166,6 +173,7 @@ def head_of(line: str) -> Dict[str, Any]:
                 raise ValueError(name)
         for name in ("partial", "sampled"):
             head[name] = bool(head[name])
+        head["summed"] = bool(head.get("summed"))
         head["program"], head["options"] = head.get("program"), head.get("options")
         list(map(grouping_of, head["by"]))
     except (ValueError, KeyError, TypeError, re.error) as error:
@@ -175,7 +183,7 @@ def head_of(line: str) -> Dict[str, Any]:
 
 def row_of(fields: Dict[str, Any]) -> Row:
     """The row with these fields."""
-    answers = fields["first"].encode()
+    answers = NO_ANSWERS if fields["first"] is None else fields["first"].encode()
     values_of(answers)  # ValueError if these are no answers
     if not isinstance(fields["runs"], int) or fields["runs"] < 1:
         raise ValueError(fields["runs"])
@@ -185,7 +193,7 @@ def row_of(fields: Dict[str, Any]) -> Row:
         fraction_of(fields["chance"]),
         fields["runs"],
         answers,
-        fields["transcript"].encode("latin-1"),
+        (fields["line"] if fields["transcript"] is None else fields["transcript"]).encode("latin-1"),
     )
 
 
@@ -207,14 +215,16 @@ def write_csv(table: Table, out: TextIO) -> None:
         for row in rows:
             bounds = [f"{it:.{DIGITS}f}" for it in table.interval(row)] if table.sampled else []
             labels = [safe(row.key[at]) for at in others]
-            writer.writerow([*numbers, str(row.runs), *bounds, covered, *labels, *texts_of(row)])
+            writer.writerow([*numbers, str(row.runs), *bounds, covered, *labels, *texts_of(row, table.summed)])
 
 
-def texts_of(row: Row) -> List[str]:
-    """Ending, last line, answers and transcript of the first run of a row."""
+def texts_of(row: Row, summed: bool) -> List[str]:
+    """Ending, last line, answers and transcript of the first run of a row; no more than its ending and
+    its last line if it was added up."""
     shown = row.transcript or b""
     transcript, line = shown.decode("latin-1"), last_line(shown).decode("latin-1")
-    return [row.ending, safe(line), f"RUN {row.answers.decode()}", safe(transcript)]
+    run = ["", ""] if summed else [f"RUN {row.answers.decode()}", safe(transcript)]
+    return [row.ending, safe(line), *run]
 
 
 def decimal_of(chance: Fraction) -> str:

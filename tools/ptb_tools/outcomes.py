@@ -8,26 +8,29 @@ import io
 import re
 import sys
 from datetime import date
+from fractions import Fraction
 from typing import BinaryIO, Iterable, List, NamedTuple, Optional, Sequence
 
-from . import data, text
+from . import chances, data, text
 from .branches import Branches
 from .command import BAD_INPUT, PARTIAL, UNREAD, UNWRITTEN, USAGE, Parser, Refusal, name, run, say
 from .progress import Progress, terminal_of
-from .reports import Malformed, Reader, Result
-from .sources import Interrupt, Source
+from .reports import PIECE, Malformed, Reader, Result
+from .sources import Interrupt, Peeked, Source
 from .tables import Gathering, Grouping, Table, grouping_of
-from .tree import Coverage, DrawnPath, Path
+from .tree import Coverage, DrawnPath, Path, Span
 
 DESCRIPTION = """\
 Shows which outcomes a program has, how many runs lead to each, and what its chance is. The reports
 of ptb --all, in form 2 and in rising order, are read from the files, or from standard input. Files
-are read in turn, as one listing, so shares of a tree may be given in order.
+are read in turn, as one listing, so shares of a tree may be given in order. The table of
+ptb --chances is read, too; its outcomes are grouped by their last lines, or by their endings.
 """
 EPILOG = """\
 All answers to a question count as equally likely, including those that --choose gives instead of
 lines. The status is 3 if the table is of a part of the tree.
 """
+OF_CHANCES = ("ending", "last-line")  # how a table of --chances may be grouped
 KINDS = "outcome, ending, last-line, or answer:K, the answer to question K [default: outcome]"
 
 
@@ -119,16 +122,17 @@ def opened(file: str) -> BinaryIO:
 
 
 class Tear(NamedTuple):
-    """A file that ends within a report: its name for messages, where that report begins, and the
-    number of its bytes."""
+    """A file that ends within a report, or within a row of a table of --chances: its name for messages,
+    where that part begins, the number of its bytes, and what the part is."""
 
     file: str
     begin: int
     size: int
+    part: str
 
     def ends_within(self) -> str:
         """A line that says so."""
-        return f"{self.file}byte {self.size + 1}: the input ends within a report"
+        return f"{self.file}byte {self.size + 1}: the input ends within a {self.part}"
 
 
 class Listing:
@@ -142,6 +146,7 @@ class Listing:
         self._branches = Branches() if options.html is not None else None
         self._interrupt = Interrupt()
         self._torn: List[Tear] = []
+        self._summed = False
 
     def read(self) -> None:
         """Reads the files in turn, until Ctrl-C."""
@@ -161,7 +166,11 @@ class Listing:
         tick = (lambda: progress.tick(self._gathering.runs)) if progress else None
         try:
             with opened(file) as source:
-                reader = Reader(Source(source, self._interrupt, tick).read, self._path)
+                peeked = Peeked(Source(source, self._interrupt, tick).read)
+                if peeked.begins(chances.BEGIN):
+                    self._read_chances(peeked.read_all(PIECE), place)
+                    return
+                reader = Reader(peeked.read, self._path)
                 self._gathering.add_all(self._noted(reader), self._path)
         except Malformed as error:
             raise Refusal(BAD_INPUT, f"{place}{error}") from error
@@ -169,7 +178,26 @@ class Listing:
             what = "the reports" if file == "-" else file
             raise Refusal(UNREAD, f"cannot read {what}: {error.strerror}") from error
         if reader.torn and not self._interrupt.came:
-            self._torn.append(Tear(place, reader.end, reader.size))
+            self._torn.append(Tear(place, reader.end, reader.size, "report"))
+
+    def _read_chances(self, read: bytes, place: str) -> None:
+        """Reads a table of --chances, which has all runs and so is given alone."""
+        options = self._options
+        if len(options.files) > 1:
+            raise Refusal(BAD_INPUT, f"{place}byte 1: a table of --chances must be the only file")
+        others = [it.name for it in options.by if it.name not in OF_CHANCES]
+        if others or options.sampled:
+            option = "--sampled" if options.sampled else f"--by {others[0]}"
+            if others and others[0].startswith("match:"):
+                option = "--match"
+            raise Refusal(USAGE, f"{option} needs the reports of --all; see {name()} --help")
+        self._summed = True
+        self._gathering = Gathering(options.by or [grouping_of("last-line")])
+        rows, end = chances.read(read)
+        for row in rows:
+            self._gathering.add_chance(row.result, row.runs, row.chance)
+        if end < len(read) and not self._interrupt.came:
+            self._torn.append(Tear(place, end, len(read), "row"))
 
     def _noted(self, reader: Reader) -> Iterable[Result]:
         """The results of the runs, which are noted for the tree of answers if that is asked for."""
@@ -187,9 +215,9 @@ class Listing:
         if self._torn and covered == 1 and not options.sampled:
             last = self._torn[-1]
             place = f"{last.file}byte {last.begin + 1}"
-            raise Refusal(BAD_INPUT, f"{place}: no report can come after the last run of the tree")
+            raise Refusal(BAD_INPUT, f"{place}: no {last.part} can come after the last run of the tree")
         for tear in self._torn:
-            say(f"{tear.ends_within()}; the complete reports are shown")
+            say(f"{tear.ends_within()}; the complete {tear.part}s are shown")
         torn = bool(self._torn) or self._interrupt.came
         return Table(
             rows=rows,
@@ -201,9 +229,16 @@ class Listing:
             sampled=options.sampled,
             program=options.program,
             options=options.options,
-            answers_tree=self._branches.tree(options.sampled) if self._branches else None,
-            spans=self._coverage.spans(self._path) if self._coverage else None,
+            answers_tree=self._branches.tree(options.sampled) if self._branches and not self._summed else None,
+            spans=self._spans(covered),
+            summed=self._summed,
         )
+
+    def _spans(self, covered: Fraction) -> Optional[List[Span]]:
+        """The parts of the tree that the runs cover, if they are known."""
+        if self._summed:
+            return [(Fraction(0), Fraction(1))] if covered == 1 else None
+        return self._coverage.spans(self._path) if self._coverage else None
 
 
 def listed(options: argparse.Namespace) -> Table:

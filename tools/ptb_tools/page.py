@@ -179,15 +179,18 @@ def notices_on(table: Table) -> Iterator[str]:
 
 def remarks_on(table: Table) -> Iterator[str]:
     """The remarks below the table."""
-    if not table.sampled and any(row.first for row in table.rows):
+    if not table.sampled and table.has_questions:
         yield (
             "<p>All answers to a question count as equally likely, including those that --choose gives "
             "instead of lines.</p>"
         )
-    yield (
-        "<p>A row opens to the first of its runs. The command repeats that run if it is given the lines "
-        "that the program read.</p>"
-    )
+    if table.summed:
+        yield "<p>A row opens to its exact chance. The runs were added up, and are not known one by one.</p>"
+    else:
+        yield (
+            "<p>A row opens to the first of its runs. The command repeats that run if it is given the lines "
+            "that the program read.</p>"
+        )
 
 
 # ---- the table
@@ -218,7 +221,7 @@ def rest_of(table: Table, shown: list[Row]) -> str:
 def row_of(row: Row, exact: str, table: Table, room: Room) -> str:
     """A row: its chance, its bar, what happened and how many runs there are; and what it opens to."""
     title = title_of(row, table.by, room.line)
-    shown = preview_of(row, table.by, room.line)
+    shown = "" if table.summed else preview_of(row, table.by, room.line)
     return (
         f"<details style=--c:{float(row.chance):.6g}><summary>"
         f"<span class=p>{escape(percent_of(row.chance))}</span> <span class=f>{escape(exact)}</span> "
@@ -277,13 +280,20 @@ def power_of_ten(above: int, below: int = 1) -> str:
 
 
 def details_of(row: Row, table: Table, room: Room) -> Iterator[str]:
-    """What a row opens to: its first run, and the command that repeats it."""
-    first = "The run" if row.runs == 1 else f"The first of {count(row.runs, 'run')}"
-    yield f"<p>{first} {ENDINGS.get(row.ending, escape(row.ending))}."
+    """What a row opens to: its first run, and the command that repeats it; runs that were added up have
+    their exact chance alone."""
+    runs = count(row.runs, "run")
+    if table.summed:
+        yield f"<p>{runs}."
+    else:
+        first = "The run" if row.runs == 1 else f"The first of {runs}"
+        yield f"<p>{first} {ENDINGS.get(row.ending, escape(row.ending))}."
     if not table.sampled and not short_fraction(row.chance):
         precise = fraction(row.chance, room.digits)
         yield f" The chance is {precise}." if precise else " The fraction is too long for this page."
     yield "</p>"
+    if table.summed:
+        return
     if row.transcript is not None:
         yield from transcript_of(row.transcript, room.transcript)
     yield command_of(row, table, room.command)

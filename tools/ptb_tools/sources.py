@@ -66,3 +66,29 @@ class Source:
         tick()
         while not select.select([self._file], [], [], SECONDS_OF_A_WAIT)[0]:
             tick()
+
+
+class Peeked:
+    """A source whose first bytes can be looked at before they are read."""
+
+    def __init__(self, read: Callable[[int], bytes]) -> None:
+        self._read = read
+        self._held = b""
+        self._ended = False
+
+    def begins(self, text: bytes) -> bool:
+        """Whether these bytes come next."""
+        while len(self._held) < len(text) and not self._ended:
+            piece = self._read(len(text))
+            self._ended = not piece
+            self._held += piece
+        return self._held.startswith(text)
+
+    def read(self, size: int) -> bytes:
+        """At most so many bytes, or those that were looked at; none at the end."""
+        held, self._held = self._held, b""
+        return held if held or self._ended else self._read(size)
+
+    def read_all(self, size: int) -> bytes:
+        """All bytes, which are read in pieces of at most so many."""
+        return b"".join(iter(lambda: self.read(size), b""))

@@ -11,7 +11,7 @@ from typing import Callable, Dict, Hashable, Iterable, List, NamedTuple, Optiona
 
 from .reports import Result
 from .text import last_line
-from .tree import Path, Sum, Value, values_of
+from .tree import NO_ANSWERS, Path, Sum, Value, values_of
 
 DEVIATIONS = 1.959963984540054  # of the normal distribution: 95 % are within
 
@@ -60,7 +60,8 @@ class Table:
     drawn. `program` and `options` are those of the command that wrote the listing, if they are known;
     the options are those of a single run, as "--choose 8". `outcomes` counts all rows, also those
     that are left out of `rows`. `spans` are the parts of the tree that the runs cover, None if they
-    are not known.
+    are not known. `summed` says that this is a table of --chances: the answers of its runs are not
+    known, and the transcript of a row is its last line alone.
     """
 
     rows: list[Row]
@@ -74,6 +75,12 @@ class Table:
     options: str | None
     answers_tree: Node | None
     spans: list[tuple[Fraction, Fraction]] | None = None
+    summed: bool = False
+
+    @property
+    def has_questions(self) -> bool:
+        """Whether runs were asked for answers, as far as it is known."""
+        return self.runs > 1 if self.summed else any(row.first for row in self.rows)
 
     def interval(self, row: Row) -> Tuple[float, float]:
         """Wilson's interval for the chance of a sampled row: 95 of 100 such intervals have it."""
@@ -209,12 +216,19 @@ class Gathering:
         first = Result(row.ending.encode(), row.transcript or b"")
         answers = tuple(row.first[k - 1] if k <= len(row.first) else 0 for k in self._questions)
         key = (self._key_of(first), answers) if self._questions else self._key_of(first)
+        self._add_sum(key, row.answers, first, row.runs, row.chance * total)
+
+    def add_chance(self, result: Result, runs: int, chance: Fraction) -> None:
+        """Adds so many runs with the same result, whose chances have this sum."""
+        self._add_sum(self._key_of(result), NO_ANSWERS, result, runs, chance)
+
+    def _add_sum(self, key: Hashable, answers: bytes, first: Result, runs: int, chance: Fraction) -> None:
+        """Adds the sum of the chances of so many runs to the outcome with this key."""
         outcome = self.outcomes.get(key)
         if outcome is None:
-            outcome = self.outcomes[key] = Outcome(1, row.answers, first)
-        chance = row.chance * total
-        outcome.add(row.runs, chance.numerator, chance.denominator)
-        self.runs += row.runs
+            outcome = self.outcomes[key] = Outcome(1, answers, first)
+        outcome.add(runs, chance.numerator, chance.denominator)
+        self.runs += runs
 
     def rows(self, sampled: bool, top: Optional[int]) -> Tuple[List[Row], Fraction]:
         """The rows, the likeliest first, or the first so many; and the chance of all. Ends the gathering.

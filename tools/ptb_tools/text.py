@@ -87,7 +87,7 @@ def notes_on(table: Table, left: int) -> Iterator[str]:
         yield TWO_WAYS.format("share" if table.sampled else "chance")
     if table.sampled:
         yield SAMPLED
-    elif any(row.first for row in table.rows):
+    elif table.has_questions:
         yield EVEN_ANSWERS
 
 
