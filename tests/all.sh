@@ -26,6 +26,7 @@ tried() {
 tried binary.sh
 tried listings.py
 tried building.sh
+tried dev.sh
 tried installing.sh
 tried releasing.sh
 tried resuming.sh

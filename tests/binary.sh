@@ -1,12 +1,7 @@
 #!/bin/bash
 # Runs the built program over files, pipes and devices, and compares what it writes and its status.
 # PTB names another program than the one that ./ptb builds.
-set -u
-root=$(dirname "$(dirname "$(readlink -f "$0")")")
-ptb=${PTB:-$root/ptb}
-folder=$(mktemp -d)
-trap 'rm -rf "$folder"' EXIT
-. "$root/tests/shared/counting.sh"
+. "$(dirname "$(readlink -f "$0")")/shared/head.sh"
 
 # Whether the last run had this status, and wrote just these bytes and this text for errors.
 is_as_due() {
@@ -206,6 +201,27 @@ for words in --all '--answers x' '--after 1' '--first 1' '--choose 2' '--seed 7'
     # shellcheck disable=SC2086
     refused "mistakes beside $words" '10 P.1\n' 64 'ptb: --check stands alone' --check $words
 done
+refused 'mistakes beside chances' '10 P.1\n' 64 'ptb: --check stands alone' --chances --check
+
+# ---- the chances of results
+
+again='10 A=RND(2);IF A=2 A=RND(3)\n20 P.#1,A\n'
+plain 'the one result of an empty program' '' 0 'CHANCE 1/1 1 END 0\n\n' --chances
+plain 'the chances of three results' "$again" 0 \
+    'CHANCE 2/3 2 END 1\n1\nCHANCE 1/6 1 END 1\n2\nCHANCE 1/6 1 END 1\n3\n' --chances
+plain 'chances with a limit of commands' '10 A=RND(2)\n20 IF A=1 GOTO 10\n' 0 \
+    'CHANCE 3/4 2 END 0\n\nCHANCE 1/4 1 LIMIT 0\n\n' --chances --steps 5
+plain 'chances of faults, after those of other endings' '10 A=RND(3);P.#1,A;IF A=1 STOP\n20 IF A=2 P.1/0\n' 0 \
+    'CHANCE 1/3 1 END 1\n3\nCHANCE 1/3 1 STOP 1\n1\nCHANCE 1/3 1 HOW 16\n20 IF A=2 P.1/0?\n' --chances --memory 64
+plain 'chances of answers instead of lines' '10 INPUT A\n' 0 \
+    'CHANCE 1/2 1 END 3\nA:1\nCHANCE 1/2 1 END 3\nA:2\n' --chances --choose 2
+plain 'the chance that INPUT finds no line' '10 INPUT A;P.RND(2)\n' 0 'CHANCE 1/1 1 NOINPUT 2\nA:\n' --chances
+refused 'chances of a text that is refused' '0 P.\n' 65 'ptb: line 1: no statement number' --chances
+refused 'chances beside a listing of the text' '10 P.1\n' 64 'ptb: --list stands alone' --chances --list
+for words in --all '--answers x' '--after 1' '--first 1' '--seed 7' '--form 1' '--under 2' '--shares 2' '--sample 3'; do
+    # shellcheck disable=SC2086
+    refused "chances beside $words" '10 P.1\n' 64 'ptb: --chances stands alone' --chances $words
+done
 
 # ---- files
 
@@ -224,6 +240,13 @@ count 'the listing of a file' "$(is_as_due 0 '10 INPUT A\n20 PRINT A+1\n' '')"
 printf '10 INPUT A,\n' >"$folder/typo.bas"
 run --check "$folder/typo.bas" <"$folder"
 count 'the mistakes of a file, with an input that cannot be read' "$(is_as_due 1 'WHAT?\n10 INPUT A,?\n' '')"
+
+run --chances "$folder/game.bas" <"$folder/moves.txt"
+count 'the chances of a file with input' "$(is_as_due 0 'CHANCE 1/1 1 END 6\n    42\n' '')"
+
+run --chances "$folder/game.bas" <"$folder"
+count 'chances with an input that cannot be read' "$(is_as_due 66 '' \
+    'ptb: cannot read the input\n  standard input: Is a directory (os error 21)\n')"
 
 run "$folder/missing.bas" </dev/null
 count 'a missing file' "$(is_as_due 66 '' \
@@ -316,7 +339,7 @@ count 'a program that asks for no line waits for none' "$(is_as_due 0 'HI\n' '')
 
 run --help </dev/null
 helps=yes
-for option in steps memory answers all after first list check help; do
+for option in steps memory answers all after first chances list check help; do
     grep -q -e "--$option" "$folder/output" || helps=no
 done
 if [ "$status" = 0 ] && [ ! -s "$folder/errors" ]; then count '--help' "$helps"; else count '--help' no; fi
@@ -353,7 +376,7 @@ complains 'an argument that is no text' $'\xff'
 # ---- writers that fail
 
 printf '10 PRINT "HI"\n20 GOTO 10\n30 GOTO 31\n' >"$folder/loop.bas"
-for words in '' --list --check '--seed 7 --sample 3'; do
+for words in '' --list --check --chances '--seed 7 --sample 3'; do
     # shellcheck disable=SC2086
     "$ptb" $words "$folder/loop.bas" </dev/null >/dev/full 2>"$folder/errors"
     status=$?
@@ -369,7 +392,7 @@ for words in --help --version; do
 done
 
 mkfifo "$folder/pipe"
-for words in '' --list --check '--seed 7 --sample 3'; do
+for words in '' --list --check --chances '--seed 7 --sample 3'; do
     # the reader opens the pipe and goes before the program writes
     (: <"$folder/pipe") &
     reader=$!
@@ -472,5 +495,4 @@ else
     count 'shares of a tree' no
 fi
 
-echo "$passed passed, $failed failed"
-[ "$failed" = 0 ]
+conclude

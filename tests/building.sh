@@ -1,13 +1,9 @@
 #!/bin/bash
 # Tests the start script and the build in a copy of the repository's layout, with a kit that proves nothing: its prover
 # notes which crates it is called for, and its program prints its arguments and its input.
-set -u
-root=$(dirname "$(dirname "$(readlink -f "$0")")")
-folder=$(mktemp -d)
+. "$(dirname "$(readlink -f "$0")")/shared/head.sh"
 copy="$folder/a copy"
 kit=$folder/kit
-trap 'rm -rf "$folder"' EXIT
-. "$root/tests/shared/counting.sh"
 
 # ---- the kit
 
@@ -67,8 +63,9 @@ comes_before() {
 make_copy() {
     local crate
     rm -rf "$copy"
-    mkdir -p "$copy"
+    mkdir -p "$copy/tools"
     cp "$root/ptb" "$root/build" "$copy/"
+    cp "$root/tools/is-built" "$root/tools/build-crate" "$copy/tools/"
     cp "$1" "$copy/crates.txt"
     for crate in $(sed -n 's/^\([a-z_]*\):.*/\1/p' "$1"); do
         mkdir -p "$copy/crates/$crate/src"
@@ -181,7 +178,8 @@ if ! PATH=$path_without_kit command -v rt >/dev/null; then
     count_if 'without a kit nothing is built' is_refused_without_kit "$path_without_kit"
 fi
 mkdir "$folder/tools"
-for tool in bash sh dirname readlink find sed nproc; do ln -s "$(PATH=$path_without_kit command -v "$tool")" "$folder/tools/$tool"; done
+for tool in bash sh dirname readlink find sed; do ln -s "$(PATH=$path_without_kit command -v "$tool")" "$folder/tools/$tool"; done
+ln -s "$(python3 -c 'import sys; print(sys.executable)')" "$folder/tools/python3"
 count_if 'without rt nothing is built' is_refused_without_kit "$folder/tools"
 mkdir "$folder/other"
 printf '#!/bin/sh\nexit 2\n' >"$folder/other/rt"
@@ -471,5 +469,4 @@ shows_one_line() {
 }
 count_if 'at a terminal a build shows its progress in one line' shows_one_line
 
-echo "$passed passed, $failed failed"
-[ "$failed" = 0 ]
+conclude

@@ -7,6 +7,7 @@ counted by hand, too. PTB names another program than the one that ./ptb builds.
 
 import json
 import os
+import random
 import re
 import subprocess
 import sys
@@ -65,6 +66,11 @@ def runs_in(text):
     return runs
 
 
+def table(program, *words, lines=b""):
+    """The chances of the results of the program with this path."""
+    return subprocess.run([PTB, "--chances", *words, program], input=lines, stdout=subprocess.PIPE, check=True).stdout
+
+
 def last_line(shown):
     """The last line of a transcript that isn't empty."""
     return next((line for line in reversed(shown.split("\n")) if line), "")
@@ -79,6 +85,9 @@ def added_up(runs, key):
     return {it: (chances[it], numbers[it]) for it in chances}
 
 
+# the examples that have few enough runs to list
+LISTED = ["beast", "doors", "eight", "guess", "hanoi", "hello", "letters", "matches", "throw"]
+
 KEYS = {
     "outcome": lambda run: (run[1], run[2]),
     "ending": lambda run: run[1],
@@ -87,11 +96,12 @@ KEYS = {
 
 
 def told(text, kind):
-    """What the tool says of a listing in its table for programs: chance and number of runs by the same keys."""
+    """What the tool says of a listing, or of a table of --chances, in its table for programs: chance and number of runs by
+    the same keys."""
     words = [f"{ROOT}/tools/outcomes", "--json", "--by", kind]
     done = subprocess.run(words, input=text, stdout=subprocess.PIPE, check=True)
     rows = [json.loads(line) for line in done.stdout.decode().splitlines()[1:]]
-    runs = [("", row["ending"], row["transcript"], Fraction(row["chance"]), row["runs"]) for row in rows]
+    runs = [("", row["ending"], row.get("line", row["transcript"]), Fraction(row["chance"]), row["runs"]) for row in rows]
     return {KEYS[kind](run): (run[3], run[4]) for run in runs}
 
 
@@ -181,6 +191,51 @@ def check_tool(name, text):
         same(f"{name} by {kind}", told(text, kind), added_up(runs, key))
 
 
+# ---- the program's own table
+
+
+def check_table(name, text, program_table):
+    """The tool says the same of a listing and of the program's table of the same runs."""
+    for kind in ("last-line", "ending"):
+        same(f"the table of {name} by {kind}", told(program_table, kind), told(text, kind))
+
+
+def check_example_tables():
+    """The tables of the examples whose runs are listed."""
+    for name in LISTED:
+        with open(f"{ROOT}/examples/{name}.input", "rb") as lines:
+            check_table(name, example(name), table(f"{ROOT}/examples/{name}.bas", lines=lines.read()))
+    eight = f"{ROOT}/examples/eight.bas"
+    check_table("eight with --choose", listing(eight, "--choose", "8"), table(eight, "--choose", "8"))
+
+
+def random_program(chance):
+    """A program with questions in branches and in a loop, which ends in several ways. A line that it shows is not empty."""
+    first, second, third = (chance.randint(1, 5) for _ in range(3))
+    ending = chance.choice(["STOP", "GOTO 10", "GOTO 99", "P.1/0", "P.)"])
+    return (
+        f"10 A=RND({first})\n"
+        f"20 IF A<{chance.randint(1, 3)} GOTO {chance.choice([10, 30, 40, 50])}\n"
+        f"30 B=RND({second});PRINT {chance.choice(['A*B', 'A+B', 'B'])},{chance.choice(['', chr(39) + 'X' + chr(39)])}\n"
+        f"40 IF B{chance.choice('<>=')}{chance.randint(1, 4)} {ending}\n"
+        f"50 PRINT A-RND({third});IF RND(2)=2 {chance.choice(['STOP', 'GOTO 10', 'A=B*1000*A'])}\n"
+    )
+
+
+def check_random_tables():
+    """The tables of programs that are drawn, with a limit of commands."""
+    chance = random.Random(56)
+    with staged() as folder:
+        path = f"{folder}/drawn.bas"
+        for number in range(40):
+            program = random_program(chance)
+            with open(path, "w", encoding="ascii") as file:
+                file.write(program)
+            steps = str(chance.randint(1, 16))
+            words = ["--steps", steps]
+            check_table(f"program {number}, {program!r} --steps {steps}", listing(path, *words), table(path, *words))
+
+
 def check_by_hand():
     """Chances that nobody needs a listing for."""
     dice = Counter(map(sum, product(range(1, 7), repeat=3)))
@@ -241,8 +296,10 @@ def main():
     check_tables("docs/TOOL.md", 2)
     check_tables("examples/README.md", 1)
     check_tool("the example of the documents", listing_of_text(program + "\n"))
-    for name in ["beast", "doors", "eight", "guess", "hanoi", "hello", "letters", "matches", "throw"]:
+    for name in LISTED:
         check_tool(name, example(name))
+    check_example_tables()
+    check_random_tables()
     check_tool("eight with answers in place of lines", listing(f"{ROOT}/examples/eight.bas", "--choose", "8"))
     check_by_hand()
     check_tic_tac_toe()

@@ -1,5 +1,5 @@
 #!/usr/bin/env python3
-"""Checks the pages for readers: their commands, quotations of the source, links, named files, pictures and prose.
+"""Checks the pages for readers: their commands, quotations of the source, links, named files and definitions, pictures and prose.
 
 The commands that a page prints after a `$` are run, and what they show is compared with what is printed below them. A line that
 continues a command begins with `>`. The commands of a block are run by one bash, so that they can leave statuses for one another.
@@ -39,8 +39,10 @@ WITH_COMMANDS = [
     "docs/OLD-LISTINGS.md",
     "examples/README.md",
 ]
-ALL_PAGES = ["README.md", "CHANGELOG.md", "docs/*.md", "docs/*.1", "examples/README.md", "tests/README.md"]
-LINES_OF_README = 200
+PAGES_AT_THE_TOP = ["README.md", "CHANGELOG.md", "CONTRIBUTING.md", "SECURITY.md"]
+ALL_PAGES = [*PAGES_AT_THE_TOP, "docs/*.md", "docs/*.1", "examples/README.md", "tests/README.md"]
+LINES_OF_A_PAGE = {"README.md": 200, "CONTRIBUTING.md": 150, "docs/ARCHITECTURE.md": 200, "docs/SPECIFICATION.md": 120}
+LINES_OF_A_DECISION = 8
 BYTES_OF_A_PICTURE = 100_000
 LOOKS_LIKE_COMMAND = re.compile(r"    (\./|rt |tests/|tools/|ptb-|cd |cat |diff |printf |echo |sed |tr |seq |xargs |parallel |q=)")
 # Programs that a reader may do without.
@@ -209,6 +211,40 @@ def check_named_files(page):
         yield os.path.exists(f"{ROOT}/{name}"), f"{page}: names {name}, which isn't there"
 
 
+def check_definitions(page):
+    """Whether each name beside the link to a file of definitions in a table is defined there."""
+    for line in lines_of(page):
+        cells = [it.strip() for it in line.strip("|").split("|")]
+        linked = re.search(r"\]\(([^)]*\.antt)\)", cells[0])
+        if linked and len(cells) == 3:
+            text = "\n".join(lines_of(os.path.normpath(os.path.join(os.path.dirname(page), linked[1]))))
+            for name in re.findall(r"`([^`]+)`", cells[1]):
+                defined = re.search(rf"^ *(?:(?:abbrev|unfoldable|pub|record|data) )+{name}\b", text, re.M)
+                yield bool(defined), f"{page}: {name} is not defined in {linked[1]}"
+
+
+def check_sources(page):
+    """Whether the sources and the files of definitions that a page names by their last names are there."""
+    text = "\n".join(lines_of(page))
+    for name in sorted(set(re.findall(r"`((?:[a-z_]+/)?[a-z_]+\.rt)`", text))):
+        yield glob.glob(f"{ROOT}/crates/*/src/{name}") != [], f"{page}: no source {name}"
+    for name in sorted(set(re.findall(r"`specs/([A-Za-z]+)`", text))):
+        yield glob.glob(f"{ROOT}/crates/*/specs/{name}.antt") != [], f"{page}: no definitions specs/{name}"
+
+
+def check_decisions():
+    """Whether each decision is an entry of a few lines, with a name for what was chosen."""
+    page, entries = "docs/DECISIONS.md", []
+    for number, line in enumerate(lines_of(page), 1):
+        if line.startswith("- "):
+            entries.append((number, [line]))
+        elif line.startswith("  ") and entries:
+            entries[-1][1].append(line)
+    for number, lines in entries:
+        named = re.match(r"- \*\*[^*]+\*\*", " ".join(it.strip() for it in lines))
+        yield bool(named) and len(lines) <= LINES_OF_A_DECISION, f"{page}:{number}: {len(lines)} lines, or no name"
+
+
 def check_list_of_tests():
     """Whether tests/README.md lists the scripts that tests/all.sh runs, in their order."""
     run_by_all = [found[1] for found in map(re.compile(r"tried (\S+\.\S+)").match, lines_of("tests/all.sh")) if found]
@@ -233,7 +269,8 @@ def check_prose():
         yield not refused, "words to avoid:\n  " + "\n  ".join(refused)
     unused = list(wording.unused(pages))
     yield not unused, f"{WORDING}: exceptions that nothing needs: {unused}"
-    yield len(pages["README.md"]) <= LINES_OF_README + 1, f"README.md has more than {LINES_OF_README} lines"
+    for page, most in LINES_OF_A_PAGE.items():
+        yield len(pages[page]) <= most + 1, f"{page} has more than {most} lines"
 
 
 # ---- the whole
@@ -249,7 +286,10 @@ def checks():
         yield from check_quotations(page)
         yield from check_links(page)
         yield from check_named_files(page)
+        yield from check_definitions(page)
+        yield from check_sources(page)
     yield check_list_of_tests()
+    yield from check_decisions()
     yield from check_prose()
 
 

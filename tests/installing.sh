@@ -2,22 +2,7 @@
 # Tests ./install in temporary folders, and compares the completions and man pages with --help. If zsh or fish is not
 # installed, its completions are only compared with --help.
 # PTB names another program than the one that ./ptb builds.
-set -u
-root=$(dirname "$(dirname "$(readlink -f "$0")")")
-ptb=${PTB:-$root/ptb}
-folder=$(mktemp -d)
-trap 'rm -rf "$folder"' EXIT
-. "$root/tests/shared/counting.sh"
-
-# count_same NAME SAID DUE: a check that holds where both are the same text
-count_same() {
-    if [ "$2" = "$3" ]; then
-        count "$1" yes
-    else
-        count "$1" no
-        printf '    said: %s\n    due:  %s\n' "$2" "$3" >&2
-    fi
-}
+. "$(dirname "$(readlink -f "$0")")/shared/head.sh"
 
 "$ptb" --help </dev/null >"$folder/help" || exit 1
 
@@ -454,7 +439,7 @@ count_same 'uninstall below DESTDIR' "$status $(find "$folder/stage" | sed "s|$f
 
 # where there is no strip
 mkdir "$folder/tools"
-for tool in $(sed 's/[^a-z]/\n/g' "$root/install" "$root/build" "$root/tools/version" | sort -u) bash sh env; do
+for tool in $(sed 's/[^a-z]/\n/g' "$root/install" "$root/tools/is-built" "$root/tools/version" | sort -u) bash sh env; do
     if [ "$tool" != strip ] && [ -x "$(type -P "$tool")" ]; then ln -sf "$(type -P "$tool")" "$folder/tools/$tool"; fi
 done
 PATH=$folder/tools installed "$place"
@@ -546,5 +531,4 @@ count_same 'a program that cannot be built' "$status $(find "$folder" -name nowh
 count_same 'the licence' "$(sed -n '1p; 3p' "$root/LICENSE")" 'MIT License
 Copyright (c) 2026 the ptb authors'
 
-echo "$passed passed, $failed failed"
-[ "$failed" = 0 ]
+conclude

@@ -1,5 +1,6 @@
 #!/usr/bin/env python3
-"""Checks that what docs/PROMISES.md names is there: each function, each clause of it, and each planted bug.
+"""Checks that what docs/PROMISES.md names is there: each function, each clause of it, and each planted bug. It also checks that
+the page names each public function of the libraries.
 
 A clause belongs to a row if the contract of one of the row's functions has it, or if it is a field of a record that the row
 or such a contract names. The last line is 'N passed, M failed'.
@@ -115,9 +116,28 @@ def check_mistake(checks, sources, edits, refusals):
             checks.holds(is_there, f"nothing of the name {name} in {part[:60]}: {edits[:60]}")
 
 
+def public_functions():
+    """The functions that the libraries of the program export, and the public methods of the types that they export."""
+    for root in sorted(ROOT.glob("crates/*/src/lib.rt")):
+        crate = root.parent.parent.name
+        exported = set(re.findall(WORD, " ".join(re.findall(r"^pub use [^;]*;", root.read_text(), re.M))))
+        for path in sorted(root.parent.glob("**/*.rt")) if not crate.endswith(("_rows", "_tests")) else []:
+            owner = None
+            for line in path.read_text().splitlines():
+                opened = re.match(rf"impl\b.*?({WORD})(?:<.*>)? \{{", line)
+                owner = opened[1] if opened else None if line == "}" else owner
+                found = re.match(rf"( *)pub (?:const )?fn ({WORD})", line)
+                if found and (owner or found[2]) in exported:
+                    yield crate, found[2]
+
+
 def main():
     checks, sources, texts = Checks(), Sources(), []
-    for row in rows_of((ROOT / "docs/PROMISES.md").read_text()):
+    page = (ROOT / "docs/PROMISES.md").read_text()
+    named = set(re.findall(WORD, " ".join(CODE.findall(page))))
+    for crate, name in public_functions():
+        checks.holds(name in named, f"no promise of {crate}::{name}")
+    for row in rows_of(page):
         if len(row) != 3 or set(row[0]) <= set("-: "):
             continue
         if CODE.fullmatch(row[0]):

@@ -2,22 +2,7 @@
 # Tests tools/release in a copy of the repository. Without git nothing is tested; without dpkg-deb there is no package to test, and
 # without lintian the package is not checked against the rules of Debian.
 # PTB names another program than the one that ./ptb builds.
-set -u
-root=$(dirname "$(dirname "$(readlink -f "$0")")")
-ptb=${PTB:-$root/ptb}
-folder=$(mktemp -d)
-trap 'rm -rf "$folder"' EXIT
-. "$root/tests/shared/counting.sh"
-
-# count_same NAME SAID DUE: a check that holds where both are the same text
-count_same() {
-    if [ "$2" = "$3" ]; then
-        count "$1" yes
-    else
-        count "$1" no
-        printf '    said: %s\n    due:  %s\n' "$2" "$3" >&2
-    fi
-}
+. "$(dirname "$(readlink -f "$0")")/shared/head.sh"
 
 if ! command -v git >/dev/null; then
     echo 'git is not installed: no release was made'
@@ -177,5 +162,4 @@ PATH=$folder/bin:$PATH released "$folder/unbuilt"
 count_same 'no release of a program that cannot be built' "$status $(find "$folder" -name unbuilt)" '70 '
 count_same 'nothing of these is left' "$(ls -A "$folder/temporary")" ''
 
-echo "$passed passed, $failed failed"
-[ "$failed" = 0 ]
+conclude

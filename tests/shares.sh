@@ -1,14 +1,10 @@
 #!/bin/bash
-# Tries tools/shares: the listings of shares, one behind the other, are the whole listing, also where some were killed and are gone on with,
-# or are begun anew. They are made by xargs, and by GNU parallel where that is installed. PTB names another program than the one that ./ptb builds.
-set -u
-root=$(dirname "$(dirname "$(readlink -f "$0")")")
+# Tests tools/shares: the listings of shares, joined, are the complete listing, even if some were killed and then resumed or
+# restarted. They are made by xargs, and by GNU parallel if that is installed. PTB names another program than the one that
+# ./ptb builds.
+. "$(dirname "$(readlink -f "$0")")/shared/head.sh"
 . "$root/tests/shared/built.sh"
-. "$root/tests/shared/counting.sh"
-export PTB
-folder=$(mktemp -d)
-trap 'rm -rf "$folder"' EXIT
-export folder
+export PTB folder
 
 # five programs: no question, the same questions in each run, fewer questions in some, a bound that an answer sets, lines that are missing
 printf '10 PRINT "HI"\n' >"$folder/none.bas"
@@ -17,7 +13,7 @@ printf '10 A=RND(2);IF A=2 B=RND(3);PRINT B\n' >"$folder/fewer.bas"
 printf '10 A=RND(4);B=RND(A);IF B>1 C=RND(B)-1;PRINT A/C\n' >"$folder/bounds.bas"
 printf '10 INPUT A;PRINT A+RND(2);IF A<3 GOTO 10\n' >"$folder/lines.bas"
 
-# share NUMBER LIST PROGRAM WORDS..: writes a share to a file of its own, which has its name once it is whole
+# share NUMBER LIST PROGRAM ARGUMENT..: writes a share to a file of its own, which has its name once it is complete
 share() {
     local number=$1 list=$2 program=$3
     shift 3
@@ -31,7 +27,7 @@ numbered() { awk '{ printf "%05d %s\n", NR, $0 }'; }
 # those of the numbered lists whose share isn't whole
 missing() { while read -r number list; do [ -e "$folder/part.$number" ] || echo "$number $list"; done; }
 
-# by_xargs PROGRAM WORDS..: makes the shares on standard input
+# by_xargs PROGRAM ARGUMENT..: makes the shares on standard input
 by_xargs() { xargs -r -P 4 -L 1 bash -c 'program=$1; shift; number=${@: -2:1}; list=${@: -1}; share "$number" "$list" "$program" "${@:1:$#-2}"' share "$@"; }
 
 # halve FILE: leaves the first half of a share in a file of the name that it has until it is whole
@@ -40,8 +36,8 @@ halve() {
     rm "$1"
 }
 
-# go_on_with PROGRAM WORDS..: goes on with those of the shares on standard input of which there is a part
-go_on_with() {
+# resume_shares PROGRAM ARGUMENT..: resumes those of the shares on standard input of which there is a part
+resume_shares() {
     local number list program=$1
     shift
     while read -r number list; do
@@ -51,7 +47,7 @@ go_on_with() {
     done
 }
 
-# shared NAME PROGRAM INPUT WORDS..: compares the shares at some depths with the whole
+# shared NAME PROGRAM INPUT ARGUMENT..: compares the shares at some depths with the complete listing
 shared() {
     local name=$1 program=$folder/$2 depth last
     printf '%b' "$3" >"$folder/input"
@@ -63,9 +59,9 @@ shared() {
         by_xargs "$program" "$@" <"$folder/lists"
         cat "$folder"/part.* >"$folder/joined"
         count_if "$name, shares of $depth questions" cmp -s "$folder/whole" "$folder/joined"
-        # two were killed: the first is gone on with behind half of its bytes, and of the last what there is of it is thrown away
+        # two were killed: the first is resumed after half of its bytes, and what there is of the last is thrown away
         halve "$folder/part.00001"
-        go_on_with "$program" "$@" <"$folder/lists"
+        resume_shares "$program" "$@" <"$folder/lists"
         last=$(tail -n 1 "$folder/lists")
         if [ "$(wc -l <"$folder/lists")" -gt 1 ]; then mv "$folder/part.${last%% *}" "$folder/part.${last%% *}.new"; fi
         missing <"$folder/lists" | by_xargs "$program" "$@"
@@ -110,14 +106,14 @@ by_xargs "$folder/large.bas" "${large[@]}" <"$folder/lists" 2>/dev/null &
 set +m
 kill_at $((whole / 2)) $! "$folder/part.*"
 count_if 'shares are killed in the midst' [ "$(bytes_of "$folder"/part.*)" -lt "$whole" ]
-go_on_with "$folder/large.bas" "${large[@]}" <"$folder/lists"
+resume_shares "$folder/large.bas" "${large[@]}" <"$folder/lists"
 missing <"$folder/lists" | by_xargs "$folder/large.bas" "${large[@]}"
 cat "$folder"/part.????? >"$folder/joined"
-count_if 'killed shares are gone on with' cmp -s "$folder/whole" "$folder/joined"
+count_if 'killed shares are resumed' cmp -s "$folder/whole" "$folder/joined"
 
 if command -v parallel >/dev/null; then
     sed 's/^[0-9]* //' "$folder/lists" >"$folder/unnumbered"
-    # made by parallel, each in a file of its own; those that a log has as whole aren't made anew
+    # made by parallel, each in a file of its own; those that a log has as complete aren't made again
     by_parallel() {
         parallel --will-cite --joblog "$folder/log" --resume-failed --results "$folder/parts/{#}" \
             "$PTB" "${large[@]}" --all --under {} "$folder/large.bas" '<' "$folder/input" <"$folder/unnumbered" >"$folder/said" 2>&1
@@ -128,9 +124,9 @@ if command -v parallel >/dev/null; then
     kill_at $((whole / 2)) $! "$folder/parts/*"
     count_if 'parallel is killed in the midst' [ "$(grep -c . "$folder/log")" -le 16 ]
     by_parallel
-    count 'parallel goes on' "$([ $? = 0 ] && echo yes || echo no)"
+    count 'parallel resumes' "$([ $? = 0 ] && echo yes || echo no)"
     (cd "$folder/parts" && cat $(seq "$(wc -l <"$folder/lists")")) >"$folder/joined"
-    count_if 'shares that parallel goes on with' cmp -s "$folder/whole" "$folder/joined"
+    count_if 'shares that parallel resumes' cmp -s "$folder/whole" "$folder/joined"
 else
     echo 'parallel is not installed: shares were made by xargs alone'
 fi
@@ -143,5 +139,4 @@ count_if 'a run that is over sooner is a line of its own' cmp -s "$folder/due" "
 count 'no depth' "$("$root/tools/shares" "$folder/fewer.bas" </dev/null >/dev/null 2>&1; [ $? = 64 ] && echo yes || echo no)"
 count 'no program' "$("$root/tools/shares" "$folder/nothing.bas" 2 </dev/null >/dev/null 2>&1; [ $? = 66 ] && echo yes || echo no)"
 
-echo "$passed passed, $failed failed"
-[ "$failed" = 0 ]
+conclude

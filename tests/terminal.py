@@ -26,7 +26,8 @@ from terminals import due_of, echo, on_screen, run, screen, transcript_of
 
 EXAMPLES = ROOT / "examples"
 READING = "ptb: reading the program from the terminal; Ctrl-D ends it\n"
-LIMIT = "ptb: stopped at the limit of %d commands; --steps N allows more\n"
+LIMIT = "ptb: stopped at line %d by the limit of %d commands; --steps N allows more\n"
+ONE_COMMAND = "ptb: stopped at line 2 by the limit of 1 command; --steps N allows more\n"
 NO_LINE = "ptb: INPUT found no line left; give more lines, or use --choose N\n"
 NO_INPUT = (
     "ptb: INPUT found no line, since standard input was the program; name its file as PROGRAM\n"
@@ -86,8 +87,9 @@ def programs(folder):
         return str(ROOT / "crates/ptb/out/ptb"), str(ROOT / "ptb")
     for crate in re.findall("^([a-z_]+):", (ROOT / "crates.txt").read_text(), re.M):
         (folder / "crates" / crate / "out").mkdir(parents=True)
-    for name in ("ptb", "build", "crates.txt"):
-        shutil.copy(ROOT / name, folder)
+    (folder / "tools").mkdir()
+    for name in ("ptb", "build", "crates.txt", "tools/is-built", "tools/build-crate"):
+        shutil.copy(ROOT / name, folder / name)
     program = folder / "crates/ptb/out/ptb"
     shutil.copy(os.environ["PTB"], program)
     return str(program), str(folder / "ptb")
@@ -209,11 +211,15 @@ STEPS, CHOICE, SEVEN_CHOSEN = NONE + " --steps 3", NONE + " --choose 6", SEVEN +
 TYPED = "10 INPUT A;B=RND(6)\n"
 LINE, PIECE, NOTHING = ["A:", "5\r", ""], ["A:", "5\x04\x04", "\n"], ["A:", CTRL_D, ""]
 ENDS = {
-    "LIMIT after a newline": End('10 P."X";GOTO 10\n', STEPS, ["X\nX\n"], 4, LIMIT % 3),
-    "LIMIT in a line": End('10 P."X",;GOTO 10\n', STEPS, ["XX"], 4, "\n" + LIMIT % 3),
-    "LIMIT with nothing shown": End("10 GOTO 10\n", NONE, [""], 4, LIMIT % 10000),
-    "LIMIT after a typed line": End("10 INPUT A;B=1;B=2;B=3\n", STEPS, LINE, 4, LIMIT % 3),
-    "LIMIT with a seed": End("10 GOTO 10\n", "--seed 7 --steps 3", [""], 4, LIMIT % 3),
+    "LIMIT after a newline": End('10 P."X";GOTO 10\n', STEPS, ["X\nX\n"], 4, LIMIT % (10, 3)),
+    "LIMIT in a line": End('10 P."X",;GOTO 10\n', STEPS, ["XX"], 4, "\n" + LIMIT % (10, 3)),
+    "LIMIT with nothing shown": End("10 GOTO 10\n", NONE, [""], 4, LIMIT % (10, 10000)),
+    "LIMIT after a typed line": End("10 INPUT A;B=1;B=2;B=3\n", STEPS, LINE, 4, LIMIT % (10, 3)),
+    "LIMIT with a seed": End("10 GOTO 10\n", "--seed 7 --steps 3", [""], 4, LIMIT % (10, 3)),
+    "LIMIT after one command": End("1 A=1\n2 A=2\n3 A=3\n", NONE + " --steps 1", [""], 4, ONE_COMMAND),
+    "LIMIT at the end of a line": End("10 A=1;B=2;C=3\n20 D=4\n", STEPS, [""], 4, LIMIT % (20, 3)),
+    "LIMIT after a jump": End("10 A=1;GOTO 300\n300 A=1;GOTO 10\n", STEPS, [""], 4, LIMIT % (300, 3)),
+    "LIMIT in the greatest line": End("32767 GOTO 32767\n", STEPS, [""], 4, LIMIT % (32767, 3)),
     "NOINPUT": End(ONE, NONE, NOTHING, 5, "\n" + NO_LINE),
     "NOINPUT after a line": End(TWO, NONE, [*LINE[:2], "B:", CTRL_D, ""], 5, "\n" + NO_LINE),
     "NOINPUT after a piece": End(TWO, NONE, [*PIECE[:2], "\nB:"], 5, "\n" + NO_LINE),
@@ -340,7 +346,7 @@ def check_second_terminal(checks):
     arguments, files = [*STEPS.split(), loop], {ERRORS: os.ttyname(slave)}
     checks.run("errors to another terminal", arguments, ["XX"], 4, files)
     os.close(slave)
-    checks.same("what is said there", all_of(master), on_screen("\n" + LIMIT % 3))
+    checks.same("what is said there", all_of(master), on_screen("\n" + LIMIT % (10, 3)))
 
 
 def all_of(master):

@@ -349,8 +349,24 @@ def mistakes():
     yield run("2999 calls of the next line", found, "", 0, "--check --memory 32767")
 
 
+# ---- chances
+
+
+def tables():
+    """Tables of many results, of many answers in one run, of a long denominator, and of a long last line."""
+    rows = (f"CHANCE 1/32767 1 END 6\n{k:6}\n" for k in range(1, 32768))
+    yield run("the chances of 32767 results", "10 P.RND(32767)\n", "".join(rows), 0, "--chances")
+    yield run("the chance of 4000 answers", "10 F.I=1TO4000;A=RND(1);N.I\n", "CHANCE 1/1 1 END 0\n\n", 0, "--chances")
+    # each throw goes on with one answer of two, up to the limit
+    tosses = 1 << 4999
+    due = f"CHANCE {tosses - 1}/{tosses} 4999 STOP 0\n\nCHANCE 1/{tosses} 1 LIMIT 0\n\n"
+    yield run("the chances of 4999 tosses", "10 IF RND(2)=1 STOP\n20 GOTO 10\n", due, 0, "--chances --steps 9998")
+    line = "".join(f"{k:255}" for k in range(1, 4001))
+    yield run("a last line of 1020000 bytes", "10 F.I=1TO4000;P.#255,I,;N.I\n", f"CHANCE 1/1 1 END 1020000\n{line}\n", 0, "--chances")
+
+
 def cases():
     """All of them, those that take longest first."""
     parts = [most_steps, deepest, long_lines, long_lists, long_texts, long_statements, expressions]
-    parts += [answers_of_input, too_deep, seeds, many_lines, memories, arguments, mistakes]
+    parts += [answers_of_input, too_deep, seeds, many_lines, memories, arguments, mistakes, tables]
     return [each for part in parts for each in part()]

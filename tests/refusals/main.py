@@ -23,8 +23,10 @@ KINDS = {
 MOST_CALLS = 5000
 # Room for the words of the command line is asked for twice: for all of them, and where that is refused for fewer.
 MOST_SPARED = 1
-# A listing keeps at most 64 copies of its machine, each in two pieces of memory, and goes on without one that is refused.
+# A listing keeps at most 64 copies of its machine, each in two pieces of memory, and goes on without one that is refused. So
+# does a table of chances, which is added up from the runs of a listing.
 MOST_SPARED_COPIES = 128
+WITH_COPIES = {"--all", "--chances"}
 SECONDS_OF_A_RUN = 60
 OUT_OF_MEMORY = noted(71, "out of memory")
 DEVICE_FAILED = "Input/output error (os error 5)"
@@ -71,7 +73,7 @@ def swept(task):
 
 def most_spared(row, kind):
     """How many of a row's runs may be whole though an allocation was refused, or all from one on."""
-    copies = MOST_SPARED_COPIES if "--all" in row.words.split() else 0
+    copies = MOST_SPARED_COPIES if WITH_COPIES & set(row.words.split()) else 0
     return copies + (MOST_SPARED if kind == "refuse" else 0)
 
 
@@ -116,7 +118,7 @@ def is_due(row, kind, struck, reply):
         return (reply.status, reply.output) == (row.due.status, row.due.output)
     if struck == "R0" and row.input is not None:
         # A run reads a line when it asks for it, so that it may have shown something before.
-        return reply == NO_INPUT if is_reported(row) else is_cut_short(row, reply, NO_INPUT)
+        return reply == NO_INPUT if is_reported(row) or is_added_up(row) else is_cut_short(row, reply, NO_INPUT)
     return is_program_unread(row, reply)
 
 
@@ -133,8 +135,17 @@ def is_reported(row):
     return "--all" in row.words or "--sample" in row.words
 
 
+def is_added_up(row):
+    """Whether a row writes the chances of runs."""
+    return "--chances" in row.words
+
+
 def has_whole_reports(row, reply):
-    """Whether the next report was not begun, where reports are written; or the next line, where lists are."""
+    """Whether the next report was not begun, where reports are written; or the next line, where lists are. A table of
+    chances is not begun at all.
+    """
+    if is_added_up(row):
+        return not reply.output or reply.output == row.due.output
     if "--shares" in row.words:
         return not reply.output or reply.output.endswith(b"\n")
     rest = row.due.output[len(reply.output) :]

@@ -15,6 +15,7 @@ TESTS = [
     ("ptb_numbers_tests", "naturals::refused_numbers", set()),
     ("ptb_numbers_tests", "naturals::refused_decimals", set()),
     ("ptb_numbers_tests", "fractions::refused_fractions", set()),
+    ("ptb_chances_tests", "tables::refused_tables_write_nothing", set()),
     ("ptb_machine_tests", "commands::first_registers", set()),
     ("ptb_machine_tests", "commands::copied_registers", set()),
     ("ptb_machine_tests", "program_codes::next_code_of_a_program", set()),

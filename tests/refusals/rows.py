@@ -60,6 +60,9 @@ TYPOS = "20 GOTO 30\n10 PRINT )\n"
 MISTAKES = "WHAT?\n10 PRINT ?)\nHOW?\n20 GOTO 30?\n"
 MANY_TYPOS = "".join(f"{k} @(\n" for k in range(1, 50))
 MANY_MISTAKES = "".join(f"WHAT?\n{k} @(?\n" for k in range(1, 50))
+# the chances of these programs
+BRANCH_TABLE = "CHANCE 1/2 1 END 0\n\n" + "".join(f"CHANCE 1/6 1 END 6\n     {k}\n" for k in (1, 2, 3))
+ECHO_TABLE = "".join(f"CHANCE 1/2 1 END 6\n     {k}\n" for k in (1, 2))
 # what takes room again and again: answers and a transcript, and the lines of a program
 LONG_RUN = "10 F.I=1TO300;P.RND(1);N.I\n"
 LONG_REPORT = report(",".join(["1"] * 300) + " END 601 2100", 300 * "     1\n")
@@ -107,6 +110,11 @@ ROWS = [
     Row("--check", MANY_TYPOS, None, served(MANY_MISTAKES, status=1)),
     Row("--check", EDITED, "", served("")),
     Row("--check --all", TYPOS, None, noted(64, "--check stands alone")),
+    Row("--chances", BRANCH, "", served(BRANCH_TABLE)),
+    Row("--chances", BRANCH, None, served(BRANCH_TABLE)),
+    Row("--chances", ECHO, "RND(2)\n", served(ECHO_TABLE)),
+    Row("--chances --steps 1", ASK, ")\n", served("CHANCE 1/1 1 NOINPUT 2\nA:\n")),
+    Row("--chances --all", BRANCH, None, noted(64, "--chances stands alone")),
     Row("", FAULT, None, served("     1\nHOW?\n10 PRINT 1;A=1/0?\n", status=2)),
     Row("", "32768 P.1\n", None, noted(65, "line 1: number too big")),
     Row("--all --after 2", BRANCH, None, noted(67, "not a run", "--after: item 2 is missing; its question allows 1 to 3")),

@@ -1,12 +1,13 @@
 """This file holds the checks of a case.
 
-Most of them must hold whatever the programs mean. Others compare the reports, and the lists that split the runs, with what
-tests/stress/language.py makes of the same programs.
+Most of them must hold whatever the programs mean; chances are added up from the reports. Others compare the reports, and the
+lists that split the runs, with what tests/stress/language.py makes of the same programs.
 """
 
 import math
 import re
 from dataclasses import dataclass, replace
+from fractions import Fraction
 from itertools import islice
 
 import calls
@@ -28,7 +29,7 @@ FAR_LIMIT = 1_000_000
 ODD_WORDS = [
     *["", "0", "1", "-1", "+1", "01", "1,2", "1,,2", "none", "32768", "1000000001", "1e3"],
     *["x", "5 ", "\t", "١", b"\xff"],
-    *["--steps", "--memory", "--choose", "--choose=0", "--choose=2", "--answers", "--after", "--under", "--first", "--all", "--shares", "--sample", "--seed", "--list", "--check", "--lists", "-a", "-h", "--", "-"],
+    *["--steps", "--memory", "--choose", "--choose=0", "--choose=2", "--answers", "--after", "--under", "--first", "--all", "--shares", "--sample", "--seed", "--list", "--check", "--chances", "--lists", "-a", "-h", "--", "-"],
     *["--steps=7", "--memory=64", "--after=none", "--under=none", "--under=1", "--first=2", "--shares=2", "--sample=2", "--seed=7", "--form", "--form=1", "--form=3", "1/2", "no such file", "."],
 ]
 FAULTS = {"WHAT": b"WHAT?", "HOW": b"HOW?", "SORRY": b"SORRY"}
@@ -136,6 +137,10 @@ class Trial:
         """The mistakes in the program's text."""
         return self.call([("check", "")], **files)
 
+    def chances(self, **files):
+        """The chances of results."""
+        return self.call([("chances", ""), ("steps", str(self.case.steps)), *self.choose()], **files)
+
 
 def check(trial, write):
     """Checks a case; `write` makes a file of its folder."""
@@ -154,6 +159,7 @@ def check(trial, write):
     check_portions(trial, reports, is_whole)
     check_shares(trial, reports, is_whole)
     check_sample(trial)
+    check_chances(trial, reports, is_whole)
     check_meaning(trial, setting_of(trial.case, program), reports)
     check_lists(trial, setting_of(trial.case, program), reports)
     check_mistakes(trial, reports, listing)
@@ -198,7 +204,7 @@ def check_text(trial, write):
 
 def check_refused(trial, call, refusal):
     """A text that is refused by this call is refused whatever is asked for, in the same words."""
-    for other in (trial.plain([]), trial.runs(), trial.mistakes(), trial.text(program=None, stdin=PROGRAM)):
+    for other in (trial.plain([]), trial.runs(), trial.mistakes(), trial.chances(), trial.text(program=None, stdin=PROGRAM)):
         reply = trial.ask(other)
         trial.hold("refused in the same words", reply == refusal, (call, refusal), (other, reply))
 
@@ -362,6 +368,38 @@ def check_share(trial, reports, is_whole, report):
     if others:
         call = trial.runs(trial.chance.choice(others).answers, under=under)
         trial.expect("a share behind a run of another", call, calls.NO_RUN, b"")
+
+
+# ---- chances
+
+
+def check_chances(trial, reports, is_whole):
+    """Where the reports are all, the table of chances is the one that is added up from them."""
+    if is_whole and not trial.failures:  # a listing that isn't as whole as it looks could have any number of runs
+        trial.expect("the chances of results", trial.chances(), 0, table_of(reports))
+
+
+def table_of(reports):
+    """The table of the chances of these runs: by their endings, then by their last lines."""
+    sums = {}
+    for report in reports:
+        result = list(calls.ENDINGS).index(report.ending), last_line(report.transcript)
+        chance, runs = sums.get(result, (Fraction(0), 0))
+        sums[result] = chance + Fraction(1, math.prod(report.bounds)), runs + 1
+    return b"".join(row_text(*result, *sums[result]) for result in sorted(sums))
+
+
+def last_line(transcript):
+    """The last line, without its end; empty where there is none."""
+    lines = transcript.split(b"\n")
+    line = lines[-1] or (lines[-2] if len(lines) > 1 else b"")
+    return line[:-1] if line.endswith(b"\r") else line
+
+
+def row_text(rank, line, chance, runs):
+    """A row of the table: of the results with the ending of this rank and this last line."""
+    head = f"CHANCE {chance.numerator}/{chance.denominator} {runs} {list(calls.ENDINGS)[rank]} {len(line)}\n"
+    return head.encode() + line + b"\n"
 
 
 # ---- what programs mean
