@@ -221,6 +221,7 @@ count_same 'it puts these files there' "$(cd "$place" && files_below . | grep -v
 ./lib/ptb/ptb_tools/adapting/trees.py
 ./lib/ptb/ptb_tools/adapting/whole.py
 ./lib/ptb/ptb_tools/branches.py
+./lib/ptb/ptb_tools/chances.py
 ./lib/ptb/ptb_tools/command.py
 ./lib/ptb/ptb_tools/data.py
 ./lib/ptb/ptb_tools/outcomes.py
