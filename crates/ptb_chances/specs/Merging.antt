@@ -63,7 +63,7 @@ pub record MergingLaws (most : ℕ) : Type 0 where
   pub ended :
       (w : Way) (x : Finish) → w.future [] ≡ Done x []
       → AreSame (way_account most w) (record { result = result_of (w.future []); chance = w.chance; runs = w.runs } ∷ [])
-  -- a way that comes to a question is the ways after its answers
+  -- where a way asks, it is replaced by the ways after each answer
   pub asked :
       (w : Way) (n : ℤ) (shown : List ℕ) → IsReader w.future most → w.future [] ≡ Asks n shown
       → AreSame (way_account most w) (ways_account most (map (way_after n w) (answers_to n)))

@@ -35,7 +35,7 @@ fn write_ratio(alloc: Global, ratio: &LowestTerms, text: &mut Vec<u8>) -> Result
     ratio.denominator.write_decimals(alloc, text)
 }
 
-// Writes a number at the end of a text, behind a space.
+// Writes a space and a number at the end of a text.
 fn write_number(alloc: Global, number: &Natural, text: &mut Vec<u8>) -> Result<(), AllocError>
     ensures { OnOk result (text.new.items ≡ text.old.items ++ field (decimals number.now)) }
 {
