@@ -7,27 +7,17 @@ PTB names another program than the one that ./ptb builds.
 
 import os
 import sys
-import unittest
 
 sys.dont_write_bytecode = True
 TESTS = os.path.dirname(os.path.realpath(__file__))
-sys.path[:0] = [f"{TESTS}/listings"]
+sys.path[:0] = [f"{TESTS}/listings", f"{TESTS}/shared"]
 import bytes_of_files
 import cases
 import command
 import meaning
 import rows
+import runner
 
 MODULES = (cases, rows, bytes_of_files, command, meaning)
 
-
-def main():
-    every = [test for module in MODULES for test in module.suite()]
-    tests = [test for test in every if not sys.argv[1:] or any(it in test.id() for it in sys.argv[1:])]
-    found = unittest.TextTestRunner(stream=sys.stdout, verbosity=0).run(unittest.TestSuite(tests))
-    failed = len(found.failures) + len(found.errors)
-    print(f"{found.testsRun - failed} passed, {failed} failed")
-    return 1 if failed or not found.testsRun else 0
-
-
-sys.exit(main())
+runner.main([test for module in MODULES for test in module.suite()])
