@@ -3,15 +3,20 @@
 the page names each public function of the libraries.
 
 A clause belongs to a row if the contract of one of the row's functions has it, or if it is a field of a record that the row
-or such a contract names. The last line is 'N passed, M failed'.
+or such a contract names. The last line is 'N passed, M failed'. Arguments name parts of tests, as planted_bugs.
 """
 
 import re
 import sys
+import unittest
 from pathlib import Path
 
 ROOT = Path(__file__).resolve().parent.parent
+sys.dont_write_bytecode = True
+sys.path.insert(0, str(ROOT / "tests/shared"))
+import runner
 
+PAGE = ROOT / "docs/PROMISES.md"
 WORD = r"[A-Za-z_][A-Za-z0-9_]*"
 FUNCTION = re.compile(rf"\bfn ({WORD})(.*?)(?=\bfn |\Z)", re.S)
 TYPE = re.compile(rf"\b(?:struct|enum|trait) ({WORD})|\bimpl\b[^{{;]*?\b([A-Z][A-Za-z0-9_]*)\b[^{{;]*\{{")
@@ -68,52 +73,11 @@ class Sources:
         return names
 
 
-class Checks:
-    def __init__(self):
-        self.passed = self.failed = 0
-
-    def holds(self, condition, complaint):
-        self.passed += bool(condition)
-        self.failed += not condition
-        if not condition:
-            print(f"failed: {complaint}")
-
-
 def rows_of(page):
     """The cells of each row of the page's tables, without their heads."""
     for line in page.splitlines():
-        if line.startswith("| ") and not line.startswith("| Promise") and not line.startswith("| Mistake"):
+        if line.startswith("| ") and not line.startswith(("| Crate |", "| Promise |", "| Mistake |")):
             yield [it.strip() for it in line.strip().strip("|").split(" | ")]
-
-
-def check_promise(checks, sources, row, functions, clauses, above):
-    texts = [] if CODE.search(functions) else above
-    for name in CODE.findall(functions):
-        if name.startswith("ptb") and "::" not in name or name.endswith(".rt") or name.startswith(".."):
-            continue
-        found = sources.texts_of(name)
-        checks.holds(found, f"no function or type {name}: {row[:60]}")
-        texts += found
-    owners = [it for names in OWNERS.findall(clauses) for it in CODE.findall(names)]
-    owned = [text for it in owners for text in sources.texts_of(it)]
-    known = sources.clauses_of([*texts, *owned], clauses)
-    for name in CODE.findall(clauses):
-        is_there = name in known or name in owners and (sources.texts_of(name) or name.startswith("std::"))
-        checks.holds(is_there, f"no clause {name} of {functions[:60]}: {row[:60]}")
-    return texts
-
-
-def check_mistake(checks, sources, edits, refusals):
-    for crate, names in EDITS.findall(edits):
-        for name in CODE.findall(names):
-            path = ROOT / "crates" / crate / "must-fail" / f"{name}.edit"
-            checks.holds(path.is_file(), f"no planted bug {crate}: {name}")
-    for part in refusals.split("; "):
-        texts = [text for name in CODE.findall(part) for text in sources.texts_of(name)]
-        known = sources.clauses_of(texts, part)
-        for name in CODE.findall(part):
-            is_there = name in known or sources.texts_of(name)
-            checks.holds(is_there, f"nothing of the name {name} in {part[:60]}: {edits[:60]}")
 
 
 def public_functions():
@@ -131,25 +95,87 @@ def public_functions():
                     yield crate, found[2]
 
 
-def main():
-    checks, sources, texts = Checks(), Sources(), []
-    page = (ROOT / "docs/PROMISES.md").read_text()
-    named = set(re.findall(WORD, " ".join(CODE.findall(page))))
-    for crate, name in public_functions():
-        checks.holds(name in named, f"no promise of {crate}::{name}")
-    for row in rows_of(page):
-        if len(row) != 3 or set(row[0]) <= set("-: "):
-            continue
-        if CODE.fullmatch(row[0]):
-            for name in CODE.findall(row[2]):
-                checks.holds(sources.texts_of(name), f"no function or type {name} of {row[0]}")
-        elif EDITS.search(row[1]):
-            check_mistake(checks, sources, row[1], row[2])
-        else:
-            texts = check_promise(checks, sources, row[0], row[1], row[2], texts)
-    print(f"{checks.passed} passed, {checks.failed} failed")
-    return 1 if checks.failed else 0
+class Page(unittest.TestCase):
+    """What the page names is there, and it names what it should."""
+
+    @classmethod
+    def setUpClass(cls):
+        cls.sources = Sources()
+        cls.page = PAGE.read_text()
+        cls.rows = list(rows_of(cls.page))
+        cls.crates = [row for row in cls.rows if CODE.fullmatch(row[0])]
+        cls.mistakes = [row for row in cls.rows if row not in cls.crates and EDITS.search(row[1])]
+        cls.promises = [row for row in cls.rows if row not in cls.crates and row not in cls.mistakes]
+
+    def holds(self, condition, complaint):
+        """A check of its own, so that the others are made even if it fails."""
+        with self.subTest(complaint):
+            self.assertTrue(condition)
+
+    def test_tables(self):
+        """There are rows of each kind, and each has three cells."""
+        self.assertTrue(self.crates and self.mistakes and self.promises)
+        self.assertEqual([row for row in self.rows if len(row) != 3], [])
+
+    def test_public_functions(self):
+        """Each public function of the libraries is on the page."""
+        named = set(re.findall(WORD, " ".join(CODE.findall(self.page))))
+        functions = list(public_functions())
+        self.assertTrue(functions)
+        for crate, name in functions:
+            self.holds(name in named, f"no promise of {crate}::{name}")
+
+    def test_crates(self):
+        """The functions and types of a crate's row are there."""
+        for crate, _, functions in self.crates:
+            for name in CODE.findall(functions):
+                self.holds(self.sources.texts_of(name), f"no function or type {name} of {crate}")
+
+    def test_promises(self):
+        """The functions of a promise are there, and have its clauses. A row without functions is about those above it."""
+        texts = []
+        for promise, functions, clauses in self.promises:
+            texts = self.texts_of_row(promise, functions) if CODE.search(functions) else texts
+            self.check_clauses(texts, clauses, f"{functions[:60]}: {promise[:60]}")
+
+    def texts_of_row(self, promise, functions):
+        """The texts of the functions and types of a promise, which are there."""
+        texts = []
+        for name in CODE.findall(functions):
+            if name.startswith("ptb") and "::" not in name or name.endswith(".rt") or name.startswith(".."):
+                continue
+            found = self.sources.texts_of(name)
+            self.holds(found, f"no function or type {name}: {promise[:60]}")
+            texts += found
+        return texts
+
+    def check_clauses(self, texts, clauses, place):
+        """The clauses are in the contracts of these texts, or in those that the clauses name as theirs."""
+        owners = [it for names in OWNERS.findall(clauses) for it in CODE.findall(names)]
+        owned = [text for it in owners for text in self.sources.texts_of(it)]
+        known = self.sources.clauses_of([*texts, *owned], clauses)
+        for name in CODE.findall(clauses):
+            is_there = name in known or name in owners and (self.sources.texts_of(name) or name.startswith("std::"))
+            self.holds(is_there, f"no clause {name} of {place}")
+
+    def test_planted_bugs(self):
+        """Each planted bug is there."""
+        for _, edits, _ in self.mistakes:
+            for crate, names in EDITS.findall(edits):
+                for name in CODE.findall(names):
+                    path = ROOT / "crates" / crate / "must-fail" / f"{name}.edit"
+                    self.holds(path.is_file(), f"no planted bug {crate}: {name}")
+
+    def test_refusals(self):
+        """The functions and clauses that refuse a mistake are there."""
+        for _, edits, refusals in self.mistakes:
+            for part in refusals.split("; "):
+                texts = [text for name in CODE.findall(part) for text in self.sources.texts_of(name)]
+                known = self.sources.clauses_of(texts, part)
+                for name in CODE.findall(part):
+                    is_there = name in known or self.sources.texts_of(name)
+                    self.holds(is_there, f"nothing of the name {name} in {part[:60]}: {edits[:60]}")
 
 
 if __name__ == "__main__":
-    sys.exit(main())
+    runner.main()
