@@ -12,10 +12,14 @@ seed that was drawn, it is run with this seed. A block that shows why a run ende
 
 `<!-- from FILE -->` before a block means that its lines are in FILE, one after the other.
 
-The prose has short lines and complete tables, and avoids the words of tests/wording.txt. PTB names another program than the one that ./ptb builds.
+The prose has short lines and complete tables, and avoids the words of tests/wording.txt.
+
+The last line is 'N passed, M failed'. Arguments name parts of tests, as links or test_tool; without any, all are run. PTB names
+another program than the one that ./ptb builds.
 """
 
 import glob
+import itertools
 import os
 import pty
 import re
@@ -23,25 +27,19 @@ import shutil
 import subprocess
 import sys
 import termios
+import unittest
 
 sys.dont_write_bytecode = True
 TESTS = os.path.dirname(os.path.realpath(__file__))
 sys.path[:0] = [f"{TESTS}/shared", f"{TESTS}/documents"]
-from prose import WIDTH, WORDING, Wording, refused_words, torn_tables, wide_lines
+import runner
+from prose import WORDING, Wording, refused_words, torn_tables, wide_lines
 from stage import ROOT, staged
 
-# Each of these pages has commands; one that loses them all is a failure.
-WITH_COMMANDS = [
-    "README.md",
-    "docs/TOOL.md",
-    "docs/LARGE-TREES.md",
-    "docs/LANGUAGE.md",
-    "docs/OLD-LISTINGS.md",
-    "examples/README.md",
-]
 PAGES_AT_THE_TOP = ["README.md", "CHANGELOG.md", "CONTRIBUTING.md", "SECURITY.md"]
 ALL_PAGES = [*PAGES_AT_THE_TOP, "docs/*.md", "docs/*.1", "examples/README.md", "tests/README.md"]
 LINES_OF_A_PAGE = {"README.md": 200, "CONTRIBUTING.md": 150, "docs/ARCHITECTURE.md": 200, "docs/SPECIFICATION.md": 120}
+DECISIONS = "docs/DECISIONS.md"
 LINES_OF_A_DECISION = 8
 BYTES_OF_A_PICTURE = 100_000
 LOOKS_LIKE_COMMAND = re.compile(r"    (\./|rt |tests/|tools/|ptb-|cd |cat |diff |printf |echo |sed |tr |seq |xargs |parallel |q=)")
@@ -114,7 +112,7 @@ def with_seed(command):
     return f"echo '{seed[0]}'; " + command.text.replace("./ptb ", f"./ptb --seed {seed[1]} ", 1)
 
 
-def run(block, folder):
+def shown_by(block, folder):
     """What each command of a block shows, on both of its streams; the next one finds its status in `$?`."""
     mark = "end of a command of the documents"
     script = "".join(f"{{ {with_seed(it)}\n}} 2>&1\n{{ status=$?; echo '{mark}'; (exit $status); }}\n" for it in block)
@@ -150,158 +148,217 @@ def read_or_end(leader):
         return b""
 
 
-def check_commands(page):
-    """Whether each command of a page shows what is printed below it, and what to say where it doesn't."""
-    with staged() as folder:
-        for block in filter(is_tried, blocks(page)):
-            for command, text in zip(block, run(block, folder)):
-                due = re.sub(r"\n*\Z", "", "\n".join(command.shown))
-                yield re.sub(r"\n*\Z", "", text) == due, f"{command.place}: {command.text}\n{text}"
+def programs_missing(block):
+    """The programs of a block that a reader may do without and that are not installed."""
+    words = {word for command in block for word in command.text.split()}
+    return [it for it in OPTIONAL if it in words and not shutil.which(it)]
 
 
-def is_tried(block):
-    """Whether all programs of a block are installed; what isn't tried is reported."""
-    missing = [it for it in OPTIONAL if not shutil.which(it) and any(it in command.text.split() for command in block)]
-    if missing:
-        print(f"{block[0].place}: not tried without {' and '.join(missing)}")
-    return not missing
+class Commands(unittest.TestCase):
+    """The commands of the pages that have some."""
+
+    maxDiff = None
+
+    def test_readme(self):
+        self.check_page("README.md")
+
+    def test_tool(self):
+        self.check_page("docs/TOOL.md")
+
+    def test_large_trees(self):
+        self.check_page("docs/LARGE-TREES.md")
+
+    def test_language(self):
+        self.check_page("docs/LANGUAGE.md")
+
+    def test_old_listings(self):
+        self.check_page("docs/OLD-LISTINGS.md")
+
+    def test_examples(self):
+        self.check_page("examples/README.md")
+
+    def check_page(self, page):
+        """The page has commands, each is marked as one, and each shows what is printed below it."""
+        with self.subTest(f"{page} has commands"):
+            self.assertTrue(blocks(page))
+        with self.subTest(f"{page}: each command has a $"):
+            lines = [line.strip() for line in lines_of(page) if LOOKS_LIKE_COMMAND.match(line)]
+            self.assertEqual([line for line in lines if line not in TRIED_ELSEWHERE], [])
+        with staged() as folder:
+            for block in blocks(page):
+                self.check_block(block, folder)
+
+    def check_block(self, block, folder):
+        """Each command of a block shows what is printed below it."""
+        missing = programs_missing(block)
+        if missing:
+            with self.subTest(block[0].place):
+                self.skipTest(f"{' and '.join(missing)} is not installed")
+            return
+        for command, text in zip(block, shown_by(block, folder)):
+            with self.subTest(f"{command.place}: {command.text}"):
+                self.assertEqual(text.rstrip("\n"), "\n".join(command.shown).rstrip("\n"))
 
 
-def all_marked(page):
-    """Whether all commands of a page are marked as such, so that they are run here."""
-    lines = [line.strip() for line in lines_of(page) if LOOKS_LIKE_COMMAND.match(line)]
-    wrong = [line for line in lines if line not in TRIED_ELSEWHERE]
-    return not wrong, f"{page}: commands without a $: {wrong}"
+# ---- what pages name
 
 
-# ---- quotations and pictures
-
-
-def check_quotations(page):
-    """Whether each block after `<!-- from FILE -->` is in that file as it is printed."""
+def quotations(page):
+    """The blocks after `<!-- from FILE -->`: the number of this line, the file, and the lines of the block."""
     lines = lines_of(page)
     for at, line in enumerate(lines):
         named = re.fullmatch(r"<!-- from (\S+) -->", line)
         if named:
-            quoted = [it.strip() for it in quoted_block(lines[at + 1 :])]
-            source = "\n".join(it.strip() for it in lines_of(named[1]))
-            holds = bool(quoted) and f"\n{chr(10).join(quoted)}\n" in f"\n{source}\n"
-            yield holds, f"{page}:{at + 1}: not in {named[1]}: {quoted}"
+            body = lines[at + 2 :]
+            yield at + 1, named[1], list(itertools.takewhile(lambda it: it.startswith("    "), body))
 
 
-def quoted_block(lines):
-    """The lines of the block that these lines begin with, after an empty line."""
-    body = lines[1:]
-    end = next((at for at, line in enumerate(body) if not line.startswith("    ")), len(body))
-    return body[:end]
+def stripped(lines):
+    """These lines as a text, without the blanks around them."""
+    return "".join(f"{line.strip()}\n" for line in lines)
 
 
-def check_links(page):
-    """Whether each file to which a page links is there, and pictures are small."""
-    for target in re.findall(r"\]\(([^)#:]+)(?:#[^)]*)?\)", "\n".join(lines_of(page))):
-        path = os.path.join(ROOT, os.path.dirname(page), target)
-        yield os.path.exists(path), f"{page}: links to {target}, which isn't there"
-        if target.endswith(".png") and os.path.exists(path):
-            yield os.path.getsize(path) < BYTES_OF_A_PICTURE, f"{page}: {target} is too large"
+def links(page):
+    """The files to which a page links."""
+    return re.findall(r"\]\(([^)#:]+)(?:#[^)]*)?\)", "\n".join(lines_of(page)))
 
 
-def check_named_files(page):
-    """Whether the scripts and examples that a page names in its text are there."""
-    for name in sorted(set(NAMED_FILE.findall("\n".join(lines_of(page))))):
-        yield os.path.exists(f"{ROOT}/{name}"), f"{page}: names {name}, which isn't there"
+def named_files(page):
+    """The scripts and examples that a page names in its text."""
+    return sorted(set(NAMED_FILE.findall("\n".join(lines_of(page)))))
 
 
-def check_definitions(page):
-    """Whether each name beside the link to a file of definitions in a table is defined there."""
+def definitions(page):
+    """The names beside the link to a file of definitions in a table, each with the file."""
     for line in lines_of(page):
         cells = [it.strip() for it in line.strip("|").split("|")]
         linked = re.search(r"\]\(([^)]*\.antt)\)", cells[0])
         if linked and len(cells) == 3:
-            text = "\n".join(lines_of(os.path.normpath(os.path.join(os.path.dirname(page), linked[1]))))
             for name in re.findall(r"`([^`]+)`", cells[1]):
-                defined = re.search(rf"^ *(?:(?:abbrev|unfoldable|pub|record|data) )+{name}\b", text, re.M)
-                yield bool(defined), f"{page}: {name} is not defined in {linked[1]}"
+                yield name, os.path.normpath(os.path.join(os.path.dirname(page), linked[1]))
 
 
-def check_sources(page):
-    """Whether the sources and the files of definitions that a page names by their last names are there."""
+def sources(page):
+    """The patterns of the paths of the sources and the files of definitions that a page names by their last names."""
     text = "\n".join(lines_of(page))
     for name in sorted(set(re.findall(r"`((?:[a-z_]+/)?[a-z_]+\.rt)`", text))):
-        yield glob.glob(f"{ROOT}/crates/*/src/{name}") != [], f"{page}: no source {name}"
+        yield f"crates/*/src/{name}"
     for name in sorted(set(re.findall(r"`specs/([A-Za-z]+)`", text))):
-        yield glob.glob(f"{ROOT}/crates/*/specs/{name}.antt") != [], f"{page}: no definitions specs/{name}"
+        yield f"crates/*/specs/{name}.antt"
 
 
-def check_decisions():
-    """Whether each decision is an entry of a few lines, with a name for what was chosen."""
-    page, entries = "docs/DECISIONS.md", []
-    for number, line in enumerate(lines_of(page), 1):
+def decisions():
+    """The entries of the page of decisions: the numbers of their first lines, and their lines."""
+    found = []
+    for number, line in enumerate(lines_of(DECISIONS), 1):
         if line.startswith("- "):
-            entries.append((number, [line]))
-        elif line.startswith("  ") and entries:
-            entries[-1][1].append(line)
-    for number, lines in entries:
-        named = re.match(r"- \*\*[^*]+\*\*", " ".join(it.strip() for it in lines))
-        yield bool(named) and len(lines) <= LINES_OF_A_DECISION, f"{page}:{number}: {len(lines)} lines, or no name"
+            found.append((number, [line]))
+        elif line.startswith("  ") and found:
+            found[-1][1].append(line)
+    return found
 
 
-def check_list_of_tests():
-    """Whether tests/README.md lists the scripts that tests/all.sh runs, in their order."""
-    run_by_all = [found[1] for found in map(re.compile(r"tried (\S+\.\S+)").match, lines_of("tests/all.sh")) if found]
-    table = "\n".join(lines_of("tests/README.md")).partition("## ")[0]
-    listed = re.findall(r"^\| `(\S+\.(?:sh|py))", table, re.M)
-    return listed == run_by_all, f"tests/README.md lists {listed}, and tests/all.sh runs {run_by_all}"
+class Named(unittest.TestCase):
+    """What the pages name is there."""
+
+    def on_all_pages(self, find):
+        """What is found on the pages, each with its page; there is something."""
+        found = [(page, it) for page in all_pages() for it in find(page)]
+        self.assertTrue(found)
+        return found
+
+    def test_quotations(self):
+        """Each block after `<!-- from FILE -->` is in that file as it is printed."""
+        for page, (number, file, quoted) in self.on_all_pages(quotations):
+            with self.subTest(f"{page}:{number}: a quotation of {file}"):
+                self.assertTrue(quoted)
+                self.assertTrue("\n" + stripped(quoted) in "\n" + stripped(lines_of(file)), quoted)
+
+    def test_links(self):
+        """Each file to which a page links is there."""
+        for page, target in self.on_all_pages(links):
+            with self.subTest(f"{page} links to {target}"):
+                self.assertTrue(os.path.exists(f"{ROOT}/{os.path.dirname(page)}/{target}"))
+
+    def test_pictures(self):
+        """Pictures are small."""
+        pictures = [(page, target) for page, target in self.on_all_pages(links) if target.endswith(".png")]
+        self.assertTrue(pictures)
+        for page, target in pictures:
+            with self.subTest(f"{page}: the size of {target}"):
+                self.assertLess(os.path.getsize(f"{ROOT}/{os.path.dirname(page)}/{target}"), BYTES_OF_A_PICTURE)
+
+    def test_files(self):
+        """The scripts and examples that a page names in its text are there."""
+        for page, name in self.on_all_pages(named_files):
+            with self.subTest(f"{page} names {name}"):
+                self.assertTrue(os.path.exists(f"{ROOT}/{name}"))
+
+    def test_definitions(self):
+        """Each name beside the link to a file of definitions in a table is defined there."""
+        for page, (name, file) in self.on_all_pages(definitions):
+            with self.subTest(f"{page}: {name} is defined in {file}"):
+                defined = rf" *(?:(?:abbrev|unfoldable|pub|record|data) )+{name}\b"
+                self.assertTrue(any(re.match(defined, line) for line in lines_of(file)))
+
+    def test_sources(self):
+        """The sources and the files of definitions that a page names by their last names are there."""
+        for page, pattern in self.on_all_pages(sources):
+            with self.subTest(f"{page} names {pattern}"):
+                self.assertTrue(glob.glob(f"{ROOT}/{pattern}"))
+
+    def test_list_of_tests(self):
+        """tests/README.md lists the scripts that tests/all.sh runs, in their order."""
+        table = "\n".join(lines_of("tests/README.md")).partition("## ")[0]
+        listed = re.findall(r"^\| `(\S+\.(?:sh|py))", table, re.M)
+        self.assertEqual(listed, re.findall(r"^tried (\S+\.\S+)", "\n".join(lines_of("tests/all.sh")), re.M))
 
 
 # ---- prose
 
 
-def check_prose():
-    """Whether the pages have short lines, complete tables and none of the words to avoid, and each exception is needed."""
-    wording = Wording(lines_of(WORDING))
-    pages = {page: lines_of(page) for page in all_pages()}
-    for page, lines in pages.items():
-        wide = wide_lines(lines)
-        yield not wide or page.endswith(".1"), f"{page}: more than {WIDTH} columns in the lines {wide}"
-        torn = torn_tables(lines)
-        yield not torn, f"{page}: tables whose rows are joined or indented, in the lines {torn}"
-        refused = list(refused_words(page, lines, wording))
-        yield not refused, "words to avoid:\n  " + "\n  ".join(refused)
-    unused = list(wording.unused(pages))
-    yield not unused, f"{WORDING}: exceptions that nothing needs: {unused}"
-    for page, most in LINES_OF_A_PAGE.items():
-        yield len(pages[page]) <= most + 1, f"{page} has more than {most} lines"
+class Prose(unittest.TestCase):
+    """The pages are short, and their prose is as it should be."""
+
+    def test_widths(self):
+        """Lines are short, except in man pages."""
+        for page in all_pages():
+            with self.subTest(page):
+                self.assertEqual(wide_lines(lines_of(page)) if not page.endswith(".1") else [], [])
+
+    def test_tables(self):
+        """The rows of tables are neither joined nor indented."""
+        for page in all_pages():
+            with self.subTest(page):
+                self.assertEqual(torn_tables(lines_of(page)), [])
+
+    def test_words(self):
+        """There are no words to avoid."""
+        wording = Wording(lines_of(WORDING))
+        for page in all_pages():
+            with self.subTest(page):
+                self.assertEqual(list(refused_words(page, lines_of(page), wording)), [])
+
+    def test_exceptions(self):
+        """Each exception of the wording is needed."""
+        pages = {page: lines_of(page) for page in all_pages()}
+        self.assertEqual(list(Wording(lines_of(WORDING)).unused(pages)), [])
+
+    def test_lengths(self):
+        """Pages to be read in one go are short."""
+        for page, most in LINES_OF_A_PAGE.items():
+            with self.subTest(page):
+                self.assertLessEqual(len(lines_of(page)), most + 1)
+
+    def test_decisions(self):
+        """Each decision is an entry of a few lines, with a name for what was chosen."""
+        entries = decisions()
+        self.assertTrue(entries)
+        for number, lines in entries:
+            with self.subTest(f"{DECISIONS}:{number}"):
+                self.assertRegex(" ".join(it.strip() for it in lines), r"\A- \*\*[^*]+\*\*")
+                self.assertLessEqual(len(lines), LINES_OF_A_DECISION)
 
 
-# ---- the whole
-
-
-def checks():
-    """All checks, each with what to say where it fails."""
-    for page in WITH_COMMANDS:
-        yield len(blocks(page)) > 0, f"{page} has no command with its output"
-        yield from check_commands(page)
-        yield all_marked(page)
-    for page in all_pages():
-        yield from check_quotations(page)
-        yield from check_links(page)
-        yield from check_named_files(page)
-        yield from check_definitions(page)
-        yield from check_sources(page)
-    yield check_list_of_tests()
-    yield from check_decisions()
-    yield from check_prose()
-
-
-def main():
-    passed = failed = 0
-    for holds, words in checks():
-        passed += holds
-        failed += not holds
-        if not holds:
-            print(f"failed: {words}")
-    print(f"{passed} passed, {failed} failed")
-    return 1 if failed else 0
-
-
-sys.exit(main())
+if __name__ == "__main__":
+    runner.main()
