@@ -3,7 +3,9 @@
 
 Most runs start the program itself; some start the start script. shared/terminals.py has the
 terminal and the scripts that runs follow.
-PTB names another program than the one that ./ptb builds. The last line is 'N passed, M failed'.
+
+The last line is 'N passed, M failed'. Arguments name parts of tests, as Ends or rlwrap; without
+any, all are run. PTB names another program than the one that ./ptb builds.
 """
 
 import os
@@ -15,12 +17,14 @@ import subprocess
 import sys
 import tempfile
 import time
+import unittest
 from pathlib import Path
 from typing import NamedTuple
 
 ROOT = Path(__file__).resolve().parent.parent
 sys.dont_write_bytecode = True
 sys.path.insert(0, str(ROOT / "tests/shared"))
+import runner
 from terminals import BACKSPACE, CTRL_C, CTRL_D, ENTER, ERRORS, INPUT, OUTPUT, Run, Terminal
 from terminals import due_of, echo, on_screen, run, screen, transcript_of
 
@@ -38,45 +42,7 @@ NO_ANSWER = (
 BAD_ANSWER = "ptb: one of the --answers is greater than its question allows; change it\n"
 
 
-# ---- checks
-
-
-class Checks:
-    """Counts the checks that hold of a program and of its start script."""
-
-    def __init__(self, folder):
-        self.folder = folder
-        self.program, self.start = programs(folder)
-        self.passed = self.failed = 0
-
-    def same(self, name, found, due):
-        if found == due:
-            self.passed += 1
-            return
-        self.failed += 1
-        print(f"failed: {name}\n    found {found}\n    due   {due}", flush=True)
-
-    def file(self, name, text):
-        path = self.folder / name
-        path.write_text(text)
-        return str(path)
-
-    def run(self, name, arguments, script, status=0, files=None):
-        """Checks that the program follows this script and then ends with this status."""
-        self.run_of(self.program, name, arguments, script, status, files)
-
-    def run_of_start(self, name, arguments, script, status=0):
-        self.run_of(self.start, f"the start script: {name}", arguments, script, status, None)
-
-    def run_of(self, program, name, arguments, script, status, files):
-        found = run([program, *arguments], script, files or {})
-        self.same(name, found, Run(due_of(script), status))
-
-    def run_to_file(self, name, arguments, script, status, stream, text):
-        """The same where this stream is a file, which must then have this text."""
-        path = self.file(f"stream{stream}", "")
-        self.run(name, arguments, script, status, {stream: path})
-        self.same(f"{name}: the file", Path(path).read_text(), text)
+# ---- the program and its start script
 
 
 def programs(folder):
@@ -93,6 +59,48 @@ def programs(folder):
     program = folder / "crates/ptb/out/ptb"
     shutil.copy(os.environ["PTB"], program)
     return str(program), str(folder / "ptb")
+
+
+class AtTerminal(unittest.TestCase):
+    """What tests need: the program, its start script, a folder for files, and checks of runs."""
+
+    maxDiff = None
+
+    @classmethod
+    def setUpClass(cls):
+        folder = tempfile.TemporaryDirectory()
+        cls.addClassCleanup(folder.cleanup)
+        cls.folder = Path(folder.name)
+        cls.program, cls.start = programs(cls.folder)
+
+    def file(self, name, text):
+        """Writes a file of the folder, and gives its path."""
+        path = self.folder / name
+        path.write_text(text)
+        return str(path)
+
+    def check_run(self, name, arguments, script, status=0, files=None):
+        """Checks that the program follows this script and then ends with this status."""
+        self.check_run_of(self.program, name, arguments, script, status, files)
+
+    def check_run_of_start(self, name, arguments, script, status=0):
+        self.check_run_of(self.start, name, arguments, script, status, None)
+
+    def check_run_of(self, program, name, arguments, script, status, files):
+        with self.subTest(name):
+            found = run([program, *arguments], script, files or {})
+            self.assert_same(found, Run(due_of(script), status))
+
+    def check_run_to_file(self, name, arguments, script, status, stream, text):
+        """The same where this stream is a file, which must then have this text."""
+        path = self.file(f"stream{stream}", "")
+        self.check_run(name, arguments, script, status, {stream: path})
+        with self.subTest(f"{name}: the file"):
+            self.assertEqual(Path(path).read_text(), text)
+
+    def assert_same(self, found, due):
+        """Compares runs, and shows what is different line by line."""
+        self.assertEqual(vars(found), vars(due))
 
 
 # ---- typed lines
@@ -122,12 +130,6 @@ def example(name):
     return ["--answers", listed, str(path)], lines, path.with_suffix(".transcript").read_text()
 
 
-def check_examples(checks):
-    for path in sorted(EXAMPLES.glob("*.bas")):
-        arguments, lines, transcript = example(path.stem)
-        checks.run(f"the example {path.stem}", arguments, script_of(transcript, lines))
-
-
 AFTER_BLOCK = """\
 TOO LOW
 YOUR GUESS:TOO HIGH
@@ -135,22 +137,6 @@ YOUR GUESS:WHAT?
 YOUR GUESS:TOO LOW
 YOUR GUESS:RIGHT, AFTER  4 GUESSES.
 """
-
-
-def check_streams(checks):
-    """The example guess, with lines that come ahead, and with streams that are files."""
-    arguments, lines, transcript = example("guess")
-    script = script_of(transcript, lines)
-    block = "".join(line + ENTER for line in lines)
-    asked = transcript[: transcript.index(lines[0])]
-    text = checks.file("lines", "".join(line + "\n" for line in lines))
-    checks.run("lines typed ahead", arguments, ["", block, asked + AFTER_BLOCK])
-    checks.run("a pasted block of lines", arguments, [asked, block, AFTER_BLOCK])
-    checks.run("input from a file", arguments, [transcript], files={INPUT: text})
-    checks.run_to_file("output to a file", arguments, ["", block, ""], 0, OUTPUT, transcript)
-    checks.run_to_file("errors to a file", arguments, script, 0, ERRORS, "")
-
-
 ONE = "10 INPUT A;P.A\n"
 TWO = "10 INPUT A,B;P.A,B\n"
 LINES = [
@@ -169,28 +155,55 @@ LINES = [
 ]
 
 
-def check_lines(checks):
-    for name, program, script in LINES:
-        checks.run(name, ["--answers", "none", checks.file("lines.bas", program)], script)
-    two = checks.file("two.bas", TWO)
-    chosen = ["A:", "5\r", "B:", CTRL_D, "6\n     5     6\n"]
-    checks.run("an answer after a line", ["--choose", "8", "--answers", "6", two], chosen)
-    report = "RUN none END 2 21\nA:5\nB:6\n     5     6\n\n"
-    checks.run("all runs", ["--all", two], ["", "5\r6\r" + CTRL_D, report])
+class Lines(AtTerminal):
+    """Lines that are typed while a program runs."""
 
+    def test_examples(self):
+        for path in sorted(EXAMPLES.glob("*.bas")):
+            arguments, lines, transcript = example(path.stem)
+            self.check_run(f"the example {path.stem}", arguments, script_of(transcript, lines))
 
-def check_interrupts(checks):
-    arguments = ["--answers", "none", checks.file("one.bas", ONE)]
-    checks.run("Ctrl-C at a prompt", arguments, ["A:", "5", "", CTRL_C, ""], -signal.SIGINT)
-    loop = checks.file("loop.bas", "10 INPUT A\n20 GOTO 20\n")
-    terminal = Terminal([checks.program, "--answers", "none", "--steps", "1000000000", loop], {})
-    terminal.type("5" + ENTER)
-    terminal.resume()
-    terminal.read_until(lambda: b"A:" in terminal.shown)
-    time.sleep(0.1)
-    terminal.type(CTRL_C)
-    found = Run(b"", terminal.end(), terminal.keeps_settings)
-    checks.same("Ctrl-C in a loop", found, Run(b"", -signal.SIGINT))
+    def test_streams(self):
+        """The example guess, with lines that come ahead, and with streams that are files."""
+        arguments, lines, transcript = example("guess")
+        script = script_of(transcript, lines)
+        block = "".join(line + ENTER for line in lines)
+        asked = transcript[: transcript.index(lines[0])]
+        text = self.file("lines", "".join(line + "\n" for line in lines))
+        self.check_run("lines typed ahead", arguments, ["", block, asked + AFTER_BLOCK])
+        self.check_run("a pasted block of lines", arguments, [asked, block, AFTER_BLOCK])
+        self.check_run("input from a file", arguments, [transcript], files={INPUT: text})
+        ahead = ["", block, ""]
+        self.check_run_to_file("output to a file", arguments, ahead, 0, OUTPUT, transcript)
+        self.check_run_to_file("errors to a file", arguments, script, 0, ERRORS, "")
+
+    def test_lines(self):
+        for name, program, script in LINES:
+            path = self.file("lines.bas", program)
+            self.check_run(name, ["--answers", "none", path], script)
+
+    def test_lines_and_answers(self):
+        two = self.file("two.bas", TWO)
+        chosen = ["A:", "5\r", "B:", CTRL_D, "6\n     5     6\n"]
+        self.check_run("after a line", ["--choose", "8", "--answers", "6", two], chosen)
+        report = "RUN none END 2 21\nA:5\nB:6\n     5     6\n\n"
+        self.check_run("all runs", ["--all", two], ["", "5\r6\r" + CTRL_D, report])
+
+    def test_interrupt_at_prompt(self):
+        arguments = ["--answers", "none", self.file("one.bas", ONE)]
+        self.check_run("Ctrl-C", arguments, ["A:", "5", "", CTRL_C, ""], -signal.SIGINT)
+
+    def test_interrupt_in_loop(self):
+        loop = self.file("loop.bas", "10 INPUT A\n20 GOTO 20\n")
+        arguments = ["--answers", "none", "--steps", "1000000000", loop]
+        terminal = Terminal([self.program, *arguments], {})
+        terminal.type("5" + ENTER)
+        terminal.resume()
+        terminal.read_until(lambda: b"A:" in terminal.shown)
+        time.sleep(0.1)
+        terminal.type(CTRL_C)
+        found = Run(b"", terminal.end(), terminal.keeps_settings)
+        self.assert_same(found, Run(b"", -signal.SIGINT))
 
 
 # ---- why a run ended
@@ -242,21 +255,24 @@ ENDS = {
 }
 
 
-def check_ends(checks):
-    for name, (program, options, script, status, why) in ENDS.items():
-        arguments = [*options.split(), checks.file("ends.bas", program)]
-        checks.run(name, arguments, [*script[:-1], script[-1] + why], status)
-        checks.run_to_file(f"{name}, errors to a file", arguments, script, status, ERRORS, "")
-        ahead, text = ["", "".join(script[1::2]), ""], transcript_of(script)
-        checks.run_to_file(f"{name}, output to a file", arguments, ahead, status, OUTPUT, text)
+class Ends(AtTerminal):
+    """What is said of why a run ended."""
 
+    def test_ends(self):
+        for name, (program, options, script, status, why) in ENDS.items():
+            arguments = [*options.split(), self.file("ends.bas", program)]
+            self.check_run(name, arguments, [*script[:-1], script[-1] + why], status)
+            errors, output = f"{name}, errors to a file", f"{name}, output to a file"
+            self.check_run_to_file(errors, arguments, script, status, ERRORS, "")
+            ahead, text = ["", "".join(script[1::2]), ""], transcript_of(script)
+            self.check_run_to_file(output, arguments, ahead, status, OUTPUT, text)
 
-def check_ends_without_input(checks):
-    """What is said where standard input is a file: it has the lines, or the program."""
-    one, empty = checks.file("one.bas", ONE), checks.file("empty", "")
-    no_line, no_input = ["A:\n" + NO_LINE], ["A:\n" + NO_INPUT]
-    checks.run("NOINPUT of a file with lines", [one], no_line, 5, {INPUT: empty})
-    checks.run("NOINPUT of a file with the program", [], no_input, 5, {INPUT: one})
+    def test_input_from_file(self):
+        """Standard input is a file that has the lines, or the program."""
+        one, empty = self.file("one.bas", ONE), self.file("empty", "")
+        no_line, no_input = ["A:\n" + NO_LINE], ["A:\n" + NO_INPUT]
+        self.check_run("NOINPUT of a file with lines", [one], no_line, 5, {INPUT: empty})
+        self.check_run("NOINPUT of a file with the program", [], no_input, 5, {INPUT: one})
 
 
 # ---- programs that are typed
@@ -271,14 +287,21 @@ TYPED_PROGRAMS = [
 ]
 
 
-def check_typed_programs(checks):
-    for name, options, script, status in TYPED_PROGRAMS:
-        script = [READING, *script[1:]]
-        checks.run(f"a typed program: {name}", options.split(), script, status)
-    errors, output = "a typed program, errors to a file", "a typed program, output to a file"
-    checks.run_to_file(errors, NONE.split(), HI, 0, ERRORS, READING)
-    checks.run_to_file(output, NONE.split(), [READING, HI[1], ""], 0, OUTPUT, "HI\n")
-    checks.run("no program is read", ["--after", "1"], ["ptb: --after needs --all\n"], 64)
+class TypedPrograms(AtTerminal):
+    """Programs that are typed at the terminal."""
+
+    def test_typed(self):
+        for name, options, script, status in TYPED_PROGRAMS:
+            self.check_run(name, options.split(), [READING, *script[1:]], status)
+
+    def test_files(self):
+        arguments, script = NONE.split(), [READING, HI[1], ""]
+        self.check_run_to_file("errors to a file", arguments, HI, 0, ERRORS, READING)
+        self.check_run_to_file("output to a file", arguments, script, 0, OUTPUT, "HI\n")
+
+    def test_usage_error(self):
+        """No program is read."""
+        self.check_run("no --all", ["--after", "1"], ["ptb: --after needs --all\n"], 64)
 
 
 # ---- dice
@@ -288,65 +311,89 @@ DIE = "10 P.#1,RND(1)\n"
 SEED = re.compile(rb"ptb: seed (0|[1-9][0-9]{0,5})\r?\n")
 
 
-def seed_of_game(checks, program, game):
-    """Plays the game without options, and again with the seed that is said; gives the seed."""
-    terminal = Terminal([program, game], {})
-    terminal.resume()
-    terminal.read_until(lambda: terminal.shown.endswith(b"A:"))
-    terminal.type("5" + ENTER)
-    status = terminal.end()
-    said = SEED.match(terminal.shown)
-    if not said:
-        checks.same("a seed is said", terminal.shown, SEED.pattern)
-        return 0
-    arguments = [checks.program, "--seed", said[1].decode(), game]
-    again = subprocess.run(arguments, input="5\n", capture_output=True, text=True, check=False)
-    shown = terminal.shown[said.end() :], status
-    checks.same("the seed that is said", shown, (on_screen(again.stdout), again.returncode))
-    return int(said[1])
+class Dice(AtTerminal):
+    """A seed is drawn and said where standard input and output are terminals, and nowhere else."""
+
+    def check_game(self, program):
+        """Plays a game without options, and again with the seed that is said; gives the seed."""
+        game = self.file("game.bas", GAME)
+        terminal = Terminal([program, game], {})
+        terminal.resume()
+        terminal.read_until(lambda: terminal.shown.endswith(b"A:"))
+        terminal.type("5" + ENTER)
+        status = terminal.end()
+        said = SEED.match(terminal.shown)
+        with self.subTest("the seed that is said"):
+            self.assertTrue(said, terminal.shown)
+            arguments = [self.program, "--seed", said[1].decode(), game]
+            again = subprocess.run(arguments, input=b"5\n", capture_output=True, check=False)
+            due = on_screen(again.stdout.decode()), again.returncode
+            self.assertEqual((terminal.shown[said.end() :], status), due)
+        return int(said[1]) if said else 0
+
+    def seeds_of_games(self):
+        for _ in range(4):
+            yield self.check_game(self.program)
+            time.sleep(0.02)
+
+    def test_games(self):
+        seeds = list(self.seeds_of_games())
+        with self.subTest("each game has a seed of its own"):
+            self.assertEqual(len(set(seeds)), len(seeds), seeds)
+        with self.subTest("seeds from 0 to 999999, not 9999"):
+            self.assertGreater(max(seeds), 9999)
+
+    def test_game_of_start_script(self):
+        self.check_game(self.start)
+
+    def test_files(self):
+        die, empty = self.file("die.bas", DIE), self.file("empty", "")
+        errors = Path(self.file("errors", ""))
+        self.check_run("a seed is said in a file", [die], ["1\n"], files={ERRORS: errors})
+        with self.subTest("nothing but a seed"):
+            self.assertRegex(errors.read_bytes(), rb"\A" + SEED.pattern + rb"\Z")
+        self.check_run("a seed is given", ["--seed", "7", die], ["1\n"])
+        self.check_run("no seed for a file with lines", [die], [NO_ANSWER], 6, {INPUT: empty})
+        self.check_run_to_file("no seed for output to a file", [die], [""], 6, OUTPUT, "")
+
+    def test_typed_program(self):
+        """A seed is said, before the program is typed or after that."""
+        terminal = Terminal([self.program], {})
+        terminal.resume()
+        terminal.read_until(lambda: on_screen(READING) in terminal.shown)
+        terminal.type("10 P.#1,RND(1)" + ENTER + CTRL_D)
+        status = terminal.end()
+        shown, seeds = SEED.subn(b"", terminal.shown)
+        found = Run(shown, status, terminal.keeps_settings)
+        self.assert_same(found, Run(on_screen(READING + DIE + "1\n"), 0))
+        self.assertEqual(seeds, 1, terminal.shown)
 
 
-def seeds_of_games(checks):
-    game = checks.file("game.bas", GAME)
-    for _ in range(4):
-        yield seed_of_game(checks, checks.program, game)
-        time.sleep(0.02)
+# ---- streams that are other devices
 
 
-def check_dice(checks):
-    seeds = list(seeds_of_games(checks))
-    checks.same("each game has a seed of its own", len(set(seeds)), len(seeds))
-    checks.same("seeds from 0 to 999999, not 9999", max(seeds) > 9999, True)
-    die, empty = checks.file("die.bas", DIE), checks.file("empty", "")
-    errors = Path(checks.file("errors", ""))
-    checks.run("a seed is said in a file", [die], ["1\n"], files={ERRORS: errors})
-    checks.same("nothing but a seed", bool(SEED.fullmatch(errors.read_bytes())), True)
-    checks.run("a seed is given", ["--seed", "7", die], ["1\n"])
-    checks.run("no seed for a file with lines", [die], [NO_ANSWER], 6, {INPUT: empty})
-    checks.run_to_file("no seed for output to a file", [die], [""], 6, OUTPUT, "")
+class Devices(AtTerminal):
+    """A standard stream is another terminal, or a device that is none."""
 
+    def test_second_terminal(self):
+        """Standard error is another terminal: what is said is shown there alone."""
+        loop = self.file("loop.bas", '10 P."X",;GOTO 10\n')
+        master, slave = pty.openpty()
+        arguments, files = [*STEPS.split(), loop], {ERRORS: os.ttyname(slave)}
+        self.check_run("errors to another terminal", arguments, ["XX"], 4, files)
+        os.close(slave)
+        with self.subTest("what is said there"):
+            self.assertEqual(all_of(master), on_screen("\n" + LIMIT % (10, 3)))
 
-def check_dice_of_typed_program(checks):
-    """A seed is said, before the program is typed or after that."""
-    terminal = Terminal([checks.program], {})
-    terminal.resume()
-    terminal.read_until(lambda: on_screen(READING) in terminal.shown)
-    terminal.type("10 P.#1,RND(1)" + ENTER + CTRL_D)
-    status = terminal.end()
-    shown, seeds = SEED.subn(b"", terminal.shown)
-    found = Run(shown, status, terminal.keeps_settings)
-    due = Run(on_screen(READING + DIE + "1\n"), 0)
-    checks.same("a typed program with dice", (found, seeds), (due, 1))
-
-
-def check_second_terminal(checks):
-    """Standard error is another terminal: what is said is shown there alone."""
-    loop = checks.file("loop.bas", '10 P."X",;GOTO 10\n')
-    master, slave = pty.openpty()
-    arguments, files = [*STEPS.split(), loop], {ERRORS: os.ttyname(slave)}
-    checks.run("errors to another terminal", arguments, ["XX"], 4, files)
-    os.close(slave)
-    checks.same("what is said there", all_of(master), on_screen("\n" + LIMIT % (10, 3)))
+    def test_null_device(self):
+        """The null device is a character device as a terminal is, and is no terminal."""
+        die, one = self.file("die.bas", DIE), self.file("one.bas", ONE)
+        no_input, no_line = {INPUT: os.devnull}, ["A:\n" + NO_LINE]
+        self.check_run("the null device as the program", NONE.split(), [""], 0, no_input)
+        self.check_run("input from it: no dice", [die], [NO_ANSWER], 6, no_input)
+        self.check_run("input from it: no line", [one], no_line, 5, no_input)
+        self.check_run("output to it", [die], [""], 6, {OUTPUT: os.devnull})
+        self.check_run("errors to it", [*NONE.split(), die], [""], 6, {ERRORS: os.devnull})
 
 
 def all_of(master):
@@ -360,76 +407,49 @@ def all_of(master):
     return shown
 
 
-def check_null_device(checks):
-    """The null device is a character device as a terminal is, and is no terminal."""
-    die, one = checks.file("die.bas", DIE), checks.file("one.bas", ONE)
-    no_input, no_line = {INPUT: os.devnull}, ["A:\n" + NO_LINE]
-    checks.run("the null device as the program", NONE.split(), [""], 0, no_input)
-    checks.run("input from the null device: no dice", [die], [NO_ANSWER], 6, no_input)
-    checks.run("input from the null device: no line", [one], no_line, 5, no_input)
-    checks.run("output to the null device", [die], [""], 6, {OUTPUT: os.devnull})
-    checks.run("errors to the null device", [*NONE.split(), die], [""], 6, {ERRORS: os.devnull})
-
-
 # ---- other ways to start
 
 
-def check_start(checks):
-    arguments, lines, transcript = example("guess")
-    checks.run_of_start("an example", arguments, script_of(transcript, lines))
-    one = [*NONE.split(), checks.file("a game.bas", ONE)]
-    checks.run_of_start("Ctrl-C", one, ["A:", "5", "", CTRL_C, ""], -signal.SIGINT)
-    checks.run_of_start("Ctrl-D", one, ["A:", CTRL_D, "\n" + NO_LINE], 5)
-    checks.run_of_start("a typed program", NONE.split(), [READING, *HI[1:]])
-    seed_of_game(checks, checks.start, checks.file("game.bas", GAME))
-    terminal = Terminal([checks.start, *one], {})
-    terminal.resume()
-    terminal.shows(b"A:")
-    running = Path(f"/proc/{terminal.process}/exe")
-    found = str(running.readlink()) if running.exists() else None
-    checks.same("the start script gives way to the program", found, checks.program)
-    os.kill(terminal.process, signal.SIGKILL)
-    terminal.end()
+class Starts(AtTerminal):
+    """The program is started by the start script, and by rlwrap."""
 
+    def setUp(self):
+        self.one = [*NONE.split(), self.file("a game.bas", ONE)]
 
-def check_rlwrap(checks):
-    """rlwrap edits a line itself and hands it on by a terminal of its own."""
-    if not shutil.which("rlwrap"):
-        print("not tried: rlwrap is not installed")
-        return
-    arguments, lines, transcript = example("guess")
-    terminal = Terminal(["env", "TERM=dumb", "rlwrap", "-n", checks.program, *arguments], {})
-    terminal.resume()
-    due = ""
-    script = script_of(transcript, lines)
-    for shown, keys in zip(script[::2], script[1::2]):
-        due += shown
-        terminal.read_until(lambda due=due: screen(terminal.shown) == due)
-        terminal.type(keys)
-        due += screen(echo(keys))
-    status = terminal.end()
-    checks.same("rlwrap", (screen(terminal.shown), status), (transcript, 0))
+    def test_start_script(self):
+        arguments, lines, transcript = example("guess")
+        self.check_run_of_start("an example", arguments, script_of(transcript, lines))
+        self.check_run_of_start("Ctrl-C", self.one, ["A:", "5", "", CTRL_C, ""], -signal.SIGINT)
+        self.check_run_of_start("Ctrl-D", self.one, ["A:", CTRL_D, "\n" + NO_LINE], 5)
+        self.check_run_of_start("a typed program", NONE.split(), [READING, *HI[1:]])
 
+    def test_process(self):
+        """The start script gives way to the program."""
+        terminal = Terminal([self.start, *self.one], {})
+        terminal.resume()
+        terminal.shows(b"A:")
+        running = Path(f"/proc/{terminal.process}/exe")
+        found = str(running.readlink()) if running.exists() else None
+        os.kill(terminal.process, signal.SIGKILL)
+        terminal.end()
+        self.assertEqual(found, self.program)
 
-def main():
-    with tempfile.TemporaryDirectory() as folder:
-        checks = Checks(Path(folder))
-        check_examples(checks)
-        check_streams(checks)
-        check_lines(checks)
-        check_interrupts(checks)
-        check_ends(checks)
-        check_ends_without_input(checks)
-        check_typed_programs(checks)
-        check_dice(checks)
-        check_dice_of_typed_program(checks)
-        check_second_terminal(checks)
-        check_null_device(checks)
-        check_start(checks)
-        check_rlwrap(checks)
-    print(f"{checks.passed} passed, {checks.failed} failed")
-    return 1 if checks.failed else 0
+    @unittest.skipUnless(shutil.which("rlwrap"), "rlwrap is not installed")
+    def test_rlwrap(self):
+        """rlwrap edits a line itself and hands it on by a terminal of its own."""
+        arguments, lines, transcript = example("guess")
+        terminal = Terminal(["env", "TERM=dumb", "rlwrap", "-n", self.program, *arguments], {})
+        terminal.resume()
+        due = ""
+        script = script_of(transcript, lines)
+        for shown, keys in zip(script[::2], script[1::2]):
+            due += shown
+            terminal.read_until(lambda due=due: screen(terminal.shown) == due)
+            terminal.type(keys)
+            due += screen(echo(keys))
+        status = terminal.end()
+        self.assertEqual((screen(terminal.shown), status), (transcript, 0))
 
 
 if __name__ == "__main__":
-    sys.exit(main())
+    runner.main()
