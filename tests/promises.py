@@ -102,10 +102,18 @@ class Page(unittest.TestCase):
     def setUpClass(cls):
         cls.sources = Sources()
         cls.page = PAGE.read_text()
-        cls.rows = list(rows_of(cls.page))
-        cls.crates = [row for row in cls.rows if CODE.fullmatch(row[0])]
-        cls.mistakes = [row for row in cls.rows if row not in cls.crates and EDITS.search(row[1])]
-        cls.promises = [row for row in cls.rows if row not in cls.crates and row not in cls.mistakes]
+        cls.crates, cls.mistakes, cls.promises, cls.malformed = [], [], [], []
+        for row in rows_of(cls.page):
+            cls.rows_like(row).append(row)
+
+    @classmethod
+    def rows_like(cls, row):
+        """The rows of the kind of this one."""
+        if len(row) != 3:
+            return cls.malformed
+        if CODE.fullmatch(row[0]):
+            return cls.crates
+        return cls.mistakes if EDITS.search(row[1]) else cls.promises
 
     def holds(self, condition, complaint):
         """A check of its own, so that the others are made even if it fails."""
@@ -115,7 +123,7 @@ class Page(unittest.TestCase):
     def test_tables(self):
         """There are rows of each kind, and each has three cells."""
         self.assertTrue(self.crates and self.mistakes and self.promises)
-        self.assertEqual([row for row in self.rows if len(row) != 3], [])
+        self.assertEqual(self.malformed, [])
 
     def test_public_functions(self):
         """Each public function of the libraries is on the page."""
