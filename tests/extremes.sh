@@ -4,7 +4,6 @@
 # seed, the least memory, many arguments, and unusual names of programs. Two of the runs begin 1,000,000,000 commands,
 # so it takes as long as these do.
 # PTB names another program than the one that ./ptb builds.
-set -u
-root=$(dirname "$(dirname "$(readlink -f "$0")")")
+. "$(dirname "$(readlink -f "$0")")/shared/head.sh"
 . "$root/tests/shared/built.sh"
-PYTHONPATH=$root/tests/shared exec python3 -B "$root/tests/extremes/main.py" "$PTB"
+PYTHONPATH=$root/tests/shared python3 -B "$root/tests/extremes/main.py" "$PTB"

@@ -18,11 +18,8 @@
 # that is missing is proved and built here.
 #
 # PTB names another program than the one that ./ptb builds. CC names the C compiler; without it the one of the kit serves.
-set -u
-root=$(dirname "$(dirname "$(readlink -f "$0")")")
+. "$(dirname "$(readlink -f "$0")")/shared/head.sh"
 . "$root/tests/shared/built.sh"
-folder=$(mktemp -d)
-trap 'rm -rf "$folder"' EXIT
 
 # Makes the library that strikes calls of the program.
 compiled() {

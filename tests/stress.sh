@@ -5,7 +5,6 @@
 # What is tried depends on SEED and the number of programs, 12 a second if it isn't given; SECONDS is a bound on the time.
 # With --only K program K is tried by itself. With --self-test spoiled programs are tried, each of which must be found.
 # PTB names another program than the one that ./ptb builds.
-set -u
-root=$(dirname "$(dirname "$(readlink -f "$0")")")
+. "$(dirname "$(readlink -f "$0")")/shared/head.sh"
 . "$root/tests/shared/built.sh"
-PYTHONPATH=$root/tests/shared exec python3 -B "$root/tests/stress/main.py" "$PTB" "$@"
+PYTHONPATH=$root/tests/shared python3 -B "$root/tests/stress/main.py" "$PTB" "$@"
