@@ -1,21 +1,18 @@
 #!/bin/bash
 # Runs all tests of the built program, one script after the other. The last line is the sum of theirs.
 # PTB names another program than the one that ./ptb builds.
-set -u
-tests=$(dirname "$(readlink -f "$0")")
-said=$(mktemp)
-trap 'rm -f "$said"' EXIT
-passed=0
-failed=0
+. "$(dirname "$(readlink -f "$0")")/shared/head.sh"
 
-# tried SCRIPT WORDS..: runs a script, and adds what it counts. One that ends without a count is a failure.
+# tried SCRIPT ARGUMENT..: runs a script, and adds what it counts. One that ends without a count, or with a status that does
+# not fit its count, is a failure.
 tried() {
-    local name=$1 last
+    local name=$1 last status
     shift
     echo "== $name"
-    "$tests/$name" "$@" | tee "$said"
-    last=$(tail -n 1 "$said")
-    if [[ $last =~ ^([0-9]+)\ passed,\ ([0-9]+)\ failed$ ]]; then
+    "$root/tests/$name" "$@" | tee "$folder/said"
+    status=${PIPESTATUS[0]}
+    last=$(tail -n 1 "$folder/said")
+    if [[ $last =~ ^([0-9]+)\ passed,\ ([0-9]+)\ failed$ ]] && [ "$status" = $((BASH_REMATCH[2] > 0)) ]; then
         passed=$((passed + BASH_REMATCH[1]))
         failed=$((failed + BASH_REMATCH[2]))
     else
@@ -40,5 +37,4 @@ tried refusals.sh
 tried extremes.sh
 tried stress.sh 1 30
 
-echo "$passed passed, $failed failed"
-[ "$failed" = 0 ]
+conclude
