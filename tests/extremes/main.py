@@ -4,12 +4,14 @@ import functools
 import multiprocessing
 import os
 import resource
-import sys
 import tempfile
 import time
+import unittest
 
+import runner
 from cases import cases
 from replies import Reply, replied
+from stage import PTB
 
 STACK = 256 * 1024
 SECONDS_OF_A_RUN = 300
@@ -35,9 +37,8 @@ def replied_in_small_stack(words, stdin, folder=None):
         return Reply(f"not started: {error}", b"", b"")
 
 
-def tried(task):
+def tried(number):
     """Runs a case by its number: its reply where that isn't due, and how long it took."""
-    ptb, number = task
     case = CASES[number]
     with tempfile.TemporaryDirectory(prefix="ptb-extremes-") as folder:
         program = os.path.join(folder, case.file)
@@ -46,7 +47,7 @@ def tried(task):
             if text is not None:
                 with open(path, "wb") as file:
                     file.write(text)
-        words = [ptb, *case.words, *([] if case.input is None else [case.file])]
+        words = [PTB, *case.words, *([] if case.input is None else [case.file])]
         began = time.monotonic()
         with open(stdin, "rb") as file:
             reply = replied_in_small_stack(words, file, folder)
@@ -66,29 +67,25 @@ def told(reply, due):
     )
 
 
-def has_small_stack():
-    """Whether the stack of what is run here is as small as it is to be."""
-    with open(os.devnull, "rb") as nothing:
-        return replied_in_small_stack(["/bin/sh", "-c", "ulimit -s"], nothing).output == b"256\n"
+class Extremes(unittest.TestCase):
+    """The runs at the ends of the ranges."""
 
+    def test_stack(self):
+        """The stack of what is run here is as small as it is to be."""
+        with open(os.devnull, "rb") as nothing:
+            reply = replied_in_small_stack(["/bin/sh", "-c", "ulimit -s"], nothing)
+        self.assertEqual(reply.output, b"256\n")
 
-def main():
-    ptb = os.path.abspath(sys.argv[1])
-    passed = failed = 0
-    if not has_small_stack():
-        print("failed: the stack is not limited")
-        failed += 1
-    with multiprocessing.get_context("fork").Pool() as pool:
-        results = pool.map(tried, [(ptb, number) for number in range(len(CASES))], chunksize=1)
-    for case, (fault, _) in zip(CASES, results):
-        if fault:
-            print(f"failed: {case.name}: {fault}")
-        passed, failed = passed + (not fault), failed + bool(fault)
-    seconds, name = max((seconds, case.name) for case, (_, seconds) in zip(CASES, results))
-    print(f"the longest run, {name}, took {seconds:.1f} seconds")
-    print(f"{passed} passed, {failed} failed")
-    return failed == 0
+    def test_cases(self):
+        """Each run has the reply that is due."""
+        with multiprocessing.get_context("fork").Pool() as pool:
+            results = pool.map(tried, range(len(CASES)), chunksize=1)
+        for case, (fault, _) in zip(CASES, results):
+            with self.subTest(case.name):
+                self.assertIsNone(fault)
+        seconds, name = max((seconds, case.name) for case, (_, seconds) in zip(CASES, results))
+        print(f"the longest run, {name}, took {seconds:.1f} seconds")
 
 
 if __name__ == "__main__":
-    sys.exit(0 if main() else 1)
+    runner.main()
