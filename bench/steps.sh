@@ -1,9 +1,9 @@
 #!/bin/bash
-# Times loops in ptb, and in Lua 5.4, yabasic and bwbasic where they are installed: bench/steps.sh [SERIES]
+# Times loops in ptb, and in Lua 5.4 and yabasic where they are installed: bench/steps.sh [SERIES]
 #
 # Each loop of bench/steps/ does the same work in each of them, and all must print the same number at its end. They run in turn, ten times or as
 # often as SERIES says. A row has ptb's commands and the middle of its times; for each of the others the middle of its times, and how
-# many times ptb's that is. bwbasic does one round in place of all, and its time is multiplied.
+# many times ptb's that is.
 set -eu
 bench=$(dirname "$(readlink -f "$0")")
 program=$bench/../crates/ptb/out/ptb
@@ -17,7 +17,7 @@ loops() {
     cat <<'LOOPS'
 sum 200 a sum and a jump
 let_if_goto 100 LET, IF and GOTO
-let_next 300 LET and NEXT
+let_next 300 LET and NEXT, with three operators
 nested_for 600 nested FOR
 gosub 100 GOSUB and RETURN
 expression 80 two long expressions
@@ -28,7 +28,7 @@ LOOPS
 }
 
 others() {
-    for other in lua5.4 yabasic bwbasic; do
+    for other in lua5.4 yabasic; do
         if command -v "$other" >/dev/null; then echo "$other"; fi
     done
 }
@@ -39,7 +39,6 @@ kind() {
     ptb) echo bas ;;
     lua5.4) echo lua ;;
     yabasic) echo yab ;;
-    bwbasic) echo bwb ;;
     esac
 }
 
@@ -74,18 +73,16 @@ prepare() {
     for other in ptb $(others); do
         file=$bench/steps/$1.$(kind "$other")
         [ -f "$file" ] || continue
-        if [ "$other" = bwbasic ]; then sed 's/ROUNDS/1/' "$file"; else sed "s/ROUNDS/$2/" "$file"; fi >"$room/program.$(kind "$other")"
+        sed "s/ROUNDS/$2/" "$file" >"$room/program.$(kind "$other")"
         : >"$room/times.$other"
         echo "$other"
     done
 }
 
-# cell OTHER ROUNDS MIDDLE: the time of another interpreter, and how many times ptb's it is
+# cell OTHER MIDDLE: the time of another interpreter, and how many times ptb's it is
 cell() {
-    local factor=1
-    if [ "$1" = bwbasic ]; then factor=$2; fi
-    awk -v name="$1" -v time="$(middle "$room/times.$1")" -v factor="$factor" -v own="$3" \
-        'BEGIN { printf ", %s %.0f ms (%.2f)", name, time * factor / 1000, time * factor / own }'
+    awk -v name="$1" -v time="$(middle "$room/times.$1")" -v own="$2" \
+        'BEGIN { printf ", %s %.0f ms (%.2f)", name, time / 1000, time / own }'
 }
 
 row() {
@@ -105,7 +102,7 @@ row() {
     own=$(middle "$room/times.ptb")
     printf '%s: %d commands, ptb %.0f ms' "$title" "$(commands "$room/program.bas")" "$(awk -v t="$own" 'BEGIN { print t / 1000 }')"
     for other in $interpreters; do
-        if [ "$other" != ptb ]; then cell "$other" "$rounds" "$own"; fi
+        if [ "$other" != ptb ]; then cell "$other" "$own"; fi
     done
     printf '\n'
 }
