@@ -1,6 +1,7 @@
 // This file gathers what a command shows, so that the screen gets it at once.
 
-ghost use Rattle.std.specs.Prelude.{◌≡◌, ◌↔◌, ◌≤◌, ◌+◌, ◌++◌, List, ℕ, [], length, IsTrue, IsFalse};
+ghost use Rattle.std.specs.Prelude.{◌≡◌, ◌↔◌, ◌≤◌, ◌+◌, ◌++◌, ◌∷◌, List, ℕ, [], length};
+ghost use Rattle.std.specs.Prelude.{IsTrue, IsFalse};
 ghost use Rattle.ptb_expr.specs.Store.{Cells};
 ghost use Rattle.ptb_command.specs.Actions.{goes_on, show as show_action};
 ghost use Rattle.ptb_command.specs.Devices.{Devices, screen_state, with_screen, nothing_refused};
@@ -9,7 +10,6 @@ ghost use Rattle.ptb_command.specs.Stops.{Comes};
 
 use crate::showing::show;
 use crate::stop::Stop;
-use arrayvec::ArrayVec;
 use ptb_devices::Screen;
 use std::marker::Model;
 
@@ -19,13 +19,18 @@ pub const GATHERING_LIMIT: usize = 512;
 /// What a command is to show, and hasn't shown yet. It takes no memory. Contracts see its bytes.
 #[derive(Drop)]
 pub struct Gathering {
-    bytes: ArrayVec<u8, GATHERING_LIMIT>,
+    bytes: [u8; GATHERING_LIMIT],
+    count: usize,
 }
 
 impl Model for Gathering {
+    ghost use Rattle.std.specs.Prelude.{◌≡◌, ◌≤◌, List, ℕ, take, length};
+
     ghost Value = { List ℕ };
 
-    ghost view = { λ g. g.bytes.items };
+    ghost view = { λ g. take g.count g.bytes };
+
+    ghost invariant = { λ g. (length g.bytes ≡ 512) × (g.count ≤ 512) };
 }
 
 impl Gathering {
@@ -34,7 +39,8 @@ impl Gathering {
         ensures { result ≡ [] }
     {
         Gathering {
-            bytes: ArrayVec::new(),
+            bytes: [0; GATHERING_LIMIT],
+            count: 0,
         }
     }
 
@@ -42,7 +48,51 @@ impl Gathering {
     pub fn as_slice(&self) -> &[u8]
         ensures { result.now ≡ self.now }
     {
-        self.bytes.as_slice()
+        &self.bytes[..self.count]
+    }
+
+    /// Takes what was gathered away.
+    #[inline(always)]
+    pub(crate) fn clear(&mut self)
+        ensures { self.new ≡ [] }
+    {
+        self.count = 0;
+    }
+
+    // How many bytes there is still room for.
+    #[inline(always)]
+    fn room(&self) -> usize
+        ensures { length self.now + result ≡ GATHERING_LIMIT }
+    {
+        GATHERING_LIMIT - self.count
+    }
+
+    // Takes a byte, if there is room for it. Whether there was.
+    #[inline(always)]
+    fn takes_byte(&mut self, byte: u8) -> bool
+        ensures taken { IsTrue result → self.new ≡ self.old ++ byte ∷ [] }
+        ensures full { IsFalse result → self.new ≡ self.old }
+        ensures room { IsTrue result ↔ (length self.old + 1 ≤ GATHERING_LIMIT) }
+    {
+        if self.room() == 0 {
+            return false;
+        }
+        self.bytes[self.count] = byte;
+        self.count += 1;
+        true
+    }
+
+    // Takes bytes for all of which there is room.
+    #[inline(always)]
+    fn append(&mut self, bytes: &[u8])
+        requires { length self.old + length bytes.now ≤ GATHERING_LIMIT }
+        ensures { self.new ≡ self.old ++ bytes.now }
+    {
+        let from = self.count;
+        let to = from + bytes.len();
+        let all = &mut self.bytes[..];
+        all[from..to].copy_from_slice(bytes);
+        self.count = to;
     }
 
     /// Takes bytes, if there is room for all of them. Whether there was.
@@ -52,11 +102,19 @@ impl Gathering {
         ensures full { IsFalse result → self.new ≡ self.old }
         ensures room { IsTrue result ↔ (length self.old + length bytes.now ≤ GATHERING_LIMIT) }
     {
-        // a byte alone, as many strings are, costs less than a call that copies it
-        if let [byte] = bytes {
-            return self.bytes.try_push(*byte).is_ok();
+        let room = self.room();
+        match bytes {
+            // no byte, or one, as most strings and prompts have, costs less than a call that copies it
+            [] => true,
+            [byte] => self.takes_byte(*byte),
+            _ => {
+                if bytes.len() > room {
+                    return false;
+                }
+                self.append(bytes);
+                true
+            }
         }
-        self.bytes.try_extend_from_slice(bytes).is_ok()
     }
 
     /// Takes bytes and others after them, if there is room for all of them. Whether there was.
@@ -67,11 +125,13 @@ impl Gathering {
         ensures room { IsTrue result ↔
             (length self.old + (length first.now + length second.now) ≤ GATHERING_LIMIT) }
     {
-        let room = self.bytes.remaining_capacity();
+        let room = self.room();
         if first.len() > room || second.len() > room - first.len() {
             return false;
         }
-        self.takes(first) && self.takes(second)
+        self.append(first);
+        self.append(second);
+        true
     }
 
     /// Shows what was gathered. Nothing is gathered then, also where the screen fails.
@@ -83,8 +143,8 @@ impl Gathering {
             (goes_on tt) goes_on result }
         ensures empty { self.new ≡ [] }
     {
-        let result = show(screen, fresh, self.bytes.as_slice());
-        self.bytes.clear();
+        let result = show(screen, fresh, self.as_slice());
+        self.clear();
         result
     }
 

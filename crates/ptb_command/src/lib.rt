@@ -34,6 +34,7 @@ mod translation;
 
 pub use command_code::CommandCode;
 pub use ending::Ending;
+pub use execution::print::Output;
 pub use gathering::{GATHERING_LIMIT, Gathering};
 pub use io::Io;
 pub use laws::command_laws;

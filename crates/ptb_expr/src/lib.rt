@@ -27,7 +27,7 @@ pub use eval::{evaluate, target};
 pub use fault::{Fault, FaultKind, Stop};
 pub use laws::{code_laws, mark_laws, spelling_laws, value_laws};
 pub use operator::Operator;
-pub use plain::{plain_value, plain_value_of_one, plain_value_of_two};
+pub use plain::plain_value;
 pub use ptb_answers::{Chooser, Form, Listed, Marked, Pause, Rules, Seeded};
 pub use running::{answer_to, run_steps};
 pub use short::ShortValue;

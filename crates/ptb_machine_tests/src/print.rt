@@ -1,16 +1,16 @@
 // This file tests how many writes a PRINT takes, and what it has shown where it stops.
 
 use crate::shared::{
-    Counted, UNWRITTEN, execute_first, expect_same, fault, next_place, plain_rules, with_line,
+    Counted, UNWRITTEN, execute_with, expect_same, fault, next_place, plain_rules, with_line,
 };
-use ptb_command::{GATHERING_LIMIT, Gathering, Io, Registers, Stop};
+use ptb_command::{GATHERING_LIMIT, Gathering, Io, Output, Registers, Stop};
 use ptb_devices::{Lines, WriterScreen};
 use ptb_expr::{Listed, Pause};
 use ptb_text::{Device, Program};
 use std::test::Fail;
 
 // Each PRINT with its answers and a writer that takes so many writes: how it is done, how what is
-// shown begins, how long that is, and how many writes are left.
+// shown begins, how long that is, and how many writes are left. One output is lent to all of them.
 const WRITES: &[(
     &str,
     &[i16],
@@ -51,6 +51,8 @@ const WRITES: &[(
     ("10 P.'A',1", &[], 0, UNWRITTEN, b"", 0, 0),
     ("10 P.'A',RND(5)", &[], 0, UNWRITTEN, b"", 0, 0),
     ("10 P.'A',1/0", &[], 0, UNWRITTEN, b"", 0, 0),
+    ("10 P.#9,'A'", &[], 0, UNWRITTEN, b"", 0, 0),
+    ("10 P.1", &[], 3, Ok(3), b"     1\n", 7, 2),
     ("10 P.#255,1,1,1", &[], 1, UNWRITTEN, b"  ", 510, 0),
 ];
 
@@ -59,11 +61,11 @@ const NO_ANSWER: Result<usize, Stop> = Err(Stop::Pause(Pause::Ended));
 // Does a PRINT with these answers and a writer that takes so many writes: the place after it, and
 // how many writes are left.
 fn written(
-    answers: &[i16],
+    (answers, mut writes_left): (&[i16], usize),
     program: &Program,
     registers: &mut Registers,
+    output: &mut Output,
     taken: &mut Vec<u8>,
-    mut writes_left: usize,
 ) -> (Result<usize, Stop>, usize) {
     let mut writer = Device::new(Counted {
         taken,
@@ -74,7 +76,7 @@ fn written(
     let mut chooser = Listed::new(answers);
     let rules = plain_rules(1);
     let mut io = Io::new(&mut chooser, &mut screen, &mut source, true, rules);
-    let result = execute_first(program, registers, &mut io);
+    let result = execute_with(program, registers, &mut io, output);
     drop(io);
     drop(screen);
     drop(writer);
@@ -83,10 +85,13 @@ fn written(
 
 #[test]
 fn writes(rt: HostRuntime) -> Result<(), Fail> {
+    let mut output = Output::new();
     for &(line, answers, writes, want, begins, count, left) in WRITES {
         let (program, mut registers) = with_line(rt.alloc(), line)?;
         let mut taken = Vec::new(rt.alloc());
-        let (result, writes_left) = written(answers, &program, &mut registers, &mut taken, writes);
+        let given = (answers, writes);
+        let (result, writes_left) =
+            written(given, &program, &mut registers, &mut output, &mut taken);
         let is_begun = taken.as_slice().starts_with(begins);
         let found = (result, is_begun, taken.len(), writes_left);
         expect_same(&rt, line, found, (want, true, count, left));
@@ -112,7 +117,9 @@ fn values_that_are_gathered(rt: HostRuntime) -> Result<(), Fail> {
     for &(line, writes, count, ends) in VALUES {
         let (program, mut registers) = with_line(rt.alloc(), line)?;
         let mut taken = Vec::new(rt.alloc());
-        let (result, writes_left) = written(&[], &program, &mut registers, &mut taken, 9);
+        let mut output = Output::new();
+        let (result, writes_left) =
+            written((&[], 9), &program, &mut registers, &mut output, &mut taken);
         let is_end = taken.as_slice().ends_with(ends);
         let writes_taken = 9_usize.saturating_sub(writes_left);
         let found = (result.is_ok(), writes_taken, taken.len(), is_end);

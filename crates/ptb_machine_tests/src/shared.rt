@@ -5,7 +5,7 @@ ghost use Rattle.ptb_text.specs.Statements.{program};
 ghost use Rattle.ptb_words.specs.Words.{is_letter};
 
 use ptb_command::{
-    CommandCode, DeviceError, Io, Registers, Stack, Stop, first_place, line_at, translate,
+    CommandCode, DeviceError, Io, Output, Registers, Stack, Stop, first_place, line_at, translate,
 };
 use ptb_devices::{LineSource, Screen};
 use ptb_expr::{Chooser, Store};
@@ -155,11 +155,22 @@ pub(crate) fn execute_first<C: Chooser, S: Screen, L: LineSource>(
     registers: &mut Registers,
     io: &mut Io<'_, C, S, L>,
 ) -> Result<(), Stop> {
+    execute_with(program, registers, io, &mut Output::new())
+}
+
+// The same with an output that is lent.
+pub(crate) fn execute_with<C: Chooser, S: Screen, L: LineSource>(
+    program: &Program,
+    registers: &mut Registers,
+    io: &mut Io<'_, C, S, L>,
+    output: &mut Output,
+) -> Result<(), Stop> {
     let (_, text) = line_at(program, 0);
     let mut cursor = Cursor::new(text, 0);
     let mut code = CommandCode::new();
     translate(&mut cursor, &mut code);
-    registers.execute(program, 0, code.operations(), code.steps(), io)
+    let (operations, steps) = (code.operations(), code.steps());
+    registers.execute(program, 0, operations, steps, io, output)
 }
 
 // The place in its statement at which a run continues after a command that was done so.

@@ -1,13 +1,13 @@
 // This file shows what the operations of a command show.
 
-ghost use Rattle.std.specs.Prelude.{◌≡◌, ◌↔◌, ◌≤◌, ◌+◌, ◌++◌, ◌∷◌, ℕ, ℤ, Bool, List, length};
+ghost use Rattle.std.specs.Prelude.{◌≡◌, ◌↔◌, ◌≤◌, ◌+◌, ◌++◌, ◌∷◌, [], ℕ, ℤ, Bool, List, length};
 ghost use Rattle.std.specs.Prelude.{IsOk, IsTrue, IsFalse};
 ghost use Rattle.std.specs.Fmt.{signed_decimal};
 ghost use Rattle.ptb_expr.specs.Store.{Cells};
 ghost use Rattle.ptb_expr.specs.Translation.{HasNoValue};
 ghost use Rattle.ptb_expr.specs.Tree.{Tree};
 ghost use Rattle.ptb_expr.specs.Value.{or_fault};
-ghost use Rattle.ptb_command.specs.Act.{padded_decimal, parts_action, width_of};
+ghost use Rattle.ptb_command.specs.Act.{first_width, padded_decimal, parts_action, width_of};
 ghost use Rattle.ptb_command.specs.Actions.{goes_on, show, work_action};
 ghost use Rattle.ptb_command.specs.Code.{AreStepsAt, IsIn, IsLiteralIn, bytes_in, literal_bytes};
 ghost use Rattle.ptb_command.specs.Commands.{Part, Show, Width};
@@ -35,13 +35,37 @@ const WIDTH_LIMIT: usize = 255;
 /// The blanks of a value: as many as the greatest width has.
 static BLANKS: [u8; WIDTH_LIMIT] = [b' '; WIDTH_LIMIT];
 
-/// What a command has gathered, and the width of the values that it shows.
+/// What a command has gathered, and the width of the values that it shows. It is lent to one command
+/// after the other: to make one takes longer than to begin again with it.
 #[derive(Drop)]
-pub(crate) struct Output {
+pub struct Output {
     /// The bytes that are shown later.
-    pub(crate) gathering: Gathering,
+    pub gathering: Gathering,
     /// The width.
-    pub(crate) width: u8,
+    pub width: u8,
+}
+
+impl Output {
+    /// Nothing is gathered, and the width is that of the start of a command.
+    pub fn new() -> Output
+        ensures gathering { result.gathering ≡ [] }
+        ensures width { result.width ≡ first_width }
+    {
+        Output {
+            gathering: Gathering::new(),
+            width: FIRST_WIDTH,
+        }
+    }
+
+    /// Begins again, for another command.
+    #[inline(always)]
+    pub(crate) fn begin(&mut self)
+        ensures gathering { self.new.gathering ≡ [] }
+        ensures width { self.new.width ≡ first_width }
+    {
+        self.gathering.clear();
+        self.width = FIRST_WIDTH;
+    }
 }
 
 /// The bytes of a text in a range; none where the range ends after the text.

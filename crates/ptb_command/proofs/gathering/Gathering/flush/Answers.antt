@@ -1,12 +1,11 @@
 -- This file answers what is left to prove of `Gathering::flush`.
-use Rattle.std.proofs.Common.{rules, ◌∙◌}
 use Rattle.ptb_command.proofs.Gathered.{flush_comes}
 use Rattle.ptb_command.proofs.Shown.{shown_as}
 use Rattle.ptb_command.proofs.gathering.Gathering.flush.Goals as goal
 
 pub returns-clause-comes : goal.returns-clause-comes
 returns-clause-comes g c d cells =
-    flush_comes _ _ _ c.args.self.now _ c.show-result.result (shown_as _ _ _ _ _ (c.as_slice.ensures.value ∙ c.self.view_is) (c.show-result.ensures d cells))
+    flush_comes _ _ _ c.args.self.now _ c.show-result.result (shown_as _ _ _ _ _ c.as_slice.ensures (c.show-result.ensures d cells))
 
 pub returns-clause-empty : goal.returns-clause-empty
-returns-clause-empty g c = search rules fits 50 depth 2
+returns-clause-empty g c = c.clear.ensures

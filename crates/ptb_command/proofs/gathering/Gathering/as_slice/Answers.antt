@@ -1,6 +1,0 @@
--- This file proves goals of `as_slice` by short searches, so that a wrong body is refused soon.
-use Rattle.std.proofs.Common.{rules}
-use Rattle.ptb_command.proofs.gathering.Gathering.as_slice.Goals as goal
-
-pub returns : goal.returns
-returns c = search rules fits 50 depth 2
