@@ -1,5 +1,5 @@
 -- This file answers what is left to prove of an expression that is evaluated by its steps.
-use Rattle.std.proofs.Common.{◌≡◌, refl}
+use Rattle.std.proofs.Common.{refl}
 use Rattle.ptb_expr.specs.Spells.{Expr}
 use Rattle.ptb_expr.specs.Reading.{item_of, expression}
 use Rattle.ptb_expr.proofs.Coded.{coded, worked_out, is_whole_then}
