@@ -14,8 +14,9 @@ pub mod Trial
 pub mod Limits
 pub mod RunPrefix
 pub mod Keep
+pub mod Runners
+pub mod Opened
 pub mod Exits
-pub mod Planned
 pub mod GoingBack
 pub mod GoingOn
 pub mod Stated

@@ -1,6 +1,9 @@
 -- This file defines what contracts see of an explorer, and what its calls leave.
 --     Exploration                  what is explored, and where the explorer is
+--     exploration p input ..       an explorer of a program on these lines
 --     play_of e, most_of e         what is played, and how many answers a run can have
+--     game_of r                    what a runner plays
+--     IsSameGame old new           a runner plays what it did
 --     finish_of r                  how the run of a report ended
 --     Reports play r               r is the report of the run of its answers
 --     NextReports play u f r found it is that of the next run, or there is none
@@ -8,6 +11,7 @@
 --     AreCopiesAt ..               the copies are of the run at which an explorer is
 --     AreKeptAt f runs             the same, of what contracts see of them
 --     IsPlayed play a n            the run of these answers has so many steps
+--     IsAdded play a old new       its steps were added to those played
 --     NextPlays ..                 how many steps were played after the next run
 use Rattle.std.specs.Prelude.{◌≡◌, ℕ, ◌+◌, ◌-◌, ◌<◌, ◌≤◌, List, [], Bool, true, false, Option, Some, None, Result, Ok, Err}
 use Rattle.std.specs.declared.alloc.AllocError.{AllocError}
@@ -21,6 +25,7 @@ use Rattle.ptb_explore.specs.declared.copies.KeptCopy.{KeptCopy}
 use Rattle.ptb_explore.specs.declared.plan.Position.{Position}
 use Rattle.ptb_explore.specs.declared.plan.Position.TheVariants.{AtStart, AtRun, AtEnd}
 use Rattle.ptb_explore.specs.declared.report.Report.{Report}
+use Rattle.ptb_explore.specs.declared.runner.Runner.{Runner}
 use Rattle.ptb_explore.specs.Copies.{KeptRun, AreCopies, AreBeginnings, kept_steps, more_played, play_limit}
 use Rattle.ptb_explore.specs.RunTree.{Front, Start, At, End, IsNextRun, IsLast}
 
@@ -38,11 +43,31 @@ pub record Exploration : Type 0 where
   -- how many commands were played in all
   pub played : ℕ
 
+-- it has the runs that begin with `under`, and is at the front
+abbrev pub exploration : StoredProgram → List (List ℕ) → Rules → Answers → Front → List KeptRun → ℕ → Exploration
+exploration p input rules under front kept played = record {
+  program = p;
+  input = input;
+  rules = rules;
+  under = under;
+  front = front;
+  kept = kept;
+  played = played;
+}
+
 abbrev pub play_of : Exploration → Answers → Outcome Finish (List ℕ)
 play_of e = play e.program e.input e.rules
 
 abbrev pub most_of : Exploration → ℕ
 most_of e = most_answers e.program e.input e.rules.limit
+
+-- ---- what plays its runs
+
+abbrev pub game_of : Runner → Answers → Outcome Finish (List ℕ)
+game_of r = play r.player r.lines.now r.rules
+
+abbrev pub IsSameGame : Runner → Runner → Type 0
+IsSameGame old new = new ≡ record old { trial = new.trial; report = new.report; copies = new.copies; played = new.played }
 
 -- ---- reports
 
@@ -97,6 +122,10 @@ AreKeptAt End runs = runs ≡ []
 
 abbrev pub IsPlayed : (Answers → Outcome Finish (List ℕ)) → Answers → ℕ → Type 0
 IsPlayed play a n = (f : Finish) → play a ≡ Done f [] → n ≡ f.steps
+
+-- fewer than one play can add
+abbrev pub IsAdded : (Answers → Outcome Finish (List ℕ)) → Answers → ℕ → ℕ → Type 0
+IsAdded play a old new = (f : Finish) → play a ≡ Done f [] → (new ≡ more_played old f.steps) × (f.steps < play_limit)
 
 abbrev pub NextPlays : List KeptRun → ℕ → Report → ℕ → Bool → Type 0
 NextPlays kept old r new true = new ≡ played_after kept old r

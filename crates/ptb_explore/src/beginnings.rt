@@ -3,112 +3,83 @@
 ghost use Rattle.std.specs.Prelude.{◌≡◌, ◌≤◌, ℕ, Ok, None, [], true, false, length};
 ghost use Rattle.std.specs.Prelude.{IfOk, OnOk, OnErr, IsErrOf, IsTrue};
 ghost use Rattle.ptb_answers.specs.Outcome.{Answers, bounds as bounds_of, is_open};
-ghost use Rattle.ptb_machine.specs.Play.{play};
 ghost use Rattle.ptb_text.specs.Device.{HasFailed};
 ghost use Rattle.ptb_explore.specs.Beginnings.{beginning_line, split_play, stopped};
 ghost use Rattle.ptb_explore.specs.Beginnings.{FindsBeginning, MovesTo};
 ghost use Rattle.ptb_explore.specs.Copies.{Agrees, AreCopies};
-ghost use Rattle.ptb_explore.specs.Exploring.{AreCopiesAt};
+ghost use Rattle.ptb_explore.specs.Exploring.{AreCopiesAt, IsSameGame, game_of};
 ghost use Rattle.ptb_explore.specs.Listing.{NextWrites, WritesRuns};
 ghost use Rattle.ptb_explore.specs.Plans.{EndsAt, IsFresh, IsPosition, front_at};
 ghost use Rattle.ptb_explore.specs.RunTree.{At, IsLast, Start, runs_left};
 
-use crate::copies::Copies;
-use crate::explorer::play_plan;
 use crate::fault::{ExploreFault, NextFault};
 use crate::plan::{Position, plan_next};
-use crate::recorder::Recorder;
-use crate::report::Report;
+use crate::runner::Runner;
 use ptb_answers::Form;
-use ptb_machine::{Line, Player, Rules, run_laws};
+use ptb_machine::{Line, Rules, run_laws};
 use ptb_report::write_list;
 use ptb_text::{Program, Write};
 use std::alloc::{AllocError, Global};
 use std::marker::Model;
 
-// Plays a plan on from a copy, but not past the question that follows `most` answers. The report has
-// the answers that were taken then, and their bounds. The first answers of the plan are those of the
-// report before, as many as `common` says.
-fn play_beginning(
-    alloc: Global,
-    player: &mut Player,
-    lines: &[Line],
-    rules: Rules,
-    common: usize,
-    most: usize,
-    trial: &mut Recorder,
-    report: &mut Report,
-    copies: &mut Copies,
-) -> Result<(), AllocError>
-    requires fresh { IsFresh trial.old }
-    requires within { length trial.old.answers.items ≤ most }
-    requires common { common ≤ length trial.old.answers.items }
-    requires opens { is_open (stopped most (play player.old lines.now rules)
-        trial.old.answers.items) ≡ true }
-    requires agrees { Agrees (play player.old lines.now rules) common
-        trial.old.answers.items report.old.answers.items report.old.bounds.items }
-    requires copies { AreCopies player.old lines.now rules report.old.answers.items
-        report.old.transcript.items copies.old.kept.items }
-    ensures program { player.new ≡ player.old }
-    ensures ends { OnOk result (EndsAt (stopped most (play player.old lines.now rules))
-        trial.old.answers.items report.new.answers.items report.new.bounds.items tt) }
-    ensures answers { OnErr result (report.new.answers.items ≡ report.old.answers.items) }
-    ensures bounds { OnErr result (report.new.bounds.items ≡ report.old.bounds.items) }
-    ensures copies { OnOk result (AreCopies player.old lines.now rules report.new.answers.items
-        report.new.transcript.items copies.new.kept.items) }
+// Plays a runner's plan on from a copy, but not past the question that follows `most` answers. The
+// report has the answers that were taken then, and their bounds. The first answers of the plan are
+// those of the report before, as many as `common` says.
+fn play_beginning(runner: &mut Runner, common: usize, most: usize) -> Result<(), AllocError>
+    requires fresh { IsFresh runner.old.trial }
+    requires within { length runner.old.trial.answers.items ≤ most }
+    requires common { common ≤ length runner.old.trial.answers.items }
+    requires opens { is_open (stopped most (game_of runner.old)
+        runner.old.trial.answers.items) ≡ true }
+    requires agrees { Agrees (game_of runner.old) common runner.old.trial.answers.items
+        runner.old.report.answers.items runner.old.report.bounds.items }
+    requires copies { AreCopies runner.old.player runner.old.lines.now runner.old.rules
+        runner.old.report.answers.items runner.old.report.transcript.items
+        runner.old.copies.kept.items }
+    ensures same { IsSameGame runner.old runner.new }
+    ensures ends { OnOk result (EndsAt (stopped most (game_of runner.old))
+        runner.old.trial.answers.items runner.new.report.answers.items
+        runner.new.report.bounds.items tt) }
+    ensures answers { OnErr result
+        (runner.new.report.answers.items ≡ runner.old.report.answers.items) }
+    ensures bounds { OnErr result (runner.new.report.bounds.items ≡ runner.old.report.bounds.items) }
+    ensures copies { OnOk result (AreCopies runner.old.player runner.old.lines.now runner.old.rules
+        runner.new.report.answers.items runner.new.report.transcript.items
+        runner.new.copies.kept.items) }
 {
     run_laws();
-    trial.stop_after(most)?;
-    let mut played = 0;
-    play_plan(
-        alloc,
-        player,
-        lines,
-        rules,
-        common,
-        trial,
-        report,
-        copies,
-        &mut played,
-    )?;
-    trial.keep_given();
-    trial.hand_over(&mut report.answers, &mut report.bounds);
+    runner.trial.stop_after(most)?;
+    runner.play_plan(common)?;
+    runner.trial.keep_given();
+    runner.trial.hand_over(&mut runner.report.answers, &mut runner.report.bounds);
     Ok(())
 }
 
-// Finds the next list, and says whether there is one. The report has its answers and bounds then.
-fn find_beginning(
-    alloc: Global,
-    player: &mut Player,
-    lines: &[Line],
-    rules: Rules,
-    most: usize,
-    position: Position,
-    trial: &mut Recorder,
-    report: &mut Report,
-    copies: &mut Copies,
-) -> Result<bool, AllocError>
-    requires position { IsPosition (stopped most (play player.old lines.now rules)) [] position
-        report.old.answers.items report.old.bounds.items }
-    requires copies { AreCopiesAt player.old lines.now rules position report.old
-        copies.old.kept.items }
-    ensures program { player.new ≡ player.old }
-    ensures next { IfOk result (FindsBeginning (stopped most (play player.old lines.now rules))
-        (front_at position report.old.answers.items) report.new) }
-    ensures answers { OnErr result (report.new.answers.items ≡ report.old.answers.items) }
-    ensures bounds { OnErr result (report.new.bounds.items ≡ report.old.bounds.items) }
-    ensures ended { IsLast (stopped most (play player.old lines.now rules)) []
-        (front_at position report.old.answers.items) → result ≡ Ok false }
-    ensures copies { IfOk result (λ found. IsTrue found → AreCopies player.old lines.now rules
-        report.new.answers.items report.new.transcript.items copies.new.kept.items) }
+// Finds the next list, and says whether there is one. The runner's report has its answers and bounds
+// then.
+fn find_beginning(runner: &mut Runner, most: usize, position: Position) -> Result<bool, AllocError>
+    requires position { IsPosition (stopped most (game_of runner.old)) [] position
+        runner.old.report.answers.items runner.old.report.bounds.items }
+    requires copies { AreCopiesAt runner.old.player runner.old.lines.now runner.old.rules position
+        runner.old.report runner.old.copies.kept.items }
+    ensures same { IsSameGame runner.old runner.new }
+    ensures next { IfOk result (FindsBeginning (stopped most (game_of runner.old))
+        (front_at position runner.old.report.answers.items) runner.new.report) }
+    ensures answers { OnErr result
+        (runner.new.report.answers.items ≡ runner.old.report.answers.items) }
+    ensures bounds { OnErr result (runner.new.report.bounds.items ≡ runner.old.report.bounds.items) }
+    ensures ended { IsLast (stopped most (game_of runner.old)) []
+        (front_at position runner.old.report.answers.items) → result ≡ Ok false }
+    ensures copies { IfOk result (λ found. IsTrue found → AreCopies runner.old.player
+        runner.old.lines.now runner.old.rules runner.new.report.answers.items
+        runner.new.report.transcript.items runner.new.copies.kept.items) }
 {
     run_laws();
-    match plan_next(position, &[], &report.answers, &report.bounds, trial)? {
+    let report = &runner.report;
+    match plan_next(position, &[], &report.answers, &report.bounds, &mut runner.trial)? {
         None => Ok(false),
         Some(common) => {
-            play_beginning(
-                alloc, player, lines, rules, common, most, trial, report, copies,
-            )?;
+            play_beginning(runner, common, most)?;
             Ok(true)
         }
     }
@@ -123,33 +94,20 @@ fn find_beginning(
 /// same.
 #[derive(Drop)]
 pub struct Beginnings<'a> {
-    /// Plays the program.
-    player: Player<'a>,
-    /// The lines that answer INPUT, in each play from the first on.
-    lines: &'a [Line],
-    /// By which the program is played.
-    rules: Rules,
+    /// Plays the program; its report has the answers and bounds of the list at which the search is.
+    runner: Runner<'a>,
     /// The most answers that a list has.
     most: usize,
     /// Where the search is.
     position: Position,
-    /// Its answers and bounds are those of the list at which the search is.
-    report: Report,
-    /// Plans the next list, and answers the questions of its play.
-    trial: Recorder,
-    /// Copies of the machine, as it was in the play of that list.
-    copies: Copies,
-    /// Where memory comes from.
-    alloc: Global,
 }
 
 impl<'a> Model for Beginnings<'a> {
     ghost use Rattle.std.specs.Prelude.{[]};
     ghost use Rattle.std.specs.Coded.{codes};
     ghost use Rattle.ptb_answers.specs.contracts.rules.Rules as rules_type;
-    ghost use Rattle.ptb_machine.specs.Play.{play};
     ghost use Rattle.ptb_explore.specs.Beginnings.{Splitting, stopped};
-    ghost use Rattle.ptb_explore.specs.Exploring.{AreCopiesAt};
+    ghost use Rattle.ptb_explore.specs.Exploring.{AreCopiesAt, game_of};
     ghost use Rattle.ptb_explore.specs.Plans.{IsPosition, front_at};
 
     ghost Value = { Splitting };
@@ -158,16 +116,17 @@ impl<'a> Model for Beginnings<'a> {
     ghost coded = { Prim.hlevel (codes, rules_type.the_row.coded) };
 
     ghost view = { λ b. record {
-      program = b.player;
-      input = b.lines.now;
-      rules = b.rules;
+      program = b.runner.player;
+      input = b.runner.lines.now;
+      rules = b.runner.rules;
       most = b.most;
-      front = front_at b.position b.report.answers.items;
+      front = front_at b.position b.runner.report.answers.items;
     } };
 
-    ghost invariant = { λ b. IsPosition (stopped b.most (play b.player b.lines.now b.rules)) []
-        b.position b.report.answers.items b.report.bounds.items
-        × AreCopiesAt b.player b.lines.now b.rules b.position b.report b.copies.kept.items };
+    ghost invariant = { λ b. IsPosition (stopped b.most (game_of b.runner)) []
+        b.position b.runner.report.answers.items b.runner.report.bounds.items
+        × AreCopiesAt b.runner.player b.runner.lines.now b.runner.rules b.position b.runner.report
+        b.runner.copies.kept.items };
 }
 
 impl<'a> Beginnings<'a> {
@@ -193,15 +152,9 @@ impl<'a> Beginnings<'a> {
     {
         run_laws();
         Ok(Beginnings {
-            player: Player::new(alloc, program)?,
-            lines,
-            rules,
+            runner: Runner::new(alloc, program, lines, rules)?,
             most,
             position: Position::AtStart,
-            report: Report::new(alloc),
-            trial: Recorder::new(alloc),
-            copies: Copies::new(),
-            alloc,
         })
     }
 
@@ -221,29 +174,19 @@ impl<'a> Beginnings<'a> {
             → result ≡ Ok false }
     {
         run_laws();
-        let found = find_beginning(
-            self.alloc,
-            &mut self.player,
-            self.lines,
-            self.rules,
-            self.most,
-            self.position,
-            &mut self.trial,
-            &mut self.report,
-            &mut self.copies,
-        );
+        let found = find_beginning(&mut self.runner, self.most, self.position);
         match found {
             Ok(true) => {
                 self.position = Position::AtRun;
                 Ok(true)
             }
             Ok(false) => {
-                self.copies.clear();
+                self.runner.copies.clear();
                 self.position = Position::AtEnd;
                 Ok(false)
             }
             Err(fault) => {
-                self.copies.clear();
+                self.runner.copies.clear();
                 Err(fault)
             }
         }
@@ -253,7 +196,7 @@ impl<'a> Beginnings<'a> {
     pub fn answers(&self) -> &[i16]
         ensures { (u : Answers) → self.now.front ≡ At u → result.now ≡ u }
     {
-        &self.report.answers
+        &self.runner.report.answers
     }
 
     /// The bounds of these answers.
@@ -262,7 +205,7 @@ impl<'a> Beginnings<'a> {
             → result.now ≡ bounds_of (split_play self.now) u }
     {
         run_laws();
-        &self.report.bounds
+        &self.runner.report.bounds
     }
 }
 

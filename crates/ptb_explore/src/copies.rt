@@ -25,6 +25,17 @@ pub(crate) struct KeptCopy {
     pub(crate) lines: usize,
 }
 
+/// How far a run is.
+#[derive(Clone, Copy)]
+pub(crate) struct Progress {
+    /// How many answers were taken.
+    pub(crate) taken: usize,
+    /// How many bytes were shown.
+    pub(crate) shown: usize,
+    /// How many lines were taken.
+    pub(crate) lines: usize,
+}
+
 // Copies a machine, into the room of another where there is one.
 fn copied(
     alloc: Global,
@@ -146,20 +157,23 @@ impl Copies {
         }
     }
 
-    /// Keeps a copy of a machine that took answers in its last step, if there is memory for it.
-    /// `before` is the number of answers taken before that step.
+    /// Keeps a copy of a machine that took answers in its last step, if there is memory for it. The run
+    /// is as far as `reached` says; `before` is the number of answers taken before that step.
     pub(crate) fn keep(
         &mut self,
         alloc: Global,
         machine: &Machine,
         before: usize,
-        taken: usize,
-        shown: usize,
-        lines: usize,
+        reached: Progress,
     )
-        ensures { Adds before machine.now taken shown lines
+        ensures { Adds before machine.now reached.taken reached.shown reached.lines
             self.old.kept.items self.new.kept.items }
     {
+        let Progress {
+            taken,
+            shown,
+            lines,
+        } = reached;
         if taken <= before {
             return;
         }

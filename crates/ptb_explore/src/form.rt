@@ -1,4 +1,4 @@
-// This file makes lists of answers from lists with bounds, and the other way, and compares how they begin.
+// This file copies lists of answers with their bounds, makes them from answers, and compares how they begin.
 
 ghost use Rattle.std.specs.Prelude.{◌≡◌, IfOk};
 ghost use Rattle.ptb_answers.specs.AnswerText.{answers_of, unmarked};
@@ -7,19 +7,17 @@ ghost use Rattle.ptb_explore.specs.RunTree.{begins_with};
 use ptb_answers::Marked;
 use std::alloc::{AllocError, Global};
 
-/// The answers of a list, without their bounds.
+/// A copy of a list.
 ///
 /// # Errors
 ///
 /// Where a growth was refused memory.
-pub(crate) fn answers_of(alloc: Global, list: &[Marked]) -> Result<Vec<i16>, AllocError>
-    ensures { IfOk result (λ v. v.items ≡ answers_of list.now) }
+pub(crate) fn copied(alloc: Global, list: &[Marked]) -> Result<Vec<Marked>, AllocError>
+    ensures { IfOk result (λ v. v.items ≡ list.now) }
 {
-    let mut answers = Vec::new(alloc);
-    for item in list {
-        answers.push(item.answer)?;
-    }
-    Ok(answers)
+    let mut items = Vec::new(alloc);
+    items.extend_from_slice(list)?;
+    Ok(items)
 }
 
 /// The items of answers that have no bounds.

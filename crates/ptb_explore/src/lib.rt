@@ -17,10 +17,12 @@ mod form;
 mod laws;
 mod listing;
 mod mismatch;
+mod opening;
 mod plan;
 mod playing;
 mod recorder;
 mod report;
+mod runner;
 mod sampling;
 
 pub use beginnings::{Beginnings, write_beginnings};

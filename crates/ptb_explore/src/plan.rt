@@ -2,9 +2,11 @@
 
 ghost use Rattle.std.specs.Prelude.{◌≡◌, length, pos, ◌<ℤ◌, slice_index_or};
 ghost use Rattle.std.specs.Prelude.{IfOk, IfSome, OnErr, OnSome, MatchOption};
+ghost use Rattle.ptb_answers.specs.AnswerText.{answers_of};
 ghost use Rattle.ptb_explore.specs.Plans.{IsLastBelow, AreAtBounds, HasPlan, PlansNext, IsFresh};
 
 use crate::recorder::Recorder;
+use ptb_answers::Marked;
 use std::alloc::AllocError;
 
 /// Where a listing of all runs stands.
@@ -47,16 +49,16 @@ fn last_below(answers: &[i16], bounds: &[i16], floor: usize) -> Option<usize>
 /// Where the plan is refused memory; never where no run is left.
 pub(crate) fn plan_next(
     position: Position,
-    under: &[i16],
+    under: &[Marked],
     answers: &[i16],
     bounds: &[i16],
     trial: &mut Recorder,
 ) -> Result<Option<usize>, AllocError>
     requires { position ≡ Position.AtRun → length answers.now ≡ length bounds.now }
-    ensures plan { IfOk result (PlansNext under.now position
+    ensures plan { IfOk result (PlansNext (answers_of under.now) position
         answers.now bounds.now trial.new.answers.items) }
     ensures fresh { IfOk result (λ o. OnSome o (IsFresh trial.new)) }
-    ensures refused { OnErr result (HasPlan under.now position answers.now bounds.now) }
+    ensures refused { OnErr result (HasPlan (answers_of under.now) position answers.now bounds.now) }
 {
     match position {
         Position::AtEnd => Ok(None),

@@ -1,9 +1,10 @@
 // This file has the chooser that plays a plan, and keeps what it answered.
 
-ghost use Rattle.std.specs.Prelude.{◌≡◌, ◌+◌, ◌-◌, ◌<◌, ◌≤◌, pos, OnOk, OnErr};
+ghost use Rattle.std.specs.Prelude.{◌≡◌, ◌+◌, ◌-◌, ◌<◌, ◌≤◌, pos, OnOk};
 ghost use Rattle.std.specs.Prelude.{[], ◌∷◌, ◌++◌, length, take, replicate, vec_len};
+ghost use Rattle.ptb_answers.specs.AnswerText.{answers_of};
 
-use ptb_answers::{Chooser, Pause};
+use ptb_answers::{Chooser, Marked, Pause};
 use std::alloc::{AllocError, Global};
 use std::mem;
 
@@ -48,20 +49,6 @@ impl Recorder {
         }
     }
 
-    /// A recorder with this plan.
-    pub(crate) fn planning(alloc: Global, answers: Vec<i16>) -> Self
-        ensures answers { result.answers.items ≡ answers.items }
-        ensures bounds { result.bounds.items ≡ [] }
-        ensures planned { result.planned ≡ vec_len result.answers }
-    {
-        Recorder {
-            planned: answers.len(),
-            answers,
-            bounds: Vec::new(alloc),
-            refused_bound: 0,
-        }
-    }
-
     /// Plans these answers and the raised one after them. None was given yet.
     ///
     /// # Errors
@@ -80,20 +67,21 @@ impl Recorder {
         Ok(())
     }
 
-    /// Plans these answers. None was given yet.
+    /// Plans the answers of a list. None was given yet.
     ///
     /// # Errors
     ///
-    /// Where the plan is refused memory; it is empty then.
-    pub(crate) fn replay(&mut self, answers: &[i16]) -> Result<(), AllocError>
-        ensures answers { OnOk result (self.new.answers.items ≡ answers.now) }
+    /// Where the plan is refused memory; a prefix of it is planned then.
+    pub(crate) fn replay(&mut self, list: &[Marked]) -> Result<(), AllocError>
+        ensures answers { OnOk result (self.new.answers.items ≡ answers_of list.now) }
         ensures planned { OnOk result (self.new.planned ≡ vec_len self.new.answers) }
         ensures bounds { OnOk result (self.new.bounds.items ≡ []) }
-        ensures empty { OnErr result (self.new.answers.items ≡ []) }
     {
         self.clear();
-        self.answers.extend_from_slice(answers)?;
-        self.planned = self.answers.len();
+        for item in list {
+            self.answers.push(item.answer)?;
+            self.planned = self.answers.len();
+        }
         Ok(())
     }
 

@@ -157,20 +157,19 @@ fn write_run<W: Write>(
     }
 }
 
-// Writes the reports of so many runs.
+// Writes the reports of the runs of a sample.
 fn write_runs<W: Write>(
     alloc: Global,
     sampler: &mut Sampler,
     lines: &[Line],
     rules: Rules,
-    runs: u32,
-    form: Form,
+    sample: Sample,
     writer: &mut W,
 ) -> Result<(), ExploreFault>
     requires fresh { sampler.old.chooser.bounds ≡ [] }
-    ensures writes { WritesSample (report form (play sampler.old.player lines.now rules))
+    ensures writes { WritesSample (report sample.form (play sampler.old.player lines.now rules))
         (sampled_runs (most_answers sampler.old.player lines.now rules.limit)
-        (play sampler.old.player lines.now rules) sampler.old.chooser.first runs)
+        (play sampler.old.player lines.now rules) sampler.old.chooser.first sample.runs)
         (W.contents writer.old) (W.contents writer.new) result }
     ensures failed { (n : ℕ) → IsErrOf result (ExploreFault.Write n)
         → HasFailed (W.failures writer.old) (W.failures writer.new) }
@@ -178,6 +177,7 @@ fn write_runs<W: Write>(
         → W.failures writer.new ≡ W.failures writer.old }
 {
     run_laws();
+    let Sample { runs, form, .. } = sample;
     let mut remaining = runs;
     while remaining > 0 {
         match write_run(alloc, sampler, lines, rules, form, writer) {
@@ -244,12 +244,12 @@ pub fn write_sample<W: Write>(
         (most_answers program.now lines.now rules.limit) }
 {
     run_laws();
-    let Sample { seed, runs, form } = sample;
+    let Sample { seed, runs, .. } = sample;
     if runs == 0 {
         return Ok(());
     }
     match begun(alloc, program, seed) {
-        Ok(mut sampler) => write_runs(alloc, &mut sampler, lines, rules, runs, form, writer),
+        Ok(mut sampler) => write_runs(alloc, &mut sampler, lines, rules, sample, writer),
         Err(_) => Err(ExploreFault::Memory(0)),
     }
 }

@@ -15,23 +15,23 @@ use Rattle.ptb_explore.proofs.Stopping.{beginning_agrees, plan_fits}
 use Rattle.ptb_explore.proofs.beginnings.find_beginning.Goals as goal
 
 pub plan_next-requires : goal.plan_next-requires
-plan_next-requires c = λ e. rw (c.deref.ensures.value, c.deref-2.ensures.value) (position_lengths (stopped c.args.most (play c.args.player.now c.args.lines.now c.args.rules)) _ _ _ _ c.requires.position e)
+plan_next-requires c = λ e. rw (c.deref.ensures.value, c.deref-2.ensures.value) (position_lengths (stopped c.args.most (play c.args.runner.now.player c.args.runner.now.lines.now c.args.runner.now.rules)) _ _ _ _ c.requires.position e)
 
 pub returns-in-None-clause-next : goal.returns-in-None-clause-next
 returns-in-None-clause-next c =
-    let game = play c.args.player.now c.args.lines.now c.args.rules in
-    let reads = c.run_laws.ensures.reads c.args.player.now c.args.lines.now c.args.rules in
-    let most = most_answers c.args.player.now c.args.lines.now c.args.rules.limit in
-    let report = c.args.report.now in
+    let game = play c.args.runner.now.player c.args.runner.now.lines.now c.args.runner.now.rules in
+    let reads = c.run_laws.ensures.reads c.args.runner.now.player c.args.runner.now.lines.now c.args.runner.now.rules in
+    let most = most_answers c.args.runner.now.player c.args.runner.now.lines.now c.args.runner.now.rules.limit in
+    let report = c.args.runner.now.report in
     let plans : PlansNext [] c.args.position report.answers.items report.bounds.items c.plan_next.new.trial.answers.items None = rw (← c.deref.ensures.value, ← c.deref-2.ensures.value, ← c.in-None.is) c.in_ok-plan_next.ensures.plan in
     last_plan (stopped c.args.most game) c.args.most (stopped_reads game c.args.most most reads) [] c.args.position report.answers.items c.plan_next.new.trial.answers.items report.bounds.items c.requires.position plans
 
 pub play_beginning-requires : goal.play_beginning-requires
 play_beginning-requires c =
-    let game = play c.args.player.now c.args.lines.now c.args.rules in
-    let reads = c.run_laws.ensures.reads c.args.player.now c.args.lines.now c.args.rules in
-    let most = most_answers c.args.player.now c.args.lines.now c.args.rules.limit in
-    let report = c.args.report.now in
+    let game = play c.args.runner.now.player c.args.runner.now.lines.now c.args.runner.now.rules in
+    let reads = c.run_laws.ensures.reads c.args.runner.now.player c.args.runner.now.lines.now c.args.runner.now.rules in
+    let most = most_answers c.args.runner.now.player c.args.runner.now.lines.now c.args.runner.now.rules.limit in
+    let report = c.args.runner.now.report in
     let plan = c.plan_next.new.trial.answers.items in
     let plans : PlansNext [] c.args.position report.answers.items report.bounds.items plan (Some c.in-Some.common) = rw (← c.deref.ensures.value, ← c.deref-2.ensures.value, ← c.in-Some.is) c.in_ok-plan_next.ensures.plan in
     let fits = plan_fits game most reads c.args.most c.args.position report.answers.items plan report.bounds.items c.in-Some.common c.requires.position plans in
@@ -41,15 +41,15 @@ play_beginning-requires c =
       common = fits.1;
       opens = (next_plan (stopped c.args.most game) c.args.most (stopped_reads game c.args.most most reads) [] c.args.position report.answers.items plan report.bounds.items c.in-Some.common c.requires.position plans).opens;
       agrees = beginning_agrees game most reads c.args.most c.args.position report.answers.items plan report.bounds.items c.in-Some.common c.requires.position plans;
-      copies = position_copies c.args.player.now c.args.lines.now c.args.rules c.args.position c.args.report.now c.args.copies.now.kept.items c.requires.copies;
+      copies = position_copies c.args.runner.now.player c.args.runner.now.lines.now c.args.runner.now.rules c.args.position c.args.runner.now.report c.args.runner.now.copies.kept.items c.requires.copies;
     }
 
 pub returns-in_ok-play_beginning-in-Some-clause-next : goal.returns-in_ok-play_beginning-in-Some-clause-next
 returns-in_ok-play_beginning-in-Some-clause-next c =
-    let game = play c.args.player.now c.args.lines.now c.args.rules in
-    let reads = c.run_laws.ensures.reads c.args.player.now c.args.lines.now c.args.rules in
-    let most = most_answers c.args.player.now c.args.lines.now c.args.rules.limit in
-    let report = c.args.report.now in
+    let game = play c.args.runner.now.player c.args.runner.now.lines.now c.args.runner.now.rules in
+    let reads = c.run_laws.ensures.reads c.args.runner.now.player c.args.runner.now.lines.now c.args.runner.now.rules in
+    let most = most_answers c.args.runner.now.player c.args.runner.now.lines.now c.args.runner.now.rules.limit in
+    let report = c.args.runner.now.report in
     let plan = c.plan_next.new.trial.answers.items in
     let plans : PlansNext [] c.args.position report.answers.items report.bounds.items plan (Some c.in-Some.common) = rw (← c.deref.ensures.value, ← c.deref-2.ensures.value, ← c.in-Some.is) c.in_ok-plan_next.ensures.plan in
     let next = next_plan (stopped c.args.most game) c.args.most (stopped_reads game c.args.most most reads) [] c.args.position report.answers.items plan report.bounds.items c.in-Some.common c.requires.position plans in
@@ -58,10 +58,10 @@ returns-in_ok-play_beginning-in-Some-clause-next c =
 
 pub returns-in_ok-play_beginning-in-Some-clause-ended : goal.returns-in_ok-play_beginning-in-Some-clause-ended
 returns-in_ok-play_beginning-in-Some-clause-ended c = λ last.
-    let game = play c.args.player.now c.args.lines.now c.args.rules in
-    let reads = c.run_laws.ensures.reads c.args.player.now c.args.lines.now c.args.rules in
-    let most = most_answers c.args.player.now c.args.lines.now c.args.rules.limit in
-    let report = c.args.report.now in
+    let game = play c.args.runner.now.player c.args.runner.now.lines.now c.args.runner.now.rules in
+    let reads = c.run_laws.ensures.reads c.args.runner.now.player c.args.runner.now.lines.now c.args.runner.now.rules in
+    let most = most_answers c.args.runner.now.player c.args.runner.now.lines.now c.args.runner.now.rules.limit in
+    let report = c.args.runner.now.report in
     let plan = c.plan_next.new.trial.answers.items in
     let plans : PlansNext [] c.args.position report.answers.items report.bounds.items plan (Some c.in-Some.common) = rw (← c.deref.ensures.value, ← c.deref-2.ensures.value, ← c.in-Some.is) c.in_ok-plan_next.ensures.plan in
     let next = next_plan (stopped c.args.most game) c.args.most (stopped_reads game c.args.most most reads) [] c.args.position report.answers.items plan report.bounds.items c.in-Some.common c.requires.position plans in
@@ -72,15 +72,15 @@ returns-in_ok-play_beginning-in-Some-clause-copies c = λ _. c.in_ok-play_beginn
 
 pub returns-in_err-plan_next : goal.returns-in_err-plan_next
 returns-in_err-plan_next c = record {
-  program = refl;
+  same = refl;
   next = IfOk-from_err _ _ c.from_residual.ensures.0;
   answers = on_err_always _ refl;
   bounds = on_err_always _ refl;
   ended = λ last.
-      let game = play c.args.player.now c.args.lines.now c.args.rules in
-      let reads = c.run_laws.ensures.reads c.args.player.now c.args.lines.now c.args.rules in
-      let most = most_answers c.args.player.now c.args.lines.now c.args.rules.limit in
-      let report = c.args.report.now in
+      let game = play c.args.runner.now.player c.args.runner.now.lines.now c.args.runner.now.rules in
+      let reads = c.run_laws.ensures.reads c.args.runner.now.player c.args.runner.now.lines.now c.args.runner.now.rules in
+      let most = most_answers c.args.runner.now.player c.args.runner.now.lines.now c.args.runner.now.rules.limit in
+      let report = c.args.runner.now.report in
       let has : HasPlan [] c.args.position report.answers.items report.bounds.items = rw (← c.deref.ensures.value, ← c.deref-2.ensures.value) c.in_err-plan_next.ensures.refused in
       let next = next_plan (stopped c.args.most game) c.args.most (stopped_reads game c.args.most most reads) [] c.args.position report.answers.items has.0 report.bounds.items has.1 c.requires.position has.2 in
       plan_left (stopped c.args.most game) c.args.most (stopped_reads game c.args.most most reads) [] (front_at c.args.position report.answers.items) has.0 next last;
@@ -89,15 +89,15 @@ returns-in_err-plan_next c = record {
 
 pub returns-in_err-play_beginning-in-Some : goal.returns-in_err-play_beginning-in-Some
 returns-in_err-play_beginning-in-Some c = record {
-  program = c.play_beginning.ensures.program;
+  same = c.play_beginning.ensures.same;
   next = IfOk-from_err _ _ c.from_residual-in_err-play_beginning-in-Some.ensures.0;
   answers = on_err_always _ c.in_err-play_beginning-in-Some.ensures.answers;
   bounds = on_err_always _ c.in_err-play_beginning-in-Some.ensures.bounds;
   ended = λ last.
-      let game = play c.args.player.now c.args.lines.now c.args.rules in
-      let reads = c.run_laws.ensures.reads c.args.player.now c.args.lines.now c.args.rules in
-      let most = most_answers c.args.player.now c.args.lines.now c.args.rules.limit in
-      let report = c.args.report.now in
+      let game = play c.args.runner.now.player c.args.runner.now.lines.now c.args.runner.now.rules in
+      let reads = c.run_laws.ensures.reads c.args.runner.now.player c.args.runner.now.lines.now c.args.runner.now.rules in
+      let most = most_answers c.args.runner.now.player c.args.runner.now.lines.now c.args.runner.now.rules.limit in
+      let report = c.args.runner.now.report in
       let plan = c.plan_next.new.trial.answers.items in
       let plans : PlansNext [] c.args.position report.answers.items report.bounds.items plan (Some c.in-Some.common) = rw (← c.deref.ensures.value, ← c.deref-2.ensures.value, ← c.in-Some.is) c.in_ok-plan_next.ensures.plan in
       let next = next_plan (stopped c.args.most game) c.args.most (stopped_reads game c.args.most most reads) [] c.args.position report.answers.items plan report.bounds.items c.in-Some.common c.requires.position plans in

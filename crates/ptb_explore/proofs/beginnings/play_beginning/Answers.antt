@@ -7,6 +7,7 @@ use Rattle.ptb_machine.specs.Questions.{most_answers}
 use Rattle.ptb_explore.specs.Recording.{choices_of}
 use Rattle.ptb_report.proofs.Reporting.{on_err_always}
 use Rattle.ptb_explore.proofs.Keep.{kept_same}
+use Rattle.ptb_explore.proofs.Runners.{changed}
 use Rattle.ptb_explore.proofs.Stopping.{beginning_ends, stopping_agrees}
 use Rattle.ptb_explore.proofs.beginnings.play_beginning.Goals as goal
 
@@ -14,42 +15,42 @@ pub stop_after-requires : goal.stop_after-requires
 stop_after-requires c = record {
   fresh = c.requires.fresh.none_given;
   planned = c.requires.fresh.all_planned;
-  within = omega (arith, c.requires.within, c.args.trial.now.answers.ok.0);
+  within = omega (arith, c.requires.within, c.args.runner.now.trial.answers.ok.0);
 }
 
 pub play_plan-requires : goal.play_plan-requires
 play_plan-requires c = record {
   fresh = record { none_given = c.in_ok-stop_after.ensures.bounds; all_planned = c.in_ok-stop_after.ensures.planned };
-  agrees = stopping_agrees (play c.args.player.now c.args.lines.now c.args.rules) c.args.most c.args.common c.args.trial.now.answers.items c.args.report.now.answers.items _ c.args.report.now.bounds.items c.requires.common
+  agrees = stopping_agrees (play c.args.runner.now.player c.args.runner.now.lines.now c.args.runner.now.rules) c.args.most c.args.common c.args.runner.now.trial.answers.items c.args.runner.now.report.answers.items _ c.args.runner.now.report.bounds.items c.requires.common
       c.in_ok-stop_after.ensures.answers c.requires.agrees;
   copies = c.requires.copies;
 }
 
 pub returns-clause-ends : goal.returns-clause-ends
 returns-clause-ends c =
-    let p = c.args.player.now in
-    let input = c.args.lines.now in
-    let rules = c.args.rules in
-    let report = c.play_plan.new.report in
-    let trial = c.play_plan.new.trial in
+    let p = c.args.runner.now.player in
+    let input = c.args.runner.now.lines.now in
+    let rules = c.args.runner.now.rules in
+    let report = c.play_plan.new.self.report in
+    let trial = c.play_plan.new.self.trial in
     let given : trial.bounds.len ≡ length trial.bounds.items = trial.bounds.ok.0 in
-    let run = beginning_ends (play p input rules) (most_answers p input rules.limit) (c.run_laws.ensures.reads p input rules) c.args.most c.args.trial.now.answers.items c.requires.within c.requires.opens
+    let run = beginning_ends (play p input rules) (most_answers p input rules.limit) (c.run_laws.ensures.reads p input rules) c.args.most c.args.runner.now.trial.answers.items c.requires.within c.requires.opens
     trial (c.in_ok-play_plan.ensures.plan ∙ c.in_ok-stop_after.ensures.answers) report.steps report.transcript.items report.ending c.in_ok-play_plan.ensures.ends in
     rw (c.hand_over.ensures.answers, c.hand_over.ensures.bounds, c.keep_given.ensures.answers, c.keep_given.ensures.bounds, given) run
 
 pub returns-clause-copies : goal.returns-clause-copies
 returns-clause-copies c =
-    let p = c.args.player.now in
-    let input = c.args.lines.now in
-    let report = c.play_plan.new.report in
-    let trial = c.play_plan.new.trial in
+    let p = c.args.runner.now.player in
+    let input = c.args.runner.now.lines.now in
+    let report = c.play_plan.new.self.report in
+    let trial = c.play_plan.new.self.trial in
     let given : trial.bounds.len ≡ length trial.bounds.items = trial.bounds.ok.0 in
-    kept_same p p input input c.args.rules (choices_of trial).taken _ report.transcript.items _ c.play_plan.new.copies.kept.items _ refl refl
+    kept_same p p input input c.args.runner.now.rules (choices_of trial).taken _ report.transcript.items _ c.play_plan.new.self.copies.kept.items _ refl refl
     (c.hand_over.ensures.answers ∙ c.keep_given.ensures.answers ∙ ap (λ n. take n trial.answers.items) given) refl refl c.in_ok-play_plan.ensures.copies
 
 pub returns-in_err-stop_after : goal.returns-in_err-stop_after
 returns-in_err-stop_after c = record {
-  program = refl;
+  same = refl;
   ends = IfOk-from_err _ _ c.from_residual.ensures.0;
   answers = on_err_always _ refl;
   bounds = on_err_always _ refl;
@@ -58,9 +59,12 @@ returns-in_err-stop_after c = record {
 
 pub returns-in_err-play_plan : goal.returns-in_err-play_plan
 returns-in_err-play_plan c = record {
-  program = c.play_plan.ensures.program;
+  same = c.play_plan.ensures.same;
   ends = IfOk-from_err _ _ c.from_residual-in_err-play_plan.ensures.0;
   answers = on_err_always _ c.play_plan.ensures.answers;
   bounds = on_err_always _ c.play_plan.ensures.bounds;
   copies = IfOk-from_err _ _ c.from_residual-in_err-play_plan.ensures.0;
 }
+
+pub returns-clause-same : goal.returns-clause-same
+returns-clause-same c = changed c.play_plan.new.self c.args.runner.now _ _ _ c.play_plan.ensures.same

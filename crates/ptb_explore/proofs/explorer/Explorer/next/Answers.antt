@@ -1,32 +1,42 @@
 -- This file answers that the explorer is at the run whose report it lends, with copies of that run.
 use Rattle.std.proofs.Common.{rules, ◌≡◌, ℕ, List, [], true, refl, ap, sym, ◌∙◌, subst}
+use Rattle.ptb_answers.specs.AnswerText.{answers_of}
 use Rattle.ptb_answers.specs.Outcome.{Answers}
-use Rattle.ptb_text.specs.Statements.{StoredProgram}
-use Rattle.ptb_machine.specs.Play.{play}
+use Rattle.ptb_explore.specs.declared.runner.Runner.{Runner}
 use Rattle.ptb_explore.specs.Copies.{KeptRun, kept_runs}
-use Rattle.ptb_explore.specs.Exploring.{Exploration, FoundNext, NextPlays, RefusedNext, play_of, played_after}
+use Rattle.ptb_explore.specs.Exploring.{Exploration, FoundNext, NextPlays, RefusedNext, exploration, game_of, play_of, played_after}
 use Rattle.ptb_explore.specs.Plans.{front_at}
-use Rattle.ptb_explore.specs.RunTree.{At, IsLast}
+use Rattle.ptb_explore.specs.RunTree.{At, Front, IsLast}
 use Rattle.ptb_explore.proofs.Exits.{err_no_ok}
+use Rattle.ptb_explore.proofs.GoingOn.{none_at}
 use Rattle.ptb_explore.proofs.Keep.{kept_beginnings}
+use Rattle.ptb_explore.proofs.Opened.{stays}
 use Rattle.ptb_explore.proofs.explorer.Explorer.next.Goals as goal
+
+-- what contracts see of an explorer with this runner
+abbrev seen : Runner → Answers → Front → List KeptRun → ℕ → Exploration
+seen r under front kept played = exploration r.player r.lines.now r.rules under front kept played
 
 pub returns-in-Ok-true : goal.returns-in-Ok-true
 returns-in-Ok-true c =
     let e = c.self.inside in
-    let new = c.report_next-found.new in
+    let old = e.runner in
+    let new = c.report_next-found.new.self in
     let r = new.report in
+    let under = answers_of e.under.items in
     let runs : List KeptRun = kept_runs r.answers.items new.copies.kept.items in
-    let old : Exploration = record { program = e.player; input = e.lines.now; rules = e.rules; under = e.under.items; front = front_at e.position e.report.answers.items; kept = kept_runs e.report.answers.items e.copies.kept.items; played = e.played } in
-    let plays : NextPlays old.kept e.played r new.played true = rw c.in-Ok-true.field-0-test at c.in-Ok-true.ensures.played in
-    let now : record { program = new.player; input = e.lines.now; rules = e.rules; under = e.under.items; front = At r.answers.items; kept = runs; played = new.played } ≡ record old { front = At r.answers.items; kept = runs; played = played_after old.kept old.played r } =
-    ap (λ (P : StoredProgram). record { program = P; input = e.lines.now; rules = e.rules; under = e.under.items; front = At r.answers.items; kept = runs; played = new.played }) c.in-Ok-true.ensures.program
-    ∙ ap (λ (n : ℕ). record { program = e.player; input = e.lines.now; rules = e.rules; under = e.under.items; front = At r.answers.items; kept = runs; played = n }) plays in
-    let found : FoundNext old r (record { program = new.player; input = e.lines.now; rules = e.rules; under = e.under.items; front = At r.answers.items; kept = runs; played = new.played }) = record {
+    let before : List KeptRun = kept_runs old.report.answers.items old.copies.kept.items in
+    let was = seen old under (front_at e.position old.report.answers.items) before old.played in
+    let is = seen new under (At r.answers.items) runs new.played in
+    let plays : NextPlays before old.played r new.played true = rw c.in-Ok-true.field-0-test at c.in-Ok-true.ensures.played in
+    let now : is ≡ record was { front = At r.answers.items; kept = runs; played = played_after was.kept was.played r } =
+    ap (λ (q : Runner). seen q under (At r.answers.items) runs new.played) c.in-Ok-true.ensures.same
+    ∙ ap (λ n. seen old under (At r.answers.items) runs n) plays in
+    let found : FoundNext was r is = record {
       now = now;
-      kept = kept_beginnings e.player e.lines.now e.rules r.answers.items r.transcript.items new.copies.kept.items (c.in-Ok-true.ensures.copies c.in-Ok-true.field-0-test);
+      kept = kept_beginnings old.player old.lines.now old.rules r.answers.items r.transcript.items new.copies.kept.items (c.in-Ok-true.ensures.copies c.in-Ok-true.field-0-test);
     } in
-    ((refl, (λ _. tt), subst (λ (x : Exploration). FoundNext x r (record { program = new.player; input = e.lines.now; rules = e.rules; under = e.under.items; front = At r.answers.items; kept = runs; played = new.played })) c.self.view_is found), search rules)
+    ((refl, (λ _. tt), subst (λ (x : Exploration). FoundNext x r is) c.self.view_is found), search rules)
 
 pub invariant_of-self-in-Ok-false : goal.invariant_of-self-in-Ok-false
 invariant_of-self-in-Ok-false c = search rules fits 50 depth 2
@@ -35,22 +45,29 @@ pub returns-in-Ok-false : goal.returns-in-Ok-false
 returns-in-Ok-false c = search rules fits 50 depth 2
 
 pub invariant_of-self-in-Err : goal.invariant_of-self-in-Err
-invariant_of-self-in-Err c = search rules fits 50 depth 2
+invariant_of-self-in-Err c =
+    let e = c.self.inside in
+    let new = c.report_next-found.new.self in (
+      stays e.runner new c.in-Err.ensures.same (answers_of e.under.items) e.position c.in-Err.ensures.answers c.in-Err.ensures.bounds c.self.invariant.0,
+      none_at new.player new.lines.now new.rules e.position new.report c.clear-in-Err.new.self.kept.items c.clear-in-Err.ensures,
+    )
 
 pub returns-in-Err : goal.returns-in-Err
 returns-in-Err c =
     let e = c.self.inside in
-    let ended : IsLast (play_of c.args.self.now) c.args.self.now.under c.args.self.now.front → IsLast (play e.player e.lines.now e.rules) c.deref.result.now (front_at e.position e.report.answers.items) =
+    let old = e.runner in
+    let under = answers_of e.under.items in
+    let ended : IsLast (play_of c.args.self.now) c.args.self.now.under c.args.self.now.front → IsLast (game_of old) (answers_of c.deref.result.now) (front_at e.position old.report.answers.items) =
     (λ last. rw c.deref.ensures.value (subst (λ (x : Exploration). IsLast (play_of x) x.under x.front) (sym c.self.view_is) last)) in
-    let new = c.report_next-found.new in
+    let new = c.report_next-found.new.self in
     let kept : List KeptRun = kept_runs new.report.answers.items c.clear-in-Err.new.self.kept.items in
-    let here : StoredProgram → Answers → List KeptRun → Exploration = (λ P a runs. record { program = P; input = e.lines.now; rules = e.rules; under = e.under.items; front = front_at e.position a; kept = runs; played = new.played }) in
-    let old : Exploration = record { program = e.player; input = e.lines.now; rules = e.rules; under = e.under.items; front = front_at e.position e.report.answers.items; kept = kept_runs e.report.answers.items e.copies.kept.items; played = e.played } in
-    let now : here new.player new.report.answers.items kept ≡ record old { kept = []; played = new.played } =
-    ap (λ P. here P new.report.answers.items kept) c.in-Err.ensures.program
-    ∙ ap (λ a. here e.player a kept) c.in-Err.ensures.answers
-    ∙ ap (λ runs. here e.player e.report.answers.items runs) (ap (kept_runs new.report.answers.items) c.clear-in-Err.ensures) in (
-      (refl, (λ _. tt), subst (λ (x : Exploration). RefusedNext x (here new.player new.report.answers.items kept)) c.self.view_is (record { now = now; played = c.in-Err.ensures.rises; once = c.in-Err.ensures.once })),
+    let was = seen old under (front_at e.position old.report.answers.items) (kept_runs old.report.answers.items old.copies.kept.items) old.played in
+    let is = seen new under (front_at e.position new.report.answers.items) kept new.played in
+    let now : is ≡ record was { kept = []; played = new.played } =
+    ap (λ (q : Runner). seen q under (front_at e.position new.report.answers.items) kept new.played) c.in-Err.ensures.same
+    ∙ ap (λ a. seen old under (front_at e.position a) kept new.played) c.in-Err.ensures.answers
+    ∙ ap (λ runs. seen old under (front_at e.position old.report.answers.items) runs new.played) (ap (kept_runs new.report.answers.items) c.clear-in-Err.ensures) in (
+      (refl, (λ _. tt), subst (λ (x : Exploration). RefusedNext x is) c.self.view_is (record { now = now; played = c.in-Err.ensures.rises; once = c.in-Err.ensures.once })),
       record {
         report = tt;
         next = tt;

@@ -1,0 +1,70 @@
+-- This file answers that a run begins with a list exactly where all of its answers are taken, and its bounds are as they are stated.
+use Rattle.std.proofs.Common.{◌≡◌, ◌≤◌, ◌<◌, ◌∙◌, [], length, ap, sym, subst, arith}
+use Rattle.ptb_answers.specs.Outcome.{Answers}
+use Rattle.ptb_machine.specs.Play.{Finish}
+use Rattle.ptb_machine.specs.Questions.{most_answers}
+use Rattle.ptb_explore.specs.Copies.{more_played, play_limit}
+use Rattle.ptb_explore.specs.Exploring.{game_of}
+use Rattle.ptb_explore.specs.Mismatch.{IsItemMismatch}
+use Rattle.ptb_explore.specs.RunTree.{Start, IsNextRun}
+use Rattle.ptb_explore.proofs.Begun.{list_opens, begun_stated}
+use Rattle.ptb_explore.proofs.Exits.{same_misfit}
+use Rattle.ptb_explore.proofs.Mismatches.{answers_length, if_none_at, if_some_at}
+use Rattle.ptb_explore.proofs.Next.{next_same}
+use Rattle.ptb_explore.proofs.Raising.{plan_ends, start_plan}
+use Rattle.ptb_explore.proofs.Trial.{begun_opens, open_ends, result_is}
+use Rattle.ptb_explore.proofs.runner.Runner.check_beginning.Goals as goal
+
+pub play_from_start-requires : goal.play_from_start-requires
+play_from_start-requires c = record {
+  fresh = record { none_given = c.in_ok-replay.ensures.bounds; all_planned = c.in_ok-replay.ensures.planned };
+  none = c.requires.none;
+}
+
+pub item_mismatch-requires : goal.item_mismatch-requires
+item_mismatch-requires c = c.in_ok-ending.ensures.plan ∙ c.in_ok-replay.ensures.answers
+
+pub returns-in-None-clause-beginning : goal.returns-in-None-clause-beginning
+returns-in-None-clause-beginning c =
+    let old = c.args.self.now in
+    let game = game_of old in
+    let most = most_answers old.player old.lines.now old.rules.limit in
+    let reads = c.run_laws.ensures.reads old.player old.lines.now old.rules in
+    let plan = c.replay.new.self.answers.items in
+    let new = c.play_from_start.new.self.trial in
+    let are = c.in_ok-replay.ensures.answers in
+    let is = if_none_at c.in-None.is c.item_mismatch.ensures.taken in
+    let all : length plan ≤ length new.bounds.items = omega (arith, is.taken, ap length are, answers_length c.args.list.now) in
+    let begun = begun_opens game new _ c.play_from_start.new.self.report.transcript.items most reads plan c.in_ok-ending.ensures.plan all _ c.in_ok-ending.ensures.ends in (
+      list_opens old.player old.lines.now old.rules c.args.list.now plan are begun.0,
+      begun_stated old.player old.lines.now old.rules c.args.list.now plan are new.bounds.items begun.1 is.states,
+    )
+
+pub returns-in-None-clause-played : goal.returns-in-None-clause-played
+returns-in-None-clause-played c = λ a first f over.
+    let old = c.args.self.now in
+    let game = game_of old in
+    let most = most_answers old.player old.lines.now old.rules.limit in
+    let reads = c.run_laws.ensures.reads old.player old.lines.now old.rules in
+    let plan = c.replay.new.self.answers.items in
+    let new = c.play_from_start.new.self.trial in
+    let shown = c.play_from_start.new.self.report.transcript.items in
+    let planned = c.in_ok-ending.ensures.plan in
+    let ends = c.in_ok-ending.ensures.ends in
+    let are = c.in_ok-replay.ensures.answers in
+    let is = if_none_at c.in-None.is c.item_mismatch.ensures.taken in
+    let all : length plan ≤ length new.bounds.items = omega (arith, is.taken, ap length are, answers_length c.args.list.now) in
+    let begun = begun_opens game new _ shown most reads plan planned all _ ends in
+    let end = open_ends game new _ shown most reads plan planned begun.0 _ ends in
+    let next = plan_ends game most reads plan Start plan new.answers.items new.bounds.items _ (start_plan game most reads plan begun.0) end in
+    let same : a ≡ new.answers.items = next_same game most reads plan Start a new.answers.items (subst (λ (b : Answers). IsNextRun game b Start a) (sym are) first) next in
+    let finish : _ ≡ f = result_is _ f [] [] (sym end.outcome ∙ ap game (sym same) ∙ over) in
+    (c.in_ok-ending.ensures.played ∙ ap (λ (x : Finish). more_played old.played x.steps) finish, subst (λ (x : Finish). x.steps < play_limit) finish c.in_ok-ending.ensures.few)
+
+pub returns-in-Some-clause-mismatch : goal.returns-in-Some-clause-mismatch
+returns-in-Some-clause-mismatch c = λ m fault.
+    let old = c.args.self.now in
+    let game = game_of old in
+    let reads = c.run_laws.ensures.reads old.player old.lines.now old.rules in
+    same_misfit (IsItemMismatch game c.args.list.now) _ m fault
+    (if_some_at _ c.in-Some.is (c.item_mismatch.ensures.mismatch game (most_answers old.player old.lines.now old.rules.limit) _ c.play_from_start.new.self.report.transcript.items reads c.in_ok-ending.ensures.ends))

@@ -1,0 +1,41 @@
+-- This file answers that a run is played from its beginning.
+use Rattle.std.proofs.Common.{◌≡◌, List, ℕ, [], ◌∙◌, take, Some, length, ap, subst}
+use Rattle.std.specs.Prelude.{ℤ}
+use Rattle.ptb_devices.specs.Sources.{LineList}
+use Rattle.ptb_machine.specs.Play.{play}
+use Rattle.ptb_explore.specs.Copies.{AreCopies}
+use Rattle.ptb_explore.specs.Playing.{PlayEnds}
+use Rattle.ptb_explore.specs.Recording.{choices_of}
+use Rattle.ptb_explore.proofs.RunPrefix.{run_prefix_at_first}
+use Rattle.ptb_explore.proofs.Runners.{reported}
+use Rattle.ptb_explore.proofs.Trial.{fresh_plan}
+use Rattle.ptb_explore.proofs.runner.Runner.play_from_start.Goals as goal
+
+pub play_on-requires-clause-run_prefix : goal.play_on-requires-clause-run_prefix
+play_on-requires-clause-run_prefix c =
+    let trial = c.args.self.now.trial in
+    let input = c.args.self.now.lines.now in
+    let taken : (choices_of trial).taken ≡ [] = ap (λ (bs : List ℤ). take (length bs) trial.answers.items) c.requires.fresh.none_given in
+    let kept : (choices_of trial).kept ≡ Some [] = ap Some c.requires.fresh.none_given in
+    rw (c.new-source.ensures, c.new-screen.ensures) (run_prefix_at_first c.args.self.now.player input c.args.self.now.rules (choices_of trial) c.in_ok-machine.machine taken kept (c.in_ok-machine.ensures.first input c.args.self.now.rules.choose))
+
+pub returns-clause-plan : goal.returns-clause-plan
+returns-clause-plan c = c.in_ok-ending.ensures.plan ∙ fresh_plan c.args.self.now.trial c.requires.fresh
+
+pub returns-clause-ends : goal.returns-clause-ends
+returns-clause-ends c =
+    let p = c.args.self.now.player in
+    let new = choices_of c.play_on.new.self.trial in
+    let lines : c.new-source.result.lines ≡ c.args.self.now.lines.now = ap (λ (s : LineList). s.lines) c.new-source.ensures in
+    let ends = subst (λ (ls : List (List ℕ)). PlayEnds (play p ls c.args.self.now.rules) new c.play_on.new.self.trial.refused_bound c.play_on.new.machine.steps c.play_on.new.screen c.in_ok-ending.ending) lines c.in_ok-ending.ensures.ends in
+    rw (c.into_vec.ensures, c.steps-steps.ensures) ends
+
+pub returns-clause-copies : goal.returns-clause-copies
+returns-clause-copies c =
+    let new = choices_of c.play_on.new.self.trial in
+    let lines : c.new-source.result.lines ≡ c.args.self.now.lines.now = ap (λ (s : LineList). s.lines) c.new-source.ensures in
+    let copies = subst (λ (ls : List (List ℕ)). AreCopies c.args.self.now.player ls c.args.self.now.rules new.taken c.play_on.new.screen c.play_on.new.self.copies.kept.items) lines c.in_ok-ending.ensures.copies in
+    rw c.into_vec.ensures copies
+
+pub returns-clause-same : goal.returns-clause-same
+returns-clause-same c = reported c.play_on.new.self c.args.self.now _ _ _ _ c.play_on.ensures.same

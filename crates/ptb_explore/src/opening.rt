@@ -1,0 +1,303 @@
+// This file opens explorers: before the first of their runs, or at one of them.
+
+ghost use Rattle.std.specs.Prelude.{◌≡◌, List, true, [], IfOk, OnOk, IsErrOf};
+ghost use Rattle.ptb_answers.specs.AnswerText.{answers_of, unmarked};
+ghost use Rattle.ptb_answers.specs.Outcome.{Answers, bounds as bounds_of};
+ghost use Rattle.ptb_machine.specs.Play.{play};
+ghost use Rattle.ptb_machine.specs.Questions.{most_answers};
+ghost use Rattle.ptb_explore.specs.Copies.{AreBeginnings, AreCopies};
+ghost use Rattle.ptb_explore.specs.Exploring.{exploration, game_of, play_of};
+ghost use Rattle.ptb_explore.specs.Exploring.{IsAdded, IsPlayed, IsSameGame};
+ghost use Rattle.ptb_explore.specs.Laws.{TreeLaws};
+ghost use Rattle.ptb_explore.specs.MarkedRuns.{IsMarkedRun, IsMarkedBeginning};
+ghost use Rattle.ptb_explore.specs.Mismatch.{IsItemMismatch, IsRunMismatch};
+ghost use Rattle.ptb_explore.specs.RunTree.{At, IsNextRun, IsRun, Start, begins_with};
+
+use crate::explorer::Explorer;
+use crate::fault::{AfterFault, UnderFault};
+use crate::form::{copied, items_begin_with, unmarked};
+use crate::mismatch::{Mismatch, item_mismatch, run_mismatch};
+use crate::plan::Position;
+use crate::runner::Runner;
+use ptb_answers::Marked;
+use ptb_machine::{Line, Rules, run_laws};
+use ptb_text::Program;
+use std::alloc::{AllocError, Global};
+
+impl<'a> Runner<'a> {
+    // Plays the answers of a list, and makes the report of their run, if they are a run and each bound
+    // that is stated is that of its question.
+    fn check_run(&mut self, list: &[Marked]) -> Result<(), AfterFault>
+        ensures same { IsSameGame self.old self.new }
+        ensures run { OnOk result (IsMarkedRun (game_of self.old) list.now) }
+        ensures answers { OnOk result (self.new.report.answers.items ≡ answers_of list.now) }
+        ensures bounds { OnOk result (self.new.report.bounds.items
+            ≡ bounds_of (game_of self.old) (answers_of list.now)) }
+        ensures copies { OnOk result (AreCopies self.old.player self.old.lines.now self.old.rules
+            (answers_of list.now) self.new.report.transcript.items self.new.copies.kept.items) }
+        ensures played { OnOk result (IsAdded (game_of self.old) (answers_of list.now)
+            self.old.played self.new.played) }
+        ensures mismatch { (m : Mismatch) → IsErrOf result (AfterFault.NotARun m)
+            → IsRunMismatch (game_of self.old) [] list.now m }
+
+        // Memory is refused to the play, before its steps are known, and never to the comparison.
+        ensures memory { IsErrOf result AfterFault.Memory → self.new.played ≡ self.old.played }
+    {
+        run_laws();
+        self.copies.clear();
+        self.trial.replay(list)?;
+        let ending = self.play_from_start()?;
+        if let Some(mismatch) = run_mismatch(list, &self.trial, ending) {
+            return Err(AfterFault::NotARun(mismatch));
+        }
+        self.trial.hand_over(&mut self.report.answers, &mut self.report.bounds);
+        Ok(())
+    }
+
+    // Plays the answers of a list and then ones, and looks whether all of the answers are taken and
+    // each bound that is stated is that of the question: a run begins with the list then.
+    fn check_beginning(&mut self, list: &[Marked]) -> Result<(), UnderFault>
+        requires none { self.old.copies.kept.items ≡ [] }
+        ensures same { IsSameGame self.old self.new }
+        ensures beginning { OnOk result (IsMarkedBeginning (game_of self.old) list.now) }
+        ensures none { OnOk result (self.new.copies.kept.items ≡ []) }
+        ensures played { OnOk result ((a : Answers)
+            → IsNextRun (game_of self.old) (answers_of list.now) Start a
+            → IsAdded (game_of self.old) a self.old.played self.new.played) }
+        ensures mismatch { (m : Mismatch) → IsErrOf result (UnderFault.NoBeginning m)
+            → IsItemMismatch (game_of self.old) list.now m }
+
+        // Memory is refused before the steps are known, and never to the comparison.
+        ensures memory { IsErrOf result UnderFault.Memory → self.new.played ≡ self.old.played }
+    {
+        run_laws();
+        self.trial.replay(list)?;
+        let ending = self.play_from_start()?;
+        self.copies.clear();
+        match item_mismatch(list, &self.trial, ending) {
+            None => Ok(()),
+            Some(mismatch) => Err(UnderFault::NoBeginning(mismatch)),
+        }
+    }
+}
+
+impl<'a> Explorer<'a> {
+    /// An explorer before the first run of a program with these input lines. Each run is played by
+    /// these rules.
+    ///
+    /// # Errors
+    ///
+    /// Where a growth was refused memory.
+    pub fn start(
+        alloc: Global,
+        program: &'a Program,
+        lines: &'a [Line],
+        rules: Rules,
+    ) -> Result<Explorer<'a>, AllocError>
+        ensures start { IfOk result (λ e.
+            e ≡ exploration program.now lines.now rules [] Start [] 0) }
+
+        // Laws of the definitions.
+        ensures laws { TreeLaws (play program.now lines.now rules)
+            (most_answers program.now lines.now rules.limit) }
+    {
+        run_laws();
+        Ok(Explorer {
+            runner: Runner::new(alloc, program, lines, rules)?,
+            under: Vec::new(alloc),
+            position: Position::AtStart,
+        })
+    }
+
+    /// An explorer before the first of the runs that begin with the answers of a list, of which some
+    /// may have their bounds. It has played the first of them, which shows that a run begins so.
+    ///
+    /// # Errors
+    ///
+    /// [`UnderFault::NoBeginning`] with the reason where no run begins with the answers, or a bound that
+    /// is stated is not that of its question; [`UnderFault::Memory`] where a growth was refused memory.
+    pub fn under(
+        alloc: Global,
+        program: &'a Program,
+        lines: &'a [Line],
+        rules: Rules,
+        list: &[Marked],
+    ) -> Result<Explorer<'a>, UnderFault>
+        ensures under { IfOk result (λ e.
+            e ≡ exploration program.now lines.now rules (answers_of list.now) Start [] e.played) }
+        ensures beginning { OnOk result
+            (IsMarkedBeginning (play program.now lines.now rules) list.now) }
+        ensures played { IfOk result (λ e. (a : Answers)
+            → IsNextRun (play program.now lines.now rules) (answers_of list.now) Start a
+            → IsPlayed (play program.now lines.now rules) a e.played) }
+        ensures no_beginning { (m : Mismatch) → IsErrOf result (UnderFault.NoBeginning m)
+            → IsMarkedBeginning (play program.now lines.now rules) list.now → ⊥ }
+        ensures mismatch { (m : Mismatch) → IsErrOf result (UnderFault.NoBeginning m)
+            → IsItemMismatch (play program.now lines.now rules) list.now m }
+
+        // Laws of the definitions.
+        ensures laws { TreeLaws (play program.now lines.now rules)
+            (most_answers program.now lines.now rules.limit) }
+    {
+        run_laws();
+        let under = copied(alloc, list)?;
+        let mut runner = Runner::new(alloc, program, lines, rules)?;
+        runner.check_beginning(list)?;
+        let position = Position::AtStart;
+        Ok(Explorer {
+            runner,
+            under,
+            position,
+        })
+    }
+
+    /// Moves to the run of the answers of a list, of which some may have their bounds.
+    ///
+    /// # Errors
+    ///
+    /// [`AfterFault::NotARun`] with the reason where the answers do not begin as each run of the
+    /// listing does, or are no run, or a bound that is stated is not that of its question;
+    /// [`AfterFault::Memory`] where a growth was refused memory, never where the answers do not begin
+    /// so.
+    pub fn go_to(mut self, list: &[Marked]) -> Result<Explorer<'a>, AfterFault>
+        ensures there { IfOk result (λ e. e ≡ record self.entry {
+          front = At (answers_of list.now);
+          kept = e.kept;
+          played = e.played;
+        }) }
+        ensures run { OnOk result (IsMarkedRun (play_of self.entry) list.now) }
+        ensures begins { OnOk result (begins_with (answers_of list.now) self.entry.under ≡ true) }
+        ensures kept { IfOk result (λ e. AreBeginnings 0 (answers_of list.now) e.kept) }
+        ensures played { IfOk result (λ e.
+            IsAdded (play_of self.entry) (answers_of list.now) self.entry.played e.played) }
+        ensures not_a_run { (m : Mismatch) → IsErrOf result (AfterFault.NotARun m)
+            → IsMarkedRun (play_of self.entry) list.now
+            → begins_with (answers_of list.now) self.entry.under ≡ true → ⊥ }
+        ensures mismatch { (under : List Marked) → answers_of under ≡ self.entry.under
+            → (m : Mismatch) → IsErrOf result (AfterFault.NotARun m)
+            → IsRunMismatch (play_of self.entry) under list.now m }
+        ensures memory { IsErrOf result AfterFault.Memory
+            → begins_with (answers_of list.now) self.entry.under ≡ true }
+    {
+        run_laws();
+        if !items_begin_with(list, &self.under) {
+            return Err(AfterFault::NotARun(Mismatch::NotUnder));
+        }
+        self.runner.check_run(list)?;
+        self.position = Position::AtRun;
+        Ok(self)
+    }
+
+    /// An explorer that is at the run of these answers.
+    ///
+    /// # Errors
+    ///
+    /// [`AfterFault::NotARun`] with the reason where the answers are no run, [`AfterFault::Memory`]
+    /// where a growth was refused memory.
+    pub fn after(
+        alloc: Global,
+        program: &'a Program,
+        lines: &'a [Line],
+        rules: Rules,
+        answers: &[i16],
+    ) -> Result<Explorer<'a>, AfterFault>
+        ensures after { IfOk result (λ e.
+            e ≡ exploration program.now lines.now rules [] (At answers.now) e.kept e.played) }
+        ensures run { OnOk result (IsRun (play program.now lines.now rules) answers.now) }
+        ensures kept { IfOk result (λ e. AreBeginnings 0 answers.now e.kept) }
+        ensures played { IfOk result (λ e.
+            IsPlayed (play program.now lines.now rules) answers.now e.played) }
+        ensures not_a_run { (m : Mismatch) → IsErrOf result (AfterFault.NotARun m)
+            → IsRun (play program.now lines.now rules) answers.now → ⊥ }
+        ensures mismatch { (m : Mismatch) → IsErrOf result (AfterFault.NotARun m)
+            → IsRunMismatch (play program.now lines.now rules) [] (unmarked answers.now) m }
+
+        // Laws of the definitions.
+        ensures laws { TreeLaws (play program.now lines.now rules)
+            (most_answers program.now lines.now rules.limit) }
+    {
+        run_laws();
+        let list = unmarked(alloc, answers)?;
+        Explorer::after_marked(alloc, program, lines, rules, &list)
+    }
+
+    /// An explorer that is at the run of the answers of a list, of which some may have their
+    /// bounds.
+    ///
+    /// # Errors
+    ///
+    /// [`AfterFault::NotARun`] with the reason where the answers are no run, or a bound that is stated
+    /// is not that of its question; [`AfterFault::Memory`] where a growth was refused memory.
+    pub fn after_marked(
+        alloc: Global,
+        program: &'a Program,
+        lines: &'a [Line],
+        rules: Rules,
+        list: &[Marked],
+    ) -> Result<Explorer<'a>, AfterFault>
+        ensures after { IfOk result (λ e. e ≡ exploration program.now lines.now rules
+            [] (At (answers_of list.now)) e.kept e.played) }
+        ensures run { OnOk result (IsMarkedRun (play program.now lines.now rules) list.now) }
+        ensures kept { IfOk result (λ e. AreBeginnings 0 (answers_of list.now) e.kept) }
+        ensures played { IfOk result (λ e.
+            IsPlayed (play program.now lines.now rules) (answers_of list.now) e.played) }
+        ensures not_a_run { (m : Mismatch) → IsErrOf result (AfterFault.NotARun m)
+            → IsMarkedRun (play program.now lines.now rules) list.now → ⊥ }
+        ensures mismatch { (m : Mismatch) → IsErrOf result (AfterFault.NotARun m)
+            → IsRunMismatch (play program.now lines.now rules) [] list.now m }
+
+        // Laws of the definitions.
+        ensures laws { TreeLaws (play program.now lines.now rules)
+            (most_answers program.now lines.now rules.limit) }
+    {
+        run_laws();
+        Explorer::start(alloc, program, lines, rules)?.go_to(list)
+    }
+
+    /// An explorer of the runs that begin with the answers of a list, which is at the run of the
+    /// answers of a second one. Some of these may have their bounds; the bounds of the first list are
+    /// not looked at.
+    ///
+    /// # Errors
+    ///
+    /// [`AfterFault::NotARun`] with the reason where the answers of the second list do not begin with
+    /// those of the first, or are no run, or a bound that is stated in the second list is not that of
+    /// its question; [`AfterFault::Memory`] where a growth was refused memory, never where the second
+    /// list does not begin with the first.
+    pub fn after_under(
+        alloc: Global,
+        program: &'a Program,
+        lines: &'a [Line],
+        rules: Rules,
+        under: &[Marked],
+        list: &[Marked],
+    ) -> Result<Explorer<'a>, AfterFault>
+        ensures after { IfOk result (λ e. e ≡ exploration program.now lines.now rules
+            (answers_of under.now) (At (answers_of list.now)) e.kept e.played) }
+        ensures run { OnOk result (IsMarkedRun (play program.now lines.now rules) list.now) }
+        ensures begins { OnOk result
+            (begins_with (answers_of list.now) (answers_of under.now) ≡ true) }
+        ensures kept { IfOk result (λ e. AreBeginnings 0 (answers_of list.now) e.kept) }
+        ensures played { IfOk result (λ e.
+            IsPlayed (play program.now lines.now rules) (answers_of list.now) e.played) }
+        ensures not_a_run { (m : Mismatch) → IsErrOf result (AfterFault.NotARun m)
+            → IsMarkedRun (play program.now lines.now rules) list.now
+            → begins_with (answers_of list.now) (answers_of under.now) ≡ true → ⊥ }
+        ensures mismatch { (m : Mismatch) → IsErrOf result (AfterFault.NotARun m)
+            → IsRunMismatch (play program.now lines.now rules) under.now list.now m }
+        ensures memory { IsErrOf result AfterFault.Memory
+            → begins_with (answers_of list.now) (answers_of under.now) ≡ true }
+
+        // Laws of the definitions.
+        ensures laws { TreeLaws (play program.now lines.now rules)
+            (most_answers program.now lines.now rules.limit) }
+    {
+        run_laws();
+        if !items_begin_with(list, under) {
+            return Err(AfterFault::NotARun(Mismatch::NotUnder));
+        }
+        let mut explorer = Explorer::after_marked(alloc, program, lines, rules, list)?;
+        explorer.under = copied(alloc, under)?;
+        Ok(explorer)
+    }
+}

@@ -1,0 +1,244 @@
+// This file has what plays the runs of a listing, one after the other, and makes their reports.
+
+ghost use Rattle.std.specs.Prelude.{◌≡◌, ◌+◌, ◌<◌, ◌≤◌, false, Ok, [], length, drop};
+ghost use Rattle.std.specs.Prelude.{true, IfOk, OnOk, OnErr, IsTrue};
+ghost use Rattle.ptb_answers.specs.AnswerText.{answers_of};
+ghost use Rattle.ptb_answers.specs.Outcome.{is_open};
+ghost use Rattle.ptb_machine.specs.Play.{play};
+ghost use Rattle.ptb_explore.specs.Copies.{Agrees, AreCopies, PlaysOn, WentBack};
+ghost use Rattle.ptb_explore.specs.Copies.{kept_runs, last_steps, play_limit};
+ghost use Rattle.ptb_explore.specs.Exploring.{game_of, finish_of, AreCopiesAt, IsSameGame};
+ghost use Rattle.ptb_explore.specs.Exploring.{NextPlays, NextReports};
+ghost use Rattle.ptb_explore.specs.Playing.{IsRunPrefix, PlayEnds};
+ghost use Rattle.ptb_explore.specs.Plans.{front_at, EndsAt, IsFresh, IsPosition};
+ghost use Rattle.ptb_explore.specs.Recording.{choices_of};
+ghost use Rattle.ptb_explore.specs.RunTree.{IsLast};
+
+use crate::copies::Copies;
+use crate::plan::{Position, plan_next};
+use crate::recorder::Recorder;
+use crate::report::Report;
+use ptb_answers::Marked;
+use ptb_machine::{Line, Lines, Machine, Player, Rules, TextScreen, run_laws};
+use ptb_text::Program;
+use std::alloc::{AllocError, Global};
+use std::mem;
+
+/// Plays runs of a program, one after the other, on the same lines and by the same rules, and has the
+/// report of one of them.
+///
+/// One player plays them all, so that the program is translated once.
+#[derive(Drop)]
+pub(crate) struct Runner<'a> {
+    /// Plays the runs.
+    pub(crate) player: Player<'a>,
+    /// The lines that answer INPUT, in each run from the first on.
+    pub(crate) lines: &'a [Line],
+    /// By which each run is played.
+    pub(crate) rules: Rules,
+    /// Plans the next run, and answers its questions.
+    pub(crate) trial: Recorder,
+    /// The report of the run that was found last.
+    pub(crate) report: Report,
+    /// Copies of the machine, as it was in that run.
+    pub(crate) copies: Copies,
+    /// How many commands were played.
+    pub(crate) played: u64,
+    /// Where memory comes from.
+    pub(crate) alloc: Global,
+}
+
+impl<'a> Runner<'a> {
+    /// A runner that has played nothing.
+    ///
+    /// # Errors
+    ///
+    /// Where a growth was refused memory.
+    pub(crate) fn new(
+        alloc: Global,
+        program: &'a Program,
+        lines: &'a [Line],
+        rules: Rules,
+    ) -> Result<Runner<'a>, AllocError>
+        ensures program { IfOk result (λ r. r.player ≡ program.now) }
+        ensures lines { IfOk result (λ r. r.lines.now ≡ lines.now) }
+        ensures rules { IfOk result (λ r. r.rules ≡ rules) }
+        ensures none { IfOk result (λ r. r.copies.kept.items ≡ []) }
+        ensures played { IfOk result (λ r. r.played ≡ 0) }
+    {
+        Ok(Runner {
+            player: Player::new(alloc, program)?,
+            lines,
+            rules,
+            trial: Recorder::new(alloc),
+            report: Report::new(alloc),
+            copies: Copies::new(),
+            played: 0,
+            alloc,
+        })
+    }
+
+    // Goes back to the newest copy whose answers are among the first that the plan and the report have
+    // in common, or to the beginning of a run, and gives the machine that is there.
+    fn go_back(
+        &mut self,
+        common: usize,
+        screen: &mut TextScreen,
+        source: &mut Lines,
+    ) -> Result<Box<Machine>, AllocError>
+        requires fresh { IsFresh self.old.trial }
+        requires begins { source.old.taken ≡ 0 }
+        requires agrees { Agrees (play self.old.player source.old.lines self.old.rules) common
+            self.old.trial.answers.items self.old.report.answers.items self.old.report.bounds.items }
+        requires copies { AreCopies self.old.player source.old.lines self.old.rules
+            self.old.report.answers.items screen.old self.old.copies.kept.items }
+        ensures same { self.new ≡ record self.old {
+          trial = self.new.trial;
+          copies = self.new.copies;
+        } }
+        ensures plan { (choices_of self.new.trial).plan ≡ self.old.trial.answers.items }
+        ensures same_lines { source.new.lines ≡ source.old.lines }
+        ensures within { OnOk result (source.new.taken ≤ length source.new.lines) }
+        ensures unspent { IfOk result (λ b. b.value.spent ≡ false) }
+        ensures run_prefix { IfOk result (λ b. IsRunPrefix self.old.player source.old.lines
+            self.old.rules (choices_of self.new.trial) screen.new
+            (drop source.new.taken source.new.lines) b.value) }
+        ensures copies { OnOk result (AreCopies self.old.player source.old.lines self.old.rules
+            (choices_of self.new.trial).taken screen.new self.new.copies.kept.items) }
+        ensures back { OnOk result
+            (WentBack common self.old.copies.kept.items self.new.copies.kept.items) }
+        ensures steps { IfOk result (λ b. b.value.steps ≡ last_steps self.new.copies.kept.items) }
+    {
+        match self.copies.go_back(self.alloc, common)? {
+            None => {
+                screen.cut(0);
+                self.copies.begin(self.alloc, &self.player)
+            }
+            Some(copy) => {
+                self.trial.skip(&self.report.bounds[..copy.taken])?;
+                screen.cut(copy.shown);
+                source.go(copy.lines);
+                match copy.machine {
+                    Some(machine) => Ok(machine),
+                    None => unreachable!(),
+                }
+            }
+        }
+    }
+
+    /// Plays its plan on from a copy, for the steps and the transcript of the report, which keeps its
+    /// answers. The first answers of the plan are those of the report, as many as `common` says. The
+    /// steps are added to those played.
+    ///
+    /// # Errors
+    ///
+    /// Where a growth was refused memory.
+    pub(crate) fn play_plan(&mut self, common: usize) -> Result<(), AllocError>
+        requires fresh { IsFresh self.old.trial }
+        requires agrees { Agrees (game_of self.old) common
+            self.old.trial.answers.items self.old.report.answers.items self.old.report.bounds.items }
+        requires copies { AreCopies self.old.player self.old.lines.now self.old.rules
+            self.old.report.answers.items self.old.report.transcript.items
+            self.old.copies.kept.items }
+        ensures same { IsSameGame self.old self.new }
+        ensures plan { OnOk result
+            ((choices_of self.new.trial).plan ≡ self.old.trial.answers.items) }
+        ensures ends { OnOk result (PlayEnds (game_of self.old) (choices_of self.new.trial)
+            self.new.trial.refused_bound
+            self.new.report.steps self.new.report.transcript.items self.new.report.ending) }
+        ensures answers { self.new.report.answers.items ≡ self.old.report.answers.items }
+        ensures bounds { self.new.report.bounds.items ≡ self.old.report.bounds.items }
+        ensures copies { OnOk result (AreCopies self.old.player self.old.lines.now self.old.rules
+            (choices_of self.new.trial).taken self.new.report.transcript.items
+            self.new.copies.kept.items) }
+        ensures played { OnOk result (PlaysOn common self.old.copies.kept.items self.old.played
+            self.new.report.steps self.new.played) }
+        ensures rises { self.old.played ≤ self.new.played }
+        ensures once { self.new.played < self.old.played + play_limit }
+    {
+        let transcript = mem::replace(&mut self.report.transcript, Vec::new(self.alloc));
+        let mut screen = TextScreen::from_vec(transcript);
+        let mut source = Lines::new(self.lines);
+        let machine = self.go_back(common, &mut screen, &mut source);
+        let mut machine = machine?;
+        let ending = self.play_counted(&mut machine, &mut screen, &mut source);
+        let steps = machine.steps();
+        self.copies.give_back(machine);
+        self.report.transcript = screen.into_vec();
+        self.report.ending = ending?;
+        self.report.steps = steps;
+        Ok(())
+    }
+
+    // Plays a plan as play_plan does, and makes the report of its run.
+    fn report_plan(&mut self, common: usize) -> Result<(), AllocError>
+        requires fresh { IsFresh self.old.trial }
+        requires opens { is_open (game_of self.old self.old.trial.answers.items) ≡ true }
+        requires agrees { Agrees (game_of self.old) common
+            self.old.trial.answers.items self.old.report.answers.items self.old.report.bounds.items }
+        requires copies { AreCopies self.old.player self.old.lines.now self.old.rules
+            self.old.report.answers.items self.old.report.transcript.items
+            self.old.copies.kept.items }
+        ensures same { IsSameGame self.old self.new }
+        ensures ends { OnOk result (EndsAt (game_of self.old) self.old.trial.answers.items
+            self.new.report.answers.items self.new.report.bounds.items (finish_of self.new.report)) }
+        ensures answers { OnErr result
+            (self.new.report.answers.items ≡ self.old.report.answers.items) }
+        ensures bounds { OnErr result (self.new.report.bounds.items ≡ self.old.report.bounds.items) }
+        ensures copies { OnOk result (AreCopies self.old.player self.old.lines.now self.old.rules
+            self.new.report.answers.items self.new.report.transcript.items
+            self.new.copies.kept.items) }
+        ensures played { OnOk result (PlaysOn common self.old.copies.kept.items self.old.played
+            self.new.report.steps self.new.played) }
+        ensures rises { self.old.played ≤ self.new.played }
+        ensures once { self.new.played < self.old.played + play_limit }
+    {
+        run_laws();
+        self.play_plan(common)?;
+        self.trial.hand_over(&mut self.report.answers, &mut self.report.bounds);
+        Ok(())
+    }
+
+    /// Makes the report of the next run of those that begin with some answers, and says whether there
+    /// is one. The listing stands at the run of the report, or as the position says.
+    ///
+    /// # Errors
+    ///
+    /// Where a growth was refused memory, never where no run is left. The report keeps its answers.
+    pub(crate) fn report_next(
+        &mut self,
+        position: Position,
+        under: &[Marked],
+    ) -> Result<bool, AllocError>
+        requires position { IsPosition (game_of self.old) (answers_of under.now) position
+            self.old.report.answers.items self.old.report.bounds.items }
+        requires copies { AreCopiesAt self.old.player self.old.lines.now self.old.rules position
+            self.old.report self.old.copies.kept.items }
+        ensures same { IsSameGame self.old self.new }
+        ensures next { IfOk result (NextReports (game_of self.old) (answers_of under.now)
+            (front_at position self.old.report.answers.items) self.new.report) }
+        ensures answers { OnErr result
+            (self.new.report.answers.items ≡ self.old.report.answers.items) }
+        ensures bounds { OnErr result (self.new.report.bounds.items ≡ self.old.report.bounds.items) }
+        ensures ended { IsLast (game_of self.old) (answers_of under.now)
+            (front_at position self.old.report.answers.items) → result ≡ Ok false }
+        ensures copies { IfOk result (λ found. IsTrue found → AreCopies self.old.player
+            self.old.lines.now self.old.rules self.new.report.answers.items
+            self.new.report.transcript.items self.new.copies.kept.items) }
+        ensures played { IfOk result (NextPlays
+            (kept_runs self.old.report.answers.items self.old.copies.kept.items) self.old.played
+            self.new.report self.new.played) }
+        ensures rises { self.old.played ≤ self.new.played }
+        ensures once { self.new.played < self.old.played + play_limit }
+    {
+        run_laws();
+        let report = &self.report;
+        match plan_next(position, under, &report.answers, &report.bounds, &mut self.trial)? {
+            None => Ok(false),
+            Some(common) => {
+                self.report_plan(common)?;
+                Ok(true)
+            }
+        }
+    }
+}
