@@ -235,6 +235,18 @@ pub word_of_list : (s : List ℕ) (list : List Marked) (i : ℕ) (w : List ℕ) 
     → w ≡ get_or (slice_split (λ b. b == 44) s) i w → (m : Marked) × SpellsItem w m
 word_of_list s list i w some h lt at = (_, (word_at s list i w (without_bound (pos 0)) some h lt at).1)
 
+at_map : {A B : Type 0} (P : B → Type 0) (f : A → B) (xs : List A) (i : ℕ) (d : B) → i < length xs → P (get_or (map f xs) i d) → (x : A) × P (f x)
+at_map P f [] i d lt h = absurd (omega arith)
+at_map P f (x ∷ xs) zero d lt h = (x, h)
+at_map P f (x ∷ xs) (suc i) d lt h = at_map P f xs i d (omega arith) h
+
+-- and where each item is that of an x by f, the item of such an x
+pub word_of_items : {X : Type 0} (f : X → Marked) (s : List ℕ) (xs : List X) (i : ℕ) (w : List ℕ) → s ≢ codes "none" → SpellsList s (map f xs) → i < length (slice_split (λ b. b == 44) s)
+    → w ≡ get_or (slice_split (λ b. b == 44) s) i w → (x : X) × SpellsItem w (f x)
+word_of_items f s xs i w some h lt at =
+    let word = word_at s (map f xs) i w (without_bound (pos 0)) some h lt at in
+    at_map (SpellsItem w) f xs i (without_bound (pos 0)) (rw (length-map xs f) at word.0) word.1
+
 -- one more word, and the item that it spells
 pub more_words : (ws : List (Bor (List ℕ))) (a : List Marked) (w : Bor (List ℕ)) (m : Marked) → map (λ v. v.now) ws ≡ map item_text a → item_text m ≡ w.now
     → map (λ v. v.now) (ws ++ w ∷ []) ≡ map item_text (a ++ m ∷ [])
@@ -261,15 +273,3 @@ answers_of-unmarked (k ∷ a) = ap (λ (b : List ℤ). k ∷ b) (answers_of-unma
 pub one_list_of_answers : (s : List ℕ) (a b : List ℤ) → SpellsAnswers s a → SpellsAnswers s b → a ≡ b
 one_list_of_answers s a b h g =
     sym (answers_of-unmarked a) ∙ ap answers_of (one_list s (unmarked a) (unmarked b) h g) ∙ answers_of-unmarked b
-
--- each word of such a text spells an answer alone
-pub word_of_answers : (s : List ℕ) (a : List ℤ) (i : ℕ) (w : List ℕ) → s ≢ codes "none" → SpellsAnswers s a → i < length (slice_split (λ b. b == 44) s)
-    → w ≡ get_or (slice_split (λ b. b == 44) s) i w → (k : ℤ) × SpellsItem w (without_bound k)
-word_of_answers s a i w some h lt at =
-    let word = word_at s (unmarked a) i w (without_bound (pos 0)) some h lt at in
-    let within : i < length a = rw (length-map a without_bound) at word.0 in
-    (get_or a i (pos 0), subst (SpellsItem w) (get_or-map without_bound a i (pos 0) (without_bound (pos 0)) within) word.1)
-
-pub unmarked-push : (a : List ℤ) (k : ℤ) → unmarked (a ++ k ∷ []) ≡ unmarked a ++ without_bound k ∷ []
-unmarked-push [] k = refl
-unmarked-push (j ∷ a) k = ap (λ (list : List Marked). without_bound j ∷ list) (unmarked-push a k)

@@ -1,8 +1,10 @@
 -- This file joins what is known of the request that the arguments make, or of why there is none.
-use Rattle.std.proofs.Common.{◌≡◌, ◌∙◌, ◌≤◌, ◌≤ℤ◌, ℕ, pos, Bool, true, false, Option, Some, None, Result, Ok, Err, IfErr, IfOk, IfSome, ap, arith, refl, subst, sym}
-use Rattle.std.specs.Prelude.{if◌then◌else◌, option_map, unwrap_or}
+use Rattle.std.proofs.Common.{◌≡◌, ◌∙◌, ◌≤◌, ◌≤ℤ◌, ℕ, pos, List, [], ◌∷◌, Bool, true, false, Option, Some, None, Result, Ok, Err, IfErr, IfOk, IfSome, ap, arith, refl, subst, sym}
+use Rattle.std.specs.Prelude.{option_map, unwrap_or}
+use Rattle.std.specs.List.{list_all}
 use Rattle.std.specs.Option.{ForSome}
 use Rattle.std.specs.Result.{IsErrAnd}
+use Rattle.std.proofs.lemmas.Bool.{and_parts, false≢true}
 use Rattle.std.proofs.lemmas.Int.{ints}
 use Rattle.std.proofs.lemmas.Result.{err_from_is_err_and}
 use Rattle.ptb_text.specs.Statements.{IsMemorySize}
@@ -12,77 +14,32 @@ use Rattle.ptb_options.specs.declared.mistakes.MisspelledList.{MisspelledList}
 use Rattle.ptb_options.specs.declared.request.Mode.{Mode}
 use Rattle.ptb_options.specs.declared.request.Request.{Request}
 use Rattle.ptb_options.specs.declared.usage.UsageFault.{UsageFault}
-use Rattle.ptb_options.specs.declared.usage.UsageFault.TheVariants.{ListWithOther, CheckWithOther, ChancesWithOther, AfterWithoutAll, FirstWithoutAll, FormWithoutAll, UnderWithoutAll, SharesWithoutAll, SharesWithOther, SampleWithoutSeed, AnswersWithAll, SeedWithAll, SeedWithAnswers, BadList, Memory}
-use Rattle.ptb_options.specs.Options.{Asks, AsksMode, HasBound, HasMemorySize, IsFirstMisspelled, Options, Refuses, WantsMemory, clash, IsRulesOf, default_memory, default_steps, usage_fault}
+use Rattle.ptb_options.specs.declared.usage.UsageFault.TheVariants.{BadList, Memory}
+use Rattle.ptb_options.specs.Options.{Asks, AsksMode, HasBound, HasMemorySize, IsFirstMisspelled, Options, Refuses, WantsMemory, clash, clashes, first_fault, IsRulesOf, default_memory, default_steps, usage_fault}
 use Rattle.ptb_options.proofs.ListsKept.{first_misspelled}
 
--- the first of these faults whose test is true
-abbrev first_fault : Bool → Bool → Bool → Bool → Bool → Bool → Bool → Bool → Bool → Bool → Bool → Bool → Bool → Option UsageFault
-first_fault a b c d e f g h i j k l m =
-    if a then Some ListWithOther
-    else (if b then Some CheckWithOther
-    else (if c then Some ChancesWithOther
-    else (if d then Some AfterWithoutAll
-    else (if e then Some FirstWithoutAll
-    else (if f then Some FormWithoutAll
-    else (if g then Some UnderWithoutAll
-    else (if h then Some SharesWithoutAll
-    else (if i then Some SharesWithOther
-    else (if j then Some SampleWithoutSeed
-    else (if k then Some AnswersWithAll
-    else (if l then Some SeedWithAll
-    else (if m then Some SeedWithAnswers
-    else None))))))))))))
+-- ---- options that clash
 
-not_bad : (a b c d e f g h i j k l m : Bool) → first_fault a b c d e f g h i j k l m ≡ Some BadList → ⊥
-not_bad true b c d e f g h i j k l m is = cc
-not_bad false true c d e f g h i j k l m is = cc
-not_bad false false true d e f g h i j k l m is = cc
-not_bad false false false true e f g h i j k l m is = cc
-not_bad false false false false true f g h i j k l m is = cc
-not_bad false false false false false true g h i j k l m is = cc
-not_bad false false false false false false true h i j k l m is = cc
-not_bad false false false false false false false true i j k l m is = cc
-not_bad false false false false false false false false true j k l m is = cc
-not_bad false false false false false false false false false true k l m is = cc
-not_bad false false false false false false false false false false true l m is = cc
-not_bad false false false false false false false false false false false true m is = cc
-not_bad false false false false false false false false false false false false true is = cc
-not_bad false false false false false false false false false false false false false is = cc
+abbrev is_clash : UsageFault → Bool
+is_clash BadList = false
+is_clash Memory = false
+is_clash fault = true
 
-not_memory : (a b c d e f g h i j k l m : Bool) → first_fault a b c d e f g h i j k l m ≡ Some Memory → ⊥
-not_memory true b c d e f g h i j k l m is = cc
-not_memory false true c d e f g h i j k l m is = cc
-not_memory false false true d e f g h i j k l m is = cc
-not_memory false false false true e f g h i j k l m is = cc
-not_memory false false false false true f g h i j k l m is = cc
-not_memory false false false false false true g h i j k l m is = cc
-not_memory false false false false false false true h i j k l m is = cc
-not_memory false false false false false false false true i j k l m is = cc
-not_memory false false false false false false false false true j k l m is = cc
-not_memory false false false false false false false false false true k l m is = cc
-not_memory false false false false false false false false false false true l m is = cc
-not_memory false false false false false false false false false false false true m is = cc
-not_memory false false false false false false false false false false false false true is = cc
-not_memory false false false false false false false false false false false false false is = cc
+-- the fault of a table is that of one of its rows
+in_table : (rows : List (Bool × UsageFault)) (fault : UsageFault) → list_all (λ row. is_clash row.1) rows ≡ true → first_fault rows ≡ Some fault → is_clash fault ≡ true
+in_table [] fault each found = absurd (cc)
+in_table ((true, kept) ∷ rows) fault each found =
+    let same : kept ≡ fault = cc in
+    let first = and_parts (is_clash kept) _ each in
+    ap is_clash (sym same) ∙ first.0
+in_table ((false, kept) ∷ rows) fault each found =
+    let first = and_parts (is_clash kept) _ each in
+    in_table rows fault first.1 found
 
--- why options clash
 Refuses-clash : (o : Options) (fault : UsageFault) → clash o ≡ Some fault → Refuses o fault
-Refuses-clash o ListWithOther e = e
-Refuses-clash o CheckWithOther e = e
-Refuses-clash o ChancesWithOther e = e
-Refuses-clash o AfterWithoutAll e = e
-Refuses-clash o FirstWithoutAll e = e
-Refuses-clash o FormWithoutAll e = e
-Refuses-clash o UnderWithoutAll e = e
-Refuses-clash o SharesWithoutAll e = e
-Refuses-clash o SharesWithOther e = e
-Refuses-clash o SampleWithoutSeed e = e
-Refuses-clash o AnswersWithAll e = e
-Refuses-clash o SeedWithAll e = e
-Refuses-clash o SeedWithAnswers e = e
-Refuses-clash o BadList e = absurd (not_bad _ _ _ _ _ _ _ _ _ _ _ _ _ e)
-Refuses-clash o Memory e = absurd (not_memory _ _ _ _ _ _ _ _ _ _ _ _ _ e)
+Refuses-clash o BadList e = absurd (false≢true (in_table (clashes o) BadList refl e))
+Refuses-clash o Memory e = absurd (false≢true (in_table (clashes o) Memory refl e))
+Refuses-clash o fault e = e
 
 -- the size that is given, or the default
 pub size_of : (kept : Option ℕ) (memory : ℕ) → ForSome kept IsMemorySize → memory ≡ unwrap_or kept 4096 → IsMemorySize memory

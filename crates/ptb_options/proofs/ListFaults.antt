@@ -14,7 +14,7 @@ use Rattle.ptb_options.specs.declared.mistakes.Bounds.TheVariants.{Allowed, Refu
 use Rattle.ptb_options.specs.declared.mistakes.Mistake.{Mistake}
 use Rattle.ptb_options.specs.declared.mistakes.ItemFault.{ItemFault}
 use Rattle.ptb_options.specs.declared.mistakes.ItemFault.TheVariants.{HasBound, NotANumber}
-use Rattle.ptb_options.proofs.AnswerTexts.{list_of_words, one_item, word_of_answers, word_of_list}
+use Rattle.ptb_options.proofs.AnswerTexts.{list_of_words, one_item, word_of_items, word_of_list}
 
 -- ---- one item
 
@@ -73,7 +73,7 @@ list_of_items Refused s each =
 -- and one of which a piece is none doesn't
 pub no_list : (bounds : Bounds) (s : List ℕ) (i : ℕ) (w : List ℕ) → s ≢ codes "none" → i < length (pieces s) → w ≡ get_or (pieces s) i w → (IsItemOf bounds w → ⊥) → IsListOf bounds s → ⊥
 no_list Allowed s i w some within at refused list = refused (word_of_list s list.0 i w some list.1 within at)
-no_list Refused s i w some within at refused list = refused (word_of_answers s list.0 i w some list.1 within at)
+no_list Refused s i w some within at refused list = refused (word_of_items without_bound s list.0 i w some list.1 within at)
 
 -- the place of a piece among all of a text
 pub place_of : (all front : List (List ℕ)) (i : ℕ) (w : List ℕ) → front ≡ take i all → i < length all → w ≡ get_or all i w → all ≡ front ++ w ∷ drop (i + 1) all

@@ -1,6 +1,6 @@
 -- This file proves what the ways out of reading a list tell, from what its reader knows of each step.
 use Rattle.std.proofs.Common.{◌≡◌, ◌≢◌, ◌∙◌, ap, sym, ℕ, Bool, true, false, List, [], ℤ, Result, Ok, Err, IfOk, subst}
-use Rattle.std.specs.Prelude.{codes, nat_eq}
+use Rattle.std.specs.Prelude.{codes, map, nat_eq}
 use lib.Pointwise.{pointwise}
 use Rattle.std.specs.Result.{IsErrAnd}
 use Rattle.std.proofs.lemmas.List.Elements.{All-nil}
@@ -30,15 +30,17 @@ pub refused_is_read : {T : Type 0} (P : T → Type 0) (r : Result T ListFault) (
 refused_is_read P (Ok x) fault is = absurd is
 refused_is_read P (Err other) fault is = tt
 
+-- a fault that is passed on
+pub passed_on : {T U : Type 0} (r : Result T ListFault) (fault kind : ListFault) → IsErrAnd r (λ y. y ≡ fault) → r ≡ Err kind → ◌≡◌ {A = Result U ListFault} (Err fault) (Err kind)
+passed_on (Ok x) fault kind is e = absurd is
+passed_on (Err other) fault kind is e = let same : other ≡ kind = cc in ap Err (sym is ∙ same)
+
 pub none_spelled : (text : List ℕ) (same : Bool) → same ≡ pointwise nat_eq text (codes "none") → same ≡ true → SpellsList text []
 none_spelled text same told is = (All-nil IsItem, sym ((bytes_eq-Decides text (codes "none")).0 (sym told ∙ is)))
 
--- `none` is the empty list
-pub none_is_list : (text : List ℕ) (same : Bool) (items list : List Marked) → same ≡ pointwise nat_eq text (codes "none") → same ≡ true → items ≡ [] → list ≡ items → SpellsList text list
-none_is_list text same items list told is empty made = subst (SpellsList text) (sym (made ∙ empty)) (none_spelled text same told is)
-
-pub none_is_answers : (text : List ℕ) (same : Bool) (items list : List ℤ) → same ≡ pointwise nat_eq text (codes "none") → same ≡ true → items ≡ [] → list ≡ items → SpellsAnswers text list
-none_is_answers text same items list told is empty made = subst (SpellsAnswers text) (sym (made ∙ empty)) (none_spelled text same told is)
+-- `none` has no items
+pub none_is_items : {X : Type 0} (f : X → Marked) (text : List ℕ) (same : Bool) (xs : List X) → same ≡ pointwise nat_eq text (codes "none") → same ≡ true → xs ≡ [] → SpellsList text (map f xs)
+none_is_items {X} f text same xs told is empty = subst (λ (ys : List X). SpellsList text (map f ys)) (sym empty) (none_spelled text same told is)
 
 -- a list whose text is not `none` has items
 pub has_items : (text : List ℕ) (list : List Marked) → text ≢ codes "none" → SpellsList text list → list ≢ []

@@ -5,7 +5,8 @@
 --     HasBound o                 --choose gives a bound that a question can have
 --     IsRulesOf o rules          these are the rules of runs
 --     form_of n                  the form of reports
---     clash o                    the fault of options that don't go together
+--     clashes o                  which options don't go together, and the fault of each
+--     clash o                    the fault of the first of them
 --     default_steps, default_memory     the numbers of a request that gives none
 --     Asks o r                   the options ask for the request r
 --     text_of o x                the list of an option, as text
@@ -14,7 +15,7 @@
 --     IsFirstMisspelled o m      m is what is wrong with the first of them that is no list
 --     HasItems mode              a list of the mode has items
 --     Refuses o fault            why the options ask for no request
-use Rattle.std.specs.Prelude.{◌≡◌, ◌≢◌, ◌≤◌, pos, ℤ, [], option_map, ℕ, ◌^◌, nat_lt, Bool, true, false, not, ◌&&◌, ◌||◌, ◌⊎◌, ◌==◌, if◌then◌else◌, List, length, Option, Some, None, is_some, unwrap_or, option_and_then, find, IsSomeAnd, codes}
+use Rattle.std.specs.Prelude.{◌≡◌, ◌≢◌, ◌≤◌, pos, ℤ, [], ◌∷◌, option_map, ℕ, ◌^◌, nat_lt, Bool, true, false, not, ◌&&◌, ◌||◌, ◌⊎◌, ◌==◌, if◌then◌else◌, List, length, Option, Some, None, is_some, unwrap_or, option_and_then, find, IsSomeAnd, codes}
 use Rattle.std.specs.Option.{ForSome}
 use Rattle.std.specs.Str.{all_ascii_digits, bytes_eq}
 use Rattle.std.specs.Str.Parse.{digits_value, without_leading_plus}
@@ -128,23 +129,30 @@ says_which_runs o =
 abbrev pub asks_for_runs : Options → Bool
 asks_for_runs o = says_which_runs o || is_some o.choose || o.chances
 
--- the rules are looked at in this order
+-- which options don't go together, and the fault of each
+abbrev pub clashes : Options → List (Bool × UsageFault)
+clashes o =
+    (o.list && (asks_for_runs o || o.check), ListWithOther)
+    ∷ (o.check && asks_for_runs o, CheckWithOther)
+    ∷ (o.chances && says_which_runs o, ChancesWithOther)
+    ∷ (is_some o.after && not o.all, AfterWithoutAll)
+    ∷ (is_some o.first && not o.all, FirstWithoutAll)
+    ∷ (is_some o.form && not (o.all || is_some o.sample), FormWithoutAll)
+    ∷ (is_some o.under && not o.all, UnderWithoutAll)
+    ∷ (is_some o.shares && not o.all, SharesWithoutAll)
+    ∷ (is_some o.shares && (is_some o.after || is_some o.first || is_some o.under), SharesWithOther)
+    ∷ (is_some o.sample && not (is_some o.seed), SampleWithoutSeed)
+    ∷ (is_some o.answers && o.all, AnswersWithAll)
+    ∷ (is_some o.seed && o.all, SeedWithAll)
+    ∷ (is_some o.seed && is_some o.answers, SeedWithAnswers)
+    ∷ []
+
+-- the fault of the first row whose condition holds
+abbrev pub first_fault : List (Bool × UsageFault) → Option UsageFault
+first_fault rows = option_map (λ row. row.1) (find (λ row. row.0) rows)
+
 abbrev pub clash : Options → Option UsageFault
-clash o =
-    if o.list && (asks_for_runs o || o.check) then Some ListWithOther
-    else (if o.check && asks_for_runs o then Some CheckWithOther
-    else (if o.chances && says_which_runs o then Some ChancesWithOther
-    else (if is_some o.after && not o.all then Some AfterWithoutAll
-    else (if is_some o.first && not o.all then Some FirstWithoutAll
-    else (if is_some o.form && not (o.all || is_some o.sample) then Some FormWithoutAll
-    else (if is_some o.under && not o.all then Some UnderWithoutAll
-    else (if is_some o.shares && not o.all then Some SharesWithoutAll
-    else (if is_some o.shares && (is_some o.after || is_some o.first || is_some o.under) then Some SharesWithOther
-    else (if is_some o.sample && not (is_some o.seed) then Some SampleWithoutSeed
-    else (if is_some o.answers && o.all then Some AnswersWithAll
-    else (if is_some o.seed && o.all then Some SeedWithAll
-    else (if is_some o.seed && is_some o.answers then Some SeedWithAnswers
-    else None))))))))))))
+clash o = first_fault (clashes o)
 
 -- a list that may be left out
 abbrev pub SpellsIfGiven : Option (List ℕ) → Option (List Marked) → Type 0

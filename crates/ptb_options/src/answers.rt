@@ -1,12 +1,12 @@
 // This file has lists of answers, and reads them from the text of an option.
 
-ghost use Rattle.std.specs.Prelude.{◌≡◌, ◌≢◌, [], List, ℤ, IfOk};
+ghost use Rattle.std.specs.Prelude.{◌≡◌, ◌≢◌, [], List, ℤ, IfOk, codes, map};
 ghost use Rattle.ptb_answers.specs.declared.form.Marked.{Marked};
 ghost use Rattle.ptb_options.specs.AnswerLists.{HasNoAnswers, IsMisspelled, SpellsAnswers};
 ghost use Rattle.ptb_options.specs.AnswerLists.{SpellsList};
 ghost use Rattle.ptb_options.specs.declared.answers.ListFault.TheVariants.{Memory};
 
-use crate::items::{parse_answer, parse_item};
+use crate::items::ListItem;
 use crate::mistakes::{Bounds, list_mistake};
 use ptb_answers::Marked;
 use std::alloc::{AllocFailed, Global};
@@ -131,15 +131,7 @@ pub fn parse_list(alloc: Global, text: &str) -> Result<MarkedAnswers, ListFault>
     if list_mistake(text, Bounds::Allowed).is_some() {
         return Err(ListFault::Bad);
     }
-    let mut items = Vec::new(alloc);
-    if text == "none" {
-        return Ok(items.into());
-    }
-    for word in text.split(',') {
-        let item = parse_item(word).ok_or(ListFault::Bad)?;
-        items.push(item)?;
-    }
-    Ok(items.into())
+    Ok(parse_items::<Marked>(alloc, text)?.into())
 }
 
 /// The answers that a text spells: a list as [`parse_list`] reads it, without bounds.
@@ -158,13 +150,23 @@ pub fn parse_answers(alloc: Global, text: &str) -> Result<Answers, ListFault>
     if list_mistake(text, Bounds::Refused).is_some() {
         return Err(ListFault::Bad);
     }
-    let mut answers = Vec::new(alloc);
+    Ok(parse_items::<i16>(alloc, text)?.into())
+}
+
+// The items that a text spells. Memory is taken only for a text that isn't `none`.
+fn parse_items<T: ListItem>(alloc: Global, text: &str) -> Result<Vec<T>, ListFault>
+    ensures ok { IfOk result (λ items. SpellsList text.now (map T.marked items.items)) }
+    ensures bad { result ≡ Err ListFault.Bad
+        → (items : List T) → SpellsList text.now (map T.marked items) → ⊥ }
+    ensures memory { result ≡ Err ListFault.Memory → text.now ≢ codes "none" }
+{
+    let mut items = Vec::new(alloc);
     if text == "none" {
-        return Ok(answers.into());
+        return Ok(items);
     }
     for word in text.split(',') {
-        let answer = parse_answer(word).ok_or(ListFault::Bad)?;
-        answers.push(answer)?;
+        let item = T::parse(word).ok_or(ListFault::Bad)?;
+        items.push(item)?;
     }
-    Ok(answers.into())
+    Ok(items)
 }

@@ -7,8 +7,8 @@ ghost use Rattle.ptb_options.specs.AnswerLists.{SpellsAnswers};
 ghost use Rattle.ptb_options.specs.ListMistakes.{IsListOf};
 ghost use Rattle.ptb_options.specs.Options.{Asks, AsksMode, HasBound, HasMemorySize, HasMistake, IsRulesOf};
 ghost use Rattle.ptb_options.specs.Options.{IsFirstMisspelled, IsSpelled, Refuses, RefusesAnswers};
-ghost use Rattle.ptb_options.specs.Options.{RefusesIfGiven, SpellsIfGiven, WantsMemory, clash};
-ghost use Rattle.ptb_options.specs.Options.{entries_of, form_of, is_given, options_of};
+ghost use Rattle.ptb_options.specs.Options.{RefusesIfGiven, SpellsIfGiven, WantsMemory, clash, clashes};
+ghost use Rattle.ptb_options.specs.Options.{entries_of, first_fault, form_of, is_given, options_of};
 ghost use Rattle.ptb_options.specs.declared.mistakes.ListOption.{ListOption};
 
 use crate::answers::{Answers, ListFault, MarkedAnswers, parse_answers, parse_list};
@@ -138,43 +138,36 @@ impl<'a> GivenOptions<'a> {
     fn clash(&self) -> Option<UsageFault>
         ensures { result ≡ clash self.now }
     {
-        // All of these are looked at anyway, so no test below stops at the first that decides it.
+        first_fault(&self.clashes())
+    }
+
+    // Which options don't go together, and the fault of each.
+    fn clashes(&self) -> [(bool, UsageFault); 13]
+        ensures { result ≡ clashes self.now }
+    {
         let (answers, after) = (self.answers.is_some(), self.after.is_some());
         let (seed, first) = (self.seed.is_some(), self.first.is_some());
         let (form, choose) = (self.form.is_some(), self.choose.is_some());
         let (shares, sample) = (self.shares.is_some(), self.sample.is_some());
         let (under, all) = (self.under.is_some(), self.all);
+        let part = after | first | under;
         let which = all | answers | seed | under | after | first | form | shares | sample;
-        let any = which | choose | self.chances;
-        if self.list & (any | self.check) {
-            Some(UsageFault::ListWithOther)
-        } else if self.check & any {
-            Some(UsageFault::CheckWithOther)
-        } else if self.chances & which {
-            Some(UsageFault::ChancesWithOther)
-        } else if after & !all {
-            Some(UsageFault::AfterWithoutAll)
-        } else if first & !all {
-            Some(UsageFault::FirstWithoutAll)
-        } else if form & !(all | sample) {
-            Some(UsageFault::FormWithoutAll)
-        } else if under & !all {
-            Some(UsageFault::UnderWithoutAll)
-        } else if shares & !all {
-            Some(UsageFault::SharesWithoutAll)
-        } else if shares & (after | first | under) {
-            Some(UsageFault::SharesWithOther)
-        } else if sample & !seed {
-            Some(UsageFault::SampleWithoutSeed)
-        } else if answers & all {
-            Some(UsageFault::AnswersWithAll)
-        } else if seed & all {
-            Some(UsageFault::SeedWithAll)
-        } else if seed & answers {
-            Some(UsageFault::SeedWithAnswers)
-        } else {
-            None
-        }
+        let runs = which | choose | self.chances;
+        [
+            (self.list & (runs | self.check), UsageFault::ListWithOther),
+            (self.check & runs, UsageFault::CheckWithOther),
+            (self.chances & which, UsageFault::ChancesWithOther),
+            (after & !all, UsageFault::AfterWithoutAll),
+            (first & !all, UsageFault::FirstWithoutAll),
+            (form & !(all | sample), UsageFault::FormWithoutAll),
+            (under & !all, UsageFault::UnderWithoutAll),
+            (shares & !all, UsageFault::SharesWithoutAll),
+            (shares & part, UsageFault::SharesWithOther),
+            (sample & !seed, UsageFault::SampleWithoutSeed),
+            (answers & all, UsageFault::AnswersWithAll),
+            (seed & all, UsageFault::SeedWithAll),
+            (seed & answers, UsageFault::SeedWithAnswers),
+        ]
     }
 
     // The first option whose list is misspelled, and what is wrong with it.
@@ -253,6 +246,20 @@ impl<'a> GivenOptions<'a> {
         }
         Ok(Mode::Plain(answers(alloc, self.answers)?))
     }
+}
+
+// The fault of the first row whose condition holds.
+fn first_fault(rows: &[(bool, UsageFault)]) -> Option<UsageFault>
+    ensures { result ≡ first_fault rows.now }
+{
+    let mut rest = rows;
+    while let Some(((holds, fault), after)) = rest.split_first() {
+        if *holds {
+            return Some(*fault);
+        }
+        rest = after;
+    }
+    None
 }
 
 // A bound as a number of the language, if there is one.

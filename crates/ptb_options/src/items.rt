@@ -24,16 +24,35 @@ pub(crate) fn parse_item(word: &str) -> Option<Marked>
     })
 }
 
-// The answer that a word writes, if it is an item without a bound.
-pub(crate) fn parse_answer(word: &str) -> Option<i16>
-    ensures some { IfSome result (λ k. SpellsItem word.now (without_bound k)) }
-    ensures only { (k : ℤ) → SpellsItem word.now (without_bound k) → result ≡ Some k }
-{
-    let item = parse_item(word)?;
-    if item.bound.is_some() {
-        return None;
+/// What the items of a list are: numbers, each with its bound or without, or numbers alone.
+pub(crate) trait ListItem: Drop {
+    /// The item as reports write it.
+    ghost marked: { Self → Marked };
+
+    /// The item that a word writes, if it is one.
+    fn parse(word: &str) -> Option<Self>
+        ensures some { IfSome result (λ x. SpellsItem word.now (marked x)) }
+        ensures only { (x : Self) → SpellsItem word.now (marked x) → result ≡ Some x };
+}
+
+impl ListItem for Marked {
+    ghost marked = { λ m. m };
+
+    fn parse(word: &str) -> Option<Marked> {
+        parse_item(word)
     }
-    Some(item.answer)
+}
+
+impl ListItem for i16 {
+    ghost marked = { without_bound };
+
+    fn parse(word: &str) -> Option<i16> {
+        let item = parse_item(word)?;
+        if item.bound.is_some() {
+            return None;
+        }
+        Some(item.answer)
+    }
 }
 
 // The number that a word writes, if a list may have it. `parse` takes signs and leading zeros, which

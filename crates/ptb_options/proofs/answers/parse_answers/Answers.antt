@@ -1,23 +1,12 @@
 -- This file answers what is left to prove of `parse_answers`.
-use Rattle.std.proofs.Common.{rules, ◌≡◌, ◌∙◌, ap, sym, ℤ, Option, Some, None, lit<, [], ◌∷◌, ◌++◌}
-use mir.Val.{SFits}
-use mir.Syntax.{w16}
-use Rattle.std.proofs.Common.{to_z-of_z}
-use Rattle.std.specs.Result.{result_ok}
-use Rattle.std.specs.Str.Iter.{split_text, split_has_more, split_pattern}
-use Rattle.std.proofs.lemmas.List.Elements.{All-push}
-use Rattle.std.proofs.lemmas.Iterator.Splits.{YieldsList-from_str_split}
-use Rattle.std.proofs.lemmas.Iterator.Consumers.{YieldsList-turn, YieldsList-end}
-use Rattle.ptb_answers.specs.AnswerText.{unmarked, without_bound}
-use Rattle.ptb_options.specs.AnswerLists.{IsItem, SpellsItem}
+use Rattle.std.proofs.Common.{subst, sym}
+use Rattle.ptb_options.specs.AnswerLists.{SpellsAnswers}
+use Rattle.ptb_options.specs.declared.answers.ListFault.TheVariants.{Bad, Memory}
 use Rattle.ptb_options.specs.declared.mistakes.Bounds.TheVariants.{Refused}
+use Rattle.ptb_options.proofs.AnswerTexts.{one_list_of_answers}
 use Rattle.ptb_options.proofs.ListFaults.{found_is_none, none_found}
-use Rattle.ptb_options.proofs.AnswerTexts.{list_of_words, one_list_of_answers, word_of_answers, more_words, unmarked-push}
-use Rattle.ptb_options.proofs.ListReturns.{memory_is_bad, none_is_answers, read_is_bad, read_is_memory, refused_is_read, some_text, has_answers}
+use Rattle.ptb_options.proofs.ListReturns.{has_answers, passed_on, read_is_bad, read_is_memory, refused_is_read}
 use Rattle.ptb_options.proofs.answers.parse_answers.Goals as goal
-
-none_is_some : (k : ℤ) → ◌≡◌ {A = Option ℤ} None (Some k) → ⊥
-none_is_some k e = cc
 
 pub returns-then-is_some-clause-bad : goal.returns-then-is_some-clause-bad
 returns-then-is_some-clause-bad c bad list spells =
@@ -26,64 +15,20 @@ returns-then-is_some-clause-bad c bad list spells =
 pub returns-then-is_some-clause-one : goal.returns-then-is_some-clause-one
 returns-then-is_some-clause-one c = one_list_of_answers c.args.text.now
 
-pub returns-then-eq : goal.returns-then-eq
-returns-then-eq c = record {
-  ok = none_is_answers c.args.text.now c.eq.result c.new-answers.result.items c.into.result c.eq.ensures c.if-eq.true c.new-answers.ensures.items c.into.ensures;
-  bad = read_is_bad c.into.result;
-  memory = read_is_memory c.into.result;
-  one = one_list_of_answers c.args.text.now;
-}
-
-pub loop-word-preserved : goal.loop-word-preserved
-loop-word-preserved c =
-    let answer = c.in_ok-answer.answer in
-    let pushed : c.push.new.self.items ≡ c.loop-word.answers.items ++ answer ∷ [] = let fits : SFits w16 answer = search rules in simp to_z-of_z at c.in_ok-push.ensures.items in
-    let read : c.parse_answer.result ≡ Some answer = c.ok_or.ensures.ok_part ∙ ap result_ok c.in_ok-answer.was in
-    let spells : SpellsItem c.in-Some.word.now (without_bound answer) = rw read at c.parse_answer.ensures.some in
-    record {
-      words = rw (pushed, unmarked-push) (more_words c.loop-word.yielded (unmarked c.loop-word.answers.items) c.in-Some.word (without_bound answer) c.loop-word.invariant.words spells.1);
-      each = rw (pushed, unmarked-push) (All-push IsItem (unmarked c.loop-word.answers.items) (without_bound answer) c.loop-word.invariant.each spells.0);
-    }
-
-pub returns-in_err-answer : goal.returns-in_err-answer
-returns-in_err-answer c = record {
+pub returns-in_err-parse_items : goal.returns-in_err-parse_items
+returns-in_err-parse_items c = record {
   ok = refused_is_read _ c.from_residual.result _ c.from_residual.ensures.1;
-  bad = λ bad a spells.
-      let text = c.args.text.now in
-      let same = c.into_iter-word-iterator.ensures.into_iter_gives in
-      let split = c.split-word-items.ensures in
-      let words = YieldsList-from_str_split 44 text (lit< tt) (ap split_text same ∙ split.text) (ap split_has_more same ∙ split.has_more) (ap split_pattern same ∙ split.pattern) in
-      let turn = YieldsList-turn words c.loop-word.yielded _ c.loop-word.yielded_by _ _ c.in-Some.word c.in-Some.is c.next.ensures.steps in
-      let some = some_text text c.eq.result c.eq.ensures c.if-eq.false in
-      let spelled = word_of_answers text a _ c.in-Some.word.now some spells turn.0 turn.1 in
-      let read = c.parse_answer.ensures.only spelled.0 spelled.1 in
-      none_is_some spelled.0 (sym (c.ok_or.ensures.ok_part ∙ ap result_ok c.in_err-answer.was) ∙ read);
-  memory = λ refused.
+  bad = λ e list spells. c.in_err-parse_items.ensures.bad (passed_on c.from_residual.result _ Bad c.from_residual.ensures.1 e) list spells;
+  memory = λ e.
       let list = c.list_mistake.ensures.none (none_found c.list_mistake.result c.is_some.result c.is_some.ensures c.if-is_some.false) in
-      (list.0, list.1, has_answers c.args.text.now list.0 (some_text c.args.text.now c.eq.result c.eq.ensures c.if-eq.false) list.1);
-  one = one_list_of_answers c.args.text.now;
-}
-
-pub returns-in_err-push : goal.returns-in_err-push
-returns-in_err-push c = record {
-  ok = refused_is_read _ c.from_residual-in_err-push.result _ c.from_residual-in_err-push.ensures.1;
-  bad = memory_is_bad c.from_residual-in_err-push.result c.from_residual-in_err-push.ensures.1;
-  memory = λ refused.
-      let list = c.list_mistake.ensures.none (none_found c.list_mistake.result c.is_some.result c.is_some.ensures c.if-is_some.false) in
-      (list.0, list.1, has_answers c.args.text.now list.0 (some_text c.args.text.now c.eq.result c.eq.ensures c.if-eq.false) list.1);
+      (list.0, list.1, has_answers c.args.text.now list.0 (c.in_err-parse_items.ensures.memory (passed_on c.from_residual.result _ Memory c.from_residual.ensures.1 e)) list.1);
   one = one_list_of_answers c.args.text.now;
 }
 
 pub returns : goal.returns
 returns c = record {
-  ok =
-      let text = c.args.text.now in
-      let same = c.into_iter-word-iterator.ensures.into_iter_gives in
-      let split = c.split-word-items.ensures in
-      let words = YieldsList-from_str_split 44 text (lit< tt) (ap split_text same ∙ split.text) (ap split_has_more same ∙ split.has_more) (ap split_pattern same ∙ split.pattern) in
-      let all = YieldsList-end words c.loop-word.yielded _ c.loop-word.yielded_by _ _ c.in-None.is c.next.ensures.steps in
-      rw c.into-2.ensures (list_of_words text (unmarked c.loop-word.answers.items) c.loop-word.invariant.each (sym all.0 ∙ c.loop-word.invariant.words));
-  bad = read_is_bad c.into-2.result;
-  memory = read_is_memory c.into-2.result;
+  ok = subst (SpellsAnswers c.args.text.now) (sym c.into.ensures) c.in_ok-parse_items.ensures.ok;
+  bad = read_is_bad c.into.result;
+  memory = read_is_memory c.into.result;
   one = one_list_of_answers c.args.text.now;
 }

@@ -1,15 +1,7 @@
--- This file proves goals of `clash` by short searches, so that a planted bug is refused soon.
-use Rattle.std.proofs.Common.{rules}
+-- This file answers that the fault is that of the first row that holds.
+use Rattle.std.proofs.Common.{◌∙◌, ap}
+use Rattle.ptb_options.specs.Options.{first_fault}
 use Rattle.ptb_options.proofs.deciding.GivenOptions.clash.Goals as goal
 
-pub returns-then-after-all : goal.returns-then-after-all
-returns-then-after-all c = search rules fits 100
-
-pub returns-then-first-all : goal.returns-then-first-all
-returns-then-first-all c = search rules fits 100
-
-pub returns-then-under-all : goal.returns-then-under-all
-returns-then-under-all c = search rules
-
-pub returns-else-seed-answers : goal.returns-else-seed-answers
-returns-else-seed-answers c = search rules
+pub returns : goal.returns
+returns c = c.first_fault.ensures ∙ ap first_fault c.clashes.ensures

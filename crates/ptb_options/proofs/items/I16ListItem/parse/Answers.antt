@@ -4,7 +4,7 @@ use Rattle.std.specs.Prelude.{is_some}
 use Rattle.std.proofs.lemmas.Bool.{false≢true}
 use Rattle.ptb_answers.specs.declared.form.Marked.{Marked}
 use Rattle.ptb_answers.specs.AnswerText.{without_bound}
-use Rattle.ptb_options.proofs.items.parse_answer.Goals as goal
+use Rattle.ptb_options.proofs.items.I16ListItem.parse.Goals as goal
 
 none_is_some : (m : Marked) → ◌≡◌ {A = Option Marked} None (Some m) → ⊥
 none_is_some m e = cc

@@ -1,0 +1,70 @@
+-- This file answers what is left to prove of `parse_items`.
+use Rattle.std.proofs.Common.{◌≡◌, ◌∙◌, ap, sym, map, Option, Some, None, lit<, [], ◌∷◌, ◌++◌}
+use Rattle.std.specs.Result.{result_ok}
+use Rattle.std.specs.Str.Iter.{split_text, split_has_more, split_pattern}
+use Rattle.std.proofs.lemmas.List.{map-append}
+use Rattle.std.proofs.lemmas.List.Elements.{All-push}
+use Rattle.std.proofs.lemmas.Iterator.Splits.{YieldsList-from_str_split}
+use Rattle.std.proofs.lemmas.Iterator.Consumers.{YieldsList-turn, YieldsList-end}
+use Rattle.ptb_options.specs.AnswerLists.{IsItem, SpellsItem}
+use Rattle.ptb_options.proofs.AnswerTexts.{list_of_words, word_of_items, more_words}
+use Rattle.ptb_options.proofs.ListReturns.{memory_is_bad, none_is_items, read_is_bad, read_is_memory, refused_is_read, some_text}
+use Rattle.ptb_options.proofs.answers.parse_items.Goals as goal
+
+none_is_some : {T : Type 0} (x : T) → ◌≡◌ {A = Option T} None (Some x) → ⊥
+none_is_some x e = cc
+
+pub returns-then-eq : goal.returns-then-eq
+returns-then-eq g c = record {
+  ok = none_is_items g.T.ListItem.marked c.args.text.now c.eq.result c.new-items.result.items c.eq.ensures c.if-eq.true c.new-items.ensures.items;
+  bad = read_is_bad c.new-items.result;
+  memory = read_is_memory c.new-items.result;
+}
+
+pub loop-word-preserved : goal.loop-word-preserved
+loop-word-preserved g c =
+    let f = g.T.ListItem.marked in
+    let item = c.in_ok-item.item in
+    let pushed : c.push.new.self.items ≡ c.loop-word.items.items ++ item ∷ [] = c.in_ok-push.ensures.items in
+    let read : c.parse.result ≡ Some item = c.ok_or.ensures.ok_part ∙ ap result_ok c.in_ok-item.was in
+    let spells : SpellsItem c.in-Some.word.now (f item) = rw read at c.parse.ensures.some in
+    record {
+      words = rw (pushed, map-append f c.loop-word.items.items (item ∷ [])) (more_words c.loop-word.yielded (map f c.loop-word.items.items) c.in-Some.word (f item) c.loop-word.invariant.words spells.1);
+      each = rw (pushed, map-append f c.loop-word.items.items (item ∷ [])) (All-push IsItem (map f c.loop-word.items.items) (f item) c.loop-word.invariant.each spells.0);
+    }
+
+pub returns-in_err-item : goal.returns-in_err-item
+returns-in_err-item g c = record {
+  ok = refused_is_read _ c.from_residual.result _ c.from_residual.ensures.1;
+  bad = λ bad items spells.
+      let text = c.args.text.now in
+      let same = c.into_iter-word-iterator.ensures.into_iter_gives in
+      let split = c.split-word-items.ensures in
+      let words = YieldsList-from_str_split 44 text (lit< tt) (ap split_text same ∙ split.text) (ap split_has_more same ∙ split.has_more) (ap split_pattern same ∙ split.pattern) in
+      let turn = YieldsList-turn words c.loop-word.yielded _ c.loop-word.yielded_by _ _ c.in-Some.word c.in-Some.is c.next.ensures.steps in
+      let some = some_text text c.eq.result c.eq.ensures c.if-eq.false in
+      let spelled = word_of_items g.T.ListItem.marked text items _ c.in-Some.word.now some spells turn.0 turn.1 in
+      let read = c.parse.ensures.only spelled.0 spelled.1 in
+      none_is_some spelled.0 (sym (c.ok_or.ensures.ok_part ∙ ap result_ok c.in_err-item.was) ∙ read);
+  memory = λ refused. some_text c.args.text.now c.eq.result c.eq.ensures c.if-eq.false;
+}
+
+pub returns-in_err-push : goal.returns-in_err-push
+returns-in_err-push g c = record {
+  ok = refused_is_read _ c.from_residual-in_err-push.result _ c.from_residual-in_err-push.ensures.1;
+  bad = memory_is_bad c.from_residual-in_err-push.result c.from_residual-in_err-push.ensures.1;
+  memory = λ refused. some_text c.args.text.now c.eq.result c.eq.ensures c.if-eq.false;
+}
+
+pub returns : goal.returns
+returns g c = record {
+  ok =
+      let text = c.args.text.now in
+      let same = c.into_iter-word-iterator.ensures.into_iter_gives in
+      let split = c.split-word-items.ensures in
+      let words = YieldsList-from_str_split 44 text (lit< tt) (ap split_text same ∙ split.text) (ap split_has_more same ∙ split.has_more) (ap split_pattern same ∙ split.pattern) in
+      let all = YieldsList-end words c.loop-word.yielded _ c.loop-word.yielded_by _ _ c.in-None.is c.next.ensures.steps in
+      list_of_words text (map g.T.ListItem.marked c.loop-word.items.items) c.loop-word.invariant.each (sym all.0 ∙ c.loop-word.invariant.words);
+  bad = read_is_bad c.loop-word.items;
+  memory = read_is_memory c.loop-word.items;
+}
