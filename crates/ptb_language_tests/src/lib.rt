@@ -1,5 +1,6 @@
 //! Tests of texts and expressions of the language, over their public names: loading, entering and
-//! listing, the cursor, and what an expression comes to; and of reports as they are written.
+//! listing, the cursor, and what an expression comes to; of reports as they are written; and of the
+//! buffer before a writer.
 //!
 //! It stands on `ptb_words`, `ptb_text`, `ptb_expr` and `ptb_report`, and on `rand_core` and
 //! `rand_pcg` for the words that a seed draws. No crate stands on it: a crate with tests is proved
@@ -10,6 +11,8 @@
 mod cursor;
 #[cfg(test)]
 mod expressions;
+#[cfg(test)]
+mod output;
 #[cfg(test)]
 mod reports;
 #[cfg(test)]

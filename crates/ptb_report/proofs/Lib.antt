@@ -1,5 +1,4 @@
 -- This file names the files of lemmas.
 pub mod Begun
-pub mod Gathering
 pub mod ReportText
 pub mod Reporting

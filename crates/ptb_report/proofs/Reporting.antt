@@ -3,11 +3,11 @@ use Rattle.std.proofs.Common.{◌≡◌, ◌∙◌, ap, subst, ℕ, List, [], �
 use Rattle.std.specs.Result.{OnOk, OnErr}
 use Rattle.std.proofs.lemmas.Result.{on_ok_weaker, on_err_weaker}
 use Rattle.std.specs.Io.KnownBytes.{Appends}
-use Rattle.ptb_text.specs.Device.{TakesSome, HasFailed}
+use Rattle.ptb_text.specs.Device.{Gathers, TakesSome, HasFailed}
+use Rattle.ptb_text.proofs.Gathering.{all_more, gathers_more, gathers_same, some_more, some_after}
 use Rattle.ptb_answers.specs.AnswerText.{spelling}
 use Rattle.ptb_answers.specs.declared.form.Marked.{Marked}
-use Rattle.ptb_report.specs.Report.{Gathers, list_line, report_text}
-use Rattle.ptb_report.proofs.Gathering.{gathers_more, gathers_same, some_more, some_after, all_after, some_rest}
+use Rattle.ptb_report.specs.Report.{list_line, report_text}
 use Rattle.ptb_report.proofs.ReportText.{behind_answers, report_in_pieces}
 
 -- what holds anyway holds at a fault
@@ -19,7 +19,7 @@ on_err_always (Err e) q = q
 pub failed_after : (a b c : ℕ) → b ≡ a → HasFailed b c → HasFailed a c
 failed_after a b c same h = subst (λ (n : ℕ). HasFailed n c) same h
 
--- The device held a before; `none` is what was pending then, and p, q and r are what is pending behind each of the pieces.
+-- The device held a before; `none` is what was pending then, and p and q are what is pending after RUN and after the answers.
 module _ (items : List Marked) (word : List ℕ) (steps : ℕ) (shown : List ℕ) (a : Option (List ℕ)) (none : List ℕ) (is : none ≡ []) where
   -- what stands behind the answers
   abbrev behind : List ℕ
@@ -49,22 +49,13 @@ module _ (items : List Marked) (word : List ℕ) (steps : ℕ) (shown : List ℕ
           ap (λ (z : List ℕ). q ++ behind_answers word z sized shown) count
           ∙ ap (λ (z : List ℕ). q ++ behind_answers word (decimal steps) z shown) size
 
-      pub pieces_fail : (d : Option (List ℕ)) → TakesSome c d (q ++ behind_answers word counted sized shown) → TakesSome a d (report_text items word steps shown)
-      pieces_fail d t =
-          subst (TakesSome a d) (report_in_pieces items word steps shown)
-          (some_after a c d (codes "RUN " ++ spelling items) q behind listed (subst (TakesSome c d) same_behind t))
+      pub all_written : (d : Option (List ℕ)) {T E : Type 0} (result : Result T E) → OnOk result (Appends c d (q ++ behind_answers word counted sized shown)) → OnOk result (Appends a d (report_text items word steps shown))
+      all_written d result h =
+          on_ok_weaker result (λ t. subst (Appends a d) (report_in_pieces items word steps shown) (all_more a c d (codes "RUN " ++ spelling items) q behind listed (subst (Appends c d) same_behind t))) h
 
-      module _ (d : Option (List ℕ)) (r : List ℕ) (third : Gathers c d (q ++ behind_answers word counted sized shown) r) (last : List ℕ) (rest : last ≡ r) (e : Option (List ℕ)) {T E : Type 0} (result : Result T E) where
-        whole : Gathers a d (report_text items word steps shown) r
-        whole =
-            gathers_same (report_in_pieces items word steps shown)
-            (gathers_more a c d (codes "RUN " ++ spelling items) q behind r listed (gathers_same same_behind third))
-
-        pub all_written : OnOk result (Appends d e last) → OnOk result (Appends a e (report_text items word steps shown))
-        all_written h = on_ok_weaker result (λ t. all_after a d e (report_text items word steps shown) r whole (subst (Appends d e) rest t)) h
-
-        pub rest_fails : OnErr result (TakesSome d e last) → OnErr result (TakesSome a e (report_text items word steps shown))
-        rest_fails h = on_err_weaker result (λ t. some_rest a d e (report_text items word steps shown) r whole (subst (TakesSome d e) rest t)) h
+      pub rest_fails : (d : Option (List ℕ)) {T E : Type 0} (result : Result T E) → OnErr result (TakesSome c d (q ++ behind_answers word counted sized shown)) → OnErr result (TakesSome a d (report_text items word steps shown))
+      rest_fails d result h =
+          on_err_weaker result (λ t. subst (TakesSome a d) (report_in_pieces items word steps shown) (some_after a c d (codes "RUN " ++ spelling items) q behind listed (subst (TakesSome c d) same_behind t))) h
 
 -- ---- a list of answers
 
@@ -77,15 +68,8 @@ module _ (items : List Marked) (a : Option (List ℕ)) (none : List ℕ) (is : n
     answers_gathered : Gathers a b (spelling items) p
     answers_gathered = gathers_same (ap (λ (z : List ℕ). z ++ spelling items) is) first
 
-    pub newline_fails : (c : Option (List ℕ)) → TakesSome b c (p ++ codes "\n") → TakesSome a c (list_line items)
-    newline_fails c t = some_after a b c (spelling items) p (codes "\n") answers_gathered t
+    pub line_written : (c : Option (List ℕ)) {T E : Type 0} (result : Result T E) → OnOk result (Appends b c (p ++ codes "\n")) → OnOk result (Appends a c (list_line items))
+    line_written c result h = on_ok_weaker result (λ t. all_more a b c (spelling items) p (codes "\n") answers_gathered t) h
 
-    module _ (c : Option (List ℕ)) (q : List ℕ) (second : Gathers b c (p ++ codes "\n") q) (last : List ℕ) (rest : last ≡ q) (e : Option (List ℕ)) {T E : Type 0} (result : Result T E) where
-      line_gathered : Gathers a c (list_line items) q
-      line_gathered = gathers_more a b c (spelling items) p (codes "\n") q answers_gathered second
-
-      pub line_written : OnOk result (Appends c e last) → OnOk result (Appends a e (list_line items))
-      line_written h = on_ok_weaker result (λ t. all_after a c e (list_line items) q line_gathered (subst (Appends c e) rest t)) h
-
-      pub line_fails : OnErr result (TakesSome c e last) → OnErr result (TakesSome a e (list_line items))
-      line_fails h = on_err_weaker result (λ t. some_rest a c e (list_line items) q line_gathered (subst (TakesSome c e) rest t)) h
+    pub line_fails : (c : Option (List ℕ)) {T E : Type 0} (result : Result T E) → OnErr result (TakesSome b c (p ++ codes "\n")) → OnErr result (TakesSome a c (list_line items))
+    line_fails c result h = on_err_weaker result (λ t. some_after a b c (spelling items) p (codes "\n") answers_gathered t) h

@@ -1,11 +1,9 @@
--- This file defines the text of a report, and how far it was written.
+-- This file defines the text of a report and of a list of answers.
 --     header items word steps size            the first line: RUN, the answers, how the run ended, its steps, how many bytes it showed
 --     report_text items word steps shown      the header, what the run showed, and a newline
 --     list_line items                         a list of answers, and a newline
 --     report_ending word steps shown          what a report has after its answers
---     Gathers old new bytes pending           a beginning of the bytes was taken, and the others are pending
-use Rattle.std.specs.Prelude.{◌≡◌, ℕ, List, ◌++◌, length, codes, decimal, Option}
-use Rattle.std.specs.Io.KnownBytes.{Appends}
+use Rattle.std.specs.Prelude.{ℕ, List, ◌++◌, length, codes, decimal}
 use Rattle.ptb_answers.specs.declared.form.Marked.{Marked}
 use Rattle.ptb_answers.specs.AnswerText.{spelling}
 
@@ -26,10 +24,3 @@ report_ending word steps shown = field word ++ field (decimal steps) ++ field (d
 
 abbrev pub list_line : List Marked → List ℕ
 list_line items = spelling items ++ codes "\n"
-
--- ---- writing it in pieces
-
-pub record Gathers (old new : Option (List ℕ)) (bytes pending : List ℕ) : Type 0 where
-  pub front : List ℕ
-  pub whole : bytes ≡ front ++ pending
-  pub growth : Appends old new front

@@ -2,58 +2,16 @@
 
 ghost use Rattle.std.specs.Prelude.{◌≡◌, ◌==◌, [], ◌++◌, length, OnOk, OnErr, codes, if◌then◌else◌};
 ghost use Rattle.std.specs.Io.KnownBytes.{Appends};
-ghost use Rattle.std.specs.List.{flat_map};
-ghost use Rattle.ptb_text.specs.Device.{TakesSome, HasFailed};
+ghost use Rattle.ptb_text.specs.Device.{Gathers, TakesSome, HasFailed};
 ghost use Rattle.ptb_answers.specs.AnswerText.{in_form, item_text, items_in, spelling};
-ghost use Rattle.ptb_report.specs.Report.{list_line, report_text, Gathers};
+ghost use Rattle.ptb_report.specs.Report.{list_line, report_text};
 
-use arrayvec::ArrayVec;
 use itoa::Buffer;
 use ptb_answers::{Form, Marked};
-use ptb_text::{DeviceFault, Write};
+use ptb_text::{DeviceFault, OutputBuffer, Write};
 
 // Bytes that wait to be written: on the stack, since a report takes no memory.
-type Pending = ArrayVec<u8, 512>;
-
-// Adds bytes to the pending ones. Where they don't fit, those are written first, and bytes that
-// alone are too many are written at once.
-fn put<W: Write>(out: &mut W, pending: &mut Pending, bytes: &[u8]) -> Result<(), DeviceFault>
-    ensures ok { OnOk result (Gathers (W.contents out.old) (W.contents out.new)
-        (pending.old.items ++ bytes.now) pending.new.items) }
-    ensures fault { OnErr result (TakesSome (W.contents out.old) (W.contents out.new)
-        (pending.old.items ++ bytes.now)) }
-    ensures failed { OnErr result (HasFailed (W.failures out.old) (W.failures out.new)) }
-    ensures unfailed { OnOk result (W.failures out.new ≡ W.failures out.old) }
-{
-    if pending.try_extend_from_slice(bytes).is_ok() {
-        return Ok(());
-    }
-    out.write_all(pending.as_slice())?;
-    pending.clear();
-    if pending.try_extend_from_slice(bytes).is_ok() {
-        return Ok(());
-    }
-    out.write_all(bytes)
-}
-
-// Adds the pieces to the pending bytes, one after the other.
-fn put_all<W: Write>(
-    out: &mut W,
-    pending: &mut Pending,
-    pieces: &[&[u8]],
-) -> Result<(), DeviceFault>
-    ensures ok { OnOk result (Gathers (W.contents out.old) (W.contents out.new)
-        (pending.old.items ++ flat_map (λ p. p.now) pieces.now) pending.new.items) }
-    ensures fault { OnErr result (TakesSome (W.contents out.old) (W.contents out.new)
-        (pending.old.items ++ flat_map (λ p. p.now) pieces.now)) }
-    ensures failed { OnErr result (HasFailed (W.failures out.old) (W.failures out.new)) }
-    ensures unfailed { OnOk result (W.failures out.new ≡ W.failures out.old) }
-{
-    for piece in pieces {
-        put(out, pending, piece)?;
-    }
-    Ok(())
-}
+type Pending = OutputBuffer<512>;
 
 // What stands in front of the item at a place.
 fn separator(place: usize) -> &'static [u8]
@@ -70,19 +28,19 @@ fn put_item<W: Write>(
     item: Marked,
 ) -> Result<(), DeviceFault>
     ensures ok { OnOk result (Gathers (W.contents out.old) (W.contents out.new)
-        (pending.old.items ++ (separator.now ++ item_text item)) pending.new.items) }
+        (pending.old ++ (separator.now ++ item_text item)) pending.new) }
     ensures fault { OnErr result (TakesSome (W.contents out.old) (W.contents out.new)
-        (pending.old.items ++ (separator.now ++ item_text item))) }
+        (pending.old ++ (separator.now ++ item_text item))) }
     ensures failed { OnErr result (HasFailed (W.failures out.old) (W.failures out.new)) }
     ensures unfailed { OnOk result (W.failures out.new ≡ W.failures out.old) }
 {
     let (mut answer, mut bound) = (Buffer::new(), Buffer::new());
     let answer = answer.format(item.answer).as_bytes();
     match item.bound {
-        None => put_all(out, pending, &[separator, answer]),
+        None => pending.put_all(out, &[separator, answer]),
         Some(number) => {
             let bound = bound.format(number).as_bytes();
-            put_all(out, pending, &[separator, answer, b"/", bound])
+            pending.put_all(out, &[separator, answer, b"/", bound])
         }
     }
 }
@@ -113,15 +71,15 @@ fn put_answers<W: Write>(
 ) -> Result<(), DeviceFault>
     requires { length answers.now ≡ length bounds.now }
     ensures ok { OnOk result (Gathers (W.contents out.old) (W.contents out.new)
-        (pending.old.items ++ spelling (items_in form answers.now bounds.now))
-        pending.new.items) }
+        (pending.old ++ spelling (items_in form answers.now bounds.now))
+        pending.new) }
     ensures fault { OnErr result (TakesSome (W.contents out.old) (W.contents out.new)
-        (pending.old.items ++ spelling (items_in form answers.now bounds.now))) }
+        (pending.old ++ spelling (items_in form answers.now bounds.now))) }
     ensures failed { OnErr result (HasFailed (W.failures out.old) (W.failures out.new)) }
     ensures unfailed { OnOk result (W.failures out.new ≡ W.failures out.old) }
 {
     if answers.is_empty() {
-        return put(out, pending, b"none");
+        return pending.put(out, b"none");
     }
     for k in 0..answers.len() {
         put_item(
@@ -153,19 +111,17 @@ pub(crate) fn write_in_pieces<W: Write>(
     ensures unfailed { OnOk result (W.failures out.new ≡ W.failures out.old) }
 {
     let mut pending = Pending::new();
-    put(out, &mut pending, b"RUN ")?;
+    pending.put(out, b"RUN ")?;
     put_answers(out, &mut pending, form, answers, bounds)?;
     let (mut counted, mut sized) = (Buffer::new(), Buffer::new());
     let steps = counted.format(steps).as_bytes();
     let size = sized.format(transcript.len()).as_bytes();
-    put_all(
+    pending.finish(
         out,
-        &mut pending,
         &[
             b" ", word, b" ", steps, b" ", size, b"\n", transcript, b"\n",
         ],
-    )?;
-    out.write_all(pending.as_slice())
+    )
 }
 
 /// Writes a list of answers as the form has it, and a newline. Each answer has its bound.
@@ -191,6 +147,5 @@ pub fn write_list<W: Write>(
 {
     let mut pending = Pending::new();
     put_answers(out, &mut pending, form, answers, bounds)?;
-    put(out, &mut pending, b"\n")?;
-    out.write_all(pending.as_slice())
+    pending.finish(out, &[b"\n"])
 }

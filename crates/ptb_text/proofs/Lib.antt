@@ -2,6 +2,7 @@
 pub mod ByteTests
 pub mod Edits
 pub mod Entries
+pub mod Gathering
 pub mod LineParts
 pub mod Listed
 pub mod Loaded

@@ -3,6 +3,7 @@
 --     CountsFaults old new result        a call's fault is counted, and nothing else is
 --     HasFailed old new                  the device failed between the two counts, or has failed for good
 --     TakesSome old new bytes            a prefix of the bytes was taken
+--     Gathers old new bytes pending      a prefix of the bytes was taken, and the others are pending
 --     TakesSurely old new bytes result   a writer that takes so many bytes without failing has taken some of them
 --     GivesExactly old new n             n bytes more were given
 --     GivesAtMost old new n              at most n bytes more were given
@@ -11,7 +12,7 @@
 --     failure_count d, given_count d     how often it has failed, and how many bytes it has given
 --     IsReliableDevice reliable d        the device's reader is reliable
 --     DeviceTakes takes d n              the device's writer takes so many bytes without failing
-use Rattle.std.specs.Prelude.{◌≡◌, ℕ, ◌+◌, ◌-◌, ◌^◌, ◌<◌, ◌≤◌, ◌⊎◌, min, List, length, take, Option, Result, IsOkAnd, MatchResult}
+use Rattle.std.specs.Prelude.{◌≡◌, ℕ, ◌+◌, ◌-◌, ◌^◌, ◌<◌, ◌≤◌, ◌⊎◌, min, List, ◌++◌, length, take, Option, Result, IsOkAnd, MatchResult}
 use Rattle.std.specs.Io.KnownBytes.{Appends}
 use Rattle.ptb_text.specs.declared.device.Device.{Device}
 
@@ -31,6 +32,12 @@ HasFailed old new = (old < new) ⊎ (old ≡ failure_limit)
 -- a prefix of these bytes was taken, and n is how many
 abbrev pub TakesSome : Option (List ℕ) → Option (List ℕ) → List ℕ → Type 0
 TakesSome old new bytes = (n : ℕ) × (n ≤ length bytes) × Appends old new (take n bytes)
+
+-- a prefix of these bytes was taken, and the others wait to be written
+pub record Gathers (old new : Option (List ℕ)) (bytes pending : List ℕ) : Type 0 where
+  pub front : List ℕ
+  pub whole : bytes ≡ front ++ pending
+  pub growth : Appends old new front
 
 -- A writer that takes k bytes without failing is given no more than these: it takes some, unless there are none,
 -- and then takes the others of the k without failing.

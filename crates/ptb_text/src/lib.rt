@@ -1,9 +1,10 @@
 //! Program texts of Tiny BASIC: readers and writers, the lines of a text, and the statements under
 //! their numbers.
 //!
-//! It stands on `ptb_words`, whose names it passes on, and on `itoa`, `thiserror` and std. The crate
-//! above may rely on `load` (the statements that a text comes to, or which of its lines is refused
-//! first) and on the look-ups of `Program`.
+//! It stands on `ptb_words`, whose names it passes on, and on `arrayvec`, `itoa`, `thiserror` and
+//! std. The crate above may rely on `load` (the statements that a text comes to, or which of its
+//! lines is refused first), on the look-ups of `Program`, and on `OutputBuffer` (a writer gets what
+//! was put into it, in this order).
 #![tactic(auto)]
 
 mod byte_streams;
@@ -13,6 +14,7 @@ mod laws;
 mod line;
 mod listing;
 mod loading;
+mod output_buffer;
 mod program;
 
 pub use byte_streams::{ByteSink, ByteSource};
@@ -21,5 +23,6 @@ pub use fault::LoadFault;
 pub use laws::statement_laws;
 pub use listing::{WriteFault, list};
 pub use loading::{load, split_line};
+pub use output_buffer::OutputBuffer;
 pub use program::Program;
 pub use ptb_words::{Cursor, Letter, Number, Quoted, Table, Word, finding_laws};

@@ -1,14 +1,12 @@
 // This file writes a program as text.
 
-ghost use Rattle.std.specs.Prelude.{◌≡◌, ◌+◌, ◌≤◌, ◌++◌, ℕ, IsTrue, OnErr, OnOk, length, take};
+ghost use Rattle.std.specs.Prelude.{◌≡◌, ◌≤◌, ℕ, [], IsTrue, OnErr, OnOk};
 ghost use Rattle.std.specs.Io.KnownBytes.{Appends};
 ghost use Rattle.ptb_text.specs.Device.{HasFailed, TakesSome};
 ghost use Rattle.ptb_text.specs.Loading.{GivesProgram};
 ghost use Rattle.ptb_text.specs.Statements.{Statements, cost, is_program, line_of, listing};
-ghost use Rattle.ptb_text.specs.Statements.{text_limit};
-ghost use Rattle.ptb_words.specs.Digits.{number_limit};
 
-use crate::{Program, Write};
+use crate::{DeviceFault, OutputBuffer, Program, Write};
 use itoa::Buffer;
 use thiserror::Error;
 
@@ -38,37 +36,31 @@ pub fn list<W: Write>(program: &Program, writer: &mut W) -> Result<(), WriteFaul
     ensures reloads { (memory : ℕ) (q : Statements) → IsTrue (is_program q) → cost q ≤ memory
         → GivesProgram memory (listing q) q }
 {
-    let mut line = [0; LINE_ROOM];
+    let mut line = OutputBuffer::<LINE_ROOM>::new();
     for at in 0..program.len() {
         let (number, text) = program.statement_at(at);
-        let end = put_line(&mut line, number, text);
-        writer.write_all(&line[..end]).map_err(|_| WriteFault)?;
+        write_line(&mut line, number, text, writer).map_err(|_| WriteFault)?;
     }
     Ok(())
 }
 
-// Puts a statement as a line at the front of the buffer, and gives the line's length.
-fn put_line(buffer: &mut [u8], number: u16, text: &[u8]) -> usize
-    requires room { length buffer.old ≡ 262 }
-    requires number { number ≤ number_limit }
-    requires text { length text.now ≤ text_limit }
-    ensures line { take result buffer.new ≡ line_of (number, text.now) }
-    ensures within { result ≤ 262 }
+// Writes a statement as a line.
+fn write_line<W: Write>(
+    line: &mut OutputBuffer<LINE_ROOM>,
+    number: u16,
+    text: &[u8],
+    writer: &mut W,
+) -> Result<(), DeviceFault>
+    requires { line.old ≡ [] }
+    ensures ok { OnOk result
+        (Appends (W.contents writer.old) (W.contents writer.new) (line_of (number, text.now))) }
+    ensures fault { OnErr result
+        (TakesSome (W.contents writer.old) (W.contents writer.new) (line_of (number, text.now))) }
+    ensures failed { OnErr result (HasFailed (W.failures writer.old) (W.failures writer.new)) }
+    ensures unfailed { OnOk result (W.failures writer.new ≡ W.failures writer.old) }
+    ensures empty { OnOk result (line.new ≡ []) }
 {
     let mut digits = Buffer::new();
-    let end = append(buffer, 0, digits.format(number).as_bytes());
-    let end = append(buffer, end, b" ");
-    let end = append(buffer, end, text);
-    append(buffer, end, b"\n")
-}
-
-// Puts bytes behind those in front of a place, and gives the place behind them.
-fn append(buffer: &mut [u8], at: usize, bytes: &[u8]) -> usize
-    requires { at + length bytes.now ≤ length buffer.old }
-    ensures front { take result buffer.new ≡ take at buffer.old ++ bytes.now }
-    ensures end { result ≡ at + length bytes.now }
-{
-    let end = at + bytes.len();
-    buffer[at..end].copy_from_slice(bytes);
-    end
+    let digits = digits.format(number).as_bytes();
+    line.finish(writer, &[digits, b" ", text, b"\n"])
 }

@@ -10,7 +10,7 @@ use Rattle.ptb_answers.specs.Outcome.{Answers}
 use Rattle.ptb_answers.specs.declared.form.Form.{Form}
 use Rattle.ptb_answers.specs.declared.form.Marked.{Marked}
 use Rattle.ptb_answers.specs.AnswerText.{item_text, in_form, items_in, spelling}
-use Rattle.ptb_report.proofs.Gathering.{gathers_same, gathers_piece, some_piece}
+use Rattle.ptb_text.proofs.Gathering.{gathers_same, gathers_piece, some_piece}
 use Rattle.ptb_report.proofs.ReportText.{pieces_of, whole_piece, piece_at, item_at, spelling_in_pieces, length-pieces_of, length-items_in}
 use Rattle.ptb_report.proofs.report.put_answers.Goals as goal
 
@@ -45,8 +45,8 @@ returns-in_err-put_item-clause-fault g c =
     let within : c.loop-k.k < length (pieces_of (items_in form answers bounds)) = omega (arith, c.loop-k-test.true, count form answers bounds same) in
     let some : 0 < length answers = omega (arith, c.loop-k-test.true) in
     let is = next form answers bounds same c.loop-k.k c.separator.result.now c.item.result c.loop-k-test.true c.separator.ensures (search rules) in
-    let t = some_piece whole_piece (pieces_of (items_in form answers bounds)) c.loop-k.k [] within _ is _ _ _ c.args.pending.now.items c.loop-k.pending.items c.loop-k.invariant.gathered c.in_err-put_item.ensures.fault in
-    rw p.1 (subst (TakesSome _ _) (whole form answers bounds same c.args.pending.now.items some) t)
+    let t = some_piece whole_piece (pieces_of (items_in form answers bounds)) c.loop-k.k [] within _ is _ _ _ c.args.pending.now c.loop-k.pending c.loop-k.invariant.gathered c.in_err-put_item.ensures.fault in
+    rw p.1 (subst (TakesSome _ _) (whole form answers bounds same c.args.pending.now some) t)
 
 pub loop-k-preserved : goal.loop-k-preserved
 loop-k-preserved g c =
@@ -58,7 +58,7 @@ loop-k-preserved g c =
     let is = next form answers bounds same c.loop-k.k c.separator.result.now c.item.result c.loop-k-test.true c.separator.ensures (search rules) in
     record {
       unfailed = search rules;
-      gathered = gathers_piece whole_piece (pieces_of (items_in form answers bounds)) c.loop-k.k [] within _ is _ _ _ c.args.pending.now.items c.loop-k.pending.items c.loop-k.invariant.gathered _ c.in_ok-put_item.ensures.ok;
+      gathered = gathers_piece whole_piece (pieces_of (items_in form answers bounds)) c.loop-k.k [] within _ is _ _ _ c.args.pending.now c.loop-k.pending c.loop-k.invariant.gathered _ c.in_ok-put_item.ensures.ok;
     }
 
 pub returns-clause-ok : goal.returns-clause-ok
@@ -68,7 +68,7 @@ returns-clause-ok g c =
     let bounds = c.args.bounds.now in
     let same : length answers ≡ length bounds = c.requires in
     let some : 0 < length answers = grind (arith, c.if-is_empty.ensures) in
-    gathers_same (all form answers bounds same c.args.pending.now.items c.loop-k.k some c.loop-k-test.false) c.loop-k.invariant.gathered
+    gathers_same (all form answers bounds same c.args.pending.now c.loop-k.k some c.loop-k-test.false) c.loop-k.invariant.gathered
 
 pub returns-then-is_empty-clause-ok : goal.returns-then-is_empty-clause-ok
 returns-then-is_empty-clause-ok g c = grind (arith, common_steps)

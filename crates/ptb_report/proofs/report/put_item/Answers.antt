@@ -5,7 +5,7 @@ use Rattle.std.proofs.lemmas.Result.{on_ok_weaker, on_err_weaker}
 use Rattle.ptb_text.specs.Device.{TakesSome}
 use Rattle.ptb_answers.specs.declared.form.Marked.{Marked}
 use Rattle.ptb_answers.specs.AnswerText.{bound_text, item_text}
-use Rattle.ptb_report.proofs.Gathering.{gathers_same}
+use Rattle.ptb_text.proofs.Gathering.{gathers_same}
 use Rattle.ptb_report.proofs.report.put_item.Goals as goal
 
 with_number : (p s a b : List ℕ) (m : Marked) (n : ℤ) → a ≡ signed_decimal m.answer → b ≡ signed_decimal n → m.bound ≡ Some n
@@ -25,7 +25,7 @@ returns-in-Some-clause-ok g c =
     let n = c.in-Some.number in
     let fits : FitsSigned w16 k = search rules in
     let fits_bound : FitsSigned w16 n = search rules in
-    let whole = with_number c.args.pending.now.items c.args.separator.now _ _ c.args.item n
+    let whole = with_number c.args.pending.now c.args.separator.now _ _ c.args.item n
     (c.as_bytes-answer.ensures.value ∙ c.format.ensures.text ∙ ap signed_decimal (to_z-of_z fits))
     (c.as_bytes-bound.ensures.value ∙ c.format-in-Some.ensures.text ∙ ap signed_decimal (to_z-of_z fits_bound)) c.in-Some.is in
     on_ok_weaker c.put_all-in-Some.result (λ e. gathers_same whole e) c.put_all-in-Some.ensures.ok
@@ -36,7 +36,7 @@ returns-in-Some-clause-fault g c =
     let n = c.in-Some.number in
     let fits : FitsSigned w16 k = search rules in
     let fits_bound : FitsSigned w16 n = search rules in
-    let whole = with_number c.args.pending.now.items c.args.separator.now _ _ c.args.item n
+    let whole = with_number c.args.pending.now c.args.separator.now _ _ c.args.item n
     (c.as_bytes-answer.ensures.value ∙ c.format.ensures.text ∙ ap signed_decimal (to_z-of_z fits))
     (c.as_bytes-bound.ensures.value ∙ c.format-in-Some.ensures.text ∙ ap signed_decimal (to_z-of_z fits_bound)) c.in-Some.is in
     on_err_weaker c.put_all-in-Some.result (λ e. subst (TakesSome _ _) whole e) c.put_all-in-Some.ensures.fault
@@ -45,7 +45,7 @@ pub returns-in-None-clause-ok : goal.returns-in-None-clause-ok
 returns-in-None-clause-ok g c =
     let k = c.args.item.answer in
     let fits : FitsSigned w16 k = search rules in
-    let whole = without_number c.args.pending.now.items c.args.separator.now _ c.args.item
+    let whole = without_number c.args.pending.now c.args.separator.now _ c.args.item
     (c.as_bytes-answer.ensures.value ∙ c.format.ensures.text ∙ ap signed_decimal (to_z-of_z fits)) c.in-None.is in
     on_ok_weaker c.put_all.result (λ e. gathers_same whole e) c.put_all.ensures.ok
 
@@ -53,6 +53,6 @@ pub returns-in-None-clause-fault : goal.returns-in-None-clause-fault
 returns-in-None-clause-fault g c =
     let k = c.args.item.answer in
     let fits : FitsSigned w16 k = search rules in
-    let whole = without_number c.args.pending.now.items c.args.separator.now _ c.args.item
+    let whole = without_number c.args.pending.now c.args.separator.now _ c.args.item
     (c.as_bytes-answer.ensures.value ∙ c.format.ensures.text ∙ ap signed_decimal (to_z-of_z fits)) c.in-None.is in
     on_err_weaker c.put_all.result (λ e. subst (TakesSome _ _) whole e) c.put_all.ensures.fault

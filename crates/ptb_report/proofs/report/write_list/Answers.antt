@@ -2,7 +2,7 @@
 use Rattle.std.proofs.Common.{◌∙◌}
 use Rattle.std.proofs.lemmas.Result.{IfOk-from_err, on_ok_weaker, on_err_weaker}
 use Rattle.ptb_answers.specs.AnswerText.{items_in}
-use Rattle.ptb_report.proofs.Reporting.{on_err_always, failed_after, line_written, list_fails, newline_fails, line_fails}
+use Rattle.ptb_report.proofs.Reporting.{on_err_always, failed_after, line_written, list_fails, line_fails}
 use Rattle.ptb_report.proofs.report.write_list.Goals as goal
 
 pub returns-in_err-put_answers : goal.returns-in_err-put_answers
@@ -13,18 +13,10 @@ returns-in_err-put_answers g c = record {
   unfailed = IfOk-from_err _ _ c.from_residual.ensures.0;
 }
 
-pub returns-in_err-put : goal.returns-in_err-put
-returns-in_err-put g c = record {
-  ok = IfOk-from_err _ _ c.from_residual-in_err-put.ensures.0;
-  fault = on_err_always _ (newline_fails (items_in c.args.form c.args.answers.now c.args.bounds.now) _ _ c.new-pending.ensures _ _ c.in_ok-put_answers.ensures.ok _ c.in_err-put.ensures.fault);
-  failed = on_err_always _ (failed_after _ _ _ c.in_ok-put_answers.ensures.unfailed c.in_err-put.ensures.failed);
-  unfailed = IfOk-from_err _ _ c.from_residual-in_err-put.ensures.0;
-}
-
 pub returns : goal.returns
 returns g c = record {
-  ok = line_written (items_in c.args.form c.args.answers.now c.args.bounds.now) _ _ c.new-pending.ensures _ _ c.in_ok-put_answers.ensures.ok _ _ c.in_ok-put.ensures.ok _ c.as_slice.ensures.value _ c.write_all.result c.write_all.ensures.ok;
-  fault = line_fails (items_in c.args.form c.args.answers.now c.args.bounds.now) _ _ c.new-pending.ensures _ _ c.in_ok-put_answers.ensures.ok _ _ c.in_ok-put.ensures.ok _ c.as_slice.ensures.value _ c.write_all.result c.write_all.ensures.fault;
-  failed = on_err_weaker c.write_all.result (failed_after _ _ _ (c.in_ok-put.ensures.unfailed ∙ c.in_ok-put_answers.ensures.unfailed)) c.write_all.ensures.failed;
-  unfailed = on_ok_weaker c.write_all.result (λ same. same ∙ c.in_ok-put.ensures.unfailed ∙ c.in_ok-put_answers.ensures.unfailed) c.write_all.ensures.unfailed;
+  ok = line_written (items_in c.args.form c.args.answers.now c.args.bounds.now) _ _ c.new-pending.ensures _ _ c.in_ok-put_answers.ensures.ok _ c.finish.result c.finish.ensures.ok;
+  fault = line_fails (items_in c.args.form c.args.answers.now c.args.bounds.now) _ _ c.new-pending.ensures _ _ c.in_ok-put_answers.ensures.ok _ c.finish.result c.finish.ensures.fault;
+  failed = on_err_weaker c.finish.result (failed_after _ _ _ c.in_ok-put_answers.ensures.unfailed) c.finish.ensures.failed;
+  unfailed = on_ok_weaker c.finish.result (λ same. same ∙ c.in_ok-put_answers.ensures.unfailed) c.finish.ensures.unfailed;
 }

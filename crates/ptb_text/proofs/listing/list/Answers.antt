@@ -1,30 +1,23 @@
 -- This file answers what is left to prove of `list`.
-use Rattle.std.proofs.Common.{rules, ◌≡◌, ◌+◌, ◌++◌, ℕ, length, drop, take, sym, ap, subst, ◌∙◌, arith}
+use Rattle.std.proofs.Common.{rules, ℕ, length, ap, subst, ◌∙◌, arith}
 use Rattle.std.proofs.lemmas.List.{drop_all}
 use Rattle.ptb_text.specs.Device.{HasFailed}
 use Rattle.ptb_text.specs.Statements.{listing}
 use Rattle.ptb_text.proofs.Listed.{GivesProgram-listing, listing-drop}
-use Rattle.ptb_text.proofs.Taking.{IsTakenUpTo_all, IsTakenUpTo_piece, IsTakenUpTo_piece_fault, OnErr-error, OnErr-holds, OnOk-error, OnOk-holds}
+use Rattle.ptb_text.proofs.Taking.{gathers_all, piece_taken, piece_fault, OnErr-error, OnErr-holds, OnOk-error, OnOk-holds}
 use Rattle.ptb_text.proofs.listing.list.Goals as goal
-use Rattle.ptb_text.proofs.listing.list.Goals.{After-put_line-end}
-
--- the line that is written is the first of those that are left
-next_line : (g : _) (c : After-put_line-end g) → listing (drop c.loop-at.at c.args.program.now.lines) ≡ take c.put_line-end.result c.put_line-end.new.buffer ++ listing (drop (c.loop-at.at + 1) c.args.program.now.lines)
-next_line g c =
-    let p = c.args.program.now.lines in
-    listing-drop p c.loop-at.at _ c.statement_at-number.ensures.line ∙ ap (λ l. l ++ listing (drop (c.loop-at.at + 1) p)) (sym c.put_line-end.ensures.line)
 
 -- a write failed
 pub returns-in_err-map_err : goal.returns-in_err-map_err
 returns-in_err-map_err g c =
-    let next = next_line g (goal.at.returns-in_err-map_err g c).After-put_line-end in
+    let next = listing-drop c.args.program.now.lines c.loop-at.at _ c.statement_at-number.ensures.line in
     let is = c.from_residual.ensures.1 in
-    let some = OnErr-holds c.write_all.result c.in_err-map_err.ensures.variant c.write_all.ensures.fault in
-    let failed = OnErr-holds c.write_all.result c.in_err-map_err.ensures.variant c.write_all.ensures.failed in
+    let some = OnErr-holds c.write_line.result c.in_err-map_err.ensures.variant c.write_line.ensures.fault in
+    let failed = OnErr-holds c.write_line.result c.in_err-map_err.ensures.variant c.write_line.ensures.failed in
     record {
       ok = OnOk-error _ _ c.from_residual.result is;
-      fault = OnErr-error _ _ c.from_residual.result is (IsTakenUpTo_piece_fault _ _ _ next c.loop-at.invariant.taken some);
-      failed = OnErr-error _ _ c.from_residual.result is (subst (λ (k : ℕ). HasFailed k (g.W.Write.failures c.write_all.new.self)) c.loop-at.invariant.unfailed failed);
+      fault = OnErr-error _ _ c.from_residual.result is (piece_fault _ _ _ next c.loop-at.invariant.taken some);
+      failed = OnErr-error _ _ c.from_residual.result is (subst (λ (k : ℕ). HasFailed k (g.W.Write.failures c.write_line.new.writer)) c.loop-at.invariant.unfailed failed);
       unfailed = OnOk-error _ _ c.from_residual.result is;
       reloads = GivesProgram-listing;
     }
@@ -35,7 +28,7 @@ returns g c =
     let p = c.args.program.now.lines in
     let none = drop_all c.loop-at.at p (omega (arith, c.loop-at-test.false, c.len-at-end.ensures.value)) in
     record {
-      ok = IsTakenUpTo_all _ c.loop-at.invariant.taken (ap (λ ls. length (listing ls)) none);
+      ok = gathers_all _ c.loop-at.invariant.taken (ap (λ ls. length (listing ls)) none);
       fault = tt;
       failed = tt;
       unfailed = c.loop-at.invariant.unfailed;
@@ -44,13 +37,13 @@ returns g c =
 
 pub loop-at-preserved : goal.loop-at-preserved
 loop-at-preserved g c =
-    let next = next_line g (goal.at.loop-at-preserved g c).After-put_line-end in
-    let all = OnOk-holds c.write_all.result c.in_ok-map_err.ensures.variant c.write_all.ensures.ok in
-    let same = OnOk-holds c.write_all.result c.in_ok-map_err.ensures.variant c.write_all.ensures.unfailed in
+    let next = listing-drop c.args.program.now.lines c.loop-at.at _ c.statement_at-number.ensures.line in
+    let all = OnOk-holds c.write_line.result c.in_ok-map_err.ensures.variant c.write_line.ensures.ok in
+    let same = OnOk-holds c.write_line.result c.in_ok-map_err.ensures.variant c.write_line.ensures.unfailed in
     record {
       unfailed = same ∙ c.loop-at.invariant.unfailed;
-      taken = IsTakenUpTo_piece _ _ _ next c.loop-at.invariant.taken all;
-      room = c.put_line-end.auto.buffer ∙ c.loop-at.invariant.room;
+      taken = piece_taken _ _ _ next c.loop-at.invariant.taken all;
+      empty = OnOk-holds c.write_line.result c.in_ok-map_err.ensures.variant c.write_line.ensures.empty;
     }
 
 pub loop-at-init : goal.loop-at-init

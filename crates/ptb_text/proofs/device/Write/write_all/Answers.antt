@@ -1,27 +1,28 @@
 -- This file answers what is left to prove of `Write::write_all`.
 use Rattle.std.proofs.Common.{arith, rules, refl, subst}
 use Rattle.std.proofs.lemmas.Result.{err_from_is_err_and}
-use Rattle.ptb_text.proofs.Taking.{IsTakenUpTo_none, IsTakenUpTo_more, IsTakenUpTo_all, IsTakenUpTo_fault, sure_all, sure_more, sure_written}
+use Rattle.ptb_text.proofs.Gathering.{gathers_none}
+use Rattle.ptb_text.proofs.Taking.{gathers_rest, gathers_all, gathers_fault, sure_all, sure_more, sure_written}
 use Rattle.ptb_text.proofs.device.Write.write_all.Goals as goal
 
 pub loop-rest-init : goal.loop-rest-init
-loop-rest-init g c = record { unfailed = refl; taken = IsTakenUpTo_none _ _; sure = λ k within was. subst (g.Self.Write.takes c.args.self.now) (omega arith) was }
+loop-rest-init g c = record { unfailed = refl; taken = gathers_none _ _; sure = λ k within was. subst (g.Self.Write.takes c.args.self.now) (omega arith) was }
 
 pub loop-rest-preserved : goal.loop-rest-preserved
 loop-rest-preserved g c = record {
   unfailed = search rules;
-  taken = IsTakenUpTo_more _ _ _ refl c.loop-rest.invariant.taken c.in_ok-taken.ensures.bytes;
+  taken = gathers_rest _ _ _ refl c.loop-rest.invariant.taken c.in_ok-taken.ensures.bytes;
   sure = sure_more _ _ c.loop-rest.invariant.taken c.loop-rest.invariant.sure (g.Self.Write.takes c.write.new.self) c.in_ok-taken.taken c.in_ok-taken.ensures.room c.in_ok-taken.ensures.sure;
 }
 
 pub returns-in_err-taken-clause-fault : goal.returns-in_err-taken-clause-fault
-returns-in_err-taken-clause-fault g c = let p = err_from_is_err_and c.from_residual.result c.from_residual.ensures.1 in rw p.1 (IsTakenUpTo_fault _ c.loop-rest.invariant.taken c.in_err-taken.ensures.fault)
+returns-in_err-taken-clause-fault g c = let p = err_from_is_err_and c.from_residual.result c.from_residual.ensures.1 in rw p.1 (gathers_fault _ c.loop-rest.invariant.taken c.in_err-taken.ensures.fault)
 
 pub returns-in_err-taken-clause-sure : goal.returns-in_err-taken-clause-sure
 returns-in_err-taken-clause-sure g c = λ k within was. absurd (sure_written _ _ c.loop-rest.invariant.taken c.loop-rest.invariant.sure c.in_err-taken.ensures.sure k within was)
 
 pub returns-clause-ok : goal.returns-clause-ok
-returns-clause-ok g c = IsTakenUpTo_all _ c.loop-rest.invariant.taken (search rules)
+returns-clause-ok g c = gathers_all _ c.loop-rest.invariant.taken (search rules)
 
 pub returns-clause-sure : goal.returns-clause-sure
 returns-clause-sure g c = λ k within was. (refl, sure_all (g.Self.Write.takes c.args.self.now) (g.Self.Write.takes c.loop-rest.self) c.loop-rest.invariant.taken c.loop-rest.invariant.sure (search rules) k within was)

@@ -1,4 +1,4 @@
--- This file proves how bytes that are gathered and then taken add up.
+-- This file proves how bytes that are gathered and then taken add up. Crates that gather bytes cite it.
 use Rattle.std.proofs.Common.{◌≡◌, ℕ, ◌+◌, ◌<◌, get_or, List, [], ◌∷◌, ◌++◌, length, take, drop, Option, refl, sym, ap, ◌∙◌, subst, append_assoc, append-nil, arith, length-append}
 use Rattle.std.proofs.lemmas.List.{take-append-drop, take-append-le, take_more}
 use Rattle.std.proofs.lemmas.List.Concat.{flat_map-append}
@@ -6,8 +6,7 @@ use Rattle.std.specs.List.{flat_map}
 use Rattle.std.proofs.Math.Seq.{take-length}
 use Rattle.std.specs.Io.KnownBytes.{Appends}
 use Rattle.std.proofs.KnownBytes.{Appends-nil, Appends-trans}
-use Rattle.ptb_text.specs.Device.{TakesSome}
-use Rattle.ptb_report.specs.Report.{Gathers}
+use Rattle.ptb_text.specs.Device.{Gathers, TakesSome}
 
 -- nothing taken, all pending
 pub gathers_none : (a : Option (List ℕ)) (s : List ℕ) → Gathers a a s s
@@ -57,6 +56,10 @@ some_rest a b c s p g t =
 
 pub gathers_written : (a b : Option (List ℕ)) (s : List ℕ) → Appends a b s → Gathers a b s []
 gathers_written a b s t = record { front = s; whole = sym (append-nil s); growth = t }
+
+-- all that was pending and x after it was taken
+pub all_more : (a b c : Option (List ℕ)) (s p x : List ℕ) → Gathers a b s p → Appends b c (p ++ x) → Appends a c (s ++ x)
+all_more a b c s p x g t = all_after a c c (s ++ x) [] (gathers_more a b c s p x [] g (gathers_written b c (p ++ x) t)) (Appends-nil c)
 
 -- ---- one piece after the other: s, and then a piece for each of xs, of which i are done; x is the next piece
 

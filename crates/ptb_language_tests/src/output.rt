@@ -1,0 +1,76 @@
+// This file tests the buffer before a writer: what waits, what is written at once, and what a
+// writer has where it fails.
+
+use crate::shared::expect_same;
+use ptb_text::{ByteSink, Device, DeviceFault, OutputBuffer};
+use std::alloc::Global;
+
+// What is put into a buffer of four bytes, what the writer has then, and what it has if that was
+// the last.
+type Put = (&'static [u8], &'static str, &'static str);
+
+const PUTS: &[Put] = &[
+    (b"ab", "", "ab"),
+    (b"", "", "ab"),
+    // it is full
+    (b"cd", "", "abcd"),
+    (b"", "", "abcd"),
+    // there is no room: what waits is written first
+    (b"e", "abcd", "abcde"),
+    (b"fgh", "abcd", "abcdefgh"),
+    // too many bytes for a buffer
+    (b"ijklm", "abcdefghijklm", "abcdefghijklm"),
+    (b"n", "abcdefghijklm", "abcdefghijklmn"),
+];
+
+// What a writer has after so many of them; if these are all, the buffer is finished.
+fn taken(alloc: Global, count: usize, all: bool) -> Result<Vec<u8>, DeviceFault> {
+    let mut taken = Vec::new(alloc);
+    let mut out = Device::new(&mut taken);
+    let mut buffer = OutputBuffer::<4>::new();
+    for (bytes, _, _) in PUTS.iter().take(count) {
+        buffer.put(&mut out, bytes)?;
+    }
+    if all {
+        buffer.finish(&mut out, &[])?;
+    }
+    Ok(taken)
+}
+
+// Bytes wait until there is no room for more, and are all written in the end.
+#[test]
+fn bytes_wait(rt: HostRuntime) {
+    for (place, &(_, some, all)) in PUTS.iter().enumerate() {
+        for (due, last) in [(some, false), (all, true)] {
+            let found = taken(rt.alloc(), place.saturating_add(1), last);
+            let same = found.is_ok_and(|found| found.as_slice() == due.as_bytes());
+            expect_same(&rt, due, (place, last, same), (place, last, true));
+        }
+    }
+}
+
+const ALL: &[u8] = b"abcdefghijklm";
+
+// Writes these bytes in pieces.
+fn write_to<T: ByteSink + Drop>(sink: T) -> Result<(), DeviceFault> {
+    let mut out = Device::new(sink);
+    let mut buffer = OutputBuffer::<4>::new();
+    buffer.put_all(&mut out, &[b"ab", b"c", b"de", b"fghijk"])?;
+    buffer.finish(&mut out, &[b"l", b"m"])
+}
+
+// A writer that has no room for all of them fails, and has the first of them.
+#[test]
+fn writer_without_room(rt: HostRuntime) {
+    for size in 0..=ALL.len() {
+        let mut room = [b'.'; 13];
+        let (exact, _) = room.split_at_mut(size);
+        let wanted = if size < ALL.len() {
+            Err(DeviceFault)
+        } else {
+            Ok(())
+        };
+        let found = (write_to(&mut *exact), ALL.starts_with(exact));
+        expect_same(&rt, "in pieces", found, (wanted, true));
+    }
+}
