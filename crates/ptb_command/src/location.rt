@@ -1,5 +1,7 @@
 // This file says where a command begins.
 
+ghost use Rattle.std.specs.Prelude.{◌≡◌, ◌↔◌, IsTrue};
+
 /// One of a program's statements, and a place in its text.
 #[derive(Clone, Copy, PartialEq, Eq)]
 pub struct Location {
@@ -7,4 +9,21 @@ pub struct Location {
     pub statement: usize,
     /// How many bytes of the text stand before the place.
     pub at: usize,
+}
+
+impl Location {
+    /// Whether another place is the same.
+    #[tactic(auto, using(crate::proofs::Sameness::same_location))]
+    pub fn is_same(self, other: Location) -> bool
+        ensures { IsTrue result ↔ (self ≡ other) }
+    {
+        self.statement == other.statement && self.at == other.at
+    }
+
+    /// A number that is the same for the same place. Others may have it, too.
+    pub fn hash(self) -> u64 {
+        (self.statement as u64)
+            .wrapping_mul(0x1_0000)
+            .wrapping_add(self.at as u64)
+    }
 }

@@ -94,6 +94,34 @@ impl Stack {
         let _ = self.opens.try_extend_from_slice(other.opens.as_slice());
     }
 
+    /// Whether the same loops and calls are open in another stack.
+    pub fn is_same(&self, other: &Stack) -> bool
+        ensures { IsTrue result ↔ (self.now ≡ other.now) }
+    {
+        let opens = self.opens.as_slice();
+        let others = other.opens.as_slice();
+        same_opens(opens, others)
+    }
+
+    /// A number that is the same for stacks that hold the same. Others may have it, too.
+    pub fn hash(&self) -> u64 {
+        let mut sum = self.opens.len() as u64;
+        for open in self.opens.as_slice() {
+            let (back, letter, value) = match *open {
+                Open::Call(back) => (back, 0, 0),
+                Open::Loop(item) => (item.back, item.letter.index() as u64, item.limit),
+            };
+            sum = sum
+                .wrapping_mul(0x9E37_79B9_7F4A_7C15)
+                .wrapping_add(letter)
+                .wrapping_mul(0x9E37_79B9_7F4A_7C15)
+                .wrapping_add(u64::from(value.unsigned_abs()))
+                .wrapping_mul(0x9E37_79B9_7F4A_7C15)
+                .wrapping_add(back.hash());
+        }
+        sum
+    }
+
     /// Whether nothing is open.
     pub fn is_empty(&self) -> bool
         ensures { IsTrue result ↔ (self.now ≡ []) }
@@ -280,6 +308,39 @@ impl Stack {
             }
         }
     }
+}
+
+// Whether two are the same loop or call.
+#[tactic(auto, using(crate::proofs::Sameness::same_loop))]
+fn same_open(one: Open, other: Open) -> bool
+    ensures { IsTrue result ↔ (one ≡ other) }
+{
+    match (one, other) {
+        (Open::Call(one), Open::Call(other)) => one.is_same(other),
+        (Open::Loop(one), Open::Loop(other)) => {
+            one.back.is_same(other.back)
+                && one.letter == other.letter
+                && one.limit == other.limit
+                && one.step == other.step
+        }
+        (Open::Call(_), Open::Loop(_)) => false,
+        (Open::Loop(_), Open::Call(_)) => false,
+    }
+}
+
+// Whether loops and calls are the same as others.
+fn same_opens(opens: &[Open], others: &[Open]) -> bool
+    ensures { IsTrue result ↔ (opens.now ≡ others.now) }
+{
+    if opens.len() != others.len() {
+        return false;
+    }
+    for i in 0..opens.len() {
+        if !same_open(opens[i], others[i]) {
+            return false;
+        }
+    }
+    true
 }
 
 // How many are open below the newest call, and the place to which it returns.

@@ -1,7 +1,7 @@
 // This file has the values of the variables A to Z and of the array @, and what names one of them.
 
 ghost use Rattle.std.specs.Prelude.{◌≡◌, ◌≤◌, ℕ, ℤ, pos, ◌≤ℤ◌, IfOk, IsOk, OnOk, OnErr};
-ghost use Rattle.std.specs.Prelude.{◌++◌, length, take, drop};
+ghost use Rattle.std.specs.Prelude.{◌++◌, length, take, drop, IsTrue, ◌↔◌};
 ghost use Rattle.ptb_expr.specs.Store.{value_at, with_value, index_of, element_of, with_element};
 ghost use Rattle.ptb_expr.specs.Store.{empty_cells};
 
@@ -36,6 +36,29 @@ fn copy_front(values: &mut [i16], others: &[i16], count: usize)
     ensures { values.new ≡ take count others.now ++ drop count values.old }
 {
     values[..count].copy_from_slice(&others[..count]);
+}
+
+// Whether as many of the first values are the same as those of others.
+fn is_same_front(values: &[i16], others: &[i16], count: usize) -> bool
+    requires within { count ≤ length values.now }
+    requires others { count ≤ length others.now }
+    ensures { IsTrue result ↔ (take count values.now ≡ take count others.now) }
+{
+    let (front, others) = (&values[..count], &others[..count]);
+    front == others
+}
+
+// Mixes values into a number. Zeros at the end change nothing.
+fn mixed(values: &[i16], start: u64) -> u64 {
+    let mut sum = start;
+    let mut factor = start | 1;
+    for value in values {
+        factor = factor.wrapping_mul(0x9E37_79B9_7F4A_7C15);
+        let word = if *value < 0 { 0x1_0000 } else { 0 };
+        let word = u64::from(value.unsigned_abs()).wrapping_add(word);
+        sum = sum.wrapping_add(factor.wrapping_mul(word));
+    }
+    sum
 }
 
 impl Model for Store {
@@ -107,6 +130,23 @@ impl Store {
         copy_front(&mut self.elements, &other.elements, used);
         self.used = other.used;
         Ok(())
+    }
+
+    /// Whether another store has the same SIZE and holds the same values.
+    pub fn is_same(&self, other: &Store) -> bool
+        ensures { IsTrue result ↔ (self.now ≡ other.now) }
+    {
+        if other.size != self.size {
+            return false;
+        }
+        let count = self.used.max(other.used);
+        self.values == other.values && is_same_front(&self.elements, &other.elements, count)
+    }
+
+    /// A number that is the same for stores that hold the same. Others seldom have it, too.
+    pub fn hash(&self) -> u64 {
+        let variables = mixed(&self.values, 1);
+        mixed(&self.elements[..self.used], variables)
     }
 
     /// SIZE.

@@ -373,6 +373,63 @@ fn copied_values(rt: HostRuntime) {
     expect_taken_or_kept(&rt, rt.alloc(), &store);
 }
 
+// The SIZE of two stores, what is stored in them, and whether they hold the same then. A letter names
+// a variable, and a digit an element.
+type Pair = ((u8, &'static [(u8, i16)]), (u8, &'static [(u8, i16)]), bool);
+
+const PAIRS: &[Pair] = &[
+    ((5, &[]), (5, &[]), true),
+    ((5, &[(b'A', 7)]), (5, &[(b'A', 7)]), true),
+    ((5, &[(b'A', 7)]), (5, &[(b'A', 8)]), false),
+    ((5, &[(b'Z', 1)]), (5, &[]), false),
+    ((5, &[(b'A', 7)]), (5, &[(b'B', 7)]), false),
+    ((5, &[(b'2', 12)]), (5, &[(b'2', 12)]), true),
+    ((5, &[(b'2', 12)]), (5, &[]), false),
+    ((5, &[]), (5, &[(b'2', 12)]), false),
+    ((5, &[(b'0', 3)]), (5, &[(b'0', -3)]), false),
+    ((5, &[(b'0', 3)]), (5, &[(b'1', 3)]), false),
+    ((5, &[(b'Z', 3)]), (5, &[(b'0', 3)]), false),
+    ((5, &[(b'2', 12), (b'2', 0)]), (5, &[]), true),
+    (
+        (5, &[(b'0', 4)]),
+        (5, &[(b'0', 4), (b'2', 5), (b'2', 0)]),
+        true,
+    ),
+    ((4, &[]), (5, &[]), false),
+    ((9, &[]), (5, &[]), false),
+];
+
+// Stores the value of what the byte names.
+fn put(store: &mut Store, byte: u8, value: i16) {
+    if let Some(letter) = Letter::new(byte) {
+        store.set(letter, value);
+    } else if let Ok(index) = store.index(i16::from(byte.saturating_sub(b'0'))) {
+        store.set_element(index, value);
+    }
+}
+
+// A store with these values.
+fn stored(rt: &impl Abort, alloc: Global, size: u8, values: &[(u8, i16)]) -> Store {
+    let mut store = Store::new(alloc, i16::from(size)).expect(rt, "memory");
+    for &(byte, value) in values {
+        put(&mut store, byte, value);
+    }
+    store
+}
+
+// Stores that hold the same have one hash. Of these, those that differ in a value have two.
+#[test]
+fn same_values(rt: HostRuntime) {
+    for &((size, values), (other_size, others), same) in PAIRS {
+        let store = stored(&rt, rt.alloc(), size, values);
+        let other = stored(&rt, rt.alloc(), other_size, others);
+        expect_same(&rt, "same", store.is_same(&other), same);
+        if size == other_size {
+            expect_same(&rt, "hash", store.hash() == other.hash(), same);
+        }
+    }
+}
+
 // Gives the answers of a list, and keeps the bounds.
 #[derive(Drop)]
 struct Kept<'a> {

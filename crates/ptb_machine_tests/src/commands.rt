@@ -312,6 +312,60 @@ fn copied_registers(rt: HostRuntime) {
     expect_four(&rt, rt.alloc(), &mut registers, &copy);
 }
 
+// A place, and whether it is byte 2 of statement 1.
+const PLACES: &[(usize, usize, bool)] = &[(1, 2, true), (2, 2, false), (1, 3, false)];
+
+#[test]
+fn same_places(rt: HostRuntime) {
+    let place = Location {
+        statement: 1,
+        at: 2,
+    };
+    for &(statement, at, same) in PLACES {
+        let other = Location { statement, at };
+        expect_same(&rt, "same", place.is_same(other), same);
+        expect_same(&rt, "hash", place.hash() == other.hash(), same);
+    }
+}
+
+// Whether two registers hold the same, whichever is asked, and have one hash.
+fn expect_likeness(rt: &impl Abort, what: &str, one: &Registers, other: &Registers, same: bool) {
+    let found = (one.is_same(other), other.is_same(one));
+    expect_same(rt, what, found, (same, same));
+    expect_same(rt, what, one.hash() == other.hash(), same);
+}
+
+// Registers differ from a copy of which one part is changed, and are the same once it is put back.
+fn expect_differences(rt: &impl Abort, registers: &Registers, copy: &mut Registers) {
+    expect_likeness(rt, "copy", registers, copy, true);
+    copy.place = None;
+    expect_likeness(rt, "no place", registers, copy, false);
+    copy.place = Some(Location {
+        statement: 0,
+        at: 1,
+    });
+    expect_likeness(rt, "place", registers, copy, false);
+    copy.place = registers.place;
+    copy.store.set(letter(b'A'), 8);
+    expect_likeness(rt, "store", registers, copy, false);
+    copy.store.set(letter(b'A'), 7);
+    expect_same(rt, "loop", open(&mut copy.stack, b'A'), true);
+    expect_likeness(rt, "stack", registers, copy, false);
+    copy.stack.close_newest();
+    expect_likeness(rt, "put back", registers, copy, true);
+}
+
+// Passes whichever of its allocations is refused.
+#[test]
+fn same_registers(rt: HostRuntime) {
+    let Some(program) = program_or_refusal(&rt, rt.alloc(), b"10 A=1", b"") else {
+        return;
+    };
+    if let Ok((registers, mut copy)) = copied(&rt, rt.alloc(), &program) {
+        expect_differences(&rt, &registers, &mut copy);
+    }
+}
+
 // The statements of a program of two lines, and one behind them: the place after it, its number and
 // its text.
 const STATEMENTS: &[(usize, Option<(usize, usize)>, i16, &[u8])] = &[

@@ -426,6 +426,61 @@ fn copies(rt: HostRuntime) -> Result<(), Fail> {
     expect_copies(&rt, rt.alloc(), &program)
 }
 
+// A machine of a program after two commands.
+fn after_two(rt: &impl Abort, alloc: Global, text: &[u8]) -> Result<Machine, Fail> {
+    let program = loaded(alloc, text)?;
+    let mut machine = Machine::new(alloc, &program)?;
+    let mut screen = TextScreen::new(alloc);
+    let first = step_of(&mut machine, &program, 9, &mut screen);
+    let second = step_of(&mut machine, &program, 9, &mut screen);
+    let found = (first, second, machine.steps());
+    expect_same(rt, "two commands", found, (Ok(None), Ok(None), 2));
+    Ok(machine)
+}
+
+// Two programs, and whether their machines hold the same after two commands. The machines differ in a
+// value, and in what was shown last: a byte or a newline.
+const PAIRS: &[(&[u8], &[u8], bool)] = &[
+    (b"10 A=1;GOTO 10", b"10 A=1;GOTO 10", true),
+    (b"10 A=1;GOTO 10", b"10 A=2;GOTO 10", false),
+    (b"10 P.11;GOTO 10", b"10 P.22;GOTO 10", true),
+    (b"10 P.11;GOTO 10", b"10 P.1,;GOTO 10", false),
+];
+
+#[test]
+fn same_machines(rt: HostRuntime) -> Result<(), Fail> {
+    for &(text, other, same) in PAIRS {
+        let machine = after_two(&rt, rt.alloc(), text)?;
+        let other = after_two(&rt, rt.alloc(), other)?;
+        let found = (machine.is_same(&other), other.is_same(&machine));
+        expect_same(&rt, "same", found, (same, same));
+        expect_same(&rt, "hash", machine.hash() == other.hash(), same);
+    }
+    Ok(())
+}
+
+// A machine differs from one that has done a command more, and from one that is over.
+fn expect_differences(rt: &impl Abort, alloc: Global, program: &Program) -> Result<(), Fail> {
+    let mut screen = TextScreen::new(alloc);
+    let machine = Machine::new(alloc, program)?;
+    let mut copy = machine.copy(alloc)?;
+    expect_same(rt, "copy", machine.is_same(&copy), true);
+    expect_step(rt, &mut copy, program, 9, &mut screen, (Ok(None), 1, b""));
+    expect_same(rt, "steps", machine.is_same(&copy), false);
+    copy.copy_from(alloc, &machine)?;
+    expect_same(rt, "copied", machine.is_same(&copy), true);
+    let over = Ok(Some(Ending::Limit));
+    expect_step(rt, &mut copy, program, 0, &mut screen, (over, 0, b""));
+    expect_same(rt, "over", machine.is_same(&copy), false);
+    Ok(())
+}
+
+#[test]
+fn different_machines(rt: HostRuntime) -> Result<(), Fail> {
+    let program = loaded(rt.alloc(), b"10 GOTO 10")?;
+    expect_differences(&rt, rt.alloc(), &program)
+}
+
 // A sum that is done again and again, which shows nothing.
 const COUNTS: &[u8] = b"10 A=A+1\n20 GOTO 10";
 

@@ -167,3 +167,91 @@ fn copies(rt: HostRuntime) {
     expect_open(&rt, "copy", &mut copy, b"(A");
     expect_open(&rt, "stack", &mut stack, b"(A");
 }
+
+// The stack after these changes.
+fn changed(script: &str) -> Stack {
+    let mut stack = Stack::new();
+    for &byte in script.as_bytes() {
+        let _ = change(&mut stack, byte);
+    }
+    stack
+}
+
+// Whether two stacks hold the same, whichever is asked, and have one hash.
+fn expect_likeness(rt: &impl Abort, what: &str, one: &Stack, other: &Stack, same: bool) {
+    let found = (one.is_same(other), other.is_same(one));
+    expect_same(rt, what, found, (same, same));
+    expect_same(rt, what, one.hash() == other.hash(), same);
+}
+
+// Two lists of changes, and whether the same is open after them.
+const PAIRS: &[(&str, &str, bool)] = &[
+    ("", "", true),
+    ("", "A", false),
+    ("(", "(", true),
+    ("((", "(", false),
+    ("A", "A", true),
+    ("A", "B", false),
+    ("A", "(", false),
+    ("AB", "BA", false),
+    ("A(B", "A(C", false),
+    ("A(B", "A(B", true),
+    ("A(B)", "A", true),
+    ("AA", "A", true),
+    ("A-", "", true),
+];
+
+#[test]
+fn same_stacks(rt: HostRuntime) {
+    for &(script, other, same) in PAIRS {
+        expect_likeness(&rt, script, &changed(script), &changed(other), same);
+    }
+}
+
+// A loop: its place, its variable, its limit and its step; and whether it is that of A to 9 by 1 which
+// begins at byte 2 of statement 1.
+const LOOPS: &[((usize, usize), u8, i16, i16, bool)] = &[
+    ((1, 2), b'A', 9, 1, true),
+    ((2, 2), b'A', 9, 1, false),
+    ((1, 3), b'A', 9, 1, false),
+    ((1, 2), b'B', 9, 1, false),
+    ((1, 2), b'A', 8, 1, false),
+];
+
+// A stack on which a loop alone is open.
+fn looping(rt: &impl Abort, place: (usize, usize), byte: u8, limit: i16, step: i16) -> Stack {
+    let mut stack = Stack::new();
+    let (statement, at) = place;
+    let opened = stack.open_loop(OpenLoop {
+        back: Location { statement, at },
+        letter: Letter::new(byte).expect(rt, "a letter"),
+        limit,
+        step,
+    });
+    expect_same(rt, "opened", opened, true);
+    stack
+}
+
+#[test]
+fn same_loops(rt: HostRuntime) {
+    for &(place, byte, limit, step, same) in LOOPS {
+        let stack = looping(&rt, place, byte, limit, step);
+        expect_likeness(&rt, "loop", &changed("A"), &stack, same);
+    }
+    // the hash leaves the step out
+    let stack = looping(&rt, (1, 2), b'A', 9, -1);
+    expect_same(&rt, "step", changed("A").is_same(&stack), false);
+}
+
+// A place to which a call returns, and whether it is byte 4 of statement 3.
+const CALLS: &[(usize, usize, bool)] = &[(3, 4, true), (2, 4, false), (3, 5, false)];
+
+#[test]
+fn same_calls(rt: HostRuntime) {
+    for &(statement, at, same) in CALLS {
+        let mut stack = Stack::new();
+        let opened = stack.open_call(Location { statement, at });
+        expect_same(&rt, "opened", opened, true);
+        expect_likeness(&rt, "call", &changed("("), &stack, same);
+    }
+}
