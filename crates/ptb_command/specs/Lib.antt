@@ -27,3 +27,4 @@ pub mod ProgramCode
 pub mod Literals
 pub mod Entries
 pub mod ShortForms
+pub mod Jumps
