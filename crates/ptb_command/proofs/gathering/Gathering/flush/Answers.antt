@@ -6,6 +6,3 @@ use Rattle.ptb_command.proofs.gathering.Gathering.flush.Goals as goal
 pub returns-clause-comes : goal.returns-clause-comes
 returns-clause-comes g c d cells =
     flush_comes _ _ _ c.args.self.now _ c.show-result.result (shown_as _ _ _ _ _ c.as_slice.ensures (c.show-result.ensures d cells))
-
-pub returns-clause-empty : goal.returns-clause-empty
-returns-clause-empty g c = c.clear.ensures
