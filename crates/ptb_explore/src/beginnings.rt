@@ -51,7 +51,9 @@ fn play_beginning(runner: &mut Runner, common: usize, most: usize) -> Result<(),
     runner.trial.stop_after(most)?;
     runner.play_plan(common)?;
     runner.trial.keep_given();
-    runner.trial.hand_over(&mut runner.report.answers, &mut runner.report.bounds);
+    runner
+        .trial
+        .hand_over(&mut runner.report.answers, &mut runner.report.bounds);
     Ok(())
 }
 
@@ -76,7 +78,13 @@ fn find_beginning(runner: &mut Runner, most: usize, position: Position) -> Resul
 {
     run_laws();
     let report = &runner.report;
-    match plan_next(position, &[], &report.answers, &report.bounds, &mut runner.trial)? {
+    match plan_next(
+        position,
+        &[],
+        &report.answers,
+        &report.bounds,
+        &mut runner.trial,
+    )? {
         None => Ok(false),
         Some(common) => {
             play_beginning(runner, common, most)?;

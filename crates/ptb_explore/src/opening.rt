@@ -50,7 +50,8 @@ impl<'a> Runner<'a> {
         if let Some(mismatch) = run_mismatch(list, &self.trial, ending) {
             return Err(AfterFault::NotARun(mismatch));
         }
-        self.trial.hand_over(&mut self.report.answers, &mut self.report.bounds);
+        self.trial
+            .hand_over(&mut self.report.answers, &mut self.report.bounds);
         Ok(())
     }
 

@@ -51,7 +51,10 @@ impl<'a> Runner<'a> {
         loop {
             self.player.advance(machine, rules.limit);
             let before = self.trial.bounds.len();
-            match self.player.step(machine, rules, &mut self.trial, screen, source) {
+            match self
+                .player
+                .step(machine, rules, &mut self.trial, screen, source)
+            {
                 Ok(None) => {}
                 Ok(Some(ending)) => return Ok(ending),
                 Err(RunFault::Memory) => return Err(AllocError),
@@ -63,7 +66,11 @@ impl<'a> Runner<'a> {
             let taken = self.trial.bounds.len();
             let shown = screen.len();
             let lines = source.taken();
-            let reached = Progress { taken, shown, lines };
+            let reached = Progress {
+                taken,
+                shown,
+                lines,
+            };
             self.copies.keep(self.alloc, machine, before, reached);
         }
     }

@@ -195,7 +195,8 @@ impl<'a> Runner<'a> {
     {
         run_laws();
         self.play_plan(common)?;
-        self.trial.hand_over(&mut self.report.answers, &mut self.report.bounds);
+        self.trial
+            .hand_over(&mut self.report.answers, &mut self.report.bounds);
         Ok(())
     }
 
@@ -233,7 +234,13 @@ impl<'a> Runner<'a> {
     {
         run_laws();
         let report = &self.report;
-        match plan_next(position, under, &report.answers, &report.bounds, &mut self.trial)? {
+        match plan_next(
+            position,
+            under,
+            &report.answers,
+            &report.bounds,
+            &mut self.trial,
+        )? {
             None => Ok(false),
             Some(common) => {
                 self.report_plan(common)?;
