@@ -1,0 +1,42 @@
+-- This file answers that the parts that are written are the report.
+use Rattle.std.proofs.Common.{◌≡◌, ◌∙◌, ap, subst, sym, inl, inr, arith, refl, ℕ, List, ◌++◌, take, drop, length, codes, decimal, true}
+use Rattle.std.specs.Prelude.{min}
+use Rattle.std.proofs.lemmas.Bool.{cases_lt}
+use Rattle.std.proofs.lemmas.List.{take_all, drop_all}
+use Rattle.std.proofs.lemmas.Result.{on_ok_weaker, on_err_weaker}
+use Rattle.std.specs.Io.KnownBytes.{Appends}
+use Rattle.ptb_expr.specs.declared.fault.Fault.{Fault}
+use Rattle.ptb_text.specs.Device.{TakesSome}
+use Rattle.ptb_command.specs.Act.{newline, report_bytes, word_of}
+use Rattle.ptb_check.proofs.writing.write_report.Goals as goal
+
+same_before : (k m : ℕ) (t : List ℕ) → m ≡ min k (length t) → take m t ≡ take k t
+same_before k m t is = elim (cases_lt k (length t)) [
+  | inl lt ↦ let same : m ≡ k = omega arith in ap (λ (i : ℕ). take i t) same
+  | inr ge ↦ take_all m t (omega arith) ∙ sym (take_all k t ge)
+]
+
+same_after : (k m : ℕ) (t : List ℕ) → m ≡ min k (length t) → drop m t ≡ drop k t
+same_after k m t is = elim (cases_lt k (length t)) [
+  | inl lt ↦ let same : m ≡ k = omega arith in ap (λ (i : ℕ). drop i t) same
+  | inr ge ↦ drop_all m t (omega arith) ∙ sym (drop_all k t ge)
+]
+
+in_parts : (word digits before after text : List ℕ) (n m : ℕ) (f : Fault) → word ≡ word_of f.kind ++ newline → digits ≡ decimal n → before ≡ take m text → after ≡ drop m text → m ≡ min f.mark (length text)
+    → word ++ digits ++ codes " " ++ before ++ codes "?" ++ after ++ newline ≡ report_bytes true n text f
+in_parts word digits before after text n m f is count front rest at =
+    let first : before ≡ take f.mark text = front ∙ same_before f.mark m text at in
+    let last : after ≡ drop f.mark text = rest ∙ same_after f.mark m text at in
+    rw (is, count, first, last) refl
+
+pub returns-clause-ok : goal.returns-clause-ok
+returns-clause-ok g c =
+    on_ok_weaker c.write_parts.result
+    (λ e. subst (Appends _ _) (in_parts _ _ _ _ c.args.text.now c.args.number c.min-mark.result c.args.fault c.word_line-word.ensures (c.as_bytes-number.ensures.value ∙ c.format.ensures.text) c.split_at.ensures.front c.split_at.ensures.back c.min-mark.ensures) e)
+    c.write_parts.ensures.ok
+
+pub returns-clause-fault : goal.returns-clause-fault
+returns-clause-fault g c =
+    on_err_weaker c.write_parts.result
+    (λ e. subst (TakesSome _ _) (in_parts _ _ _ _ c.args.text.now c.args.number c.min-mark.result c.args.fault c.word_line-word.ensures (c.as_bytes-number.ensures.value ∙ c.format.ensures.text) c.split_at.ensures.front c.split_at.ensures.back c.min-mark.ensures) e)
+    c.write_parts.ensures.fault
