@@ -1,5 +1,5 @@
 -- This file proves how the mistakes in a program's text are served, from what was written of them.
-use Rattle.std.proofs.Common.{◌≡◌, ◌∙◌, ℕ, ◌+◌, ◌≤◌, Bool, true, false, List, Option, None, Some, Result, Ok, Err, IsErrOf, ap, sym, subst, refl, arith, inl, inr}
+use Rattle.std.proofs.Common.{◌≡◌, ◌∙◌, ℕ, ◌+◌, ◌≤◌, Bool, List, Option, Some, Result, Ok, Err, IsErrOf, ap, sym, subst, refl, arith, inl, inr}
 use Rattle.std.specs.Result.{IsErrAnd}
 use Rattle.std.proofs.lemmas.Result.{err_from_is_err_and}
 use Rattle.ptb_text.specs.Device.{HasFailed}

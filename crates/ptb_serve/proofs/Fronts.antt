@@ -1,5 +1,5 @@
 -- This file proves why a listing is begun, or isn't.
-use Rattle.std.proofs.Common.{◌≡◌, ◌⊎◌, ◌∙◌, sym, inl, inr, refl, ap, ap₂, List, [], Bool, true, false, Option, Some, None}
+use Rattle.std.proofs.Common.{◌≡◌, ◌⊎◌, inl, inr, refl, ap, ap₂, List, [], Bool, true, false, Option, Some, None}
 use Rattle.std.specs.Prelude.{ℕ, ◌&&◌}
 use Rattle.std.proofs.lemmas.Bool.{false_from_ne_true}
 use Rattle.ptb_answers.specs.Outcome.{Answers, Outcome}
@@ -16,8 +16,13 @@ use Rattle.ptb_explore.specs.Mismatch.{IsItemMismatch, IsRunMismatch}
 use Rattle.ptb_explore.specs.RunTree.{begins_with}
 use Rattle.ptb_serve.specs.declared.note.Note.{Note}
 use Rattle.ptb_serve.specs.declared.note.Note.TheVariants as notes
-use Rattle.ptb_serve.specs.ListMismatches.{IsUnbegun, after_reason, under_reason}
+use Rattle.ptb_serve.specs.ListMismatches.{IsUnbegun, after_reason, items_of, under_reason}
 use Rattle.ptb_serve.specs.Replies.{answers_under, front_note, is_front, is_share, note_of}
+
+-- an option of items has their answers
+pub items_answers : (under : Option (List Marked)) → answers_of (items_of under) ≡ answers_under under
+items_answers None = refl
+items_answers (Some list) = refl
 
 -- ---- tests one after the other
 
@@ -78,16 +83,13 @@ module _ (game : Answers → Outcome Finish (List ℕ)) where
   pub no_share : (under : List Marked) (after : Option (List Marked)) → (IsMarkedBeginning game under → ⊥) → front_note game (Some under) after ≡ Some notes.NoBeginning
   no_share under after none = ap (λ t. note_of t (is_front game (answers_of under) after)) (share_false under none)
 
-  pub unbegun_after : (list : List Marked) (fault : AfterFault) → ((m : Mismatch) → fault ≡ afters.NotARun m → IsMarkedRun game list → ⊥)
-      → ((m : Mismatch) → fault ≡ afters.NotARun m → IsRunMismatch game [] list m) → IsUnbegun game None (Some list) (after_reason fault)
-  unbegun_after list (afters.NotARun m) none why = (no_front None list refl (λ run _. none m refl run), why m refl)
-  unbegun_after list afters.Memory none why = tt
-
-  pub unbegun_under_after : (under list : List Marked) (fault : AfterFault) → is_share game (Some under) ≡ true
-      → ((m : Mismatch) → fault ≡ afters.NotARun m → IsMarkedRun game list → begins_with (answers_of list) (answers_of under) ≡ true → ⊥)
-      → ((m : Mismatch) → fault ≡ afters.NotARun m → IsRunMismatch game under list m) → IsUnbegun game (Some under) (Some list) (after_reason fault)
-  unbegun_under_after under list (afters.NotARun m) share none why = (no_front (Some under) list share (none m refl), why m refl)
-  unbegun_under_after under list afters.Memory share none why = tt
+  -- where a run begins with the first list, the second is what is refused
+  pub unbegun_at : (under : Option (List Marked)) (list : List Marked) (fault : AfterFault) → is_share game under ≡ true
+      → ((m : Mismatch) → fault ≡ afters.NotARun m → IsMarkedRun game list → begins_with (answers_of list) (answers_under under) ≡ true → ⊥)
+      → ((m : Mismatch) → fault ≡ afters.NotARun m → IsRunMismatch game (items_of under) list m) → IsUnbegun game under (Some list) (after_reason fault)
+  unbegun_at None list (afters.NotARun m) share none why = (no_front None list share (none m refl), why m refl)
+  unbegun_at (Some under) list (afters.NotARun m) share none why = (no_front (Some under) list share (none m refl), why m refl)
+  unbegun_at under list afters.Memory share none why = tt
 
   pub unbegun_under : (under : List Marked) (fault : UnderFault) → ((m : Mismatch) → fault ≡ unders.NoBeginning m → IsMarkedBeginning game under → ⊥)
       → ((m : Mismatch) → fault ≡ unders.NoBeginning m → IsItemMismatch game under m) → (after : Option (List Marked)) → IsUnbegun game (Some under) after (under_reason fault)

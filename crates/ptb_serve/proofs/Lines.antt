@@ -1,12 +1,9 @@
 -- This file proves which line is said of a run that the limit stopped.
-use Rattle.std.proofs.Common.{◌≡◌, ◌∙◌, ℕ, List, Option, Some, None, Result, Ok, Err, IfOk, IfSome, refl, ap, sym, subst, arith}
+use Rattle.std.proofs.Common.{◌≡◌, ◌∙◌, ℕ, List, Option, Some, None, Result, Ok, Err, IfOk, refl, ap, sym, subst, arith}
 use Rattle.ptb_text.specs.Lines.{input_lines}
 use Rattle.ptb_text.specs.Loading.{IsLoaded}
 use Rattle.ptb_text.specs.Statements.{StoredProgram}
-use Rattle.ptb_text.specs.declared.fault.LoadFault.{LoadFault}
 use Rattle.ptb_answers.specs.Outcome.{Answers}
-use Rattle.ptb_answers.specs.declared.form.Form.{Form}
-use Rattle.ptb_answers.specs.declared.form.Marked.{Marked}
 use Rattle.ptb_command.specs.declared.ending.Ending.{Ending}
 use Rattle.ptb_command.specs.declared.ending.Ending.TheVariants as endings
 use Rattle.ptb_machine.specs.Play.{status, stopping_line}
@@ -15,10 +12,8 @@ use Rattle.ptb_machine.specs.declared.fault.RunFault.{RunFault}
 use Rattle.ptb_machine.specs.declared.fault.RunFault.TheVariants as faults
 use Rattle.ptb_machine.specs.declared.run_end.RunEnd.{RunEnd}
 use Rattle.ptb_options.specs.declared.request.Mode.{Mode}
-use Rattle.ptb_options.specs.declared.request.Mode.TheVariants as modes
 use Rattle.ptb_options.specs.declared.request.Request.{Request}
 use Rattle.ptb_plain.specs.PlainRuns.{HasLine}
-use Rattle.ptb_plain.specs.SeededRuns.{seeded_answers}
 use Rattle.ptb_plain.specs.Streams.{Reads}
 use Rattle.ptb_serve.specs.declared.note.Note.{Note}
 use Rattle.ptb_serve.specs.declared.note.Note.TheVariants as notes

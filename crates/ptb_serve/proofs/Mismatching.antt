@@ -22,7 +22,7 @@ use Rattle.ptb_machine.specs.declared.fault.RunFault.TheVariants as faults
 use Rattle.ptb_serve.specs.Loaded.{IsRunStatus, RefusesListIn, TellsMismatch}
 use Rattle.ptb_serve.specs.ListMismatches.{IsMismatchIn, IsMismatchOf, IsUnbegun, mismatch_note, unbegun_attempt}
 use Rattle.ptb_serve.specs.Replies.{program_of_text}
-use Rattle.ptb_serve.specs.Serving.{IsInput, input_note, outcome_of, reports_note}
+use Rattle.ptb_serve.specs.Serving.{input_note, outcome_of, reports_note}
 use Rattle.ptb_devices.specs.declared.fault.ReadFault.{ReadFault}
 use Rattle.ptb_serve.proofs.Listed.{input_note-beginning, input_note-start}
 use Rattle.ptb_serve.proofs.Served.{at_known, outcome_of-err, outcome_of-note, program_of_text-ok}

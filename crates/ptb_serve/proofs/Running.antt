@@ -1,13 +1,12 @@
 -- This file proves how a run of a program that was loaded is served, with a list of answers or by a seed.
-use Rattle.std.proofs.Common.{◌≡◌, ◌⊎◌, inl, inr, ℕ, ◌+◌, List, [], length, Option, Some, None, Result, Ok, Err, IfOk, IfSome, IsErrOf, OnErr, OnOk, refl, subst, sym}
+use Rattle.std.proofs.Common.{◌≡◌, inl, inr, ℕ, List, [], Option, Some, None, Result, Ok, Err, IfSome, IsErrOf, refl, subst, sym}
 use Rattle.std.specs.Io.KnownBytes.{Appends, Consumes}
-use Rattle.ptb_text.specs.Device.{GivesAtMost, GivesExactly, HasFailed, TakesSome}
+use Rattle.ptb_text.specs.Device.{TakesSome}
 use Rattle.ptb_text.specs.Lines.{input_lines}
 use Rattle.ptb_text.specs.Loading.{IsLoaded}
 use Rattle.ptb_text.specs.Statements.{StoredProgram}
 use Rattle.ptb_command.specs.declared.ending.Ending.{Ending}
 use Rattle.ptb_answers.specs.Outcome.{Answers}
-use Rattle.ptb_devices.specs.Sources.{ConsumesAtMost}
 use Rattle.ptb_machine.specs.declared.fault.RunFault.{RunFault}
 use Rattle.ptb_machine.specs.declared.fault.RunFault.TheVariants as faults
 use Rattle.ptb_machine.specs.Play.{plain, status}

@@ -19,7 +19,6 @@ use Rattle.ptb_serve.specs.ListMismatches.{IsMismatchOf}
 use Rattle.ptb_serve.specs.Promises.{Served, ReadsOnlyWhatIsAsked, FailsLoudly}
 use Rattle.ptb_serve.specs.Replies.{listing_reply, program_of_text, program_reply_in_mode, reply_in_mode}
 use Rattle.ptb_serve.specs.Serving.{IsUnloaded, NeedsInput, ReadsForRun, Serves, ServesUnread, StopsForMemory, load_note, outcome_of}
-use Rattle.ptb_serve.specs.Statuses.{note_status}
 use Rattle.ptb_serve.proofs.Lines.{line_loaded, note_beyond, served_at_limit, status_at_limit}
 use Rattle.ptb_serve.proofs.Mismatching.{mismatch_loaded, noted_outcome, said_outcome}
 use Rattle.ptb_serve.proofs.Served.{consumes_nothing, each_known, load_note-length, load_note-other, load_note-read, load_note-refusal, load_note-silent, load_note-unread, loaded_length, loaded_refusal, loaded_unrefused, outcome_of-err, outcome_of-none, outcome_of-note, outcome_of-status, outcome_of-checked, outcome_of-success, serves_refusal, serves_unloaded, stops_unloaded, takes_nothing_in, unread, unwritten, when_refused}

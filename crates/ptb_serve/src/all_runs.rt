@@ -1,14 +1,15 @@
 // This file has the listing of all runs of a program, each with its report.
 
-ghost use Rattle.std.specs.Prelude.{◌≡◌, ◌⊎◌, ℕ, true, false, List, [], Option, None, Some};
+ghost use Rattle.std.specs.Prelude.{◌≡◌, ℕ, true, List, Option, None};
 ghost use Rattle.std.specs.Prelude.{IfErr, IfOk, IfSome, IsErrOf, OnOk};
+ghost use Rattle.ptb_answers.specs.declared.form.Marked.{Marked};
 ghost use Rattle.ptb_text.specs.Device.{HasFailed};
 ghost use Rattle.ptb_text.specs.Lines.{input_lines};
 ghost use Rattle.ptb_machine.specs.Play.{play};
-ghost use Rattle.ptb_explore.specs.Exploring.{play_of, most_of};
+ghost use Rattle.ptb_explore.specs.Exploring.{exploration, play_of, most_of};
 ghost use Rattle.ptb_explore.specs.Listing.{WritesRuns};
 ghost use Rattle.ptb_explore.specs.Report.{report};
-ghost use Rattle.ptb_explore.specs.RunTree.{Front, runs_left};
+ghost use Rattle.ptb_explore.specs.RunTree.{Front, Start, runs_left};
 ghost use Rattle.ptb_options.specs.declared.request.Mode.TheVariants.{All};
 ghost use Rattle.ptb_serve.specs.ListMismatches.{IsUnbegun};
 ghost use Rattle.ptb_serve.specs.Loaded.{ReadsInput, ServesProgram, TellsFailures, TellsMismatch};
@@ -17,7 +18,7 @@ ghost use Rattle.ptb_serve.specs.Replies.{answers_under, first_front, front_note
 use crate::attempt::Attempt;
 use crate::list_mismatch::Unbegun;
 use crate::note::Note;
-use ptb_explore::{ExploreFault, Explorer, Form, Marked, write_all_runs};
+use ptb_explore::{ExploreFault, Explorer, Form, write_all_runs};
 use ptb_machine::{Line, Rules, read_lines};
 use ptb_options::{MarkedAnswers, Request};
 use ptb_text::{Program, Read, Write};
@@ -124,7 +125,7 @@ fn write_reports<W: Write>(
 }
 
 // An explorer of the runs that begin with the answers `under`, or of all: before the first of them, or
-// at the run with the answers `after`.
+// at the run with the answers `after`. The first list is looked at first.
 fn explorer_from<'a>(
     alloc: Global,
     program: &'a Program,
@@ -133,148 +134,37 @@ fn explorer_from<'a>(
     under: &Option<MarkedAnswers>,
     after: &Option<MarkedAnswers>,
 ) -> Result<Explorer<'a>, Unbegun>
-    ensures explorer { IfOk result (λ e. e ≡ record {
-      program = program.now;
-      input = lines.now;
-      rules = rules;
-      under = answers_under under.now;
-      front = first_front after.now;
-      kept = e.kept;
-      played = e.played;
-    }) }
+    ensures explorer { IfOk result (λ e. e ≡ exploration program.now lines.now rules
+        (answers_under under.now) (first_front after.now) e.kept e.played) }
     ensures begun { OnOk result
         (front_note (play program.now lines.now rules) under.now after.now ≡ None) }
     ensures unbegun { IfErr result
         (IsUnbegun (play program.now lines.now rules) under.now after.now) }
 {
-    match (under, after) {
-        (None, None) => explorer_of_all(alloc, program, lines, rules),
-        (None, Some(list)) => explorer_at(alloc, program, lines, rules, list.as_slice()),
-        (Some(under), None) => explorer_under(alloc, program, lines, rules, under.as_slice()),
-        (Some(under), Some(list)) => {
-            let (under, list) = (under.as_slice(), list.as_slice());
-            explorer_under_at(alloc, program, lines, rules, under, list)
-        }
+    let explorer = first_explorer(alloc, program, lines, rules, under)?;
+    match after {
+        None => Ok(explorer),
+        Some(list) => Ok(explorer.go_to(list.as_slice())?),
     }
 }
 
-// An explorer of all runs, before the first.
-fn explorer_of_all<'a>(
+// An explorer of the runs that begin with the answers `under`, or of all, before the first of them.
+fn first_explorer<'a>(
     alloc: Global,
     program: &'a Program,
     lines: &'a [Line],
     rules: Rules,
+    under: &Option<MarkedAnswers>,
 ) -> Result<Explorer<'a>, Unbegun>
-    ensures explorer { IfOk result (λ e. e ≡ record {
-      program = program.now;
-      input = lines.now;
-      rules = rules;
-      under = [];
-      front = first_front None;
-      kept = e.kept;
-      played = e.played;
-    }) }
-    ensures begun { OnOk result
-        (front_note (play program.now lines.now rules) None None ≡ None) }
-    ensures unbegun { IfErr result
-        (IsUnbegun (play program.now lines.now rules) None None) }
-{
-    Ok(Explorer::start(alloc, program, lines, rules)?)
-}
-
-// An explorer of all runs, at the run with these answers.
-fn explorer_at<'a>(
-    alloc: Global,
-    program: &'a Program,
-    lines: &'a [Line],
-    rules: Rules,
-    list: &[Marked],
-) -> Result<Explorer<'a>, Unbegun>
-    ensures explorer { IfOk result (λ e. e ≡ record {
-      program = program.now;
-      input = lines.now;
-      rules = rules;
-      under = [];
-      front = first_front (Some list.now);
-      kept = e.kept;
-      played = e.played;
-    }) }
-    ensures begun { OnOk result
-        (front_note (play program.now lines.now rules) None (Some list.now) ≡ None) }
-    ensures unbegun { IfErr result
-        (IsUnbegun (play program.now lines.now rules) None (Some list.now)) }
-{
-    Ok(Explorer::after_marked(alloc, program, lines, rules, list)?)
-}
-
-// An explorer of the runs that begin with these answers, before the first of them.
-fn explorer_under<'a>(
-    alloc: Global,
-    program: &'a Program,
-    lines: &'a [Line],
-    rules: Rules,
-    under: &[Marked],
-) -> Result<Explorer<'a>, Unbegun>
-    ensures explorer { IfOk result (λ e. e ≡ record {
-      program = program.now;
-      input = lines.now;
-      rules = rules;
-      under = answers_under (Some under.now);
-      front = first_front None;
-      kept = e.kept;
-      played = e.played;
-    }) }
-    ensures begun { OnOk result
-        (front_note (play program.now lines.now rules) (Some under.now) None ≡ None) }
-    ensures unbegun { IfErr result
-        (IsUnbegun (play program.now lines.now rules) (Some under.now) None) }
-{
-    Ok(Explorer::under(alloc, program, lines, rules, under)?)
-}
-
-// An explorer of the runs that begin with these answers, at the run with those of a second list. The
-// first are looked at first.
-fn explorer_under_at<'a>(
-    alloc: Global,
-    program: &'a Program,
-    lines: &'a [Line],
-    rules: Rules,
-    under: &[Marked],
-    list: &[Marked],
-) -> Result<Explorer<'a>, Unbegun>
-    ensures explorer { IfOk result (λ e. e ≡ record {
-      program = program.now;
-      input = lines.now;
-      rules = rules;
-      under = answers_under (Some under.now);
-      front = first_front (Some list.now);
-      kept = e.kept;
-      played = e.played;
-    }) }
-    ensures begun { OnOk result
-        (front_note (play program.now lines.now rules) (Some under.now) (Some list.now) ≡ None) }
-    ensures unbegun { IfErr result
-        (IsUnbegun (play program.now lines.now rules) (Some under.now) (Some list.now)) }
-{
-    look_at_beginning(alloc, program, lines, rules, under)?;
-    Ok(Explorer::after_under(alloc, program, lines, rules, under, list)?)
-}
-
-// Plays one run that begins with these answers, so that they are refused if there is none.
-fn look_at_beginning(
-    alloc: Global,
-    program: &Program,
-    lines: &[Line],
-    rules: Rules,
-    under: &[Marked],
-) -> Result<(), Unbegun>
+    ensures explorer { IfOk result (λ e. e ≡ exploration program.now lines.now rules
+        (answers_under under.now) Start e.kept e.played) }
     ensures begins { OnOk result
-        (is_share (play program.now lines.now rules) (Some under.now) ≡ true) }
+        (is_share (play program.now lines.now rules) under.now ≡ true) }
     ensures unbegun { (after : Option (List Marked)) → IfErr result
-        (IsUnbegun (play program.now lines.now rules) (Some under.now) after) }
+        (IsUnbegun (play program.now lines.now rules) under.now after) }
 {
-    match Explorer::under(alloc, program, lines, rules, under) {
-        Ok(_) => Ok(()),
-        Err(fault) => Err(Unbegun::from(fault)),
+    match under {
+        None => Ok(Explorer::start(alloc, program, lines, rules)?),
+        Some(list) => Ok(Explorer::under(alloc, program, lines, rules, list.as_slice())?),
     }
 }
