@@ -2,11 +2,12 @@
 //!
 //! It stands on `ptb_machine`, on definitions of the two crates below that, on `ptb_report`,
 //! `ptb_answers`, `ptb_text`, `arrayvec` and `thiserror`, and on a definition of `rand_pcg`. The crate
-//! above may rely on `Explorer::start` `after` and `after_marked` (where a listing begins, or why the
-//! answers are no run), on `under` and `after_under` (the same for the runs that begin with a list of
-//! answers), on `write_all_runs` (the reports of the runs that are left), on `Beginnings::start` and
-//! `write_beginnings` (the lists of answers that split the runs), on `write_sample` (the reports of the
-//! runs that a seed draws), and on `program_laws`.
+//! above may rely on `Explorer::start` `after` and `after_marked` (where a listing begins, or why
+//! the answers are no run), on `under` and `after_under` (the same for the runs that begin with a
+//! list of answers), on `go_to` (the run to which an explorer moves), on `write_all_runs` (the
+//! reports of the runs that are left), on `Beginnings::start` and `write_beginnings` (the lists of
+//! answers that split the runs), on `write_sample` (the reports of the runs that a seed draws), and
+//! on `program_laws`.
 #![tactic(auto)]
 
 mod beginnings;
