@@ -200,7 +200,8 @@ impl Store {
         if index < 0 {
             return Err(FaultKind::How);
         }
-        if i32::from(index) * 2 > i32::from(self.size) {
+        // the array has an element more than half of SIZE
+        if index as usize >= self.elements.len() {
             return Err(FaultKind::Sorry);
         }
         Ok(index)
@@ -225,6 +226,9 @@ impl Store {
     {
         let at = index as usize;
         self.elements[at] = value;
-        self.used = self.used.max(at + 1);
+        if at < self.used {
+            return;
+        }
+        self.used = at + 1;
     }
 }
