@@ -44,6 +44,6 @@ impl Letter {
         ensures value { result ≡ self - 65 }
         ensures within { result < 26 }
     {
-        usize::from(self.byte - b'A')
+        usize::from(self.byte) - usize::from(b'A')
     }
 }
