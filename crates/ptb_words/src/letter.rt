@@ -44,6 +44,7 @@ impl Letter {
         ensures value { result ≡ self - 65 }
         ensures within { result < 26 }
     {
+        // In machine words, so that the subtraction becomes a part of an address.
         usize::from(self.byte) - usize::from(b'A')
     }
 }
