@@ -4,7 +4,7 @@ use Rattle.ptb_numbers.specs.Fractions.{Ratio, plus, Equals}
 use Rattle.ptb_answers.specs.Outcome.{Answers, Outcome, bounds}
 use Rattle.ptb_machine.specs.Play.{Finish}
 use Rattle.ptb_explore.specs.Chances.{RunResult, Row, chance, chance_of_all, result_of, result_order, runs_with}
-use Rattle.ptb_chances.specs.Accounts.{has_result, rows_with, chance_of_rows, runs_of_rows, chance_in, runs_in, AreSame, IsPositive, ArePositive, account, row_of_run}
+use Rattle.ptb_chances.specs.Accounts.{has_result, rows_with, chance_of_rows, runs_of_rows, chance_in, runs_in, AreAlike, AreSame, IsPositive, ArePositive, account, row_of_run}
 use Rattle.std.specs.Ordering.{is_eq}
 use Rattle.ptb_chances.proofs.Sums.{plus_assoc, plus_turn, equals_plus, equals_then, plus_positive}
 
@@ -35,11 +35,6 @@ runs_after true w ws vs h = ap (λ n. w.runs + n) h
 runs_after false w ws vs h = h
 
 -- ---- accounts with the same rows
-
--- the same rows, in another order
-pub record AreAlike (ws vs : List Row) : Type 0 where
-  pub chances : (r : RunResult) → chance_in r ws ≡ chance_in r vs
-  pub runs : (r : RunResult) → runs_in r ws ≡ runs_in r vs
 
 pub alike_self : (ws : List Row) → AreAlike ws ws
 alike_self ws = record { chances = λ r. refl; runs = λ r. refl }

@@ -1,13 +1,20 @@
 -- This file names the files of lemmas.
 pub mod Accounts
-pub mod Bounds
-pub mod Counted
+pub mod Coming
+pub mod Going
+pub mod Joined
+pub mod Covering
 pub mod LastLines
+pub mod Leaves
+pub mod Loads
 pub mod Lowest
-pub mod Merging
 pub mod Orders
+pub mod Picked
+pub mod Positive
+pub mod Settling
 pub mod Sums
 pub mod Tables
 pub mod Tallies
 pub mod Texts
 pub mod Totals
+pub mod Works

@@ -9,9 +9,9 @@ use Rattle.ptb_numbers.specs.Fractions.{Ratio}
 use Rattle.ptb_explore.specs.Chances.{Row, result_order}
 use Rattle.ptb_chances.specs.declared.result_key.ResultKey.{ResultKey}
 use Rattle.ptb_chances.specs.declared.tally.Share.{Share}
-use Rattle.ptb_chances.specs.Accounts.{AddsRow, AreSame, IsPositive, ArePositive}
+use Rattle.ptb_chances.specs.Accounts.{AreAlike, AddsRow, AreSame, IsPositive, ArePositive}
 use Rattle.ptb_chances.specs.Keys.{Joins, key_result, row_of_share, rows_of}
-use Rattle.ptb_chances.proofs.Accounts.{AreAlike, alike_self, alike_then, alike_back, alike_more, alike_turned, same_from_alike, same_alike, alike_same, joined}
+use Rattle.ptb_chances.proofs.Accounts.{alike_self, alike_then, alike_back, alike_more, alike_turned, same_from_alike, same_alike, alike_same, joined}
 use Rattle.ptb_chances.proofs.Orders.{result_exact}
 
 abbrev order : ResultKey → ResultKey → Ordering

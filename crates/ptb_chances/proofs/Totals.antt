@@ -1,6 +1,6 @@
 -- This file proves that the rows of a table have together what all runs have: their chances add up to 1, and their numbers of runs to
 -- that of all runs.
-use Rattle.std.proofs.Common.{◌≡◌, ℕ, ◌+◌, ◌<◌, Bool, true, false, ◌||◌, cond, List, [], ◌∷◌, map, length, refl, ap, sym, subst, ◌∙◌, arith}
+use Rattle.std.proofs.Common.{◌≡◌, ℕ, ◌+◌, ◌<◌, Bool, true, false, ◌||◌, List, [], ◌∷◌, map, length, refl, ap, sym, subst, ◌∙◌, arith}
 use Rattle.std.specs.List.{AllByRecursion}
 use Rattle.std.specs.List.Sorted.{IsStrictlySortedBy}
 use Rattle.std.specs.Ordering.{is_eq}
@@ -14,11 +14,11 @@ use Rattle.ptb_machine.specs.Play.{Finish}
 use Rattle.ptb_explore.specs.Chances.{RunResult, Row, chance, chance_of_all, result_of, result_order, results, row_of, runs_with, table}
 use Rattle.ptb_explore.specs.RunTree.{tree}
 use Rattle.ptb_explore.proofs.Chances.{whole_chance, sum_positive}
-use Rattle.ptb_chances.specs.Accounts.{has_result, rows_with, chance_of_rows, runs_of_rows, chance_in, runs_in, ArePositive, account, IsRising}
+use Rattle.ptb_chances.specs.Accounts.{has_result, rows_with, chance_of_rows, runs_of_rows, ArePositive, account}
 use Rattle.ptb_chances.specs.Order.{result_order_total}
 use Rattle.ptb_chances.specs.TableLaws.{TableLaws}
 use Rattle.ptb_chances.proofs.Accounts.{maybe, chance_is, runs_are, chance_positive}
-use Rattle.ptb_chances.proofs.Counted.{all_positive}
+use Rattle.ptb_chances.proofs.Positive.{all_positive}
 use Rattle.ptb_chances.proofs.Lowest.{lowest_equal, lowest_positive}
 use Rattle.ptb_chances.proofs.Orders.{result_exact, less_apart, has, has_results, results_rise}
 use Rattle.ptb_chances.proofs.Sums.{nothing, plus_nothing, plus_assoc, plus_turn, plus_positive, equals_plus, equals_then}

@@ -3,7 +3,8 @@
 --     rows_with r ws           the rows of a result
 --     chance_in r ws           the sum of their chances
 --     runs_in r ws             the sum of their runs
---     AreSame ws vs            two accounts have the same for each result
+--     AreAlike ws vs           two accounts have the same sums for each result
+--     AreSame ws vs            the same, where fractions may be equal that aren't the same
 --     ArePositive ws           no row has the denominator 0, and none has no runs
 --     account play runs        a row for each run
 --     IsAccountOf play runs ws an account has what these runs have
@@ -41,6 +42,11 @@ abbrev pub runs_in : RunResult → List Row → ℕ
 runs_in r ws = runs_of_rows (rows_with r ws)
 
 -- ---- which accounts are the same
+
+-- with the same rows, in another order, they have the same sums
+pub record AreAlike (ws vs : List Row) : Type 0 where
+  pub chances : (r : RunResult) → chance_in r ws ≡ chance_in r vs
+  pub runs : (r : RunResult) → runs_in r ws ≡ runs_in r vs
 
 pub record AreSame (ws vs : List Row) : Type 0 where
   pub chances : (r : RunResult) → Equals (chance_in r ws) (chance_in r vs)

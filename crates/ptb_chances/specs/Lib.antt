@@ -1,7 +1,10 @@
 -- This file names the files of definitions.
 pub mod Accounts
-pub mod Counting
+pub mod Counted
+pub mod Going
 pub mod Keys
-pub mod Merging
 pub mod Order
 pub mod TableLaws
+pub mod Planned
+pub mod Standing
+pub mod Waiting

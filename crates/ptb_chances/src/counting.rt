@@ -1,81 +1,89 @@
-// This file adds up the chances of all runs of a program, one run after the other.
+// This file adds up the chances of all runs of a program. Plays that come to one place are played on
+// together.
 
-ghost use Rattle.std.specs.Prelude.{◌≡◌, ℕ, ◌<◌, List, [], IfOk, OnOk};
+ghost use Rattle.std.specs.Prelude.{◌≡◌, ◌<◌, ◌∷◌, IfOk, OnOk};
+ghost use Rattle.ptb_text.specs.Lines.{lines};
 ghost use Rattle.ptb_machine.specs.Play.{play};
 ghost use Rattle.ptb_machine.specs.Questions.{most_answers};
-ghost use Rattle.ptb_explore.specs.Chances.{bound_product, chance};
-ghost use Rattle.ptb_explore.specs.Exploring.{play_of};
+ghost use Rattle.ptb_explore.specs.Chances.{last_line};
 ghost use Rattle.ptb_explore.specs.RunTree.{tree};
 ghost use Rattle.ptb_chances.specs.Accounts.{AddsRow, IsAccountOf};
-ghost use Rattle.ptb_chances.specs.Keys.{key_result};
-ghost use Rattle.ptb_chances.specs.Counting.{CountsNext, result_of_report, row_of_report};
+ghost use Rattle.ptb_chances.specs.Counted.{IsCounted, load_left};
+ghost use Rattle.ptb_chances.specs.Waiting.{planned, standings};
 
 use crate::last_line::last_line;
+use crate::playing::{Console, Played};
 use crate::result_key::ResultKey;
+use crate::stage::Stage;
 use crate::tally::Tally;
-use ptb_explore::{Explorer, Report};
-use ptb_machine::{Line, Rules, run_laws};
-use ptb_numbers::{Fraction, Natural};
+use crate::work::{Place, Plan, Work};
+use ptb_machine::{Ending, Line, Lines, Player, Rules, TextScreen, run_laws};
 use ptb_text::Program;
 use std::alloc::{AllocError, Global};
 
-// 1 over the product of the bounds of some questions, each of which has an answer.
-fn chance_of(alloc: Global, bounds: &[i16]) -> Result<Fraction, AllocError>
-    requires { 0 < bound_product bounds.now }
-    ensures { IfOk result (λ f. f ≡ chance bounds.now) }
+// Adds plays that are over to a tally, by what they showed last.
+fn add_over(
+    alloc: Global,
+    ending: Ending,
+    shown: &[u8],
+    plan: &Plan,
+    tally: &mut Tally,
+) -> Result<(), AllocError>
+    ensures { OnOk result (AddsRow tally.old (record {
+      result = record { ending = ending; line = last_line (lines shown.now) };
+      chance = plan.now.chance;
+      runs = plan.now.runs;
+    }) tally.new) }
 {
-    let mut chance = Fraction::one(alloc)?;
-    for bound in bounds {
-        chance.divide(u32::from(bound.unsigned_abs()))?;
-    }
-    Ok(chance)
-}
-
-// What a run resulted in.
-fn result_of(alloc: Global, run: &Report) -> Result<ResultKey, AllocError>
-    ensures { IfOk result (λ key. key_result key ≡ result_of_report run.now) }
-{
-    Ok(ResultKey {
-        ending: run.ending,
-        line: Vec::from_slice(alloc, last_line(&run.transcript))?,
-    })
-}
-
-// Adds a run to a tally, by its report.
-fn add_run(alloc: Global, run: &Report, one: &Natural, tally: &mut Tally) -> Result<(), AllocError>
-    requires positive { 0 < bound_product run.now.bounds.items }
-    requires one { one.now ≡ 1 }
-    ensures { OnOk result (AddsRow tally.old (row_of_report run.now) tally.new) }
-{
-    let chance = chance_of(alloc, &run.bounds)?;
-    let key = result_of(alloc, run)?;
-    tally.add(alloc, key, &chance, one)?;
+    let key = ResultKey {
+        ending,
+        line: Vec::from_slice(alloc, last_line(shown))?,
+    };
+    tally.add(alloc, key, &plan.chance, &plan.runs)?;
     Ok(())
 }
 
-// Adds the next run to a tally, and says whether there is one.
-fn count_next(
-    alloc: Global,
-    explorer: &mut Explorer,
-    one: &Natural,
-    tally: &mut Tally,
-) -> Result<bool, AllocError>
-    requires { one.now ≡ 1 }
-    ensures same { explorer.new ≡ record explorer.old {
-      front = explorer.new.front;
-      kept = explorer.new.kept;
-      played = explorer.new.played;
-    } }
-    ensures counts { IfOk result (CountsNext (play_of explorer.old) explorer.old.under
-        explorer.old.front explorer.new.front tally.old tally.new) }
-{
-    run_laws();
-    match explorer.next() {
-        Err(fault) => Err(fault),
-        Ok(None) => Ok(false),
-        Ok(Some(run)) => {
-            add_run(alloc, run, one, tally)?;
-            Ok(true)
+// How far the runs of a program are counted.
+#[derive(Drop)]
+struct Counting<'p, 'l> {
+    stage: Stage<'p, 'l>,
+    work: Work,
+    tally: Tally,
+}
+
+impl<'p, 'l> Counting<'p, 'l> {
+    // Plays a plan that was taken out of the work, and counts what is over, or puts in what is not.
+    fn settle(&mut self, alloc: Global, plan: Plan) -> Result<(), AllocError>
+        requires { IsCounted self.old.stage self.old.tally
+            (planned self.old.work.place plan ∷ standings self.old.work) }
+        ensures player { self.new.stage.player ≡ self.old.stage.player }
+        ensures rules { self.new.stage.rules ≡ self.old.stage.rules }
+        ensures lines { self.new.stage.console.source.lines
+            ≡ self.old.stage.console.source.lines }
+        ensures counted { OnOk result (IsCounted self.old.stage self.new.tally
+            (standings self.new.work)) }
+        ensures less { OnOk result (load_left self.old.stage (standings self.new.work)
+            < load_left self.old.stage
+            (planned self.old.work.place plan ∷ standings self.old.work)) }
+    {
+        run_laws();
+        let played = self.stage.play(alloc, &self.work.place, &plan)?;
+        match played {
+            Played::Over(ending) => {
+                let shown = self.stage.console.screen.bytes();
+                add_over(alloc, ending, shown, &plan, &mut self.tally)?;
+                Ok(())
+            }
+            Played::Asks(bound) => {
+                self.work.add_plans(alloc, &plan, bound)?;
+                Ok(())
+            }
+            Played::Goes => {
+                let spare = self.work.spare(alloc, &self.stage.player)?;
+                let place = std::mem::replace(&mut self.stage.before, spare);
+                self.work.add(alloc, plan.at(place))?;
+                Ok(())
+            }
         }
     }
 }
@@ -96,14 +104,30 @@ pub(crate) fn count_runs(
         (most_answers program.now lines.now rules.limit))) }
 {
     run_laws();
-    let one = Natural::from_word(alloc, 1)?;
-    let mut tally = Tally::new(alloc);
-    let mut explorer = Explorer::start(alloc, program, lines, rules)?;
-    'runs: loop {
-        match count_next(alloc, &mut explorer, &one, &mut tally) {
-            Ok(true) => {}
-            Ok(false) => return Ok(tally),
-            Err(fault) => return Err(fault),
-        }
+    let player = Player::new(alloc, program)?;
+    let trial = player.machine(alloc)?;
+    let before = Place::first(alloc, &player)?;
+    let work = Work::begin(alloc, &player)?;
+    let console = Console {
+        screen: TextScreen::new(alloc),
+        source: Lines::new(lines),
+    };
+    let mut counting = Counting {
+        stage: Stage {
+            player,
+            rules,
+            trial,
+            console,
+            before,
+        },
+        work,
+        tally: Tally::new(alloc),
+    };
+    'plans: loop {
+        let Some(plan) = counting.work.next(alloc) else {
+            let Counting { tally, .. } = counting;
+            return Ok(tally);
+        };
+        counting.settle(alloc, plan)?;
     }
 }

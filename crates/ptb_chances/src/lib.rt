@@ -11,10 +11,14 @@ mod counting;
 mod fault;
 mod last_line;
 mod laws;
+mod planned;
+mod playing;
 mod result_key;
+mod stage;
 mod table;
 mod tally;
+mod work;
 
 pub use chances::{chances_text, write_chances};
 pub use fault::ChancesFault;
-pub use laws::{merging_laws, table_laws};
+pub use laws::table_laws;

@@ -4,7 +4,7 @@ use Rattle.ptb_machine.specs.Play.{play}
 use Rattle.ptb_machine.specs.Questions.{most_answers}
 use Rattle.ptb_explore.specs.Chances.{table_text}
 use Rattle.ptb_explore.specs.RunTree.{tree}
-use Rattle.ptb_chances.proofs.Counted.{all_positive}
+use Rattle.ptb_chances.proofs.Positive.{all_positive}
 use Rattle.ptb_chances.proofs.Tables.{table_is}
 use Rattle.ptb_chances.proofs.chances.chances_text.Goals as goal
 

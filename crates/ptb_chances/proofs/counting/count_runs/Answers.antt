@@ -1,40 +1,63 @@
--- This file answers that all runs are counted.
-use Rattle.std.proofs.Common.{true, false}
-use Rattle.ptb_machine.specs.Play.{play}
+-- This file answers that all runs are accounted for, from the beginning to the end.
+use Rattle.std.proofs.Common.{rules, ◌≡◌, List, [], ◌∷◌, ap, refl, subst, ◌∙◌}
+use Rattle.ptb_devices.specs.Sources.{LineList}
 use Rattle.ptb_machine.specs.Questions.{most_answers}
-use Rattle.ptb_chances.proofs.Counted.{all_counted, counted_first, counts_by, fewer_left, one_counted, standing_first, standing_next}
+use Rattle.ptb_chances.specs.Waiting.{Standing, Accounted, first_standing, planned, standings}
+use Rattle.ptb_chances.proofs.Loads.{less_there}
+use Rattle.ptb_chances.proofs.Settling.{accounted_first, accounted_last, accounted_next}
 use Rattle.ptb_chances.proofs.counting.count_runs.Goals as goal
 
-pub runs-init : goal.runs-init
-runs-init c = record {
-  same = standing_first c.args.program.now c.args.lines.now c.args.rules c.in_ok-explorer.explorer c.in_ok-explorer.ensures.start;
-  counted = counted_first c.args.program.now c.args.lines.now c.args.rules (most_answers c.args.program.now c.args.lines.now c.args.rules.limit) c.in_ok-explorer.explorer c.new-tally.result c.in_ok-explorer.ensures.start c.new-tally.ensures;
-}
-
-pub runs-preserved : goal.runs-preserved
-runs-preserved c =
+pub plans-init : goal.plans-init
+plans-init c =
     let p = c.args.program.now in
     let input = c.args.lines.now in
-    let rules = c.args.rules in
+    let by = c.args.rules in
+    let most = most_answers p input by.limit in
+    let x = c.in_ok-work.ensures in
+    let same : c.in_ok-player.player ≡ p = c.in_ok-player.ensures in
+    let first : Accounted p input by most [] (first_standing x.0 ∷ []) = accounted_first p input by most x.0 x.2 (rw same at (x.3 input by.choose)) (c.run_laws.ensures.reads p input by) in
     record {
-      same = standing_next p input rules c.runs.explorer c.runs.invariant.same c.count_next.new.explorer c.in-Ok-true.ensures.same;
-      counted =
-          one_counted (play p input rules) (most_answers p input rules.limit) (c.run_laws.ensures.reads p input rules) c.runs.explorer.front c.count_next.new.explorer.front c.runs.tally c.count_next.new.tally c.runs.invariant.counted
-          (counts_by p input rules c.runs.explorer c.runs.invariant.same c.count_next.new.explorer.front c.runs.tally c.count_next.new.tally _ true c.in-Ok-true.field-0-test c.in-Ok-true.ensures.counts);
+      player = same;
+      lines = ap (λ (s : LineList). s.lines) c.new-3.ensures;
+      rules = refl;
+      accounted = rw (c.new-4.ensures, x.1) first;
     }
 
-pub runs-smaller : goal.runs-smaller
-runs-smaller c =
+pub settle-requires : goal.settle-requires
+settle-requires c =
     let p = c.args.program.now in
     let input = c.args.lines.now in
-    let rules = c.args.rules in
-    fewer_left (play p input rules) (most_answers p input rules.limit) (c.run_laws.ensures.reads p input rules) c.runs.explorer.front c.count_next.new.explorer.front c.runs.tally c.count_next.new.tally c.runs.invariant.counted
-    (counts_by p input rules c.runs.explorer c.runs.invariant.same c.count_next.new.explorer.front c.runs.tally c.count_next.new.tally _ true c.in-Ok-true.field-0-test c.in-Ok-true.ensures.counts)
+    let by = c.args.rules in
+    let most = most_answers p input by.limit in
+    let l = c.plans in
+    let i = l.invariant in
+    rw (i.player, i.lines, i.rules) (accounted_next p input by most l.counting.tally (standings l.counting.work) (standings c.next.new.self) (planned c.next.new.self.place c.in-Some.plan) c.in-Some.ensures.some i.accounted)
 
-pub returns-in-Ok-false : goal.returns-in-Ok-false
-returns-in-Ok-false c =
+pub plans-smaller : goal.plans-smaller
+plans-smaller c =
+    let l = c.plans in
+    let i = l.invariant in
+    less_there c.args.program.now l.counting.stage.player c.args.lines.now l.counting.stage.console.source.lines c.args.rules l.counting.stage.rules (standings l.counting.work) (standings c.next.new.self) (standings c.settle.new.self.work)
+    (planned c.next.new.self.place c.in-Some.plan) i.player i.lines i.rules c.in-Some.ensures.some c.in_ok-settle.ensures.less
+
+pub plans-preserved : goal.plans-preserved
+plans-preserved c =
+    let l = c.plans in
+    let i = l.invariant in
+    record {
+      player = c.settle.ensures.player ∙ i.player;
+      lines = c.settle.ensures.lines ∙ i.lines;
+      rules = c.settle.ensures.rules ∙ i.rules;
+      accounted = rw (i.player, i.lines, i.rules) at c.in_ok-settle.ensures.counted;
+    }
+
+pub returns-in_default : goal.returns-in_default
+returns-in_default c =
     let p = c.args.program.now in
     let input = c.args.lines.now in
-    let rules = c.args.rules in
-    all_counted (play p input rules) (most_answers p input rules.limit) (c.run_laws.ensures.reads p input rules) c.runs.explorer.front c.count_next.new.explorer.front c.runs.tally c.count_next.new.tally c.runs.invariant.counted
-    (counts_by p input rules c.runs.explorer c.runs.invariant.same c.count_next.new.explorer.front c.runs.tally c.count_next.new.tally _ false c.in-Ok-false.field-0-test c.in-Ok-false.ensures.counts)
+    let by = c.args.rules in
+    let most = most_answers p input by.limit in
+    let l = c.plans in
+    let i = l.invariant in
+    let none : standings l.counting.work ≡ [] = search rules in
+    accounted_last p input by most l.counting.tally (subst (λ (ws : List Standing). Accounted p input by most l.counting.tally ws) none i.accounted)

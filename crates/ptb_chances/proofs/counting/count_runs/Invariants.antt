@@ -1,25 +1,16 @@
--- This file says that the tally is the account of the runs before the explorer's place.
-use Rattle.std.proofs.Common.{◌≡◌, [], length}
-use Rattle.ptb_machine.specs.Play.{play}
+-- This file says that with what is left to be played, the tally is the account of all runs.
+use Rattle.std.proofs.Common.{◌≡◌}
 use Rattle.ptb_machine.specs.Questions.{most_answers}
-use Rattle.ptb_explore.specs.RunTree.{runs_after}
-use Rattle.ptb_chances.proofs.Counted.{Counted}
+use Rattle.ptb_chances.specs.Waiting.{Accounted, load, standings}
 use Rattle.ptb_chances.proofs.counting.count_runs.Given as goal
 
-abbrev pub invariant-runs : goal.invariant-runs
-invariant-runs l = record {
-  same : l.explorer ≡ record {
-    program = l.fn.program;
-    input = l.fn.lines;
-    rules = l.fn.rules;
-    under = [];
-    front = l.explorer.front;
-    kept = l.explorer.kept;
-    played = l.explorer.played;
-  };
-  counted : Counted (play l.fn.program l.fn.lines l.fn.rules) (most_answers l.fn.program l.fn.lines l.fn.rules.limit) l.explorer.front l.tally;
+abbrev pub invariant-plans : goal.invariant-plans
+invariant-plans l = record {
+  player : l.counting.stage.player ≡ l.fn.program;
+  lines : l.counting.stage.console.source.lines ≡ l.fn.lines;
+  rules : l.counting.stage.rules ≡ l.fn.rules;
+  accounted : Accounted l.fn.program l.fn.lines l.fn.rules (most_answers l.fn.program l.fn.lines l.fn.rules.limit) l.counting.tally (standings l.counting.work);
 }
 
--- fewer runs are left after each
-abbrev pub decreases-runs : goal.decreases-runs
-decreases-runs l = length (runs_after (play l.fn.program l.fn.lines l.fn.rules) (most_answers l.fn.program l.fn.lines l.fn.rules.limit) [] l.explorer.front)
+abbrev pub decreases-plans : goal.decreases-plans
+decreases-plans l = load l.fn.rules.limit (most_answers l.fn.program l.fn.lines l.fn.rules.limit) (standings l.counting.work)

@@ -1,0 +1,22 @@
+-- This file says what is kept while a plan is played: in each state from which it may have begun, the run has come
+-- to where the machine stands.
+use Rattle.std.proofs.Common.{◌≡◌, ◌≤◌, ◌-◌, false, length, take, drop}
+use Rattle.ptb_command.specs.State.{State}
+use Rattle.ptb_chances.specs.Standing.{Came, StandsAt}
+use Rattle.ptb_chances.proofs.playing.play_plan.Given as goal
+
+abbrev pub invariant-commands : goal.invariant-commands
+invariant-commands l = record {
+  program : l.player ≡ l.fn.player;
+  answers : l.plan.answers ≡ l.fn.plan.answers;
+  same_lines : l.console.source.lines ≡ l.fn.console.source.lines;
+  within : l.console.source.taken ≤ length l.fn.console.source.lines;
+  unspent : l.machine.spent ≡ false;
+  steps : l.fn.machine.steps ≤ l.machine.steps;
+  came : (S : State) → StandsAt l.fn.player l.rules l.fn.machine (drop l.fn.console.source.taken l.fn.console.source.lines) l.fn.console.screen S
+      → Came l.player l.rules S (take l.plan.given l.plan.answers) l.machine (drop l.console.source.taken l.console.source.lines) l.console.screen;
+}
+
+-- each step is below the rules
+abbrev pub decreases-commands : goal.decreases-commands
+decreases-commands l = l.rules.limit - l.machine.steps

@@ -1,0 +1,22 @@
+-- This file says what is kept while a run goes on: in each state from which it may have begun, it has come to where
+-- the trial stands.
+use Rattle.std.proofs.Common.{◌≡◌, ◌≤◌, ◌-◌, [], false, length, drop}
+use Rattle.ptb_command.specs.State.{State}
+use Rattle.ptb_chances.specs.Standing.{Came, StandsAt}
+use Rattle.ptb_chances.proofs.stage.Stage.go_on.Given as goal
+
+abbrev pub invariant-commands : goal.invariant-commands
+invariant-commands l = record {
+  player : l.self.player ≡ l.fn.self.player;
+  rules : l.self.rules ≡ l.fn.self.rules;
+  same_lines : l.self.console.source.lines ≡ l.fn.self.console.source.lines;
+  within : l.self.console.source.taken ≤ length l.fn.self.console.source.lines;
+  unspent : l.self.trial.spent ≡ false;
+  steps : l.fn.self.rules.limit - l.self.trial.steps ≤ l.fn.self.rules.limit - l.fn.self.trial.steps;
+  came : (S : State) → StandsAt l.fn.self.player l.fn.self.rules l.fn.self.trial (drop l.fn.self.console.source.taken l.fn.self.console.source.lines) l.fn.self.console.screen S
+      → Came l.fn.self.player l.fn.self.rules S [] l.self.trial (drop l.self.console.source.taken l.fn.self.console.source.lines) l.self.console.screen;
+}
+
+-- each step is below the rules
+abbrev pub decreases-commands : goal.decreases-commands
+decreases-commands l = l.fn.self.rules.limit - l.self.trial.steps

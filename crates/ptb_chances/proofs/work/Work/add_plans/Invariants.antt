@@ -1,0 +1,16 @@
+-- This file says that the plays after the answers so far were put in.
+use Rattle.std.proofs.Common.{◌≡◌, ◌-◌}
+use Rattle.std.specs.Prelude.{pos, ◌≤ℤ◌, unsigned_abs}
+use Rattle.ptb_chances.specs.Waiting.{PutsAnswers, planned, standings}
+use Rattle.ptb_chances.proofs.work.Work.add_plans.Given as goal
+
+abbrev pub invariant-loop-answer : goal.invariant-loop-answer
+invariant-loop-answer l = record {
+  place : l.self.place ≡ l.fn.self.place;
+  low : pos 0 ≤ℤ l.answer;
+  high : l.answer ≤ℤ l.bound;
+  puts : PutsAnswers (planned l.fn.self.place l.fn.plan) l.bound (unsigned_abs l.answer) (standings l.fn.self) (standings l.self);
+}
+
+abbrev pub decreases-loop-answer : goal.decreases-loop-answer
+decreases-loop-answer l = unsigned_abs l.bound - unsigned_abs l.answer

@@ -1,0 +1,24 @@
+-- This file defines what comes of a plan, and of what is after it, up to the next command that asks.
+--     GoesOn p rules S before input shown over      from the state S without answers: the run is over, or waits at a place
+--     ComesTo p rules S given plan before input shown played     with a plan: it is over, asks, or waits at a place after it
+use Rattle.std.specs.Prelude.{ℕ, List, [], Option, Some, None, drop, take}
+use Rattle.ptb_text.specs.Statements.{StoredProgram}
+use Rattle.ptb_answers.specs.Outcome.{Answers}
+use Rattle.ptb_answers.specs.declared.rules.Rules.{Rules}
+use Rattle.ptb_command.specs.declared.ending.Ending.{Ending}
+use Rattle.ptb_command.specs.State.{State}
+use Rattle.ptb_chances.specs.declared.playing.Played.{Played}
+use Rattle.ptb_chances.specs.declared.playing.Played.TheVariants as played
+use Rattle.ptb_chances.specs.declared.work.Place.{Place}
+use Rattle.ptb_chances.specs.Standing.{Came, IsAsked, IsOver}
+
+-- of what it showed, the last line is that of the whole
+abbrev pub GoesOn : StoredProgram → Rules → State → Place → List (List ℕ) → List ℕ → Option Ending → Type 0
+GoesOn p rules S before input shown (Some ending) = IsOver p rules S [] ending shown
+GoesOn p rules S before input shown None = Came p rules S [] before.machine.value (drop before.taken input) before.shown.items
+
+-- of a plan, so many answers were given
+abbrev pub ComesTo : StoredProgram → Rules → State → ℕ → Answers → Place → List (List ℕ) → List ℕ → Played → Type 0
+ComesTo p rules S given plan before input shown (played.Over ending) = IsOver p rules S (take given plan) ending shown
+ComesTo p rules S given plan before input shown (played.Asks n) = IsAsked p rules S plan n
+ComesTo p rules S given plan before input shown played.Goes = Came p rules S plan before.machine.value (drop before.taken input) before.shown.items

@@ -1,0 +1,94 @@
+// This file plays a run on from where it stands, with the answers of a plan.
+
+ghost use Rattle.std.specs.Prelude.{◌≡◌, ◌-◌, ◌<◌, ◌≤◌, false, true, drop, length, take, IfOk};
+ghost use Rattle.ptb_answers.specs.Outcome.{is_open};
+ghost use Rattle.ptb_command.specs.State.{State};
+ghost use Rattle.ptb_explore.specs.Playing.{run_from};
+ghost use Rattle.ptb_chances.specs.Standing.{played_of, PlaysTo, StandsAt};
+
+use crate::planned::PlanChooser;
+use ptb_machine::{Ending, Lines, Machine, Player, Rules, RunFault, TextScreen, run_laws};
+use std::alloc::AllocError;
+
+/// What a run results in that is played with the answers of a plan.
+#[derive(Clone, Copy)]
+pub(crate) enum Played {
+    /// It is over.
+    Over(Ending),
+    /// It asks for an answer more, with this bound.
+    Asks(i16),
+    /// The command that took the last answer is done.
+    Goes,
+}
+
+// What the ending of a play says, and the bound of the question that was refused last. Each answer of a
+// plan is within the bound of its question.
+fn ended(ending: Ending, bound: i16) -> Played
+    requires { ending ≡ Ending.BadAnswer → ⊥ }
+    ensures { result ≡ played_of ending bound }
+{
+    match ending {
+        Ending::NoAnswer => Played::Asks(bound),
+        Ending::BadAnswer => unreachable!(),
+        over => Played::Over(over),
+    }
+}
+
+/// What a run shows, and the lines that it takes.
+#[derive(Drop)]
+pub(crate) struct Console<'l> {
+    pub(crate) screen: TextScreen,
+    pub(crate) source: Lines<'l>,
+}
+
+/// Plays a run of the player's program on from where it stands, with the answers of a plan: up to its
+/// end, to a question after them, or through the command that takes the last of them. Where the plan has
+/// no answers, this is one command.
+///
+/// # Errors
+///
+/// Where a growth was refused memory.
+pub(crate) fn play_plan(
+    player: &mut Player,
+    rules: Rules,
+    machine: &mut Machine,
+    plan: &mut PlanChooser<'_>,
+    console: &mut Console<'_>,
+) -> Result<Played, AllocError>
+    requires unspent { machine.old.spent ≡ false }
+    requires within { console.old.source.taken ≤ length console.old.source.lines }
+    requires none_given { plan.old.given ≡ 0 }
+    requires opens { (S : State) × StandsAt player.old rules machine.old
+        (drop console.old.source.taken console.old.source.lines) console.old.screen S
+        × (is_open (run_from player.old rules S plan.old.answers) ≡ true) }
+    ensures program { player.new ≡ player.old }
+    ensures same_lines { console.new.source.lines ≡ console.old.source.lines }
+    ensures within { IfOk result (λ _.
+        console.new.source.taken ≤ length console.old.source.lines) }
+    ensures plays { IfOk result (λ played. (S : State) →
+        StandsAt player.old rules machine.old
+        (drop console.old.source.taken console.old.source.lines) console.old.screen S
+        → PlaysTo player.old rules S (take plan.new.given plan.old.answers) plan.old.answers
+        machine.new (drop console.new.source.taken console.old.source.lines) console.new.screen
+        played) }
+    ensures goes { IfOk result (λ played. played ≡ Played.Goes →
+        (machine.new.spent ≡ false)
+        × (rules.limit - machine.new.steps < rules.limit - machine.old.steps)) }
+{
+    run_laws();
+    'commands: loop {
+        player.advance(machine, rules.limit);
+        match player.step(machine, rules, plan, &mut console.screen, &mut console.source) {
+            Ok(None) => {}
+            Ok(Some(ending)) => return Ok(ended(ending, plan.refused_bound())),
+            Err(RunFault::Memory) => return Err(AllocError),
+            // Bytes and lines are in memory, and the run isn't over.
+            Err(RunFault::Read) => unreachable!(),
+            Err(RunFault::Write) => unreachable!(),
+            Err(RunFault::Spent) => unreachable!(),
+        }
+        if plan.is_used_up() {
+            return Ok(Played::Goes);
+        }
+    }
+}

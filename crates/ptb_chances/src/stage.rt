@@ -1,0 +1,179 @@
+// This file plays plans from their places.
+
+ghost use Rattle.std.specs.Prelude.{◌≡◌, ◌+◌, ◌-◌, ◌<◌, ◌≤◌, ℕ, [], None, false, true, drop, take};
+ghost use Rattle.std.specs.Prelude.{length, IfOk, OnOk};
+ghost use Rattle.ptb_answers.specs.Outcome.{is_open};
+ghost use Rattle.ptb_command.specs.State.{State};
+ghost use Rattle.ptb_explore.specs.Playing.{run_from};
+ghost use Rattle.ptb_chances.specs.Going.{ComesTo, GoesOn};
+ghost use Rattle.ptb_chances.specs.Standing.{PlaysTo, SameEnd, StandsAt};
+ghost use Rattle.ptb_machine.specs.Steps.{FitsProgram, QuietTurns};
+
+use crate::last_line::last_lines;
+use crate::planned::PlanChooser;
+use crate::playing::{Console, Played, play_plan};
+use crate::work::{Place, Plan};
+use ptb_machine::{Ending, Machine, Player, Rules, TextScreen, run_laws};
+use std::alloc::{AllocError, Global};
+
+/// Plays a program by rules, with the input lines of its console.
+#[derive(Drop)]
+pub(crate) struct Stage<'p, 'l> {
+    pub(crate) player: Player<'p>,
+    pub(crate) rules: Rules,
+    /// It plays each plan, from a copy of the machine of its place.
+    pub(crate) trial: Machine,
+    pub(crate) console: Console<'l>,
+    /// Where the run stood before the command that asks next.
+    pub(crate) before: Place,
+}
+
+impl<'p, 'l> Stage<'p, 'l> {
+    // Plays a plan on from its place, up to the end of the command that takes its last answer.
+    fn start(&mut self, alloc: Global, place: &Place, plan: &Plan) -> Result<Played, AllocError>
+        requires unspent { place.now.machine.value.spent ≡ false }
+        requires within { place.now.taken ≤ length self.old.console.source.lines }
+        requires opens { (S : State) × StandsAt self.old.player self.old.rules
+            place.now.machine.value (drop place.now.taken self.old.console.source.lines)
+            place.now.shown.items S
+            × (is_open (run_from self.old.player self.old.rules S plan.now.answers.items) ≡ true) }
+        ensures player { self.new.player ≡ self.old.player }
+        ensures rules { self.new.rules ≡ self.old.rules }
+        ensures same_lines { self.new.console.source.lines ≡ self.old.console.source.lines }
+        ensures plays { IfOk result (λ played. (given : ℕ) × ((S : State) →
+            StandsAt self.old.player self.old.rules place.now.machine.value
+            (drop place.now.taken self.old.console.source.lines) place.now.shown.items S
+            → PlaysTo self.old.player self.old.rules S (take given plan.now.answers.items)
+            plan.now.answers.items self.new.trial
+            (drop self.new.console.source.taken self.old.console.source.lines)
+            self.new.console.screen played)) }
+        ensures goes { IfOk result (λ played. played ≡ Played.Goes →
+            (self.new.trial.spent ≡ false)
+            × (self.old.rules.limit - self.new.trial.steps
+            < self.old.rules.limit - place.now.machine.value.steps)) }
+        ensures within { IfOk result (λ _.
+            self.new.console.source.taken ≤ length self.old.console.source.lines) }
+    {
+        self.trial.copy_from(alloc, &place.machine)?;
+        self.console.screen = TextScreen::from_vec(Vec::from_slice(alloc, &place.shown)?);
+        self.console.source.go(place.taken);
+        let mut chooser = PlanChooser::new(&plan.answers);
+        let played = play_plan(
+            &mut self.player,
+            self.rules,
+            &mut self.trial,
+            &mut chooser,
+            &mut self.console,
+        )?;
+        Ok(played)
+    }
+
+    // Does the commands that are next and ask nothing, and notes where the run stands then.
+    fn advance(&mut self, alloc: Global) -> Result<(), AllocError>
+        requires fits { FitsProgram self.old.player self.old.trial }
+        ensures player { self.new.player ≡ self.old.player }
+        ensures rules { self.new.rules ≡ self.old.rules }
+        ensures console { self.new.console ≡ self.old.console }
+        ensures turns { (n : ℕ) × ((self.new.trial.steps ≡ self.old.trial.steps + n)
+            × QuietTurns self.old.player self.old.rules.limit n self.old.trial self.new.trial) }
+        ensures spent { self.new.trial.spent ≡ self.old.trial.spent }
+        ensures machine { OnOk result (self.new.before.machine.value ≡ self.new.trial) }
+        ensures taken { OnOk result (self.new.before.taken ≡ self.old.console.source.taken) }
+        ensures shown { OnOk result (SameEnd self.old.console.screen self.new.before.shown.items) }
+    {
+        self.player.advance(&mut self.trial, self.rules.limit);
+        self.before.machine.copy_from(alloc, &self.trial)?;
+        self.before.taken = self.console.source.taken();
+        self.before.shown = last_lines(alloc, self.console.screen.bytes())?;
+        Ok(())
+    }
+
+    // Plays on from where the trial stands: up to the end, which is given, or to before the command
+    // that asks next.
+    fn go_on(&mut self, alloc: Global) -> Result<Option<Ending>, AllocError>
+        requires unspent { self.old.trial.spent ≡ false }
+        requires within { self.old.console.source.taken ≤ length self.old.console.source.lines }
+        requires opens { (S : State) × StandsAt self.old.player self.old.rules self.old.trial
+            (drop self.old.console.source.taken self.old.console.source.lines)
+            self.old.console.screen S
+            × (is_open (run_from self.old.player self.old.rules S []) ≡ true) }
+        ensures player { self.new.player ≡ self.old.player }
+        ensures rules { self.new.rules ≡ self.old.rules }
+        ensures same_lines { self.new.console.source.lines ≡ self.old.console.source.lines }
+        ensures goes { IfOk result (λ over. (S : State) →
+            StandsAt self.old.player self.old.rules self.old.trial
+            (drop self.old.console.source.taken self.old.console.source.lines)
+            self.old.console.screen S
+            → GoesOn self.old.player self.old.rules S self.new.before
+            self.old.console.source.lines self.new.console.screen over) }
+        ensures waits { IfOk result (λ over. over ≡ None →
+            (self.new.before.machine.value.spent ≡ false)
+            × (self.old.rules.limit - self.new.before.machine.value.steps
+            ≤ self.old.rules.limit - self.old.trial.steps)
+            × (self.new.before.taken ≤ length self.old.console.source.lines)) }
+    {
+        run_laws();
+        'commands: loop {
+            self.advance(alloc)?;
+            let mut chooser = PlanChooser::new(&[]);
+            let played = play_plan(
+                &mut self.player,
+                self.rules,
+                &mut self.trial,
+                &mut chooser,
+                &mut self.console,
+            )?;
+            match played {
+                Played::Over(ending) => return Ok(Some(ending)),
+                Played::Asks(_) => return Ok(None),
+                Played::Goes => {}
+            }
+        }
+    }
+
+    /// Plays a plan on from its place: up to its end, to a question of the command that took its last
+    /// answer, or to before the command that asks next.
+    ///
+    /// # Errors
+    ///
+    /// Where a growth was refused memory.
+    pub(crate) fn play(
+        &mut self,
+        alloc: Global,
+        place: &Place,
+        plan: &Plan,
+    ) -> Result<Played, AllocError>
+        requires unspent { place.now.machine.value.spent ≡ false }
+        requires within { place.now.taken ≤ length self.old.console.source.lines }
+        requires opens { (S : State) × StandsAt self.old.player self.old.rules
+            place.now.machine.value (drop place.now.taken self.old.console.source.lines)
+            place.now.shown.items S
+            × (is_open (run_from self.old.player self.old.rules S plan.now.answers.items) ≡ true) }
+        ensures player { self.new.player ≡ self.old.player }
+        ensures rules { self.new.rules ≡ self.old.rules }
+        ensures same_lines { self.new.console.source.lines ≡ self.old.console.source.lines }
+        ensures plays { IfOk result (λ played. (given : ℕ) × ((S : State) →
+            StandsAt self.old.player self.old.rules place.now.machine.value
+            (drop place.now.taken self.old.console.source.lines) place.now.shown.items S
+            → ComesTo self.old.player self.old.rules S given plan.now.answers.items
+            self.new.before self.old.console.source.lines self.new.console.screen played)) }
+        ensures goes { IfOk result (λ played. played ≡ Played.Goes →
+            (self.new.before.machine.value.spent ≡ false)
+            × (self.old.rules.limit - self.new.before.machine.value.steps
+            < self.old.rules.limit - place.now.machine.value.steps)
+            × (self.new.before.taken ≤ length self.old.console.source.lines)) }
+    {
+        run_laws();
+        let played = self.start(alloc, place, plan)?;
+        match played {
+            Played::Over(ending) => return Ok(Played::Over(ending)),
+            Played::Asks(bound) => return Ok(Played::Asks(bound)),
+            Played::Goes => {}
+        }
+        let over = self.go_on(alloc)?;
+        match over {
+            Some(ending) => Ok(Played::Over(ending)),
+            None => Ok(Played::Goes),
+        }
+    }
+}

@@ -1,0 +1,309 @@
+// This file has what is left to be played of all runs: where plays stand, with the chance and the
+// number of the plays that have come there.
+
+ghost use Rattle.std.specs.Prelude.{◌≡◌, ℕ, ◌<ℤ◌, ◌≤ℤ◌, pos, false, List, [], ◌∷◌, ◌++◌, map, unsigned_abs, Option, IsTrue, ◌+◌, ◌<◌, IfOk, OnOk, IfSome, IfNone, ℤ};
+ghost use Rattle.ptb_command.specs.Configuration.{Configuration};
+ghost use Rattle.ptb_command.specs.Representation.{Represents};
+ghost use Rattle.ptb_command.specs.State.{first_state};
+ghost use Rattle.ptb_numbers.specs.Fractions.{Equals, plus};
+ghost use Rattle.ptb_chances.specs.Waiting.{after_answer, first_standing, gone_to, planned, standings};
+ghost use Rattle.ptb_chances.specs.Waiting.{Puts, PutsAnswers, states_left, Takes, unplanned};
+
+use ptb_machine::{Machine, Player};
+use ptb_numbers::{Fraction, Natural};
+use std::alloc::{AllocError, Global};
+use std::collections::BTreeMap;
+
+/// Where plays stand: a machine, how many lines were taken, and the end of what was shown.
+#[derive(Drop)]
+pub(crate) struct Place {
+    pub(crate) machine: Box<Machine>,
+    pub(crate) taken: usize,
+    pub(crate) shown: Vec<u8>,
+}
+
+/// Answers that plays take next, with the chance and the number of these plays.
+#[derive(Drop)]
+pub(crate) struct Plan {
+    pub(crate) answers: Vec<i16>,
+    pub(crate) chance: Fraction,
+    pub(crate) runs: Natural,
+}
+
+/// Plays that stand at one place, with their chance and their number.
+#[derive(Drop)]
+pub(crate) struct Waiting {
+    pub(crate) place: Place,
+    pub(crate) chance: Fraction,
+    pub(crate) runs: Natural,
+}
+
+/// What is left to be played.
+#[derive(Drop)]
+pub(crate) struct Work {
+    /// Where the plays of the plans stand.
+    pub(crate) place: Place,
+    pub(crate) plans: Vec<Plan>,
+    /// Plays that have no plan, by the keys of their places.
+    pub(crate) states: BTreeMap<u64, Waiting>,
+    /// Those for which the key was taken by another place.
+    pub(crate) others: Vec<Waiting>,
+    /// Places that were left, whose memory may serve again.
+    pub(crate) spares: Vec<Place>,
+}
+
+// A machine in memory of its own.
+fn boxed(alloc: Global, machine: Machine) -> Result<Box<Machine>, AllocError>
+    ensures { IfOk result (λ b. b.value ≡ machine) }
+{
+    match Box::new(alloc, machine) {
+        Ok(machine) => Ok(machine),
+        Err(_) => Err(AllocError),
+    }
+}
+
+impl Place {
+    /// The beginning of the player's program.
+    ///
+    /// # Errors
+    ///
+    /// Where there is no memory for it.
+    pub(crate) fn first(alloc: Global, player: &Player) -> Result<Place, AllocError>
+        ensures machine { IfOk result (λ place.
+            (place.machine.value.spent ≡ false)
+            × ((input : List (List ℕ)) (choose : Option ℤ) → Represents player.now.lines
+            place.machine.value (first_state player.now input choose))) }
+        ensures taken { IfOk result (λ place. place.taken ≡ 0) }
+        ensures shown { IfOk result (λ place. place.shown.items ≡ []) }
+    {
+        Ok(Place {
+            machine: boxed(alloc, player.machine(alloc)?)?,
+            taken: 0,
+            shown: Vec::new(alloc),
+        })
+    }
+
+    // A number that the same places have. It rises with the steps.
+    fn key(&self) -> u64 {
+        let mut sum = self.machine.hash();
+        for byte in &self.shown {
+            sum = sum
+                .wrapping_mul(0x9E37_79B9_7F4A_7C15)
+                .wrapping_add(u64::from(*byte));
+        }
+        sum = sum
+            .wrapping_mul(0x9E37_79B9_7F4A_7C15)
+            .wrapping_add(self.taken as u64);
+        u64::from(self.machine.steps())
+            .wrapping_mul(0x1_0000_0000)
+            .wrapping_add(sum / 0x1_0000_0000)
+    }
+
+    // Whether another place is the same.
+    fn is_same(&self, other: &Place) -> bool
+        ensures { IsTrue result → (self.now.machine.value ≡ other.now.machine.value)
+            × (self.now.taken ≡ other.now.taken) × (self.now.shown.items ≡ other.now.shown.items) }
+    {
+        self.taken == other.taken
+            && self.shown.as_slice() == other.shown.as_slice()
+            && self.machine.is_same(&other.machine)
+    }
+}
+
+impl Waiting {
+    // Takes in other plays, which stand at the same place.
+    fn join(&mut self, alloc: Global, other: &Waiting) -> Result<(), AllocError>
+        ensures place { OnOk result (self.new.place ≡ self.old.place) }
+        ensures chance { OnOk result (Equals self.new.chance
+            (plus self.old.chance other.now.chance)) }
+        ensures positive { OnOk result (0 < self.new.chance.denominator) }
+        ensures runs { OnOk result (self.new.runs ≡ self.old.runs + other.now.runs) }
+    {
+        self.chance.add(alloc, &other.chance)?;
+        self.runs.add(&other.runs)
+    }
+}
+
+impl Plan {
+    // The plan of one play, which takes no answer.
+    fn first(alloc: Global) -> Result<Plan, AllocError>
+        ensures { IfOk result (λ plan. (plan.answers.items ≡ [])
+            × (plan.chance ≡ record { numerator = 1; denominator = 1 }) × (plan.runs ≡ 1)) }
+    {
+        Ok(Plan {
+            answers: Vec::new(alloc),
+            chance: Fraction::one(alloc)?,
+            runs: Natural::from_word(alloc, 1)?,
+        })
+    }
+
+    /// The same plays, which stand at a place after their last answer.
+    pub(crate) fn at(self, place: Place) -> Waiting
+        ensures { unplanned result ≡ gone_to place.machine.value place.taken place.shown.items
+            self.chance self.runs }
+    {
+        let Plan { chance, runs, .. } = self;
+        Waiting {
+            place,
+            chance,
+            runs,
+        }
+    }
+
+    // The same plays after an answer more, to a question with this bound.
+    fn answered(&self, alloc: Global, answer: i16, bound: i16) -> Result<Plan, AllocError>
+        requires { pos 1 ≤ℤ bound }
+        ensures { (place : Place) → IfOk result (λ plan.
+            planned place plan ≡ after_answer (planned place self.now) bound answer) }
+    {
+        let mut answers = Vec::from_slice(alloc, &self.answers)?;
+        answers.push(answer)?;
+        let mut chance = self.chance.copy(alloc)?;
+        chance.divide(u32::from(bound.unsigned_abs()))?;
+        Ok(Plan {
+            answers,
+            chance,
+            runs: self.runs.copy(alloc)?,
+        })
+    }
+}
+
+impl Work {
+    /// One play, at the beginning of the player's program.
+    ///
+    /// # Errors
+    ///
+    /// Where a growth was refused memory.
+    pub(crate) fn begin(alloc: Global, player: &Player) -> Result<Work, AllocError>
+        ensures { IfOk result (λ work. (m : Configuration)
+            × (standings work ≡ first_standing m ∷ []) × (m.spent ≡ false)
+            × ((input : List (List ℕ)) (choose : Option ℤ) →
+            Represents player.now.lines m (first_state player.now input choose))) }
+    {
+        let mut plans = Vec::new(alloc);
+        plans.push(Plan::first(alloc)?)?;
+        Ok(Work {
+            place: Place::first(alloc, player)?,
+            plans,
+            states: BTreeMap::new(alloc),
+            others: Vec::new(alloc),
+            spares: Vec::new(alloc),
+        })
+    }
+
+    /// Takes out plays that have the fewest commands done, of those that stand at one place, and goes
+    /// to this place.
+    pub(crate) fn next(&mut self, alloc: Global) -> Option<Plan>
+        ensures none { IfNone result (standings self.old ≡ []) }
+        ensures some { IfSome result (λ plan. Takes (standings self.old)
+            (planned self.new.place plan) (standings self.new)) }
+    {
+        if let Some(plan) = self.plans.pop() {
+            return Some(plan);
+        }
+        let Waiting {
+            place,
+            chance,
+            runs,
+        } = self.next_state()?;
+        let left = std::mem::replace(&mut self.place, place);
+        let _ = self.spares.push(left);
+        Some(Plan {
+            answers: Vec::new(alloc),
+            chance,
+            runs,
+        })
+    }
+
+    // Takes out plays that have no plan.
+    fn next_state(&mut self) -> Option<Waiting>
+        ensures none { IfNone result (states_left self.old ≡ []) }
+        ensures some { IfSome result (λ w. Takes (states_left self.old) (unplanned w)
+            (states_left self.new)) }
+        ensures plans { self.new.plans ≡ self.old.plans }
+    {
+        if let Some(waiting) = self.others.pop() {
+            return Some(waiting);
+        }
+        let (_, waiting) = self.states.pop_first()?;
+        Some(waiting)
+    }
+
+    // Puts in the plays of a plan, after an answer more to a question with this bound.
+    fn add_plan(
+        &mut self,
+        alloc: Global,
+        plan: &Plan,
+        answer: i16,
+        bound: i16,
+    ) -> Result<(), AllocError>
+        requires { pos 1 ≤ℤ bound }
+        ensures added { OnOk result (Takes (standings self.new)
+            (after_answer (planned self.old.place plan.now) bound answer) (standings self.old)) }
+        ensures place { self.new.place ≡ self.old.place }
+    {
+        let answered = plan.answered(alloc, answer, bound)?;
+        self.plans.push(answered)?;
+        Ok(())
+    }
+
+    /// Puts in the plays of a plan, after each answer to a question with this bound.
+    ///
+    /// # Errors
+    ///
+    /// Where a growth was refused memory.
+    pub(crate) fn add_plans(
+        &mut self,
+        alloc: Global,
+        plan: &Plan,
+        bound: i16,
+    ) -> Result<(), AllocError>
+        requires { pos 1 ≤ℤ bound }
+        ensures { OnOk result (PutsAnswers (planned self.old.place plan.now) bound
+            (unsigned_abs bound) (standings self.old) (standings self.new)) }
+    {
+        let mut answer = 0;
+        while answer < bound {
+            answer += 1;
+            self.add_plan(alloc, plan, answer, bound)?;
+        }
+        Ok(())
+    }
+
+    /// A place for later use. Nobody stands there.
+    ///
+    /// # Errors
+    ///
+    /// Where there is no memory for it.
+    pub(crate) fn spare(&mut self, alloc: Global, player: &Player) -> Result<Place, AllocError>
+        ensures { self.new ≡ record self.old { spares = self.new.spares } }
+    {
+        match self.spares.pop() {
+            Some(place) => Ok(place),
+            None => Place::first(alloc, player),
+        }
+    }
+
+    /// Puts in plays that stand at one place: together with those that stand at the same place, where
+    /// these are found.
+    ///
+    /// # Errors
+    ///
+    /// Where a growth was refused memory.
+    pub(crate) fn add(&mut self, alloc: Global, waiting: Waiting) -> Result<(), AllocError>
+        ensures { OnOk result (Puts (standings self.old) (unplanned waiting) (standings self.new)) }
+    {
+        let key = waiting.place.key();
+        let Some(other) = self.states.get_mut(&key) else {
+            self.states.insert(key, waiting)?;
+            return Ok(());
+        };
+        if other.place.is_same(&waiting.place) {
+            other.join(alloc, &waiting)?;
+            let _ = self.spares.push(waiting.place);
+            return Ok(());
+        }
+        self.others.push(waiting)?;
+        Ok(())
+    }
+}
