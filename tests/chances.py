@@ -2,9 +2,11 @@
 """Works the chances of runs out from their reports, and compares them with what the documents and tools/outcomes say.
 
 The programs are those of the chapter on chances in docs/TOOL.md, of README.md, and examples; the chances of some are
-counted by hand, too. PTB names another program than the one that ./ptb builds.
+counted by hand, too. Tables of --chances are compared with those that are added up from reports, byte for byte. PTB names
+another program than the one that ./ptb builds.
 """
 
+import glob
 import json
 import os
 import random
@@ -14,10 +16,11 @@ import sys
 from collections import Counter
 from fractions import Fraction
 from itertools import product
-from math import factorial
+from math import comb, factorial
 
 sys.dont_write_bytecode = True
 sys.path.insert(0, f"{os.path.dirname(os.path.realpath(__file__))}/shared")
+from results import table_of, table_text
 from stage import PTB, ROOT, staged
 
 passed = failed = 0
@@ -54,15 +57,15 @@ def example(name, *words):
 
 def runs_in(text):
     """Of each run in a listing: its answers as they are spelled, its ending, what it showed, and its chance."""
-    runs = []
-    while text:
-        header, _, rest = text.decode().partition("\n")
-        _, spelled, ending, _, size = header.split()
+    runs, at = [], 0
+    while at < len(text):
+        shown = text.index(b"\n", at) + 1
+        _, spelled, ending, _, size = text[at:shown].decode().split()
         chance = Fraction(1)
         for bound in re.findall("/([0-9]+)", spelled):
             chance *= Fraction(1, int(bound))
-        runs.append((spelled, ending, rest[: int(size)], chance))
-        text = rest[int(size) + 1 :].encode()
+        at = shown + int(size) + 1
+        runs.append((spelled, ending, text[shown : at - 1].decode(), chance))
     return runs
 
 
@@ -85,8 +88,12 @@ def added_up(runs, key):
     return {it: (chances[it], numbers[it]) for it in chances}
 
 
-# the examples that have few enough runs to list
+# the examples that have few enough runs for all tables
 LISTED = ["beast", "doors", "eight", "guess", "hanoi", "hello", "letters", "matches", "throw"]
+
+# the examples with too many runs, each with a limit of commands
+STEPS = {"bagels": "15", "craps": "20", "dice": "30", "duel": "60", "harvest": "60", "tictac": "300", "walk": "60"}
+MOST_LISTED = 30_000
 
 KEYS = {
     "outcome": lambda run: (run[1], run[2]),
@@ -194,17 +201,28 @@ def check_tool(name, text):
 # ---- the program's own table
 
 
+def check_bytes(name, text, program_table):
+    """The program's table has the bytes of the table that is added up from the listing of the same runs."""
+    due = table_of((ending, shown.encode(), chance) for _, ending, shown, chance in runs_in(text))
+    same(f"the bytes of the table of {name}", program_table, due)
+
+
 def check_table(name, text, program_table):
     """The tool says the same of a listing and of the program's table of the same runs."""
+    check_bytes(name, text, program_table)
     for kind in ("last-line", "ending"):
         same(f"the table of {name} by {kind}", told(program_table, kind), told(text, kind))
 
 
 def check_example_tables():
-    """The tables of the examples whose runs are listed."""
-    for name in LISTED:
+    """The tables of all examples."""
+    for path in sorted(glob.glob(f"{ROOT}/examples/*.bas")):
+        name = os.path.basename(path).removesuffix(".bas")
+        words = ["--steps", STEPS[name]] if name in STEPS else []
+        text = example(name, *words, "--first", str(MOST_LISTED))
+        same(f"so few runs of {name} that they are listed", text.count(b"\nRUN ") < MOST_LISTED - 1, True)
         with open(f"{ROOT}/examples/{name}.input", "rb") as lines:
-            check_table(name, example(name), table(f"{ROOT}/examples/{name}.bas", lines=lines.read()))
+            check_table(name, text, table(path, *words, lines=lines.read()))
     eight = f"{ROOT}/examples/eight.bas"
     check_table("eight with --choose", listing(eight, "--choose", "8"), table(eight, "--choose", "8"))
 
@@ -236,6 +254,81 @@ def check_random_tables():
             check_table(f"program {number}, {program!r} --steps {steps}", listing(path, *words), table(path, *words))
 
 
+# Programs of which two plays are in states that differ in one thing, answer a question, and then show the thing. What they read is
+# in LINES.
+LINES = b"1\nRND(3)\n2\n"
+PARTED_BY = {
+    "a value": "10 A=RND(2)\n20 B=RND(2);B=0\n30 PRINT A\n",
+    "an element": "10 @(1)=RND(2)\n20 B=RND(2);B=0\n30 PRINT @(1)\n",
+    "the place": "10 IF RND(2)=1 GOTO 30\n20 A=A;B=RND(2);B=0;PRINT 1;STOP\n30 B=RND(2);B=0;PRINT 2;STOP\n",
+    "a subroutine": "10 IF RND(2)=1 GOTO 30\n20 A=A;A=A;GOSUB 40;PRINT 1;STOP\n30 A=A;GOTO 40\n40 B=RND(2);B=0;RETURN\n",
+    "the return": "10 IF RND(2)=1 GOTO 30\n20 A=A;GOSUB 40;PRINT 1;STOP\n30 GOSUB 40;PRINT 2;STOP\n40 B=RND(2);B=0;RETURN\n",
+    "a loop": "10 IF RND(2)=1 GOTO 30\n20 A=A;FOR I=0 TO 1;GOTO 40\n30 A=A;I=0\n40 B=RND(2);B=0\n50 NEXT I\n",
+    "the limit of a loop": "10 FOR I=0 TO RND(2)\n20 B=RND(2);B=0\n30 NEXT I;PRINT I\n",
+    "the step of a loop": "10 FOR I=0 TO 2 STEP RND(2)\n20 B=RND(2);B=0\n30 NEXT I;PRINT I\n",
+    "the body of a loop": "10 IF RND(2)=1 GOTO 30\n20 A=A;FOR I=1 TO 2;IF I=2 PRINT 1\n25 GOTO 40\n"
+    "30 A=A;FOR I=1 TO 2;IF I=2 PRINT 2\n40 B=RND(2);B=0;NEXT I\n",
+    "whether a line is begun": "10 IF RND(2)=1 GOTO 30\n20 A=A;PRINT 'X',;GOTO 40\n30 PRINT 'X';GOTO 40\n"
+    "40 B=RND(2);B=0\n50 PRINT 'Y'\n",
+    "the line that is begun": "10 PRINT RND(2),\n20 B=RND(2);B=0\n30 PRINT\n",
+    "the last line": "10 PRINT RND(2)\n20 B=RND(2);B=0\n",
+    "the lines that are left": "10 IF RND(2)=1 GOTO 30\n20 INPUT A;A=0;PRINT 'X';GOTO 40\n30 A=A;A=0;PRINT 'X'\n40 B=RND(2);B=0\n"
+    "50 INPUT C\n60 PRINT C\n",
+    "the commands so far": "10 IF RND(2)=1 A=A\n20 B=RND(2);B=0\n30 PRINT 'X'\n",
+    "the ending": "10 B=RND(2);PRINT 'X';IF B=1 STOP\n",
+    "nothing": "10 A=RND(3)+RND(2);A=0\n20 B=RND(5);B=0\n30 PRINT RND(2)\n",
+}
+
+
+def check_states():
+    """Plays in states that differ in one thing are not one, whatever the limit of commands."""
+    with staged() as folder:
+        path = f"{folder}/parted.bas"
+        for thing, program in PARTED_BY.items():
+            with open(path, "w", encoding="ascii") as file:
+                file.write(program)
+            for steps in [*range(1, 10), 100]:
+                words = ["--steps", str(steps)]
+                text = listing(path, *words, lines=LINES)
+                check_bytes(f"plays parted by {thing}, --steps {steps}", text, table(path, *words, lines=LINES))
+
+
+# Commands after which plays differ, or meet again.
+COMMANDS = [
+    *["A=RND(2)", "A=RND(2)+RND(2)", "A=A+RND(2)*2-3", "A=0", "B=RND(1+RND(2))", "@(RND(2))=RND(2)", "@(1)=@(2)"],
+    *["PRINT A", "PRINT RND(2)", "PRINT", "PRINT #1,B,", "IF RND(3)=1 PRINT 'X',", "IF A>1 PRINT B", "IF RND(2)=1 A=A"],
+    *["INPUT B", "IF RND(2)=1 INPUT A", "GOSUB 90", "IF A=RND(2) GOSUB 90", "IF B=2 STOP", "IF @(1)=2 GOTO 70", "A=2/(B-1)"],
+    *["FOR J=1 TO RND(2);NEXT J", "FOR J=0 TO 2 STEP RND(2);@(1)=J;NEXT J", "IF RND(2)=1 FOR I=1 TO 2", "RETURN", "GOTO 98+A"],
+]
+
+
+def meeting_program(chance):
+    """A loop of such commands, and a subroutine."""
+    first, second, third, fourth = chance.choices(COMMANDS, k=4)
+    return (
+        f"10 FOR I=1 TO {chance.randint(1, 3)}\n20 {first}\n30 {second}\n40 {third}\n50 NEXT I\n60 {fourth}\n"
+        f"70 PRINT {chance.choice(['A', 'B', '@(1)', 'I', '#1,A,'])}\n80 STOP\n90 {chance.choice(COMMANDS)};RETURN\n"
+    )
+
+
+def check_meeting_tables():
+    """The tables of such programs, where the runs are few enough to list them."""
+    chance = random.Random(10)
+    listed = 0
+    with staged() as folder:
+        path = f"{folder}/meeting.bas"
+        for number in range(300):
+            program = meeting_program(chance)
+            with open(path, "w", encoding="ascii") as file:
+                file.write(program)
+            words = ["--steps", str(chance.randint(5, 40)), *chance.choice([[], ["--choose", "2"]])]
+            text = listing(path, *words, "--first", "3000", lines=LINES)
+            if text.count(b"\nRUN ") < 2999:
+                listed += 1
+                check_bytes(f"program {number}, {program!r} {words}", text, table(path, *words, lines=LINES))
+    same("most of these programs are listed", listed > 200, True)
+
+
 def check_by_hand():
     """Chances that nobody needs a listing for."""
     dice = Counter(map(sum, product(range(1, 7), repeat=3)))
@@ -249,6 +342,100 @@ def check_by_hand():
     heads = told(listing_of_text("10 A=A+1;IF RND(2)=1 IF A<5 GOTO 10\n20 PRINT A\n"), "last-line")
     due = {f"{k:6}": (Fraction(1, 2 ** min(k, 4)), 2 if k == 5 else 1) for k in range(1, 6)}
     same("heads in a row", heads, due)
+
+
+# ---- games of many runs, by their rules
+
+
+class Ends:
+    """The results of a game, each with its chance and the number of its runs."""
+
+    def __init__(self):
+        self.results = {}
+
+    def add(self, result, number, of):
+        """So many more runs have this result; each has the chance 1 in `of`."""
+        ending, line = result
+        chance, so_far = self.results.get((ending, line.encode()), (0, 0))
+        if number:
+            self.results[ending, line.encode()] = chance + Fraction(number, of), so_far + number
+
+
+WINS, LOSES, NOT_DECIDED = ("END", "THE SHOOTER WINS"), ("STOP", "THE SHOOTER LOSES"), ("STOP", "NOT DECIDED")
+SPLASH, HOME, WALKING = ("STOP", "SPLASH!"), ("STOP", "HOME"), ("END", "STILL WALKING")
+
+
+def craps(throws):
+    """The results of craps, with so many throws at most."""
+    dice = Counter(map(sum, product(range(1, 7), repeat=2)))
+    ends = Ends()
+    for first, number in dice.items():
+        if first in (7, 11):
+            ends.add(WINS, number, 36)
+        elif first in (2, 3, 12):
+            ends.add(LOSES, number, 36)
+        else:
+            for throw in range(2, throws + 1):
+                ends.add(WINS, number * dice[first], 36**throw)
+                ends.add(LOSES, number * dice[7], 36**throw)
+                number *= 36 - dice[first] - dice[7]
+            ends.add(NOT_DECIDED, number, 36**throws)
+    return ends.results
+
+
+def walk(steps):
+    """The results of a walk of so many steps from place 3, with the river at 0 and the door at 10."""
+    ends = Ends()
+    walks = {3: 1}
+    for step in range(1, steps + 1):
+        farther = Counter()
+        for place, number in walks.items():
+            farther[place - 1] += number
+            farther[place + 1] += number
+        ends.add(SPLASH, farther.pop(0, 0), 2**step)
+        ends.add(HOME, farther.pop(10, 0), 2**step)
+        walks = farther
+    ends.add(WALKING, sum(walks.values()), 2**steps)
+    return ends.results
+
+
+def tosses(number):
+    """The results of so many tosses of a coin: of each difference of heads and tails, its chance and its number of runs."""
+    ways = {2 * heads - number: comb(number, heads) for heads in range(number + 1)}
+    return {("END", f"{it}".encode()): (Fraction(ways[it], 2**number), ways[it]) for it in ways}
+
+
+def game(name, old, new):
+    """The text of an example in which something is replaced."""
+    with open(f"{ROOT}/examples/{name}.bas", encoding="ascii") as file:
+        text = file.read()
+    same(f"{name} has {old} once", text.count(old), 1)
+    return text.replace(old, new)
+
+
+def check_games(throws, steps, coins):
+    """The tables of craps with so many throws at most, of a walk of so many steps, and of so many coins."""
+    games = [
+        ("craps", game("craps", "TO 20\n", f"TO {throws}\n"), craps(throws)),
+        ("the walk", game("walk", "TO 100\n", f"TO {steps}\n"), walk(steps)),
+        ("tosses", f"10 FOR I=1 TO {coins};A=A+2*RND(2)-3;NEXT I\n20 PRINT #1,A\n", tosses(coins)),
+    ]
+    with staged() as folder:
+        for name, text, results in games:
+            with open(f"{folder}/game.bas", "w", encoding="ascii") as file:
+                file.write(text)
+            same(f"all of {name}", sum(chance for chance, _ in results.values()), 1)
+            same(f"{name}: {throws}, {steps}, {coins}", table(f"{folder}/game.bas"), table_text(results))
+
+
+def check_limits():
+    """The longer a game may take, the closer are its chances to those of the game without an end."""
+    for name, results, won, still, limit in [
+        ("craps", craps(200), WINS, NOT_DECIDED, Fraction(244, 495)),
+        ("the walk", walk(2000), HOME, WALKING, Fraction(3, 10)),
+    ]:
+        chance, left = (results[ending, line.encode()][0] for ending, line in (won, still))
+        same(f"{name} without an end", chance < limit < chance + left < chance + Fraction(1, 10**9), True)
 
 
 # ---- tic-tac-toe
@@ -287,6 +474,8 @@ def check_tic_tac_toe():
     numbers = {"X WINS": 131184, "O WINS": 77904, "A DRAW": 46080}  # as the literature has them
     due = {end: (chances[end], number) for end, number in numbers.items()}
     same("all games of tic-tac-toe", told(b"".join(shares), "last-line"), due)
+    results = {("STOP", end.encode()): due[end] for end in due}
+    same("the table of all games of tic-tac-toe", table(program), table_text(results))
 
 
 def main():
@@ -300,8 +489,12 @@ def main():
         check_tool(name, example(name))
     check_example_tables()
     check_random_tables()
+    check_states()
+    check_meeting_tables()
     check_tool("eight with answers in place of lines", listing(f"{ROOT}/examples/eight.bas", "--choose", "8"))
     check_by_hand()
+    check_limits()
+    check_games(3, 12, 12)
     check_tic_tac_toe()
     print(f"{passed} passed, {failed} failed")
     return 1 if failed else 0

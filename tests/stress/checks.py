@@ -14,6 +14,7 @@ import calls
 import language
 from calls import Call
 from reports import Malformed, marked, raised_place, read_reports, report_text, spelled, without_bounds
+from results import table_of
 from seeds import words
 
 PROGRAM, INPUT = "program.bas", "input.txt"
@@ -376,30 +377,8 @@ def check_share(trial, reports, is_whole, report):
 def check_chances(trial, reports, is_whole):
     """Where the reports are all, the table of chances is the one that is added up from them."""
     if is_whole and not trial.failures:  # a listing that isn't as whole as it looks could have any number of runs
-        trial.expect("the chances of results", trial.chances(), 0, table_of(reports))
-
-
-def table_of(reports):
-    """The table of the chances of these runs: by their endings, then by their last lines."""
-    sums = {}
-    for report in reports:
-        result = list(calls.ENDINGS).index(report.ending), last_line(report.transcript)
-        chance, runs = sums.get(result, (Fraction(0), 0))
-        sums[result] = chance + Fraction(1, math.prod(report.bounds)), runs + 1
-    return b"".join(row_text(*result, *sums[result]) for result in sorted(sums))
-
-
-def last_line(transcript):
-    """The last line, without its end; empty where there is none."""
-    lines = transcript.split(b"\n")
-    line = lines[-1] or (lines[-2] if len(lines) > 1 else b"")
-    return line[:-1] if line.endswith(b"\r") else line
-
-
-def row_text(rank, line, chance, runs):
-    """A row of the table: of the results with the ending of this rank and this last line."""
-    head = f"CHANCE {chance.numerator}/{chance.denominator} {runs} {list(calls.ENDINGS)[rank]} {len(line)}\n"
-    return head.encode() + line + b"\n"
+        runs = [(it.ending, it.transcript, Fraction(1, math.prod(it.bounds))) for it in reports]
+        trial.expect("the chances of results", trial.chances(), 0, table_of(runs))
 
 
 # ---- what programs mean
