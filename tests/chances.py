@@ -428,6 +428,17 @@ def check_games(throws, steps, coins):
             same(f"{name}: {throws}, {steps}, {coins}", table(f"{folder}/game.bas"), table_text(results))
 
 
+def check_page_of_examples():
+    """The tables of these games in examples/README.md are those of their rules."""
+    with open(f"{ROOT}/examples/README.md", encoding="utf-8") as file:
+        text = file.read()
+    for name, results in [("craps", craps(20)), ("walk", walk(100))]:
+        rows = rows_shown(text, f"    $ ./ptb --chances examples/{name}.bas < /dev/null | tools/outcomes\n")
+        due = [(line.decode(), *results[ending, line]) for ending, line in results]
+        due = [(line, chance, number, f"{float(100 * chance):.2f}") for line, chance, number in due]
+        same(f"the page's table of {name}", rows, sorted(due, key=lambda row: -row[1]))
+
+
 def check_limits():
     """The longer a game may take, the closer are its chances to those of the game without an end."""
     for name, results, won, still, limit in [
@@ -495,6 +506,8 @@ def main():
     check_by_hand()
     check_limits()
     check_games(3, 12, 12)
+    check_games(20, 100, 200)
+    check_page_of_examples()
     check_tic_tac_toe()
     print(f"{passed} passed, {failed} failed")
     return 1 if failed else 0
