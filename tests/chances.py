@@ -185,6 +185,9 @@ def check_readme(program):
     text = text[text.index(f"echo '{program}' | ./ptb --all") :]
     runs = runs_in(listing_of_text(program + "\n"))
     same("README's runs", re.findall("^    RUN (\\S+)", text, re.M)[: len(runs)], [run[0] for run in runs])
+    chance, ways = Fraction(comb(100, 50), 2**100), comb(100, 50)
+    due = [(f"{chance.numerator}/{chance.denominator}", f"{ways}", f"{50:6}")]
+    same("README's tosses", re.findall("^    CHANCE (\\S+) (\\S+) END 6\n    (.*)$", text, re.M), due)
 
 
 # ---- the tool
@@ -439,6 +442,18 @@ def check_page_of_examples():
         same(f"the page's table of {name}", rows, sorted(due, key=lambda row: -row[1]))
 
 
+def check_page_of_large_trees():
+    """The likeliest sums of ten throws in docs/LARGE-TREES.md are those of all throws."""
+    with open(f"{ROOT}/docs/LARGE-TREES.md", encoding="utf-8") as file:
+        text = file.read()
+    sums = Counter({0: 1})
+    for _ in range(10):
+        sums = sum((Counter({total + die: sums[total] for total in sums}) for die in range(1, 7)), Counter())
+    due = {f"{total}": (Fraction(number, 6**10), number) for total, number in sums.most_common(3)}
+    rows = rows_shown(text, "    $ ./ptb --chances ten.bas < /dev/null | tools/outcomes --top 3\n")
+    same("the likeliest sums of ten throws", {row[0]: row[1:3] for row in rows}, due)
+
+
 def check_limits():
     """The longer a game may take, the closer are its chances to those of the game without an end."""
     for name, results, won, still, limit in [
@@ -508,6 +523,7 @@ def main():
     check_games(3, 12, 12)
     check_games(20, 100, 200)
     check_page_of_examples()
+    check_page_of_large_trees()
     check_tic_tac_toe()
     print(f"{passed} passed, {failed} failed")
     return 1 if failed else 0
