@@ -25,9 +25,11 @@ parted_text (x ∷ b) = let rest = parted_text b in record { first = first_of_bo
     first_of_both : Bool → Parted b → List ℕ
     first_of_both true p = []
     first_of_both false p = x ∷ p.first
+
     others_of : Bool → Parted b → List (List ℕ)
     others_of true p = p.first ∷ p.others
     others_of false p = p.others
+
     by : (c : Bool) (p : Parted b) (t : List ℕ) → cond c ([] ∷ pieces (b ++ 10 ∷ t)) (onto_first x (pieces (b ++ 10 ∷ t))) ≡ first_of_both c p ∷ (others_of c p ++ pieces t)
     by true p t = ap (λ ls. [] ∷ ls) (p.parted t)
     by false p t = ap (onto_first x) (p.parted t)

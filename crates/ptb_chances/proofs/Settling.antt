@@ -389,15 +389,18 @@ module _ (p : StoredProgram) (input : List (List ℕ)) (rules : Rules) (most : �
     covers = (
       [] ∷ [],
       record {
-        all = (record {
-          state = first_state p input rules.choose;
-          stands = record { represents = represents; lines_left = refl; choose = refl; same_end = λ more. refl };
-          begun = [];
-          answers = refl;
-          reached = play_from;
-          opens = reads.begins;
-          positive = omega arith;
-        }, tt);
+        all = (
+          record {
+            state = first_state p input rules.choose;
+            stands = record { represents = represents; lines_left = refl; choose = refl; same_end = λ more. refl };
+            begun = [];
+            answers = refl;
+            reached = play_from;
+            opens = reads.begins;
+            positive = omega arith;
+          },
+          tt,
+        );
         unspent = unspent;
         within = omega arith;
         chance = refl;

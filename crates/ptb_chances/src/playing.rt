@@ -78,7 +78,13 @@ pub(crate) fn play_plan(
     run_laws();
     'commands: loop {
         player.advance(machine, rules.limit);
-        match player.step(machine, rules, plan, &mut console.screen, &mut console.source) {
+        match player.step(
+            machine,
+            rules,
+            plan,
+            &mut console.screen,
+            &mut console.source,
+        ) {
             Ok(None) => {}
             Ok(Some(ending)) => return Ok(ended(ending, plan.refused_bound())),
             Err(RunFault::Memory) => return Err(AllocError),

@@ -90,8 +90,13 @@ fn writes(rt: HostRuntime) -> Result<(), Fail> {
         let (program, mut registers) = with_line(rt.alloc(), line)?;
         let mut taken = Vec::new(rt.alloc());
         let given = (answers, writes);
-        let (result, writes_left) =
-            written(given, &program, &mut registers, &mut output, &mut taken);
+        let (result, writes_left) = written(
+            given,
+            &program,
+            &mut registers,
+            &mut output,
+            &mut taken,
+        );
         let is_begun = taken.as_slice().starts_with(begins);
         let found = (result, is_begun, taken.len(), writes_left);
         expect_same(&rt, line, found, (want, true, count, left));
@@ -118,8 +123,13 @@ fn values_that_are_gathered(rt: HostRuntime) -> Result<(), Fail> {
         let (program, mut registers) = with_line(rt.alloc(), line)?;
         let mut taken = Vec::new(rt.alloc());
         let mut output = Output::new();
-        let (result, writes_left) =
-            written((&[], 9), &program, &mut registers, &mut output, &mut taken);
+        let (result, writes_left) = written(
+            (&[], 9),
+            &program,
+            &mut registers,
+            &mut output,
+            &mut taken,
+        );
         let is_end = taken.as_slice().ends_with(ends);
         let writes_taken = 9_usize.saturating_sub(writes_left);
         let found = (result.is_ok(), writes_taken, taken.len(), is_end);

@@ -8,8 +8,7 @@ pub invariant_of-self-2 : goal.invariant_of-self-2
 invariant_of-self-2 c =
     let at = unsigned_abs (to_z w16 (of_z w16 c.args.index)) in
     let used : c.self.inside.used ≤ at + 1 = omega (arith, c.if-at-self.false) in
-    let own : at + 1 ≤ at + 1 = omega arith in
-    (
+    let own : at + 1 ≤ at + 1 = omega arith in (
       c.self.invariant.0,
       c.self.invariant.1,
       c.self.invariant.2,
