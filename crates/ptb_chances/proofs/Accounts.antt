@@ -82,9 +82,6 @@ same_from_alike ws vs a = record {
   runs = a.runs;
 }
 
-pub same_back : (ws vs : List Row) → AreSame ws vs → AreSame vs ws
-same_back ws vs a = record { chances = λ r. sym (a.chances r); runs = λ r. sym (a.runs r) }
-
 pub same_then : (us vs ws : List Row) → ArePositive vs → AreSame us vs → AreSame vs ws → AreSame us ws
 same_then us vs ws p a b = record {
   chances = λ r. equals_then (chance_in r us) (chance_in r vs) (chance_in r ws) (chance_positive r vs p) (a.chances r) (b.chances r);
@@ -101,16 +98,6 @@ pub alike_same : (us vs ws : List Row) → AreAlike us vs → AreSame vs ws → 
 alike_same us vs ws a b = record {
   chances = λ r. subst (λ (f : Ratio). Equals f (chance_in r ws)) (sym (a.chances r)) (b.chances r);
   runs = λ r. a.runs r ∙ b.runs r;
-}
-
-equals_after : (b : Bool) (w : Row) (ws vs : List Row) → Equals (chance_of_rows ws) (chance_of_rows vs) → Equals (chance_of_rows (maybe b w ws)) (chance_of_rows (maybe b w vs))
-equals_after true w ws vs h = equals_plus w.chance w.chance (chance_of_rows ws) (chance_of_rows vs) refl h
-equals_after false w ws vs h = h
-
-pub same_more : (w : Row) (ws vs : List Row) → AreSame ws vs → AreSame (w ∷ ws) (w ∷ vs)
-same_more w ws vs a = record {
-  chances = λ r. equals_after (has_result r w) w (rows_with r ws) (rows_with r vs) (a.chances r);
-  runs = λ r. runs_after (has_result r w) w (rows_with r ws) (rows_with r vs) (a.runs r);
 }
 
 -- ---- two rows of a result as one

@@ -327,12 +327,6 @@ module _ (p : StoredProgram) (input : List (List ℕ)) (rules : Rules) (most : �
       let x = one_waits.1 in
       (x.state, x.stands, subst (λ (v : Outcome Finish (List ℕ)). is_open v ≡ true) (game_there p input rules most w one_waits.0 x) x.opens)
 
-  pub unspent_there : w.machine.spent ≡ false
-  unspent_there = (a.covers.1).unspent
-
-  pub within_there : w.taken ≤ length input
-  within_there = (a.covers.1).within
-
   pub settled_over : (n : ℕ) (e : Ending) (shown : List ℕ) (new : List Row) → Each (λ S. IsOver p rules S (take n w.plan) e shown)
       → AddsRow tally (record { result = record { ending = e; line = last_line (lines shown) }; chance = w.chance; runs = w.runs }) new → Accounted p input rules most new old
   settled_over n e shown new over adds =

@@ -1,5 +1,5 @@
 -- This file proves how lists of what waits change where one is pushed, popped, inserted or removed.
-use Rattle.std.proofs.Common.{◌≡◌, ℕ, ◌+◌, ◌<◌, inl, inr, arith, length, Bool, true, false, cond, List, [], ◌∷◌, ◌++◌, map, Some, None, refl, ap, sym, subst, ◌∙◌, append_assoc}
+use Rattle.std.proofs.Common.{◌≡◌, ℕ, ◌+◌, ◌<◌, inl, inr, Bool, true, false, cond, List, [], ◌∷◌, ◌++◌, map, Some, None, refl, ap, sym, subst, ◌∙◌, append_assoc}
 use Rattle.std.specs.BTreeMap.{insert_entry, is_at}
 use Rattle.std.specs.Map.{lookup, remove_entry, set_value}
 use Rattle.std.specs.Ordering.{is_eq, match_ordering, nat_cmp}
@@ -123,20 +123,3 @@ joined_there v w u machine taken shown place chance positive runs =
       positive = positive;
       runs = runs;
     }
-
--- ---- plays that are taken out
-
-pub first_taken : (others : List Waiting) (es es' : List (ℕ × Waiting)) (e : ℕ × Waiting) → others ≡ [] → es ≡ e ∷ es' → Takes (map unplanned others ++ map in_map es) (in_map e) (map unplanned others ++ map in_map es')
-first_taken others es es' e none is = record {
-  front = [];
-  back = map in_map es';
-  old_is = ap (λ ws. map unplanned ws ++ map in_map es) none ∙ ap (map in_map) is;
-  new_is = ap (λ ws. map unplanned ws ++ map in_map es') none;
-}
-
-pub none_left : (others : List Waiting) (es : List (ℕ × Waiting)) → others ≡ [] → (0 < length es → ⊥) → map unplanned others ++ map in_map es ≡ []
-none_left others es none empty = ap (λ ws. map unplanned ws ++ map in_map es) none ∙ by es empty
-  where
-    by : (es : List (ℕ × Waiting)) → (0 < length es → ⊥) → ◌≡◌ {A = List Standing} (map in_map es) []
-    by [] empty = refl
-    by (e ∷ es) empty = absurd (empty (let some : 0 < length (e ∷ es) = omega arith in some))
