@@ -12,11 +12,6 @@ use Rattle.ptb_explore.specs.declared.mismatch.Mismatch.{Mismatch}
 pub ok_no_err : {T E P : Type 0} {x : T} {e : E} → ◌≡◌ {A = Result T E} (Ok x) (Err e) → P
 ok_no_err h = absurd cc
 
--- a refusal of memory doesn't say that some answers are no run
-pub memory_no_run : {T P : Type 0} (r : Result T AfterFault) (m : Mismatch) → IsErrAnd r (λ e. e ≡ after.Memory) → r ≡ Err (after.NotARun m) → P
-memory_no_run (Ok x) m h k = absurd h
-memory_no_run (Err e) m h k = absurd cc
-
 -- that answers are no run is no want of memory
 pub no_run_no_memory : {T P : Type 0} {m : Mismatch} → ◌≡◌ {A = Result T AfterFault} (Err (after.NotARun m)) (Err after.Memory) → P
 no_run_no_memory k = absurd cc
