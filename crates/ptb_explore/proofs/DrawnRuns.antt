@@ -1,9 +1,7 @@
 -- This file proves that a run whose answers are drawn is the one that a sample has at its place.
-use Rattle.std.proofs.Common.{◌≡◌, ◌∙◌, ℕ, List, [], ◌∷◌, ◌++◌, length, Option, Some, Result, Ok, Err, refl, sym, ap, subst, append-nil}
+use Rattle.std.proofs.Common.{◌≡◌, ◌∙◌, ℕ, List, [], ◌++◌, length, Option, Some, Result, Ok, sym, ap, subst, append-nil}
 use Rattle.std.specs.Prelude.{ℤ}
-use Rattle.std.specs.Io.KnownBytes.{Appends}
 use Rattle.rand_pcg.specs.Lcg.{Lcg}
-use Rattle.ptb_text.specs.Device.{TakesSome}
 use Rattle.ptb_text.specs.Statements.{StoredProgram}
 use Rattle.ptb_answers.specs.declared.form.Form.{Form}
 use Rattle.ptb_answers.specs.declared.rules.Rules.{Rules}
@@ -11,7 +9,7 @@ use Rattle.ptb_answers.specs.AnswerText.{items_in}
 use Rattle.ptb_answers.specs.Choices.{Choices}
 use Rattle.ptb_answers.specs.Outcome.{Answers, Outcome, Done, IsReader, bounds, is_whole}
 use Rattle.ptb_answers.specs.Seeds.{RefusedForMemory, SeededAnswers, drawn_from, generator_after, seeded_choices}
-use Rattle.ptb_answers.specs.Drawn.{IsDrawnFrom, answers_by}
+use Rattle.ptb_answers.specs.Drawn.{answers_by}
 use Rattle.ptb_answers.proofs.Drawn.{drawn_alone}
 use Rattle.ptb_answers.proofs.Seeds.{length-drawn, same_generator}
 use Rattle.ptb_command.specs.declared.ending.Ending.{Ending}

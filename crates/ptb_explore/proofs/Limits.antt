@@ -3,9 +3,9 @@ use Rattle.std.proofs.Common.{◌≡◌, ℕ, ◌-◌, ◌+◌, ◌<◌, ◌≤�
 use Rattle.std.proofs.lemmas.Bool.{le-leb, lt-leb}
 use Rattle.ptb_text.specs.Statements.{StoredProgram}
 use Rattle.ptb_answers.specs.Choices.{Choices}
-use Rattle.ptb_answers.specs.Outcome.{Answers, Outcome, Done, go_on, is_whole, map_outcome}
+use Rattle.ptb_answers.specs.Outcome.{Answers, Done, go_on, is_whole, map_outcome}
 use Rattle.ptb_answers.specs.declared.rules.Rules.{Rules}
-use Rattle.ptb_command.specs.Act.{StepResult, Over}
+use Rattle.ptb_command.specs.Act.{Over}
 use Rattle.ptb_command.specs.Commands.{Command}
 use Rattle.ptb_command.specs.Configuration.{Configuration}
 use Rattle.ptb_command.specs.declared.ending.Ending.{Ending}
@@ -15,7 +15,6 @@ use Rattle.ptb_machine.specs.Laws.{RunLaws}
 use Rattle.ptb_machine.specs.Play.{Finish, act_unless, after_step_result, finish_in, play, turn, turn_by, turns}
 use Rattle.ptb_explore.specs.Copies.{AreTakenBy}
 use Rattle.ptb_explore.specs.Playing.{IsRunPrefix, limited, run_from}
-use Rattle.ptb_explore.specs.RunTree.{IsRun}
 
 -- ---- turns
 

@@ -1,9 +1,9 @@
 -- This file proves which item of a list is the first that does not fit, by what a play of the list shows.
 use Rattle.std.proofs.Common.{◌≡◌, ℕ, zero, suc, ◌+◌, ◌<◌, ◌≤◌, List, [], ◌∷◌, ◌++◌, length, take, drop, true, false, inl, inr, refl, ap, sym, subst, ◌∙◌, arith, append_assoc, append-nil, length-append}
-use Rattle.std.specs.Prelude.{ℤ, pos, Option, Some, None, slice_index_or, ◌↔◌, Result, Ok, Err, IfOk, IfSome, IfNone, MatchOption, is_some}
+use Rattle.std.specs.Prelude.{ℤ, pos, Option, Some, None, slice_index_or, IfSome, IfNone, is_some}
 use Rattle.std.specs.Ordering.{int_eq}
-use Rattle.std.proofs.lemmas.Bool.{cases_Bool, cases_lt, and_parts, and_from}
-use Rattle.std.proofs.lemmas.List.{length-map, map-append, take-map, take_more, take_all, get_or-take, get_or_default, length-take-le, take-append-drop, take-append-le}
+use Rattle.std.proofs.lemmas.Bool.{cases_Bool, and_parts, and_from}
+use Rattle.std.proofs.lemmas.List.{length-map, map-append, take-map, get_or-take, get_or_default, length-take-le, take-append-le}
 use Rattle.std.proofs.Math.Seq.{take-length}
 use Rattle.ptb_answers.specs.declared.form.Marked.{Marked}
 use Rattle.ptb_answers.specs.Outcome.{Answers, Outcome, Asks, IsReader, is_answer, is_open, bound_of, bounds, bounds_after}
@@ -18,7 +18,7 @@ use Rattle.ptb_explore.proofs.Attempt.{run_opens}
 use Rattle.ptb_explore.proofs.Bounds.{length-bounds, bounds-append}
 use Rattle.ptb_explore.proofs.Order.{same_is}
 use Rattle.ptb_explore.proofs.Stated.{states_begun}
-use Rattle.ptb_explore.proofs.Tree.{run_open, run_asks}
+use Rattle.ptb_explore.proofs.Tree.{run_asks}
 
 -- ---- what is seen of a play of a list
 

@@ -12,10 +12,10 @@ use Rattle.ptb_answers.specs.Outcome.{Answers, Outcome, IsReader, bounds}
 use Rattle.ptb_answers.specs.Seeds.{drawn_from, generator_after}
 use Rattle.ptb_answers.specs.Drawn.{IsDrawnFrom, answers_by, sampled_runs}
 use Rattle.ptb_answers.proofs.Drawn.{answers_by-drawn, drawn_alone}
-use Rattle.ptb_answers.proofs.Seeds.{after_sum, drawn_append, length-drawn}
+use Rattle.ptb_answers.proofs.Seeds.{after_sum, drawn_append}
 use Rattle.ptb_explore.specs.Listing.{text}
 use Rattle.ptb_explore.specs.RunTree.{IsRun}
-use Rattle.ptb_explore.specs.Sampling.{SampleLaws, WritesFirst, WritesPart, WritesSample, concatenated}
+use Rattle.ptb_explore.specs.Sampling.{SampleLaws, WritesFirst, WritesPart, concatenated}
 use Rattle.ptb_explore.proofs.Bounds.{length-bounds}
 use Rattle.ptb_explore.proofs.Lists.{IsIn, contained_in}
 

@@ -1,15 +1,15 @@
 -- This file proves that what is stopped after n answers takes them one by one, and what its runs are.
-use Rattle.std.proofs.Common.{◌≡◌, ℕ, zero, suc, ◌+◌, ◌-◌, ◌<◌, ◌≤◌, List, [], ◌∷◌, ◌++◌, length, take, drop, Bool, true, false, ◌⊎◌, ◌↔◌, inl, inr, refl, ap, sym, ◌∙◌, subst, arith, append_assoc, append-nil, length-append, length-drop}
-use Rattle.std.specs.Prelude.{ℤ, pos, Contains, nat_lt}
+use Rattle.std.proofs.Common.{◌≡◌, ℕ, zero, suc, ◌+◌, ◌-◌, ◌<◌, ◌≤◌, List, [], ◌∷◌, ◌++◌, length, take, drop, Bool, true, false, inl, inr, refl, ap, sym, ◌∙◌, arith, append_assoc, append-nil, length-append, length-drop}
+use Rattle.std.specs.Prelude.{ℤ, nat_lt}
 use Rattle.std.proofs.Math.Path.{fun_ext}
 use Rattle.std.proofs.Math.Seq.{take-append-add, drop-append-add}
 use Rattle.std.proofs.lemmas.Bool.{cases_lt, le-ltb, lt-ltb}
 use Rattle.std.proofs.lemmas.List.{take-append-drop, take-append-le, drop-append-le, take_all, drop_all}
 use Rattle.std.specs.List.{flat_map, filter}
-use Rattle.ptb_answers.specs.Outcome.{Answers, Outcome, Done, Asks, Out, IsReader, bound_of, bounds, bounds_after, is_answer, is_open, is_whole}
-use Rattle.ptb_answers.proofs.Readers.{Came, came, closed_is, open_is, whole_is}
+use Rattle.ptb_answers.specs.Outcome.{Answers, Outcome, Done, Asks, Out, IsReader, bound_of, bounds_after, is_answer, is_open, is_whole}
+use Rattle.ptb_answers.proofs.Readers.{Came, came, whole_is}
 use Rattle.ptb_answers.proofs.Readers.Came.{Gave, Asked, Refused}
-use Rattle.ptb_explore.specs.Beginnings.{BeginningLaws, IsBeginning, beginnings, stop, stopped}
+use Rattle.ptb_explore.specs.Beginnings.{BeginningLaws, IsBeginning, stop, stopped}
 use Rattle.ptb_explore.specs.Laws.{TreeLaws}
 use Rattle.ptb_explore.specs.Listing.{text}
 use Rattle.ptb_explore.specs.RunTree.{Front, Start, IsRun, answers_to, is_left, leaves, leaves_of, runs_after, tree}

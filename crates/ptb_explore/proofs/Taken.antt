@@ -5,7 +5,7 @@ use Rattle.std.proofs.lemmas.List.{append_cancel_left, length-take-le}
 use Rattle.std.proofs.Math.Seq.{take-length}
 use Rattle.ptb_answers.specs.declared.form.Marked.{Marked}
 use Rattle.ptb_answers.specs.AnswerText.{answers_of}
-use Rattle.ptb_answers.specs.Outcome.{Answers, Outcome, Done, Asks, IsReader, is_open, is_whole, is_answer, bounds}
+use Rattle.ptb_answers.specs.Outcome.{Answers, Outcome, Done, IsReader, is_open, is_whole, is_answer, bounds}
 use Rattle.ptb_command.specs.declared.ending.Ending.{Ending}
 use Rattle.ptb_command.specs.declared.ending.Ending.TheVariants as endings
 use Rattle.ptb_machine.specs.Play.{Finish}
@@ -14,7 +14,6 @@ use Rattle.ptb_explore.specs.Mismatch.{IsOutOfRange, IsOver, TakesItems}
 use Rattle.ptb_explore.specs.MarkedRuns.{states_bounds}
 use Rattle.ptb_explore.specs.Playing.{Holds, PlayEnds, NextIsOutside}
 use Rattle.ptb_explore.specs.Recording.{choices_of}
-use Rattle.ptb_explore.specs.RunTree.{IsRun}
 use Rattle.ptb_explore.proofs.Mismatches.{HasBounds, answers_length, answers_split, answers_take, no_question, out_of_range, split_there, take_twice}
 use Rattle.ptb_explore.proofs.Trial.{begun_opens, open_ends}
 

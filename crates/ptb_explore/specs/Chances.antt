@@ -6,7 +6,7 @@
 --     row, table             a result with its chance and the number of its runs; those of all results that runs have
 --     table_text rows        how a table is written
 --     chances play most      the table of all runs, written
-use Rattle.std.specs.Prelude.{ℕ, ◌+◌, ◌*◌, Bool, true, false, ◌&&◌, List, [], ◌∷◌, ◌++◌, map, length, codes, ℤ, pos, negsuc}
+use Rattle.std.specs.Prelude.{ℕ, ◌*◌, List, [], ◌∷◌, ◌++◌, map, length, codes, ℤ, pos, negsuc}
 use Rattle.std.specs.List.{filter, flat_map}
 use Rattle.std.specs.Ordering.{nat_cmp, ordering_then, is_eq}
 use Rattle.std.specs.Cmp.Lexicographic.{slice_cmp}

@@ -4,7 +4,7 @@
 --     PlaysDrawn play first s f            the run whose answers a chooser has drawn ends so
 --     concatenated list                    the answers of all runs, one after the other
 --     SampleLaws play most                 which runs a sample has, and that each word serves one answer
-use Rattle.std.specs.Prelude.{◌≡◌, ◌⊎◌, ℕ, suc, ◌+◌, List, [], ◌∷◌, ◌++◌, length, Option, Result, Ok, Err, ℤ, Contains}
+use Rattle.std.specs.Prelude.{◌≡◌, ℕ, suc, ◌+◌, List, [], ◌∷◌, ◌++◌, length, Option, Result, Ok, Err, Contains}
 use Rattle.std.specs.Io.KnownBytes.{Appends}
 use Rattle.std.specs.List.{flat_map}
 use Rattle.rand_pcg.specs.Lcg.{Lcg}

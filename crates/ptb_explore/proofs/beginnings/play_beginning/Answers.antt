@@ -1,6 +1,5 @@
 -- This file answers that a plan that stops is played to the next list, and that the copies that are kept are of its play.
-use Rattle.std.proofs.Common.{◌≡◌, ◌∙◌, List, arith, ap, refl, subst, sym, take, length}
-use Rattle.std.specs.Prelude.{ℤ}
+use Rattle.std.proofs.Common.{◌≡◌, ◌∙◌, arith, ap, refl, take, length}
 use Rattle.std.proofs.lemmas.Result.{IfOk-from_err}
 use Rattle.ptb_machine.specs.Play.{play}
 use Rattle.ptb_machine.specs.Questions.{most_answers}

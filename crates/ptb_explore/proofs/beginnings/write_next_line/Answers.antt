@@ -1,6 +1,5 @@
 -- This file answers that the line that is written is that of the next list.
-use Rattle.std.proofs.Common.{◌≡◌, ◌∙◌, ap, true, List}
-use Rattle.std.specs.Prelude.{ℤ}
+use Rattle.std.proofs.Common.{◌∙◌, ap, true}
 use Rattle.ptb_answers.specs.Outcome.{bounds}
 use Rattle.ptb_explore.specs.Beginnings.{MovesTo, Splitting, split_play}
 use Rattle.ptb_explore.proofs.LineWriting.{game_of, same_length}

@@ -1,5 +1,5 @@
 -- This file answers that answers are compared one by one.
-use Rattle.std.proofs.Common.{rules, ◌≡◌, ◌∙◌, sym, ℤ, pos, get_or, FitsSigned, w16, to_z, to_z-of_z, ap, arith}
+use Rattle.std.proofs.Common.{rules, ◌≡◌, ◌∙◌, sym, pos, get_or, FitsSigned, w16, to_z, to_z-of_z, ap, arith}
 use Rattle.ptb_answers.specs.declared.form.Marked.{Marked}
 use Rattle.ptb_answers.specs.AnswerText.{without_bound}
 use Rattle.ptb_explore.proofs.Stated.{same_answer, too_short}

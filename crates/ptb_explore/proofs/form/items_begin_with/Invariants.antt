@@ -1,5 +1,5 @@
 -- This file says that what is left of the lists decides.
-use Rattle.std.proofs.Common.{◌≡◌, ◌≤◌, length, drop}
+use Rattle.std.proofs.Common.{◌≡◌, drop}
 use Rattle.ptb_answers.specs.AnswerText.{answers_of}
 use Rattle.ptb_explore.specs.RunTree.{begins_with}
 use Rattle.ptb_explore.proofs.form.items_begin_with.Given as goal

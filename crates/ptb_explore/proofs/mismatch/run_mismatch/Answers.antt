@@ -1,5 +1,5 @@
 -- This file answers why the items of a list are no run.
-use Rattle.std.proofs.Common.{rules, ◌≡◌, [], ℤ, ap, arith, length, refl, sym, take, true, FitsSigned, w16, to_z, of_z, to_z-of_z, ◌∙◌}
+use Rattle.std.proofs.Common.{rules, ◌≡◌, [], ℤ, ap, arith, length, refl, take, true, FitsSigned, w16, to_z, of_z, to_z-of_z, ◌∙◌}
 use Rattle.std.proofs.Math.Seq.{take-length}
 use Rattle.ptb_explore.specs.MarkedRuns.{states_bounds}
 use Rattle.ptb_explore.proofs.Mismatches.{all_fit, if_none_at, if_some_more, item_is_run, missing_item, none_is}

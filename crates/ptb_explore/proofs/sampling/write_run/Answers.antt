@@ -1,5 +1,5 @@
 -- This file answers that the report of the next run is written, and which words are left.
-use Rattle.std.proofs.Common.{◌∙◌, length, refl, ap, subst, sym}
+use Rattle.std.proofs.Common.{◌∙◌, length, ap, subst, sym}
 use Rattle.std.specs.Io.KnownBytes.{Appends}
 use Rattle.ptb_text.specs.Device.{TakesSome}
 use Rattle.ptb_machine.specs.Play.{play}

@@ -1,11 +1,8 @@
 -- This file answers that the reports of a sample are written, or those of its first runs.
-use Rattle.std.proofs.Common.{◌≡◌, ◌∙◌, ℕ, [], List, Option, Ok, Err, Result, arith, ap, refl, subst, sym}
-use Rattle.std.specs.Io.KnownBytes.{Appends}
-use Rattle.ptb_answers.specs.Outcome.{Answers, Outcome}
+use Rattle.std.proofs.Common.{◌≡◌, ◌∙◌, ℕ, List, Option, Ok, Err, arith, ap, refl, subst, sym}
 use Rattle.ptb_answers.specs.Drawn.{answers_by, sampled_runs}
 use Rattle.ptb_answers.specs.Seeds.{SeededAnswers}
-use Rattle.ptb_text.specs.Statements.{StoredProgram}
-use Rattle.ptb_machine.specs.Play.{Finish, play}
+use Rattle.ptb_machine.specs.Play.{play}
 use Rattle.ptb_machine.specs.Questions.{most_answers}
 use Rattle.ptb_explore.specs.Report.{report}
 use Rattle.ptb_explore.specs.declared.fault.NextFault.{NextFault}

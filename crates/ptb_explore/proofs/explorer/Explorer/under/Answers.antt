@@ -1,5 +1,5 @@
 -- This file answers that an explorer is before the runs that begin with a list, if its bounds are as they are stated.
-use Rattle.std.proofs.Common.{◌∙◌, ap, sym, subst, refl}
+use Rattle.std.proofs.Common.{◌∙◌, ap, subst, refl}
 use Rattle.std.proofs.lemmas.Result.{IfOk-from_err}
 use Rattle.ptb_answers.specs.AnswerText.{answers_of}
 use Rattle.ptb_answers.specs.Outcome.{Answers, Outcome}

@@ -1,5 +1,5 @@
 -- This file answers that the plan so far is that of a list's front.
-use Rattle.std.proofs.Common.{rules, ◌∙◌, ap, sym, refl, ℤ, List, [], ◌∷◌, ◌++◌, take, take_all, pos, get_or, FitsSigned, w16, to_z-of_z}
+use Rattle.std.proofs.Common.{rules, ◌∙◌, ap, sym, ℤ, List, [], ◌∷◌, ◌++◌, take, take_all, pos, get_or, FitsSigned, w16, to_z-of_z}
 use Rattle.std.proofs.lemmas.List.{map-append, take_more}
 use Rattle.ptb_answers.specs.declared.form.Marked.{Marked}
 use Rattle.ptb_answers.specs.AnswerText.{answers_of, without_bound}
