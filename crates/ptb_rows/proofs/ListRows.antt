@@ -11,7 +11,7 @@ use Rattle.ptb_answers.specs.declared.form.Marked.{Marked}
 use Rattle.ptb_answers.specs.AnswerText.{with_bound, without_bound}
 use Rattle.ptb_options.specs.AnswerLists.{IsAnswer, IsItem, SpellsNumber, SpellsItem, IsMisspelled, HasNoAnswers}
 use Rattle.ptb_rows.specs.Rows.{ListRows}
-use Rattle.ptb_options.proofs.AnswerTexts.{SpellsNumber-first, SpellsItem-first, item_is_number, item_is_numbers, one_item, word_of_answers, word_of_list}
+use Rattle.ptb_options.proofs.AnswerTexts.{SpellsNumber-first, SpellsItem-first, item_is_number, item_is_numbers, one_item, word_of_items, word_of_list}
 
 -- a text of which one word writes no item
 by_word : (s : List ℕ) (i : ℕ) (w : List ℕ) → s ≢ codes "none" → i < length (slice_split (λ b. b == 44) s) → w ≡ get_or (slice_split (λ b. b == 44) s) i w
@@ -97,7 +97,7 @@ list_rows = record {
   no_bound_behind = by_word (codes "2/2,1/") 1 (codes "1/") (other_first (codes "2/2,1/") (omega arith)) (omega arith) refl (bound_wrong [] (omega arith));
   bound_of_0 = by_word (codes "1/0") 0 (codes "1/0") (other_first (codes "1/0") (omega arith)) (omega arith) refl (bound_wrong (codes "0") (omega arith));
   bound_in_answers = λ a h.
-      let p = word_of_answers (codes "2/2") a 0 (codes "2/2") (other_first (codes "2/2") (omega arith)) h (omega arith) refl in
+      let p = word_of_items without_bound (codes "2/2") a 0 (codes "2/2") (other_first (codes "2/2") (omega arith)) h (omega arith) refl in
       no_answer_alone p.0 p.1;
   nothing = by_word [] 0 [] (other_first [] (omega arith)) (omega arith) refl (begins_wrong [] (omega arith));
   zero_in_front = by_word (codes "01") 0 (codes "01") (other_first (codes "01") (omega arith)) (omega arith) refl (begins_wrong (codes "01") (omega arith));
