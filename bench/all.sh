@@ -1,8 +1,8 @@
 #!/bin/bash
-# Writes the tables of docs/performance.md anew: bench/all.sh
+# Writes the tables of docs/performance.md again: bench/all.sh [TABLE ..]
 #
-# It runs the other scripts of this folder, one after the other, and puts what they print between the marks `<!-- NAME -->` and
-# `<!-- end -->` of the page. It takes about ten minutes, and wants a machine that does nothing else.
+# It runs the other scripts of this folder, one after the other, and puts what they print between the marks `<!-- TABLE -->` and
+# `<!-- end -->` of the page. All tables take about a quarter of an hour, on a machine that does nothing else.
 set -eu
 bench=$(dirname "$(readlink -f "$0")")
 page=$bench/../docs/performance.md
@@ -16,7 +16,7 @@ rows() {
 
 # the lines `title: N commands, ptb M ms, OTHER M ms (R), ..` of steps.sh as rows
 loops() {
-    "$bench/steps.sh" 5 | tee /dev/stderr | sed -E -e 's/^(.*): ([0-9]+) commands, ptb ([0-9]+) ms/| \1 | \2 | \3 |/' \
+    "$bench/steps.sh" 10 | tee /dev/stderr | sed -E -e 's/^(.*): ([0-9]+) commands, ptb ([0-9]+) ms/| \1 | \2 | \3 |/' \
         -e 's/, [a-z0-9.]+ ([0-9]+) ms \(([0-9.]+)\)/ \1 (\2) |/g' -e 's/\|\|/|/g'
 }
 
@@ -33,6 +33,7 @@ body_of() {
     loops) loops ;;
     instructions) rows instructions.sh ;;
     listings) rows tree.sh && rows sample.sh && rows shares.sh ;;
+    chances) rows chances.sh ;;
     input) rows input.sh ;;
     loading) rows loading.sh && rows parts.sh ;;
     tools) rows outcomes.sh ;;
@@ -50,4 +51,5 @@ put() {
     cp "$room/page" "$page"
 }
 
-for name in loops instructions listings input loading tools growth; do put "$name"; done
+[ $# -gt 0 ] || set -- loops instructions listings chances input loading tools growth
+for name; do put "$name"; done

@@ -1,10 +1,10 @@
 #!/bin/bash
 # Times ptb --chances: bench/chances.sh [OTHER_PTB]
 #
-# Prints the seconds that tables of chances take, written to /dev/null: of 100 and of 200 tosses of a coin, of craps with 20 throws, and
+# Prints the milliseconds that tables of chances take, written to /dev/null: of 100 and of 200 tosses of a coin, of craps with 20 throws, and
 # of a gambler's ruin with 1,000 rounds, whose runs nobody can list. Then those of 16 tosses, and of a program with 100,000 runs that are
 # never in one state, each beside the listing of these runs by --all, in turn with it. Each is the middle and the least of ten rounds, and
-# beside them those of another build of ptb where one is named. At last the memory that 10,000 and 100,000 states take that wait at once.
+# beside them those of another build of ptb where one is named. At last the memory that 1,000 and 10,000 states take that wait at once.
 set -eu
 root=$(dirname "$(readlink -f "$0")")/..
 program=$root/crates/ptb/out/ptb
@@ -30,8 +30,8 @@ time_of() {
     echo $(($(date +%s%N) - start))
 }
 
-# the middle and the least of ten times, a line each, as seconds
-summary() { sort -n "$room/$1" | awk '{ t[NR] = $1 } END { printf "%5.2f (least %.2f)", (t[5] + t[6]) / 2 / 1e9, t[1] / 1e9 }'; }
+# the middle and the least of ten times, a line each, as milliseconds
+summary() { sort -n "$room/$1" | awk '{ t[NR] = $1 } END { printf "%.1f ms (least %.1f)", (t[5] + t[6]) / 2 / 1e6, t[1] / 1e6 }'; }
 
 # row TITLE FILE [listed]: the times of a table, and of the listing of its runs
 row() {
@@ -41,8 +41,8 @@ row() {
         if [ -n "${3:-}" ]; then time_of "$program" --all "$2" >>"$room/listing"; fi
         if [ -n "$other" ]; then time_of "$other" --chances "$2" >>"$room/other"; fi
     done
-    printf '%s: %s seconds' "$1" "$(summary times)"
-    if [ -n "${3:-}" ]; then printf ', listing %s' "$(summary listing)"; fi
+    printf '%s: %s' "$1" "$(summary times)"
+    if [ -n "${3:-}" ]; then printf ', the listing %s' "$(summary listing)"; fi
     if [ -n "$other" ]; then printf ', other build %s' "$(summary other)"; fi
     printf '\n'
 }
@@ -66,6 +66,7 @@ memory() {
     wait "$counting"
     echo "$peak"
 }
+# before their last question, the runs are in 1,000 and in 10,000 states
 fewer=$(memory fewer_apart)
 more=$(memory apart)
-printf 'memory: %d kB for 10000 states, %d kB for 100000, so %d bytes a state\n' "$fewer" "$more" $(((more - fewer) * 1024 / 90000))
+printf 'memory: %d kB for 1,000 states, %d kB for 10,000, so %d bytes a state\n' "$fewer" "$more" $(((more - fewer) * 1024 / 9000))
