@@ -11,7 +11,7 @@ trap 'rm -rf "$room"' EXIT
 
 # rows SCRIPT: its lines `title: result` as rows of a table, with the script
 rows() {
-    "$bench/$1" | tee /dev/stderr | sed -E "s/^([^:]*): +(.*)\$/| \1 | \2 | \`bench\/$1\` |/"
+    "$bench/$1" | tee /dev/stderr | sed -E "s/^ *([^:]*): +(.*)\$/| \1 | \2 | \`bench\/$1\` |/"
 }
 
 # the lines `title: N commands, ptb M ms, OTHER M ms (R), ..` of steps.sh as rows
@@ -36,7 +36,6 @@ body_of() {
     chances) rows chances.sh ;;
     input) rows input.sh ;;
     loading) rows loading.sh ;;
-    tools) rows outcomes.sh ;;
     growth) rows growth.sh ;;
     esac
 }
@@ -51,5 +50,5 @@ put() {
     cp "$room/page" "$page"
 }
 
-[ $# -gt 0 ] || set -- loops instructions listings chances input loading tools growth
+[ $# -gt 0 ] || set -- loops instructions listings chances input loading growth
 for name; do put "$name"; done
