@@ -3,7 +3,7 @@
 --     StandsAt p rules m left shown S      a machine stands for the state S; these lines are left, and this was shown last
 --     Came p rules S a m left shown    with the answers a, a run has come from the state S to where a machine stands
 --     IsOver p rules S a ending shown  with these answers it is over
---     IsAsked p rules S a n            with these answers it comes to a question with bound n
+--     IsAsked p rules S a n            with these answers it asks a question with bound n
 --     played_of ending n               how a play has ended
 --     PlaysTo ..                       one of the three
 use Rattle.std.specs.Prelude.{◌≡◌, ℕ, List, ◌++◌, ℤ}
