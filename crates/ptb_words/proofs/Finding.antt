@@ -1,4 +1,5 @@
 -- This file proves what holds of all that is found: that it lies ahead, and what the byte that stands next tells of it.
+-- Main lemma: `finding_laws`.
 use Rattle.std.proofs.Common.{◌≡◌, ℕ, ◌+◌, ◌<◌, ◌≤◌, ◌⊎◌, ◌∙◌, Bool, true, false, cond, leb, eqb, List, [], ◌∷◌, map, length, drop, take, Option, Some, None, refl, sym, ap, subst, arith, length-drop, ℤ, pos, inl, inr, rules}
 use Rattle.std.specs.Prelude.{◌&&◌, ◌==◌, nat_eq, find, position, option_map, ◌≤ℤ◌}
 use Rattle.std.specs.Option.{option_or}

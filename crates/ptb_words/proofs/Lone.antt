@@ -1,4 +1,5 @@
 -- This file proves that no word begins with a letter that neither a letter nor a period follows.
+-- Main lemma: `lone_letter`.
 use Rattle.std.proofs.Common.{◌≡◌, ℕ, zero, suc, ◌+◌, ◌∙◌, Bool, true, false, eqb, List, [], ◌∷◌, drop, slice_get, Option, Some, None, refl, sym, ap, subst, inl, inr, arith}
 use Rattle.std.specs.Prelude.{◌&&◌, nat_eq, find, cond}
 use Rattle.std.specs.List.{starts_with, list_all}

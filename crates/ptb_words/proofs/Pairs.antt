@@ -1,4 +1,5 @@
 -- This file proves what the two bytes that stand next make of a pair.
+-- Main lemma: `pair_cut`.
 use Rattle.std.proofs.Common.{◌≡◌, ℕ, ◌+◌, ◌<◌, ◌≤◌, sym, true, false, cond, List, [], ◌∷◌, length, get_or, eqb, arith, refl, Option, Some, None, inl, inr}
 use Rattle.std.specs.Prelude.{◌&&◌}
 use Rattle.std.proofs.lemmas.Bool.{eq-eqb, ne_eqb, cases_lt}

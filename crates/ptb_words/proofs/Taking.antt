@@ -1,4 +1,5 @@
 -- This file proves what a cursor takes: its text is x, and n is the next place without a blank.
+-- Main lemmas: `letter_taken`, `number_value` and `word_taken`.
 use Rattle.std.proofs.Common.{◌≡◌, ℕ, ◌+◌, ◌-◌, ◌<◌, ◌≤◌, ◌∙◌, true, false, cond, List, length, take, drop, get_or, min, Some, None, refl, sym, ap, arith, ℤ, pos, length-take-le, length-drop, to_z, of_z, w16, w64, Fits, SFits, inl, inr}
 use Rattle.std.specs.Prelude.{◌==◌, position, slice_get}
 use Rattle.std.specs.List.{prefix_len, slice_range}

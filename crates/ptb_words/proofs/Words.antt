@@ -1,4 +1,5 @@
 -- This file proves how the words of a table are found.
+-- Main lemmas: `spelt_word` and `finds_begins`.
 use Rattle.std.proofs.Common.{◌≡◌, ℕ, ◌+◌, ◌<◌, ◌≤◌, ◌∙◌, ap, sym, subst, Bool, true, false, cond, List, [], ◌∷◌, map, length, drop, get_or, eqb, arith, refl, Option, Some, None, inl, inr}
 use Rattle.std.specs.Prelude.{◌&&◌, ◌==◌, not, nat_eq, nat_lt, find, filter, option_map, IfSome}
 use Rattle.std.specs.Option.{option_or}

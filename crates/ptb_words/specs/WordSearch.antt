@@ -1,4 +1,5 @@
 -- This file says what the private functions that look for a word promise. No public contract cites it.
+--     FindsWord ws t place found     found is the first of the words ws at this place
 use Rattle.std.specs.Prelude.{◌≡◌, ℕ, ◌<◌, ◌≤◌, List, length, Option, option_map, IfSome}
 use Rattle.ptb_words.specs.declared.word.Word.{Word}
 use Rattle.ptb_words.specs.Words.{past_blanks, Entry, first_word}
