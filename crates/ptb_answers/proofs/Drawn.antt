@@ -1,4 +1,5 @@
 -- This file proves that a generator draws the answers of one run, each for the bound of its question, and of no other.
+-- Main lemmas: `answers_by-drawn` and `drawn_alone`.
 use Rattle.std.proofs.Common.{◌≡◌, ◌∙◌, ℕ, zero, suc, ◌<◌, ◌%◌, ◌⊎◌, true, List, [], ◌∷◌, ◌++◌, length, refl, sym, ap, subst, arith, inl, inr, append_assoc}
 use Rattle.std.proofs.lemmas.Bool.{cases_Bool}
 use Rattle.std.proofs.lemmas.Int.{ints}

@@ -6,6 +6,7 @@
 --     map_reader                                       a reader with another result, and another value beside its questions
 --     wider_reader                                     the same reader with a greater bound
 --     Came, came, whole_is, open_is, closed_is         what an outcome is
+-- Main lemma: `bind_reader`.
 use Rattle.std.proofs.Common.{◌≡◌, ℕ, ◌+◌, ◌<◌, ◌≤◌, [], ◌∷◌, ◌++◌, length, true, false, cond, Result, Ok, Err, ◌⊎◌, inl, inr, refl, ap, sym, ◌∙◌, arith}
 use Rattle.std.specs.Prelude.{ℤ, pos, ◌≤ℤ◌}
 use Rattle.std.proofs.lemmas.Bool.{cases_Bool}

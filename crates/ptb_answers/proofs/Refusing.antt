@@ -1,4 +1,5 @@
 -- This file proves that a list refuses its next answer where that is below 1 or above the bound.
+-- Main lemmas: `too_low` and `too_high`.
 use Rattle.std.proofs.Common.{◌≡◌, ◌<◌, ℕ, ℤ, List, Some, length, get_or, pos, FitsSigned, of_z, to_z, to_z-of_z, w16, true, false, arith}
 use Rattle.std.specs.Int.Signed.{lt_z}
 use Rattle.std.specs.List.{slice_get}

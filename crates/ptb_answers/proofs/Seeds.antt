@@ -1,4 +1,5 @@
 -- This file proves how answers are drawn one after another.
+-- Main lemma: `drawn_one_more`.
 use Rattle.std.proofs.Common.{◌≡◌, ◌∙◌, ℕ, zero, suc, ◌+◌, List, [], ◌∷◌, ◌++◌, refl, sym, ap, arith, length, ℤ}
 use Rattle.std.specs.Prelude.{pos}
 use Rattle.rand_pcg.specs.Lcg.{Lcg}
