@@ -1,4 +1,5 @@
 -- This file proves what a test of bytes says of the bytes in front of a text, behind them, and of all.
+-- Main lemma: `list_all-from_none`.
 use Rattle.std.proofs.Common.{◌≡◌, ℕ, zero, suc, ◌+◌, Bool, true, false, not, cond, ◌&&◌, ltb, List, [], ◌∷◌, ◌++◌, length, drop, Some, None, refl, sym, ap, ◌∙◌, arith, one-add}
 use Rattle.std.specs.Prelude.{position}
 use Rattle.std.specs.List.{list_all, prefix_len}

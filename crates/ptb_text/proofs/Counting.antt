@@ -1,4 +1,5 @@
 -- This file proves how the counts of bytes add up while a reader is read in pieces.
+-- Main lemma: `IsCountedUpTo_more`.
 use Rattle.std.proofs.Common.{ℕ, ◌+◌, ◌<◌, ◌≤◌, arith, inl, inr}
 use Rattle.std.proofs.lemmas.Bool.{cases_lt}
 use Rattle.ptb_text.specs.Device.{GivesAtMost, GivesExactly, given_limit}

@@ -1,4 +1,5 @@
 -- This file proves that a program stays one when a text is stored or a statement deleted, and what it then costs.
+-- Main lemmas: `is_program-with_text` and `is_program-without_number`.
 use Rattle.std.proofs.Common.{◌≡◌, ℕ, ◌+◌, ◌<◌, ◌≤◌, Bool, true, false, not, cond, ◌==◌, ◌&&◌, List, [], ◌∷◌, length, get_or, Ok, Err, refl, sym, ap, ◌∙◌, arith}
 use Rattle.std.specs.List.{list_all}
 use Rattle.std.specs.Ordering.{nat_cmp}

@@ -1,4 +1,5 @@
 -- This file proves what is found at a place of a program's lines, and what an edit there leaves.
+-- Main lemmas: `number_after-place` and `without_number-place`.
 use Rattle.std.proofs.Common.{◌≡◌, ℕ, zero, suc, List, [], ◌∷◌, get_or, set, Some, None, option_map, slice_get, refl, arith}
 use Rattle.std.specs.List.{insert, remove}
 use Rattle.std.proofs.lemmas.Bool.Decides.{nat_tests}

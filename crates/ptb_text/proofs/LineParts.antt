@@ -1,4 +1,5 @@
 -- This file proves what entering a line does by the parts that the line was taken apart into.
+-- Main lemmas: `number_value` and `line_refused`.
 use Rattle.std.proofs.Common.{◌≡◌, ℕ, ◌+◌, ◌<◌, ◌≤◌, ◌⊎◌, Bool, true, false, not, ◌==◌, List, [], ◌∷◌, length, take, drop, Option, Some, None, Result, Ok, Err, IfErr, IsErrOf, refl, sym, ap, subst, ◌∙◌, arith, length-drop, ℤ, pos, inl, inr}
 use Rattle.std.specs.Prelude.{MatchOption, position, nat_le, nat_lt, if◌then◌else◌}
 use Rattle.std.specs.List.{prefix_len}

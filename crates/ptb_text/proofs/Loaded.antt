@@ -1,4 +1,5 @@
 -- This file proves what entering the lines of a text one after the other gives.
+-- Main lemmas: `after_lines-append` and `all_accepted`.
 use Rattle.std.specs.Prelude.{slice_index_or}
 use Rattle.std.proofs.Common.{◌≡◌, ℕ, suc, ◌+◌, ◌-◌, ◌<◌, ◌≤◌, List, [], ◌∷◌, ◌++◌, length, map, take, drop, Option, Some, None, IfSome, Result, Ok, Err, IsOk, IfOk, IfErr, refl, subst, sym, ap, ◌∙◌, arith, append-nil, length-take, length-drop}
 use Rattle.std.proofs.lemmas.List.{take-append-drop, drop-drop, get_or-drop}

@@ -1,4 +1,5 @@
 -- This file proves what the number of a statement tells of its place.
+-- Main lemma: `statement_laws`.
 use Rattle.std.proofs.Common.{◌≡◌, ℕ, zero, suc, ◌<◌, List, [], ◌∷◌, length, get_or, Some, slice_get, add-one, ap, subst, ◌∙◌, arith}
 use Rattle.ptb_text.specs.Statements.{Statements, text_at}
 use Rattle.ptb_text.specs.Places.{IsAt, StatementLaws, statement_number}

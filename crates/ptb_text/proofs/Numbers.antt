@@ -1,4 +1,5 @@
 -- This file proves what is known of a number with a sign once it was converted to one without.
+-- Main lemmas: `look_up-found` and `look_up-absent`.
 use Rattle.std.proofs.Common.{◌≡◌, ℕ, ◌+◌, ℤ, pos, negsuc, nat_abs, Result, Ok, Err, Option, Some, None, List, [], IfSome, IsNone, option_map, slice_get, add-one, IfOk, IfErr, OnSome, refl, sym, subst, ap, ◌∙◌, arith}
 use Rattle.std.specs.Result.{OkIff, result_ok}
 use Rattle.std.specs.Int.{FitsUnsignedBits}

@@ -1,4 +1,5 @@
 -- This file proves that statements which cut a pool without gaps are those of the program that they show, and what an edit leaves of them.
+-- Main lemmas: `entries-insert` and `entries-remove`.
 use Rattle.std.proofs.Common.{◌≡◌, ℕ, zero, suc, ◌+◌, ◌*◌, ◌-◌, ◌<◌, ◌≤◌, List, [], ◌∷◌, ◌++◌, length, map, take, drop, get_or, set, flat_map, slice_range, refl, sym, ap, ◌∙◌, arith, append-nil, length-append, length-drop, length-take}
 use Rattle.std.specs.List.{insert, remove, splice}
 use Rattle.std.proofs.lemmas.List.{drop-drop, drop_all, drop_at, take_at, take_all, take-set, drop-set, take-append-drop, set_split, with_items_is}

@@ -1,4 +1,5 @@
 -- This file proves what a pool holds once a text was put in the place of a part of it: the part is cut out, the text goes behind all, and what stands from there on is turned round.
+-- Main lemma: `put_items`.
 use Rattle.std.proofs.Common.{◌≡◌, ◌∙◌, ℕ, ◌-◌, ◌≤◌, List, [], ◌++◌, length, take, drop, Result, Ok, refl, ap, arith, append_assoc, append-nil, length-append, length-drop, length-take}
 use Rattle.std.specs.Prelude.{if◌then◌else◌}
 use Rattle.std.specs.List.{remove_range, splice}

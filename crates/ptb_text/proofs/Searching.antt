@@ -1,4 +1,5 @@
 -- This file proves what a search by number finds among the statements of a program.
+-- Main lemma: `searched`.
 use Rattle.std.proofs.Common.{◌≡◌, ℕ, ◌-◌, ◌<◌, ◌≤◌, List, [], ◌∷◌, length, map, get_or, Result, Ok, Err, IfOk, IfErr, Option, Some, None, IfSome, slice_get, true, sym, ap, ◌∙◌, arith}
 use Rattle.std.specs.FinMap.{is_sorted}
 use Rattle.std.specs.Ordering.{nat_cmp, ordering_index}

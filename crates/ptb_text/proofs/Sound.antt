@@ -1,4 +1,5 @@
 -- This file proves what is known of each statement of a program, and of the order of their numbers.
+-- Main lemma: `text_at-number`.
 use Rattle.std.proofs.Common.{◌≡◌, ℕ, zero, suc, ◌<◌, ◌≤◌, Bool, true, false, ◌&&◌, List, [], ◌∷◌, length, get_or, Some, refl, arith}
 use Rattle.std.specs.List.{list_all}
 use Rattle.std.specs.Ordering.{nat_cmp, is_lt}

@@ -1,4 +1,5 @@
 -- This file proves that what stands in the fields of a program is what its lines show.
+-- Main lemma: `IsEntry-shown`.
 use Rattle.std.proofs.Common.{◌≡◌, ℕ, suc, ◌+◌, ◌*◌, ◌<◌, ◌≤◌, true, List, [], ◌++◌, length, map, take, drop, get_or, set, sym, ap, ◌∙◌, arith}
 use Rattle.std.specs.List.{insert, remove, remove_range, splice}
 use Rattle.std.proofs.lemmas.List.{get_or-map, length-map, set_split}

@@ -1,4 +1,5 @@
 -- This file proves what storing a text or deleting a statement leaves in the fields of a program, by what each step of the work left.
+-- Main lemmas: `insert_enters` and `replace_enters`.
 use Rattle.std.proofs.Common.{◌≡◌, ◌∙◌, ℕ, ◌+◌, ◌-◌, ◌<◌, ◌≤◌, true, List, ◌++◌, length, take, drop, get_or, set, Ok, Err, refl, sym, ap, subst, arith}
 use Rattle.std.specs.List.{insert, splice}
 use Rattle.std.specs.Global.{Vec}

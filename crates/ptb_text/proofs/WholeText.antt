@@ -1,4 +1,5 @@
 -- This file proves what reading a whole text comes to, by what was read before and what the last read did.
+-- Main lemma: `ends_text`.
 use Rattle.std.proofs.Common.{◌≡◌, ◌∙◌, ◌+◌, ◌-◌, ◌<◌, ◌≤◌, ℕ, zero, suc, List, [], ◌++◌, length, take, min, Option, None, Some, IfSome, Ok, Err, refl, ap, subst, arith, inl, inr, append-nil, length-append, length-take, vec_len}
 use Rattle.std.specs.Global.{Vec}
 use Rattle.std.specs.Io.KnownBytes.{Consumes, IsAtEnd, Keeps}
