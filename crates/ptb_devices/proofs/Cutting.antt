@@ -1,4 +1,5 @@
 -- This file proves that the lines that are cut from bytes one after the other are the input lines.
+-- Main lemma: `input_lines-cut`.
 use Rattle.std.proofs.Common.{◌≡◌, ℕ, suc, zero, ◌+◌, ◌-◌, ◌≤◌, ◌<◌, Bool, true, false, List, [], ◌∷◌, ◌++◌, length, map, filter, take, drop, get_or, Option, Some, None, refl, sym, ap, subst, ◌∙◌, append_assoc, append-nil, arith, length-append, length-drop, length-take, slice_index, add-one}
 use Rattle.std.specs.Prelude.{◌==◌, if◌then◌else◌}
 use Rattle.std.proofs.Math.Seq.{take-append_seam, take-length, take-suc}

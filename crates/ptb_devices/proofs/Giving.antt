@@ -1,4 +1,5 @@
 -- This file proves what the next line of an input comes to, from what came while it was asked for.
+-- Main lemmas: `last_given` and `none_given`.
 use Rattle.std.proofs.Common.{◌≡◌, ℕ, ◌≤◌, Bool, true, false, List, [], ◌∷◌, Option, Some, None, refl, sym, ap, subst, ◌∙◌, arith}
 use Rattle.std.specs.Prelude.{IsSome}
 use Rattle.ptb_devices.specs.declared.line_buffer.InputEnd.{InputEnd}

@@ -1,4 +1,5 @@
 -- This file proves how an input goes on at each step: a line is cut, more is read, the end or a fault comes.
+-- Main lemmas: `ReadsOn_line`, `ReadsOn_more_bytes` and `ReadsOn_end`.
 use Rattle.std.proofs.Common.{◌≡◌, ℕ, ◌+◌, ◌-◌, ◌≤◌, ◌<◌, ◌⊎◌, inl, inr, min, Bool, true, false, ltb, List, [], ◌∷◌, ◌++◌, length, take, Option, Some, None, IfSome, is_some, refl, sym, ap, subst, ◌∙◌, append_assoc, append-nil, slice_range, arith, length-append, length-take, length-drop, take_all, drop, drop-drop, take-append-drop}
 use Rattle.std.specs.Prelude.{if◌then◌else◌}
 use Rattle.std.proofs.Math.Nat.{eq-or-lt_of_le}

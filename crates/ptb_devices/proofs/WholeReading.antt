@@ -1,4 +1,5 @@
 -- This file proves what holds at each way out of reading a whole input, from what its reader knows of each step.
+-- Main lemma: `told_all`.
 use Rattle.std.proofs.Common.{◌≡◌, ◌∙◌, ℕ, ◌+◌, ◌-◌, ◌<◌, ◌≤◌, List, ◌++◌, length, length-append, Option, IfSome, Result, Ok, Err, IfOk, IsOk, inl, inr, min, refl, sym, ap, subst, arith}
 use Rattle.std.specs.Io.KnownBytes.{Consumes, IsAtEnd, Keeps}
 use Rattle.std.specs.Result.{IsErrAnd, IsErrOf}

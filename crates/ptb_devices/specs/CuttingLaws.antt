@@ -1,4 +1,6 @@
 -- This file proves what bytes after other bytes are cut into.
+--     last_piece-append      the last piece of bytes after other bytes
+--     whole_lines-append     the complete lines of bytes after other bytes
 use Rattle.std.proofs.Common.{◌≡◌, ℕ, Bool, true, false, List, [], ◌∷◌, ◌++◌, Option, Some, None, refl, ap}
 use Rattle.std.specs.Prelude.{◌==◌, if◌then◌else◌}
 use Rattle.ptb_devices.specs.Cutting.{with_byte, kept_bytes, whole_lines, last_piece}

@@ -1,4 +1,6 @@
 -- This file proves the laws of an input that goes on, as a line source has to keep them.
+--     ReadsOn_none, ReadsOn_more       no line was taken; lines were taken in two parts
+--     Loses_none, Loses_more           the same for the lines alone
 use Rattle.std.proofs.Common.{◌≡◌, ℕ, zero, suc, ◌+◌, ◌-◌, ◌≤◌, ◌<◌, ◌⊎◌, inl, inr, true, List, [], ◌∷◌, ◌++◌, length, take, Option, Some, None, IfSome, refl, sym, ap, subst, ◌∙◌, append_assoc, append-nil, arith, length-append}
 use Rattle.std.specs.Prelude.{option_map}
 use Rattle.std.proofs.Math.Nat.{eq-or-lt_of_le}

@@ -1,4 +1,5 @@
 -- This file proves the laws of a source of lines over a reader.
+--     GivesFrom_none, GivesFrom_more     no line was given; lines were given in two parts
 use Rattle.std.proofs.Common.{ℕ, List, [], ◌++◌, Option, refl, ◌∙◌}
 use Rattle.ptb_devices.specs.declared.reader_lines.ReaderLines.{ReaderLines}
 use Rattle.ptb_devices.specs.Inputs.{asked}
