@@ -1,4 +1,5 @@
 -- This file proves that the marks of what is read lie within its text.
+-- Main lemmas: `value_faults` and `target_faults`.
 use Rattle.std.proofs.Common.{◌≡◌, ℕ, ◌≤◌, Bool, true, false, cond, List, [], ◌∷◌, refl, arith, ℤ, pos, Result, Ok, Err, length, subst}
 use Rattle.std.specs.Prelude.{int_le, if◌then◌else◌}
 use Rattle.ptb_words.specs.declared.word.Number.TheVariants.{TooBig}

@@ -1,4 +1,5 @@
 -- This file proves how facts of a text and a place are carried to the same text and place.
+-- Main lemma: `at_place`.
 use Rattle.std.proofs.Common.{◌≡◌, ◌∙◌, ℕ, List, sym, ap}
 
 -- a fact of a text is one of the same text

@@ -1,4 +1,5 @@
 -- This file proves that what is read of an expression is spelled so, that nothing else is, and where it ends.
+-- Main lemmas: `expression_spelled` and `variable_tree_spelled`.
 use Rattle.std.proofs.Common.{◌≡◌, ℕ, zero, suc, ◌-◌, ◌<◌, ◌≤◌, ◌⊎◌, inl, inr, List, sym, ap, subst, refl, arith, ℤ, Option, Some, None, length}
 use Rattle.std.specs.Prelude.{option_map}
 use Rattle.std.specs.Option.{option_or}

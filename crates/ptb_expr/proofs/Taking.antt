@@ -1,4 +1,5 @@
 -- This file proves which operator stands where a byte stands next.
+-- Main lemma: `number_alone`.
 use Rattle.std.proofs.Common.{◌≡◌, ℕ, ◌+◌, ◌≤◌, ◌∙◌, Bool, true, false, List, refl, ap, eqb, leb, sym, Option, Some, None, arith}
 use Rattle.std.specs.Prelude.{IsFalse, ◌&&◌, if◌then◌else◌}
 use Rattle.std.proofs.lemmas.Bool.{ne_eqb, and_parts, false≢true, leb-true, lt-leb}

@@ -1,4 +1,5 @@
 -- This file proves that no part of an expression is spelled in two ways: what is spelled is what is read.
+-- Main lemma: `unique`.
 use Rattle.std.proofs.Common.{◌≡◌, ℕ, zero, suc, ◌<◌, ◌≤◌, List, ◌∙◌, sym, ap, refl, arith, ℤ, Option, Some, None, length}
 use Rattle.ptb_words.specs.declared.word.Number.TheVariants.{Absent, Value, TooBig}
 use Rattle.ptb_words.specs.declared.word.Table.TheVariants.{Functions}

@@ -1,4 +1,5 @@
 -- This file proves that working out a tree takes answers one by one, and at most as many as it has RNDs.
+-- Main lemma: `value_laws`.
 use Rattle.std.proofs.Common.{◌≡◌, ℕ, true, Result, Ok, Err, inl, inr, arith}
 use Rattle.std.specs.Prelude.{ℤ, pos, ◌≤ℤ◌, int_le}
 use Rattle.std.proofs.lemmas.Bool.{cases_Bool}

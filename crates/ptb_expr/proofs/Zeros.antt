@@ -1,4 +1,5 @@
 -- This file proves what a store of values that are 0 from some place on comes to.
+-- Main lemmas: `zeros_stored` and `zeros_copied`.
 use Rattle.std.specs.Prelude.{◌≡◌, ◌≤◌, ◌+◌, ◌-◌, ℕ, ℤ, List, pos, length, take, drop, replicate, ◌++◌, slice_set}
 use Rattle.std.proofs.Common.{◌∙◌, sym, ap, arith}
 use Rattle.std.proofs.lemmas.List.{drop-drop, drop-replicate, drop-set-lt, take-append-drop, length-set}

@@ -1,4 +1,5 @@
 -- This file defines how operators are written.
+--     product_operator, sum_operator, comparison     the operator of this kind at a place of a text, and the place after it
 use Rattle.std.specs.Prelude.{ℕ, List, Option, option_map}
 use Rattle.ptb_expr.specs.declared.operator.Operator.{Operator}
 use Rattle.ptb_expr.specs.declared.operator.Operator.TheVariants.{Plus, Minus, Times, Over, AtLeast, NotEqual, Above, Equals, AtMost, Below}

@@ -1,4 +1,6 @@
 -- This file defines expressions as trees. A node is marked at its end, behind any blanks there.
+--     Tree            an expression, or what is malformed in it
+--     questions x     how many RNDs a tree has
 use Rattle.std.specs.Prelude.{ℕ, ◌+◌, ℤ}
 use Rattle.ptb_expr.specs.declared.fault.FaultKind.{FaultKind}
 use Rattle.ptb_expr.specs.declared.operator.Operator.{Operator}
