@@ -1,4 +1,5 @@
 -- This file proves how actions that follow one another move and stop.
+-- Main lemmas: `refines_part_on` and `stops_first`.
 use Rattle.std.proofs.Common.{◌≡◌, ℕ, List, Result, Ok, Err, refl, sym, subst}
 use Rattle.ptb_expr.specs.declared.fault.Fault.{Fault}
 use Rattle.ptb_expr.specs.declared.fault.FaultKind.{FaultKind}

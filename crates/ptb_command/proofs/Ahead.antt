@@ -1,4 +1,5 @@
 -- This file proves that the parts of a command and the commands of a statement lie ahead, and within the text.
+-- Main lemma: `commands_advance`.
 use Rattle.std.proofs.Common.{◌≡◌, ℕ, zero, suc, Bool, true, false, cond, List, [], length, Option, Some, None, refl, subst, arith}
 use Rattle.ptb_words.specs.declared.word.Table.TheVariants.{Commands, To, Step}
 use Rattle.ptb_words.specs.declared.word.Word.{Word}

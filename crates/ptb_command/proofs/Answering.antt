@@ -1,4 +1,5 @@
 -- This file proves what asking for a line comes to, from what is known of each step.
+-- Main lemmas: `answering_done` and `answering_fails`.
 use Rattle.std.proofs.Common.{◌≡◌, ◌≤◌, ◌+◌, ℕ, Bool, true, false, List, [], ◌∷◌, ◌++◌, Option, Some, None, Result, Ok, Err, ℤ, IfErr, IfOk, IfNone, subst, Bor}
 use Rattle.std.specs.Prelude.{if◌then◌else◌}
 use Rattle.std.specs.Result.{IsErrAnd}

@@ -1,4 +1,5 @@
 -- This file proves that borrows which stay the same stay so.
+-- Main lemma: `borrows_then`.
 use Rattle.std.proofs.Common.{◌∙◌, ap}
 use Rattle.ptb_command.specs.declared.io.Io.{Io}
 use Rattle.ptb_command.specs.Io.{SameBorrows, SameDevices}

@@ -1,4 +1,5 @@
 -- This file proves what is left of bytes that are gathered, and not shown yet, where a part of a command stops.
+-- Main lemma: `stops_due`.
 use Rattle.std.proofs.Common.{◌≡◌, Bool, true, false, List, [], ◌∷◌, ◌++◌, ℕ, Result, Err, refl, sym, ap, subst, ◌∙◌, append-nil}
 use Rattle.ptb_answers.specs.Outcome.{Answers, Outcome}
 use Rattle.ptb_command.specs.declared.stop.Stop.{Stop}

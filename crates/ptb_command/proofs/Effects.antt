@@ -1,4 +1,5 @@
 -- This file proves what a command may change of the state in which it begins.
+-- Main lemma: `act_keeps`.
 use Rattle.std.proofs.Common.{◌≡◌, ℕ, ◌+◌, ◌≤◌, Bool, true, false, cond, List, [], ◌∷◌, ◌++◌, length, Option, Some, None, Result, Ok, Err, refl, sym, ap, subst, ◌∙◌, arith, append_assoc, append-nil}
 use Rattle.std.specs.Prelude.{ℤ, sum_by, filter, not, ◌==◌}
 use Rattle.std.proofs.lemmas.Bool.{leb-false}

@@ -1,4 +1,5 @@
 -- This file proves what gathering bytes comes to, and what showing them together does.
+-- Main lemma: `finished`.
 use Rattle.std.proofs.Common.{◌≡◌, Bool, true, false, List, [], ◌++◌, ℕ, Result, Ok, Err, sym, ap, subst, ◌∙◌, append_assoc}
 use Rattle.ptb_expr.specs.Store.{Cells}
 use Rattle.ptb_command.specs.declared.ending.Ending.TheVariants as endings

@@ -1,4 +1,5 @@
 -- This file proves what is read where an item is first, and where something is read to its end.
+-- Main lemma: `item_in_front`.
 use Rattle.std.proofs.Common.{◌≡◌, ℕ, List, ◌∷◌, refl, sym, ap, ◌∙◌}
 use Rattle.ptb_expr.specs.Reading.{Reading, Whole, Malformed, item_of}
 use Rattle.ptb_expr.specs.Evaluate.{IsWhole}

@@ -1,4 +1,5 @@
 -- This file proves what an item of INPUT comes to, step by step.
+-- Main lemmas: `line_asked` and `take_dry`.
 use Rattle.std.proofs.Common.{◌≡◌, ◌≤◌, ◌+◌, ℕ, Bool, true, List, [], ◌∷◌, ◌++◌, Option, Some, None, Result, Ok, Err, ℤ, pos, refl, sym, ap, subst, ◌∙◌, append_assoc, append-nil, arith, inl, inr, Bor}
 use Rattle.std.proofs.lemmas.Int.{ints}
 use Rattle.std.specs.Prelude.{if◌then◌else◌, int_le, ◌≤ℤ◌}

@@ -1,4 +1,5 @@
 -- This file proves what the items of PRINT are, by what stands there.
+-- Main lemmas: `round_open` and `round_closed`.
 use Rattle.std.proofs.Common.{◌≡◌, ℕ, Bool, true, false, List, [], ◌∷◌, Some, None, refl, ap, ◌∙◌}
 use Rattle.ptb_words.specs.Words.{token_at, NoQuote, QuotedText}
 use Rattle.ptb_expr.specs.Tree.{Tree}

@@ -1,4 +1,5 @@
 -- This file has the laws of commands as the contract names them.
+-- Main lemma: `command_laws`.
 use Rattle.ptb_words.specs.Finding.{FindingLaws}
 use Rattle.ptb_expr.specs.Spells.{SpellingLaws}
 use Rattle.ptb_command.specs.Commands.{command_round}

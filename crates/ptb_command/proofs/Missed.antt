@@ -1,4 +1,5 @@
 -- This file proves what is known of lines that were asked for in vain.
+-- Main lemmas: `missed_out` and `fewer_missed`.
 use Rattle.std.proofs.Common.{◌≡◌, true, ◌≤◌, ◌+◌, length, inl, inr, ℕ, List, Option, Some, None, ℤ, Result, Ok, Err, IfErr, IfOk, IfSome, IfNone, [], ◌∷◌, sym, ap, subst, ◌∙◌, arith, Bor}
 use Rattle.std.proofs.Math.Nat.{le_refl}
 use Rattle.std.specs.Result.{IsErrAnd}

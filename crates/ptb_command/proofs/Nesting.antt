@@ -1,4 +1,5 @@
 -- This file proves how the loops and calls of a state lie beside what is open in a machine.
+-- Main lemma: `loop_found`.
 use Rattle.std.proofs.Common.{◌≡◌, ℕ, ◌+◌, Bool, true, false, cond, List, [], ◌∷◌, ◌++◌, length, reverse, refl, sym, ap, subst, ◌∙◌, Option, Some, None, arith}
 use Rattle.std.specs.Prelude.{◌==◌, ◌≤◌, if◌then◌else◌, not, filter, nat_le, sum_by}
 use Rattle.std.proofs.lemmas.List.{reverse-append}

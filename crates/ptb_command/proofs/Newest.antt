@@ -1,4 +1,5 @@
 -- This file proves which loop or call is the newest.
+-- Main lemma: `newest_last`.
 use Rattle.std.proofs.Common.{◌≡◌, ◌<◌, ◌-◌, ℕ, Bool, cond, List, [], ◌∷◌, length, get_or, reverse, Option, Some, refl, sym, ap, subst, ◌∙◌, arith}
 use Rattle.std.specs.Prelude.{slice_get, IsSome}
 use Rattle.std.proofs.lemmas.List.{get_or-reverse, length-reverse}

@@ -1,4 +1,5 @@
 -- This file proves how moves are put together.
+-- Main lemma: `refines_part_then`.
 use Rattle.std.proofs.Common.{◌≡◌, ℕ, Bool, List, [], ◌∷◌, ◌++◌, ℤ, refl, sym, ap, subst, ◌∙◌, append_assoc, append-nil}
 use Rattle.std.proofs.Math.Path.{fun_ext}
 use Rattle.ptb_answers.specs.Outcome.{Answers, Outcome, Asks, go_on}

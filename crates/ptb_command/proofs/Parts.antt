@@ -1,4 +1,5 @@
 -- This file proves what the parts of a command come to, one at a time.
+-- Main lemma: `show_refines_part`.
 use Rattle.std.proofs.Common.{◌≡◌, ℕ, Bool, true, false, List, [], ◌∷◌, ◌++◌, ℤ, refl, sym, ap, subst, ◌∙◌}
 use Rattle.std.specs.Prelude.{if◌then◌else◌}
 use Rattle.ptb_expr.specs.declared.fault.FaultKind.{FaultKind}

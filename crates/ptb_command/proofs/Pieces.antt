@@ -1,4 +1,5 @@
 -- This file proves what showing bytes in two pieces comes to.
+-- Main lemma: `both_move`.
 use Rattle.std.proofs.Common.{◌≡◌, List, ◌++◌, ℕ, Result, sym, ap, subst, append_assoc}
 use Rattle.std.proofs.Math.Path.{fun_ext}
 use Rattle.ptb_command.specs.declared.stop.Stop.{Stop}

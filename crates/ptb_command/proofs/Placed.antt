@@ -1,4 +1,5 @@
 -- This file proves for which places a machine's place stands.
+-- Main lemma: `is_placed`.
 use Rattle.std.proofs.Common.{◌≡◌, Option, Some, None, refl}
 use Rattle.ptb_text.specs.Statements.{Statements}
 use Rattle.ptb_command.specs.declared.location.Location.{Location}

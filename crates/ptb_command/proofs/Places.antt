@@ -1,4 +1,5 @@
 -- This file proves which byte place stands for which index among the commands of a statement.
+-- Main lemma: `begin_there`.
 use Rattle.std.proofs.Common.{◌≡◌, ℕ, zero, suc, ◌+◌, Bool, true, false, List, [], ◌∷◌, drop, slice_get, Option, Some, None, refl, sym, ap, subst, ◌∙◌, arith, add-one}
 use Rattle.std.specs.Option.{option_and_then}
 use Rattle.ptb_words.specs.Words.{is_over}

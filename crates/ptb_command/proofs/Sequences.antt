@@ -1,4 +1,5 @@
 -- This file proves that items are read one after the other, with no bound on their number.
+-- Main lemma: `items_by_round`.
 use Rattle.std.proofs.Common.{◌≡◌, ℕ, zero, suc, ◌-◌, ◌<◌, List, length, refl, ap, arith}
 use Rattle.ptb_expr.specs.Reading.{Reading}
 use Rattle.ptb_command.specs.Items.{Round, Last, Onward, in_front, with_others, items_within, items, Advances}

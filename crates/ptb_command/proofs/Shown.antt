@@ -1,4 +1,5 @@
 -- This file proves what showing bytes comes to.
+-- Main lemma: `shown`.
 use Rattle.std.proofs.Common.{◌≡◌, ℕ, suc, ◌+◌, ◌-◌, ◌≤◌, ◌<◌, Bool, List, [], ◌∷◌, ◌++◌, length, take, drop, Result, Err, refl, sym, ap, subst, ◌∙◌, append-nil, append_assoc, arith, length-append, take-append-drop, inl, ℤ, pos, negsuc, Ok}
 use native.Mathlib.Decide.{dec_lt}
 use Rattle.std.proofs.lemmas.Bool.{le-leb, lt-leb}

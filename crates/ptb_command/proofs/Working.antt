@@ -1,4 +1,5 @@
 -- This file proves what a part of a command comes to where it works something out.
+-- Main lemma: `has_result`.
 use Rattle.std.proofs.Common.{◌≡◌, ℕ, List, Bool, [], ◌++◌, Result, Ok, Err, ℤ, refl, sym, ap, subst, ◌∙◌, append-nil, arith, inl, inr}
 use Rattle.ptb_expr.specs.declared.fault.Fault.{Fault}
 use Rattle.ptb_expr.specs.declared.fault.Stop.{Stop as NoValue}

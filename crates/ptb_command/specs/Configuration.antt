@@ -1,4 +1,6 @@
 -- This file defines what a machine holds, as contracts see it.
+--     Configuration                        the record that contracts see of a machine
+--     configuration r steps fresh spent    the configuration with these registers
 use Rattle.std.specs.Prelude.{ℕ, Bool, List, Option}
 use Rattle.ptb_expr.specs.Store.{Cells}
 use Rattle.ptb_command.specs.declared.location.Location.{Location}
