@@ -1,6 +1,7 @@
 -- This file proves how the answers that a whole may take are spent by its parts.
 --     Budget f most left       f takes at most so many answers, and with each result x it leaves enough for `left x` more
 --     then_budget, map_budget, ..      budgets of what is made of parts
+-- Main lemma: `then_budget`.
 use Rattle.std.proofs.Common.{◌≡◌, ℕ, ◌+◌, ◌≤◌, length, refl, ap, sym, ◌∙◌, subst, arith}
 use Rattle.ptb_answers.specs.Outcome.{Answers, Outcome, Done, go_on, map_outcome, IsReader}
 use Rattle.ptb_answers.proofs.Readers.{Came, Gave, Asked, Refused, came, done_reader, then_reader_by, map_reader, wider_reader}

@@ -1,4 +1,5 @@
 -- This file proves that what a command does once its parts are done takes no answer.
+-- Main lemma: `finish_spends`.
 use Rattle.std.proofs.Common.{◌≡◌, ℕ, ◌+◌, Bool, true, false, cond, List, [], ◌∷◌, Option, Some, None, Result, Ok, Err, refl, ap, arith}
 use Rattle.std.specs.Prelude.{ℤ, pos, neg_ℤ, ◌+ℤ◌}
 use Rattle.ptb_words.specs.declared.word.Word.{Word}

@@ -1,4 +1,5 @@
 -- This file proves which endings a run can have.
+-- Main lemma: `ending_laws`.
 use Rattle.std.proofs.Common.{ℕ, zero, suc, Bool, true, false, cond, List, [], ◌∷◌, ◌++◌, Option, Some, None, Result, Ok, Err, ◌≡◌, ◌∙◌, refl, sym, subst}
 use Rattle.std.specs.Prelude.{ℤ, pos, neg_ℤ, ◌+ℤ◌, if◌then◌else◌}
 use Rattle.std.specs.Fmt.{signed_decimal}

@@ -1,4 +1,5 @@
 -- This file proves that a run has the line of its end.
+-- Main lemmas: `end_over` and `end_broken`.
 use Rattle.std.proofs.Common.{◌≡◌, [], Ok, Err, Result, ap, sym, subst, ◌∙◌}
 use Rattle.std.specs.Result.{IsErrAnd}
 use Rattle.std.proofs.lemmas.Result.{err_from_is_err_and}

@@ -1,4 +1,5 @@
 -- This file has the laws of actions and runs as the contracts name them.
+-- Main lemmas: `run_laws` and `effect_laws`.
 use Rattle.std.proofs.Common.{arith}
 use Rattle.ptb_expr.specs.Laws.{ValueLaws}
 use Rattle.ptb_command.proofs.Effects.{input_part, parts_part, finish_end, command_change, act_keeps}

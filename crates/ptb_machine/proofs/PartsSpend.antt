@@ -1,4 +1,5 @@
 -- This file proves how many answers the parts of a command take at most.
+-- Main lemma: `parts_spends`.
 use Rattle.std.proofs.Common.{◌≡◌, ℕ, ◌+◌, ◌≤◌, List, [], ◌∷◌, ◌++◌, Option, Some, None, Result, Ok, Err, refl, ap, arith}
 use Rattle.std.specs.Prelude.{ℤ, sum_by}
 use Rattle.std.specs.Fmt.{signed_decimal}

@@ -1,4 +1,5 @@
 -- This file proves that a run takes its answers one by one, and how many it takes at most.
+-- Main lemma: `play_reader`.
 use Rattle.std.proofs.Common.{◌≡◌, ℕ, zero, suc, ◌+◌, ◌-◌, ◌*◌, ◌<◌, ◌≤◌, Bool, true, false, leb, List, [], ◌∷◌, length, Option, Some, None, refl, ap, subst, arith}
 use Rattle.std.specs.Prelude.{ℤ, sum_by}
 use Rattle.std.proofs.lemmas.Bool.{leb-false}

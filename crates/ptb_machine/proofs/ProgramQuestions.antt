@@ -1,4 +1,5 @@
 -- This file proves that a command of a program has no more RNDs than the program.
+-- Main lemma: `next_questions`.
 use Rattle.std.proofs.Common.{◌≡◌, ℕ, zero, suc, ◌≤◌, Bool, true, false, cond, List, [], ◌∷◌, slice_get, Option, Some, None, refl, ap, arith}
 use Rattle.std.specs.Prelude.{unwrap_or, sum_by}
 use Rattle.std.specs.Ordering.{nat_cmp, eq_by_cmp}

@@ -1,4 +1,5 @@
 -- This file proves which results a step can have.
+-- Main lemma: `result_goes`.
 use Rattle.std.proofs.Common.{◌≡◌, ◌↔◌, ◌∙◌, ℕ, Bool, true, false, List, Option, Some, None, Result, Ok, Err, is_err, inl, inr, refl, sym, ap, subst}
 use Rattle.ptb_expr.specs.declared.fault.Fault.{Fault}
 use Rattle.ptb_expr.specs.declared.fault.FaultKind.{FaultKind}

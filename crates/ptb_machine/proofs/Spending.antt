@@ -1,6 +1,7 @@
 -- This file proves how actions that follow one another spend answers.
 --     Spends cost m k      m asks k questions at most, beside what the states in which it begins and ends cost
 --     later again S        what the lines that a state has left can cost
+-- Main lemmas: `work_action_spends` and `then_spends`.
 use Rattle.std.proofs.Common.{◌≡◌, ℕ, ◌+◌, ◌≤◌, List, ◌∷◌, Result, Ok, Err, refl, ap, arith}
 use Rattle.std.specs.Prelude.{sum_by}
 use Rattle.std.proofs.lemmas.List.Sums.{sum_by-cons}

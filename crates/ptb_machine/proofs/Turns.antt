@@ -1,4 +1,5 @@
 -- This file proves what a turn and a run may change, and that a run is one turn and then the turns after it.
+-- Main lemma: `turns_shown`.
 use Rattle.std.proofs.Common.{◌≡◌, ℕ, zero, suc, ◌+◌, ◌-◌, ◌<◌, ◌≤◌, Bool, true, false, leb, Option, Some, None, refl, sym, ap, subst, ◌∙◌, arith}
 use Rattle.std.proofs.lemmas.Bool.{leb-false}
 use Rattle.ptb_text.specs.Statements.{StoredProgram}
