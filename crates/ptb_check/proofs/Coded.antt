@@ -1,4 +1,5 @@
 -- This file proves that the code of a command tells its mistake.
+-- Main lemma: `code_is_mistake`.
 use Rattle.std.proofs.Common.{◌≡◌, ◌∙◌, ℕ, ◌⊎◌, List, [], ◌∷◌, Option, Some, None, IsSome, sym, ap, subst, refl, inl, inr}
 use Rattle.std.specs.Option.{option_or}
 use Rattle.ptb_words.specs.declared.word.Word.{Word}

@@ -1,4 +1,5 @@
 -- This file proves that a command which halts keeps its place, and at which command a run ends with a fault.
+-- Main lemma: `play_next`.
 use Rattle.std.proofs.Common.{◌≡◌, ◌∙◌, ℕ, zero, suc, Bool, true, false, cond, leb, List, [], ◌∷◌, Option, Some, None, ap, refl}
 use Rattle.std.specs.Prelude.{ℤ, ◌-◌}
 use Rattle.ptb_words.specs.declared.word.Word.{Word}

@@ -1,4 +1,5 @@
 -- This file has the laws of mistakes as the contracts name them.
+-- Main lemmas: `check_laws` and `code_mistake_laws`.
 use Rattle.ptb_expr.specs.Spells.{SpellingLaws}
 use Rattle.ptb_command.specs.Laws.{CommandLaws}
 use Rattle.ptb_machine.specs.Laws.{EffectLaws}

@@ -1,4 +1,5 @@
 -- This file proves that malformed parts of a command have a fault, and whole ones have none.
+-- Main lemma: `parts_tell`.
 use Rattle.std.proofs.Common.{◌≡◌, ◌∙◌, ℕ, zero, suc, Bool, true, false, cond, List, [], length, Option, Some, None, IsSome, sym, subst, refl, arith}
 use Rattle.std.specs.Prelude.{◌-◌, ◌<◌, pos}
 use Rattle.ptb_words.specs.declared.word.Table.TheVariants.{To, Step}

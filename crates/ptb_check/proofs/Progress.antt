@@ -1,4 +1,5 @@
 -- This file proves how mistakes that are written one after the other add up to all of them.
+-- Main lemmas: `more_written` and `all_written`.
 use Rattle.std.proofs.Common.{◌≡◌, ◌∙◌, ℕ, ◌+◌, ◌<◌, ◌≤◌, Bool, true, false, List, [], ◌∷◌, ◌++◌, length, take, drop, Option, Some, None, Result, Ok, Err, sym, ap, subst, refl, append_assoc, append-nil, arith, length-append}
 use Rattle.std.specs.Prelude.{flat_map, ◌||◌, slice_get}
 use Rattle.std.specs.Io.KnownBytes.{Appends}

@@ -1,4 +1,5 @@
 -- This file proves that what is malformed has a fault, and what is whole has none.
+-- Main lemmas: `expression_tells` and `variable_tells`.
 use Rattle.std.proofs.Common.{◌≡◌, ◌∙◌, ℕ, Option, Some, None, IsSome, sym, ap, subst, refl}
 use Rattle.std.specs.Option.{option_or}
 use Rattle.ptb_expr.specs.declared.fault.Fault.{Fault}

@@ -1,4 +1,5 @@
 -- This file proves which mistakes are left after a command of a statement, and after a statement of a program.
+-- Main lemmas: `commands_left` and `mistakes_left`.
 use Rattle.std.proofs.Common.{◌≡◌, ◌∙◌, ℕ, zero, suc, ◌+◌, ◌<◌, Bool, true, false, List, [], ◌∷◌, ◌++◌, length, drop, Option, Some, None, ℤ, pos, sym, ap, ap₂, subst, refl, arith, add-one}
 use Rattle.std.specs.Prelude.{flat_map, slice_get, unsigned_abs, IsTrue, IsFalse}
 use Rattle.ptb_words.specs.Words.{is_over}

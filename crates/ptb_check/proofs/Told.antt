@@ -1,4 +1,5 @@
 -- This file proves that each command of a program is well formed, or its mistake is reported.
+-- Main lemma: `command_told`.
 use Rattle.std.proofs.Common.{◌≡◌, ◌∙◌, ℕ, zero, suc, Bool, true, false, cond, List, [], ◌∷◌, ◌++◌, Option, Some, None, IsSome, sym, ap, subst, refl, append_assoc, inl, inr, slice_get}
 use Rattle.std.specs.Prelude.{flat_map, unwrap_or}
 use Rattle.std.specs.Ordering.{nat_cmp, eq_by_cmp}
