@@ -1,4 +1,5 @@
 -- This file proves how a header grows item by item, and where it may be cut.
+-- Main lemma: `begins_kept`.
 use Rattle.std.proofs.Common.{inl, inr, min, decimal, ◌≡◌, ◌∙◌, ap, refl, sym, subst, arith, ℕ, zero, suc, ◌+◌, ◌<◌, ◌≤◌, ◌⊎◌, List, [], ◌∷◌, ◌++◌, codes, get_or, length, take, drop, append_assoc, append-nil, length-append, Option}
 use Rattle.std.specs.Prelude.{ℤ, Bool, ◌==◌, if◌then◌else◌}
 use Rattle.std.proofs.lemmas.Bool.{ne_eqb}

@@ -1,4 +1,5 @@
 -- This file proves that a report is its pieces, one after the other.
+-- Main lemma: `report_in_pieces`.
 use Rattle.std.proofs.Common.{◌≡◌, ◌∙◌, ap, refl, sym, arith, List, ℕ, zero, suc, ◌<◌, [], ◌∷◌, ◌++◌, codes, append_assoc, append-nil, decimal, length, get_or, map}
 use Rattle.std.specs.Prelude.{ℤ, Bool, ◌==◌, if◌then◌else◌}
 use Rattle.std.proofs.lemmas.Bool.{ne_eqb}

@@ -1,4 +1,5 @@
 -- This file proves what was written of a report or of a list, from what is known of each of its pieces.
+-- Main lemmas: `all_written` and `rest_fails`.
 use Rattle.std.proofs.Common.{◌≡◌, ◌∙◌, ap, subst, ℕ, List, [], ◌++◌, length, codes, decimal, Option, Result, Ok, Err}
 use Rattle.std.specs.Result.{OnOk, OnErr}
 use Rattle.std.proofs.lemmas.Result.{on_ok_weaker, on_err_weaker}
