@@ -1,4 +1,5 @@
 -- This file proves what a plan is that was played.
+-- Main lemma: `ends_at`.
 use Rattle.std.proofs.Common.{◌≡◌, ℕ, zero, suc, ◌-◌, ◌<◌, ◌≤◌, List, [], ◌∷◌, ◌++◌, length, take, drop, replicate, true, false, inl, inr, refl, ap, sym, ◌∙◌, arith, append_assoc, length-drop}
 use Rattle.std.specs.Prelude.{ℤ, pos}
 use Rattle.std.proofs.lemmas.Bool.{cases_lt}

@@ -1,4 +1,5 @@
 -- This file proves what a play of the answers of a list says of the runs that begin with them.
+-- Main lemma: `begun_stated`.
 use Rattle.std.proofs.Common.{◌≡◌, ◌∙◌, ap, sym, subst, ℕ, List, length, take, true}
 use Rattle.std.specs.Prelude.{ℤ}
 use Rattle.ptb_answers.specs.AnswerText.{answers_of}

@@ -1,4 +1,5 @@
 -- This file proves what a listing has left, and that one that begins after a run resumes where one that ended with it stopped.
+-- Main lemma: `listing_laws`.
 use Rattle.std.proofs.Common.{◌≡◌, ℕ, List, [], ◌∷◌, ◌++◌, Bool, true, false, ◌↔◌, inl, refl, sym, ap, ◌∙◌, append_assoc}
 use Rattle.std.specs.Prelude.{Contains}
 use Rattle.std.specs.List.{filter, AllByRecursion}

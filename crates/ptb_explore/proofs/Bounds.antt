@@ -1,4 +1,5 @@
 -- This file proves laws of the bounds of answers.
+-- Main lemma: `asked_bounds`.
 use Rattle.std.proofs.Common.{◌≡◌, List, [], ◌∷◌, ◌++◌, length, refl, ap, sym, ◌∙◌, arith, append_assoc, append-nil}
 use Rattle.std.specs.Prelude.{ℤ, Some}
 use Rattle.ptb_answers.specs.Outcome.{Answers, Outcome, bound_of, bounds, bounds_after}

@@ -1,4 +1,5 @@
 -- This file proves that a run whose answers are drawn is the one that a sample has at its place.
+-- Main lemma: `left_by`.
 use Rattle.std.proofs.Common.{◌≡◌, ◌∙◌, ℕ, List, [], ◌++◌, length, Option, Some, Result, Ok, sym, ap, subst, append-nil}
 use Rattle.std.specs.Prelude.{ℤ}
 use Rattle.rand_pcg.specs.Lcg.{Lcg}

@@ -1,4 +1,5 @@
 -- This file proves what is said where a function ends with a fault.
+-- Main lemma: `passed_on`.
 use Rattle.std.proofs.Common.{◌≡◌, Option, Some, None, Result, Ok, Err, ap, subst}
 use Rattle.std.specs.Option.{OnSome}
 use Rattle.std.specs.Result.{IsErrAnd, OnOk}

@@ -1,4 +1,5 @@
 -- This file proves what is left once a run went back to a copy, or to its beginning.
+-- Main lemma: `begun_prefix`.
 use Rattle.std.proofs.Common.{◌≡◌, ◌∙◌, ℕ, ◌≤◌, List, [], length, take, drop, ap, sym, subst, arith, inl, inr, Option, Some, None, Result, ℤ}
 use Rattle.std.specs.Result.{IfOk}
 use Rattle.std.proofs.lemmas.Result.{IfOk-weaker}

@@ -1,4 +1,5 @@
 -- This file proves from which of the copies the run of the next plan goes on.
+-- Main lemma: `on_prefix`.
 use Rattle.std.proofs.Common.{◌≡◌, ℕ, ◌-◌, ◌≤◌, List, [], ◌∷◌, ◌++◌, length, take, drop, Some, refl, ap, sym, subst, ◌∙◌, arith, append_assoc}
 use Rattle.std.specs.Prelude.{ℤ, pos, ◌+ℤ◌, slice_index_or}
 use Rattle.std.proofs.lemmas.Int.{ints}

@@ -1,4 +1,5 @@
 -- This file proves that copies that are kept stay sound, and which of them a run continues from.
+-- Main lemmas: `kept_more` and `steps_behind`.
 use Rattle.std.proofs.Common.{◌≡◌, ℕ, zero, suc, ◌+◌, ◌-◌, ◌<◌, ◌≤◌, List, [], ◌∷◌, ◌++◌, length, take, drop, true, false, Some, inl, inr, refl, ap, sym, subst, ◌∙◌, arith, length-append, length-take}
 use Rattle.std.specs.Prelude.{ℤ, pos, ◌<ℤ◌, slice_index_or, if◌then◌else◌}
 use Rattle.std.specs.Ordering.{int_eq}

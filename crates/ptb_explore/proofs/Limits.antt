@@ -1,4 +1,5 @@
 -- This file proves what the limit of a run changes: nothing before it is met.
+-- Main lemma: `taken_by`.
 use Rattle.std.proofs.Common.{◌≡◌, ℕ, ◌-◌, ◌+◌, ◌<◌, ◌≤◌, List, [], ◌∷◌, ◌++◌, length, true, Option, Some, None, refl, ap, sym, ◌∙◌, arith, append-nil}
 use Rattle.std.proofs.lemmas.Bool.{le-leb, lt-leb}
 use Rattle.ptb_text.specs.Statements.{StoredProgram}

@@ -1,4 +1,5 @@
 -- This file proves what is written once the line of the next list was, or wasn't.
+-- Main lemmas: `one_line_more` and `no_line`.
 use Rattle.std.proofs.Common.{◌≡◌, ◌∙◌, ap, subst, sym, ℕ, ◌+◌, ◌-◌, ◌^◌, ◌<◌, min, List, [], length, Bool, true, false, Option, Some, None, Result, Ok, Err, arith}
 use Rattle.std.specs.Prelude.{ℤ}
 use Rattle.ptb_answers.specs.declared.form.Form.{Form}

@@ -1,4 +1,5 @@
 -- This file proves laws of lists of runs: their members, and that they rise where they are joined or some are left out.
+-- Main lemma: `rising_answers`.
 use Rattle.std.proofs.Common.{◌≡◌, ℕ, zero, suc, ◌+◌, ◌<◌, ◌≤◌, List, [], ◌∷◌, ◌++◌, length, Bool, true, map, ◌⊎◌, inl, inr, refl, sym, arith, subst}
 use Rattle.std.specs.Prelude.{ℤ, pos, negsuc, ◌<ℤ◌, int_le, Contains, slice_index_or}
 use Rattle.std.specs.List.{filter, flat_map, range_with_len, AllByRecursion}

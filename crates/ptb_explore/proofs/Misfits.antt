@@ -1,4 +1,5 @@
 -- This file proves that a list is no run, or begins none, for one reason, and that there is a reason exactly then.
+-- Main lemma: `mismatch_laws`.
 use Rattle.std.proofs.Common.{◌≡◌, ℕ, ◌+◌, List, [], ◌∷◌, ◌++◌, length, true, false, ◌⊎◌, inl, inr, refl, ap, sym, subst, ◌∙◌, arith, append_assoc, append-nil}
 use Rattle.std.specs.Prelude.{ℤ, Option, Some, None}
 use Rattle.std.specs.Ordering.{int_eq}

@@ -1,4 +1,5 @@
 -- This file proves which item of a list is the first that does not fit, by what a play of the list shows.
+-- Main lemma: `mismatch_closes`.
 use Rattle.std.proofs.Common.{◌≡◌, ℕ, zero, suc, ◌+◌, ◌<◌, ◌≤◌, List, [], ◌∷◌, ◌++◌, length, take, drop, true, false, inl, inr, refl, ap, sym, subst, ◌∙◌, arith, append_assoc, append-nil, length-append}
 use Rattle.std.specs.Prelude.{ℤ, pos, Option, Some, None, slice_index_or, IfSome, IfNone, is_some}
 use Rattle.std.specs.Ordering.{int_eq}

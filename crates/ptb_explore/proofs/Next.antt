@@ -1,4 +1,5 @@
 -- This file proves what is left of a listing after its next run, and that no run is between the front and a raised plan.
+-- Main lemma: `left_next`.
 use Rattle.std.proofs.Common.{◌≡◌, ℕ, List, [], ◌∷◌, ◌++◌, Bool, true, false, ◌&&◌, inl, inr, refl, ap, sym, subst, ◌∙◌, arith, append_assoc, append-nil}
 use Rattle.std.specs.Prelude.{ℤ, pos, ◌+ℤ◌, ◌≤ℤ◌, int_le}
 use Rattle.std.proofs.lemmas.Bool.{false_from_ne_true, and_parts, and_from}

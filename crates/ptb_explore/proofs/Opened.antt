@@ -1,4 +1,5 @@
 -- This file proves what is known of an explorer that is opened, or that went to a run, from what is known of each step.
+-- Main lemmas: `begun_first` and `at_run`.
 use Rattle.std.proofs.Common.{◌≡◌, ◌∙◌, ap, sym, subst, refl, ℕ, List, [], true}
 use Rattle.ptb_answers.specs.declared.form.Marked.{Marked}
 use Rattle.ptb_answers.specs.declared.rules.Rules.{Rules}

@@ -1,4 +1,5 @@
 -- This file proves laws of the order of lists, by the first place at which two of them differ.
+-- Main lemmas: `before_then` and `compared`.
 use Rattle.std.proofs.Common.{◌≡◌, ◌++◌, [], ◌∷◌, true, ◌&&◌, false, length, take, ◌⊎◌, inl, inr, refl, ap, sym, ◌∙◌, arith}
 use Rattle.std.specs.Prelude.{ℤ, ◌<ℤ◌, int_lt}
 use Rattle.std.specs.Ordering.{int_eq}

@@ -1,4 +1,5 @@
 -- This file proves how the reports that are written and those that are left make up a listing.
+-- Main lemma: `progress_more`.
 use Rattle.std.proofs.Common.{◌≡◌, ℕ, zero, suc, ◌+◌, ◌-◌, ◌^◌, ◌<◌, List, [], ◌∷◌, ◌++◌, length, take, drop, min, Option, Some, None, refl, ap, sym, ◌∙◌, arith, append_assoc, append-nil, length-append, inl, inr, subst}
 use Rattle.std.proofs.lemmas.List.Concat.{flat_map-append}
 use Rattle.std.proofs.lemmas.List.{take-append-drop}

@@ -1,4 +1,5 @@
 -- This file proves which answers the next run begins with.
+-- Main lemmas: `next_plan` and `last_plan`.
 use Rattle.std.proofs.Common.{◌≡◌, ℕ, zero, suc, ◌+◌, ◌<◌, ◌≤◌, List, [], ◌∷◌, ◌++◌, length, take, drop, true, refl, ap, sym, subst, ◌∙◌, arith, append_assoc, append-nil, length-append}
 use Rattle.std.specs.Prelude.{ℤ, pos, Some, None, ◌+ℤ◌, ◌≤ℤ◌, ◌<ℤ◌, int_le, slice_index_or}
 use Rattle.std.proofs.lemmas.Bool.{and_from, and_parts}

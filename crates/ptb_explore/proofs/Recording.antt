@@ -1,4 +1,5 @@
 -- This file proves what a recorder's plan has next, and that ones come after it.
+-- Main lemma: `next_planned`.
 use Rattle.std.proofs.Common.{◌≡◌, ℕ, zero, suc, ◌+◌, ◌-◌, ◌<◌, ◌≤◌, List, [], ◌∷◌, ◌++◌, length, get_or, take, replicate, arith, ap, sym, ◌∙◌, length-append, append_assoc}
 use Rattle.std.specs.Prelude.{ℤ, pos}
 use Rattle.std.proofs.lemmas.List.{take-append-le, replicate-append-replicate}

@@ -1,4 +1,5 @@
 -- This file proves what a runner is after some of its parts have changed, and that it plays the same.
+-- Main lemma: `still_same`.
 use Rattle.std.proofs.Common.{◌≡◌, ◌∙◌, ap, ap₂, sym, refl, ℕ, ◌<◌, List, arith}
 use Rattle.ptb_text.specs.Statements.{StoredProgram}
 use Rattle.ptb_answers.specs.Outcome.{Answers, Outcome}

@@ -1,4 +1,5 @@
 -- This file proves that the runs that begin with some answers are those of its shares, one after the other.
+-- Main lemma: `share_laws`.
 use Rattle.std.proofs.Common.{◌≡◌, ℕ, zero, suc, ◌+◌, ◌≤◌, List, [], ◌∷◌, ◌++◌, length, true, ◌↔◌, inl, inr, refl, ap, sym, ◌∙◌, subst, arith, append_assoc, append-nil, length-append}
 use Rattle.std.specs.Prelude.{ℤ, pos, Contains, ◌<ℤ◌, int_le}
 use Rattle.std.proofs.lemmas.Bool.{and_from}

@@ -1,4 +1,5 @@
 -- This file proves how the bounds that are stated of a list are looked at, one after the other.
+-- Main lemma: `unmarked_run`.
 use Rattle.std.proofs.Common.{◌≡◌, ◌∙◌, ap, sym, subst, ℕ, zero, suc, ◌+◌, ◌<◌, ◌≤◌, List, [], ◌∷◌, length, take, drop, get_or, true, false, refl, arith}
 use Rattle.std.proofs.lemmas.List.{length-map}
 use Rattle.std.specs.Prelude.{ℤ, ◌&&◌, Result, Ok, Err}

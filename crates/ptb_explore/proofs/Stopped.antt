@@ -1,4 +1,5 @@
 -- This file proves that what is stopped after n answers takes them one by one, and what its runs are.
+-- Main lemma: `beginning_laws`.
 use Rattle.std.proofs.Common.{◌≡◌, ℕ, zero, suc, ◌+◌, ◌-◌, ◌<◌, ◌≤◌, List, [], ◌∷◌, ◌++◌, length, take, drop, Bool, true, false, inl, inr, refl, ap, sym, ◌∙◌, arith, append_assoc, append-nil, length-append, length-drop}
 use Rattle.std.specs.Prelude.{ℤ, nat_lt}
 use Rattle.std.proofs.Math.Path.{fun_ext}

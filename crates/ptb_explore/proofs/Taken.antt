@@ -1,4 +1,5 @@
 -- This file proves which of the items of a list that is played are taken, and which bounds are seen then.
+-- Main lemma: `takes_items`.
 use Rattle.std.proofs.Common.{◌≡◌, ◌⊎◌, inl, inr, ℕ, ◌+◌, ◌<◌, ◌≤◌, List, [], ◌∷◌, ◌++◌, length, take, drop, true, false, refl, ap, sym, subst, ◌∙◌, arith, append-nil}
 use Rattle.std.specs.Prelude.{ℤ, Some, slice_index_or}
 use Rattle.std.proofs.lemmas.List.{append_cancel_left, length-take-le}

@@ -1,4 +1,5 @@
 -- This file proves that the tree has the runs and nothing else, in rising order, and that none of its runs continues from another.
+-- Main lemma: `tree_laws`.
 use Rattle.std.proofs.Common.{◌≡◌, ℕ, zero, suc, ◌+◌, ◌≤◌, [], ◌∷◌, ◌++◌, length, true, false, ◌⊎◌, ◌↔◌, inl, inr, refl, ap, sym, ◌∙◌, arith, append_assoc, append-nil, length-append}
 use Rattle.std.specs.Prelude.{ℤ}
 use Rattle.std.proofs.lemmas.Bool.{cases_Bool}

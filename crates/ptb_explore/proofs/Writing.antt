@@ -1,4 +1,5 @@
 -- This file proves what is written once the next report was, or wasn't.
+-- Main lemmas: `one_more` and `none_next`.
 use Rattle.std.proofs.Common.{◌≡◌, ◌∙◌, ap, subst, ℕ, zero, suc, ◌+◌, ◌-◌, ◌^◌, ◌<◌, min, List, length, Bool, true, false, not, eqb, Option, Some, None, Result, Ok, Err, arith}
 use Rattle.std.proofs.lemmas.Bool.{ne_eqb}
 use Rattle.std.specs.Option.{option_eq}
