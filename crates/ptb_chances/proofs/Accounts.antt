@@ -1,4 +1,5 @@
 -- This file proves laws of accounts.
+-- Main lemma: `joined`.
 use Rattle.std.proofs.Common.{◌≡◌, ℕ, ◌+◌, ◌<◌, Bool, true, false, cond, List, [], ◌∷◌, length, refl, ap, sym, subst, ◌∙◌, arith}
 use Rattle.ptb_numbers.specs.Fractions.{Ratio, plus, Equals}
 use Rattle.ptb_answers.specs.Outcome.{Answers, Outcome, bounds}

@@ -1,4 +1,5 @@
 -- This file proves what comes of the steps of a play, in each state for which the machine stands.
+-- Main lemma: `step_plays`.
 use Rattle.std.proofs.Common.{◌≡◌, ℕ, ◌-◌, ◌≤◌, List, [], ◌∷◌, ◌++◌, zero, suc, true, false, Option, Some, None, Result, Ok, Err, ℤ, inl, inr, refl, sym, ap, subst, ◌∙◌, arith, append_assoc, append-nil, length, take, drop, length-append, length-drop}
 use Rattle.ptb_text.specs.Lines.{lines}
 use Rattle.ptb_text.specs.Statements.{StoredProgram}

@@ -1,4 +1,5 @@
 -- This file proves that plays which wait may be taken out and put in, and that all runs stay accounted for.
+-- Main lemma: `puts`.
 use Rattle.std.proofs.Common.{◌≡◌, ℕ, List, [], ◌∷◌, ◌++◌, ◌+◌, ◌≤◌, drop, length, refl, ap, sym, subst, ◌∙◌, append_assoc, length-append, inl, inr, arith}
 use Rattle.std.specs.List.{AllByRecursion}
 use Rattle.ptb_numbers.specs.Fractions.{Ratio, plus, Equals}

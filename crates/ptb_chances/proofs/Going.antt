@@ -1,4 +1,5 @@
 -- This file proves what comes of a play that goes on where another has come to.
+-- Main lemmas: `gone_on` and `gone_over`.
 use Rattle.std.proofs.Common.{◌≡◌, ℕ, zero, suc, List, [], ◌++◌, take, length, refl, sym, ap, subst, ◌∙◌, true, append-nil}
 use Rattle.ptb_text.specs.Statements.{StoredProgram}
 use Rattle.ptb_answers.specs.Outcome.{Answers, is_open}

@@ -1,4 +1,5 @@
 -- This file proves what two accounts, one after the other, have together.
+-- Main lemma: `same_joined`.
 use Rattle.std.proofs.Common.{◌≡◌, ◌+◌, ◌*◌, Bool, true, false, List, [], ◌∷◌, ◌++◌, ap, sym, subst, ◌∙◌, arith}
 use Rattle.ptb_numbers.specs.Fractions.{Ratio, plus, Equals}
 use Rattle.ptb_explore.specs.Chances.{RunResult, Row}

@@ -1,4 +1,5 @@
 -- This file proves what the runs are that begin with some answers.
+-- Main lemmas: `done_leaves` and `asked_leaves`.
 use Rattle.std.proofs.Common.{◌≡◌, ℕ, zero, suc, ◌+◌, ◌≤◌, true, List, [], ◌∷◌, ◌++◌, map, length, refl, ap, sym, ◌∙◌, inl, inr, arith, length-append}
 use Rattle.std.specs.Prelude.{ℤ, pos, negsuc}
 use Rattle.std.specs.List.{flat_map, range_with_len}

@@ -1,4 +1,5 @@
 -- This file proves that equal fractions have the same lowest terms, and that these are a fraction.
+-- Main lemma: `lowest_same`.
 use Rattle.std.proofs.Common.{◌≡◌, ℕ, zero, suc, ◌*◌, ◌/◌, ◌<◌, sym, ap, arith}
 use Rattle.std.proofs.Math.Nat.{pos_of_dvd_of_pos, mul-div_cancel'}
 use Rattle.ptb_numbers.specs.Fractions.{Ratio, Equals, IsLowest, gcd, lowest}

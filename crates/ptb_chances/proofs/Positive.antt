@@ -1,4 +1,5 @@
 -- This file proves that the account of all runs has no denominator 0.
+-- Main lemma: `all_positive`.
 use Rattle.std.proofs.Common.{◌≡◌, ℕ, zero, suc, ◌*◌, ◌<◌, List, [], ◌∷◌, subst, arith}
 use Rattle.ptb_answers.specs.Outcome.{Answers, Outcome, IsReader, bounds}
 use Rattle.ptb_machine.specs.Play.{Finish}

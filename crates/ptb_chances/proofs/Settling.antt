@@ -1,4 +1,5 @@
 -- This file proves what becomes of plays that stand at one place: they are over, they go on, or they ask.
+-- Main lemmas: `settled_over`, `settled_gone` and `settled_asked`.
 use Rattle.std.proofs.Common.{◌≡◌, ℕ, zero, suc, ◌+◌, ◌*◌, ◌<◌, ◌≤◌, Bool, true, false, cond, List, [], ◌∷◌, ◌++◌, map, length, take, drop, refl, ap, sym, subst, ◌∙◌, append_assoc, append-nil, length-append, arith}
 use Rattle.std.specs.Prelude.{ℤ, pos, negsuc, ◌≤ℤ◌, unsigned_abs}
 use Rattle.std.specs.List.{flat_map, AllByRecursion, range_with_len}

@@ -1,4 +1,5 @@
 -- This file proves laws of sums of fractions.
+-- Main lemmas: `plus_comm` and `plus_assoc`.
 use Rattle.std.proofs.Common.{◌≡◌, ℕ, ◌+◌, ◌*◌, ◌<◌, refl, ap, sym, ◌∙◌, arith}
 use Rattle.std.proofs.Math.Nat.{eq_of_mul-eq-mul_right}
 use Rattle.std.proofs.lemmas.Nat.{mul-le}

@@ -1,4 +1,5 @@
 -- This file proves laws of the rows of a tally: their order, and how their text goes on.
+-- Main lemma: `rows_rise`.
 use Rattle.std.proofs.Common.{◌≡◌, List, [], ◌∷◌, map}
 use Rattle.std.specs.List.{AllByRecursion}
 use Rattle.std.specs.List.Sorted.{IsStrictlySortedBy}

@@ -1,5 +1,6 @@
 -- This file proves that the rows of a table have together what all runs have: their chances add up to 1, and their numbers of runs to
 -- that of all runs.
+-- Main lemma: `table_laws`.
 use Rattle.std.proofs.Common.{◌≡◌, ℕ, ◌+◌, ◌<◌, Bool, true, false, ◌||◌, List, [], ◌∷◌, map, length, refl, ap, sym, subst, ◌∙◌, arith}
 use Rattle.std.specs.List.{AllByRecursion}
 use Rattle.std.specs.List.Sorted.{IsStrictlySortedBy}

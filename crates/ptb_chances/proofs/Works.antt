@@ -1,4 +1,5 @@
 -- This file proves how lists of what waits change where one is pushed, popped, inserted or removed.
+-- Main lemmas: `put_alone`, `put_with` and `put_aside`.
 use Rattle.std.proofs.Common.{◌≡◌, ℕ, ◌+◌, ◌<◌, inl, inr, Bool, true, false, cond, List, [], ◌∷◌, ◌++◌, map, Some, None, refl, ap, sym, subst, ◌∙◌, append_assoc}
 use Rattle.std.specs.BTreeMap.{insert_entry, is_at}
 use Rattle.std.specs.Map.{lookup, remove_entry, set_value}

@@ -1,4 +1,5 @@
 -- This file has the law that the order of results is total.
+--     result_order_total     the order `result_order` is total
 use Rattle.std.specs.Cmp.{IsTotalOrder, nat_cmp_total, on_total, then_total}
 use Rattle.std.specs.Cmp.Lexicographic.{nat_list_cmp_total}
 use Rattle.ptb_explore.specs.Chances.{RunResult, rank, result_order}
