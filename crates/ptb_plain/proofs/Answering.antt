@@ -1,4 +1,5 @@
 -- This file proves that a run goes by the answers of a list.
+-- Main lemma: `goes_by_list`.
 use Rattle.std.proofs.Common.{◌≡◌, ◌∙◌, ◌⊎◌, inl, inr, ℕ, suc, ◌<◌, List, ◌∷◌, ◌++◌, length, take, drop, Some, ℤ, sym, ap, arith, drop-cons}
 use Rattle.std.specs.Prelude.{slice_get}
 use Rattle.std.proofs.lemmas.List.{take-append-drop, drop_all}

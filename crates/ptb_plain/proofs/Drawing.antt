@@ -1,4 +1,5 @@
 -- This file proves that a chooser by a seed gives the answers that the seed has for a run.
+-- Main lemma: `goes_by_drawn`.
 use Rattle.std.proofs.Common.{◌≡◌, ◌∙◌, ℕ, zero, suc, List, [], ◌∷◌, ◌++◌, refl, sym, ap, arith, subst}
 use Rattle.std.specs.Prelude.{ℤ, Some}
 use Rattle.rand_pcg.specs.Lcg.{Lcg}

@@ -1,4 +1,5 @@
 -- This file joins all that is known of a run on the lines of a reader, by whether its source has come to a fault.
+-- Main lemmas: `ran_whole` and `ran_unread`.
 use Rattle.std.proofs.Common.{◌≡◌, ◌≤◌, ◌+◌, ◌⊎◌, inl, inr, Bool, ℕ, ℤ, List, [], ◌++◌, length, Option, Some, None, Result, Ok, Err, IfOk, IfSome, IsErrOf, OnOk, refl, sym, ap, subst, ◌∙◌}
 use Rattle.std.specs.Borrow.{MutBor}
 use Rattle.std.specs.Io.KnownBytes.{Appends, Consumes}

@@ -1,4 +1,5 @@
 -- This file proves the result of a run that goes by a list of answers, from a complete run with a chooser, a screen over a writer and a list of lines.
+-- Main lemma: `run_between`.
 use Rattle.std.proofs.Common.{◌≡◌, ℕ, ◌+◌, ◌≤◌, ◌⊎◌, inl, inr, Bool, true, false, List, [], ◌++◌, length, take, Option, Some, None, Result, Ok, Err, IfOk, IsErrOf, ℤ, refl, sym, ap, subst, ◌∙◌, arith, append-nil, length-append}
 use Rattle.std.specs.Borrow.{MutBor}
 use Rattle.std.specs.Io.KnownBytes.{Appends}

@@ -1,4 +1,5 @@
 -- This file proves what a plain run took of its input, from how a source of its lines went on.
+-- Main lemma: `reads_for`.
 use Rattle.std.proofs.Common.{◌≡◌, ℕ, ◌+◌, ◌-◌, ◌≤◌, ◌<◌, ◌⊎◌, inl, inr, Bool, true, false, nat_lt, ◌==◌, List, [], ◌∷◌, ◌++◌, length, take, drop, Option, Some, None, Result, Ok, Err, IfOk, IfSome, IsErrOf, OnOk, ℤ, refl, sym, ap, subst, ◌∙◌, arith, append_assoc, length-append, take_all, take-append-drop}
 use Rattle.std.specs.Prelude.{option_map, OnErr, if◌then◌else◌}
 use Rattle.std.proofs.lemmas.Bool.{lt-ltb, le-ltb, ltb-true, ltb-false, eqb-false}
