@@ -1,4 +1,5 @@
 -- This file proves what the texts of answers and of lists look like, and that `parse` reads it.
+-- Main lemma: `one_list_of_answers`.
 use Rattle.std.proofs.Common.{append-nil, length-append, subst, ◌≡◌, ◌≢◌, ◌∙◌, ap, sym, refl, ℕ, ◌+◌, ◌<◌, ◌≤◌, ◌^◌, List, length, get_or, zero, suc, ℤ, pos, negsuc, arith, Result, Ok, Err, IfOk, Option, Some, None, ap₂}
 use Rattle.std.specs.Prelude.{◌==◌, false, [], ◌∷◌, ◌++◌, map, All, codes, count_by}
 use Rattle.std.specs.List.{slice_split, join_with_byte, before_first, after_first}

@@ -1,4 +1,5 @@
 -- This file proves what the ways out of reading an item tell, from what its reader knows of each step.
+-- Main lemmas: `number_only` and `both`.
 use Rattle.std.proofs.Common.{◌≡◌, ◌∙◌, ap, ap₂, sym, arith, List, ℕ, ℤ, Option, Some, None, FitsSigned, of_z, subst, to_z, to_z-of_z, w16}
 use Rattle.std.specs.Borrow.{Bor}
 use Rattle.std.proofs.lemmas.Int.{ints}

@@ -1,4 +1,5 @@
 -- This file proves whether a text spells a list, by its items.
+-- Main lemmas: `list_of_items` and `mistake_at`.
 use Rattle.std.proofs.Common.{◌≡◌, ◌≢◌, ◌∙◌, ap, sym, subst, refl, ℕ, ◌+◌, ◌<◌, Bool, false, true, IfSome, List, [], ◌∷◌, ◌++◌, length, get_or, take, drop, map, take-append-drop, drop-cons, add-one, ℤ, Option, Some, None}
 use Rattle.std.specs.Prelude.{All, codes, is_some, IsSome}
 use Rattle.std.proofs.lemmas.Bool.{false≢true}

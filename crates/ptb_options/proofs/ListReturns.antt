@@ -1,4 +1,5 @@
 -- This file proves what the ways out of reading a list tell, from what its reader knows of each step.
+-- Main lemma: `has_answers`.
 use Rattle.std.proofs.Common.{◌≡◌, ◌≢◌, ◌∙◌, ap, sym, ℕ, Bool, true, false, List, [], ℤ, Result, Ok, Err, IfOk, subst}
 use Rattle.std.specs.Prelude.{codes, map, nat_eq}
 use lib.Pointwise.{pointwise}

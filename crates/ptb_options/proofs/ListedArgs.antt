@@ -1,4 +1,5 @@
 -- This file proves which rule clap gets for an argument, from what each of its parts says.
+-- Main lemmas: `flag_rule`, `text_rule` and `number_rule`.
 use Rattle.std.proofs.Common.{◌≡◌, ◌∙◌, ap, ap₂, sym, List, ℕ, Option, Some, false}
 use Rattle.std.specs.Borrow.{Bor}
 use Rattle.clap.specs.declared.builder.Arg.{Arg}

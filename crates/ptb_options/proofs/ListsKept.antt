@@ -1,4 +1,5 @@
 -- This file proves that memory is wanted only for the items of a request's lists.
+-- Main lemmas: `answers_refused`, `under_refused` and `after_refused`.
 use Rattle.std.proofs.Common.{◌≡◌, ◌∙◌, ap, refl, subst, sym, inl, inr, Result, Err, IfErr, Bool, false, true, List, ℕ, Option, Some, None}
 use Rattle.std.specs.Prelude.{IsSomeAnd, is_some}
 use Rattle.std.specs.Option.{ForSome}

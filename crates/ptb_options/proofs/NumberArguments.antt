@@ -1,4 +1,5 @@
 -- This file proves which arguments are looked at for a wrong number.
+-- Main lemmas: `some_found` and `none_after`.
 use Rattle.std.proofs.Common.{◌≡◌, ◌≢◌, ◌∙◌, ap, sym, subst, refl, arith, inl, inr, Bool, true, false, leb, leb-true, leb-false, ℕ, ◌+◌, ◌<◌, ◌≤◌, below_more, List, [], length, Option, Some, None, IfSome}
 use Rattle.std.specs.Prelude.{codes, is_some, nat_eq, slice_get}
 use lib.Pointwise.{pointwise}

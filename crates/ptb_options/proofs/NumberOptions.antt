@@ -1,4 +1,5 @@
 -- This file proves which of the tool's options with numbers an argument names.
+-- Main lemma: `unnamed_all`.
 use Rattle.std.proofs.Common.{◌≡◌, ◌∙◌, ap, sym, refl, arith, below_more, List, ℕ, ◌+◌, ◌<◌, ◌≤◌, length, get_or, map, take, Option, Some, None}
 use Rattle.std.proofs.lemmas.List.{get_or-map, length-map, take-map}
 use Rattle.clap.specs.declared.builder.ValueParser.{ValueParser}

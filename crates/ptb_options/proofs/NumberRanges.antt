@@ -1,5 +1,6 @@
 -- This file proves that clap lets no number of an option through that is outside its range: no memory size but 64 to 32767, and no
 -- bound for answers but 1 to 32767.
+-- Main lemmas: `memory_in_range` and `choose_in_range`.
 use Rattle.std.proofs.Common.{◌≡◌, ◌∙◌, ap, sym, refl, subst, inl, inr, ℕ, zero, suc, ◌<◌, ◌≤◌, true, List, [], ◌∷◌, length, map, get_or, Option, Some, None, pos, arith}
 use Rattle.std.specs.Prelude.{codes, All, option_and_then, option_map, slice_get}
 use Rattle.std.specs.Option.{ForSome}

@@ -1,4 +1,5 @@
 -- This file proves what the options with numbers have in common, one by one: each names itself, and has one range.
+-- Main lemma: `one_range`.
 use Rattle.std.proofs.Common.{◌≡◌, ◌∙◌, ap, sym, subst, refl, arith, Bool, ℕ, zero, suc, ◌<◌, List, ◌∷◌, ◌++◌, length, get_or, Option, Some, None, pos, eqb}
 use Rattle.std.specs.Prelude.{codes, find, option_and_then}
 use Rattle.std.specs.List.{Contains, after_first, before_first, position_or_len}

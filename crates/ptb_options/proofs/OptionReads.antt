@@ -1,4 +1,5 @@
 -- This file proves that clap's getters read the options as they are defined.
+-- Main lemma: `number_of-get_one`.
 use Rattle.std.proofs.Common.{◌≡◌, ◌∙◌, ap, sym, refl, ℕ, ◌^◌, Bool, true, false, List, length, Option, Some, None, Result, Ok, Err, [], ◌∷◌, cond, map}
 use Rattle.std.specs.Prelude.{◌&&◌, if◌then◌else◌, option_and_then, option_map, find, nat_lt}
 use Rattle.std.specs.Result.{result_ok}

@@ -1,4 +1,5 @@
 -- This file proves that no value of an option is passed over that is no number in the option's range.
+-- Main lemmas: `accepted_next` and `accepted_after`.
 use Rattle.std.proofs.Common.{◌≡◌, ◌∙◌, ap, append_assoc, sym, subst, arith, inl, inr, ℕ, ◌<◌, false, List, [], ◌∷◌, ◌++◌, length, Option, Some, None, IfSome}
 use Rattle.std.specs.Prelude.{codes}
 use Rattle.std.specs.Borrow.{Bor}
