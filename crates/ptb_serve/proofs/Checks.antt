@@ -1,4 +1,5 @@
 -- This file proves how the mistakes in a program's text are served, from what was written of them.
+-- Main lemmas: `check_written` and `check_broken`.
 use Rattle.std.proofs.Common.{◌≡◌, ◌∙◌, ℕ, ◌+◌, ◌≤◌, Bool, List, Option, Some, Result, Ok, Err, IsErrOf, ap, sym, subst, refl, arith, inl, inr}
 use Rattle.std.specs.Result.{IsErrAnd}
 use Rattle.std.proofs.lemmas.Result.{err_from_is_err_and}

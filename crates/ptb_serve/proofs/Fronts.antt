@@ -1,4 +1,5 @@
 -- This file proves why a listing is begun, or isn't.
+-- Main lemma: `begun_both`.
 use Rattle.std.proofs.Common.{◌≡◌, ◌⊎◌, inl, inr, refl, ap, ap₂, List, [], Bool, true, false, Option, Some, None}
 use Rattle.std.specs.Prelude.{ℕ, ◌&&◌}
 use Rattle.std.proofs.lemmas.Bool.{false_from_ne_true}

@@ -1,4 +1,5 @@
 -- This file joins all that is known of a listing of runs, by whether it was begun and written to its end.
+-- Main lemmas: `listing_written` and `listing_broken`.
 use Rattle.std.proofs.Common.{◌≡◌, ◌⊎◌, ℕ, ◌+◌, ◌<◌, List, length, Option, None, Some, Result, Ok, Err, IfSome, IsErrOf, inl, inr, refl, ap, sym, subst, ◌∙◌}
 use Rattle.std.specs.Result.{IsErrAnd}
 use Rattle.std.proofs.lemmas.Result.{err_from_is_err_and}

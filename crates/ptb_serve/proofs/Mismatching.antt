@@ -1,4 +1,5 @@
 -- This file proves what is said of a list that fits no run.
+-- Main lemma: `unbegun_told`.
 use Rattle.std.proofs.Common.{◌≡◌, ◌⊎◌, inl, inr, ℕ, List, Option, Some, None, Result, Ok, Err, IfOk, IfSome, IsErrOf, IsSome, refl, ap, sym, subst}
 use Rattle.ptb_text.specs.Lines.{input_lines}
 use Rattle.ptb_text.specs.Loading.{IsLoaded}

@@ -1,4 +1,5 @@
 -- This file joins all that is known of a program that was loaded, by the mode in which it was served.
+-- Main lemmas: `served_plain` and `served_all`.
 use Rattle.std.proofs.Common.{◌≡◌, ℕ, List, [], Option, None, Result, Ok, Err, IfOk, IsErrOf, refl, ap, sym, subst, ◌∙◌}
 use Rattle.std.specs.Io.KnownBytes.{Appends}
 use Rattle.std.specs.Result.{IsErrAnd}

@@ -1,4 +1,5 @@
 -- This file proves the laws of replies.
+-- Main lemma: `reply_laws`.
 use Rattle.std.proofs.Common.{◌≡◌, refl, sym, ap, ◌∙◌, ℕ, ◌<◌, List, [], ◌∷◌, length, Bool, true, false, Option, Some, None, Ok, Err, ◌↔◌}
 use Rattle.std.proofs.lemmas.Bool.{lt-ltb}
 use Rattle.ptb_text.specs.declared.fault.LoadFault.{LoadFault}

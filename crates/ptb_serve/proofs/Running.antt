@@ -1,4 +1,5 @@
 -- This file proves how a run of a program that was loaded is served, with a list of answers or by a seed.
+-- Main lemmas: `plain_serves` and `seeded_serves`.
 use Rattle.std.proofs.Common.{◌≡◌, inl, inr, ℕ, List, [], Option, Some, None, Result, Ok, Err, IfSome, IsErrOf, refl, subst, sym}
 use Rattle.std.specs.Io.KnownBytes.{Appends, Consumes}
 use Rattle.ptb_text.specs.Device.{TakesSome}

@@ -1,4 +1,5 @@
 -- This file proves how a sample of runs is served, from what was read and what was written.
+-- Main lemmas: `sample_written` and `sample_broken`.
 use Rattle.std.proofs.Common.{◌≡◌, ◌∙◌, ℕ, ◌+◌, ◌<◌, ◌≤◌, ◌⊎◌, inl, inr, List, [], length, take, Option, Some, Result, Ok, Err, refl, ap, sym, subst, IfSome, IsErrOf, OnOk}
 use Rattle.std.specs.Io.KnownBytes.{Appends}
 use Rattle.std.specs.Result.{IsErrAnd}

@@ -1,4 +1,5 @@
 -- This file proves how a request is served, from how its program was loaded and what was written.
+-- Main lemmas: `serves_loaded` and `serves_unloaded`.
 use Rattle.std.proofs.Common.{◌≡◌, ◌⊎◌, inl, ℕ, ◌+◌, ◌==◌, if◌then◌else◌, ◌<◌, ◌≤◌, true, false, nat_lt, List, [], length, Option, Some, None, Result, Ok, Err, IfOk, IfSome, IfErr, MatchOption, OnOk, refl, ap, ◌∙◌, sym, arith, IsErrOf, ℤ, subst}
 use Rattle.std.specs.Io.KnownBytes.{Appends, Consumes}
 use Rattle.std.proofs.KnownBytes.{Appends-nil, Consumes-nil}

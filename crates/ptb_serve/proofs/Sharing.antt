@@ -1,4 +1,5 @@
 -- This file proves how the replies to shares of all runs fit together.
+-- Main lemma: `splits_runs`.
 use Rattle.std.proofs.Common.{◌≡◌, ◌∙◌, inl, inr, refl, ap, ap₂, sym, ℕ, zero, suc, ◌+◌, ◌<◌, ◌≤◌, List, [], ◌∷◌, ◌++◌, length, true, Option, Some, None, append-nil, arith}
 use Rattle.std.specs.Prelude.{ℤ, pos, negsuc, int_le, map, Contains}
 use Rattle.std.specs.List.{filter, flat_map, range_with_len}

@@ -1,4 +1,5 @@
 -- This file proves how the table of chances is served, from what was read and what was written.
+-- Main lemmas: `chances_written` and `chances_broken`.
 use Rattle.std.proofs.Common.{◌≡◌, ℕ, ◌+◌, ◌<◌, ◌≤◌, List, [], length, Option, Some, Result, Ok, Err, refl, sym, subst, IfSome, IsErrOf, OnOk}
 use Rattle.std.specs.Io.KnownBytes.{Appends}
 use Rattle.std.specs.Result.{IsErrAnd}

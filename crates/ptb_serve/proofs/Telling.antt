@@ -1,4 +1,5 @@
 -- This file joins all that is promised of a request that was served, by whether its program was loaded.
+-- Main lemmas: `told_loaded` and `told_unloaded`.
 use Rattle.std.proofs.Common.{◌≡◌, inl, inr, ℕ, ◌+◌, ◌<◌, List, length, Option, Some, None, Result, Ok, Err, IfOk, IfSome, refl, sym, subst, ◌∙◌, ap, arith}
 use Rattle.ptb_text.specs.declared.fault.LoadFault.{LoadFault}
 use Rattle.ptb_text.specs.declared.fault.LoadFault.TheVariants as loads
