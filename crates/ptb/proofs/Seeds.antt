@@ -2,6 +2,7 @@
 --     same_presence     a value that is mapped is there where it was
 --     no_seed_for_input, ..  of the streams, the answers and the mode: whether a seed is drawn
 --     asks_at               what the options ask for, with the seed that was drawn or without one
+-- Main lemma: `asks_at`.
 use Rattle.std.specs.Prelude.{◌≡◌, ◌≤◌, ◌&&◌, ℕ, Bool, true, false, not, Option, Some, None, IfSome, is_some, option_map}
 use Rattle.std.proofs.Common.{refl, ◌∙◌, ap, arith}
 use Rattle.ptb_options.specs.declared.request.Mode.{Mode}
