@@ -1,4 +1,5 @@
 -- This file proves the worked rows of mistakes by computation.
+-- Main lemma: `check_rows`.
 use Rattle.std.specs.Prelude.{refl}
 use Rattle.ptb_language_rows.proofs.OnPrograms.{on_programs}
 use Rattle.ptb_language_rows.specs.CheckRows.{CheckRows}

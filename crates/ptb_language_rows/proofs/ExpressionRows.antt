@@ -1,4 +1,5 @@
 -- This file proves the worked rows of expressions by computation.
+-- Main lemma: `value_rows`.
 use Rattle.std.specs.Prelude.{refl}
 use Rattle.ptb_language_rows.proofs.OnPrograms.{on_programs}
 use Rattle.ptb_language_rows.specs.ExpressionRows.{ValueRows}

@@ -1,4 +1,5 @@
 -- This file proves the worked rows of plain runs by computation.
+-- Main lemmas: `answer_rows`, `loop_rows` and `fault_rows`.
 use Rattle.std.specs.Prelude.{refl}
 use Rattle.ptb_language_rows.proofs.OnPrograms.{on_programs}
 use Rattle.ptb_language_rows.specs.PlayRows.{AnswerRows, PrintRows, InputRows, LoopRows, FaultRows, ArrayRows, LongRows, StepRows}

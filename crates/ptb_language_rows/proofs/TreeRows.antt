@@ -1,4 +1,5 @@
 -- This file proves the worked rows of runs and of their reports by computation.
+-- Main lemma: `run_rows`.
 use Rattle.std.specs.Prelude.{refl}
 use Rattle.ptb_language_rows.proofs.OnPrograms.{on_programs}
 use Rattle.ptb_language_rows.specs.TreeRows.{RunRows, ReportRows}

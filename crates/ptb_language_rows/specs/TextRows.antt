@@ -1,4 +1,6 @@
 -- This file has worked rows of loading, listing, words and tokens.
+--     LoadingRows     rows of loading and listing
+--     WordRows        rows of words and tokens
 use Rattle.std.specs.Prelude.{◌≡◌, ℕ, List, [], ◌∷◌, ◌++◌, Some, None, Ok, Err, pos, codes, replicate}
 use Rattle.ptb_text.specs.declared.fault.LoadFault.TheVariants.{NoNumber, NumberTooBig, TextTooLong, BadByte, Full}
 use Rattle.ptb_words.specs.declared.word.Table.TheVariants.{Commands, Functions, To, Step}

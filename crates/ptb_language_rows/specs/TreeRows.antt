@@ -1,4 +1,6 @@
 -- This file has worked rows of runs and of their reports.
+--     RunRows        rows of the runs of a program
+--     ReportRows     rows of their reports
 use Rattle.std.specs.Prelude.{◌≡◌, ℕ, [], ◌∷◌, ◌++◌, codes, false, true, Some, None, pos}
 use Rattle.ptb_answers.specs.Outcome.{Answers, is_whole, bounds}
 use Rattle.ptb_language_rows.specs.ExpressionRows.{worth}
