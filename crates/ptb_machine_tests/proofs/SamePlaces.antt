@@ -1,4 +1,5 @@
 -- This file proves that a machine that fits one of two programs fits the other, whose commands stand at the same places.
+-- Main lemma: `fits_prints`.
 use Rattle.std.proofs.Common.{◌≡◌, ◌∙◌, ℕ, zero, suc, List, [], ◌∷◌, drop, slice_get, Option, Some, None, Result, Ok, refl, sym, ap, subst, arith}
 use Rattle.std.specs.Prelude.{⊤, codes}
 use Rattle.std.specs.Fmt.{digits}
