@@ -1,4 +1,5 @@
 -- This file proves the worked rows of listings that begin behind a run, or end early, by computation.
+-- Main lemma: `after_rows`.
 use Rattle.std.specs.Prelude.{refl}
 use Rattle.ptb_rows.specs.Rows.{AfterRows}
 use Rattle.ptb_rows.proofs.OnPrograms.{on_programs}

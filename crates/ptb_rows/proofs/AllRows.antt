@@ -1,4 +1,5 @@
 -- This file proves the worked rows of listings of all runs by computation.
+-- Main lemma: `all_rows`.
 use Rattle.std.specs.Prelude.{refl}
 use Rattle.ptb_rows.specs.Rows.{AllRows}
 use Rattle.ptb_rows.proofs.OnPrograms.{on_programs}

@@ -1,4 +1,5 @@
 -- This file proves the worked rows of reports with bounds by computation.
+-- Main lemma: `bound_rows`.
 use Rattle.std.specs.Prelude.{refl}
 use Rattle.ptb_rows.specs.Rows.{BoundRows}
 use Rattle.ptb_rows.proofs.OnPrograms.{on_programs}

@@ -1,4 +1,5 @@
 -- This file proves the worked rows of chances by computation.
+-- Main lemma: `chance_rows`.
 use Rattle.std.specs.Prelude.{refl}
 use Rattle.ptb_rows.specs.Rows.{ChanceRows}
 use Rattle.ptb_rows.proofs.OnPrograms.{on_programs}

@@ -1,4 +1,5 @@
 -- This file proves the worked rows of the mistakes in a text by computation.
+-- Main lemma: `check_rows`.
 use Rattle.std.specs.Prelude.{refl}
 use Rattle.ptb_rows.specs.Rows.{CheckRows}
 use Rattle.ptb_rows.proofs.OnPrograms.{on_programs}

@@ -1,4 +1,5 @@
 -- This file proves the worked rows of answers in place of missing lines by computation.
+-- Main lemma: `choice_rows`.
 use Rattle.std.specs.Prelude.{refl}
 use Rattle.ptb_rows.specs.Rows.{ChoiceRows}
 use Rattle.ptb_rows.proofs.OnPrograms.{on_programs}

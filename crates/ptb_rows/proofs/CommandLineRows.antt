@@ -1,4 +1,5 @@
 -- This file proves the worked rows of the command line by computation.
+-- Main lemmas: `option_rows`, `clash_rows` and `fault_rows`.
 use Rattle.std.specs.Prelude.{refl}
 use Rattle.clap.proofs.OnLiterals.{clap_on_literals}
 use Rattle.ptb_rows.specs.Rows.{ClashRows, OptionRows, FaultRows}

@@ -1,4 +1,5 @@
 -- This file proves the examples of the document on the language by computation.
+-- Main lemma: `example_rows`.
 use Rattle.std.specs.Prelude.{refl}
 use Rattle.ptb_rows.specs.Rows.{ExampleRows}
 use Rattle.ptb_rows.proofs.OnPrograms.{on_programs}

@@ -1,4 +1,5 @@
 -- This file proves the worked rows of lists of answers.
+-- Main lemma: `list_rows`.
 use Rattle.std.proofs.Common.{◌≡◌, ◌≢◌, refl, sym, ap, ◌∙◌, ℕ, zero, suc, ◌<◌, ◌≤◌, List, length, get_or, ℤ, pos, negsuc, arith, Option, Some, None}
 use Rattle.std.specs.Prelude.{◌==◌, [], ◌∷◌, ◌++◌, All, codes}
 use Rattle.std.specs.Fmt.{digits}

@@ -1,4 +1,5 @@
 -- This file proves the worked rows of programs whose runs are long by computation.
+-- Main lemma: `long_run_rows`.
 use Rattle.std.specs.Prelude.{refl}
 use Rattle.ptb_rows.specs.Rows.{LongRunRows}
 use Rattle.ptb_rows.proofs.OnPrograms.{on_programs}

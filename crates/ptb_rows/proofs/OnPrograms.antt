@@ -1,4 +1,5 @@
 -- This file names what a proof unfolds to compute what a program that is written out comes to.
+-- Main definition: `on_programs`.
 use Rattle.std.specs.Prelude.{⊤}
 use Rattle.std.specs.Fmt.{digits}
 use Rattle.ptb_text.specs.Statements.{after_lines}

@@ -1,4 +1,5 @@
 -- This file proves the worked rows of programs that run once by computation.
+-- Main lemma: `program_rows`.
 use Rattle.std.specs.Prelude.{refl}
 use Rattle.ptb_rows.specs.Rows.{ProgramRows}
 use Rattle.ptb_rows.proofs.OnPrograms.{on_programs}

@@ -1,4 +1,5 @@
 -- This file proves the worked rows of plain runs by computation.
+-- Main lemma: `run_rows`.
 use Rattle.std.specs.Prelude.{refl}
 use Rattle.ptb_rows.specs.Rows.{RunRows}
 use Rattle.ptb_rows.proofs.OnPrograms.{on_programs}

@@ -1,4 +1,5 @@
 -- This file proves the worked rows of samples by computation.
+-- Main lemma: `sample_rows`.
 use Rattle.std.specs.Prelude.{refl}
 use Rattle.ptb_rows.specs.Rows.{SampleRows}
 use Rattle.ptb_rows.proofs.OnPrograms.{on_programs}

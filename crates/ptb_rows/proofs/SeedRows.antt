@@ -1,4 +1,5 @@
 -- This file proves the worked rows of runs by a seed by computation.
+-- Main lemma: `seed_rows`.
 use Rattle.std.specs.Prelude.{refl}
 use Rattle.ptb_rows.specs.Rows.{SeedRows}
 use Rattle.ptb_rows.proofs.OnPrograms.{on_programs}

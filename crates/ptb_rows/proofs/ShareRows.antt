@@ -1,4 +1,5 @@
 -- This file proves the worked rows of shares of a tree by computation.
+-- Main lemma: `share_rows`.
 use Rattle.std.specs.Prelude.{refl}
 use Rattle.ptb_rows.specs.Rows.{ShareRows}
 use Rattle.ptb_rows.proofs.OnPrograms.{on_programs}

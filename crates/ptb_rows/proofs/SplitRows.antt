@@ -1,4 +1,5 @@
 -- This file proves the worked rows of lists that split the runs by computation.
+-- Main lemma: `split_rows`.
 use Rattle.std.specs.Prelude.{refl}
 use Rattle.ptb_rows.specs.Rows.{SplitRows}
 use Rattle.ptb_rows.proofs.OnPrograms.{on_programs}

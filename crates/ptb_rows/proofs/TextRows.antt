@@ -1,4 +1,5 @@
 -- This file proves the worked rows of programs that are refused, and of listings, by computation.
+-- Main lemma: `refusal_rows`.
 use Rattle.std.specs.Prelude.{refl}
 use Rattle.std.specs.Fmt.{digits}
 use Rattle.ptb_text.specs.Statements.{after_lines}
