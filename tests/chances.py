@@ -1,9 +1,11 @@
 #!/usr/bin/env python3
-"""Works the chances of runs out from their reports, and compares them with what the documents and tools/outcomes say.
+"""Computes the chances of runs from their reports, and compares them with those of the pages, of tools/outcomes and of --chances.
 
 The programs are those of the chapter on chances in docs/TOOL.md, of README.md, and examples; the chances of some are
-counted by hand, too. Tables of --chances are compared with those that are added up from reports, byte for byte. PTB names
-another program than the one that ./ptb builds.
+counted by hand, too. Tables of --chances are compared with those that are added up from reports, byte for byte.
+
+The last line is 'N passed, M failed'. Arguments name parts of tests, as Games; without any, all are run. PTB names another
+program than the one that ./ptb builds.
 """
 
 import glob
@@ -13,6 +15,7 @@ import random
 import re
 import subprocess
 import sys
+import unittest
 from collections import Counter
 from fractions import Fraction
 from itertools import product
@@ -20,20 +23,20 @@ from math import comb, factorial
 
 sys.dont_write_bytecode = True
 sys.path.insert(0, f"{os.path.dirname(os.path.realpath(__file__))}/shared")
+import runner
 from results import table_of, table_text
 from stage import PTB, ROOT, staged
 
-passed = failed = 0
 
+class Checked(unittest.TestCase):
+    """Tests that compare what is said with what is due."""
 
-def same(name, said, due):
-    """A check that holds where both are the same."""
-    global passed, failed
-    if said == due:
-        passed += 1
-    else:
-        failed += 1
-        print(f"failed: {name}\n    said: {said!r}\n    due:  {due!r}"[:4000])
+    maxDiff = 4000
+
+    def same(self, name, said, due):
+        """A check that holds if both are the same."""
+        with self.subTest(name):
+            self.assertEqual(said, due)
 
 
 # ---- listings
@@ -115,37 +118,24 @@ def told(text, kind):
 # ---- the documents
 
 
-def chapter(page, title):
-    """The lines of a page's chapter, up to the next title."""
+TITLE = re.compile("^#+ Chances$", re.M)
+
+
+def page_text(page):
+    """The text of a page."""
     with open(f"{ROOT}/{page}", encoding="utf-8") as file:
-        text = file.read()
-    same(f"{page} has the chapter {title} once", len(re.findall(f"^#+ {title}$", text, re.M)), 1)
-    return re.split("^#+ ", re.split(f"^#+ {title}$", text, flags=re.M)[-1], flags=re.M)[0]
+        return file.read()
+
+
+def chapter_of_the_tool():
+    """The chapter on chances of docs/TOOL.md, up to the next title, and the program of its example."""
+    text = re.split("^#+ ", TITLE.split(page_text("docs/TOOL.md"))[-1], flags=re.M)[0]
+    return text, re.search(r"\$ echo '(.*)' \| ./ptb --all", text)[1]
 
 
 def whole(chance):
     """A fraction as it is written, in lowest terms or not."""
     return Fraction(*map(int, chance.split("/")))
-
-
-def check_page_of_the_tool():
-    """The chapter's table, its numbers, and the runs that it prints."""
-    text = chapter("docs/TOOL.md", "Chances")
-    program = re.search(r"\$ echo '(.*)' \| ./ptb --all", text)[1]
-    runs = runs_in(listing_of_text(program + "\n"))
-    rows = re.findall(r"^\| `(.*)` \| (.*) \| ([0-9/]+) \|$", text, re.M)
-    same("the table's runs", [row[0] for row in rows], [run[0] for run in runs])
-    bounds = [re.findall("/([0-9]+)", run[0]) for run in runs]
-    same("the table's bounds", [row[1].split(" and ") for row in rows], bounds)
-    same("the table's chances", [whole(row[2]) for row in rows], [run[3] for run in runs])
-    same("the runs that are printed", re.findall("^    RUN (\\S+)", text, re.M), [run[0] for run in runs])
-    showing = [run for run in runs if run[2]]
-    said = r"shows a number in (\w+) of its (\w+) runs, and with the chance ([0-9]+/[0-9]+), which is ([0-9/]+)\."
-    numbers = re.search(said.replace(" ", r"\s+"), text)
-    words = {"one": 1, "two": 2, "three": 3, "four": 4}
-    same("how many runs show a number", (words[numbers[1]], words[numbers[2]]), (len(showing), len(runs)))
-    same("their chance", {whole(numbers[3]), whole(numbers[4])}, {sum(run[3] for run in showing)})
-    return program
 
 
 def rows_shown(text, command):
@@ -161,73 +151,122 @@ def listing_by(command):
         return subprocess.run(["bash", "-c", command], cwd=folder, stdout=subprocess.PIPE, check=True).stdout
 
 
-def check_tables(page, least):
-    """Each table by endings or last lines that a page prints has the chances that the listed runs have."""
-    with open(f"{ROOT}/{page}", encoding="utf-8") as file:
-        text = file.read()
-    commands = re.findall(r"^    (\$ (.*) \| tools/outcomes --by (ending|last-line))$", text, re.M)
-    same(f"{page} has so many tables or more", len(commands) >= least, True)
-    for command, listing_command, kind in commands:
-        runs = runs_in(listing_by(listing_command))
-        due = added_up(runs, KEYS[kind])
-        rows = rows_shown(text, command)
-        same(f"{page}: {command}", {row[0].strip(): row[1:3] for row in rows}, {it.strip(): due[it] for it in due})
-        same(f"{page}: percents: {command}", [row[3] for row in rows], [f"{float(100 * row[1]):.2f}" for row in rows])
-        falling = sorted((row[1] for row in rows), reverse=True)
-        same(f"{page}: order: {command}", [row[1] for row in rows], falling)
+class Pages(Checked):
+    """The chances that the pages print are those of the runs."""
 
+    def test_page_of_the_tool(self):
+        """The chapter's table, its numbers, and the runs that it prints."""
+        text, program = chapter_of_the_tool()
+        self.same("the page has the chapter once", len(TITLE.findall(page_text("docs/TOOL.md"))), 1)
+        runs = runs_in(listing_of_text(program + "\n"))
+        rows = re.findall(r"^\| `(.*)` \| (.*) \| ([0-9/]+) \|$", text, re.M)
+        self.same("the table's runs", [row[0] for row in rows], [run[0] for run in runs])
+        bounds = [re.findall("/([0-9]+)", run[0]) for run in runs]
+        self.same("the table's bounds", [row[1].split(" and ") for row in rows], bounds)
+        self.same("the table's chances", [whole(row[2]) for row in rows], [run[3] for run in runs])
+        self.same("the runs that are printed", re.findall("^    RUN (\\S+)", text, re.M), [run[0] for run in runs])
+        showing = [run for run in runs if run[2]]
+        said = r"shows a number in (\w+) of its (\w+) runs, and with the chance ([0-9]+/[0-9]+), which is ([0-9/]+)\."
+        numbers = re.search(said.replace(" ", r"\s+"), text)
+        words = {"one": 1, "two": 2, "three": 3, "four": 4}
+        self.same("how many runs show a number", (words[numbers[1]], words[numbers[2]]), (len(showing), len(runs)))
+        self.same("their chance", {whole(numbers[3]), whole(numbers[4])}, {sum(run[3] for run in showing)})
 
-def check_readme(program):
-    """The program of README is that of the chapter, so its chances are those of the chapter's table."""
-    with open(f"{ROOT}/README.md", encoding="utf-8") as file:
-        text = file.read()
-    same("README's example", re.findall(r"\$ echo '(.*)' \| ./ptb --all$", text, re.M), [program])
-    text = text[text.index(f"echo '{program}' | ./ptb --all") :]
-    runs = runs_in(listing_of_text(program + "\n"))
-    same("README's runs", re.findall("^    RUN (\\S+)", text, re.M)[: len(runs)], [run[0] for run in runs])
-    chance, ways = Fraction(comb(100, 50), 2**100), comb(100, 50)
-    due = [(f"{chance.numerator}/{chance.denominator}", f"{ways}", f"{50:6}")]
-    same("README's tosses", re.findall("^    CHANCE (\\S+) (\\S+) END 6\n    (.*)$", text, re.M), due)
+    def test_readme(self):
+        """The program of README is that of the chapter, so its chances are those of the chapter's table."""
+        text = page_text("README.md")
+        _, program = chapter_of_the_tool()
+        self.same("README's example", re.findall(r"\$ echo '(.*)' \| ./ptb --all$", text, re.M), [program])
+        text = text[text.index(f"echo '{program}' | ./ptb --all") :]
+        runs = runs_in(listing_of_text(program + "\n"))
+        self.same("README's runs", re.findall("^    RUN (\\S+)", text, re.M)[: len(runs)], [run[0] for run in runs])
+        chance, ways = Fraction(comb(100, 50), 2**100), comb(100, 50)
+        due = [(f"{chance.numerator}/{chance.denominator}", f"{ways}", f"{50:6}")]
+        self.same("README's tosses", re.findall("^    CHANCE (\\S+) (\\S+) END 6\n    (.*)$", text, re.M), due)
+
+    def test_tables_of_readme(self):
+        self.check_tables("README.md", 2)
+
+    def test_tables_of_the_tool(self):
+        self.check_tables("docs/TOOL.md", 2)
+
+    def test_tables_of_examples(self):
+        self.check_tables("examples/README.md", 1)
+
+    def check_tables(self, page, least):
+        """Each table by endings or last lines that a page prints has the chances that the listed runs have."""
+        text = page_text(page)
+        commands = re.findall(r"^    (\$ (.*) \| tools/outcomes --by (ending|last-line))$", text, re.M)
+        self.same(f"{page} has so many tables or more", len(commands) >= least, True)
+        for command, listing_command, kind in commands:
+            runs = runs_in(listing_by(listing_command))
+            due = added_up(runs, KEYS[kind])
+            rows = rows_shown(text, command)
+            self.same(f"{page}: {command}", {row[0].strip(): row[1:3] for row in rows}, {it.strip(): due[it] for it in due})
+            self.same(f"{page}: percents: {command}", [row[3] for row in rows], [f"{float(100 * row[1]):.2f}" for row in rows])
+            falling = sorted((row[1] for row in rows), reverse=True)
+            self.same(f"{page}: order: {command}", [row[1] for row in rows], falling)
+
+    def test_page_of_examples(self):
+        """The tables of these games in examples/README.md are those of their rules."""
+        text = page_text("examples/README.md")
+        for name, results in [("craps", craps(20)), ("walk", walk(100))]:
+            rows = rows_shown(text, f"    $ ./ptb --chances examples/{name}.bas < /dev/null | tools/outcomes\n")
+            due = [(line.decode(), *results[ending, line]) for ending, line in results]
+            due = [(line, chance, number, f"{float(100 * chance):.2f}") for line, chance, number in due]
+            self.same(f"the page's table of {name}", rows, sorted(due, key=lambda row: -row[1]))
+
+    def test_page_of_large_trees(self):
+        """The likeliest sums of ten throws in docs/LARGE-TREES.md are those of all throws."""
+        text = page_text("docs/LARGE-TREES.md")
+        sums = Counter({0: 1})
+        for _ in range(10):
+            sums = sum((Counter({total + die: sums[total] for total in sums}) for die in range(1, 7)), Counter())
+        due = {f"{total}": (Fraction(number, 6**10), number) for total, number in sums.most_common(3)}
+        rows = rows_shown(text, "    $ ./ptb --chances ten.bas < /dev/null | tools/outcomes --top 3\n")
+        self.same("the likeliest sums of ten throws", {row[0]: row[1:3] for row in rows}, due)
 
 
 # ---- the tool
 
 
-def check_tool(name, text):
-    """The tool has the chances that are worked out here, and those of a whole tree add up to 1."""
-    runs = runs_in(text)
-    same(f"all runs of {name}", sum(run[3] for run in runs), 1)
-    for kind, key in KEYS.items():
-        same(f"{name} by {kind}", told(text, kind), added_up(runs, key))
+class Tool(Checked):
+    """The chances of tools/outcomes are those of the runs."""
+
+    def test_example_of_the_pages(self):
+        _, program = chapter_of_the_tool()
+        self.check_tool("the example of the documents", listing_of_text(program + "\n"))
+
+    def test_examples(self):
+        for name in LISTED:
+            self.check_tool(name, example(name))
+
+    def test_answers_for_lines(self):
+        self.check_tool("eight with --choose", listing(f"{ROOT}/examples/eight.bas", "--choose", "8"))
+
+    def check_tool(self, name, text):
+        """The tool has the chances that are worked out here, and those of a whole tree add up to 1."""
+        runs = runs_in(text)
+        self.same(f"all runs of {name}", sum(run[3] for run in runs), 1)
+        for kind, key in KEYS.items():
+            self.same(f"{name} by {kind}", told(text, kind), added_up(runs, key))
+
+    def test_chances_by_hand(self):
+        """Chances that nobody needs a listing for."""
+        dice = Counter(map(sum, product(range(1, 7), repeat=3)))
+        due = {f"{total:6}": (Fraction(number, 216), number) for total, number in dice.items()}
+        self.same("the sums of three dice", told(example("throw"), "last-line"), due)
+        won = told(example("doors"), "last-line")["THE PRIZE IS YOURS!"]
+        self.same("the prize behind one of three doors, for those who switch", won[0], Fraction(2, 3))
+        # in each of the 8 games, what is won is 1 + 7 + 49 of 512 equally likely rows of guesses, in which games end early
+        won = told(listing(f"{ROOT}/examples/eight.bas", "--choose", "8"), "last-line")["RIGHT!"]
+        self.same("three guesses of eight numbers", won, (1 - Fraction(7, 8) ** 3, 8 * (1 + 7 + 49)))
+        heads = told(listing_of_text("10 A=A+1;IF RND(2)=1 IF A<5 GOTO 10\n20 PRINT A\n"), "last-line")
+        due = {f"{k:6}": (Fraction(1, 2 ** min(k, 4)), 2 if k == 5 else 1) for k in range(1, 6)}
+        self.same("heads in a row", heads, due)
 
 
 # ---- the program's own table
-
-
-def check_bytes(name, text, program_table):
-    """The program's table has the bytes of the table that is added up from the listing of the same runs."""
-    due = table_of((ending, shown.encode(), chance) for _, ending, shown, chance in runs_in(text))
-    same(f"the bytes of the table of {name}", program_table, due)
-
-
-def check_table(name, text, program_table):
-    """The tool says the same of a listing and of the program's table of the same runs."""
-    check_bytes(name, text, program_table)
-    for kind in ("last-line", "ending"):
-        same(f"the table of {name} by {kind}", told(program_table, kind), told(text, kind))
-
-
-def check_example_tables():
-    """The tables of all examples."""
-    for path in sorted(glob.glob(f"{ROOT}/examples/*.bas")):
-        name = os.path.basename(path).removesuffix(".bas")
-        words = ["--steps", STEPS[name]] if name in STEPS else []
-        text = example(name, *words, "--first", str(MOST_LISTED))
-        same(f"so few runs of {name} that they are listed", text.count(b"\nRUN ") < MOST_LISTED - 1, True)
-        with open(f"{ROOT}/examples/{name}.input", "rb") as lines:
-            check_table(name, text, table(path, *words, lines=lines.read()))
-    eight = f"{ROOT}/examples/eight.bas"
-    check_table("eight with --choose", listing(eight, "--choose", "8"), table(eight, "--choose", "8"))
 
 
 def random_program(chance):
@@ -241,20 +280,6 @@ def random_program(chance):
         f"40 IF B{chance.choice('<>=')}{chance.randint(1, 4)} {ending}\n"
         f"50 PRINT A-RND({third});IF RND(2)=2 {chance.choice(['STOP', 'GOTO 10', 'A=B*1000*A'])}\n"
     )
-
-
-def check_random_tables():
-    """The tables of programs that are drawn, with a limit of commands."""
-    chance = random.Random(56)
-    with staged() as folder:
-        path = f"{folder}/drawn.bas"
-        for number in range(40):
-            program = random_program(chance)
-            with open(path, "w", encoding="ascii") as file:
-                file.write(program)
-            steps = str(chance.randint(1, 16))
-            words = ["--steps", steps]
-            check_table(f"program {number}, {program!r} --steps {steps}", listing(path, *words), table(path, *words))
 
 
 # Programs of which two plays are in states that differ in one thing, answer a question, and then show the thing. What they read is
@@ -283,19 +308,6 @@ PARTED_BY = {
 }
 
 
-def check_states():
-    """Plays in states that differ in one thing are not one, whatever the limit of commands."""
-    with staged() as folder:
-        path = f"{folder}/parted.bas"
-        for thing, program in PARTED_BY.items():
-            with open(path, "w", encoding="ascii") as file:
-                file.write(program)
-            for steps in [*range(1, 10), 100]:
-                words = ["--steps", str(steps)]
-                text = listing(path, *words, lines=LINES)
-                check_bytes(f"plays parted by {thing}, --steps {steps}", text, table(path, *words, lines=LINES))
-
-
 # Commands after which plays differ, or meet again.
 COMMANDS = [
     *["A=RND(2)", "A=RND(2)+RND(2)", "A=A+RND(2)*2-3", "A=0", "B=RND(1+RND(2))", "@(RND(2))=RND(2)", "@(1)=@(2)"],
@@ -314,37 +326,73 @@ def meeting_program(chance):
     )
 
 
-def check_meeting_tables():
-    """The tables of such programs, where the runs are few enough to list them."""
-    chance = random.Random(10)
-    listed = 0
-    with staged() as folder:
-        path = f"{folder}/meeting.bas"
-        for number in range(300):
-            program = meeting_program(chance)
-            with open(path, "w", encoding="ascii") as file:
-                file.write(program)
-            words = ["--steps", str(chance.randint(5, 40)), *chance.choice([[], ["--choose", "2"]])]
-            text = listing(path, *words, "--first", "3000", lines=LINES)
-            if text.count(b"\nRUN ") < 2999:
-                listed += 1
-                check_bytes(f"program {number}, {program!r} {words}", text, table(path, *words, lines=LINES))
-    same("most of these programs are listed", listed > 200, True)
+class Tables(Checked):
+    """The tables of --chances are those of the listed runs."""
 
+    def check_bytes(self, name, text, program_table):
+        """The program's table has the bytes of the table that is added up from the listing of the same runs."""
+        due = table_of((ending, shown.encode(), chance) for _, ending, shown, chance in runs_in(text))
+        self.same(f"the bytes of the table of {name}", program_table, due)
 
-def check_by_hand():
-    """Chances that nobody needs a listing for."""
-    dice = Counter(map(sum, product(range(1, 7), repeat=3)))
-    due = {f"{total:6}": (Fraction(number, 216), number) for total, number in dice.items()}
-    same("the sums of three dice", told(example("throw"), "last-line"), due)
-    won = told(example("doors"), "last-line")["THE PRIZE IS YOURS!"]
-    same("the prize behind one of three doors, for who changes", won[0], Fraction(2, 3))
-    # in each of the 8 games, what is won is 1 + 7 + 49 of 512 equally likely rows of guesses, in which games end early
-    won = told(listing(f"{ROOT}/examples/eight.bas", "--choose", "8"), "last-line")["RIGHT!"]
-    same("three guesses of eight numbers", won, (1 - Fraction(7, 8) ** 3, 8 * (1 + 7 + 49)))
-    heads = told(listing_of_text("10 A=A+1;IF RND(2)=1 IF A<5 GOTO 10\n20 PRINT A\n"), "last-line")
-    due = {f"{k:6}": (Fraction(1, 2 ** min(k, 4)), 2 if k == 5 else 1) for k in range(1, 6)}
-    same("heads in a row", heads, due)
+    def check_table(self, name, text, program_table):
+        """The tool says the same of a listing and of the program's table of the same runs."""
+        self.check_bytes(name, text, program_table)
+        for kind in ("last-line", "ending"):
+            self.same(f"the table of {name} by {kind}", told(program_table, kind), told(text, kind))
+
+    def test_examples(self):
+        """The tables of all examples."""
+        for path in sorted(glob.glob(f"{ROOT}/examples/*.bas")):
+            name = os.path.basename(path).removesuffix(".bas")
+            words = ["--steps", STEPS[name]] if name in STEPS else []
+            text = example(name, *words, "--first", str(MOST_LISTED))
+            self.same(f"so few runs of {name} that they are listed", text.count(b"\nRUN ") < MOST_LISTED - 1, True)
+            with open(f"{ROOT}/examples/{name}.input", "rb") as lines:
+                self.check_table(name, text, table(path, *words, lines=lines.read()))
+        eight = f"{ROOT}/examples/eight.bas"
+        self.check_table("eight with --choose", listing(eight, "--choose", "8"), table(eight, "--choose", "8"))
+
+    def test_random_programs(self):
+        """The tables of programs that are drawn, with a limit of commands."""
+        chance = random.Random(56)
+        with staged() as folder:
+            path = f"{folder}/drawn.bas"
+            for number in range(40):
+                program = random_program(chance)
+                with open(path, "w", encoding="ascii") as file:
+                    file.write(program)
+                steps = str(chance.randint(1, 16))
+                words = ["--steps", steps]
+                self.check_table(f"program {number}, {program!r} --steps {steps}", listing(path, *words), table(path, *words))
+
+    def test_states(self):
+        """Plays in states that differ in one thing are not one, whatever the limit of commands."""
+        with staged() as folder:
+            path = f"{folder}/parted.bas"
+            for thing, program in PARTED_BY.items():
+                with open(path, "w", encoding="ascii") as file:
+                    file.write(program)
+                for steps in [*range(1, 10), 100]:
+                    words = ["--steps", str(steps)]
+                    text = listing(path, *words, lines=LINES)
+                    self.check_bytes(f"plays parted by {thing}, --steps {steps}", text, table(path, *words, lines=LINES))
+
+    def test_meeting_programs(self):
+        """The tables of such programs, where the runs are few enough to list them."""
+        chance = random.Random(10)
+        listed = 0
+        with staged() as folder:
+            path = f"{folder}/meeting.bas"
+            for number in range(300):
+                program = meeting_program(chance)
+                with open(path, "w", encoding="ascii") as file:
+                    file.write(program)
+                words = ["--steps", str(chance.randint(5, 40)), *chance.choice([[], ["--choose", "2"]])]
+                text = listing(path, *words, "--first", "3000", lines=LINES)
+                if text.count(b"\nRUN ") < 2999:
+                    listed += 1
+                    self.check_bytes(f"program {number}, {program!r} {words}", text, table(path, *words, lines=LINES))
+        self.same("most of these programs are listed", listed > 200, True)
 
 
 # ---- games of many runs, by their rules
@@ -408,60 +456,44 @@ def tosses(number):
     return {("END", f"{it}".encode()): (Fraction(ways[it], 2**number), ways[it]) for it in ways}
 
 
-def game(name, old, new):
-    """The text of an example in which something is replaced."""
-    with open(f"{ROOT}/examples/{name}.bas", encoding="ascii") as file:
-        text = file.read()
-    same(f"{name} has {old} once", text.count(old), 1)
-    return text.replace(old, new)
+class Games(Checked):
+    """The tables of games with many runs are those of their rules."""
 
+    def test_short_games(self):
+        self.check_games(3, 12, 12)
 
-def check_games(throws, steps, coins):
-    """The tables of craps with so many throws at most, of a walk of so many steps, and of so many coins."""
-    games = [
-        ("craps", game("craps", "TO 20\n", f"TO {throws}\n"), craps(throws)),
-        ("the walk", game("walk", "TO 100\n", f"TO {steps}\n"), walk(steps)),
-        ("tosses", f"10 FOR I=1 TO {coins};A=A+2*RND(2)-3;NEXT I\n20 PRINT #1,A\n", tosses(coins)),
-    ]
-    with staged() as folder:
-        for name, text, results in games:
-            with open(f"{folder}/game.bas", "w", encoding="ascii") as file:
-                file.write(text)
-            same(f"all of {name}", sum(chance for chance, _ in results.values()), 1)
-            same(f"{name}: {throws}, {steps}, {coins}", table(f"{folder}/game.bas"), table_text(results))
+    def test_long_games(self):
+        self.check_games(20, 100, 200)
 
+    def check_games(self, throws, steps, coins):
+        """The tables of craps with so many throws at most, of a walk of so many steps, and of so many coins."""
+        games = [
+            ("craps", self.game("craps", "TO 20\n", f"TO {throws}\n"), craps(throws)),
+            ("the walk", self.game("walk", "TO 100\n", f"TO {steps}\n"), walk(steps)),
+            ("tosses", f"10 FOR I=1 TO {coins};A=A+2*RND(2)-3;NEXT I\n20 PRINT #1,A\n", tosses(coins)),
+        ]
+        with staged() as folder:
+            for name, text, results in games:
+                with open(f"{folder}/game.bas", "w", encoding="ascii") as file:
+                    file.write(text)
+                self.same(f"all of {name}", sum(chance for chance, _ in results.values()), 1)
+                self.same(f"{name}: {throws}, {steps}, {coins}", table(f"{folder}/game.bas"), table_text(results))
 
-def check_page_of_examples():
-    """The tables of these games in examples/README.md are those of their rules."""
-    with open(f"{ROOT}/examples/README.md", encoding="utf-8") as file:
-        text = file.read()
-    for name, results in [("craps", craps(20)), ("walk", walk(100))]:
-        rows = rows_shown(text, f"    $ ./ptb --chances examples/{name}.bas < /dev/null | tools/outcomes\n")
-        due = [(line.decode(), *results[ending, line]) for ending, line in results]
-        due = [(line, chance, number, f"{float(100 * chance):.2f}") for line, chance, number in due]
-        same(f"the page's table of {name}", rows, sorted(due, key=lambda row: -row[1]))
+    def game(self, name, old, new):
+        """The text of an example in which something is replaced."""
+        with open(f"{ROOT}/examples/{name}.bas", encoding="ascii") as file:
+            text = file.read()
+        self.same(f"{name} has {old} once", text.count(old), 1)
+        return text.replace(old, new)
 
-
-def check_page_of_large_trees():
-    """The likeliest sums of ten throws in docs/LARGE-TREES.md are those of all throws."""
-    with open(f"{ROOT}/docs/LARGE-TREES.md", encoding="utf-8") as file:
-        text = file.read()
-    sums = Counter({0: 1})
-    for _ in range(10):
-        sums = sum((Counter({total + die: sums[total] for total in sums}) for die in range(1, 7)), Counter())
-    due = {f"{total}": (Fraction(number, 6**10), number) for total, number in sums.most_common(3)}
-    rows = rows_shown(text, "    $ ./ptb --chances ten.bas < /dev/null | tools/outcomes --top 3\n")
-    same("the likeliest sums of ten throws", {row[0]: row[1:3] for row in rows}, due)
-
-
-def check_limits():
-    """The longer a game may take, the closer are its chances to those of the game without an end."""
-    for name, results, won, still, limit in [
-        ("craps", craps(200), WINS, NOT_DECIDED, Fraction(244, 495)),
-        ("the walk", walk(2000), HOME, WALKING, Fraction(3, 10)),
-    ]:
-        chance, left = (results[ending, line.encode()][0] for ending, line in (won, still))
-        same(f"{name} without an end", chance < limit < chance + left < chance + Fraction(1, 10**9), True)
+    def test_limits(self):
+        """The longer a game may take, the closer are its chances to those of the game without an end."""
+        for name, results, won, still, limit in [
+            ("craps", craps(200), WINS, NOT_DECIDED, Fraction(244, 495)),
+            ("the walk", walk(2000), HOME, WALKING, Fraction(3, 10)),
+        ]:
+            chance, left = (results[ending, line.encode()][0] for ending, line in (won, still))
+            self.same(f"{name} without an end", chance < limit < chance + left < chance + Fraction(1, 10**9), True)
 
 
 # ---- tic-tac-toe
@@ -483,50 +515,29 @@ def games(moved, to_move, players):
             yield from games(to_move | square, moved, players[::-1])
 
 
-def check_tic_tac_toe():
-    """The games of the example, in shares by their first move, against those that are played here."""
-    program = f"{ROOT}/examples/tictac.bas"
-    lists = listing(program, "--shares", "1").decode().split()
-    same("the first moves of tic-tac-toe", lists, [f"{square}/9" for square in range(1, 10)])
-    shares = [listing(program, "--under", it) for it in lists]
-    chances = Counter()
-    for it, share, square in zip(lists, shares, SQUARES):
-        ends = Counter()
-        for (end, free), number in Counter(games(square, 0, "XO")).items():
-            ends[end] += number
-            chances[end] += number * Fraction(factorial(free), factorial(9))
-        said = Counter(re.findall("^(?:[XO] WINS|A DRAW)$", share.decode(), re.M))
-        same(f"the games of tic-tac-toe after {it}", said, ends)
-    numbers = {"X WINS": 131184, "O WINS": 77904, "A DRAW": 46080}  # as the literature has them
-    due = {end: (chances[end], number) for end, number in numbers.items()}
-    same("all games of tic-tac-toe", told(b"".join(shares), "last-line"), due)
-    results = {("STOP", end.encode()): due[end] for end in due}
-    same("the table of all games of tic-tac-toe", table(program), table_text(results))
+class TicTacToe(Checked):
+    """All games of tic-tac-toe."""
+
+    def test_tic_tac_toe(self):
+        """The games of the example, in shares by their first move, against those that are played here."""
+        program = f"{ROOT}/examples/tictac.bas"
+        lists = listing(program, "--shares", "1").decode().split()
+        self.same("the first moves of tic-tac-toe", lists, [f"{square}/9" for square in range(1, 10)])
+        shares = [listing(program, "--under", it) for it in lists]
+        chances = Counter()
+        for it, share, square in zip(lists, shares, SQUARES):
+            ends = Counter()
+            for (end, free), number in Counter(games(square, 0, "XO")).items():
+                ends[end] += number
+                chances[end] += number * Fraction(factorial(free), factorial(9))
+            said = Counter(re.findall("^(?:[XO] WINS|A DRAW)$", share.decode(), re.M))
+            self.same(f"the games of tic-tac-toe after {it}", said, ends)
+        numbers = {"X WINS": 131184, "O WINS": 77904, "A DRAW": 46080}  # as the literature has them
+        due = {end: (chances[end], number) for end, number in numbers.items()}
+        self.same("all games of tic-tac-toe", told(b"".join(shares), "last-line"), due)
+        results = {("STOP", end.encode()): due[end] for end in due}
+        self.same("the table of all games of tic-tac-toe", table(program), table_text(results))
 
 
-def main():
-    program = check_page_of_the_tool()
-    check_readme(program)
-    check_tables("README.md", 2)
-    check_tables("docs/TOOL.md", 2)
-    check_tables("examples/README.md", 1)
-    check_tool("the example of the documents", listing_of_text(program + "\n"))
-    for name in LISTED:
-        check_tool(name, example(name))
-    check_example_tables()
-    check_random_tables()
-    check_states()
-    check_meeting_tables()
-    check_tool("eight with answers in place of lines", listing(f"{ROOT}/examples/eight.bas", "--choose", "8"))
-    check_by_hand()
-    check_limits()
-    check_games(3, 12, 12)
-    check_games(20, 100, 200)
-    check_page_of_examples()
-    check_page_of_large_trees()
-    check_tic_tac_toe()
-    print(f"{passed} passed, {failed} failed")
-    return 1 if failed else 0
-
-
-sys.exit(main())
+if __name__ == "__main__":
+    runner.main()
