@@ -17,7 +17,8 @@
 # In the same way each allocation is refused to those tests of crates that pass whichever is refused. rt ci builds them; one
 # that is missing is proved and built here.
 #
-# PTB names another program than the one that ./ptb builds. CC names the C compiler; without it the one of the kit serves.
+# Arguments name parts of tests, as of_the_program; without any, all are run. PTB names another program than the one that ./ptb
+# builds. CC names the C compiler; without it the one of the kit serves.
 . "$(dirname "$(readlink -f "$0")")/shared/head.sh"
 . "$root/tests/shared/built.sh"
 
@@ -31,4 +32,5 @@ compiled "${CC:-cc}" 2>/dev/null || compiled "$kit/toolchain/bin/clang" -fuse-ld
 for crate in ptb_language_tests ptb_numbers_tests ptb_chances_tests ptb_machine_tests ptb_tests; do
     [ -x "$root/crates/$crate/out/${crate}_tests" ] || (cd "$root/crates/$crate" && rt test >/dev/null) || exit 1
 done
-PYTHONPATH=$root/tests/shared python3 -B "$root/tests/refusals/main.py" "$PTB" "$folder/strike.so" "$root/crates"
+export PYTHONPATH=$root/tests/shared PTB STRIKE_LIBRARY=$folder/strike.so
+python3 -B "$root/tests/refusals/main.py" "$@"

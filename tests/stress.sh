@@ -7,4 +7,4 @@
 # PTB names another program than the one that ./ptb builds.
 . "$(dirname "$(readlink -f "$0")")/shared/head.sh"
 . "$root/tests/shared/built.sh"
-PYTHONPATH=$root/tests/shared python3 -B "$root/tests/stress/main.py" "$PTB" "$@"
+PYTHONPATH=$root/tests/shared PTB=$PTB python3 -B "$root/tests/stress/main.py" "$@"

@@ -1,17 +1,20 @@
 """This file strikes the program's calls for memory, reads, writes and files one by one, and checks how each run ends.
 
-Then it has the allocations of tests refused.
+Then it has the allocations of tests refused. STRIKE_LIBRARY names the library that strikes calls.
 """
 
 import multiprocessing
 import os
-import sys
 import tempfile
 from dataclasses import dataclass, replace
 
 import of_tests
+import runner
 from replies import Reply, replied
 from rows import ROWS, Row, noted
+from stage import PTB
+
+STRIKE = os.path.abspath(os.environ["STRIKE_LIBRARY"])
 
 KINDS = {
     "refuse": "allocations refused",
@@ -53,12 +56,12 @@ class Sweep:
 
 def swept(task):
     """Strikes the row's first call of this kind, the second, and so on until a run has no such call any more."""
-    ptb, strike, row, kind = task
+    row, kind = task
     with tempfile.TemporaryDirectory(prefix="ptb-refusals-") as folder:
-        row = row_with_text(row, run(ptb, strike, folder, row, "")[1])
+        row = row_with_text(row, run(folder, row, "")[1])
         replies = []
         for number in range(1, MOST_CALLS):
-            replies.append((number, *run(ptb, strike, folder, row, f"{kind} {number}")))
+            replies.append((number, *run(folder, row, f"{kind} {number}")))
             if not replies[-1][1]:
                 break
     whole = sum(reply == row.due for _, struck, reply in replies if struck)
@@ -82,7 +85,7 @@ def row_with_text(row, unstruck):
     return row if isinstance(row.due, Reply) else replace(row, due=replace(unstruck, status=row.due))
 
 
-def run(ptb, strike, folder, row, how):
+def run(folder, row, how):
     """Runs the row with a strike: what was struck, or an empty text, and the reply."""
     program, struck = os.path.join(folder, "program.bas"), os.path.join(folder, "struck")
     written(program, row.program)
@@ -92,9 +95,9 @@ def run(ptb, strike, folder, row, how):
     how_it_is_run = {
         "input": stdin.encode(),
         "capture_output": True,
-        "env": {**os.environ, "LD_PRELOAD": strike, "STRIKE": how, "STRUCK": struck},
+        "env": {**os.environ, "LD_PRELOAD": STRIKE, "STRIKE": how, "STRUCK": struck},
     }
-    reply = replied([ptb, *words], SECONDS_OF_A_RUN, **how_it_is_run)
+    reply = replied([PTB, *words], SECONDS_OF_A_RUN, **how_it_is_run)
     with open(struck, encoding="ascii") as name:
         return name.read(), reply
 
@@ -158,31 +161,37 @@ def is_cut_short(row, reply, note):
     return is_noted and row.due.output.startswith(reply.output)
 
 
-def told(sweeps):
-    """Prints what became of the sweeps; gives how many runs were as they may be, and how many weren't."""
-    passed = failed = 0
-    for sweep in sweeps:
-        for fault in sweep.faults:
-            print(f"failed: {sweep.row}: {fault}")
-        passed += sweep.passed
-        failed += len(sweep.faults)
-    for kind, name in KINDS.items():
-        struck = [sweep.struck for sweep in sweeps if sweep.kind == kind]
-        whole = sum(sweep.whole for sweep in sweeps if sweep.kind == kind)
-        print(f"{name}: {sum(struck)} in {len(struck)} rows, {min(struck)} to {max(struck)} each; {whole} runs whole")
-        # where nothing is struck in any row the strikes don't reach the program
-        passed, failed = passed + any(struck), failed + (not any(struck))
-    return passed, failed
+class Refusals(runner.Gathered):
+    """The calls of the built program and of tests are refused one by one."""
 
+    def test_calls_of_the_program(self):
+        """Each run ends as it may, whichever of its calls is struck; and calls of each kind are struck."""
+        with multiprocessing.get_context("fork").Pool() as pool:
+            sweeps = pool.map(swept, [(row, kind) for kind in KINDS for row in ROWS], chunksize=1)
+        for sweep in sweeps:
+            self.count_sweep(sweep.row, sweep.passed, sweep.faults)
+        for kind, name in KINDS.items():
+            struck = [sweep.struck for sweep in sweeps if sweep.kind == kind]
+            whole = sum(sweep.whole for sweep in sweeps if sweep.kind == kind)
+            print(f"{name}: {sum(struck)} in {len(struck)} rows, {min(struck)} to {max(struck)} each; {whole} runs whole")
+            # if nothing is struck in any row, the strikes don't reach the program
+            with self.subTest(name):
+                self.assertTrue(any(struck))
 
-def main():
-    ptb, strike, crates = map(os.path.abspath, sys.argv[1:])
-    with multiprocessing.Pool() as pool:
-        sweeps = pool.map(swept, [(ptb, strike, row, kind) for kind in KINDS for row in ROWS], chunksize=1)
-    passed, failed = map(sum, zip(told(sweeps), of_tests.told(strike, crates)))
-    print(f"{passed} passed, {failed} failed")
-    return failed == 0
+    def test_allocations_of_tests(self):
+        """Each test passes, whichever of its allocations is refused."""
+        for crate, test, wanted in of_tests.TESTS:
+            refused, passed, faults = of_tests.swept(STRIKE, crate, test, wanted)
+            self.count_sweep(f"{crate} {test}", passed, faults)
+            print(f"allocations refused: {refused} in the test {test} of {crate}")
+
+    def count_sweep(self, name, passed, faults):
+        """Counts the runs that ended as they may, and what went wrong."""
+        self.add_passed(passed)
+        for fault in faults:
+            with self.subTest(f"{name}: {fault}"):
+                self.fail()
 
 
 if __name__ == "__main__":
-    sys.exit(0 if main() else 1)
+    runner.main()

@@ -5,6 +5,8 @@ import re
 import subprocess
 import tempfile
 
+from stage import ROOT
+
 # The tests, and behind how many reports memory must have been refused at least once.
 TESTS = [
     ("ptb_language_tests", "texts::refused_growths_are_answered", set()),
@@ -33,11 +35,12 @@ MOST_CALLS = 1000
 SECONDS_OF_A_TEST = 60
 
 
-def swept(strike, program, test, wanted):
-    """Refuses the test's first allocation, the second, and so on until a run has no such allocation any more.
+def swept(strike, crate, test, wanted):
+    """Refuses the first allocation of a crate's test, the second, and so on until a run has no such allocation any more.
 
     It gives how many were refused, how many of the runs passed, and what went wrong.
     """
+    program = f"{ROOT}/crates/{crate}/out/{crate}_tests"
     seen, passed, faults = set(), 0, []
     with tempfile.TemporaryDirectory(prefix="ptb-refusals-") as folder:
         for number in range(1, MOST_CALLS):
@@ -64,16 +67,3 @@ def run(program, test, strike, struck, number):
     how = {"capture_output": True, "text": True, "timeout": SECONDS_OF_A_TEST, "env": variables}
     done = subprocess.run([program, test], **how)
     return done, os.path.getsize(struck) > 0
-
-
-def told(strike, crates):
-    """Tries the tests, and prints what became of them; gives how many runs passed, and how many faults there are."""
-    passed = failed = 0
-    for crate, test, wanted in TESTS:
-        program = os.path.join(crates, crate, "out", f"{crate}_tests")
-        refused, well, faults = swept(strike, program, test, wanted)
-        for fault in faults:
-            print(f"failed: {crate} {test}: {fault}")
-        print(f"allocations refused: {refused} in the test {test} of {crate}")
-        passed, failed = passed + well, failed + len(faults)
-    return passed, failed

@@ -3,93 +3,85 @@
 import os
 import subprocess
 
-from trials import DICE, LISTING, PROGRAM, Case, read, write
+from trials import DICE, LISTING, PROGRAM, Case, Trials, read, write
 
 UNREAD = "ptb: cannot read the program\n  none.bas: No such file or directory (os error 2)\n"
 HELP = "see resume --help\n"
 NO_COMMAND = f"resume: a command is needed after FILE and --; {HELP}"
 
 
-def check(trials):
-    words(trials)
-    files(trials)
-    commands(trials)
-    a_full_disk(trials)
+class Endings(Trials):
+    """How tools/resume ends."""
 
+    def says(self, name, given, status, errors, file=b""):
+        """Checks the status and the text for errors of a call with these words, and what is in the file behind it."""
+        reply = self.resume(*given)
+        self.hold(name, (reply.status, reply.errors, reply.file) == (status, errors, file), reply)
 
-def says(trials, name, given, status, errors, file=b""):
-    """Checks the status and the text for errors of a call with these words, and what is in the file behind it."""
-    reply = trials.resume(*given)
-    trials.count(name, (reply.status, reply.errors, reply.file) == (status, errors, file), reply)
+    def test_words(self):
+        self.text(DICE)
+        write(LISTING, b"")
+        ptb = self.ptb
+        line = f"resume: {LISTING}: "
+        self.says("no arguments", [], 64, f"resume: the following arguments are required: FILE; {HELP}")
+        self.says("a file alone", [LISTING], 64, NO_COMMAND)
+        self.says("no command", [LISTING, "--"], 64, NO_COMMAND)
+        said = f"resume: unrecognized arguments: {ptb} --all {PROGRAM}; {HELP}"
+        self.says("no --", [LISTING, ptb, "--all", PROGRAM], 64, said)
+        self.says("no --all", [LISTING, "--", ptb, PROGRAM], 64, f"{line}the command has no --all\n")
+        self.says("--all as a program", [LISTING, "--", ptb, "--", "--all"], 64, f"{line}the command has no --all\n")
+        twice = [LISTING, "--", ptb, "--all", "--first", "1", "--first=2", PROGRAM]
+        self.says("--first twice", twice, 64, f"{line}--first is there twice\n")
+        twice = [LISTING, "--", ptb, "--all", "--under=1", "--under", "2", PROGRAM]
+        self.says("--under twice", twice, 64, f"{line}--under is there twice\n")
+        values = ("--first", "two"), ("--first", ""), ("--after", "01"), ("--after", "1,,2"), ("--after", "None"), ("--under", "2/")
+        for option, value in values:
+            given = [LISTING, "--", ptb, "--all", PROGRAM, option, value]
+            self.says(f"{option} {value}", given, 64, f"{line}{option} can't have the value {value!r}\n")
+        given = [LISTING, "--", ptb, "--all", PROGRAM, "--after"]
+        self.says("--after without a value", given, 64, f"{line}--after can't have the value ''\n")
+        done = subprocess.run([self.tool, "--help"], capture_output=True)
+        helps = b"resume FILE -- ptb --all" in done.stdout
+        self.hold("--help", helps and (done.returncode, done.stderr) == (0, b""), done)
 
+    def test_files(self):
+        self.text(DICE)
+        words = self.words(DICE)
+        self.says("a missing file", [LISTING, "--", *words], 66, f"resume: {LISTING}: there is no such file\n", None)
+        self.says("a folder", [".", "--", *words], 66, "resume: .: there is no such file\n", None)
 
-def words(trials):
-    trials.text(DICE)
-    write(LISTING, b"")
-    ptb = trials.ptb
-    line = f"resume: {LISTING}: "
-    says(trials, "no arguments", [], 64, f"resume: the following arguments are required: FILE; {HELP}")
-    says(trials, "a file alone", [LISTING], 64, NO_COMMAND)
-    says(trials, "no command", [LISTING, "--"], 64, NO_COMMAND)
-    said = f"resume: unrecognized arguments: {ptb} --all {PROGRAM}; {HELP}"
-    says(trials, "no --", [LISTING, ptb, "--all", PROGRAM], 64, said)
-    says(trials, "no --all", [LISTING, "--", ptb, PROGRAM], 64, f"{line}the command has no --all\n")
-    says(trials, "--all as a program", [LISTING, "--", ptb, "--", "--all"], 64, f"{line}the command has no --all\n")
-    twice = [LISTING, "--", ptb, "--all", "--first", "1", "--first=2", PROGRAM]
-    says(trials, "--first twice", twice, 64, f"{line}--first is there twice\n")
-    twice = [LISTING, "--", ptb, "--all", "--under=1", "--under", "2", PROGRAM]
-    says(trials, "--under twice", twice, 64, f"{line}--under is there twice\n")
-    values = ("--first", "two"), ("--first", ""), ("--after", "01"), ("--after", "1,,2"), ("--after", "None"), ("--under", "2/")
-    for option, value in values:
-        given = [LISTING, "--", ptb, "--all", PROGRAM, option, value]
-        says(trials, f"{option} {value}", given, 64, f"{line}{option} can't have the value {value!r}\n")
-    given = [LISTING, "--", ptb, "--all", PROGRAM, "--after"]
-    says(trials, "--after without a value", given, 64, f"{line}--after can't have the value ''\n")
-    done = subprocess.run([trials.tool, "--help"], capture_output=True)
-    helps = b"resume FILE -- ptb --all" in done.stdout
-    trials.count("--help", helps and (done.returncode, done.stderr) == (0, b""), done)
+    def test_commands(self):
+        """Commands that can't be started, that fail before they write, or in the middle of it."""
+        text = self.text(DICE)
+        write(LISTING, text[:20])
+        missing = f"resume: {LISTING}: cannot start ./missing: No such file or directory\n"
+        self.says("no such command", [LISTING, "--", "./missing", "--all"], 127, missing, text[:20])
+        denied = f"resume: {LISTING}: cannot start ./{PROGRAM}: Permission denied\n"
+        self.says("a command that is none", [LISTING, "--", f"./{PROGRAM}", "--all"], 126, denied, text[:20])
+        given = [LISTING, "--", self.ptb, "--all", "none.bas"]
+        self.says("the command can't read its program", given, 66, UNREAD, text[:20])
+        given = [LISTING, "--", self.ptb, "--all", "--steps", "0", PROGRAM]
+        reply = self.resume(*given)
+        told = (reply.status, reply.file) == (64, text[:20]) and "--steps" in reply.errors
+        self.hold("words that the command refuses", told, reply)
+        write("whole", text)
+        for ending, status in ("exit 74", 74), ("kill -9 $$", 137):
+            for length, due in (10, 20), (30, 30), (45, 45):
+                write("stand_in", f"#!/bin/sh\nhead -c {length} whole\n{ending}\n".encode())
+                os.chmod("stand_in", 0o755)
+                write(LISTING, text[:20])
+                given = [LISTING, "--", "./stand_in", "--all"]
+                self.says(f"{ending} behind {length} bytes", given, status, "", text[:due])
 
-
-def files(trials):
-    words = trials.words(DICE)
-    os.remove(LISTING)
-    says(trials, "a missing file", [LISTING, "--", *words], 66, f"resume: {LISTING}: there is no such file\n", None)
-    says(trials, "a folder", [".", "--", *words], 66, "resume: .: there is no such file\n", None)
-
-
-def commands(trials):
-    """Commands that can't be started, that fail before they write, or in the middle of it."""
-    text = trials.text(DICE)
-    write(LISTING, text[:20])
-    missing = f"resume: {LISTING}: cannot start ./missing: No such file or directory\n"
-    says(trials, "no such command", [LISTING, "--", "./missing", "--all"], 127, missing, text[:20])
-    denied = f"resume: {LISTING}: cannot start ./{PROGRAM}: Permission denied\n"
-    says(trials, "a command that is none", [LISTING, "--", f"./{PROGRAM}", "--all"], 126, denied, text[:20])
-    given = [LISTING, "--", trials.ptb, "--all", "none.bas"]
-    says(trials, "the command can't read its program", given, 66, UNREAD, text[:20])
-    given = [LISTING, "--", trials.ptb, "--all", "--steps", "0", PROGRAM]
-    reply = trials.resume(*given)
-    told = (reply.status, reply.file) == (64, text[:20]) and "--steps" in reply.errors
-    trials.count("words that the command refuses", told, reply)
-    write("whole", text)
-    for ending, status in ("exit 74", 74), ("kill -9 $$", 137):
-        for length, due in (10, 20), (30, 30), (45, 45):
-            write("stand_in", f"#!/bin/sh\nhead -c {length} whole\n{ending}\n".encode())
-            os.chmod("stand_in", 0o755)
-            write(LISTING, text[:20])
-            given = [LISTING, "--", "./stand_in", "--all"]
-            says(trials, f"{ending} behind {length} bytes", given, status, "", text[:due])
-
-
-def a_full_disk(trials):
-    """A file at its size limit keeps a beginning of the listing, which is gone on with where there is room."""
-    case = Case("10 PRINT RND(99)\n")
-    text = trials.text(case)
-    write(LISTING, text[:500])
-    shell = 'ulimit -f 1; exec "$@"'
-    given = ["bash", "-c", shell, "bash", trials.tool, LISTING, "--", *trials.words(case)]
-    done = subprocess.run(given, stdin=subprocess.DEVNULL, stderr=subprocess.PIPE)
-    due = f"resume: {LISTING}: cannot write: File too large\n".encode()
-    trials.count("a file at its size limit", (done.returncode, done.stderr) == (74, due), done)
-    trials.count("and what it holds", read(LISTING) == text[:1024])
-    says(trials, "and goes on", [LISTING, "--", *trials.words(case)], 0, "", text)
+    def test_a_full_disk(self):
+        """A file at its size limit keeps a beginning of the listing, which is gone on with where there is room."""
+        case = Case("10 PRINT RND(99)\n")
+        text = self.text(case)
+        write(LISTING, text[:500])
+        shell = 'ulimit -f 1; exec "$@"'
+        given = ["bash", "-c", shell, "bash", self.tool, LISTING, "--", *self.words(case)]
+        done = subprocess.run(given, stdin=subprocess.DEVNULL, stderr=subprocess.PIPE)
+        due = f"resume: {LISTING}: cannot write: File too large\n".encode()
+        self.hold("a file at its size limit", (done.returncode, done.stderr) == (74, due), done)
+        self.hold("and what it holds", read(LISTING) == text[:1024])
+        self.says("and goes on", [LISTING, "--", *self.words(case)], 0, "", text)

@@ -1,4 +1,4 @@
-"""This file holds the listings that are tried, calls tools/resume, and counts the checks."""
+"""This file has the listings that are tried, and calls tools/resume."""
 
 import contextlib
 import importlib
@@ -7,12 +7,19 @@ import os
 import random
 import subprocess
 import sys
-from dataclasses import dataclass, field
+import tempfile
+import unittest
+from dataclasses import dataclass
+from unittest import mock
 
+from stage import PTB, ROOT
+
+TOOL = f"{ROOT}/tools/resume"
 LISTING = "listing"
 PROGRAM = "program.bas"
 SECONDS_OF_A_CALL = 60
 
+sys.path.insert(0, os.path.dirname(TOOL))
 
 @dataclass(frozen=True)
 class Case:
@@ -47,29 +54,27 @@ class Reply:
     file: bytes
 
 
-@dataclass
-class Trials:
-    """The program, the tool, the folder for files, a source of random numbers, and how many checks held and didn't."""
+class Trials(unittest.TestCase):
+    """Tests of the tool, each in a folder of its own, with a source of random numbers."""
 
-    ptb: str
-    tool: str
-    folder: str
-    random: random.Random
-    passed: int = 0
-    failed: int = 0
-    module: object = field(init=False)
+    ptb, tool, module = PTB, TOOL, importlib.import_module("ptb_tools.resume")
 
-    def __post_init__(self):
-        sys.path.insert(0, os.path.dirname(self.tool))
-        sys.argv[0] = self.tool
-        self.module = importlib.import_module("ptb_tools.resume")
+    def setUp(self):
+        folder = tempfile.TemporaryDirectory(prefix="ptb-resuming-")
+        self.addCleanup(folder.cleanup)
+        self.addCleanup(os.chdir, "/")
+        os.chdir(folder.name)
+        write("input", b"")
+        # the tool is called in this process, too, and its messages begin with its name
+        named = mock.patch.object(sys, "argv", [self.tool])
+        named.start()
+        self.addCleanup(named.stop)
+        self.random = random.Random("resuming")
 
-    def count(self, name, holds, seen=""):
-        """Counts a check by whether it holds."""
-        self.passed += bool(holds)
-        self.failed += not holds
-        if not holds:
-            print(f"failed: {name}\n    {seen}", flush=True)
+    def hold(self, name, holds, seen=""):
+        """A check that is made by whether something holds."""
+        with self.subTest(name):
+            self.assertTrue(holds, seen)
 
     def words(self, case):
         """The words that list the case's runs."""
@@ -106,7 +111,7 @@ class Trials:
         """Checks that a file with this content is gone on with up to the whole text."""
         write(LISTING, content)
         reply = (call or self.resume_here)(LISTING, "--", *words)
-        self.count(name, (reply.status, reply.errors, reply.file) == (0, "", text), reply)
+        self.hold(name, (reply.status, reply.errors, reply.file) == (0, "", text), reply)
 
     def refused(self, name, content, words, status, line, call=None):
         """Checks that a file with this content is refused with this line, and left as it was."""
@@ -114,8 +119,8 @@ class Trials:
         before = os.stat(LISTING).st_mtime_ns
         reply = (call or self.resume_here)(LISTING, "--", *words)
         told = line in reply.errors.splitlines()
-        self.count(name, reply.status == status and told, f"{reply}; due: {status} {line}")
-        self.count(f"{name}: the file", reply.file == content and os.stat(LISTING).st_mtime_ns == before)
+        self.hold(name, reply.status == status and told, f"{reply}; due: {status} {line}")
+        self.hold(f"{name}: the file", reply.file == content and os.stat(LISTING).st_mtime_ns == before)
 
 
 def write(name, content):

@@ -1,7 +1,8 @@
 """This file runs tests of unittest for a script of tests, and counts what they check.
 
 A check is a subtest, or a test without subtests. It passed, failed or was skipped, and a skipped check is not one that
-passed. A test with subtests that fails outside them is one more failed check.
+passed. A test with subtests that fails outside them is one more failed check. Checks that other processes make are counted
+with `add_passed`.
 """
 
 import sys
@@ -35,6 +36,19 @@ class Counted(unittest.TextTestResult):
         self.passed += not self.has_subtests
 
 
+class Gathered(unittest.TestCase):
+    """Tests of which other processes make the checks."""
+
+    def run(self, result=None):
+        self.counted = result
+        return super().run(result)
+
+    def add_passed(self, number):
+        """Counts so many checks that passed; those that failed are subtests that fail."""
+        self.counted.passed += number
+        self.counted.has_subtests = True
+
+
 def cases_of(tests):
     """The single tests of what may be suites."""
     return chain.from_iterable(cases_of(it) if isinstance(it, unittest.TestSuite) else [it] for it in tests)
@@ -45,13 +59,13 @@ def tests_of_script():
     return unittest.defaultTestLoader.loadTestsFromModule(sys.modules["__main__"])
 
 
-def main(tests=None):
+def main(tests=None, parts=None):
     """Runs these tests, or those in the script that was started, and exits with 0 if all checks passed.
 
-    Only the tests run whose names have one of the script's arguments as a part, if there are any. The skipped checks are
-    printed with their reasons. The last line is 'N passed, M failed'.
+    Only the tests run whose names have one of the parts in them, if there are any. Without `parts` the arguments of the
+    script are these. The skipped checks are printed with their reasons. The last line is 'N passed, M failed'.
     """
-    parts = sys.argv[1:] or [""]
+    parts = (sys.argv[1:] if parts is None else parts) or [""]
     every = cases_of(tests_of_script() if tests is None else tests)
     chosen = [test for test in every if any(part in test.id() for part in parts)]
     runner = unittest.TextTestRunner(stream=sys.stdout, verbosity=0, resultclass=Counted)

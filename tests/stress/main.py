@@ -1,4 +1,4 @@
-"""This file runs the checks over the cases of a seed, side by side on the cores, and tells what did not hold."""
+"""This file runs the checks over the cases of a seed, side by side on the cores."""
 
 import argparse
 import multiprocessing
@@ -6,14 +6,16 @@ import os
 import random
 import shlex
 import shutil
-import sys
 import tempfile
 import time
+import unittest
 from dataclasses import dataclass
 
 import calls
 import checks
+import runner
 from spoilers import SPOILERS
+from stage import PTB
 from texts import case_of
 
 FAILURES_TOLD = 5
@@ -109,63 +111,68 @@ def results_of(plan, numbers):
     return [result for result in results if result]
 
 
-def stress(program, seed, seconds, numbers):
-    """Checks the cases, and tells what failed; gives whether nothing did."""
-    print(f"stress: seed {seed}, {len(numbers)} programs, at most {seconds:g} seconds", flush=True)
-    begun = time.time()
-    folder = tempfile.mkdtemp(prefix="ptb-stress-")
-    results = results_of(Plan(program, seed, folder, begun + seconds), numbers)
-    bad = [result for result in results if result.failed]
-    for result in bad[:PROGRAMS_TOLD]:
-        for name in result.failed[:FAILURES_TOLD]:
-            print(f"failed: program {result.number}: {name}")
-        print(f"    recipe: {folder}/program{result.number}/recipe.txt")
-        print(f"    by itself: tests/stress.sh {seed} {seconds:g} --only {result.number}")
-    if len(bad) > PROGRAMS_TOLD:
-        print(f"failed: {len(bad) - PROGRAMS_TOLD} programs more, each with its recipe in {folder}")
-    passed, failed = sum(result.passed for result in results), sum(len(result.failed) for result in results)
-    if not failed:
-        shutil.rmtree(folder)
-    runs = sum(result.calls for result in results)
-    over = " (the time was over)" if len(results) < len(numbers) else ""
-    spent = time.time() - begun
-    print(f"stress: {len(results)} programs{over}, {runs} runs, {passed + failed} comparisons, in {spent:.0f} seconds")
-    print(f"{passed} passed, {failed} failed")
-    return failed == 0 and results != []
+class Stress(runner.Gathered):
+    """Random programs of a seed."""
 
-
-def self_test(program, seed, seconds):
-    """Sees that the checks find each of the spoilers; gives whether they do."""
-    missed = 0
-    for spoiler in SPOILERS:
+    def test_programs(self):
+        """Each check of each program holds."""
+        given, numbers = self.given, self.numbers
+        print(f"stress: seed {given.seed}, {len(numbers)} programs, at most {given.seconds:g} seconds", flush=True)
+        begun = time.time()
         folder = tempfile.mkdtemp(prefix="ptb-stress-")
-        results = results_of(Plan(program, seed, folder, time.time() + seconds, spoiler), range(PROGRAMS_OF_A_SELF_TEST))
-        shutil.rmtree(folder)
-        found = [result for result in results if result.failed]
-        names = sorted({name.split(":")[0] for result in found for name in result.failed})
-        missed += not found
-        print(f"{'found' if found else 'MISSED'}: {spoiler}: {len(found)} of {len(results)} programs; {', '.join(names)}")
-    print(f"{len(SPOILERS) - missed} passed, {missed} failed")
-    return missed == 0
+        results = results_of(Plan(PTB, given.seed, folder, begun + given.seconds), numbers)
+        bad = [result for result in results if result.failed]
+        if not bad:
+            shutil.rmtree(folder)
+        compared = sum(result.passed + len(result.failed) for result in results)
+        runs = sum(result.calls for result in results)
+        over = " (the time was over)" if len(results) < len(numbers) else ""
+        spent = time.time() - begun
+        print(f"stress: {len(results)} programs{over}, {runs} runs, {compared} comparisons, in {spent:.0f} seconds")
+        self.add_passed(sum(result.passed for result in results))
+        for result in bad[:PROGRAMS_TOLD]:
+            self.fail_program(result, folder)
+        if len(bad) > PROGRAMS_TOLD:
+            self.fail(f"{len(bad) - PROGRAMS_TOLD} programs more, each with its recipe in {folder}")
+
+    def fail_program(self, result, folder):
+        """Fails for a program, with the names of its first failures and how to see them again."""
+        by_itself = f"tests/stress.sh {self.given.seed} {self.given.seconds:g} --only {result.number}"
+        lines = [*result.failed[:FAILURES_TOLD], f"recipe: {folder}/program{result.number}/recipe.txt", f"by itself: {by_itself}"]
+        with self.subTest(f"program {result.number}: {len(result.failed)} checks failed"):
+            self.fail("\n    ".join(["", *lines]))
+
+
+class SelfTest(unittest.TestCase):
+    """Replies that are spoiled."""
+
+    def test_spoilers(self):
+        """The checks find each of the spoilers."""
+        for spoiler in SPOILERS:
+            folder = tempfile.mkdtemp(prefix="ptb-stress-")
+            plan = Plan(PTB, self.given.seed, folder, time.time() + self.given.seconds, spoiler)
+            results = results_of(plan, range(PROGRAMS_OF_A_SELF_TEST))
+            shutil.rmtree(folder)
+            found = [result for result in results if result.failed]
+            names = sorted({name.split(":")[0] for result in found for name in result.failed})
+            print(f"{spoiler}: found by {len(found)} of {len(results)} programs; {', '.join(names)}")
+            with self.subTest(spoiler):
+                self.assertTrue(found)
 
 
 def main():
     words = argparse.ArgumentParser(description=__doc__)
-    words.add_argument("program")
     words.add_argument("seed")
     words.add_argument("seconds", type=float)
     words.add_argument("--programs", type=int, help="how many programs; without it a number that goes with the seconds")
     words.add_argument("--only", type=int, help="this program alone")
-    words.add_argument("--self-test", action="store_true", help="sees that wrong programs are found")
+    words.add_argument("--self-test", action="store_true", help="checks that wrong programs are found")
     given = words.parse_args()
-    program = os.path.abspath(shutil.which(given.program) or given.program)
-    if given.self_test:
-        return self_test(program, given.seed, given.seconds)
-    numbers = range(given.programs or int(PROGRAMS_A_SECOND * given.seconds))
-    if given.only is not None:
-        numbers = [given.only]
-    return stress(program, given.seed, given.seconds, numbers)
+    tests = SelfTest if given.self_test else Stress
+    tests.given = given
+    tests.numbers = range(given.programs or int(PROGRAMS_A_SECOND * given.seconds)) if given.only is None else [given.only]
+    runner.main([unittest.defaultTestLoader.loadTestsFromTestCase(tests)], parts=[])
 
 
 if __name__ == "__main__":
-    sys.exit(0 if main() else 1)
+    main()
