@@ -1,5 +1,5 @@
 -- This file proves which command is next.
--- Main lemma: `next_same`.
+-- Main lemmas: `next_here` and `next_behind`.
 use Rattle.std.proofs.Common.{◌≡◌, ℕ, zero, suc, ◌<◌, true, false, List, [], ◌∷◌, length, length-drop, Option, Some, None, ℤ, refl, sym, ap, subst, ◌∙◌, arith}
 use Rattle.std.specs.Prelude.{slice_get}
 use Rattle.ptb_text.specs.Statements.{Statements}
