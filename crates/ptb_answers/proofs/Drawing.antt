@@ -1,6 +1,6 @@
 -- This file proves what drawing one more answer leaves, from what the chooser knows of each step.
 -- Main lemma: `drawn_next`.
-use Rattle.std.proofs.Common.{◌≡◌, ◌∙◌, ap, sym, refl, ℕ, ◌-◌, List, [], ◌∷◌, ◌++◌, length, length-append, ℤ, FitsSigned, of_z, to_z, to_z-of_z, w16, Result, arith, true, set}
+use Rattle.std.proofs.Common.{◌≡◌, ◌∙◌, ap, sym, ℕ, ◌-◌, List, [], ◌∷◌, ◌++◌, length, length-append, ℤ, FitsSigned, of_z, to_z, to_z-of_z, w16, Result, arith, true, set}
 use Rattle.std.specs.Prelude.{if◌then◌else◌, pos, negsuc, ◌≤ℤ◌}
 use Rattle.std.specs.Result.{is_ok}
 use Rattle.std.proofs.Math.Seq.{set-append_seam}

@@ -1,13 +1,13 @@
 -- This file proves that a generator draws the answers of one run, each for the bound of its question, and of no other.
 -- Main lemmas: `answers_by-drawn` and `drawn_alone`.
-use Rattle.std.proofs.Common.{◌≡◌, ◌∙◌, ℕ, zero, suc, ◌<◌, ◌%◌, ◌⊎◌, true, List, [], ◌∷◌, ◌++◌, length, refl, sym, ap, subst, arith, inl, inr, append_assoc}
+use Rattle.std.proofs.Common.{◌≡◌, ◌∙◌, ℕ, zero, suc, ◌<◌, ◌%◌, ◌⊎◌, true, [], ◌∷◌, ◌++◌, length, refl, sym, ap, subst, arith, inl, inr, append_assoc}
 use Rattle.std.proofs.lemmas.Bool.{cases_Bool}
 use Rattle.std.proofs.lemmas.Int.{ints}
 use Rattle.std.proofs.lemmas.Nat.{mod_below}
 use Rattle.std.specs.Prelude.{ℤ, pos, negsuc, ◌≤ℤ◌}
 use Rattle.rand_pcg.specs.Lcg.{Lcg}
 use Rattle.rand_pcg.specs.Pcg.{pcg32}
-use Rattle.ptb_answers.specs.Outcome.{Answers, Outcome, Done, Asks, IsReader, bounds, bounds_after, bound_of, is_answer, is_open, is_whole}
+use Rattle.ptb_answers.specs.Outcome.{Answers, Outcome, Done, Asks, IsReader, bounds, bounds_after, bound_of, is_answer, is_whole}
 use Rattle.ptb_answers.specs.Seeds.{drawn_answer, drawn_from}
 use Rattle.ptb_answers.specs.Drawn.{IsDrawnFrom, answers_by, to_question}
 use Rattle.ptb_answers.proofs.Readers.{open_is, whole_is}

@@ -26,10 +26,6 @@ drawn_one_more first bounds answers g n h = record {
 pub same_first : (g h : Lcg) (state : ℕ) → h ≡ (pcg32 g).1 → at_state h state ≡ at_state g state
 same_first g h state e = ap (λ (x : Lcg). at_state x state) e
 
--- no word is used before
-pub drawn_none : (g : Lcg) → HasDrawn g [] [] g
-drawn_none g = record { drawn = refl; after = refl }
-
 -- ---- as many words as questions
 
 pub length-drawn : (g : Lcg) (bounds : List ℤ) → length (drawn_from g bounds) ≡ length bounds
