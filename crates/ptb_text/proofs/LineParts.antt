@@ -8,7 +8,7 @@ use Rattle.std.proofs.lemmas.Bool.{eqb-true, leb-true, leb-false}
 use Rattle.std.proofs.lemmas.List.{drop-drop, drop_all}
 use Rattle.std.proofs.lemmas.Bool.Decides.{nat_tests}
 use Rattle.ptb_text.specs.declared.fault.LoadFault.{LoadFault}
-use Rattle.ptb_text.specs.declared.fault.LoadFault.TheVariants.{NoNumber, NumberTooBig, TextTooLong, BadByte, Full, Memory}
+use Rattle.ptb_text.specs.declared.fault.LoadFault.TheVariants.{NoNumber, NumberTooBig, TextTooLong, Full, Memory}
 use Rattle.ptb_text.specs.Lines.{is_printable}
 use Rattle.ptb_text.specs.Statements.{HasText, Statements, StoredProgram, after_line, after_trimmed, after_statement, unless_bad_byte, trim_start, with_text, cost, if_room, is_statement, text_limit}
 use Rattle.ptb_words.specs.Digits.{number_limit, digits_value, is_digit, is_blank}
@@ -30,9 +30,6 @@ no_bytes (x ∷ t) b is e = absurd (omega (arith, eqb-true _ _ (sym is ∙ e)))
 pub some_bytes : (t : List ℕ) (b : Bool) → b ≡ (length t == 0) → b ≡ false → 0 < length t
 some_bytes [] b is e = let true_too = is in cc
 some_bytes (x ∷ t) b is e = omega arith
-
-pub after_bad_byte : (line : List ℕ) (k : ℕ) → position (λ b. not (is_printable b)) line ≡ Some k → IsRefused line (BadByte (k + 1))
-after_bad_byte line k bad p memory = ap (λ o. unless_bad_byte o p memory line) bad
 
 -- a number and what follows it, in a line without blanks in front
 abbrev pub digits_of : List ℕ → List ℕ
@@ -245,14 +242,6 @@ after_short p memory n [] some short = absurd (omega arith)
 after_short p memory n (b ∷ bs) some short = grind (arith, nat_tests)
 
 module _ (line : List ℕ) (p : StoredProgram) where
-  -- it is a line of blanks
-  pub line_of_blanks : {T : Type 0} (P : T → Type 0) (o : Option T) → MatchOption o (EntersNothing line) P → ((x : T) → o ≡ Some x → ⊥) → IsEntered line p p (Ok tt)
-  line_of_blanks P None nothing none = record {
-    enters = record { ok = nothing p.lines p.memory; refused = tt; memory_last = tt; err = tt; memory = refl };
-    memory_text = λ e. absurd cc;
-  }
-  line_of_blanks P (Some x) told none = absurd (none x refl)
-
   module _ (n : ℕ) (t : List ℕ) (numbered : IsNumbered line n t) (empty : Bool) (tested : empty ≡ (length t == 0)) (not_empty : empty ≡ false) where
     has_text : HasText line
     has_text = subst (λ (u : List ℕ). 0 < length u) numbered.behind_number (some_bytes t empty tested not_empty)

@@ -13,9 +13,6 @@ use Rattle.ptb_text.specs.Lines.{pieces, onto_first, lines, program_lines, tab_a
 
 -- ---- tabs
 
-tab : tab_as_space 9 ≡ 32
-tab = refl
-
 no_tab : (b : ℕ) → b ≢ 9 → tab_as_space b ≡ b
 no_tab b differs = grind (arith, nat_tests)
 

@@ -115,11 +115,6 @@ entries-append a (s ∷ p) q =
     let place : (a + length s.1) + texts_length p ≡ a + texts_length (s ∷ p) = omega (arith, texts_length-cons s p) in
     ap (λ ss. record { number = s.0; place = a; length = length s.1 } ∷ ss) (entries-append (a + length s.1) p q ∙ ap (λ k. entries (a + length s.1) p ++ entries k q) place)
 
-pub lengths-drop : (a i : ℕ) (p : Statements) → lengths (drop i (entries a p)) ≡ texts_length (drop i p)
-lengths-drop a zero p = lengths-entries a p
-lengths-drop a (suc i) [] = refl
-lengths-drop a (suc i) (s ∷ p) = lengths-drop (a + length s.1) i p
-
 -- the statement at a place, and where its text stands
 pub record IsEntry (p : Statements) (i : ℕ) (s : Statement) : Type 0 where
   pub number_is : s.number ≡ statement_number p i
