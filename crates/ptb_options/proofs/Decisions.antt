@@ -1,6 +1,6 @@
 -- This file joins what is known of the request that the arguments make, or of why there is none.
 -- Main lemmas: `decided_list` and `decided_clash`.
-use Rattle.std.proofs.Common.{◌≡◌, ◌∙◌, ◌≤◌, ◌≤ℤ◌, ℕ, pos, List, [], ◌∷◌, Bool, true, false, Option, Some, None, Result, Ok, Err, IfErr, IfOk, IfSome, ap, arith, refl, subst, sym}
+use Rattle.std.proofs.Common.{◌≡◌, ◌∙◌, ◌≤◌, ◌≤ℤ◌, ℕ, pos, List, [], ◌∷◌, Bool, true, false, Option, Some, None, Result, Err, IfErr, IfOk, IfSome, ap, arith, refl, subst, sym}
 use Rattle.std.specs.Prelude.{option_map, unwrap_or}
 use Rattle.std.specs.List.{list_all}
 use Rattle.std.specs.Option.{ForSome}

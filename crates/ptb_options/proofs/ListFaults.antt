@@ -34,10 +34,6 @@ marked_item w m spells has = record {
   why = (m, spells, has);
 }
 
--- and one without
-pub plain_item : (w : List ℕ) (m : Marked) → SpellsItem w m → m.bound ≡ None → IsItemOf Refused w
-plain_item w m spells none = (m.answer, subst (SpellsItem w) (ap (λ (o : Option ℤ). record { answer = m.answer; bound = o }) none) spells)
-
 -- ---- all of them
 
 record IsGathered (ws : List (List ℕ)) (list : List Marked) : Type 0 where

@@ -95,11 +95,6 @@ module _ (word : List ℕ) (next : Option (List ℕ)) (split : IsSplitOnceResult
         | inr e ↦ record { name_is = sym (some_injective _ _ e.0); value_is = e.1 }
       ]
 
-  pub unnamed : NamesNoNumber word → HasNoWrongValue (Some word) next
-  unnamed none w h =
-      let given = next_given w h in
-      none w.option (record { named = sym given.name_is; rule = h.rule })
-
   pub last : next ≡ None → HasNoWrongValue (Some word) next
   last missing w h = none_is_some w.value.now (sym missing ∙ (next_given w h).value_is)
 

@@ -1,7 +1,7 @@
 -- This file answers what is known of the request that the arguments make, or of why there is none.
 use Rattle.std.proofs.Common.{◌∙◌, ap, sym}
 use Rattle.ptb_options.specs.Options.{Options}
-use Rattle.ptb_options.proofs.Decisions.{asked, decided_clash, decided_list, decided_misspelled, sized}
+use Rattle.ptb_options.proofs.Decisions.{asked, decided_clash, decided_list, decided_misspelled}
 use Rattle.ptb_options.proofs.ListsKept.{list_found, no_list_found}
 use Rattle.ptb_options.proofs.deciding.decide.Goals as goal
 
