@@ -1,15 +1,13 @@
 -- This file proves how mistakes that are written one after the other add up to all of them.
 -- Main lemmas: `more_written` and `all_written`.
-use Rattle.std.proofs.Common.{◌≡◌, ◌∙◌, ℕ, ◌+◌, ◌<◌, ◌≤◌, Bool, true, false, List, [], ◌∷◌, ◌++◌, length, take, drop, Option, Some, None, Result, Ok, Err, sym, ap, subst, refl, append_assoc, append-nil, arith, length-append}
-use Rattle.std.specs.Prelude.{flat_map, ◌||◌, slice_get}
+use Rattle.std.proofs.Common.{◌≡◌, ◌∙◌, ℕ, ◌+◌, Bool, true, false, List, [], ◌∷◌, ◌++◌, length, take, Option, Ok, Err, sym, ap, subst, refl, append_assoc, append-nil, arith, length-append}
+use Rattle.std.specs.Prelude.{flat_map, ◌||◌}
 use Rattle.std.specs.Io.KnownBytes.{Appends}
-use Rattle.std.proofs.KnownBytes.{Appends-nil, Appends-trans}
+use Rattle.std.proofs.KnownBytes.{Appends-trans}
 use Rattle.std.proofs.Math.Seq.{take-append-add}
 use Rattle.std.proofs.lemmas.List.{take-append-le}
-use Rattle.ptb_text.specs.Device.{TakesSome}
-use Rattle.ptb_text.specs.Statements.{Statements}
 use Rattle.ptb_text.specs.declared.listing.WriteFault.{WriteFault}
-use Rattle.ptb_check.specs.Mistakes.{Mistake, mistake_text, mistakes, statement_mistakes}
+use Rattle.ptb_check.specs.Mistakes.{Mistake, mistake_text}
 use Rattle.ptb_check.specs.Writing.{WritesMistakes, has_any, texts}
 
 flat_map-append : {X Y : Type 0} (f : X → List Y) (xs ys : List X) → flat_map f (xs ++ ys) ≡ flat_map f xs ++ flat_map f ys
@@ -35,9 +33,6 @@ pub record IsWrittenUpTo (old now : Option (List ℕ)) (any : Bool) (all rest : 
   pub split : all ≡ done ++ rest
   pub bytes : Appends old now (texts done)
   pub told : any ≡ has_any done
-
-pub nothing_written : (a : Option (List ℕ)) (all : List Mistake) → IsWrittenUpTo a a false all all
-nothing_written a all = record { done = []; split = refl; bytes = Appends-nil a; told = refl }
 
 pub more_written : {a b : Option (List ℕ)} {any : Bool} {all rest : List Mistake} (c : Option (List ℕ)) (some : Bool) (due others : List Mistake) → rest ≡ due ++ others
     → IsWrittenUpTo a b any all rest → WritesMistakes due b c (Ok some) → IsWrittenUpTo a c (some || any) all others

@@ -1,17 +1,14 @@
 -- This file proves which mistakes are left after a command of a statement, and after a statement of a program.
 -- Main lemmas: `commands_left` and `mistakes_left`.
-use Rattle.std.proofs.Common.{◌≡◌, ◌∙◌, ℕ, zero, suc, ◌+◌, ◌<◌, Bool, true, false, List, [], ◌∷◌, ◌++◌, length, drop, Option, Some, None, ℤ, pos, sym, ap, ap₂, subst, refl, arith, add-one}
+use Rattle.std.proofs.Common.{◌≡◌, ◌∙◌, ℕ, zero, suc, ◌+◌, ◌<◌, Bool, true, false, List, [], ◌∷◌, ◌++◌, length, drop, Option, Some, None, ℤ, sym, ap, ap₂, refl, arith, add-one}
 use Rattle.std.specs.Prelude.{flat_map, slice_get, unsigned_abs, IsTrue, IsFalse}
 use Rattle.ptb_words.specs.Words.{is_over}
-use Rattle.ptb_words.specs.Finding.{LiesAhead}
 use Rattle.ptb_text.specs.Statements.{Statements}
 use Rattle.ptb_expr.specs.Reading.{Reading, Whole, Malformed}
 use Rattle.ptb_command.specs.Commands.{Part, Command, after_command, command_and, command_at, command_round, command_unless, commands_from, next_begin}
-use Rattle.ptb_command.specs.Items.{Round, Last, Onward}
 use Rattle.ptb_command.specs.Laws.{CommandLaws}
 use Rattle.ptb_command.specs.Places.{commands_after, next_place}
 use Rattle.ptb_command.specs.Representation.{IsLineAt}
-use Rattle.ptb_command.specs.Translation.{IsTranslated}
 use Rattle.ptb_check.specs.Mistakes.{Mistake, command_mistake, mistake_in, statement_mistakes}
 
 -- ---- the commands of a statement
@@ -43,15 +40,6 @@ module _ (laws : CommandLaws) (t : List ℕ) (i : ℕ) where
 
   pub no_command_left : is_over t i ≡ true → commands_from t i ≡ []
   no_command_left e = laws.commands_by_round t i ∙ ap (commands_after t) (round_here t i true e)
-
-  pub next_is_ahead : (j : ℕ) → next_place (command_round t i) ≡ Some j → LiesAhead t i j
-  next_is_ahead j is = by_round (command_round t i) refl is
-    where
-      by_round : (r : Round Command) → command_round t i ≡ r → next_place r ≡ Some j → LiesAhead t i j
-      by_round (Last r) here e = absurd cc
-      by_round (Onward c k) here e =
-          let same : k ≡ j = cc in
-          subst (LiesAhead t i) same ((laws.commands_advance t).ahead i k c here)
 
 -- whether another one comes after it or not, some are left then
 pub others_left : (left : List Command) (c : Command) (after : List Command) (more : Bool) → (IsTrue more → left ≡ c ∷ after) → (IsFalse more → left ≡ c ∷ []) → (others : List Command) × (left ≡ c ∷ others)

@@ -1,10 +1,9 @@
 -- This file answers that the mistakes of a program are those of its statements, one after the other.
 use Rattle.std.proofs.Common.{◌≡◌, ◌∙◌, ◌+◌, ◌<◌, ◌++◌, ℕ, drop, length, ap, sym, subst, arith, rules, to_z, of_z, w16}
 use Rattle.std.specs.Prelude.{flat_map, unsigned_abs}
-use Rattle.std.proofs.lemmas.List.{drop_all}
 use Rattle.std.proofs.lemmas.Result.{err_from_is_err_and}
 use Rattle.ptb_check.specs.Mistakes.{statement_mistakes}
-use Rattle.ptb_check.proofs.Progress.{all_written, more_written, not_written}
+use Rattle.ptb_check.proofs.Progress.{more_written, not_written}
 use Rattle.ptb_check.proofs.Rounds.{statement_left}
 use Rattle.ptb_check.proofs.writing.write_mistakes.Goals as goal
 
