@@ -7,7 +7,6 @@ use Rattle.std.specs.Prelude.{List, ◌++◌, ℕ, ◌==◌, if◌then◌else◌
 use Rattle.std.specs.Fmt.{signed_decimal}
 use Rattle.ptb_explore.specs.declared.mismatch.Mismatch.{Mismatch}
 use Rattle.ptb_explore.specs.declared.mismatch.Mismatch.TheVariants.{Missing, NoQuestion, NotUnder, OtherBound, OutOfRange}
-use Rattle.ptb_serve.specs.declared.list_mismatch.ListMismatch.{ListMismatch}
 use Rattle.ptb_serve.specs.declared.list_mismatch.ListMismatch.TheVariants as lists
 use Rattle.ptb.specs.declared.endings.Shortage.{Shortage}
 use Rattle.ptb.specs.declared.endings.Shortage.TheVariants as shortages
