@@ -1,4 +1,5 @@
 -- This file proves that a report shows the answers of its run, so that two runs have two different reports.
+-- Main lemma: `report_laws`.
 use Rattle.std.proofs.Common.{◌≡◌, ℕ, zero, suc, ◌/◌, ◌%◌, ◌^◌, ◌<◌, ◌≤◌, List, [], ◌∷◌, ◌++◌, length, true, false, ◌⊎◌, inl, inr, refl, ap, sym, subst, ◌∙◌, arith, append_assoc, codes}
 use Rattle.std.specs.Prelude.{ℤ, pos, negsuc, Option, Some, None, ◌≤ℤ◌, ◌==◌, nat_lt, Contains}
 use Rattle.std.specs.List.{AllByRecursion}
