@@ -12,7 +12,7 @@ seed that was drawn, it is run with this seed. A block that shows why a run ende
 
 `<!-- from FILE -->` before a block means that its lines are in FILE, one after the other.
 
-The prose has short lines and complete tables, and avoids the words of tests/wording.txt.
+The prose has short lines and complete tables, and avoids the words of tests/wording.txt. The heads of files of definitions and of proofs name the main ones of what is in them.
 
 The last line is 'N passed, M failed'. Arguments name parts of tests, as links or test_tool; without any, all are run. PTB names
 another program than the one that ./ptb builds.
@@ -33,12 +33,14 @@ sys.dont_write_bytecode = True
 TESTS = os.path.dirname(os.path.realpath(__file__))
 sys.path[:0] = [f"{TESTS}/shared", f"{TESTS}/documents"]
 import runner
+import sources
 from prose import WORDING, Wording, refused_words, torn_tables, wide_lines
 from stage import ROOT, staged
 
 PAGES_AT_THE_TOP = ["README.md", "CHANGELOG.md", "CONTRIBUTING.md", "SECURITY.md"]
-ALL_PAGES = [*PAGES_AT_THE_TOP, "docs/*.md", "docs/*.1", "examples/README.md", "tests/README.md"]
-LINES_OF_A_PAGE = {"README.md": 200, "CONTRIBUTING.md": 150, "docs/ARCHITECTURE.md": 200, "docs/SPECIFICATION.md": 120}
+SPECIFICATION = "specs/README.md"
+ALL_PAGES = [*PAGES_AT_THE_TOP, "docs/*.md", "docs/*.1", "examples/README.md", SPECIFICATION, "tests/README.md"]
+LINES_OF_A_PAGE = {"README.md": 200, "CONTRIBUTING.md": 150, "docs/ARCHITECTURE.md": 200, SPECIFICATION: 125}
 DECISIONS = "docs/DECISIONS.md"
 LINES_OF_A_DECISION = 8
 BYTES_OF_A_PICTURE = 100_000
@@ -47,7 +49,9 @@ LOOKS_LIKE_COMMAND = re.compile(r"    (\./|rt |tests/|tools/|ptb-|cd |cat |diff 
 OPTIONAL = ["parallel"]
 # What is tried elsewhere: the first in a copy of the repository, by tests/installing.sh; the second has this script as a part.
 TRIED_ELSEWHERE = {"./install ~/.local", "RT_JOBS=4 rt ci && tests/all.sh"}
+WORDS_OF_ANTT = {"record"}
 NAMED_FILE = re.compile(r"`((?:bench|docs|examples|tests|tools)/[a-z0-9_.-]*[a-z0-9])[ `]")
+PASSED_ON = re.compile(r"^pub use .*", re.M)
 SEED = re.compile(r"ptb: seed ([0-9]+)")
 ONLY_AT_A_TERMINAL = re.compile(r"ptb: (stopped at|INPUT found|a random number|one of the) ")
 
@@ -228,6 +232,12 @@ def named_files(page):
     return sorted(set(NAMED_FILE.findall("\n".join(lines_of(page)))))
 
 
+def files_of_definitions(page):
+    """The files of definitions that a page names with their crates, each with the paths where it may be."""
+    for crates, name in sources.crates_and_files("\n".join(lines_of(page))):
+        yield name, [f"{ROOT}/crates/{crate}/specs/{name}.antt" for crate in crates]
+
+
 def definitions(page):
     """The names beside the link to a file of definitions in a table, each with the file."""
     for line in lines_of(page):
@@ -238,7 +248,7 @@ def definitions(page):
                 yield name, os.path.normpath(os.path.join(os.path.dirname(page), linked[1]))
 
 
-def sources(page):
+def named_sources(page):
     """The patterns of the paths of the sources and the files of definitions that a page names by their last names."""
     text = "\n".join(lines_of(page))
     for name in sorted(set(re.findall(r"`((?:[a-z_]+/)?[a-z_]+\.rt)`", text))):
@@ -301,9 +311,23 @@ class Named(unittest.TestCase):
                 defined = rf" *(?:(?:abbrev|unfoldable|pub|record|data) )+{name}\b"
                 self.assertTrue(any(re.match(defined, line) for line in lines_of(file)))
 
+    def test_files_of_definitions(self):
+        """The files of definitions that a page names with their crates are there."""
+        for page, (name, paths) in self.on_all_pages(files_of_definitions):
+            with self.subTest(f"{page} names {name}"):
+                self.assertTrue(any(map(os.path.exists, paths)), paths)
+
+    def test_names_of_the_specification(self):
+        """What the page of the definitions names in its text is defined."""
+        defined = sources.all_names(ROOT)
+        named = set(sources.CODE.findall("\n".join(lines_of(SPECIFICATION))))
+        for name in sorted(it for it in named if re.fullmatch("[A-Za-z_]+", it)):
+            with self.subTest(name):
+                self.assertTrue(name in defined or name in WORDS_OF_ANTT)
+
     def test_sources(self):
         """The sources and the files of definitions that a page names by their last names are there."""
-        for page, pattern in self.on_all_pages(sources):
+        for page, pattern in self.on_all_pages(named_sources):
             with self.subTest(f"{page} names {pattern}"):
                 self.assertTrue(glob.glob(f"{ROOT}/{pattern}"))
 
@@ -312,6 +336,27 @@ class Named(unittest.TestCase):
         table = "\n".join(lines_of("tests/README.md")).partition("## ")[0]
         listed = re.findall(r"^\| `(\S+\.(?:sh|py))", table, re.M)
         self.assertEqual(listed, re.findall(r"^tried (\S+\.\S+)", "\n".join(lines_of("tests/all.sh")), re.M))
+
+
+class Heads(unittest.TestCase):
+    """The heads of files of definitions and of proofs name what is in them."""
+
+    def test_definitions(self):
+        """The head of a file of definitions names one of them."""
+        for path in sources.files(ROOT, "specs"):
+            text = sources.text_of(path)
+            with self.subTest(os.path.relpath(path, ROOT)):
+                words = set(re.findall(r"[^\s,;:()`]+", sources.head(text)))
+                self.assertTrue(words & (sources.declared(text) | set(re.findall(r"\w+", "".join(PASSED_ON.findall(text))))))
+
+    def test_lemmas(self):
+        """The head of a file of lemmas names the main ones."""
+        for path in sources.files(ROOT, "proofs"):
+            text = sources.text_of(path)
+            with self.subTest(os.path.relpath(path, ROOT)):
+                main = sources.CODE.findall("".join(sources.MAIN.findall(sources.head(text))))
+                self.assertTrue(main)
+                self.assertLessEqual(set(main), sources.declared(text))
 
 
 # ---- prose

@@ -1,0 +1,59 @@
+"""This file finds what the files of definitions, of proofs and of code define, and what their heads say."""
+
+import glob
+import os
+import re
+
+KEYWORDS = r"(?:(?:abbrev|unfoldable|pub|record|data) )*"
+DECLARED = re.compile(rf"^ *{KEYWORDS}([^\s:(){{}}\[\]]+)(?: .*)?(?: |$)(?::|where|\()", re.M)
+IN_CODE = re.compile(r"\b(?:fn|struct|enum|trait|const|mod|macro_rules!) +([A-Za-z_][A-Za-z0-9_]*)")
+MAIN = re.compile(r"^-- Main (?:lemmas?|definition): (.*)\.$", re.M)
+HEAD = re.compile(r"\A(?:--.*\n)+")
+TABLE_OF_FILES = re.compile(r"^\| ((?:`ptb[a-z_]*`(?:, )?)+) \| ((?:`[A-Z][A-Za-z]*`(?:, )?)+) \|", re.M)
+TITLE = re.compile(r"^#+ .*\((`ptb[a-z_]*`: .*)\)$", re.M)
+CODE = re.compile(r"`([^`\n]+)`")
+
+
+def text_of(path):
+    """The text of a file."""
+    with open(path, encoding="utf-8") as file:
+        return file.read()
+
+
+def files(root, folder, pattern="*.antt"):
+    """The files in a folder of the crates, without the lists of modules."""
+    found = sorted(glob.glob(f"{root}/crates/*/{folder}/{pattern}", recursive=True))
+    return [path for path in found if os.path.basename(path) != "Lib.antt"]
+
+
+def head(text):
+    """The comment with which a file begins."""
+    found = HEAD.match(text)
+    return found[0] if found else ""
+
+
+def declared(text):
+    """The names that a file of definitions or of proofs declares, with those of fields and constructors."""
+    return set(DECLARED.findall(text))
+
+
+def all_names(root):
+    """The names of crates, of files of definitions and of what they declare, and of functions and types of the code."""
+    names = {os.path.basename(path) for path in glob.glob(f"{root}/crates/*")}
+    for path in files(root, "specs"):
+        names |= {os.path.basename(path).removesuffix(".antt"), *declared(text_of(path))}
+    for path in files(root, "src", "**/*.rt"):
+        names |= set(IN_CODE.findall(text_of(path)))
+    return names
+
+
+def crates_and_files(text):
+    """The crates and the files of their definitions that a page names: in the rows of tables, and in titles."""
+    for crates, named in TABLE_OF_FILES.findall(text):
+        for name in CODE.findall(named):
+            yield CODE.findall(crates), name
+    for title in TITLE.findall(text):
+        for part in title.split("; "):
+            crate, _, named = part.partition(": ")
+            for name in named.split(", "):
+                yield [crate.strip("`")], name
