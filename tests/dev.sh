@@ -13,7 +13,7 @@ stand_in() {
 mkdir -p "$copy/bin"
 cp "$root/dev" "$root/crates.txt" "$copy/"
 for path in "$root"/crates/*/; do mkdir -p "$copy/crates/$(basename "$path")"; done
-for path in build tools/release $(cd "$root" && ls tests/*.sh tests/*.py bench/*.sh); do stand_in "$copy/$path"; done
+for path in build tools/release tools/try-bugs $(cd "$root" && ls tests/*.sh tests/*.py bench/*.sh); do stand_in "$copy/$path"; done
 stand_in "$copy/bin/rt"
 mv "$copy/bin/rt" "$folder/rt"
 sed -i 's|echo "bin/|echo "|' "$folder/rt"
@@ -40,6 +40,7 @@ count_if 'unit' starts 'rt <test> in ptb_machine_tests, no jobs' unit machine_te
 count_if 'lemma' starts 'rt <lemma> <take> <length> in ptb_text, no jobs' lemma text take length
 count_if 'plant' starts 'rt <plant> <--minutes> <5> in ptb_text, no jobs' plant text --minutes 5
 count_if 'bugs' starts 'rt <must-fail> <ptb_text> in a copy, no jobs' bugs text
+count_if 'one bug' starts 'tools/try-bugs <ptb_text> <a_name> in a copy, no jobs' bugs text a_name
 count_if 'format' starts 'rt <fmt> in ptb_text, no jobs' format text
 count_if 'build' starts 'build <> in a copy, no jobs' build
 count_if 'test' starts 'tests/all.sh <> in a copy, no jobs' test
@@ -55,6 +56,27 @@ for argument in '' nosuch; do
 done
 count_if 'a script of the tests that is missing' refuses "no script 'nosuch' in tests" test nosuch
 count_if 'another command' refuses "no command 'nosuch'" nosuch
+
+# ---- some planted bugs of a crate
+
+real="$folder/a repository"
+mkdir -p "$real/tools" "$real/crates/low/src" "$real/crates/high/src" "$real/crates/high/must-fail" "$folder/lists"
+cp "$root/tools/try-bugs" "$real/tools/"
+touch "$real/crates.txt" "$real/HANDLES" "$real/crates/low/src/lib.rt" "$real/crates/high/must-fail/"{one,two,three}.edit
+printf '#!/bin/sh\nfind . -type f | sort | tr "\\n" " "; echo "$*"; echo "$PWD" >&2; exit 3\n' >"$folder/lists/rt"
+chmod +x "$folder/lists/rt"
+# tries NAME ..: tries these bugs; their status is in status
+tries() {
+    PATH="$folder/lists:$PATH" "$real/tools/try-bugs" high "$@" >"$folder/output" 2>"$folder/errors"
+    status=$?
+}
+tries one three.edit
+due="./HANDLES ./crates.txt ./crates/high/must-fail/one.edit ./crates/high/must-fail/three.edit ./crates/low/src/lib.rt must-fail high"
+count_same 'the copy has the sources and these bugs' "$(cat "$folder/output")" "$due"
+count_if 'its status is that of rt' [ $status = 3 ]
+count_if 'the copy is removed' [ ! -e "$(cat "$folder/errors")" ]
+tries one nosuch
+count_same 'a bug that is missing' "$status $(cat "$folder/errors")" '64 try-bugs: there is no crates/high/must-fail/nosuch.edit'
 
 # ---- the help, and what pages name
 
@@ -72,7 +94,7 @@ is_understood() {
     [ "${words[0]}" = ./dev ] && PATH="$folder:$PATH" "$copy/dev" "${words[@]:1}" >"$folder/output" 2>&1 && [ -s "$folder/output" ]
 }
 named=$(grep -o '^\./dev [a-z]*' "$folder/help" | sort)
-due=$(sed -n 's/^\([a-z |]*\)) .*/\1/p' "$root/dev" | tr -d ' ' | tr '|' '\n' | grep -vx help | sed 's|^|./dev |' | sort)
+due=$(sed -n 's/^\([a-z |]*\))\( .*\)\{0,1\}$/\1/p' "$root/dev" | tr -d ' ' | tr '|' '\n' | grep -vx help | sed 's|^|./dev |' | sort)
 count_if 'the help has a line for each command' [ "$named" = "$due" ]
 # starts_what_it_says LINE: whether a line of the help names what its example starts
 starts_what_it_says() {
