@@ -1,6 +1,8 @@
 -- This file proves what a test of bytes says of the bytes in front of a text, behind them, and of all.
 -- Main lemma: `list_all-from_none`.
-use Rattle.std.proofs.Common.{◌≡◌, ℕ, zero, suc, ◌+◌, Bool, true, false, not, cond, ◌&&◌, ltb, List, [], ◌∷◌, ◌++◌, length, drop, Some, None, refl, sym, ap, ◌∙◌, arith, one-add}
+use Rattle.std.proofs.Common.{◌≡◌, ℕ, zero, suc, ◌+◌, Bool, true, false, not, cond, ◌&&◌, ltb, List}
+use Rattle.std.proofs.Common.{[], ◌∷◌, ◌++◌, length, drop, Some, None, refl, sym, ap, ◌∙◌, arith}
+use Rattle.std.proofs.Common.{one-add}
 use Rattle.std.specs.Prelude.{position}
 use Rattle.std.specs.List.{list_all, prefix_len}
 use Rattle.std.proofs.lemmas.Bool.Decides.{nat_tests}
@@ -25,7 +27,8 @@ passes_more : (b : Bool) (n m : ℕ) → ltb (cond (not (not b)) (1 + n) 0) (suc
 passes_more true n m e = (refl, sym (less_more n m) ∙ e)
 passes_more false n m e = let never = less_none m in cc
 
-all_from_prefix : (p : Test) (xs : List ℕ) → ltb (prefix_len (λ x. not (not (p x))) xs) (length xs) ≡ false → list_all p xs ≡ true
+all_from_prefix : (p : Test) (xs : List ℕ) → ltb (prefix_len (λ x. not (not (p x))) xs) (length xs) ≡ false
+    → list_all p xs ≡ true
 all_from_prefix p [] e = refl
 all_from_prefix p (x ∷ xs) e =
     let step = passes_more (p x) (prefix_len (λ y. not (not (p y))) xs) (length xs) e in
@@ -35,14 +38,17 @@ pub list_all-from_none : (p : Test) (xs : List ℕ) → position (λ x. not (p x
 list_all-from_none p xs e = all_from_prefix p xs (not_found _ _ e)
 
 -- the way back
-none_from_prefix : (p : Test) (xs : List ℕ) → list_all p xs ≡ true → ltb (prefix_len (λ x. not (not (p x))) xs) (length xs) ≡ false
+none_from_prefix : (p : Test) (xs : List ℕ) → list_all p xs ≡ true
+    → ltb (prefix_len (λ x. not (not (p x))) xs) (length xs) ≡ false
 none_from_prefix p [] e = refl
 none_from_prefix p (x ∷ xs) e =
-    ap (λ b. ltb (cond (not (not b)) (1 + prefix_len (λ y. not (not (p y))) xs) 0) (suc (length xs))) (both_true _ _ e).0
+    ap (λ b. ltb (cond (not (not b)) (1 + prefix_len (λ y. not (not (p y))) xs) 0) (suc (length xs)))
+    (both_true _ _ e).0
     ∙ less_more (prefix_len (λ y. not (not (p y))) xs) (length xs) ∙ none_from_prefix p xs (both_true _ _ e).1
 
 pub none_from_list_all : (p : Test) (xs : List ℕ) → list_all p xs ≡ true → position (λ x. not (p x)) xs ≡ None
-none_from_list_all p xs e = ap (λ b. cond b (Some (prefix_len (λ x. not (not (p x))) xs)) None) (none_from_prefix p xs e)
+none_from_list_all p xs e =
+    ap (λ b. cond b (Some (prefix_len (λ x. not (not (p x))) xs)) None) (none_from_prefix p xs e)
 
 -- ---- a part of the bytes
 
@@ -61,7 +67,9 @@ prefix_len-behind p (x ∷ xs) =
     ] refl
 
 -- bytes that pass, in front of one that doesn't
-pub prefix_len-whole : (p : Test) (xs : List ℕ) (y : ℕ) (ys : List ℕ) → list_all p xs ≡ true → p y ≡ false → prefix_len p (xs ++ y ∷ ys) ≡ length xs
+pub prefix_len-whole : (p : Test) (xs : List ℕ) (y : ℕ) (ys : List ℕ) → list_all p xs ≡ true → p y ≡ false
+    → prefix_len p (xs ++ y ∷ ys) ≡ length xs
 prefix_len-whole p [] y ys all fails = ap (λ b. cond b (1 + prefix_len p ys) 0) fails
 prefix_len-whole p (x ∷ xs) y ys all fails =
-    ap (λ b. cond b (1 + prefix_len p (xs ++ y ∷ ys)) 0) (both_true _ _ all).0 ∙ one-add _ ∙ ap suc (prefix_len-whole p xs y ys (both_true _ _ all).1 fails)
+    ap (λ b. cond b (1 + prefix_len p (xs ++ y ∷ ys)) 0) (both_true _ _ all).0 ∙ one-add _
+    ∙ ap suc (prefix_len-whole p xs y ys (both_true _ _ all).1 fails)

@@ -12,7 +12,8 @@ pub record IsCountedUpTo (old new n : ℕ) : Type 0 where
 pub IsCountedUpTo_none : (a : ℕ) → IsCountedUpTo a a 0
 IsCountedUpTo_none a = record { at_most = (omega arith, omega arith); exactly = λ some. absurd (omega arith) }
 
-pub IsCountedUpTo_more : (a b c n k : ℕ) → IsCountedUpTo a b n → b ≤ given_limit → GivesExactly b c k → IsCountedUpTo a c (n + k)
+pub IsCountedUpTo_more : (a b c n k : ℕ) → IsCountedUpTo a b n → b ≤ given_limit → GivesExactly b c k
+    → IsCountedUpTo a c (n + k)
 IsCountedUpTo_more a b c n k before within gives = record {
   at_most = (omega (arith, before.at_most.0, gives), omega (arith, before.at_most.1, gives));
   exactly = λ _. elim (cases_lt 0 n) [

@@ -1,6 +1,8 @@
 -- This file proves how bytes that are gathered and then taken add up. Crates that gather bytes cite it.
 -- Main lemmas: `gathers_more` and `all_more`.
-use Rattle.std.proofs.Common.{◌≡◌, ℕ, ◌+◌, ◌<◌, get_or, List, [], ◌∷◌, ◌++◌, length, take, drop, Option, refl, sym, ap, ◌∙◌, subst, append_assoc, append-nil, arith, length-append}
+use Rattle.std.proofs.Common.{◌≡◌, ℕ, ◌+◌, ◌<◌, get_or, List, [], ◌∷◌, ◌++◌, length, take, drop}
+use Rattle.std.proofs.Common.{Option, refl, sym, ap, ◌∙◌, subst, append_assoc, append-nil, arith}
+use Rattle.std.proofs.Common.{length-append}
 use Rattle.std.proofs.lemmas.List.{take-append-drop, take-append-le, take_more}
 use Rattle.std.proofs.lemmas.List.Concat.{flat_map-append}
 use Rattle.std.specs.List.{flat_map}
@@ -14,10 +16,13 @@ pub gathers_none : (a : Option (List ℕ)) (s : List ℕ) → Gathers a a s s
 gathers_none a s = record { front = []; whole = refl; growth = Appends-nil a }
 
 -- what was pending, and x behind it
-pub gathers_more : (a b c : Option (List ℕ)) (s p x q : List ℕ) → Gathers a b s p → Gathers b c (p ++ x) q → Gathers a c (s ++ x) q
+pub gathers_more : (a b c : Option (List ℕ)) (s p x q : List ℕ) → Gathers a b s p → Gathers b c (p ++ x) q
+    → Gathers a c (s ++ x) q
 gathers_more a b c s p x q g h = record {
   front = g.front ++ h.front;
-  whole = ap (λ z. z ++ x) g.whole ∙ append_assoc g.front p x ∙ ap (λ z. g.front ++ z) h.whole ∙ sym (append_assoc g.front h.front q);
+  whole =
+      ap (λ z. z ++ x) g.whole ∙ append_assoc g.front p x ∙ ap (λ z. g.front ++ z) h.whole
+      ∙ sym (append_assoc g.front h.front q);
   growth = Appends-trans a b c g.front h.front g.growth h.growth;
 }
 
@@ -40,8 +45,11 @@ pub some_more : (a b : Option (List ℕ)) (s x : List ℕ) → TakesSome a b s �
 some_more a b s x t = (t.0, omega (arith, t.1, length-append s x), rw (take-append-le t.0 s x t.1) t.2)
 
 -- a beginning of what was pending and x behind it
-pub some_after : (a b c : Option (List ℕ)) (s p x : List ℕ) → Gathers a b s p → TakesSome b c (p ++ x) → TakesSome a c (s ++ x)
-some_after a b c s p x g t = gathers_some a c (s ++ x) (drop t.0 (p ++ x)) (gathers_more a b c s p x (drop t.0 (p ++ x)) g (some_gathers b c (p ++ x) t))
+pub some_after : (a b c : Option (List ℕ)) (s p x : List ℕ) → Gathers a b s p → TakesSome b c (p ++ x)
+    → TakesSome a c (s ++ x)
+some_after a b c s p x g t =
+    gathers_some a c (s ++ x) (drop t.0 (p ++ x))
+    (gathers_more a b c s p x (drop t.0 (p ++ x)) g (some_gathers b c (p ++ x) t))
 
 -- ---- all at once
 
@@ -59,8 +67,10 @@ pub gathers_written : (a b : Option (List ℕ)) (s : List ℕ) → Appends a b s
 gathers_written a b s t = record { front = s; whole = sym (append-nil s); growth = t }
 
 -- all that was pending and x after it was taken
-pub all_more : (a b c : Option (List ℕ)) (s p x : List ℕ) → Gathers a b s p → Appends b c (p ++ x) → Appends a c (s ++ x)
-all_more a b c s p x g t = all_after a c c (s ++ x) [] (gathers_more a b c s p x [] g (gathers_written b c (p ++ x) t)) (Appends-nil c)
+pub all_more : (a b c : Option (List ℕ)) (s p x : List ℕ) → Gathers a b s p → Appends b c (p ++ x)
+    → Appends a c (s ++ x)
+all_more a b c s p x g t =
+    all_after a c c (s ++ x) [] (gathers_more a b c s p x [] g (gathers_written b c (p ++ x) t)) (Appends-nil c)
 
 -- ---- one piece after the other: s, and then a piece for each of xs, of which i are done; x is the next piece
 
@@ -73,12 +83,15 @@ module _ {X : Type 0} (f : X → List ℕ) (xs : List X) (i : ℕ) (d : X) (with
   pieces_all : (s ++ flat_map f (take (i + 1) xs)) ++ flat_map f (drop (i + 1) xs) ≡ s ++ flat_map f xs
   pieces_all =
       append_assoc s (flat_map f (take (i + 1) xs)) (flat_map f (drop (i + 1) xs))
-      ∙ ap (λ z. s ++ z) (sym (flat_map-append f (take (i + 1) xs) (drop (i + 1) xs)) ∙ ap (flat_map f) (take-append-drop (i + 1) xs))
+      ∙ ap (λ z. s ++ z)
+      (sym (flat_map-append f (take (i + 1) xs) (drop (i + 1) xs)) ∙ ap (flat_map f) (take-append-drop (i + 1) xs))
 
   pub gathers_piece : (q : List ℕ) → Gathers b c (p ++ x) q → Gathers a c (s ++ flat_map f (take (i + 1) xs)) q
-  gathers_piece q g = subst (λ z. Gathers a c z q) pieces_more (gathers_more a b c (s ++ flat_map f (take i xs)) p x q so_far g)
+  gathers_piece q g =
+      subst (λ z. Gathers a c z q) pieces_more (gathers_more a b c (s ++ flat_map f (take i xs)) p x q so_far g)
 
   pub some_piece : TakesSome b c (p ++ x) → TakesSome a c (s ++ flat_map f xs)
   some_piece t =
       let upto : TakesSome a c (s ++ flat_map f (take (i + 1) xs)) = subst (TakesSome a c) pieces_more (some_after a b c (s ++ flat_map f (take i xs)) p x so_far t) in
-      subst (TakesSome a c) pieces_all (some_more a c (s ++ flat_map f (take (i + 1) xs)) (flat_map f (drop (i + 1) xs)) upto)
+      subst (TakesSome a c) pieces_all
+      (some_more a c (s ++ flat_map f (take (i + 1) xs)) (flat_map f (drop (i + 1) xs)) upto)

@@ -1,6 +1,9 @@
 -- This file proves what entering a line does by the parts that the line was taken apart into.
 -- Main lemmas: `number_value` and `line_refused`.
-use Rattle.std.proofs.Common.{◌≡◌, ℕ, ◌+◌, ◌<◌, ◌≤◌, ◌⊎◌, Bool, true, false, not, ◌==◌, List, [], ◌∷◌, length, take, drop, Option, Some, None, Result, Ok, Err, IfErr, IsErrOf, refl, sym, ap, subst, ◌∙◌, arith, length-drop, ℤ, pos, inl, inr}
+use Rattle.std.proofs.Common.{◌≡◌, ℕ, ◌+◌, ◌<◌, ◌≤◌, ◌⊎◌, Bool, true, false, not, ◌==◌, List, []}
+use Rattle.std.proofs.Common.{◌∷◌, length, take, drop, Option, Some, None, Result, Ok, Err, IfErr}
+use Rattle.std.proofs.Common.{IsErrOf, refl, sym, ap, subst, ◌∙◌, arith, length-drop, ℤ, pos, inl}
+use Rattle.std.proofs.Common.{inr}
 use Rattle.std.specs.Prelude.{MatchOption, position, nat_le, nat_lt, if◌then◌else◌}
 use Rattle.std.specs.List.{prefix_len}
 use Rattle.std.specs.Result.{IsErrAnd}
@@ -10,7 +13,9 @@ use Rattle.std.proofs.lemmas.Bool.Decides.{nat_tests}
 use Rattle.ptb_text.specs.declared.fault.LoadFault.{LoadFault}
 use Rattle.ptb_text.specs.declared.fault.LoadFault.TheVariants.{NoNumber, NumberTooBig, TextTooLong, Full, Memory}
 use Rattle.ptb_text.specs.Lines.{is_printable}
-use Rattle.ptb_text.specs.Statements.{HasText, Statements, StoredProgram, after_line, after_trimmed, after_statement, unless_bad_byte, trim_start, with_text, cost, if_room, is_statement, text_limit}
+use Rattle.ptb_text.specs.Statements.{HasText, Statements, StoredProgram, after_line, after_trimmed}
+use Rattle.ptb_text.specs.Statements.{after_statement, unless_bad_byte, trim_start, with_text, cost}
+use Rattle.ptb_text.specs.Statements.{if_room, is_statement, text_limit}
 use Rattle.ptb_words.specs.Digits.{number_limit, digits_value, is_digit, is_blank}
 use Rattle.ptb_text.specs.Entry.{Enters, EntersNothing, IsLineFault, IsRefused, IsNumbered}
 use Rattle.ptb_words.specs.declared.word.Number.{Number}
@@ -38,15 +43,18 @@ digits_of t = take (prefix_len is_digit t) t
 abbrev pub behind_digits : List ℕ → List ℕ
 behind_digits t = drop (prefix_len is_digit t) t
 
-no_number : (t : List ℕ) (p : Statements) (memory : ℕ) → 0 < length t → digits_value (digits_of t) ≡ 0 → after_trimmed p memory t ≡ Err NoNumber
+no_number : (t : List ℕ) (p : Statements) (memory : ℕ) → 0 < length t → digits_value (digits_of t) ≡ 0
+    → after_trimmed p memory t ≡ Err NoNumber
 no_number [] p memory some none = absurd (omega arith)
 no_number (b ∷ bs) p memory some none = grind (arith, nat_tests)
 
-too_big : (t : List ℕ) (p : Statements) (memory : ℕ) → 0 < length t → number_limit < digits_value (digits_of t) → after_trimmed p memory t ≡ Err NumberTooBig
+too_big : (t : List ℕ) (p : Statements) (memory : ℕ) → 0 < length t → number_limit < digits_value (digits_of t)
+    → after_trimmed p memory t ≡ Err NumberTooBig
 too_big [] p memory some over = absurd (omega arith)
 too_big (b ∷ bs) p memory some over = grind (arith, nat_tests)
 
-numbered : (t : List ℕ) (p : Statements) (memory n : ℕ) → 0 < length t → digits_value (digits_of t) ≡ n → 0 < n → n ≤ number_limit → after_trimmed p memory t ≡ after_statement p memory n (trim_start (behind_digits t))
+numbered : (t : List ℕ) (p : Statements) (memory n : ℕ) → 0 < length t → digits_value (digits_of t) ≡ n → 0 < n
+    → n ≤ number_limit → after_trimmed p memory t ≡ after_statement p memory n (trim_start (behind_digits t))
 numbered [] p memory n some is low high = absurd (omega arith)
 numbered (b ∷ bs) p memory n some is low high = grind (arith, nat_tests)
 
@@ -63,7 +71,8 @@ module _ (line t : List ℕ) (clean : position (λ b. not (is_printable b)) line
   pub after_too_big : 0 < length t → number_limit < digits_value (digits_of t) → IsRefused line NumberTooBig
   after_too_big some over p memory = by_trimmed p memory ∙ too_big t p memory some over
 
-  pub after_number : (n : ℕ) → 0 < length t → digits_value (digits_of t) ≡ n → 0 < n → n ≤ number_limit → IsNumbered line n (trim_start (behind_digits t))
+  pub after_number : (n : ℕ) → 0 < length t → digits_value (digits_of t) ≡ n → 0 < n → n ≤ number_limit
+      → IsNumbered line n (trim_start (behind_digits t))
   after_number n some is low high = record {
     low = low;
     high = high;
@@ -75,7 +84,8 @@ module _ (line t : List ℕ) (clean : position (λ b. not (is_printable b)) line
 
 -- ---- what a line is refused for is a fault that a line can have
 
-chosen : (t : Bool) (x y : Result Statements LoadFault) → IfErr x IsLineFault → IfErr y IsLineFault → IfErr (if t then x else y) IsLineFault
+chosen : (t : Bool) (x y : Result Statements LoadFault) → IfErr x IsLineFault → IfErr y IsLineFault
+    → IfErr (if t then x else y) IsLineFault
 chosen true x y of_x of_y = of_x
 chosen false x y of_x of_y = of_y
 
@@ -83,7 +93,8 @@ after_statement-fault : (p : Statements) (memory n : ℕ) (t : List ℕ) → IfE
 after_statement-fault p memory n [] = tt
 after_statement-fault p memory n (b ∷ bs) =
     let q = with_text p n (b ∷ bs) in
-    chosen (nat_lt text_limit (length (b ∷ bs))) (Err TextTooLong) (if_room memory q) tt (chosen (nat_lt memory (cost q)) (Err Full) (Ok q) tt tt)
+    chosen (nat_lt text_limit (length (b ∷ bs))) (Err TextTooLong) (if_room memory q) tt
+    (chosen (nat_lt memory (cost q)) (Err Full) (Ok q) tt tt)
 
 after_trimmed-fault : (p : Statements) (memory : ℕ) (t : List ℕ) → IfErr (after_trimmed p memory t) IsLineFault
 after_trimmed-fault p memory [] = tt
@@ -93,12 +104,14 @@ after_trimmed-fault p memory (b ∷ bs) =
     chosen (n == 0) (Err NoNumber) (if nat_lt number_limit n then Err NumberTooBig else after_statement p memory n t) tt
     (chosen (nat_lt number_limit n) (Err NumberTooBig) (after_statement p memory n t) tt (after_statement-fault p memory n t))
 
-unless_bad_byte-fault : (o : Option ℕ) (p : Statements) (memory : ℕ) (line : List ℕ) → IfErr (unless_bad_byte o p memory line) IsLineFault
+unless_bad_byte-fault : (o : Option ℕ) (p : Statements) (memory : ℕ) (line : List ℕ)
+    → IfErr (unless_bad_byte o p memory line) IsLineFault
 unless_bad_byte-fault (Some k) p memory line = tt
 unless_bad_byte-fault None p memory line = after_trimmed-fault p memory (trim_start line)
 
 IsRefused-fault : (line : List ℕ) (fault : LoadFault) → IsRefused line fault → IsLineFault fault
-IsRefused-fault line fault h = subst (λ (r : Result Statements LoadFault). IfErr r IsLineFault) (h [] 0) (unless_bad_byte-fault _ [] 0 line)
+IsRefused-fault line fault h =
+    subst (λ (r : Result Statements LoadFault). IfErr r IsLineFault) (h [] 0) (unless_bad_byte-fault _ [] 0 line)
 
 -- what is told of a line that was entered
 pub record IsEntered (line : List ℕ) (old new : StoredProgram) (result : Result (Unit {0}) LoadFault) : Type 0 where
@@ -112,7 +125,8 @@ memory_fault : (f : LoadFault) → IsErrOf {T = Unit {0}} (Err f) Memory → f �
 memory_fault f e = cc e
 
 -- it is refused for what each program refuses it for
-pub line_refused : (line : List ℕ) (p : StoredProgram) (result : Result (Unit {0}) LoadFault) (fault : LoadFault) → IsErrAnd result (λ f. f ≡ fault) → IsRefused line fault → IsEntered line p p result
+pub line_refused : (line : List ℕ) (p : StoredProgram) (result : Result (Unit {0}) LoadFault) (fault : LoadFault)
+    → IsErrAnd result (λ f. f ≡ fault) → IsRefused line fault → IsEntered line p p result
 line_refused line p (Ok u) fault is refused = absurd is
 line_refused line p (Err f) fault is refused =
     let line_fault : IsLineFault f = subst IsLineFault (sym is) (IsRefused-fault line fault refused) in
@@ -158,7 +172,9 @@ number_cases line n j e = go (k == 0) refl e
     x : Number
     x = small_number (digits_value (digits_of (in_front line)))
 
-    go : (b : Bool) → (k == 0) ≡ b → ◌≡◌ {A = Number × ℕ} (if b then (Absent, 0) else (x, past_blanks line (past_blanks line 0 + k))) (n, j) → ((k ≡ 0) × (n ≡ Absent)) ⊎ ((x ≡ n) × (past_blanks line (past_blanks line 0 + k) ≡ j))
+    go : (b : Bool) → (k == 0) ≡ b
+        → ◌≡◌ {A = Number × ℕ} (if b then (Absent, 0) else (x, past_blanks line (past_blanks line 0 + k))) (n, j)
+        → ((k ≡ 0) × (n ≡ Absent)) ⊎ ((x ≡ n) × (past_blanks line (past_blanks line 0 + k) ≡ j))
     go true h e = inl (eqb-true k 0 h, sym (ap (λ (p : Number × ℕ). p.0) e))
     go false h e = inr (ap (λ (p : Number × ℕ). p.0) e, ap (λ (p : Number × ℕ). p.1) e)
 
@@ -180,7 +196,8 @@ too_big_is v e = go (nat_le v number_limit) refl e
 value_is : (n : ℕ) (v : ℤ) → small_number n ≡ Value v → (n ≤ number_limit) × (pos n ≡ v)
 value_is n v e = go (nat_le n number_limit) refl e
   where
-    go : (b : Bool) → nat_le n number_limit ≡ b → (if b then Value (pos n) else TooBig) ≡ Value v → (n ≤ number_limit) × (pos n ≡ v)
+    go : (b : Bool) → nat_le n number_limit ≡ b → (if b then Value (pos n) else TooBig) ≡ Value v
+        → (n ≤ number_limit) × (pos n ≡ v)
     go true h e = (leb-true n number_limit h, cc)
     go false h e = absurd cc
 
@@ -188,13 +205,15 @@ value_is n v e = go (nat_le n number_limit) refl e
 no_digits : (t : List ℕ) → prefix_len is_digit t ≡ 0 → digits_value (digits_of t) ≡ 0
 no_digits t e = ap (λ k. digits_value (take k t)) e
 
-pub number_too_big : (line : List ℕ) (j : ℕ) → number_at line 0 ≡ (TooBig, j) → number_limit < digits_value (digits_of (in_front line))
+pub number_too_big : (line : List ℕ) (j : ℕ) → number_at line 0 ≡ (TooBig, j)
+    → number_limit < digits_value (digits_of (in_front line))
 number_too_big line j e = elim (number_cases line TooBig j e) [
   | inl h ↦ absurd (cc h.1)
   | inr h ↦ too_big_is _ h.0
 ]
 
-pub number_absent : (line : List ℕ) (j : ℕ) → number_at line 0 ≡ (Absent, j) → digits_value (digits_of (in_front line)) ≡ 0
+pub number_absent : (line : List ℕ) (j : ℕ) → number_at line 0 ≡ (Absent, j)
+    → digits_value (digits_of (in_front line)) ≡ 0
 number_absent line j e = elim (number_cases line Absent j e) [
   | inl h ↦ no_digits (in_front line) h.0
   | inr h ↦ absurd (absent_is _ h.0)
@@ -206,7 +225,8 @@ pub record HasNumber (line : List ℕ) (v : ℤ) (j : ℕ) : Type 0 where
   pub high : digits_value (digits_of (in_front line)) ≤ number_limit
   pub text : drop j line ≡ trim_start (behind_digits (in_front line))
 
-behind : (line : List ℕ) → drop (past_blanks line (past_blanks line 0 + prefix_len is_digit (in_front line))) line ≡ trim_start (behind_digits (in_front line))
+behind : (line : List ℕ)
+    → drop (past_blanks line (past_blanks line 0 + prefix_len is_digit (in_front line))) line ≡ trim_start (behind_digits (in_front line))
 unfolding past_blanks
 behind line =
     let k = prefix_len is_digit (in_front line) in
@@ -237,7 +257,8 @@ pub found_is : {T : Type 0} (N : Type 0) (P : T → Type 0) (o : Option T) (x : 
 found_is N P None x told is = cc
 found_is N P (Some y) x told is = let same : y ≡ x = cc in subst P same told
 
-after_short : (p : Statements) (memory n : ℕ) (t : List ℕ) → 0 < length t → length t ≤ text_limit → after_statement p memory n t ≡ if_room memory (with_text p n t)
+after_short : (p : Statements) (memory n : ℕ) (t : List ℕ) → 0 < length t → length t ≤ text_limit
+    → after_statement p memory n t ≡ if_room memory (with_text p n t)
 after_short p memory n [] some short = absurd (omega arith)
 after_short p memory n (b ∷ bs) some short = grind (arith, nat_tests)
 
@@ -251,7 +272,8 @@ module _ (line : List ℕ) (p : StoredProgram) where
       pub line_statement : is_statement (n, t) ≡ true
       line_statement = grind (arith, nat_tests, numbered.low, numbered.high, numbered.printable, numbered.no_blank_in_front, some_bytes t empty tested not_empty)
 
-      pub line_stored : (new : StoredProgram) (result : Result (Unit {0}) LoadFault) → Enters (if_room p.memory (with_text p.lines n t)) p new result → IsEntered line p new result
+      pub line_stored : (new : StoredProgram) (result : Result (Unit {0}) LoadFault)
+          → Enters (if_room p.memory (with_text p.lines n t)) p new result → IsEntered line p new result
       line_stored new result enters = record {
         enters = subst (λ (w : Result Statements LoadFault). Enters w p new result) (sym (numbered.enters p.lines p.memory ∙ after_short p.lines p.memory n t (some_bytes t empty tested not_empty) short)) enters;
         memory_text = λ _. has_text;

@@ -1,6 +1,9 @@
 -- This file proves that what is listed loads as the same program.
 -- Main lemma: `GivesProgram-listing`.
-use Rattle.std.proofs.Common.{◌≡◌, ℕ, zero, suc, ◌+◌, ◌-◌, ◌*◌, ◌/◌, ◌%◌, ◌<◌, ◌≤◌, Bool, true, false, cond, ◌==◌, List, [], ◌∷◌, ◌++◌, length, map, take, drop, get_or, Some, slice_get, Result, Ok, Err, refl, sym, ap, ◌∙◌, arith, append_assoc, append-nil, length-append, length-drop}
+use Rattle.std.proofs.Common.{◌≡◌, ℕ, zero, suc, ◌+◌, ◌-◌, ◌*◌, ◌/◌, ◌%◌, ◌<◌, ◌≤◌, Bool, true}
+use Rattle.std.proofs.Common.{false, cond, ◌==◌, List, [], ◌∷◌, ◌++◌, length, map, take, drop}
+use Rattle.std.proofs.Common.{get_or, Some, slice_get, Result, Ok, Err, refl, sym, ap, ◌∙◌, arith}
+use Rattle.std.proofs.Common.{append_assoc, append-nil, length-append, length-drop}
 use Rattle.std.specs.Prelude.{decimal}
 use Rattle.std.specs.List.{insert, list_all, prefix_len}
 use Rattle.std.specs.FinMap.{is_sorted}
@@ -17,7 +20,9 @@ use Rattle.ptb_text.specs.declared.fault.LoadFault.{LoadFault}
 use Rattle.ptb_text.specs.Lines.{pieces, onto_first, program_lines, is_printable, tab_as_space}
 use Rattle.ptb_text.specs.Loading.{GivesProgram}
 use Rattle.ptb_text.specs.Places.{IsGapFor, statement_number}
-use Rattle.ptb_text.specs.Statements.{Statements, after_line, after_lines, after_statement, cost, is_program, is_statement, line_of, listing, text_limit, trim_start, with_text, IsText}
+use Rattle.ptb_text.specs.Statements.{Statements, after_line, after_lines, after_statement, cost}
+use Rattle.ptb_text.specs.Statements.{is_program, is_statement, line_of, listing, text_limit}
+use Rattle.ptb_text.specs.Statements.{trim_start, with_text, IsText}
 use Rattle.ptb_words.specs.Digits.{digits_value, is_blank, is_digit}
 use Rattle.ptb_text.proofs.ByteTests.{none_from_list_all, prefix_len-whole}
 use Rattle.ptb_text.proofs.Edits.{both, one_cost}
@@ -36,12 +41,17 @@ digit_is : (n : ℕ) → n < 10 → is_digit (48 + n) ≡ true
 digit_is n small = grind (arith, nat_tests)
 
 IsNumeralOf-one : (n : ℕ) → n < 10 → IsNumeralOf n ((48 + n) ∷ [])
-IsNumeralOf-one n small = record { all_digits = both _ _ (digit_is n small) refl; value = omega arith; some = omega arith }
+IsNumeralOf-one n small =
+    record { all_digits = both _ _ (digit_is n small) refl; value = omega arith; some = omega arith }
 
 IsNumeralOf-more : (n : ℕ) (ds : List ℕ) → 10 ≤ n → IsNumeralOf (n / 10) ds → IsNumeralOf n (ds ++ ((48 + n % 10) ∷ []))
 IsNumeralOf-more n ds big front = record {
-  all_digits = list_all-append is_digit ds ((48 + n % 10) ∷ []) ∙ both _ _ front.all_digits (both _ _ (digit_is (n % 10) (omega arith)) refl);
-  value = fold-append (λ m d. m * 10 + (d - 48)) 0 ds ((48 + n % 10) ∷ []) ∙ ap (λ m. m * 10 + ((48 + n % 10) - 48)) front.value ∙ omega arith;
+  all_digits =
+      list_all-append is_digit ds ((48 + n % 10) ∷ [])
+      ∙ both _ _ front.all_digits (both _ _ (digit_is (n % 10) (omega arith)) refl);
+  value =
+      fold-append (λ m d. m * 10 + (d - 48)) 0 ds ((48 + n % 10) ∷ [])
+      ∙ ap (λ m. m * 10 + ((48 + n % 10) - 48)) front.value ∙ omega arith;
   some = omega (arith, length-append ds ((48 + n % 10) ∷ []));
 }
 
@@ -51,9 +61,11 @@ numeral n small = decimal_by_steps IsNumeralOf IsNumeralOf-one IsNumeralOf-more 
 -- ---- lines that print
 
 -- what passes one test passes a weaker one
-list_all-weaker : (p q : ℕ → Bool) → ((b : ℕ) → p b ≡ true → q b ≡ true) → (xs : List ℕ) → list_all p xs ≡ true → list_all q xs ≡ true
+list_all-weaker : (p q : ℕ → Bool) → ((b : ℕ) → p b ≡ true → q b ≡ true) → (xs : List ℕ) → list_all p xs ≡ true
+    → list_all q xs ≡ true
 list_all-weaker p q weaker [] all = refl
-list_all-weaker p q weaker (x ∷ xs) all = both _ _ (weaker x (both_true _ _ all).0) (list_all-weaker p q weaker xs (both_true _ _ all).1)
+list_all-weaker p q weaker (x ∷ xs) all =
+    both _ _ (weaker x (both_true _ _ all).0) (list_all-weaker p q weaker xs (both_true _ _ all).1)
 
 digit_prints : (b : ℕ) → is_digit b ≡ true → is_printable b ≡ true
 digit_prints b is = grind (arith, nat_tests)
@@ -83,13 +95,15 @@ strip-prints l prints = ap (λ c. cond c (take (length l - 1) l) l) (no_return_a
 
 without_tabs-prints : (l : List ℕ) → Prints l → map tab_as_space l ≡ l
 without_tabs-prints [] prints = refl
-without_tabs-prints (b ∷ l) prints = λ i. prints_no_tab b (both_true _ _ prints).0 i ∷ without_tabs-prints l (both_true _ _ prints).1 i
+without_tabs-prints (b ∷ l) prints =
+    λ i. prints_no_tab b (both_true _ _ prints).0 i ∷ without_tabs-prints l (both_true _ _ prints).1 i
 
 -- a line that prints, in front of a newline, is cut off as it is
 pieces-prints : (l rest : List ℕ) → Prints l → pieces (l ++ 10 ∷ rest) ≡ l ∷ pieces rest
 pieces-prints [] rest prints = refl
 pieces-prints (b ∷ l) rest prints =
-    ap (λ c. cond c ([] ∷ pieces (l ++ 10 ∷ rest)) (onto_first b (pieces (l ++ 10 ∷ rest)))) (prints_no_newline b (both_true _ _ prints).0)
+    ap (λ c. cond c ([] ∷ pieces (l ++ 10 ∷ rest)) (onto_first b (pieces (l ++ 10 ∷ rest))))
+    (prints_no_newline b (both_true _ _ prints).0)
     ∙ ap (onto_first b) (pieces-prints l rest (both_true _ _ prints).1)
 
 program_lines-prints : (l rest : List ℕ) → Prints l → program_lines (l ++ 10 ∷ rest) ≡ l ∷ program_lines rest
@@ -123,20 +137,26 @@ nothing_dropped : (k : ℕ) (t : List ℕ) → k ≤ length t → length (drop k
 nothing_dropped k t le same = omega (arith, length-drop k t)
 
 trim_start-text : (t : List ℕ) → IsText t → prefix_len is_blank t ≡ 0
-trim_start-text t text = nothing_dropped (prefix_len is_blank t) t (prefix_len-le-length is_blank t) text.no_blank_in_front
+trim_start-text t text =
+    nothing_dropped (prefix_len is_blank t) t (prefix_len-le-length is_blank t) text.no_blank_in_front
 
 trim_start-behind_blank : (t : List ℕ) → IsText t → trim_start (32 ∷ t) ≡ t
 trim_start-behind_blank t text = ap (λ k. drop (1 + k) (32 ∷ t)) (trim_start-text t text)
 
-trim_start-digits : (ds rest : List ℕ) → list_all is_digit ds ≡ true → 0 < length ds → trim_start (ds ++ rest) ≡ ds ++ rest
+trim_start-digits : (ds rest : List ℕ) → list_all is_digit ds ≡ true → 0 < length ds
+    → trim_start (ds ++ rest) ≡ ds ++ rest
 trim_start-digits [] rest all some = absurd (omega arith)
-trim_start-digits (d ∷ ds) rest all some = ap (λ c. drop (cond c (1 + prefix_len is_blank (ds ++ rest)) 0) ((d ∷ ds) ++ rest)) (digit_is_no_blank d (both_true _ _ all).0)
+trim_start-digits (d ∷ ds) rest all some =
+    ap (λ c. drop (cond c (1 + prefix_len is_blank (ds ++ rest)) 0) ((d ∷ ds) ++ rest))
+    (digit_is_no_blank d (both_true _ _ all).0)
 
-store_text : (p : Statements) (memory n : ℕ) (t : List ℕ) → 0 < length t → length t ≤ text_limit → cost (with_text p n t) ≤ memory → after_statement p memory n t ≡ Ok (with_text p n t)
+store_text : (p : Statements) (memory n : ℕ) (t : List ℕ) → 0 < length t → length t ≤ text_limit
+    → cost (with_text p n t) ≤ memory → after_statement p memory n t ≡ Ok (with_text p n t)
 store_text p memory n [] some short fits = absurd (omega arith)
 store_text p memory n (b ∷ t) some short fits = grind (arith, nat_tests)
 
-after_line-entry : (p : Statements) (memory n : ℕ) (t : List ℕ) → StatementFacts n t → cost (with_text p n t) ≤ memory → after_line p memory (entry (n, t)) ≡ Ok (with_text p n t)
+after_line-entry : (p : Statements) (memory n : ℕ) (t : List ℕ) → StatementFacts n t → cost (with_text p n t) ≤ memory
+    → after_line p memory (entry (n, t)) ≡ Ok (with_text p n t)
 after_line-entry p memory n t facts fits =
     let line = entry (n, t) in
     let ds = decimal n in
@@ -147,13 +167,15 @@ after_line-entry p memory n t facts fits =
     let behind : behind_digits line ≡ 32 ∷ t = ap (λ k. drop k line) size ∙ drop-append_seam ds (32 ∷ t) in
     let some : 0 < length line = omega (arith, is.some, length-append ds (32 ∷ t)) in
     let numbered = after_number line line clean (sym (trim_start-digits ds (32 ∷ t) is.all_digits is.some)) n some (ap digits_value digits ∙ is.value) facts.low facts.high in
-    numbered.enters p memory ∙ ap (after_statement p memory n) (ap trim_start behind ∙ trim_start-behind_blank t facts.text)
+    numbered.enters p memory
+    ∙ ap (after_statement p memory n) (ap trim_start behind ∙ trim_start-behind_blank t facts.text)
     ∙ store_text p memory n t facts.text.not_empty facts.text.short fits
 
 -- ---- all lines, one after the other
 
 -- a statement behind all others goes behind them
-with_text-behind : (p : Statements) (s : ℕ × List ℕ) (rest : Statements) → is_sorted nat_cmp (p ++ s ∷ rest) ≡ true → with_text p s.0 s.1 ≡ p ++ s ∷ []
+with_text-behind : (p : Statements) (s : ℕ × List ℕ) (rest : Statements) → is_sorted nat_cmp (p ++ s ∷ rest) ≡ true
+    → with_text p s.0 s.1 ≡ p ++ s ∷ []
 with_text-behind p s rest sorted =
     let all = p ++ s ∷ rest in
     let size = length-append p (s ∷ rest) in
@@ -167,9 +189,11 @@ with_text-behind p s rest sorted =
     } in
     let insert_at : insert (p ++ []) (length p) s ≡ p ++ insert [] (length p - length p) s = insert-append_right p [] (length p) (length p) s refl (omega arith) in
     let none : length p - length p ≡ 0 = omega arith in
-    with_text-gap p s.0 (length p) s.1 gap ∙ ap (λ q. insert q (length p) s) (sym (append-nil p)) ∙ insert_at ∙ ap (λ k. p ++ insert [] k s) none
+    with_text-gap p s.0 (length p) s.1 gap ∙ ap (λ q. insert q (length p) s) (sym (append-nil p)) ∙ insert_at
+    ∙ ap (λ k. p ++ insert [] k s) none
 
-accepted_first : (line : List ℕ) (rest : List (List ℕ)) (k : ℕ) (p q : Statements) (memory : ℕ) → after_line p memory line ≡ Ok q → after_lines (line ∷ rest) k p memory ≡ after_lines rest (k + 1) q memory
+accepted_first : (line : List ℕ) (rest : List (List ℕ)) (k : ℕ) (p q : Statements) (memory : ℕ)
+    → after_line p memory line ≡ Ok q → after_lines (line ∷ rest) k p memory ≡ after_lines rest (k + 1) q memory
 unfolding after_lines
 accepted_first line rest k p q memory e = ap (λ r. elim r as (λ _. Result Statements (ℕ × LoadFault)) [ Ok p' ↦ after_lines rest (k + 1) p' memory | Err fault ↦ Err (k, fault) ]) e
 
@@ -186,7 +210,8 @@ cost-front p s rest =
     let parts : cost (s ∷ rest) ≡ one_cost s + cost rest = sum_by-cons one_cost s rest in
     omega arith
 
-entries_entered : (p rest : Statements) (k memory : ℕ) → is_program (p ++ rest) ≡ true → cost (p ++ rest) ≤ memory → after_lines (map entry rest) k p memory ≡ Ok (p ++ rest)
+entries_entered : (p rest : Statements) (k memory : ℕ) → is_program (p ++ rest) ≡ true → cost (p ++ rest) ≤ memory
+    → after_lines (map entry rest) k p memory ≡ Ok (p ++ rest)
 entries_entered p [] k memory is fits = none_left k p memory ∙ ap Ok (sym (append-nil p))
 entries_entered p (s ∷ rest) k memory is fits =
     let parts = both_true _ _ is in
@@ -201,13 +226,16 @@ entries_entered p (s ∷ rest) k memory is fits =
     ∙ ap Ok others
 
 -- the listing of a program gives the program, where the memory has room for it
-pub GivesProgram-listing : (memory : ℕ) (p : Statements) → is_program p ≡ true → cost p ≤ memory → GivesProgram memory (listing p) p
+pub GivesProgram-listing : (memory : ℕ) (p : Statements) → is_program p ≡ true → cost p ≤ memory
+    → GivesProgram memory (listing p) p
 GivesProgram-listing memory p is fits =
-    ap (λ ls. after_lines ls 1 [] memory) (program_lines-listing p (both_true _ _ is).1) ∙ entries_entered [] p 1 memory is fits
+    ap (λ ls. after_lines ls 1 [] memory) (program_lines-listing p (both_true _ _ is).1)
+    ∙ entries_entered [] p 1 memory is fits
 
 -- ---- the lines that are left to be written
 
-pub listing-drop : (p : Statements) (i : ℕ) (s : ℕ × List ℕ) → slice_get p i ≡ Some s → listing (drop i p) ≡ line_of s ++ listing (drop (i + 1) p)
+pub listing-drop : (p : Statements) (i : ℕ) (s : ℕ × List ℕ) → slice_get p i ≡ Some s
+    → listing (drop i p) ≡ line_of s ++ listing (drop (i + 1) p)
 listing-drop [] i s there = cc
 listing-drop (t ∷ p) zero s there = let same : t ≡ s = cc in ap (λ q. line_of q ++ listing p) same
 listing-drop (t ∷ p) (suc i) s there = let next : suc i + 1 ≡ suc (i + 1) = omega arith in rw next (listing-drop p i s there)

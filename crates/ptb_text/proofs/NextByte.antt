@@ -1,6 +1,7 @@
 -- This file proves what the number of a statement tells of its place.
 -- Main lemma: `statement_laws`.
-use Rattle.std.proofs.Common.{◌≡◌, ℕ, zero, suc, ◌<◌, List, [], ◌∷◌, length, get_or, Some, slice_get, add-one, ap, subst, ◌∙◌, arith}
+use Rattle.std.proofs.Common.{◌≡◌, ℕ, zero, suc, ◌<◌, List, [], ◌∷◌, length, get_or, Some}
+use Rattle.std.proofs.Common.{slice_get, add-one, ap, subst, ◌∙◌, arith}
 use Rattle.ptb_text.specs.Statements.{Statements, text_at}
 use Rattle.ptb_text.specs.Places.{IsAt, StatementLaws, statement_number}
 use Rattle.ptb_text.proofs.Entries.{number_after-place}
@@ -20,5 +21,6 @@ statement_laws = record {
   behind = λ p i n t is e.
       let s = there p i (n, t) e in
       let number : statement_number p i ≡ n = ap (λ x. x.0) s.1 in
-      rw add-one (number_after-place p n i (subst (λ (k : ℕ). IsAt p k i) number (IsAt-from_rising p (both_true _ _ is).0 i s.0)));
+      rw add-one
+      (number_after-place p n i (subst (λ (k : ℕ). IsAt p k i) number (IsAt-from_rising p (both_true _ _ is).0 i s.0)));
 }

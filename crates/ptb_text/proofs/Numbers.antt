@@ -1,6 +1,8 @@
 -- This file proves what is known of a number with a sign once it was converted to one without.
 -- Main lemmas: `look_up-found` and `look_up-absent`.
-use Rattle.std.proofs.Common.{◌≡◌, ℕ, ◌+◌, ℤ, pos, negsuc, nat_abs, Result, Ok, Err, Option, Some, None, List, [], IfSome, IsNone, option_map, slice_get, add-one, IfOk, IfErr, OnSome, refl, sym, subst, ap, ◌∙◌, arith}
+use Rattle.std.proofs.Common.{◌≡◌, ℕ, ◌+◌, ℤ, pos, negsuc, nat_abs, Result, Ok, Err, Option, Some}
+use Rattle.std.proofs.Common.{None, List, [], IfSome, IsNone, option_map, slice_get, add-one, IfOk}
+use Rattle.std.proofs.Common.{IfErr, OnSome, refl, sym, subst, ap, ◌∙◌, arith}
 use Rattle.std.specs.Result.{OkIff, result_ok}
 use Rattle.std.specs.Int.{FitsUnsignedBits}
 use mir.Syntax.{w16}
@@ -11,22 +13,28 @@ use Rattle.ptb_text.specs.Statements.{Statements, text_under, number_above}
 use Rattle.ptb_text.specs.Places.{IsGapFor, IsAt, statement_at}
 use Rattle.ptb_text.proofs.Entries.{text_at-gap, number_after-place, number_after-gap}
 
-converted : {E : Type 0} (r : Result ℕ E) (n : ℤ) (m : ℕ) → OkIff r (FitsUnsignedBits 16 n) (nat_abs n) → result_ok r ≡ Some m → n ≡ pos m
+converted : {E : Type 0} (r : Result ℕ E) (n : ℤ) (m : ℕ) → OkIff r (FitsUnsignedBits 16 n) (nat_abs n)
+    → result_ok r ≡ Some m → n ≡ pos m
 converted (Ok x) (pos k) m is e = cc
 converted (Ok x) (negsuc k) m is e = absurd is.0
 converted (Err x) n m is e = cc
 
 -- a number that could be converted has no sign
-pub is_whole : {E : Type 0} (r : Result ℕ E) (n : ℤ) (m : ℕ) → SFits w16 n → OkIff r (FitsUnsignedBits 16 (to_z w16 (of_z w16 n))) (nat_abs (to_z w16 (of_z w16 n))) → result_ok r ≡ Some m → n ≡ pos m
+pub is_whole : {E : Type 0} (r : Result ℕ E) (n : ℤ) (m : ℕ) → SFits w16 n
+    → OkIff r (FitsUnsignedBits 16 (to_z w16 (of_z w16 n))) (nat_abs (to_z w16 (of_z w16 n))) → result_ok r ≡ Some m
+    → n ≡ pos m
 is_whole r n m fits is = converted r n m (simp to_z-of_z at is)
 
 -- and under one that couldn't be there is nothing
-unconverted : {E : Type 0} (p : Statements) (r : Result ℕ E) (n : ℤ) (v : ℕ) → SFits w16 n → OkIff r (FitsUnsignedBits 16 n) v → result_ok r ≡ None → text_under p n ≡ None
+unconverted : {E : Type 0} (p : Statements) (r : Result ℕ E) (n : ℤ) (v : ℕ) → SFits w16 n
+    → OkIff r (FitsUnsignedBits 16 n) v → result_ok r ≡ None → text_under p n ≡ None
 unconverted p (Ok x) n v fits is e = cc
 unconverted p (Err x) (pos k) v fits is e = absurd (is (omega (arith, fits)))
 unconverted p (Err x) (negsuc k) v fits is e = refl
 
-pub text_under-unconverted : {E : Type 0} (p : Statements) (r : Result ℕ E) (n : ℤ) → SFits w16 n → OkIff r (FitsUnsignedBits 16 (to_z w16 (of_z w16 n))) (nat_abs (to_z w16 (of_z w16 n))) → result_ok r ≡ None → text_under p n ≡ None
+pub text_under-unconverted : {E : Type 0} (p : Statements) (r : Result ℕ E) (n : ℤ) → SFits w16 n
+    → OkIff r (FitsUnsignedBits 16 (to_z w16 (of_z w16 n))) (nat_abs (to_z w16 (of_z w16 n))) → result_ok r ≡ None
+    → text_under p n ≡ None
 text_under-unconverted p r n fits is e = unconverted p r n _ fits (simp to_z-of_z at is) e
 
 -- where nothing is answered nothing is to be shown
@@ -37,7 +45,8 @@ pub if_none : {T : Type 0} (P : T → Type 0) (o : Option T) → o ≡ None → 
 if_none P o e = subst (λ (x : Option _). IfSome x P) (sym e) tt
 
 -- a search that finds nothing
-pub text_under-absent : (p : Statements) (n : ℤ) (m : ℕ) (r : Result ℕ ℕ) → n ≡ pos m → IfErr r (IsGapFor p m) → result_ok r ≡ None → text_under p n ≡ None
+pub text_under-absent : (p : Statements) (n : ℤ) (m : ℕ) (r : Result ℕ ℕ) → n ≡ pos m → IfErr r (IsGapFor p m)
+    → result_ok r ≡ None → text_under p n ≡ None
 text_under-absent p n m (Ok i) is gap e = cc
 text_under-absent p n m (Err i) is gap e = ap (text_under p) is ∙ text_at-gap p m i gap
 
@@ -46,19 +55,23 @@ pub IsAt-found : (p : Statements) (m i : ℕ) (r : Result ℕ ℕ) → IfOk r (I
 IsAt-found p m i (Ok j) at e = let same : j ≡ i = cc in rw same at at
 IsAt-found p m i (Err j) at e = cc
 
-number_there : (o : Option (ℕ × List ℕ)) → option_map {T = ℤ × List ℕ} (λ s. s.0) (option_map (λ s. (pos s.0, s.1)) o) ≡ option_map (λ s. pos s.0) o
+number_there : (o : Option (ℕ × List ℕ))
+    → option_map {T = ℤ × List ℕ} (λ s. s.0) (option_map (λ s. (pos s.0, s.1)) o) ≡ option_map (λ s. pos s.0) o
 number_there None = refl
 number_there (Some s) = refl
 
 -- the place that a look-up gives
-pub look_up-found : (p : Statements) (n : ℤ) (m : ℕ) (o : Option ℕ) (r : Result ℕ ℕ) → n ≡ pos m → IfOk r (IsAt p m) → o ≡ result_ok r → IfSome o (λ i. option_map (λ s. s.0) (statement_at p i) ≡ Some n)
+pub look_up-found : (p : Statements) (n : ℤ) (m : ℕ) (o : Option ℕ) (r : Result ℕ ℕ) → n ≡ pos m → IfOk r (IsAt p m)
+    → o ≡ result_ok r → IfSome o (λ i. option_map (λ s. s.0) (statement_at p i) ≡ Some n)
 look_up-found p n m None r is at e = tt
 look_up-found p n m (Some i) r is at e =
     let place = IsAt-found p m i r at (sym e) in
     let line = slice_get-get_or p i (0, []) place.in_range in
-    number_there (slice_get p i) ∙ ap (option_map (λ s. pos s.0)) line ∙ ap (λ k. Some (pos k)) place.has_number ∙ ap Some (sym is)
+    number_there (slice_get p i) ∙ ap (option_map (λ s. pos s.0)) line ∙ ap (λ k. Some (pos k)) place.has_number
+    ∙ ap Some (sym is)
 
-pub look_up-absent : (p : Statements) (n : ℤ) (m : ℕ) (o : Option ℕ) (r : Result ℕ ℕ) → n ≡ pos m → IfErr r (IsGapFor p m) → o ≡ result_ok r → IsNone o → text_under p n ≡ None
+pub look_up-absent : (p : Statements) (n : ℤ) (m : ℕ) (o : Option ℕ) (r : Result ℕ ℕ) → n ≡ pos m
+    → IfErr r (IsGapFor p m) → o ≡ result_ok r → IsNone o → text_under p n ≡ None
 look_up-absent p n m None r is gap e none = text_under-absent p n m r is gap (sym e)
 look_up-absent p n m (Some i) r is gap e none = cc
 
@@ -68,8 +81,12 @@ pos-first : (o : Option (ℕ × List ℕ)) → option_map (λ s. pos s.0) o ≡ 
 pos-first None = refl
 pos-first (Some s) = refl
 
-pub number_above-place : (p : Statements) (n : ℤ) (m i : ℕ) → n ≡ pos m → IsAt p m i → option_map (λ s. pos s.0) (slice_get p (i + 1)) ≡ option_map pos (number_above p n)
-number_above-place p n m i is at = pos-first _ ∙ ap (option_map pos) (rw add-one (sym (number_after-place p m i at)) ∙ ap (number_above p) (sym is))
+pub number_above-place : (p : Statements) (n : ℤ) (m i : ℕ) → n ≡ pos m → IsAt p m i
+    → option_map (λ s. pos s.0) (slice_get p (i + 1)) ≡ option_map pos (number_above p n)
+number_above-place p n m i is at =
+    pos-first _ ∙ ap (option_map pos) (rw add-one (sym (number_after-place p m i at)) ∙ ap (number_above p) (sym is))
 
-pub number_above-gap : (p : Statements) (n : ℤ) (m i : ℕ) → n ≡ pos m → IsGapFor p m i → option_map (λ s. pos s.0) (slice_get p i) ≡ option_map pos (number_above p n)
-number_above-gap p n m i is gap = pos-first _ ∙ ap (option_map pos) (sym (number_after-gap p m i gap) ∙ ap (number_above p) (sym is))
+pub number_above-gap : (p : Statements) (n : ℤ) (m i : ℕ) → n ≡ pos m → IsGapFor p m i
+    → option_map (λ s. pos s.0) (slice_get p i) ≡ option_map pos (number_above p n)
+number_above-gap p n m i is gap =
+    pos-first _ ∙ ap (option_map pos) (sym (number_after-gap p m i gap) ∙ ap (number_above p) (sym is))

@@ -1,6 +1,8 @@
 -- This file proves how a program text is cut into lines, one after the other.
 -- Main lemma: `lines-cut`.
-use Rattle.std.proofs.Common.{◌≡◌, ℕ, suc, ◌+◌, ◌-◌, ◌<◌, ◌≤◌, ◌≢◌, Bool, true, false, not, cond, ◌==◌, List, [], ◌∷◌, ◌++◌, length, map, take, drop, get_or, set, Some, None, refl, sym, ap, ◌∙◌, arith, one-add, add-one}
+use Rattle.std.proofs.Common.{◌≡◌, ℕ, suc, ◌+◌, ◌-◌, ◌<◌, ◌≤◌, ◌≢◌, Bool, true, false, not, cond}
+use Rattle.std.proofs.Common.{◌==◌, List, [], ◌∷◌, ◌++◌, length, map, take, drop, get_or, set, Some}
+use Rattle.std.proofs.Common.{None, refl, sym, ap, ◌∙◌, arith, one-add, add-one}
 use Rattle.std.specs.Prelude.{position}
 use Rattle.std.specs.List.{prefix_len}
 use Rattle.std.specs.Str.Lines.{strip_carriage_return}
@@ -47,7 +49,8 @@ not_found : (b : Bool) (n : ℕ) → cond b (Some n) None ≡ None → b ≡ fal
 not_found true n e = cc
 not_found false n e = refl
 
-pieces-cut : (t : List ℕ) → piece_len t < length t → pieces t ≡ take (piece_len t) t ∷ pieces (drop (suc (piece_len t)) t)
+pieces-cut : (t : List ℕ) → piece_len t < length t
+    → pieces t ≡ take (piece_len t) t ∷ pieces (drop (suc (piece_len t)) t)
 pieces-cut [] short = absurd (omega arith)
 pieces-cut (b ∷ bs) short =
     elim (b == 10) as (λ c. cond (not c) (1 + piece_len bs) 0 < suc (length bs) → cond c ([] ∷ pieces bs) (onto_first b (pieces bs)) ≡ take (cond (not c) (1 + piece_len bs) 0) (b ∷ bs) ∷ pieces (drop (suc (cond (not c) (1 + piece_len bs) 0)) (b ∷ bs))) [
@@ -69,14 +72,16 @@ pieces-whole (b ∷ d ∷ bs) some all =
     ] all
 
 -- a text with a byte 10: the line in front of the first, and those behind it
-pub lines-cut : (t : List ℕ) (k : ℕ) → position (λ b. b == 10) t ≡ Some k → lines t ≡ strip_carriage_return (take k t) ∷ lines (drop (k + 1) t)
+pub lines-cut : (t : List ℕ) (k : ℕ) → position (λ b. b == 10) t ≡ Some k
+    → lines t ≡ strip_carriage_return (take k t) ∷ lines (drop (k + 1) t)
 lines-cut t k is =
     let there = found _ _ _ is in
     let before : piece_len t < length t = ltb-true _ _ there.0 in
     rw (← there.1, add-one) (ap (map strip_carriage_return) (pieces-cut t before))
 
 -- a text without one is a line
-pub lines-whole : (t : List ℕ) → 0 < length t → position (λ b. b == 10) t ≡ None → lines t ≡ strip_carriage_return t ∷ []
+pub lines-whole : (t : List ℕ) → 0 < length t → position (λ b. b == 10) t ≡ None
+    → lines t ≡ strip_carriage_return t ∷ []
 lines-whole t some is =
     let all : length t ≤ piece_len t = ltb-false _ _ (not_found _ _ is) in
     ap (map strip_carriage_return) (pieces-whole t some all)
@@ -92,14 +97,16 @@ return_stays b = grind (arith, nat_tests)
 abbrev without_tabs : List ℕ → List ℕ
 without_tabs l = map tab_as_space l
 
-onto_first-map : (b : ℕ) (ls : List (List ℕ)) → onto_first (tab_as_space b) (map without_tabs ls) ≡ map without_tabs (onto_first b ls)
+onto_first-map : (b : ℕ) (ls : List (List ℕ))
+    → onto_first (tab_as_space b) (map without_tabs ls) ≡ map without_tabs (onto_first b ls)
 onto_first-map b [] = refl
 onto_first-map b (l ∷ ls) = refl
 
 pieces-map : (t : List ℕ) → pieces (without_tabs t) ≡ map without_tabs (pieces t)
 pieces-map [] = refl
 pieces-map (b ∷ bs) =
-    ap (λ c. cond c ([] ∷ pieces (without_tabs bs)) (onto_first (tab_as_space b) (pieces (without_tabs bs)))) (newline_stays b)
+    ap (λ c. cond c ([] ∷ pieces (without_tabs bs)) (onto_first (tab_as_space b) (pieces (without_tabs bs))))
+    (newline_stays b)
     ∙ elim (b == 10) as (λ c. cond c ([] ∷ pieces (without_tabs bs)) (onto_first (tab_as_space b) (pieces (without_tabs bs))) ≡ map without_tabs (cond c ([] ∷ pieces bs) (onto_first b (pieces bs)))) [
       | true ↦ ap (λ ls. [] ∷ ls) (pieces-map bs)
       | false ↦ ap (onto_first (tab_as_space b)) (pieces-map bs) ∙ onto_first-map b (pieces bs)
@@ -110,7 +117,9 @@ strip-map l =
     let last = get_or l (length l - 1) 0 in
     let size : length (without_tabs l) - 1 ≡ length l - 1 = ap (λ n. n - 1) (length-map l tab_as_space) in
     let same : (get_or (without_tabs l) (length (without_tabs l) - 1) 0 == 13) ≡ (last == 13)
-    = ap (λ n. get_or (without_tabs l) n 0 == 13) size ∙ ap (λ b. b == 13) (get_or-map tab_as_space l (length l - 1) 0) ∙ return_stays last in
+    =
+    ap (λ n. get_or (without_tabs l) n 0 == 13) size
+    ∙ ap (λ b. b == 13) (get_or-map tab_as_space l (length l - 1) 0) ∙ return_stays last in
     ap (λ c. cond c (take (length (without_tabs l) - 1) (without_tabs l)) (without_tabs l)) same
     ∙ ap (λ n. cond (last == 13) (take n (without_tabs l)) (without_tabs l)) size
     ∙ elim (last == 13) as (λ c. cond c (take (length l - 1) (without_tabs l)) (without_tabs l) ≡ without_tabs (cond c (take (length l - 1) l) l)) [
@@ -118,7 +127,8 @@ strip-map l =
       | false ↦ refl
     ]
 
-map-strip : (ls : List (List ℕ)) → map strip_carriage_return (map without_tabs ls) ≡ map without_tabs (map strip_carriage_return ls)
+map-strip : (ls : List (List ℕ))
+    → map strip_carriage_return (map without_tabs ls) ≡ map without_tabs (map strip_carriage_return ls)
 map-strip [] = refl
 map-strip (l ∷ ls) = λ i. strip-map l i ∷ map-strip ls i
 

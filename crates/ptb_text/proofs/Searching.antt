@@ -1,6 +1,8 @@
 -- This file proves what a search by number finds among the statements of a program.
 -- Main lemma: `searched`.
-use Rattle.std.proofs.Common.{◌≡◌, ℕ, ◌-◌, ◌<◌, ◌≤◌, List, [], ◌∷◌, length, map, get_or, Result, Ok, Err, IfOk, IfErr, Option, Some, None, IfSome, slice_get, true, sym, ap, ◌∙◌, arith}
+use Rattle.std.proofs.Common.{◌≡◌, ℕ, ◌-◌, ◌<◌, ◌≤◌, List, [], ◌∷◌, length, map, get_or, Result, Ok}
+use Rattle.std.proofs.Common.{Err, IfOk, IfErr, Option, Some, None, IfSome, slice_get, true, sym}
+use Rattle.std.proofs.Common.{ap, ◌∙◌, arith}
 use Rattle.std.specs.FinMap.{is_sorted}
 use Rattle.std.specs.Ordering.{nat_cmp, ordering_index}
 use Rattle.std.specs.declared.cmp.Ordering.TheVariants.{Less, Equal, Greater}
@@ -27,7 +29,8 @@ less_from_greater a b e = grind (arith, nat_tests)
 index_rises : (a b n : ℕ) → a ≤ b → ordering_index (nat_cmp a n) ≤ ordering_index (nat_cmp b n)
 index_rises a b n le = grind (arith, nat_tests)
 
-number_shown : (pool : List ℕ) (ss : List Statement) (i : ℕ) (d : Statement) → i < length ss → statement_number (map (shown pool) ss) i ≡ (get_or ss i d).number
+number_shown : (pool : List ℕ) (ss : List Statement) (i : ℕ) (d : Statement) → i < length ss
+    → statement_number (map (shown pool) ss) i ≡ (get_or ss i d).number
 number_shown pool ss i d in_range = ap (λ s. s.0) (get_or-map (shown pool) ss i d (0, []) in_range)
 
 module _ (pool : List ℕ) (ss : List Statement) (sorted : is_sorted nat_cmp (map (shown pool) ss) ≡ true) where
@@ -58,13 +61,16 @@ pub record IsSearched (p : Statements) (n : ℕ) (r : Result ℕ ℕ) : Type 0 w
   pub found : IfOk r (IsAt p n)
   pub absent : IfErr r (IsGapFor p n)
 
-pub searched : (pool : List ℕ) (ss : List Statement) → is_sorted nat_cmp (map (shown pool) ss) ≡ true → (n : ℕ) (r : Result ℕ ℕ) → IsSearchInRange r (length ss) → IsBinarySearchResult (λ s. nat_cmp s.number n) ss r → IsSearched (map (shown pool) ss) n r
+pub searched : (pool : List ℕ) (ss : List Statement) → is_sorted nat_cmp (map (shown pool) ss) ≡ true
+    → (n : ℕ) (r : Result ℕ ℕ) → IsSearchInRange r (length ss) → IsBinarySearchResult (λ s. nat_cmp s.number n) ss r
+    → IsSearched (map (shown pool) ss) n r
 searched pool [] sorted n (Ok i) in_range equal = absurd (omega arith)
 searched pool [] sorted n (Err i) in_range parted = record {
   found = tt;
   absent = record { in_range = in_range; smaller_before = λ j before. absurd (omega arith); greater_after = λ j after within. absurd (omega arith) };
 }
-searched pool (s ∷ ss) sorted n (Ok i) in_range equal = record { found = IsAt-place pool (s ∷ ss) sorted i n s in_range (same_from_equal _ n (equal s)); absent = tt }
+searched pool (s ∷ ss) sorted n (Ok i) in_range equal =
+    record { found = IsAt-place pool (s ∷ ss) sorted i n s in_range (same_from_equal _ n (equal s)); absent = tt }
 searched pool (s ∷ ss) sorted n (Err i) in_range parted =
     let all = s ∷ ss in
     let size : length (map (shown pool) all) ≡ length all = length-map all (shown pool) in
@@ -73,13 +79,19 @@ searched pool (s ∷ ss) sorted n (Err i) in_range parted =
       found = tt;
       absent = record {
         in_range = omega arith;
-        smaller_before = λ j before. omega (arith, number_shown pool all j s (omega arith), less_from_less _ n (point.0 j s (omega arith) before));
-        greater_after = λ j after within. omega (arith, number_shown pool all j s (omega arith), less_from_greater _ n (point.1 j s after (omega arith)));
+        smaller_before =
+            λ j before. omega
+            (arith, number_shown pool all j s (omega arith), less_from_less _ n (point.0 j s (omega arith) before));
+        greater_after =
+            λ j after within. omega
+            (arith, number_shown pool all j s (omega arith), less_from_greater _ n (point.1 j s after (omega arith)));
       };
     }
 
 -- a number above the last one, if there is one, would go behind all
-pub IsGapFor-end : (pool : List ℕ) (ss : List Statement) → is_sorted nat_cmp (map (shown pool) ss) ≡ true → (n : ℕ) (last : Option Statement) → last ≡ slice_get ss (length ss - 1) → IfSome last (λ s. s.number < n) → IsGapFor (map (shown pool) ss) n (length ss)
+pub IsGapFor-end : (pool : List ℕ) (ss : List Statement) → is_sorted nat_cmp (map (shown pool) ss) ≡ true
+    → (n : ℕ) (last : Option Statement) → last ≡ slice_get ss (length ss - 1) → IfSome last (λ s. s.number < n)
+    → IsGapFor (map (shown pool) ss) n (length ss)
 IsGapFor-end pool [] sorted n last is above = record { in_range = omega arith; smaller_before = λ j before. absurd (omega arith); greater_after = λ j after within. absurd (omega arith) }
 IsGapFor-end pool (s ∷ ss) sorted n None is above =
     let there = slice_get-get_or (s ∷ ss) (length (s ∷ ss) - 1) s (omega arith) in

@@ -1,6 +1,7 @@
 -- This file proves what is known of each statement of a program, and of the order of their numbers.
 -- Main lemma: `text_at-number`.
-use Rattle.std.proofs.Common.{◌≡◌, ℕ, zero, suc, ◌<◌, ◌≤◌, Bool, true, false, ◌&&◌, List, [], ◌∷◌, length, get_or, Some, refl, arith}
+use Rattle.std.proofs.Common.{◌≡◌, ℕ, zero, suc, ◌<◌, ◌≤◌, Bool, true, false, ◌&&◌, List, [], ◌∷◌}
+use Rattle.std.proofs.Common.{length, get_or, Some, refl, arith}
 use Rattle.std.specs.List.{list_all}
 use Rattle.std.specs.Ordering.{nat_cmp, is_lt}
 use Rattle.std.specs.FinMap.{is_sorted}
@@ -17,7 +18,8 @@ both_true false b e = cc
 
 -- ---- each statement is one
 
-pub is_statement_at : (p : Statements) → list_all is_statement p ≡ true → (i : ℕ) → i < length p → is_statement (get_or p i (0, [])) ≡ true
+pub is_statement_at : (p : Statements) → list_all is_statement p ≡ true → (i : ℕ) → i < length p
+    → is_statement (get_or p i (0, [])) ≡ true
 is_statement_at [] all i in_range = absurd (omega arith)
 is_statement_at (s ∷ p) all zero in_range = (both_true _ _ all).0
 is_statement_at (s ∷ p) all (suc i) in_range = is_statement_at p (both_true _ _ all).1 i (omega arith)
@@ -46,8 +48,10 @@ StatementFacts-from_test n t e =
       };
     }
 
-pub StatementFacts_at : (p : Statements) → is_program p ≡ true → (i n : ℕ) (t : List ℕ) → i < length p → get_or p i (0, []) ≡ (n, t) → StatementFacts n t
-StatementFacts_at p is i n t in_range same = StatementFacts-from_test n t (rw same at (is_statement_at p (both_true _ _ is).1 i in_range))
+pub StatementFacts_at : (p : Statements) → is_program p ≡ true → (i n : ℕ) (t : List ℕ) → i < length p
+    → get_or p i (0, []) ≡ (n, t) → StatementFacts n t
+StatementFacts_at p is i n t in_range same =
+    StatementFacts-from_test n t (rw same at (is_statement_at p (both_true _ _ is).1 i in_range))
 
 -- ---- the numbers rise
 
@@ -59,14 +63,16 @@ below_each n [] below j in_range = absurd (omega arith)
 below_each n (s ∷ p) below zero in_range = less_from_test n s.0 (both_true _ _ below).0
 below_each n (s ∷ p) below (suc j) in_range = below_each n p (both_true _ _ below).1 j (omega arith)
 
-pub rising : (p : Statements) → is_sorted nat_cmp p ≡ true → (i j : ℕ) → i < j → j < length p → statement_number p i < statement_number p j
+pub rising : (p : Statements) → is_sorted nat_cmp p ≡ true → (i j : ℕ) → i < j → j < length p
+    → statement_number p i < statement_number p j
 rising [] sorted i j lt in_range = absurd (omega arith)
 rising (s ∷ p) sorted i zero lt in_range = absurd (omega arith)
 rising (s ∷ p) sorted zero (suc j) lt in_range = below_each s.0 p (both_true _ _ sorted).0 j (omega arith)
 rising (s ∷ p) sorted (suc i) (suc j) lt in_range = rising p (both_true _ _ sorted).1 i j (omega arith) (omega arith)
 
 -- so each statement stands at the place of its number
-pub IsAt-from_rising : (p : Statements) → is_sorted nat_cmp p ≡ true → (i : ℕ) → i < length p → IsAt p (statement_number p i) i
+pub IsAt-from_rising : (p : Statements) → is_sorted nat_cmp p ≡ true → (i : ℕ) → i < length p
+    → IsAt p (statement_number p i) i
 IsAt-from_rising p sorted i in_range = record {
   in_range = in_range;
   has_number = refl;
@@ -75,5 +81,7 @@ IsAt-from_rising p sorted i in_range = record {
 }
 
 -- and its number has a text
-pub text_at-number : (p : Statements) → is_program p ≡ true → (i : ℕ) → i < length p → text_at p (statement_number p i) ≡ Some (get_or p i (0, [])).1
-text_at-number p is i in_range = text_at-place p (statement_number p i) i (IsAt-from_rising p (both_true _ _ is).0 i in_range)
+pub text_at-number : (p : Statements) → is_program p ≡ true → (i : ℕ) → i < length p
+    → text_at p (statement_number p i) ≡ Some (get_or p i (0, [])).1
+text_at-number p is i in_range =
+    text_at-place p (statement_number p i) i (IsAt-from_rising p (both_true _ _ is).0 i in_range)

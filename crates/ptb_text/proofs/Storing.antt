@@ -1,6 +1,8 @@
--- This file proves what storing a text or deleting a statement leaves in the fields of a program, by what each step of the work left.
+-- This file proves what storing a text or deleting a statement leaves in the fields of a program, by what each step
+-- of the work left.
 -- Main lemmas: `insert_enters` and `replace_enters`.
-use Rattle.std.proofs.Common.{◌≡◌, ◌∙◌, ℕ, ◌+◌, ◌-◌, ◌<◌, ◌≤◌, true, List, ◌++◌, length, take, drop, get_or, set, Ok, Err, refl, sym, ap, subst, arith}
+use Rattle.std.proofs.Common.{◌≡◌, ◌∙◌, ℕ, ◌+◌, ◌-◌, ◌<◌, ◌≤◌, true, List, ◌++◌, length, take, drop}
+use Rattle.std.proofs.Common.{get_or, set, Ok, Err, refl, sym, ap, subst, arith}
 use Rattle.std.specs.List.{insert, splice}
 use Rattle.std.specs.Global.{Vec}
 use Rattle.std.specs.Vec.{with_item, with_items}
@@ -11,14 +13,18 @@ use Rattle.ptb_text.specs.Entry.{Enters}
 use Rattle.ptb_text.specs.Places.{IsAt, IsGapFor}
 use Rattle.ptb_text.specs.Program.{stored_program, laid_out, lengths, texts_length, IsKept}
 use Rattle.ptb_text.specs.Statements.{StoredProgram, IsSound, cost, if_room, is_statement, with_text}
-use Rattle.ptb_text.proofs.Edits.{cost-with_text_gap, cost-with_text_place, is_program-with_text, one_cost-le-cost, Enters-ok, Enters-full, Enters-memory}
+use Rattle.ptb_text.proofs.Edits.{cost-with_text_gap, cost-with_text_place, is_program-with_text}
+use Rattle.ptb_text.proofs.Edits.{one_cost-le-cost, Enters-ok, Enters-full, Enters-memory}
 use Rattle.ptb_text.proofs.Entries.{with_text-gap, with_text-place}
 use Rattle.ptb_text.proofs.Pool.{IsEntry, laid_items}
 use Rattle.ptb_text.proofs.Sound.{StatementFacts-from_test}
-use Rattle.ptb_text.proofs.Stored.{IsEntry-shown, IsLayout, IsLayout-from_kept, IsLayout-insert, IsLayout-set, IsKept-from_layout, lines_shown, memory_shown, is_program_shown, same_shown}
+use Rattle.ptb_text.proofs.Stored.{IsEntry-shown, IsLayout, IsLayout-from_kept, IsLayout-insert}
+use Rattle.ptb_text.proofs.Stored.{IsLayout-set, IsKept-from_layout, lines_shown, memory_shown}
+use Rattle.ptb_text.proofs.Stored.{is_program_shown, same_shown}
 
 -- fields with the same statements, texts and memory are kept, too
-pub IsKept-same : (f g : Inside) → g.statements.items ≡ f.statements.items → g.pool.items ≡ f.pool.items → g.memory ≡ f.memory → IsKept f → IsKept g
+pub IsKept-same : (f g : Inside) → g.statements.items ≡ f.statements.items → g.pool.items ≡ f.pool.items
+    → g.memory ≡ f.memory → IsKept f → IsKept g
 IsKept-same f g items pool memory kept = record {
   sound = subst IsSound (sym (same_shown f g items pool memory)) kept.sound;
   without_gaps = subst (λ (ss : List Statement). ss ≡ laid_out 0 ss) (sym items) kept.without_gaps;
@@ -53,8 +59,11 @@ module _ (f : Inside) (p : StoredProgram) (shows : stored_program f ≡ p) (kept
       new_fits : cost (with_text p.lines n t) ≤ p.memory
       new_fits = omega (arith, new_size, room, memory_shown f p shows)
 
-      pub insert_refused : (g : Inside) → g.statements.items ≡ f.statements.items → g.pool.items ≡ f.pool.items → g.memory ≡ f.memory → Enters (if_room p.memory (with_text p.lines n t)) p (stored_program g) (Err Memory)
-      insert_refused g items pool memory = Enters-memory (with_text p.lines n t) p (stored_program g) Memory refl (same_shown f g items pool memory ∙ shows) new_fits
+      pub insert_refused : (g : Inside) → g.statements.items ≡ f.statements.items → g.pool.items ≡ f.pool.items
+          → g.memory ≡ f.memory → Enters (if_room p.memory (with_text p.lines n t)) p (stored_program g) (Err Memory)
+      insert_refused g items pool memory =
+          Enters-memory (with_text p.lines n t) p (stored_program g) Memory refl
+          (same_shown f g items pool memory ∙ shows) new_fits
 
       module _ (v : Vec Statement) (ss part : List Statement) (pool : Vec ℕ) (place : ℕ) (here : place ≡ texts_length (take at p.lines))
           (same : ss ≡ v.items) (count : length ss ≡ v.len) (laid : part ≡ laid_out place (take (length ss - at) (drop at ss)))
@@ -70,11 +79,16 @@ module _ (f : Inside) (p : StoredProgram) (shows : stored_program f ≡ p) (kept
 
         pub insert_kept : is_statement (n, t) ≡ true → IsKept (laid_from v ss part at pool f.memory)
         insert_kept is =
-            IsKept-from_layout (laid_from v ss part at pool f.memory) (with_text p.lines n t) insert_layout (is_program-with_text p.lines n t (is_program_shown f p shows kept) is) (omega (arith, new_size, room)) kept.sound.memory_size
+            IsKept-from_layout (laid_from v ss part at pool f.memory) (with_text p.lines n t) insert_layout
+            (is_program-with_text p.lines n t (is_program_shown f p shows kept) is)
+            (omega (arith, new_size, room)) kept.sound.memory_size
 
-        pub insert_enters : Enters (if_room p.memory (with_text p.lines n t)) p (stored_program (laid_from v ss part at pool f.memory)) (Ok tt)
+        pub insert_enters : Enters (if_room p.memory (with_text p.lines n t)) p
+            (stored_program (laid_from v ss part at pool f.memory)) (Ok tt)
         insert_enters =
-            Enters-ok (with_text p.lines n t) p (stored_program (laid_from v ss part at pool f.memory)) (lines_shown (laid_from v ss part at pool f.memory) (with_text p.lines n t) insert_layout) (memory_shown f p shows) new_fits
+            Enters-ok (with_text p.lines n t) p (stored_program (laid_from v ss part at pool f.memory))
+            (lines_shown (laid_from v ss part at pool f.memory) (with_text p.lines n t) insert_layout)
+            (memory_shown f p shows) new_fits
 
   -- a text takes the place of another
   module _ (n at : ℕ) (t : List ℕ) (there : IsAt p.lines n at) (k : ℕ) (counted : k ≡ cost p.lines) (old : Statement) (read : old ≡ get_or f.statements.items at old) (len : ℕ) (long : len ≡ old.length) where
@@ -94,14 +108,19 @@ module _ (f : Inside) (p : StoredProgram) (shows : stored_program f ≡ p) (kept
       set_fits : cost (with_text p.lines n t) ≤ p.memory
       set_fits = omega (arith, set_size, room, memory_shown f p shows)
 
-      pub replace_refused : (g : Inside) → g.statements.items ≡ f.statements.items → g.pool.items ≡ f.pool.items → g.memory ≡ f.memory → Enters (if_room p.memory (with_text p.lines n t)) p (stored_program g) (Err Memory)
-      replace_refused g items pool memory = Enters-memory (with_text p.lines n t) p (stored_program g) Memory refl (same_shown f g items pool memory ∙ shows) set_fits
+      pub replace_refused : (g : Inside) → g.statements.items ≡ f.statements.items → g.pool.items ≡ f.pool.items
+          → g.memory ≡ f.memory → Enters (if_room p.memory (with_text p.lines n t)) p (stored_program g) (Err Memory)
+      replace_refused g items pool memory =
+          Enters-memory (with_text p.lines n t) p (stored_program g) Memory refl
+          (same_shown f g items pool memory ∙ shows) set_fits
 
       module _ (ss part : List Statement) (pool : Vec ℕ)
           (same : ss ≡ (with_item f.statements at (record { number = n; place = old.place; length = length t })).items) (count : length ss ≡ (with_item f.statements at (record { number = n; place = old.place; length = length t })).len)
           (laid : part ≡ laid_out old.place (take (length ss - at) (drop at ss)))
           (bytes : List ℕ) (from end : ℕ) (put : pool.items ≡ splice bytes from end t) (same_bytes : bytes ≡ f.pool.items) (begins : from ≡ old.place) (ends : end ≡ old.place + old.length) where
-        replace_layout : IsLayout (laid_from (with_item f.statements at (record { number = n; place = old.place; length = length t })) ss part at pool f.memory) (with_text p.lines n t)
+        replace_layout : IsLayout
+            (laid_from (with_item f.statements at (record { number = n; place = old.place; length = length t })) ss part at pool f.memory)
+            (with_text p.lines n t)
         replace_layout =
             let s : Statement = record { number = n; place = old.place; length = length t } in
             let g = laid_from (with_item f.statements at s) ss part at pool f.memory in
@@ -110,9 +129,16 @@ module _ (f : Inside) (p : StoredProgram) (shows : stored_program f ≡ p) (kept
             (ends ∙ replace_entry.end_is) refl
             (put ∙ ap (λ all. splice all from end t) same_bytes ∙ ap (λ m. splice f.pool.items m end t) begins))
 
-        pub replace_kept : is_statement (n, t) ≡ true → IsKept (laid_from (with_item f.statements at (record { number = n; place = old.place; length = length t })) ss part at pool f.memory)
+        pub replace_kept : is_statement (n, t) ≡ true
+            → IsKept (laid_from (with_item f.statements at (record { number = n; place = old.place; length = length t })) ss part at pool f.memory)
         replace_kept is =
-            IsKept-from_layout _ (with_text p.lines n t) replace_layout (is_program-with_text p.lines n t (is_program_shown f p shows kept) is) (omega (arith, set_size, room)) kept.sound.memory_size
+            IsKept-from_layout _ (with_text p.lines n t) replace_layout
+            (is_program-with_text p.lines n t (is_program_shown f p shows kept) is)
+            (omega (arith, set_size, room)) kept.sound.memory_size
 
-        pub replace_enters : Enters (if_room p.memory (with_text p.lines n t)) p (stored_program (laid_from (with_item f.statements at (record { number = n; place = old.place; length = length t })) ss part at pool f.memory)) (Ok tt)
-        replace_enters = Enters-ok (with_text p.lines n t) p _ (lines_shown _ (with_text p.lines n t) replace_layout) (memory_shown f p shows) set_fits
+        pub replace_enters : Enters (if_room p.memory (with_text p.lines n t)) p
+            (stored_program (laid_from (with_item f.statements at (record { number = n; place = old.place; length = length t })) ss part at pool f.memory))
+            (Ok tt)
+        replace_enters =
+            Enters-ok (with_text p.lines n t) p _ (lines_shown _ (with_text p.lines n t) replace_layout)
+            (memory_shown f p shows) set_fits

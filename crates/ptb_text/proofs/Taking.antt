@@ -1,6 +1,9 @@
 -- This file proves how bytes that are taken in pieces add up to the bytes as a whole.
 -- Main lemmas: `piece_taken` and `gathers_all`.
-use Rattle.std.proofs.Common.{◌≡◌, ℕ, ◌+◌, ◌-◌, ◌<◌, ◌≤◌, List, [], ◌∷◌, ◌++◌, length, take, drop, Option, Result, Ok, Err, OnOk, OnErr, true, false, sym, ap, ◌∙◌, subst, append_assoc, append-nil, arith, length-append, length-drop, length-take}
+use Rattle.std.proofs.Common.{◌≡◌, ℕ, ◌+◌, ◌-◌, ◌<◌, ◌≤◌, List, [], ◌∷◌, ◌++◌, length, take, drop}
+use Rattle.std.proofs.Common.{Option, Result, Ok, Err, OnOk, OnErr, true, false, sym, ap, ◌∙◌}
+use Rattle.std.proofs.Common.{subst, append_assoc, append-nil, arith, length-append, length-drop}
+use Rattle.std.proofs.Common.{length-take}
 use Rattle.std.proofs.Math.Seq.{take-append-add}
 use Rattle.std.proofs.lemmas.List.{take-append-drop, take-append-le, take_all}
 use Rattle.std.specs.Result.{IsErrAnd, is_ok}
@@ -9,22 +12,28 @@ use Rattle.std.proofs.KnownBytes.{Appends-trans}
 use Rattle.ptb_text.specs.Device.{Gathers, TakesSome}
 
 -- n bytes of the rest are taken then, and m are left
-pub gathers_rest : {a b : Option (List ℕ)} {bytes rest : List ℕ} (c : Option (List ℕ)) (n m : ℕ) → m ≡ length rest - n → Gathers a b bytes rest → Appends b c (take n rest) → Gathers a c bytes (take m (drop n rest))
+pub gathers_rest : {a b : Option (List ℕ)} {bytes rest : List ℕ} (c : Option (List ℕ)) (n m : ℕ) → m ≡ length rest - n
+    → Gathers a b bytes rest → Appends b c (take n rest) → Gathers a c bytes (take m (drop n rest))
 gathers_rest {a} {b} {bytes} {rest} c n m left before now =
     let all : take m (drop n rest) ≡ drop n rest = take_all m (drop n rest) (omega (arith, length-drop n rest)) in
     record {
       front = before.front ++ take n rest;
-      whole = before.whole ∙ ap (λ r. before.front ++ r) (sym (take-append-drop n rest) ∙ ap (λ r. take n rest ++ r) (sym all)) ∙ sym (append_assoc before.front (take n rest) (take m (drop n rest)));
+      whole =
+          before.whole
+          ∙ ap (λ r. before.front ++ r) (sym (take-append-drop n rest) ∙ ap (λ r. take n rest ++ r) (sym all))
+          ∙ sym (append_assoc before.front (take n rest) (take m (drop n rest)));
       growth = Appends-trans a b c before.front (take n rest) before.growth now;
     }
 
 -- and in the end all
-pub gathers_all : {a b : Option (List ℕ)} {bytes : List ℕ} (rest : List ℕ) → Gathers a b bytes rest → length rest ≡ 0 → Appends a b bytes
+pub gathers_all : {a b : Option (List ℕ)} {bytes : List ℕ} (rest : List ℕ) → Gathers a b bytes rest → length rest ≡ 0
+    → Appends a b bytes
 gathers_all {a} {b} [] before e = subst (Appends a b) (sym (before.whole ∙ append-nil before.front)) before.growth
 gathers_all (x ∷ rest) before e = absurd (omega arith)
 
 -- where the next piece fails, a beginning of the whole was taken
-pub gathers_fault : {a b : Option (List ℕ)} {bytes rest : List ℕ} (c : Option (List ℕ)) → Gathers a b bytes rest → TakesSome b c rest → TakesSome a c bytes
+pub gathers_fault : {a b : Option (List ℕ)} {bytes rest : List ℕ} (c : Option (List ℕ)) → Gathers a b bytes rest
+    → TakesSome b c rest → TakesSome a c bytes
 gathers_fault {a} {b} {bytes} {rest} c before now =
     let front = before.front in
     let m = now.0 in
@@ -40,7 +49,8 @@ rest_within {a} {b} {bytes} {rest} before = omega (arith, ap length before.whole
 -- a writer that took all bytes but the rest
 module _ (first now : ℕ → Type 0) {a b : Option (List ℕ)} {bytes rest : List ℕ} (before : Gathers a b bytes rest) (sure : (k : ℕ) → length bytes ≤ k → first k → now (k - (length bytes - length rest))) where
   -- it takes n bytes of the rest
-  pub sure_more : (next : ℕ → Type 0) (n : ℕ) → n ≤ length rest → ((k : ℕ) → length rest ≤ k → now k → (0 < length rest → 0 < n) × next (k - n))
+  pub sure_more : (next : ℕ → Type 0) (n : ℕ) → n ≤ length rest
+      → ((k : ℕ) → length rest ≤ k → now k → (0 < length rest → 0 < n) × next (k - n))
       → (k : ℕ) → length bytes ≤ k → first k → next (k - (length bytes - length (take (length rest - n) (drop n rest))))
   sure_more next n some takes k within was =
       let left : length (take (length rest - n) (drop n rest)) ≡ length rest - n = omega (arith, length-take (length rest - n) (drop n rest), length-drop n rest) in
@@ -50,7 +60,8 @@ module _ (first now : ℕ → Type 0) {a b : Option (List ℕ)} {bytes rest : Li
 
   -- the next write does not fail
   pub sure_written : ((k : ℕ) → length rest ≤ k → now k → ⊥) → (k : ℕ) → length bytes ≤ k → first k → ⊥
-  sure_written fails k within was = fails (k - (length bytes - length rest)) (omega (arith, rest_within before, within)) (sure k within was)
+  sure_written fails k within was =
+      fails (k - (length bytes - length rest)) (omega (arith, rest_within before, within)) (sure k within was)
 
   -- there is no rest
   pub sure_all : length rest ≡ 0 → (k : ℕ) → length bytes ≤ k → first k → now (k - length bytes)
@@ -58,14 +69,16 @@ module _ (first now : ℕ → Type 0) {a b : Option (List ℕ)} {bytes rest : Li
 
 -- ---- a piece at a time
 
-pub piece_taken : {a b : Option (List ℕ)} {bytes rest : List ℕ} (c : Option (List ℕ)) (piece others : List ℕ) → rest ≡ piece ++ others → Gathers a b bytes rest → Appends b c piece → Gathers a c bytes others
+pub piece_taken : {a b : Option (List ℕ)} {bytes rest : List ℕ} (c : Option (List ℕ)) (piece others : List ℕ)
+    → rest ≡ piece ++ others → Gathers a b bytes rest → Appends b c piece → Gathers a c bytes others
 piece_taken {a} {b} {bytes} {rest} c piece others parts before now = record {
   front = before.front ++ piece;
   whole = before.whole ∙ ap (λ r. before.front ++ r) parts ∙ sym (append_assoc before.front piece others);
   growth = Appends-trans a b c before.front piece before.growth now;
 }
 
-pub piece_fault : {a b : Option (List ℕ)} {bytes rest : List ℕ} (c : Option (List ℕ)) (piece others : List ℕ) → rest ≡ piece ++ others → Gathers a b bytes rest → TakesSome b c piece → TakesSome a c bytes
+pub piece_fault : {a b : Option (List ℕ)} {bytes rest : List ℕ} (c : Option (List ℕ)) (piece others : List ℕ)
+    → rest ≡ piece ++ others → Gathers a b bytes rest → TakesSome b c piece → TakesSome a c bytes
 piece_fault {a} {b} {bytes} {rest} c piece others parts before now =
     let size : length rest ≡ length piece + length others = ap length parts ∙ length-append piece others in
     let front : take now.0 rest ≡ take now.0 piece = ap (take now.0) parts ∙ take-append-le now.0 piece others now.1 in

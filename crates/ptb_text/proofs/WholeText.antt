@@ -1,6 +1,8 @@
 -- This file proves what reading a whole text comes to, by what was read before and what the last read did.
 -- Main lemma: `ends_text`.
-use Rattle.std.proofs.Common.{◌≡◌, ◌∙◌, ◌+◌, ◌-◌, ◌<◌, ◌≤◌, ℕ, zero, suc, List, [], ◌++◌, length, take, min, Option, None, Some, IfSome, Ok, Err, refl, ap, subst, arith, inl, inr, append-nil, length-append, length-take, vec_len}
+use Rattle.std.proofs.Common.{◌≡◌, ◌∙◌, ◌+◌, ◌-◌, ◌<◌, ◌≤◌, ℕ, zero, suc, List, [], ◌++◌, length}
+use Rattle.std.proofs.Common.{take, min, Option, None, Some, IfSome, Ok, Err, refl, ap, subst}
+use Rattle.std.proofs.Common.{arith, inl, inr, append-nil, length-append, length-take, vec_len}
 use Rattle.std.specs.Global.{Vec}
 use Rattle.std.specs.Io.KnownBytes.{Consumes, IsAtEnd, Keeps}
 use Rattle.std.proofs.lemmas.Bool.{cases_lt}
@@ -13,13 +15,15 @@ use Rattle.ptb_text.specs.Streams.{ConsumesAtMost, Reads}
 use Rattle.ptb_text.proofs.Counting.{IsCountedUpTo, IsCountedUpTo_more}
 
 -- a reader that gave more than the limit had more
-longer : (a b : Option (List ℕ)) (bs : List ℕ) (limit : ℕ) → limit < length bs → Consumes a b bs → IfSome a (λ all. limit < length all)
+longer : (a b : Option (List ℕ)) (bs : List ℕ) (limit : ℕ) → limit < length bs → Consumes a b bs
+    → IfSome a (λ all. limit < length all)
 longer None b bs limit above took = tt
 longer (Some xs) None bs limit above took = absurd took
 longer (Some xs) (Some ys) bs limit above took = omega (arith, above, ap length took, length-append bs ys)
 
 -- a reader that is at its end gave all
-all_given : (a b c : Option (List ℕ)) (bs cs : List ℕ) → Consumes a b bs → Consumes b c cs → IsAtEnd c → cs ≡ [] → IfSome a (λ all. all ≡ bs)
+all_given : (a b c : Option (List ℕ)) (bs cs : List ℕ) → Consumes a b bs → Consumes b c cs → IsAtEnd c → cs ≡ []
+    → IfSome a (λ all. all ≡ bs)
 all_given None b c bs cs p q e none = tt
 all_given (Some x) None c bs cs p q e none = absurd p
 all_given (Some x) (Some y) None bs cs p q e none = absurd q
@@ -37,7 +41,8 @@ failed old new count = elim (cases_lt old failure_limit) [
 ]
 
 -- a text whose bytes are these isn't too long
-not_longer : (a : Option (List ℕ)) (bs : List ℕ) (limit : ℕ) → length bs ≤ limit → IfSome a (λ b. b ≡ bs) → IfSome a (λ b. length b ≤ limit)
+not_longer : (a : Option (List ℕ)) (bs : List ℕ) (limit : ℕ) → length bs ≤ limit → IfSome a (λ b. b ≡ bs)
+    → IfSome a (λ b. length b ≤ limit)
 not_longer None bs limit short same = tt
 not_longer (Some xs) bs limit short same = omega (arith, short, ap length same)
 
@@ -50,7 +55,9 @@ module _ {R : Type 0} (input : Reads R) where
     pub reads : ReadsProgram {T = Vec ℕ} input (Ok text)
 
   -- more than the limit was read
-  pub text_too_long : (text : Vec ℕ) → text.len ≡ length text.items → vec_len text ≤ 1048577 → input.fails ≡ input.failed → IsCountedUpTo input.gave input.gives (vec_len text) → Consumes input.bytes input.left text.items
+  pub text_too_long : (text : Vec ℕ) → text.len ≡ length text.items → vec_len text ≤ 1048577
+      → input.fails ≡ input.failed → IsCountedUpTo input.gave input.gives (vec_len text)
+      → Consumes input.bytes input.left text.items
       → (len : ℕ) → len ≡ vec_len text → 1048576 < len → ReadsProgram {T = Vec ℕ} input (Err (0, faults.TooLong))
   text_too_long text size bound unfailed counted taken len told over = record {
     consumed = (text.items, omega (arith, size, bound), taken);
@@ -68,9 +75,12 @@ module _ {R : Type 0} (input : Reads R) where
   -- what was read before
   module _ (bytes : Option (List ℕ)) (failures given : ℕ) (text : Vec ℕ) (size : text.len ≡ length text.items) (bound : vec_len text ≤ 1048577) (unfailed : failures ≡ input.failed) (counted : IsCountedUpTo input.gave given (vec_len text)) (taken : Consumes input.bytes bytes text.items) where
     -- a read failed
-    pub text_failed : Keeps bytes input.left → (given ≤ given_limit) × (input.gives ≡ given) → (failures ≤ failure_limit) × (input.fails ≡ min (failures + 1) failure_limit) → ReadsProgram {T = Vec ℕ} input (Err (0, faults.Read))
+    pub text_failed : Keeps bytes input.left → (given ≤ given_limit) × (input.gives ≡ given)
+        → (failures ≤ failure_limit) × (input.fails ≡ min (failures + 1) failure_limit)
+        → ReadsProgram {T = Vec ℕ} input (Err (0, faults.Read))
     text_failed keeps gives counts = record {
-      consumed = (text.items, omega (arith, size, bound), Consumes-kept input.bytes bytes input.left text.items taken keeps);
+      consumed =
+          (text.items, omega (arith, size, bound), Consumes-kept input.bytes bytes input.left text.items taken keeps);
       given = (omega (arith, counted.at_most.0, gives.1), omega (arith, counted.at_most.1, bound, gives.1));
       end = λ h. absurd (omega arith);
       within = λ h. absurd (omega arith);

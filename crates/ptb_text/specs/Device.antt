@@ -1,5 +1,5 @@
--- This file defines what a reader gives and a writer takes, where their bytes are known, how many a reader gives, and how often they have failed.
--- std's words serve for the bytes: `Consumes`, `Appends`, `Keeps`, `IsAtEnd`.
+-- This file defines what a reader gives and a writer takes, where their bytes are known, how many a reader gives, and
+-- how often they have failed. std's words serve for the bytes: `Consumes`, `Appends`, `Keeps`, `IsAtEnd`.
 --     CountsFaults old new result        a call's fault is counted, and nothing else is
 --     HasFailed old new                  the device failed between the two counts, or has failed for good
 --     TakesSome old new bytes            a prefix of the bytes was taken
@@ -12,7 +12,8 @@
 --     failure_count d, given_count d     how often it has failed, and how many bytes it has given
 --     IsReliableDevice reliable d        the device's reader is reliable
 --     DeviceTakes takes d n              the device's writer takes so many bytes without failing
-use Rattle.std.specs.Prelude.{◌≡◌, ℕ, ◌+◌, ◌-◌, ◌^◌, ◌<◌, ◌≤◌, ◌⊎◌, min, List, ◌++◌, length, take, Option, Result, IsOkAnd, MatchResult}
+use Rattle.std.specs.Prelude.{◌≡◌, ℕ, ◌+◌, ◌-◌, ◌^◌, ◌<◌, ◌≤◌, ◌⊎◌, min, List, ◌++◌, length, take}
+use Rattle.std.specs.Prelude.{Option, Result, IsOkAnd, MatchResult}
 use Rattle.std.specs.Io.KnownBytes.{Appends}
 use Rattle.ptb_text.specs.declared.device.Device.{Device}
 
@@ -23,7 +24,8 @@ failure_limit = 2 ^ 64 - 1
 -- a fault is counted, and nothing else is; a device whose count stands at the limit has failed for good
 abbrev pub CountsFaults : {T E : Type 0} → ℕ → ℕ → Result T E → Type 0
 CountsFaults old new result =
-    MatchResult result (λ _. (old < failure_limit) × (new ≡ old)) (λ _. (old ≤ failure_limit) × (new ≡ min (old + 1) failure_limit))
+    MatchResult result (λ _. (old < failure_limit) × (new ≡ old))
+    (λ _. (old ≤ failure_limit) × (new ≡ min (old + 1) failure_limit))
 
 -- the device failed between the two counts, or has failed for good
 abbrev pub HasFailed : ℕ → ℕ → Type 0

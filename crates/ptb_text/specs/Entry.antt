@@ -7,9 +7,12 @@
 use Rattle.std.specs.Prelude.{◌≡◌, ℕ, ◌<◌, ◌≤◌, IsTrue, List, length, Result, Ok, Err, IsOk, IfErr, OnOk, OnErr}
 use Rattle.std.specs.List.{list_all}
 use Rattle.ptb_text.specs.declared.fault.LoadFault.{LoadFault}
-use Rattle.ptb_text.specs.declared.fault.LoadFault.TheVariants.{NoNumber, NumberTooBig, TextTooLong, BadByte, Full, Memory, Read, TooLong}
+use Rattle.ptb_text.specs.declared.fault.LoadFault.TheVariants.{NoNumber, NumberTooBig, TextTooLong}
+use Rattle.ptb_text.specs.declared.fault.LoadFault.TheVariants.{BadByte, Full, Memory, Read}
+use Rattle.ptb_text.specs.declared.fault.LoadFault.TheVariants.{TooLong}
 use Rattle.ptb_text.specs.Lines.{is_printable}
-use Rattle.ptb_text.specs.Statements.{Statements, StoredProgram, after_line, after_statement, text_behind_number, trim_start}
+use Rattle.ptb_text.specs.Statements.{Statements, StoredProgram, after_line, after_statement}
+use Rattle.ptb_text.specs.Statements.{text_behind_number, trim_start}
 use Rattle.ptb_words.specs.Digits.{number_limit}
 
 abbrev pub EntersNothing : List ℕ → Type 0

@@ -8,7 +8,8 @@
 --     Loads memory text result      what a text is loaded as, or why it is not
 --     HasFault result fault         it is not, for this fault
 --     ReadsProgram input result     what is read of the text
-use Rattle.std.specs.Prelude.{◌≡◌, ℕ, ◌-◌, ◌<◌, ◌≤◌, List, [], length, take, slice_index_or, Option, Result, Ok, Err, IsOk, IfErr, IfOk, IfSome, IsErrAnd}
+use Rattle.std.specs.Prelude.{◌≡◌, ℕ, ◌-◌, ◌<◌, ◌≤◌, List, [], length, take, slice_index_or, Option}
+use Rattle.std.specs.Prelude.{Result, Ok, Err, IsOk, IfErr, IfOk, IfSome, IsErrAnd}
 use Rattle.ptb_text.specs.declared.fault.LoadFault.{LoadFault}
 use Rattle.ptb_text.specs.declared.fault.LoadFault.TheVariants.{Memory, Read, TooLong}
 use Rattle.ptb_text.specs.Entry.{IsLineFault}
@@ -45,8 +46,8 @@ pub record Loads (memory : ℕ) (text : Option (List ℕ)) (result : Result Stor
   -- A text that is too long, or can't be read, is at fault as a whole: at line 0.
   pub too_long : IfErr result (λ e. e.1 ≡ TooLong → e.0 ≡ 0)
   pub unread : IfErr result (λ e. e.1 ≡ Read → e.0 ≡ 0)
-  -- Where memory is refused at a line, the lines up to it are accepted, and it has a text to store. At line 0 it was refused
-  -- while the text was read.
+  -- Where memory is refused at a line, the lines up to it are accepted, and it has a text to store. At line 0 it was
+  -- refused while the text was read.
   pub memory_last : IfErr result (λ e. e.1 ≡ Memory → IfSome text (λ b. AcceptsLines memory b e.0))
   pub memory_line : IfErr result (λ e. e.1 ≡ Memory → 0 < e.0 → IfSome text (λ b. StoresTextAt b e.0))
 
@@ -59,4 +60,5 @@ IsReadToEnd (Ok x) = Unit {0}
 IsReadToEnd (Err e) = 0 < e.0
 
 abbrev pub ReadsProgram : {R T : Type 0} → Reads R → Result T (ℕ × LoadFault) → Type 0
-ReadsProgram input result = ReadsUpTo program_limit input (IsReadToEnd result) (HasFault result TooLong) (HasFault result Read)
+ReadsProgram input result =
+    ReadsUpTo program_limit input (IsReadToEnd result) (HasFault result TooLong) (HasFault result Read)

@@ -1,7 +1,8 @@
 -- This file defines where a number stands, or would stand, among statements that rise by their numbers.
 --     statement_at p i               the number and the text of the statement at place i
 --     StatementLaws                  what the number of a statement tells of its place
-use Rattle.std.specs.Prelude.{◌≡◌, ℕ, ◌+◌, ◌<◌, ◌≤◌, IsTrue, List, [], length, Option, Some, ℤ, pos, option_map, slice_get, slice_index_or}
+use Rattle.std.specs.Prelude.{◌≡◌, ℕ, ◌+◌, ◌<◌, ◌≤◌, IsTrue, List, [], length, Option, Some, ℤ, pos}
+use Rattle.std.specs.Prelude.{option_map, slice_get, slice_index_or}
 use Rattle.ptb_text.specs.Statements.{Statements, is_program, number_after, text_at}
 
 -- the number of the statement at place i, or 0 past the end
@@ -28,6 +29,8 @@ statement_at p i = option_map (λ s. (pos s.0, s.1)) (slice_get p i)
 -- of the statement at place i of a program, with number n and text t
 pub record StatementLaws : Type 0 where
   -- it is the one that its number names
-  pub text : (p : Statements) (i n : ℕ) (t : List ℕ) → IsTrue (is_program p) → slice_get p i ≡ Some (n, t) → text_at p n ≡ Some t
+  pub text : (p : Statements) (i n : ℕ) (t : List ℕ) → IsTrue (is_program p) → slice_get p i ≡ Some (n, t)
+      → text_at p n ≡ Some t
   -- the next number is that of the statement behind it
-  pub behind : (p : Statements) (i n : ℕ) (t : List ℕ) → IsTrue (is_program p) → slice_get p i ≡ Some (n, t) → number_after p n ≡ option_map (λ s. s.0) (slice_get p (i + 1))
+  pub behind : (p : Statements) (i n : ℕ) (t : List ℕ) → IsTrue (is_program p) → slice_get p i ≡ Some (n, t)
+      → number_after p n ≡ option_map (λ s. s.0) (slice_get p (i + 1))

@@ -14,7 +14,8 @@ abbrev pub text_in : List ℕ → Statement → List ℕ
 text_in pool s = slice_range pool s.place (s.place + s.length)
 
 abbrev pub stored_program : Inside → StoredProgram
-stored_program p = record { lines = map (λ s. (s.number, text_in p.pool.items s)) p.statements.items; memory = p.memory }
+stored_program p =
+    record { lines = map (λ s. (s.number, text_in p.pool.items s)) p.statements.items; memory = p.memory }
 
 abbrev pub lengths : List Statement → ℕ
 lengths ss = sum_by (λ s. s.length) ss

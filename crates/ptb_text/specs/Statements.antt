@@ -12,7 +12,10 @@
 --     program memory b                               the map that a whole text gives, or which source line is refused first, and why
 --     listing p                                      the program as text
 --     is_program p                                   whether a list of pairs is such a map
-use Rattle.std.specs.Prelude.{◌≡◌, ℕ, ◌+◌, ◌-◌, ◌<◌, ◌≤◌, ℤ, pos, negsuc, IsTrue, Bool, not, ◌&&◌, ◌==◌, nat_lt, nat_le, if◌then◌else◌, List, [], ◌∷◌, ◌++◌, length, drop, Option, Some, None, Result, Ok, Err, decimal, sum_by, position, flat_map, take}
+use Rattle.std.specs.Prelude.{◌≡◌, ℕ, ◌+◌, ◌-◌, ◌<◌, ◌≤◌, ℤ, pos, negsuc, IsTrue, Bool, not, ◌&&◌}
+use Rattle.std.specs.Prelude.{◌==◌, nat_lt, nat_le, if◌then◌else◌, List, [], ◌∷◌, ◌++◌, length}
+use Rattle.std.specs.Prelude.{drop, Option, Some, None, Result, Ok, Err, decimal, sum_by, position}
+use Rattle.std.specs.Prelude.{flat_map, take}
 use Rattle.std.specs.List.{list_all, prefix_len}
 use Rattle.std.specs.Ordering.{nat_cmp}
 use Rattle.std.specs.FinMap.{find, put, is_sorted}

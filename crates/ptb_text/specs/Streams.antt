@@ -35,14 +35,15 @@ pub record Writes : Type 0 where
   pub fails : ℕ
 
 abbrev pub writes_of : {W : Type 0} → (W → Option (List ℕ)) → (W → ℕ) → W → W → Writes
-writes_of contents failures old new = record { before = contents old; after = contents new; failed = failures old; fails = failures new }
+writes_of contents failures old new =
+    record { before = contents old; after = contents new; failed = failures old; fails = failures new }
 
 -- known bytes lose at most their first n
 abbrev pub ConsumesAtMost : Option (List ℕ) → Option (List ℕ) → ℕ → Type 0
 ConsumesAtMost old new n = (bytes : List ℕ) × (length bytes ≤ n) × Consumes old new bytes
 
--- A reader is read to its end. A call of which this is said is complete, or finds too many bytes, or finds that the reader
--- failed, or it is refused memory.
+-- A reader is read to its end. A call of which this is said is complete, or finds too many bytes, or finds that the
+-- reader failed, or it is refused memory.
 pub record ReadsUpTo {R : Type 0} (limit : ℕ) (input : Reads R) (complete too_long failed : Type 0) : Type 0 where
   -- At most one byte more than the limit is read, also where nobody knows which bytes come.
   pub consumed : ConsumesAtMost input.bytes input.left (limit + 1)

@@ -8,6 +8,7 @@ use Rattle.ptb_text.proofs.listing.list.Given as goal
 abbrev pub invariant-loop-at : goal.invariant-loop-at
 invariant-loop-at g l = record {
   unfailed : g.W.Write.failures l.writer ≡ g.W.Write.failures l.initial.writer;
-  taken : Gathers (g.W.Write.contents l.initial.writer) (g.W.Write.contents l.writer) (listing l.program.lines) (listing (drop l.at l.program.lines));
+  taken : Gathers (g.W.Write.contents l.initial.writer) (g.W.Write.contents l.writer) (listing l.program.lines)
+      (listing (drop l.at l.program.lines));
   empty : l.line ≡ [];
 }

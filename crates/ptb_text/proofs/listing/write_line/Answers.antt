@@ -6,9 +6,11 @@ use Rattle.ptb_text.specs.Device.{TakesSome}
 use Rattle.ptb_text.specs.Statements.{line_of}
 use Rattle.ptb_text.proofs.listing.write_line.Goals as goal
 
-in_pieces : (none digits text : List ℕ) (number : ℕ) → none ≡ [] → digits ≡ decimal number → none ++ (digits ++ (codes " " ++ (text ++ (codes "\n" ++ [])))) ≡ line_of (number, text)
+in_pieces : (none digits text : List ℕ) (number : ℕ) → none ≡ [] → digits ≡ decimal number
+    → none ++ (digits ++ (codes " " ++ (text ++ (codes "\n" ++ [])))) ≡ line_of (number, text)
 in_pieces none digits text number empty is =
-    ap (λ (p : List ℕ). p ++ (digits ++ (codes " " ++ (text ++ (codes "\n" ++ []))))) empty ∙ ap (λ (d : List ℕ). d ++ (codes " " ++ (text ++ (codes "\n" ++ [])))) is
+    ap (λ (p : List ℕ). p ++ (digits ++ (codes " " ++ (text ++ (codes "\n" ++ []))))) empty
+    ∙ ap (λ (d : List ℕ). d ++ (codes " " ++ (text ++ (codes "\n" ++ [])))) is
     ∙ sym (append_assoc (decimal number) (codes " " ++ text) (codes "\n"))
 
 pub returns-clause-ok : goal.returns-clause-ok

@@ -21,7 +21,8 @@ returns-in_err-text g c =
 -- the lines that are entered are those of the text with its tabs written over
 spaces : (g : _) (c : After-enter_lines g) → c.deref.result.now ≡ map tab_as_space c.in_ok-text.text.items
 spaces g c =
-    c.deref.ensures.value ∙ take_at c.tabs_to_spaces.new.text _ c.in_ok-text.text.len (c.tabs_to_spaces.auto.text ∙ c.deref_mut.ensures.len)
+    c.deref.ensures.value
+    ∙ take_at c.tabs_to_spaces.new.text _ c.in_ok-text.text.len (c.tabs_to_spaces.auto.text ∙ c.deref_mut.ensures.len)
     ∙ c.tabs_to_spaces.ensures ∙ ap (map tab_as_space) c.deref_mut.ensures.value
 
 -- its lines were entered
@@ -31,7 +32,8 @@ returns g c =
     let lines = c.enter_lines.ensures in
     record {
       loads =
-          loaded _ c.args.memory c.in_ok-text.text.items c.deref.result.now e.ok (spaces g (goal.at.returns g c).After-enter_lines) (omega (arith, e.short, c.in_ok-text.text.ok.0))
+          loaded _ c.args.memory c.in_ok-text.text.items c.deref.result.now e.ok
+          (spaces g (goal.at.returns g c).After-enter_lines) (omega (arith, e.short, c.in_ok-text.text.ok.0))
           c.new.result.memory (ap (λ p. p.memory) c.new.ensures) c.enter_lines.result lines.memory lines.ok lines.refused lines.memory_last lines.memory_line;
       reads = loaded_reads (reads_of g.R.Read.remaining g.R.Read.given g.R.Read.failures c.args.reader.now c.program_text.new.reader) c.in_ok-text.text e.reads _ c.enter_lines.result lines.memory_last;
       sure = λ _. loaded_sure _ c.enter_lines.result lines.memory_last;

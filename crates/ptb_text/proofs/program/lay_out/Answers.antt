@@ -7,7 +7,8 @@ use Rattle.ptb_text.proofs.program.lay_out.Goals as goal
 use Rattle.ptb_text.proofs.program.lay_out.Goals.{After-from-place}
 
 -- the next place is behind one statement more
-behind : (c : After-from-place) → c.loop-statement.place + c.from-place.result ≡ c.args.start + lengths (take (c.loop-statement.statement-index + 1) c.args.statements.now)
+behind : (c : After-from-place)
+    → c.loop-statement.place + c.from-place.result ≡ c.args.start + lengths (take (c.loop-statement.statement-index + 1) c.args.statements.now)
 behind c =
     let ss = c.args.statements.now in
     let k = c.loop-statement.statement-index in

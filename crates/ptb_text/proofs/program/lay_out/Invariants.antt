@@ -6,6 +6,7 @@ use Rattle.ptb_text.proofs.program.lay_out.Given as goal
 -- the texts so far stand one right behind the other, and the next place is behind them
 abbrev pub invariant-loop-statement : goal.invariant-loop-statement
 invariant-loop-statement l = record {
-  laid : l.statements ≡ laid_out l.start (take l.statement-index l.initial.statements) ++ drop l.statement-index l.initial.statements;
+  laid : l.statements ≡ laid_out l.start
+      (take l.statement-index l.initial.statements) ++ drop l.statement-index l.initial.statements;
   behind : l.place ≡ l.start + lengths (take l.statement-index l.initial.statements);
 }

@@ -12,14 +12,18 @@ pub loop-rest-preserved : goal.loop-rest-preserved
 loop-rest-preserved g c = record {
   unfailed = search rules;
   taken = gathers_rest _ _ _ refl c.loop-rest.invariant.taken c.in_ok-taken.ensures.bytes;
-  sure = sure_more _ _ c.loop-rest.invariant.taken c.loop-rest.invariant.sure (g.Self.Write.takes c.write.new.self) c.in_ok-taken.taken c.in_ok-taken.ensures.room c.in_ok-taken.ensures.sure;
+  sure =
+      sure_more _ _ c.loop-rest.invariant.taken c.loop-rest.invariant.sure
+      (g.Self.Write.takes c.write.new.self) c.in_ok-taken.taken c.in_ok-taken.ensures.room c.in_ok-taken.ensures.sure;
 }
 
 pub returns-in_err-taken-clause-fault : goal.returns-in_err-taken-clause-fault
 returns-in_err-taken-clause-fault g c = let p = err_from_is_err_and c.from_residual.result c.from_residual.ensures.1 in rw p.1 (gathers_fault _ c.loop-rest.invariant.taken c.in_err-taken.ensures.fault)
 
 pub returns-in_err-taken-clause-sure : goal.returns-in_err-taken-clause-sure
-returns-in_err-taken-clause-sure g c = λ k within was. absurd (sure_written _ _ c.loop-rest.invariant.taken c.loop-rest.invariant.sure c.in_err-taken.ensures.sure k within was)
+returns-in_err-taken-clause-sure g c =
+    λ k within was. absurd
+    (sure_written _ _ c.loop-rest.invariant.taken c.loop-rest.invariant.sure c.in_err-taken.ensures.sure k within was)
 
 pub returns-clause-ok : goal.returns-clause-ok
 returns-clause-ok g c = gathers_all _ c.loop-rest.invariant.taken (search rules)

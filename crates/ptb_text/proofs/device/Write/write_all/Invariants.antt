@@ -8,7 +8,8 @@ abbrev pub invariant-loop-rest : goal.invariant-loop-rest
 invariant-loop-rest g l = record {
   unfailed : g.Self.Write.failures l.self ≡ g.Self.Write.failures l.initial.self;
   taken : Gathers (g.Self.Write.contents l.initial.self) (g.Self.Write.contents l.self) l.bytes l.rest;
-  sure : (k : ℕ) → length l.bytes ≤ k → g.Self.Write.takes l.initial.self k → g.Self.Write.takes l.self (k - (length l.bytes - length l.rest));
+  sure : (k : ℕ) → length l.bytes ≤ k → g.Self.Write.takes l.initial.self k
+      → g.Self.Write.takes l.self (k - (length l.bytes - length l.rest));
 }
 
 abbrev pub decreases-loop-rest : goal.decreases-loop-rest

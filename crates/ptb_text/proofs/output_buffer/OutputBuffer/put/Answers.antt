@@ -15,4 +15,5 @@ returns-clause-ok g c =
 pub returns-clause-fault : goal.returns-clause-fault
 returns-clause-fault g c =
     let whole = gathers_written _ _ c.args.self.now (subst (Appends _ _) (c.if-takes.ensures.full refl) c.in_ok-flush.ensures.ok) in
-    on_err_weaker c.write_all.result (λ e. some_after _ _ _ c.args.self.now [] c.args.bytes.now whole e) c.write_all.ensures.fault
+    on_err_weaker c.write_all.result
+    (λ e. some_after _ _ _ c.args.self.now [] c.args.bytes.now whole e) c.write_all.ensures.fault

@@ -10,7 +10,9 @@ use Rattle.ptb_text.specs.Statements.{without_number}
 use Rattle.ptb_text.proofs.Edits.{cost-without_place, is_program-without_number}
 use Rattle.ptb_text.proofs.Entries.{without_number-gap, without_number-place}
 use Rattle.ptb_text.proofs.Pool.{IsEntry, laid_items, lengths-part}
-use Rattle.ptb_text.proofs.Stored.{IsEntry-shown, IsLayout, IsLayout-from_kept, IsLayout-remove, IsKept-from_layout, HasSizes-from_kept, lines_shown, memory_shown, is_program_shown}
+use Rattle.ptb_text.proofs.Stored.{IsEntry-shown, IsLayout, IsLayout-from_kept, IsLayout-remove}
+use Rattle.ptb_text.proofs.Stored.{IsKept-from_layout, HasSizes-from_kept, lines_shown}
+use Rattle.ptb_text.proofs.Stored.{memory_shown, is_program_shown}
 use Rattle.ptb_text.proofs.program.Program.delete.Goals as goal
 use Rattle.ptb_text.proofs.program.Program.delete.Goals.{After-end, After-lay_out}
 
@@ -59,15 +61,19 @@ invariant_of-self c =
     let p = c.args.self.now in
     let s = HasSizes-from_kept c.self.inside p c.self.view_is c.self.invariant in
     let fewer = cost-without_place p.lines c.args.number c.in-Ok.at c.in-Ok.ensures.found in
-    IsKept-from_layout (after (goal.at.invariant_of-self c).After-lay_out) (without_number p.lines c.args.number) (layout (goal.at.invariant_of-self c).After-lay_out)
+    IsKept-from_layout (after (goal.at.invariant_of-self c).After-lay_out) (without_number p.lines c.args.number)
+    (layout (goal.at.invariant_of-self c).After-lay_out)
     (is_program-without_number p.lines c.args.number (is_program_shown c.self.inside p c.self.view_is c.self.invariant))
     (omega (arith, fewer, s.fits, memory_shown c.self.inside p c.self.view_is)) c.self.invariant.sound.memory_size
 
 pub returns-in-Ok-clause-lines : goal.returns-in-Ok-clause-lines
-returns-in-Ok-clause-lines c = lines_shown (after (goal.at.returns-in-Ok-clause-lines c).After-lay_out) (without_number c.args.self.now.lines c.args.number) (layout (goal.at.returns-in-Ok-clause-lines c).After-lay_out)
+returns-in-Ok-clause-lines c =
+    lines_shown (after (goal.at.returns-in-Ok-clause-lines c).After-lay_out)
+    (without_number c.args.self.now.lines c.args.number) (layout (goal.at.returns-in-Ok-clause-lines c).After-lay_out)
 
 pub returns-in_default-clause-lines : goal.returns-in_default-clause-lines
-returns-in_default-clause-lines c = sym (without_number-gap c.args.self.now.lines c.args.number _ c.in_default.ensures.absent)
+returns-in_default-clause-lines c =
+    sym (without_number-gap c.args.self.now.lines c.args.number _ c.in_default.ensures.absent)
 
 pub remove-deleted-requires : goal.remove-deleted-requires
 remove-deleted-requires c = grind (arith, common_steps)

@@ -7,7 +7,8 @@ use Rattle.ptb_text.specs.declared.program.Statement.{Statement}
 use Rattle.ptb_text.specs.Program.{lengths, texts_length}
 use Rattle.ptb_text.specs.Statements.{StoredProgram}
 use Rattle.ptb_text.proofs.Pool.{lengths-part}
-use Rattle.ptb_text.proofs.Storing.{IsKept-same, insert_enters, insert_full, insert_kept, insert_refused, short_text, small_cost}
+use Rattle.ptb_text.proofs.Storing.{IsKept-same, insert_enters, insert_full, insert_kept}
+use Rattle.ptb_text.proofs.Storing.{insert_refused, short_text, small_cost}
 use Rattle.ptb_text.proofs.Stored.{HasSizes-from_kept, length_shown, memory_shown, same_shown}
 use Rattle.ptb_text.proofs.program.Program.insert.Goals as goal
 use Rattle.ptb_text.proofs.program.Program.insert.Goals.{After-place_of-place, After-unwrap}
@@ -23,7 +24,9 @@ returns-then-is_err c =
     (record c.self.inside { pool = c.try_reserve.new.self }) refl c.try_reserve.ensures.items refl
 
 pub invariant_of-self : goal.invariant_of-self
-invariant_of-self c = IsKept-same c.self.inside (record c.self.inside { pool = c.try_reserve.new.self }) refl c.try_reserve.ensures.items refl c.self.invariant
+invariant_of-self c =
+    IsKept-same c.self.inside
+    (record c.self.inside { pool = c.try_reserve.new.self }) refl c.try_reserve.ensures.items refl c.self.invariant
 
 pub returns-then-is_err-2 : goal.returns-then-is_err-2
 returns-then-is_err-2 c =
@@ -53,7 +56,8 @@ put_text-requires-clause-within c =
     omega (arith, here, part, s.texts_are, c.from-2.ensures, c.try_reserve.ensures.len, c.self.inside.pool.ok.0)
 
 -- the new statement stands at its place
-edit : (c : After-unwrap) → c.insert.new.self.items ≡ insert c.self.inside.statements.items c.args.at (record { number = c.args.number; place = c.place_of-place.result; length = length c.args.text.now })
+edit : (c : After-unwrap)
+    → c.insert.new.self.items ≡ insert c.self.inside.statements.items c.args.at (record { number = c.args.number; place = c.place_of-place.result; length = length c.args.text.now })
 edit c = (rw c.unwrap.ensures at c.insert.ensures.items) ∙ ap (λ all. insert all c.args.at (record { number = c.args.number; place = c.place_of-place.result; length = length c.args.text.now })) c.try_reserve-2.ensures.items
 
 pub lay_out-requires : goal.lay_out-requires
@@ -74,14 +78,16 @@ pub invariant_of-self-3 : goal.invariant_of-self-3
 invariant_of-self-3 c =
     let g = goal.at.invariant_of-self-3 c in
     insert_kept c.self.inside c.args.self.now c.self.view_is c.self.invariant c.args.number c.args.at c.args.text.now c.requires.place c.cost.result c.cost.ensures.value c.if-cost-self.false
-    c.insert.new.self c.deref_mut.result.now c.lay_out.new.statements c.put_text.new.pool c.place_of-place.result (place g.After-place_of-place) c.deref_mut.ensures.value c.deref_mut.ensures.len c.lay_out.ensures
+    c.insert.new.self c.deref_mut.result.now c.lay_out.new.statements c.put_text.new.pool c.place_of-place.result
+    (place g.After-place_of-place) c.deref_mut.ensures.value c.deref_mut.ensures.len c.lay_out.ensures
     _ (edit g.After-unwrap) refl _ c.from.result c.from-2.result c.put_text.ensures c.try_reserve.ensures.items c.from.ensures c.from-2.ensures c.requires.statement
 
 pub returns : goal.returns
 returns c =
     let g = goal.at.returns c in
     insert_enters c.self.inside c.args.self.now c.self.view_is c.self.invariant c.args.number c.args.at c.args.text.now c.requires.place c.cost.result c.cost.ensures.value c.if-cost-self.false
-    c.insert.new.self c.deref_mut.result.now c.lay_out.new.statements c.put_text.new.pool c.place_of-place.result (place g.After-place_of-place) c.deref_mut.ensures.value c.deref_mut.ensures.len c.lay_out.ensures
+    c.insert.new.self c.deref_mut.result.now c.lay_out.new.statements c.put_text.new.pool c.place_of-place.result
+    (place g.After-place_of-place) c.deref_mut.ensures.value c.deref_mut.ensures.len c.lay_out.ensures
     _ (edit g.After-unwrap) refl _ c.from.result c.from-2.result c.put_text.ensures c.try_reserve.ensures.items c.from.ensures c.from-2.ensures
 
 pub insert-requires : goal.insert-requires

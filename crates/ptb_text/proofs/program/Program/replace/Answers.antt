@@ -5,7 +5,8 @@ use Rattle.std.proofs.lemmas.List.Sums.{sum_by-set}
 use Rattle.ptb_text.specs.declared.program.Statement.{Statement}
 use Rattle.ptb_text.specs.Program.{lengths}
 use Rattle.ptb_text.proofs.Pool.{IsEntry, lengths-part}
-use Rattle.ptb_text.proofs.Storing.{IsKept-same, replace_cost, replace_enters, replace_full, replace_kept, replace_refused, short_text, small_cost}
+use Rattle.ptb_text.proofs.Storing.{IsKept-same, replace_cost, replace_enters, replace_full}
+use Rattle.ptb_text.proofs.Storing.{replace_kept, replace_refused, short_text, small_cost}
 use Rattle.ptb_text.proofs.Stored.{IsEntry-shown, HasSizes-from_kept, length_shown, memory_shown}
 use Rattle.ptb_text.proofs.program.Program.replace.Goals as goal
 use Rattle.ptb_text.proofs.program.Program.replace.Goals.{After-from}
@@ -29,7 +30,9 @@ returns-then-is_err c =
     (record c.self.inside { pool = c.try_reserve.new.self }) refl c.try_reserve.ensures.items refl
 
 pub invariant_of-self : goal.invariant_of-self
-invariant_of-self c = IsKept-same c.self.inside (record c.self.inside { pool = c.try_reserve.new.self }) refl c.try_reserve.ensures.items refl c.self.invariant
+invariant_of-self c =
+    IsKept-same c.self.inside
+    (record c.self.inside { pool = c.try_reserve.new.self }) refl c.try_reserve.ensures.items refl c.self.invariant
 
 pub put_text-requires-clause-within : goal.put_text-requires-clause-within
 put_text-requires-clause-within c =

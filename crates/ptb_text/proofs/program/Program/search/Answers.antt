@@ -9,10 +9,13 @@ use Rattle.ptb_text.proofs.Pool.{shown}
 use Rattle.ptb_text.proofs.Searching.{IsSearched, searched, IsGapFor-end}
 use Rattle.ptb_text.proofs.Sound.{both_true}
 use Rattle.ptb_text.proofs.program.Program.search.Goals as goal
-use Rattle.ptb_text.proofs.program.Program.search.Goals.{After-binary_search_by_key, After-len, in_default-via-in-Some+else-last-number, in_default-via-in_default}
+use Rattle.ptb_text.proofs.program.Program.search.Goals.{After-binary_search_by_key, After-len}
+use Rattle.ptb_text.proofs.program.Program.search.Goals.{in_default-via-in-Some+else-last-number}
+use Rattle.ptb_text.proofs.program.Program.search.Goals.{in_default-via-in_default}
 
 -- the closure gives a statement's number, and the slice is the program's statements
-by_number : (c : After-binary_search_by_key) → IsSearched c.args.self.now.lines c.args.number c.binary_search_by_key.result
+by_number : (c : After-binary_search_by_key)
+    → IsSearched c.args.self.now.lines c.args.number c.binary_search_by_key.result
 by_number c =
     let facts = c.binary_search_by_key.ensures in
     let by_key = facts.position (λ s. s.number) (answers_always _ _ _ (λ f a r g called. search rules)) in
@@ -26,7 +29,9 @@ pub returns-in-Some-clause-absent : goal.returns-in-Some-clause-absent
 returns-in-Some-clause-absent c = (by_number c).absent
 
 -- the last statement, if there is one, has a smaller number
-behind_all : (c : After-len) (last : Option Statement) → last ≡ slice_get c.deref.result.now (length c.deref.result.now - 1) → IfSome last (λ s. s.number < c.args.number) → IsGapFor c.args.self.now.lines c.args.number c.len.result
+behind_all : (c : After-len) (last : Option Statement)
+    → last ≡ slice_get c.deref.result.now (length c.deref.result.now - 1) → IfSome last (λ s. s.number < c.args.number)
+    → IsGapFor c.args.self.now.lines c.args.number c.len.result
 behind_all c last is above =
     let items = c.self.inside.statements.items in
     let sorted : is_sorted nat_cmp (map (shown c.self.inside.pool.items) items) ≡ true = (both_true _ _ c.self.invariant.sound.is_map).0 in
@@ -36,6 +41,7 @@ behind_all c last is above =
 pub returns-in_default-clause-absent : goal.returns-in_default-clause-absent
 returns-in_default-clause-absent c =
     elim c.in_default.branch [
-      | in_default-via-in-Some+else-last-number w ↦ behind_all c (Some w.in-Some.last.now) w.in-Some.ensures.value w.if-last-number.false
+      | in_default-via-in-Some+else-last-number w ↦
+          behind_all c (Some w.in-Some.last.now) w.in-Some.ensures.value w.if-last-number.false
       | in_default-via-in_default w ↦ behind_all c None w.in_default.ensures.value tt
     ]
