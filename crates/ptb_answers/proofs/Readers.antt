@@ -7,10 +7,13 @@
 --     wider_reader                                     the same reader with a greater bound
 --     Came, came, whole_is, open_is, closed_is         what an outcome is
 -- Main lemma: `bind_reader`.
-use Rattle.std.proofs.Common.{◌≡◌, ℕ, ◌+◌, ◌<◌, ◌≤◌, [], ◌∷◌, ◌++◌, length, true, false, cond, Result, Ok, Err, ◌⊎◌, inl, inr, refl, ap, sym, ◌∙◌, arith}
+use Rattle.std.proofs.Common.{◌≡◌, ℕ, ◌+◌, ◌<◌, ◌≤◌, [], ◌∷◌, ◌++◌, length, true, false, cond}
+use Rattle.std.proofs.Common.{Result, Ok, Err, ◌⊎◌, inl, inr, refl, ap, sym, ◌∙◌, arith}
 use Rattle.std.specs.Prelude.{ℤ, pos, ◌≤ℤ◌}
 use Rattle.std.proofs.lemmas.Bool.{cases_Bool}
-use Rattle.ptb_answers.specs.Outcome.{Answers, Outcome, Done, Asks, Out, go_on, unless_error, ◌>>=◌, success, failure, is_answer, answer, is_whole, is_open, IsReader}
+use Rattle.ptb_answers.specs.Outcome.{Answers, Outcome, Done, Asks, Out, go_on, unless_error, ◌>>=◌}
+use Rattle.ptb_answers.specs.Outcome.{success, failure, is_answer, answer, is_whole, is_open}
+use Rattle.ptb_answers.specs.Outcome.{IsReader}
 
 -- ---- what an outcome is
 
@@ -31,13 +34,15 @@ module _ {A W : Type 0} where
   whole_is (Asks n w) h = absurd cc
   whole_is (Out n w) h = absurd cc
 
-  pub open_is : (v : Outcome A W) → is_open v ≡ true → ((x : A) × (v ≡ Done x [])) ⊎ ((n : ℤ) × (w : W) × (v ≡ Asks n w))
+  pub open_is : (v : Outcome A W) → is_open v ≡ true
+      → ((x : A) × (v ≡ Done x [])) ⊎ ((n : ℤ) × (w : W) × (v ≡ Asks n w))
   open_is (Done x []) h = inl (x, refl)
   open_is (Done x (k ∷ rest)) h = absurd cc
   open_is (Asks n w) h = inr (n, w, refl)
   open_is (Out n w) h = absurd cc
 
-  pub closed_is : (v : Outcome A W) → is_open v ≡ false → ((x : A) × (k : ℤ) × (rest : Answers) × (v ≡ Done x (k ∷ rest))) ⊎ ((n : ℤ) × (w : W) × (v ≡ Out n w))
+  pub closed_is : (v : Outcome A W) → is_open v ≡ false
+      → ((x : A) × (k : ℤ) × (rest : Answers) × (v ≡ Done x (k ∷ rest))) ⊎ ((n : ℤ) × (w : W) × (v ≡ Out n w))
   closed_is (Done x []) h = absurd cc
   closed_is (Done x (k ∷ rest)) h = inl (x, k, rest, refl)
   closed_is (Asks n w) h = absurd cc
@@ -106,10 +111,12 @@ module _ {W : Type 0} (n : ℤ) (w : W) (positive : pos 1 ≤ℤ n) where
     | inr h ↦ let o = answer-out k q h in absurd cc
   ]
 
-  answer_inside : (q : Answers) (m k : ℤ) (v : W) → answer n w q ≡ Asks m v → is_answer m k ≡ true → is_open (answer n w (q ++ k ∷ [])) ≡ true
+  answer_inside : (q : Answers) (m k : ℤ) (v : W) → answer n w q ≡ Asks m v → is_answer m k ≡ true
+      → is_open (answer n w (q ++ k ∷ [])) ≡ true
   answer_inside q m k v e i = let p = answer_asks q m v e in rw (p.0, answer-in k [] (rw (← p.1) at i)) refl
 
-  answer_outside : (q : Answers) (m k : ℤ) (v : W) → answer n w q ≡ Asks m v → is_answer m k ≡ false → answer n w (q ++ k ∷ []) ≡ Out m v
+  answer_outside : (q : Answers) (m k : ℤ) (v : W) → answer n w q ≡ Asks m v → is_answer m k ≡ false
+      → answer n w (q ++ k ∷ []) ≡ Out m v
   answer_outside q m k v e o = let p = answer_asks q m v e in rw (p.0, ← p.1, ← p.2) (answer-out k [] (rw (← p.1) at o))
 
   answer_spends : (q rest : Answers) (x : ℤ) → answer n w q ≡ Done x rest → length q ≤ 1 + length rest
@@ -133,7 +140,8 @@ module _ {W : Type 0} (n : ℤ) (w : W) (positive : pos 1 ≤ℤ n) where
 
 -- ---- one after the other
 
--- the second part takes at most `cost x` answers, where x is what the first part gave, and with those of the first these are `total` at most
+-- the second part takes at most `cost x` answers, where x is what the first part gave, and with those of the first
+-- these are `total` at most
 module _ {A B W : Type 0} (m : Answers → Outcome A W) (f : A → Answers → Outcome B W) (p total : ℕ) (cost : A → ℕ) (first : IsReader m p) (room : p ≤ total) (pays : (q rest : Answers) (x : A) → m q ≡ Done x rest → length q + cost x ≤ total + length rest) (second : (x : A) → IsReader (f x) (cost x)) where
   both-done : (q rest : Answers) (x : A) → m q ≡ Done x rest → go_on (m q) f ≡ f x rest
   both-done q rest x e = ap (λ v. go_on v f) e
@@ -148,7 +156,9 @@ module _ {A B W : Type 0} (m : Answers → Outcome A W) (f : A → Answers → O
   both_done q b rest x e = by_cases (came (m q))
     where
       by_cases : Came (m q) → go_on (m (q ++ b)) f ≡ Done x (rest ++ b)
-      by_cases (Gave y s h) = both-done (q ++ b) (s ++ b) y (first.done q b s y h) ∙ (second y).done s b rest x (sym (both-done q s y h) ∙ e)
+      by_cases (Gave y s h) =
+          both-done (q ++ b) (s ++ b) y (first.done q b s y h)
+          ∙ (second y).done s b rest x (sym (both-done q s y h) ∙ e)
       by_cases (Asked n w h) = let k = both-asks q n w h in absurd cc
       by_cases (Refused n w h) = let k = both-out q n w h in absurd cc
 
@@ -156,7 +166,8 @@ module _ {A B W : Type 0} (m : Answers → Outcome A W) (f : A → Answers → O
   both_out q b n w e = by_cases (came (m q))
     where
       by_cases : Came (m q) → go_on (m (q ++ b)) f ≡ Out n w
-      by_cases (Gave y s h) = both-done (q ++ b) (s ++ b) y (first.done q b s y h) ∙ (second y).out s b n w (sym (both-done q s y h) ∙ e)
+      by_cases (Gave y s h) =
+          both-done (q ++ b) (s ++ b) y (first.done q b s y h) ∙ (second y).out s b n w (sym (both-done q s y h) ∙ e)
       by_cases (Asked j v h) = let k = both-asks q j v h in absurd cc
       by_cases (Refused j v h) = both-out (q ++ b) j v (first.out q b j v h) ∙ sym (both-out q j v h) ∙ e
 
@@ -167,19 +178,25 @@ module _ {A B W : Type 0} (m : Answers → Outcome A W) (f : A → Answers → O
     | inr d ↦ rw (both-asks q d.0 d.1 d.2) refl
   ]
 
-  both_inside : (q : Answers) (n k : ℤ) (w : W) → go_on (m q) f ≡ Asks n w → is_answer n k ≡ true → is_open (go_on (m (q ++ k ∷ [])) f) ≡ true
+  both_inside : (q : Answers) (n k : ℤ) (w : W) → go_on (m q) f ≡ Asks n w → is_answer n k ≡ true
+      → is_open (go_on (m (q ++ k ∷ [])) f) ≡ true
   both_inside q n k w e i = by_cases (came (m q))
     where
       by_cases : Came (m q) → is_open (go_on (m (q ++ k ∷ [])) f) ≡ true
-      by_cases (Gave y s h) = rw (both-done (q ++ k ∷ []) (s ++ k ∷ []) y (first.done q (k ∷ []) s y h)) ((second y).inside s n k w (sym (both-done q s y h) ∙ e) i)
+      by_cases (Gave y s h) =
+          rw (both-done (q ++ k ∷ []) (s ++ k ∷ []) y (first.done q (k ∷ []) s y h))
+          ((second y).inside s n k w (sym (both-done q s y h) ∙ e) i)
       by_cases (Asked j v h) = let t : Asks n w ≡ Asks j v = sym e ∙ both-asks q j v h in let same : n ≡ j = cc in both_open (q ++ k ∷ []) (first.inside q j k v h (rw same at i))
       by_cases (Refused j v h) = let t = both-out q j v h in absurd cc
 
-  both_outside : (q : Answers) (n k : ℤ) (w : W) → go_on (m q) f ≡ Asks n w → is_answer n k ≡ false → go_on (m (q ++ k ∷ [])) f ≡ Out n w
+  both_outside : (q : Answers) (n k : ℤ) (w : W) → go_on (m q) f ≡ Asks n w → is_answer n k ≡ false
+      → go_on (m (q ++ k ∷ [])) f ≡ Out n w
   both_outside q n k w e o = by_cases (came (m q))
     where
       by_cases : Came (m q) → go_on (m (q ++ k ∷ [])) f ≡ Out n w
-      by_cases (Gave y s h) = both-done (q ++ k ∷ []) (s ++ k ∷ []) y (first.done q (k ∷ []) s y h) ∙ (second y).outside s n k w (sym (both-done q s y h) ∙ e) o
+      by_cases (Gave y s h) =
+          both-done (q ++ k ∷ []) (s ++ k ∷ []) y (first.done q (k ∷ []) s y h)
+          ∙ (second y).outside s n k w (sym (both-done q s y h) ∙ e) o
       by_cases (Asked j v h) = let t : Asks n w ≡ Asks j v = sym e ∙ both-asks q j v h in let same : n ≡ j = cc in both-out (q ++ k ∷ []) j v (first.outside q j k v h (rw same at o)) ∙ cc
       by_cases (Refused j v h) = let t = both-out q j v h in absurd cc
 
@@ -211,7 +228,8 @@ module _ {A B W : Type 0} (m : Answers → Outcome A W) (f : A → Answers → O
   then_reader_by = record { begins = both_open [] first.begins; done = both_done; out = both_out; inside = both_inside; outside = both_outside; positive = both_positive; few = both_few; spends = both_spends }
 
 -- the same where each second part takes as many answers at most
-pub then_reader : {A B W : Type 0} (m : Answers → Outcome A W) (f : A → Answers → Outcome B W) (p r : ℕ) → IsReader m p → ((x : A) → IsReader (f x) r) → IsReader (λ a. go_on (m a) f) (p + r)
+pub then_reader : {A B W : Type 0} (m : Answers → Outcome A W) (f : A → Answers → Outcome B W) (p r : ℕ) → IsReader m p
+    → ((x : A) → IsReader (f x) r) → IsReader (λ a. go_on (m a) f) (p + r)
 then_reader m f p r first each =
     then_reader_by m f p (p + r) (λ _. r) first (omega arith) (λ q rest x e. let u = first.spends q rest x e in omega arith) each
 
@@ -223,25 +241,32 @@ cost_unless_error cost (Ok x) = cost x
 cost_unless_error cost (Err e) = 0
 
 module _ {A B E W : Type 0} (f : A → Answers → Outcome (Result B E) W) where
-  unless_error_reader : (cost : A → ℕ) → ((x : A) → IsReader (f x) (cost x)) → (r : Result A E) → IsReader (unless_error f r) (cost_unless_error cost r)
+  unless_error_reader : (cost : A → ℕ) → ((x : A) → IsReader (f x) (cost x)) → (r : Result A E)
+      → IsReader (unless_error f r) (cost_unless_error cost r)
   unless_error_reader cost each (Ok x) = each x
   unless_error_reader cost each (Err e) = failure_reader e 0
 
   -- what follows an error takes nothing; what follows a value x takes at most `cost x` answers
-  pub bind_reader_by : (m : Answers → Outcome (Result A E) W) (p total : ℕ) (cost : A → ℕ) → IsReader m p → p ≤ total → ((q rest : Answers) (x : A) → m q ≡ Done (Ok x) rest → length q + cost x ≤ total + length rest) → ((x : A) → IsReader (f x) (cost x)) → IsReader (m >>= f) total
+  pub bind_reader_by : (m : Answers → Outcome (Result A E) W) (p total : ℕ) (cost : A → ℕ) → IsReader m p → p ≤ total
+      → ((q rest : Answers) (x : A) → m q ≡ Done (Ok x) rest → length q + cost x ≤ total + length rest)
+      → ((x : A) → IsReader (f x) (cost x)) → IsReader (m >>= f) total
   bind_reader_by m p total cost first room pays each =
-      then_reader_by m (unless_error f) p total (cost_unless_error cost) first room pays_result (unless_error_reader cost each)
+      then_reader_by m (unless_error f) p total (cost_unless_error cost) first room pays_result
+      (unless_error_reader cost each)
     where
-      pays_result : (q rest : Answers) (r : Result A E) → m q ≡ Done r rest → length q + cost_unless_error cost r ≤ total + length rest
+      pays_result : (q rest : Answers) (r : Result A E) → m q ≡ Done r rest
+          → length q + cost_unless_error cost r ≤ total + length rest
       pays_result q rest (Ok x) e = pays q rest x e
       pays_result q rest (Err z) e = let u = first.spends q rest (Err z) e in omega arith
 
-  pub bind_reader : (m : Answers → Outcome (Result A E) W) (p r : ℕ) → IsReader m p → ((x : A) → IsReader (f x) r) → IsReader (m >>= f) (p + r)
+  pub bind_reader : (m : Answers → Outcome (Result A E) W) (p r : ℕ) → IsReader m p → ((x : A) → IsReader (f x) r)
+      → IsReader (m >>= f) (p + r)
   bind_reader m p r first each =
       bind_reader_by m p (p + r) (λ _. r) first (omega arith) (λ q rest x e. let u = first.spends q rest (Ok x) e in omega arith) each
 
   -- what follows takes no answer
-  pub bind_reader_alone : (m : Answers → Outcome (Result A E) W) (p : ℕ) → IsReader m p → ((x : A) → IsReader (f x) 0) → IsReader (m >>= f) p
+  pub bind_reader_alone : (m : Answers → Outcome (Result A E) W) (p : ℕ) → IsReader m p → ((x : A) → IsReader (f x) 0)
+      → IsReader (m >>= f) p
   bind_reader_alone m p first each =
       bind_reader_by m p p (λ _. 0) first (omega arith) (λ q rest x e. let u = first.spends q rest (Ok x) e in omega arith) each
 
@@ -285,7 +310,8 @@ module _ {A B V W : Type 0} (h : Outcome A V → Outcome B W) (f : A → B) (g :
 
 -- ---- greater bounds
 
-pub wider_reader : {A W : Type 0} (m : Answers → Outcome A W) (most more : ℕ) → most ≤ more → IsReader m most → IsReader m more
+pub wider_reader : {A W : Type 0} (m : Answers → Outcome A W) (most more : ℕ) → most ≤ more → IsReader m most
+    → IsReader m more
 wider_reader m most more l r = record {
   begins = r.begins;
   done = r.done;

@@ -5,20 +5,28 @@ use Rattle.std.specs.Prelude.{pos}
 use Rattle.rand_pcg.specs.Lcg.{Lcg}
 use Rattle.rand_pcg.specs.Pcg.{pcg32}
 use Rattle.ptb_answers.specs.Outcome.{Answers}
-use Rattle.ptb_answers.specs.Seeds.{HasDrawn, SeededAnswers, at_state, drawn_answer, drawn_from, generator_after, seeded_choices}
+use Rattle.ptb_answers.specs.Seeds.{HasDrawn, SeededAnswers, at_state, drawn_answer, drawn_from}
+use Rattle.ptb_answers.specs.Seeds.{generator_after, seeded_choices}
 
 -- a word for one question more
-drawn_push : (g : Lcg) (bounds : List ℤ) (n : ℤ) → drawn_from g (bounds ++ n ∷ []) ≡ drawn_from g bounds ++ drawn_answer (pcg32 (generator_after g (length bounds))).0 n ∷ []
+drawn_push : (g : Lcg) (bounds : List ℤ) (n : ℤ)
+    → drawn_from g (bounds ++ n ∷ []) ≡ drawn_from g bounds ++ drawn_answer (pcg32 (generator_after g (length bounds))).0 n ∷ []
 drawn_push g [] n = refl
 drawn_push g (m ∷ bounds) n = ap (λ l. drawn_answer (pcg32 g).0 m ∷ l) (drawn_push (pcg32 g).1 bounds n)
 
-after_push : (g : Lcg) (bounds : List ℤ) (n : ℤ) → generator_after g (length (bounds ++ n ∷ [])) ≡ (pcg32 (generator_after g (length bounds))).1
+after_push : (g : Lcg) (bounds : List ℤ) (n : ℤ)
+    → generator_after g (length (bounds ++ n ∷ [])) ≡ (pcg32 (generator_after g (length bounds))).1
 after_push g [] n = refl
 after_push g (m ∷ bounds) n = after_push (pcg32 g).1 bounds n
 
-pub drawn_one_more : (first : Lcg) (bounds : List ℤ) (answers : Answers) (g : Lcg) (n : ℤ) → HasDrawn first bounds answers g → HasDrawn first (bounds ++ n ∷ []) (answers ++ drawn_answer (pcg32 g).0 n ∷ []) (pcg32 g).1
+pub drawn_one_more : (first : Lcg) (bounds : List ℤ) (answers : Answers) (g : Lcg) (n : ℤ)
+    → HasDrawn first bounds answers g
+    → HasDrawn first (bounds ++ n ∷ []) (answers ++ drawn_answer (pcg32 g).0 n ∷ []) (pcg32 g).1
 drawn_one_more first bounds answers g n h = record {
-  drawn = ap (λ l. l ++ drawn_answer (pcg32 g).0 n ∷ []) h.drawn ∙ ap (λ (x : Lcg). drawn_from first bounds ++ drawn_answer (pcg32 x).0 n ∷ []) h.after ∙ sym (drawn_push first bounds n);
+  drawn =
+      ap (λ l. l ++ drawn_answer (pcg32 g).0 n ∷ []) h.drawn
+      ∙ ap (λ (x : Lcg). drawn_from first bounds ++ drawn_answer (pcg32 x).0 n ∷ []) h.after
+      ∙ sym (drawn_push first bounds n);
   after = ap (λ (x : Lcg). (pcg32 x).1) h.after ∙ sym (after_push first bounds n);
 }
 
@@ -40,7 +48,8 @@ after_sum g (suc m) n =
     let one : suc m + n ≡ suc (m + n) = omega arith in
     ap (generator_after g) one ∙ after_sum (pcg32 g).1 m n
 
-pub drawn_append : (g : Lcg) (a b : List ℤ) → drawn_from g (a ++ b) ≡ drawn_from g a ++ drawn_from (generator_after g (length a)) b
+pub drawn_append : (g : Lcg) (a b : List ℤ)
+    → drawn_from g (a ++ b) ≡ drawn_from g a ++ drawn_from (generator_after g (length a)) b
 drawn_append g [] b = refl
 drawn_append g (n ∷ a) b = ap (λ l. drawn_answer (pcg32 g).0 n ∷ l) (drawn_append (pcg32 g).1 a b)
 

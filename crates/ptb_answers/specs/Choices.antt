@@ -5,7 +5,8 @@
 --     RefusedByList                 why it refuses one
 --     Reaches f c d g               between c and d answers were given, and what f was is what g is for all later answers
 --     Pauses refused f c d z        f came to a question that the chooser refused
-use Rattle.std.specs.Prelude.{◌≡◌, ℕ, false, List, [], ◌∷◌, ◌++◌, length, take, Option, Some, None, option_map, slice_get, ℤ}
+use Rattle.std.specs.Prelude.{◌≡◌, ℕ, false, List, [], ◌∷◌, ◌++◌, length, take, Option, Some, None}
+use Rattle.std.specs.Prelude.{option_map, slice_get, ℤ}
 use Rattle.ptb_answers.specs.declared.pause.Pause.{Pause}
 use Rattle.ptb_answers.specs.declared.pause.Pause.TheVariants.{Ended, OutOfRange, Memory}
 use Rattle.ptb_answers.specs.Outcome.{Answers, Outcome, Asks, Out, is_answer}
@@ -40,7 +41,8 @@ pub record AnswerList : Type 0 where
 abbrev pub choices_of : AnswerList → Choices
 choices_of l = record { plan = l.answers; taken = take l.given l.answers; kept = None }
 
--- why a list of answers, of which some were given, refuses one: it is used up, or its next answer isn't one; never for want of memory
+-- why a list of answers, of which some were given, refuses one: it is used up, or its next answer isn't one; never
+-- for want of memory
 abbrev pub RefusedByList : List ℤ → ℕ → Pause → ℤ → Type 0
 RefusedByList answers given Ended n = given ≡ length answers
 RefusedByList answers given (OutOfRange g) n = (slice_get answers given ≡ Some g) × (is_answer n g ≡ false)

@@ -21,15 +21,18 @@ to_question answers (Done x rest) = []
 to_question answers (Asks n w) = answers n
 to_question answers (Out n w) = []
 
--- the question that f leaves open is answered by the next word, and so are those that f asks after this answer, at most so many
+-- the question that f leaves open is answered by the next word, and so are those that f asks after this answer, at
+-- most so many
 abbrev pub answers_by : {A W : Type 0} → ℕ → Lcg → (Answers → Outcome A W) → Answers
 answers_by zero g f = []
 answers_by (suc most) g f =
-    to_question (λ n. drawn_answer (pcg32 g).0 n ∷ answers_by most (pcg32 g).1 (λ a. f (drawn_answer (pcg32 g).0 n ∷ a))) (f [])
+    to_question
+    (λ n. drawn_answer (pcg32 g).0 n ∷ answers_by most (pcg32 g).1 (λ a. f (drawn_answer (pcg32 g).0 n ∷ a))) (f [])
 
 -- ---- one after the other
 
 -- each run has the words that the runs before it left: one word for each answer
 abbrev pub sampled_runs : {A W : Type 0} → ℕ → (Answers → Outcome A W) → Lcg → ℕ → List Answers
 sampled_runs most play g zero = []
-sampled_runs most play g (suc n) = answers_by most g play ∷ sampled_runs most play (generator_after g (length (answers_by most g play))) n
+sampled_runs most play g (suc n) =
+    answers_by most g play ∷ sampled_runs most play (generator_after g (length (answers_by most g play))) n

@@ -5,7 +5,8 @@
 --     answer n w               takes an answer from 1 to n
 --     m >>= next               goes on with a value; a fault stays what it is
 --     IsReader f most          the laws of what takes answers one by one, at most so many
-use Rattle.std.specs.Prelude.{◌≡◌, ℕ, ◌+◌, ◌<◌, ◌≤◌, Bool, true, false, ◌&&◌, List, [], ◌∷◌, ◌++◌, length, ℤ, pos, ◌≤ℤ◌, int_le, Result, Ok, Err, if◌then◌else◌}
+use Rattle.std.specs.Prelude.{◌≡◌, ℕ, ◌+◌, ◌<◌, ◌≤◌, Bool, true, false, ◌&&◌, List, [], ◌∷◌, ◌++◌}
+use Rattle.std.specs.Prelude.{length, ℤ, pos, ◌≤ℤ◌, int_le, Result, Ok, Err, if◌then◌else◌}
 
 abbrev pub Answers : Type 0
 Answers = List ℤ
@@ -32,7 +33,8 @@ map_outcome f g (Asks n w) = Asks n (g w)
 map_outcome f g (Out n w) = Out n (g w)
 
 -- an error stops what comes after it
-abbrev pub unless_error : {A B E W : Type 0} → (A → Answers → Outcome (Result B E) W) → Result A E → Answers → Outcome (Result B E) W
+abbrev pub unless_error : {A B E W : Type 0} → (A → Answers → Outcome (Result B E) W) → Result A E → Answers
+    → Outcome (Result B E) W
 unless_error next (Ok x) rest = next x rest
 unless_error next (Err e) rest = Done (Err e) rest
 
@@ -94,7 +96,8 @@ pub record IsReader {A W : Type 0} (f : Answers → Outcome A W) (most : ℕ) : 
   pub begins : is_open (f []) ≡ true
   pub done : (q b rest : Answers) (x : A) → f q ≡ Done x rest → f (q ++ b) ≡ Done x (rest ++ b)
   pub out : (q b : Answers) (n : ℤ) (w : W) → f q ≡ Out n w → f (q ++ b) ≡ Out n w
-  pub inside : (q : Answers) (n k : ℤ) (w : W) → f q ≡ Asks n w → is_answer n k ≡ true → is_open (f (q ++ k ∷ [])) ≡ true
+  pub inside : (q : Answers) (n k : ℤ) (w : W) → f q ≡ Asks n w → is_answer n k ≡ true
+      → is_open (f (q ++ k ∷ [])) ≡ true
   pub outside : (q : Answers) (n k : ℤ) (w : W) → f q ≡ Asks n w → is_answer n k ≡ false → f (q ++ k ∷ []) ≡ Out n w
   pub positive : (q : Answers) (n : ℤ) (w : W) → f q ≡ Asks n w → pos 1 ≤ℤ n
   pub few : (q : Answers) (n : ℤ) (w : W) → f q ≡ Asks n w → length q < most

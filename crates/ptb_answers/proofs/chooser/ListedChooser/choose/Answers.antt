@@ -3,7 +3,8 @@ use Rattle.std.proofs.Common.{FitsSigned, arith, get_or, of_z, pos, refl, rules,
 use Rattle.std.proofs.lemmas.Grind.{common_steps}
 use Rattle.ptb_answers.proofs.Refusing.{next_is, too_high, too_low}
 use Rattle.ptb_answers.proofs.chooser.ListedChooser.choose.Goals as goal
-use Rattle.ptb_answers.proofs.chooser.ListedChooser.choose.Goals.{then-answer-lt1-via-then-answer-lt1, then-answer-lt1-via-else-answer-lt1+then-answer-bound}
+use Rattle.ptb_answers.proofs.chooser.ListedChooser.choose.Goals.{then-answer-lt1-via-then-answer-lt1}
+use Rattle.ptb_answers.proofs.chooser.ListedChooser.choose.Goals.{then-answer-lt1-via-else-answer-lt1+then-answer-bound}
 
 pub returns-then-self-clause-refused : goal.returns-then-self-clause-refused
 returns-then-self-clause-refused c = search rules fits 50 depth 2
@@ -28,7 +29,8 @@ returns-then-answer-lt1-clause-outside c =
     let answer = to_z w16 (of_z w16 (get_or c.self.inside.answers.now c.self.inside.given (pos 0))) in
     elim c.then-answer-lt1.branch [
       | then-answer-lt1-via-then-answer-lt1 w ↦ too_low c.args.bound answer w.if-answer-lt1.true
-      | then-answer-lt1-via-else-answer-lt1+then-answer-bound w ↦ too_high c.args.bound answer c.ranges.bound w.if-answer-bound.true
+      | then-answer-lt1-via-else-answer-lt1+then-answer-bound w ↦
+          too_high c.args.bound answer c.ranges.bound w.if-answer-bound.true
     ]
 
 pub returns-then-answer-lt1-clause-refused : goal.returns-then-answer-lt1-clause-refused
