@@ -1,6 +1,8 @@
 -- This file joins what is known of the request that the arguments make, or of why there is none.
 -- Main lemmas: `decided_list` and `decided_clash`.
-use Rattle.std.proofs.Common.{◌≡◌, ◌∙◌, ◌≤◌, ◌≤ℤ◌, ℕ, pos, List, [], ◌∷◌, Bool, true, false, Option, Some, None, Result, Err, IfErr, IfOk, IfSome, ap, arith, refl, subst, sym}
+use Rattle.std.proofs.Common.{◌≡◌, ◌∙◌, ◌≤◌, ◌≤ℤ◌, ℕ, pos, List, [], ◌∷◌, Bool, true, false, Option}
+use Rattle.std.proofs.Common.{Some, None, Result, Err, IfErr, IfOk, IfSome, ap, arith, refl, subst}
+use Rattle.std.proofs.Common.{sym}
 use Rattle.std.specs.Prelude.{option_map, unwrap_or}
 use Rattle.std.specs.List.{list_all}
 use Rattle.std.specs.Option.{ForSome}
@@ -16,7 +18,9 @@ use Rattle.ptb_options.specs.declared.request.Mode.{Mode}
 use Rattle.ptb_options.specs.declared.request.Request.{Request}
 use Rattle.ptb_options.specs.declared.usage.UsageFault.{UsageFault}
 use Rattle.ptb_options.specs.declared.usage.UsageFault.TheVariants.{BadList, Memory}
-use Rattle.ptb_options.specs.Options.{Asks, AsksMode, HasBound, HasMemorySize, IsFirstMisspelled, Options, Refuses, WantsMemory, clash, clashes, first_fault, IsRulesOf, default_memory, default_steps, usage_fault}
+use Rattle.ptb_options.specs.Options.{Asks, AsksMode, HasBound, HasMemorySize, IsFirstMisspelled}
+use Rattle.ptb_options.specs.Options.{Options, Refuses, WantsMemory, clash, clashes, first_fault}
+use Rattle.ptb_options.specs.Options.{IsRulesOf, default_memory, default_steps, usage_fault}
 use Rattle.ptb_options.proofs.ListsKept.{first_misspelled}
 
 -- ---- options that clash
@@ -27,7 +31,8 @@ is_clash Memory = false
 is_clash fault = true
 
 -- the fault of a table is that of one of its rows
-in_table : (rows : List (Bool × UsageFault)) (fault : UsageFault) → list_all (λ row. is_clash row.1) rows ≡ true → first_fault rows ≡ Some fault → is_clash fault ≡ true
+in_table : (rows : List (Bool × UsageFault)) (fault : UsageFault) → list_all (λ row. is_clash row.1) rows ≡ true
+    → first_fault rows ≡ Some fault → is_clash fault ≡ true
 in_table [] fault each found = absurd (cc)
 in_table ((true, kept) ∷ rows) fault each found =
     let same : kept ≡ fault = cc in
@@ -43,12 +48,14 @@ Refuses-clash o Memory e = absurd (false≢true (in_table (clashes o) Memory ref
 Refuses-clash o fault e = e
 
 -- the size that is given, or the default
-pub size_of : (kept : Option ℕ) (memory : ℕ) → ForSome kept IsMemorySize → memory ≡ unwrap_or kept 4096 → IsMemorySize memory
+pub size_of : (kept : Option ℕ) (memory : ℕ) → ForSome kept IsMemorySize → memory ≡ unwrap_or kept 4096
+    → IsMemorySize memory
 size_of None memory h is = subst IsMemorySize (sym is) (omega arith, omega arith)
 size_of (Some n) memory h is = subst IsMemorySize (sym is) (h n refl)
 
 -- a bound that is given is at least 1
-pub bound_in_range : (choose : Option ℕ) → ForSome choose (λ n. (1 ≤ n) × (n ≤ 32767)) → IfSome (option_map pos choose) (λ n. pos 1 ≤ℤ n)
+pub bound_in_range : (choose : Option ℕ) → ForSome choose (λ n. (1 ≤ n) × (n ≤ 32767))
+    → IfSome (option_map pos choose) (λ n. pos 1 ≤ℤ n)
 bound_in_range None h = tt
 bound_in_range (Some n) h = let least = (h n refl).0 in omega (arith, ints)
 
@@ -58,7 +65,8 @@ rules_of o positive = record { limit = unwrap_or o.steps default_steps; choose =
 
 -- o are the options of the command line, and l is how the code has them
 module _ (o l : Options) (same : l ≡ o) where
-  pub sized : HasMemorySize o → (kept : Option ℕ) (memory : ℕ) → kept ≡ l.memory → memory ≡ unwrap_or kept 4096 → IsMemorySize memory
+  pub sized : HasMemorySize o → (kept : Option ℕ) (memory : ℕ) → kept ≡ l.memory → memory ≡ unwrap_or kept 4096
+      → IsMemorySize memory
   sized size kept memory given held =
       let there : kept ≡ o.memory = given ∙ ap (λ (x : Options). x.memory) same in
       size_of kept memory (subst (λ (k : Option ℕ). ForSome k IsMemorySize) (sym there) size) held
@@ -72,7 +80,8 @@ module _ (o l : Options) (same : l ≡ o) where
   refused fault h = record { ok = tt; fault = subst (λ (x : Options). Refuses x fault) same h }
 
   -- they clash
-  pub decided_clash : (found : Option UsageFault) (fault : UsageFault) → found ≡ clash l → found ≡ Some fault → IsDecided (Err fault)
+  pub decided_clash : (found : Option UsageFault) (fault : UsageFault) → found ≡ clash l → found ≡ Some fault
+      → IsDecided (Err fault)
   decided_clash found fault told is = refused fault (Refuses-clash l fault (sym told ∙ is))
 
   -- they don't
@@ -85,7 +94,8 @@ module _ (o l : Options) (same : l ≡ o) where
     decided_misspelled m h = refused BadList (unclashed, (m.option, first_misspelled l m h))
 
     -- memory is wanted for the items of a list
-    pub decided_list : HasMemorySize o → HasBound o → (result : Result Request UsageFault) (fault : ListFault) → IsErrAnd result (λ y. y ≡ usage_fault fault) → WantsMemory l fault → IsDecided result
+    pub decided_list : HasMemorySize o → HasBound o → (result : Result Request UsageFault) (fault : ListFault)
+        → IsErrAnd result (λ y. y ≡ usage_fault fault) → WantsMemory l fault → IsDecided result
     decided_list size positive result fault is h =
         let e = err_from_is_err_and result is in
         let wanted : Refuses l Memory = (
@@ -97,7 +107,8 @@ module _ (o l : Options) (same : l ≡ o) where
         subst IsDecided (sym (e.1 ∙ ap Err (e.2 ∙ ap usage_fault h.0))) (refused Memory wanted)
 
     -- nothing is
-    pub asked : (kept : Option ℕ) (rules : Rules) (memory : ℕ) (mode : Mode) (size : IsMemorySize memory) → kept ≡ l.memory → IsRulesOf l rules → memory ≡ unwrap_or kept 4096 → AsksMode l mode
+    pub asked : (kept : Option ℕ) (rules : Rules) (memory : ℕ) (mode : Mode) (size : IsMemorySize memory)
+        → kept ≡ l.memory → IsRulesOf l rules → memory ≡ unwrap_or kept 4096 → AsksMode l mode
         → Asks o (record { rules = rules; memory = memory; mode = mode; in_range = size })
     asked kept rules memory mode size given ruled held by_mode =
         subst (λ (x : Options). Asks x (record { rules = rules; memory = memory; mode = mode; in_range = size })) same

@@ -1,6 +1,7 @@
 -- This file proves what the ways out of reading an item tell, from what its reader knows of each step.
 -- Main lemmas: `number_only` and `both`.
-use Rattle.std.proofs.Common.{◌≡◌, ◌∙◌, ap, ap₂, sym, arith, List, ℕ, ℤ, Option, Some, None, FitsSigned, of_z, subst, to_z, to_z-of_z, w16}
+use Rattle.std.proofs.Common.{◌≡◌, ◌∙◌, ap, ap₂, sym, arith, List, ℕ, ℤ, Option, Some, None}
+use Rattle.std.proofs.Common.{FitsSigned, of_z, subst, to_z, to_z-of_z, w16}
 use Rattle.std.specs.Borrow.{Bor}
 use Rattle.std.proofs.lemmas.Int.{ints}
 use Rattle.std.proofs.lemmas.Str.Pattern.{IsSplitOnceResult, split_parts}
@@ -23,7 +24,8 @@ some_number k j e = cc
 
 -- the word has no `/`
 module _ (word : List ℕ) (cut : IsSplitOnceResult 47 word None) where
-  pub no_number : {X : Type 0} (m : Marked) → SpellsItem word m → ((k : ℤ) → SpellsNumber word k → ◌≡◌ {A = Option ℤ} None (Some k)) → X
+  pub no_number : {X : Type 0} (m : Marked) → SpellsItem word m
+      → ((k : ℤ) → SpellsNumber word k → ◌≡◌ {A = Option ℤ} None (Some k)) → X
   no_number m h only =
       let number = item_is_number word m (split_parts 47 word None cut (omega arith)) h in
       none_is_some m.answer (only m.answer number.0)
@@ -31,22 +33,27 @@ module _ (word : List ℕ) (cut : IsSplitOnceResult 47 word None) where
   pub number_alone : (k : ℤ) → SpellsNumber word k → SpellsItem word (without_bound (to_z w16 (of_z w16 k)))
   number_alone k h = subst (λ (j : ℤ). SpellsItem word (without_bound j)) (sym (kept k h.0)) (item_of_number word k h)
 
-  pub number_only : (k : ℤ) → SpellsNumber word k → (m : Marked) → SpellsItem word m → ((j : ℤ) → SpellsNumber word j → Some k ≡ Some j) → Some (without_bound (to_z w16 (of_z w16 k))) ≡ Some m
+  pub number_only : (k : ℤ) → SpellsNumber word k → (m : Marked) → SpellsItem word m
+      → ((j : ℤ) → SpellsNumber word j → Some k ≡ Some j) → Some (without_bound (to_z w16 (of_z w16 k))) ≡ Some m
   number_only k spells m h only =
       let number = item_is_number word m (split_parts 47 word None cut (omega arith)) h in
-      ap (λ (j : ℤ). Some (without_bound j)) (kept k spells.0 ∙ some_number k m.answer (only m.answer number.0)) ∙ ap Some (sym number.1)
+      ap (λ (j : ℤ). Some (without_bound j)) (kept k spells.0 ∙ some_number k m.answer (only m.answer number.0))
+      ∙ ap Some (sym number.1)
 
 -- it is cut there into a text and another
 module _ (word : List ℕ) (a b : Bor (List ℕ)) (cut : IsSplitOnceResult 47 word (Some (a, b))) where
-  numbers : (m : Marked) → SpellsItem word m → (n : ℤ) × SpellsNumber a.now m.answer × SpellsNumber b.now n × (m ≡ with_bound m.answer n)
+  numbers : (m : Marked) → SpellsItem word m
+      → (n : ℤ) × SpellsNumber a.now m.answer × SpellsNumber b.now n × (m ≡ with_bound m.answer n)
   numbers m h =
       let parts = split_parts 47 word (Some (a, b)) cut (omega arith) in
       item_is_numbers word a.now b.now m parts.0 parts.1 h
 
-  pub no_answer : {X : Type 0} (m : Marked) → SpellsItem word m → ((k : ℤ) → SpellsNumber a.now k → ◌≡◌ {A = Option ℤ} None (Some k)) → X
+  pub no_answer : {X : Type 0} (m : Marked) → SpellsItem word m
+      → ((k : ℤ) → SpellsNumber a.now k → ◌≡◌ {A = Option ℤ} None (Some k)) → X
   no_answer m h only = none_is_some m.answer (only m.answer (numbers m h).1)
 
-  pub no_bound : {X : Type 0} (m : Marked) → SpellsItem word m → ((k : ℤ) → SpellsNumber b.now k → ◌≡◌ {A = Option ℤ} None (Some k)) → X
+  pub no_bound : {X : Type 0} (m : Marked) → SpellsItem word m
+      → ((k : ℤ) → SpellsNumber b.now k → ◌≡◌ {A = Option ℤ} None (Some k)) → X
   no_bound m h only = let n = numbers m h in none_is_some n.0 (only n.0 n.2)
 
   module _ (k n : ℤ) (answer : SpellsNumber a.now k) (bound : SpellsNumber b.now n) where
@@ -56,8 +63,10 @@ module _ (word : List ℕ) (a b : Bor (List ℕ)) (cut : IsSplitOnceResult 47 wo
         subst (λ (j : ℤ). SpellsItem word (with_bound (to_z w16 (of_z w16 k)) j)) (sym (kept n bound.0))
         (subst (λ (j : ℤ). SpellsItem word (with_bound j n)) (sym (kept k answer.0)) (item_of_numbers word a.now b.now k n parts.0 answer bound))
 
-    pub both_only : (m : Marked) → SpellsItem word m → ((j : ℤ) → SpellsNumber a.now j → Some k ≡ Some j) → ((j : ℤ) → SpellsNumber b.now j → Some n ≡ Some j)
+    pub both_only : (m : Marked) → SpellsItem word m → ((j : ℤ) → SpellsNumber a.now j → Some k ≡ Some j)
+        → ((j : ℤ) → SpellsNumber b.now j → Some n ≡ Some j)
         → Some (with_bound (to_z w16 (of_z w16 k)) (to_z w16 (of_z w16 n))) ≡ Some m
     both_only m h first second =
         let found = numbers m h in
-        ap₂ (λ (i j : ℤ). Some (with_bound i j)) (kept k answer.0 ∙ some_number k m.answer (first m.answer found.1)) (kept n bound.0 ∙ some_number n found.0 (second found.0 found.2)) ∙ ap Some (sym found.3)
+        ap₂ (λ (i j : ℤ). Some (with_bound i j)) (kept k answer.0 ∙ some_number k m.answer (first m.answer found.1))
+        (kept n bound.0 ∙ some_number n found.0 (second found.0 found.2)) ∙ ap Some (sym found.3)

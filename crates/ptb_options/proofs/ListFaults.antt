@@ -1,6 +1,8 @@
 -- This file proves whether a text spells a list, by its items.
 -- Main lemmas: `list_of_items` and `mistake_at`.
-use Rattle.std.proofs.Common.{◌≡◌, ◌≢◌, ◌∙◌, ap, sym, subst, refl, ℕ, ◌+◌, ◌<◌, Bool, false, true, IfSome, List, [], ◌∷◌, ◌++◌, length, get_or, take, drop, map, take-append-drop, drop-cons, add-one, ℤ, Option, Some, None}
+use Rattle.std.proofs.Common.{◌≡◌, ◌≢◌, ◌∙◌, ap, sym, subst, refl, ℕ, ◌+◌, ◌<◌, Bool, false, true}
+use Rattle.std.proofs.Common.{IfSome, List, [], ◌∷◌, ◌++◌, length, get_or, take, drop, map}
+use Rattle.std.proofs.Common.{take-append-drop, drop-cons, add-one, ℤ, Option, Some, None}
 use Rattle.std.specs.Prelude.{All, codes, is_some, IsSome}
 use Rattle.std.proofs.lemmas.Bool.{false≢true}
 use Rattle.std.proofs.lemmas.List.{length-map, map-append}
@@ -30,7 +32,8 @@ bound_is m k e has = false≢true (sym (ap (λ (j : Marked). is_some j.bound) e)
 -- an item with its bound, where it may have none
 pub marked_item : (w : List ℕ) (m : Marked) → SpellsItem w m → IsSome m.bound → IsFault Refused w HasBound
 marked_item w m spells has = record {
-  refused = λ item. bound_is m item.0 (one_item m (without_bound item.0) spells.0 item.1.0 (spells.1 ∙ sym item.1.1)) has;
+  refused =
+      λ item. bound_is m item.0 (one_item m (without_bound item.0) spells.0 item.1.0 (spells.1 ∙ sym item.1.1)) has;
   why = (m, spells, has);
 }
 
@@ -40,7 +43,8 @@ record IsGathered (ws : List (List ℕ)) (list : List Marked) : Type 0 where
   each : All IsItem list
   words : ws ≡ map item_text list
 
-gathered_more : (w : List ℕ) (m : Marked) (ws : List (List ℕ)) (list : List Marked) → SpellsItem w m → IsGathered ws list → IsGathered (w ∷ ws) (m ∷ list)
+gathered_more : (w : List ℕ) (m : Marked) (ws : List (List ℕ)) (list : List Marked) → SpellsItem w m
+    → IsGathered ws list → IsGathered (w ∷ ws) (m ∷ list)
 gathered_more w m ws list spells rest = record {
   each = All-cons IsItem m list spells.0 rest.each;
   words = ap (λ (v : List ℕ). v ∷ ws) (sym spells.1) ∙ ap (λ (vs : List (List ℕ)). item_text m ∷ vs) rest.words;
@@ -68,14 +72,18 @@ list_of_items Refused s each =
     (found.0, list_of_words s (unmarked found.0) found.1.each found.1.words)
 
 -- and one of which a piece is none doesn't
-pub no_list : (bounds : Bounds) (s : List ℕ) (i : ℕ) (w : List ℕ) → s ≢ codes "none" → i < length (pieces s) → w ≡ get_or (pieces s) i w → (IsItemOf bounds w → ⊥) → IsListOf bounds s → ⊥
+pub no_list : (bounds : Bounds) (s : List ℕ) (i : ℕ) (w : List ℕ) → s ≢ codes "none" → i < length (pieces s)
+    → w ≡ get_or (pieces s) i w → (IsItemOf bounds w → ⊥) → IsListOf bounds s → ⊥
 no_list Allowed s i w some within at refused list = refused (word_of_list s list.0 i w some list.1 within at)
-no_list Refused s i w some within at refused list = refused (word_of_items without_bound s list.0 i w some list.1 within at)
+no_list Refused s i w some within at refused list =
+    refused (word_of_items without_bound s list.0 i w some list.1 within at)
 
 -- the place of a piece among all of a text
-pub place_of : (all front : List (List ℕ)) (i : ℕ) (w : List ℕ) → front ≡ take i all → i < length all → w ≡ get_or all i w → all ≡ front ++ w ∷ drop (i + 1) all
+pub place_of : (all front : List (List ℕ)) (i : ℕ) (w : List ℕ) → front ≡ take i all → i < length all
+    → w ≡ get_or all i w → all ≡ front ++ w ∷ drop (i + 1) all
 place_of all front i w so_far within at =
-    sym (take-append-drop i all) ∙ ap (λ (xs : List (List ℕ)). take i all ++ xs) (drop_at_one ∙ ap (λ (v : List ℕ). v ∷ drop (i + 1) all) (sym at))
+    sym (take-append-drop i all)
+    ∙ ap (λ (xs : List (List ℕ)). take i all ++ xs) (drop_at_one ∙ ap (λ (v : List ℕ). v ∷ drop (i + 1) all) (sym at))
     ∙ ap (λ (xs : List (List ℕ)). xs ++ w ∷ drop (i + 1) all) (sym so_far)
   where
     drop_at_one : drop i all ≡ get_or all i w ∷ drop (i + 1) all
@@ -87,15 +95,21 @@ none_is_list_of Allowed s empty = ([], empty)
 none_is_list_of Refused s empty = ([], empty)
 
 -- one more item
-pub items_more : (bounds : Bounds) (ys : List (Bor (List ℕ))) (w : Bor (List ℕ)) → All (IsItemOf bounds) (map (λ v. v.now) ys) → IsItemOf bounds w.now
+pub items_more : (bounds : Bounds) (ys : List (Bor (List ℕ))) (w : Bor (List ℕ))
+    → All (IsItemOf bounds) (map (λ v. v.now) ys) → IsItemOf bounds w.now
     → All (IsItemOf bounds) (map (λ v. v.now) (ys ++ w ∷ []))
 items_more bounds ys w each item =
-    subst (All (IsItemOf bounds)) (sym (map-append (λ (v : Bor (List ℕ)). v.now) ys (w ∷ []))) (All-push (IsItemOf bounds) (map (λ v. v.now) ys) w.now each item)
+    subst (All (IsItemOf bounds)) (sym (map-append (λ (v : Bor (List ℕ)). v.now) ys (w ∷ [])))
+    (All-push (IsItemOf bounds) (map (λ v. v.now) ys) w.now each item)
 
 -- the first faulty item, after items that are right
-pub mistake_at : (bounds : Bounds) (s : List ℕ) (ys : List (Bor (List ℕ))) (w : Bor (List ℕ)) (n : ℕ) (fault : ItemFault) → s ≢ codes "none"
-    → map (λ v. v.now) ys ≡ take (length ys) (pieces s) → length ys < length (pieces s) → w.now ≡ get_or (pieces s) (length ys) w.now
-    → All (IsItemOf bounds) (map (λ v. v.now) ys) → n ≡ length ys → IsFault bounds w.now fault → IsMistakeOf bounds s (record { item = n + 1; text = w; fault = fault })
+pub mistake_at : (bounds : Bounds) (s : List ℕ) (ys : List (Bor (List ℕ))) (w : Bor (List ℕ)) (n : ℕ)
+    (fault : ItemFault)
+    → s ≢ codes "none"
+    → map (λ v. v.now) ys ≡ take (length ys) (pieces s) → length ys < length (pieces s)
+    → w.now ≡ get_or (pieces s) (length ys) w.now
+    → All (IsItemOf bounds) (map (λ v. v.now) ys) → n ≡ length ys → IsFault bounds w.now fault
+    → IsMistakeOf bounds s (record { item = n + 1; text = w; fault = fault })
 mistake_at bounds s ys w n fault some so_far within at each counted faulty = record {
   not_list = no_list bounds s (length ys) w.now some within at faulty.refused;
   before = map (λ v. v.now) ys;
@@ -111,6 +125,7 @@ pub none_found : (found : Option Mistake) (b : Bool) → b ≡ is_some found →
 none_found None b told is = refl
 none_found (Some m) b told is = absurd (false≢true (sym is ∙ told))
 
-pub found_is_none : (bounds : Bounds) (s : List ℕ) (found : Option Mistake) (b : Bool) → b ≡ is_some found → b ≡ true → IfSome found (IsMistakeOf bounds s) → IsListOf bounds s → ⊥
+pub found_is_none : (bounds : Bounds) (s : List ℕ) (found : Option Mistake) (b : Bool) → b ≡ is_some found → b ≡ true
+    → IfSome found (IsMistakeOf bounds s) → IsListOf bounds s → ⊥
 found_is_none bounds s None b told is h = absurd (false≢true (sym told ∙ is))
 found_is_none bounds s (Some m) b told is h = h.not_list

@@ -27,21 +27,26 @@ pub read_is_memory : {T X : Type 0} (x : T) → ◌≡◌ {A = Result T ListFaul
 read_is_memory x e = absurd (cc)
 
 -- and a refused one is none
-pub refused_is_read : {T : Type 0} (P : T → Type 0) (r : Result T ListFault) (fault : ListFault) → IsErrAnd r (λ y. y ≡ fault) → IfOk r P
+pub refused_is_read : {T : Type 0} (P : T → Type 0) (r : Result T ListFault) (fault : ListFault)
+    → IsErrAnd r (λ y. y ≡ fault) → IfOk r P
 refused_is_read P (Ok x) fault is = absurd is
 refused_is_read P (Err other) fault is = tt
 
 -- a fault that is passed on
-pub passed_on : {T U : Type 0} (r : Result T ListFault) (fault kind : ListFault) → IsErrAnd r (λ y. y ≡ fault) → r ≡ Err kind → ◌≡◌ {A = Result U ListFault} (Err fault) (Err kind)
+pub passed_on : {T U : Type 0} (r : Result T ListFault) (fault kind : ListFault) → IsErrAnd r (λ y. y ≡ fault)
+    → r ≡ Err kind → ◌≡◌ {A = Result U ListFault} (Err fault) (Err kind)
 passed_on (Ok x) fault kind is e = absurd is
 passed_on (Err other) fault kind is e = let same : other ≡ kind = cc in ap Err (sym is ∙ same)
 
-pub none_spelled : (text : List ℕ) (same : Bool) → same ≡ pointwise nat_eq text (codes "none") → same ≡ true → SpellsList text []
+pub none_spelled : (text : List ℕ) (same : Bool) → same ≡ pointwise nat_eq text (codes "none") → same ≡ true
+    → SpellsList text []
 none_spelled text same told is = (All-nil IsItem, sym ((bytes_eq-Decides text (codes "none")).0 (sym told ∙ is)))
 
 -- `none` has no items
-pub none_is_items : {X : Type 0} (f : X → Marked) (text : List ℕ) (same : Bool) (xs : List X) → same ≡ pointwise nat_eq text (codes "none") → same ≡ true → xs ≡ [] → SpellsList text (map f xs)
-none_is_items {X} f text same xs told is empty = subst (λ (ys : List X). SpellsList text (map f ys)) (sym empty) (none_spelled text same told is)
+pub none_is_items : {X : Type 0} (f : X → Marked) (text : List ℕ) (same : Bool) (xs : List X)
+    → same ≡ pointwise nat_eq text (codes "none") → same ≡ true → xs ≡ [] → SpellsList text (map f xs)
+none_is_items {X} f text same xs told is empty =
+    subst (λ (ys : List X). SpellsList text (map f ys)) (sym empty) (none_spelled text same told is)
 
 -- a list whose text is not `none` has items
 pub has_items : (text : List ℕ) (list : List Marked) → text ≢ codes "none" → SpellsList text list → list ≢ []
@@ -51,5 +56,6 @@ pub has_answers : (text : List ℕ) (a : List ℤ) → text ≢ codes "none" →
 has_answers text a some spells e = has_items text (unmarked a) some spells (ap unmarked e)
 
 -- a text that differs from `none`
-pub some_text : (text : List ℕ) (same : Bool) → same ≡ pointwise nat_eq text (codes "none") → same ≡ false → text ≢ codes "none"
+pub some_text : (text : List ℕ) (same : Bool) → same ≡ pointwise nat_eq text (codes "none") → same ≡ false
+    → text ≢ codes "none"
 some_text text same told is e = false≢true (sym is ∙ told ∙ ap (λ (t : List ℕ). pointwise nat_eq t (codes "none")) e)

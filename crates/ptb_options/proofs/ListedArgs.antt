@@ -27,7 +27,9 @@ module _ (b : Arg) (name : Bor (List ℕ)) (kind : ArgKind) (named : rule_of b �
     -- without a value
     pub flag_rule : (e : Arg) → e ≡ record d { action = Some SetTrue } → kind ≡ kinds.Flag → IsRule e
     flag_rule e acts is = record {
-      rule = ap rule_of acts ∙ ap (λ (r : Rule). record r { action = Some SetTrue }) long_rule ∙ ap (rule_by name.now) (sym is);
+      rule =
+          ap rule_of acts ∙ ap (λ (r : Rule). record r { action = Some SetTrue }) long_rule
+          ∙ ap (rule_by name.now) (sym is);
       local = ap (λ (x : Arg). x.global) acts ∙ local_d;
     }
 
@@ -42,14 +44,18 @@ module _ (b : Arg) (name : Bor (List ℕ)) (kind : ArgKind) (named : rule_of b �
       pub text_rule : kind ≡ kinds.List → IsRule e
       text_rule is = record { rule = text_rule_by ∙ ap (rule_by name.now) (sym is); local = local_e }
 
-      pub number_rule : (f : Arg) (parser : ValueParser) → f ≡ record e { value_parser = f.value_parser } → f.value_parser ≡ Some parser → kind ≡ kinds.Number parser → IsRule f
+      pub number_rule : (f : Arg) (parser : ValueParser) → f ≡ record e { value_parser = f.value_parser }
+          → f.value_parser ≡ Some parser → kind ≡ kinds.Number parser → IsRule f
       number_rule f parser others given is = record {
-        rule = ap rule_of others ∙ ap₂ (λ (r : Rule) (o : Option ValueParser). record r { parser = o }) text_rule_by given ∙ ap (rule_by name.now) (sym is);
+        rule =
+            ap rule_of others ∙ ap₂ (λ (r : Rule) (o : Option ValueParser). record r { parser = o }) text_rule_by given
+            ∙ ap (rule_by name.now) (sym is);
         local = ap (λ (x : Arg). x.global) others ∙ local_e;
       }
 
   -- it is none
-  pub operand_rule : (d : Arg) → rule_of d ≡ record (rule_of b) { value_names = 1 } → d.global ≡ b.global → kind ≡ kinds.Operand → IsRule d
+  pub operand_rule : (d : Arg) → rule_of d ≡ record (rule_of b) { value_names = 1 } → d.global ≡ b.global
+      → kind ≡ kinds.Operand → IsRule d
   operand_rule d valued same is = record {
     rule = valued ∙ ap (λ (r : Rule). record r { value_names = 1 }) named ∙ ap (rule_by name.now) (sym is);
     local = same ∙ local_b;

@@ -1,6 +1,7 @@
 -- This file proves that memory is wanted only for the items of a request's lists.
 -- Main lemmas: `answers_refused`, `under_refused` and `after_refused`.
-use Rattle.std.proofs.Common.{◌≡◌, ◌∙◌, ap, refl, subst, sym, inl, inr, Result, Err, IfErr, Bool, false, true, List, ℕ, Option, Some, None}
+use Rattle.std.proofs.Common.{◌≡◌, ◌∙◌, ap, refl, subst, sym, inl, inr, Result, Err, IfErr, Bool}
+use Rattle.std.proofs.Common.{false, true, List, ℕ, Option, Some, None}
 use Rattle.std.specs.Prelude.{IsSomeAnd, is_some}
 use Rattle.std.specs.Option.{ForSome}
 use Rattle.std.specs.Result.{IsErrAnd}
@@ -19,10 +20,13 @@ use Rattle.ptb_options.specs.declared.mistakes.Mistake.{Mistake}
 use Rattle.ptb_options.specs.declared.mistakes.MisspelledList.{MisspelledList}
 use Rattle.ptb_options.specs.declared.request.Mode.{Mode}
 use Rattle.ptb_options.specs.declared.request.Mode.TheVariants as modes
-use Rattle.ptb_options.specs.Options.{HasMistake, IsFirstMisspelled, IsMisspelledIn, IsSpelled, Options, RunsIt, RefusesAnswers, RefusesIfGiven, SpellsIfGiven, WantsMemory, bounds_in, form_of, text_of}
+use Rattle.ptb_options.specs.Options.{HasMistake, IsFirstMisspelled, IsMisspelledIn, IsSpelled}
+use Rattle.ptb_options.specs.Options.{Options, RunsIt, RefusesAnswers, RefusesIfGiven}
+use Rattle.ptb_options.specs.Options.{SpellsIfGiven, WantsMemory, bounds_in, form_of, text_of}
 
 -- a list with a mistake is none
-mistaken : (bounds : Bounds) (text : Option (List ℕ)) (m : Mistake) → HasMistake bounds text m → IsSomeAnd text (λ s. IsListOf bounds s → ⊥)
+mistaken : (bounds : Bounds) (text : Option (List ℕ)) (m : Mistake) → HasMistake bounds text m
+    → IsSomeAnd text (λ s. IsListOf bounds s → ⊥)
 mistaken bounds None m h = h
 mistaken bounds (Some s) m h = h.not_list
 
@@ -32,17 +36,21 @@ first_misspelled o m h = mistaken (bounds_in m.option) (text_of o m.option) m.mi
 -- o are the options, and v is how the code has them
 module _ (o v : Options) (same : v ≡ o) (under : ForSome v.under (IsListOf Allowed)) (m : Mistake) where
   pub after_is_first : HasMistake Allowed v.after m → IsFirstMisspelled o (record { option = After; mistake = m })
-  after_is_first h = subst (λ (z : Options). IsFirstMisspelled z (record { option = After; mistake = m })) same (under, h)
+  after_is_first h =
+      subst (λ (z : Options). IsFirstMisspelled z (record { option = After; mistake = m })) same (under, h)
 
-  pub answers_are_first : ForSome v.after (IsListOf Allowed) → HasMistake Refused v.answers m → IsFirstMisspelled o (record { option = Answers; mistake = m })
-  answers_are_first after h = subst (λ (z : Options). IsFirstMisspelled z (record { option = Answers; mistake = m })) same ((under, after), h)
+  pub answers_are_first : ForSome v.after (IsListOf Allowed) → HasMistake Refused v.answers m
+      → IsFirstMisspelled o (record { option = Answers; mistake = m })
+  answers_are_first after h =
+      subst (λ (z : Options). IsFirstMisspelled z (record { option = Answers; mistake = m })) same ((under, after), h)
 
 -- whether one was found
 pub no_list_found : (found : Option MisspelledList) (b : Bool) → b ≡ is_some found → b ≡ false → found ≡ None
 no_list_found None b told is = refl
 no_list_found (Some m) b told is = absurd (false≢true (sym is ∙ told))
 
-pub list_found : (found : Option MisspelledList) (b : Bool) → b ≡ is_some found → b ≡ true → (m : MisspelledList) × (found ≡ Some m)
+pub list_found : (found : Option MisspelledList) (b : Bool) → b ≡ is_some found → b ≡ true
+    → (m : MisspelledList) × (found ≡ Some m)
 list_found None b told is = absurd (false≢true (sym told ∙ is))
 list_found (Some m) b told is = (m, refl)
 
@@ -51,12 +59,14 @@ spelled_list : {X : Type 0} (text : Option (List ℕ)) → ForSome text (IsListO
 spelled_list None spelled bad = absurd bad
 spelled_list (Some s) spelled bad = let list = spelled s refl in absurd (bad list.0 list.1)
 
-spelled_answers : {X : Type 0} (text : Option (List ℕ)) → ForSome text (IsListOf Refused) → IsSomeAnd text HasNoAnswers → X
+spelled_answers : {X : Type 0} (text : Option (List ℕ)) → ForSome text (IsListOf Refused) → IsSomeAnd text HasNoAnswers
+    → X
 spelled_answers None spelled bad = absurd bad
 spelled_answers (Some s) spelled bad = let list = spelled s refl in absurd (bad list.0 list.1)
 
 -- a list that may be left out
-list_if_given : (text : Option (List ℕ)) → ForSome text (IsListOf Allowed) → (list : Option (List Marked)) × SpellsIfGiven text list
+list_if_given : (text : Option (List ℕ)) → ForSome text (IsListOf Allowed)
+    → (list : Option (List Marked)) × SpellsIfGiven text list
 list_if_given None spelled = (None, tt)
 list_if_given (Some s) spelled = let list = spelled s refl in (Some list.0, list.1)
 
@@ -68,7 +78,8 @@ module _ (o v : Options) (same : v ≡ o) (all_spelled : (x : ListOption) → Is
   refused : WantsMemory v fault → IfErr result (WantsMemory o)
   refused h =
       let e = err_from_is_err_and result is in
-      subst (λ (r : Result Mode ListFault). IfErr r (WantsMemory o)) (sym (e.1 ∙ ap Err e.2)) (subst (λ (z : Options). WantsMemory z fault) same h)
+      subst (λ (r : Result Mode ListFault). IfErr r (WantsMemory o)) (sym (e.1 ∙ ap Err e.2))
+      (subst (λ (z : Options). WantsMemory z fault) same h)
 
   wants_under : (f : ListFault) → v.all ≡ true → v.shares ≡ None → RefusesIfGiven v.under f → WantsMemory v f
   wants_under lists.Bad all unsplit h = spelled_list v.under (spelled Under) h

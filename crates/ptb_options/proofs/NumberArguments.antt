@@ -1,6 +1,8 @@
 -- This file proves which arguments are looked at for a wrong number.
 -- Main lemmas: `some_found` and `none_after`.
-use Rattle.std.proofs.Common.{◌≡◌, ◌≢◌, ◌∙◌, ap, sym, subst, refl, arith, inl, inr, Bool, true, false, leb, leb-true, leb-false, ℕ, ◌+◌, ◌<◌, ◌≤◌, below_more, List, [], length, Option, Some, None, IfSome}
+use Rattle.std.proofs.Common.{◌≡◌, ◌≢◌, ◌∙◌, ap, sym, subst, refl, arith, inl, inr, Bool, true}
+use Rattle.std.proofs.Common.{false, leb, leb-true, leb-false, ℕ, ◌+◌, ◌<◌, ◌≤◌, below_more, List}
+use Rattle.std.proofs.Common.{[], length, Option, Some, None, IfSome}
 use Rattle.std.specs.Prelude.{codes, is_some, nat_eq, slice_get}
 use lib.Pointwise.{pointwise}
 use Rattle.std.proofs.lemmas.Bool.{false≢true}
@@ -27,11 +29,13 @@ abbrev pub ArePassed : List (List ℕ) → ℕ → Type 0
 ArePassed words i = (j : ℕ) → j < i → 1 ≤ j → IsPassed words j
 
 -- no value of theirs is wrong
-pub none_before : (words : List (List ℕ)) (i : ℕ) → ArePassed words i → (place : ℕ) (w : WrongNumber) → place < i → IsWrongAt words place w → ⊥
+pub none_before : (words : List (List ℕ)) (i : ℕ) → ArePassed words i → (place : ℕ) (w : WrongNumber) → place < i
+    → IsWrongAt words place w → ⊥
 none_before words i passed place w below wrong = (passed place below wrong.may_be.after_name).right w wrong.value
 
 -- where an argument is `--`, none after it gives one
-none_at_dashes : (words : List (List ℕ)) (i : ℕ) → ArePassed words i → 1 ≤ i → slice_get words i ≡ Some dashes → HasNoWrongNumber words
+none_at_dashes : (words : List (List ℕ)) (i : ℕ) → ArePassed words i → 1 ≤ i → slice_get words i ≡ Some dashes
+    → HasNoWrongNumber words
 none_at_dashes words i passed low here place w wrong =
     let before : place < i → ⊥ = λ below. none_before words i passed place w below wrong in
     wrong.may_be.before_dashes i low (not_below before) here
@@ -40,7 +44,8 @@ none_at_dashes words i passed low here place w wrong =
     not_below h = omega arith
 
 -- an argument that is none gives none
-missing : (words : List (List ℕ)) (place : ℕ) (w : WrongNumber) → slice_get words place ≡ None → IsWrongValue (slice_get words place) (slice_get words (place + 1)) w → ⊥
+missing : (words : List (List ℕ)) (place : ℕ) (w : WrongNumber) → slice_get words place ≡ None
+    → IsWrongValue (slice_get words place) (slice_get words (place + 1)) w → ⊥
 missing words place w none wrong = elim wrong.given [
   | inl e ↦ none_is_some _ (sym none ∙ e)
   | inr e ↦ none_is_some _ (sym none ∙ e.0)
@@ -54,7 +59,8 @@ none_after words i passed all place w wrong = by_place (leb i place) refl where
   by_place false e = none_before words i passed place w (let below = leb-false _ _ e in omega arith) wrong
 
 -- each place below their number has one
-pub there_is : (words : List (List ℕ)) (i : ℕ) (found : Option (List ℕ)) → i < length words → found ≡ slice_get words i → found ≡ None → ⊥
+pub there_is : (words : List (List ℕ)) (i : ℕ) (found : Option (List ℕ)) → i < length words → found ≡ slice_get words i
+    → found ≡ None → ⊥
 there_is words i found within at none = none_is_some _ (sym none ∙ at ∙ slice_get-get_or words i [] within)
 
 -- what is found, and what is not
@@ -74,7 +80,8 @@ module _ (words : List (List ℕ)) (i : ℕ) (word : List ℕ) (found : Option (
 
   -- that is `--`
   pub dashes_here : 1 ≤ i → same ≡ true → HasNoWrongNumber words
-  dashes_here low equal = none_at_dashes words i passed low (here ∙ ap Some ((bytes_eq-Decides word dashes).0 (sym told ∙ equal)))
+  dashes_here low equal =
+      none_at_dashes words i passed low (here ∙ ap Some ((bytes_eq-Decides word dashes).0 (sym told ∙ equal)))
 
   -- that is not `--`
   module _ (not : same ≡ false) where
@@ -84,22 +91,28 @@ module _ (words : List (List ℕ)) (i : ℕ) (word : List ℕ) (found : Option (
         false≢true (sym not ∙ told ∙ ap (λ (t : List ℕ). pointwise nat_eq t dashes) its)
 
     before_more : (j : ℕ) → j < i + 1 → 1 ≤ j → slice_get words j ≢ Some dashes
-    before_more = below_more (λ (j : ℕ). 1 ≤ j → slice_get words j ≢ Some dashes) i (λ j below low. (passed j below low).other) (λ (_ : 1 ≤ i). other)
+    before_more =
+        below_more (λ (j : ℕ). 1 ≤ j → slice_get words j ≢ Some dashes) i (λ j below low. (passed j below low).other)
+        (λ (_ : 1 ≤ i). other)
 
     -- and gives no wrong value, so that one more is passed over
-    pub passed_more : (next : Option (List ℕ)) → next ≡ slice_get words (i + 1) → HasNoWrongValue (Some word) next → ArePassed words (i + 1)
+    pub passed_more : (next : Option (List ℕ)) → next ≡ slice_get words (i + 1) → HasNoWrongValue (Some word) next
+        → ArePassed words (i + 1)
     passed_more next follows right =
         below_more (λ (j : ℕ). 1 ≤ j → IsPassed words j) i passed
         (λ (_ : 1 ≤ i). record { other = other; right = subst (λ (o : Option (List ℕ)). HasNoWrongValue o (slice_get words (i + 1))) (sym here) (subst (HasNoWrongValue (Some word)) follows right) })
 
     -- or gives one, which is the first
-    pub wrong_here : (wrong : Option WrongNumber) (next : Option (List ℕ)) → 1 ≤ i → next ≡ slice_get words (i + 1) → IfSome wrong (IsWrongValue (Some word) next) → IfSome wrong (IsWrongNumber words)
+    pub wrong_here : (wrong : Option WrongNumber) (next : Option (List ℕ)) → 1 ≤ i → next ≡ slice_get words (i + 1)
+        → IfSome wrong (IsWrongValue (Some word) next) → IfSome wrong (IsWrongNumber words)
     wrong_here None next low follows h = tt
     wrong_here (Some w) next low follows h = record {
       place = i;
       is = record {
         may_be = record { after_name = low; before_dashes = λ j one le. before_more j (omega (arith, le)) one };
-        value = subst (λ (o : Option (List ℕ)). IsWrongValue o (slice_get words (i + 1)) w) (sym here) (subst (λ (o : Option (List ℕ)). IsWrongValue (Some word) o w) follows h);
+        value =
+            subst (λ (o : Option (List ℕ)). IsWrongValue o (slice_get words (i + 1)) w) (sym here)
+            (subst (λ (o : Option (List ℕ)). IsWrongValue (Some word) o w) follows h);
       };
       first = λ j v below wrong. none_before words i passed j v below wrong;
     }

@@ -1,6 +1,7 @@
 -- This file proves which of the tool's options with numbers an argument names.
 -- Main lemma: `unnamed_all`.
-use Rattle.std.proofs.Common.{◌≡◌, ◌∙◌, ap, sym, refl, arith, below_more, List, ℕ, ◌+◌, ◌<◌, ◌≤◌, length, get_or, map, take, Option, Some, None}
+use Rattle.std.proofs.Common.{◌≡◌, ◌∙◌, ap, sym, refl, arith, below_more, List, ℕ, ◌+◌, ◌<◌, ◌≤◌}
+use Rattle.std.proofs.Common.{length, get_or, map, take, Option, Some, None}
 use Rattle.std.proofs.lemmas.List.{get_or-map, length-map, take-map}
 use Rattle.clap.specs.declared.builder.ValueParser.{ValueParser}
 use Rattle.clap.specs.Words.{Rule}
@@ -13,18 +14,23 @@ use Rattle.ptb_options.specs.declared.wrong_numbers.NumberOption.{NumberOption}
 
 -- the argument doesn't name the option with a number whose rule is at this place
 abbrev pub IsUnnamedAt : List ℕ → ℕ → Type 0
-IsUnnamedAt word k = (o : NumberOption) → get_or rules k (number_option o.name.now o.range) ≡ number_option o.name.now o.range → word ≡ option_word o.name.now → ⊥
+IsUnnamedAt word k =
+    (o : NumberOption) → get_or rules k (number_option o.name.now o.range) ≡ number_option o.name.now o.range → word
+    ≡ option_word o.name.now → ⊥
 
 abbrev pub NamesNoneBefore : List ℕ → ℕ → Type 0
 NamesNoneBefore word i = (k : ℕ) → k < i → IsUnnamedAt word k
 
 -- so many of the arguments have so many of the rules
-pub so_far_more : (args : List ListedArg) (n i : ℕ) → map rule_of_listed (take i args) ≡ take i rules → map rule_of_listed args ≡ rules → map rule_of_listed (take n args) ≡ take n rules
+pub so_far_more : (args : List ListedArg) (n i : ℕ) → map rule_of_listed (take i args) ≡ take i rules
+    → map rule_of_listed args ≡ rules → map rule_of_listed (take n args) ≡ take n rules
 so_far_more args n i so_far same = sym (take-map rule_of_listed n args) ∙ ap (take n) same
 
 -- the option at a place of the arguments
-pub found : (word : List ℕ) (args : List ListedArg) (i : ℕ) (d : ListedArg) (range : ValueParser) → map rule_of_listed (take i args) ≡ take i rules → map rule_of_listed args ≡ rules → i < length args
-    → (get_or args i d).kind ≡ kinds.Number range → word ≡ option_word (get_or args i d).name.now → IsNumberOption word (record { name = (get_or args i d).name; range = range })
+pub found : (word : List ℕ) (args : List ListedArg) (i : ℕ) (d : ListedArg) (range : ValueParser)
+    → map rule_of_listed (take i args) ≡ take i rules → map rule_of_listed args ≡ rules → i < length args
+    → (get_or args i d).kind ≡ kinds.Number range → word ≡ option_word (get_or args i d).name.now
+    → IsNumberOption word (record { name = (get_or args i d).name; range = range })
 found word args i d range so_far same within kind named =
     let rule = number_option (get_or args i d).name.now range in
     record {
@@ -32,12 +38,15 @@ found word args i d range so_far same within kind named =
       rule = (
         i,
         omega (arith, within, ap length same, length-map args rule_of_listed),
-        ap (λ (rs : List Rule). get_or rs i rule) (sym same) ∙ get_or-map rule_of_listed args i d rule within ∙ ap (rule_by (get_or args i d).name.now) kind,
+        ap (λ (rs : List Rule). get_or rs i rule) (sym same) ∙ get_or-map rule_of_listed args i d rule within
+            ∙ ap (rule_by (get_or args i d).name.now) kind,
       );
     }
 
 -- an argument that is not named by an option with a number, or is none, is not named by its rule
-passed : (word name : List ℕ) (kind : ArgKind) → ((range : ValueParser) → kind ≡ kinds.Number range → word ≡ option_word name → ⊥) → (o : NumberOption) → rule_by name kind ≡ number_option o.name.now o.range → word ≡ option_word o.name.now → ⊥
+passed : (word name : List ℕ) (kind : ArgKind)
+    → ((range : ValueParser) → kind ≡ kinds.Number range → word ≡ option_word name → ⊥) → (o : NumberOption)
+    → rule_by name kind ≡ number_option o.name.now o.range → word ≡ option_word o.name.now → ⊥
 passed word name (kinds.Number parser) told o e named =
     let names : name ≡ o.name.now = ap (λ (r : Rule). r.id) e in
     told parser refl (named ∙ ap option_word (sym names))
@@ -52,7 +61,8 @@ passed word name kinds.Operand told o e named =
     cc
 
 module _ (word : List ℕ) (args : List ListedArg) (i : ℕ) (d : ListedArg) (so_far : map rule_of_listed (take i args) ≡ take i rules) (same : map rule_of_listed args ≡ rules) (within : i < length args) where
-  unnamed_more : ((range : ValueParser) → (get_or args i d).kind ≡ kinds.Number range → word ≡ option_word (get_or args i d).name.now → ⊥) → NamesNoneBefore word i → NamesNoneBefore word (i + 1)
+  unnamed_more : ((range : ValueParser) → (get_or args i d).kind ≡ kinds.Number range → word ≡ option_word (get_or args i d).name.now → ⊥)
+      → NamesNoneBefore word i → NamesNoneBefore word (i + 1)
   unnamed_more told before =
       below_more (IsUnnamedAt word) i before
       (λ o e named.
@@ -60,11 +70,13 @@ module _ (word : List ℕ) (args : List ListedArg) (i : ℕ) (d : ListedArg) (so
       passed word (get_or args i d).name.now (get_or args i d).kind told o (sym at ∙ e) named)
 
   -- so one more is none that is named: it has another name,
-  pub other_name : (range : ValueParser) → (get_or args i d).kind ≡ kinds.Number range → (word ≡ option_word (get_or args i d).name.now → ⊥) → NamesNoneBefore word i → NamesNoneBefore word (i + 1)
+  pub other_name : (range : ValueParser) → (get_or args i d).kind ≡ kinds.Number range
+      → (word ≡ option_word (get_or args i d).name.now → ⊥) → NamesNoneBefore word i → NamesNoneBefore word (i + 1)
   other_name range kind unnamed before = unnamed_more (λ _ _ named. unnamed named) before
 
   -- or takes no number
-  pub no_number : ((range : ValueParser) → (get_or args i d).kind ≡ kinds.Number range → ⊥) → NamesNoneBefore word i → NamesNoneBefore word (i + 1)
+  pub no_number : ((range : ValueParser) → (get_or args i d).kind ≡ kinds.Number range → ⊥) → NamesNoneBefore word i
+      → NamesNoneBefore word (i + 1)
   no_number none before = unnamed_more (λ range kind _. none range kind) before
 
 -- where all were passed over, there is none

@@ -1,7 +1,9 @@
--- This file proves that clap lets no number of an option through that is outside its range: no memory size but 64 to 32767, and no
--- bound for answers but 1 to 32767.
+-- This file proves that clap lets no number of an option through that is outside its range: no memory size but 64 to
+-- 32767, and no bound for answers but 1 to 32767.
 -- Main lemmas: `memory_in_range` and `choose_in_range`.
-use Rattle.std.proofs.Common.{◌≡◌, ◌∙◌, ap, sym, refl, subst, inl, inr, ℕ, zero, suc, ◌<◌, ◌≤◌, true, List, [], ◌∷◌, length, map, get_or, Option, Some, None, pos, arith}
+use Rattle.std.proofs.Common.{◌≡◌, ◌∙◌, ap, sym, refl, subst, inl, inr, ℕ, zero, suc, ◌<◌, ◌≤◌}
+use Rattle.std.proofs.Common.{true, List, [], ◌∷◌, length, map, get_or, Option, Some, None, pos}
+use Rattle.std.proofs.Common.{arith}
 use Rattle.std.specs.Prelude.{codes, All, option_and_then, option_map, slice_get}
 use Rattle.std.specs.Option.{ForSome}
 use Rattle.std.specs.Borrow.{Bor}
@@ -9,7 +11,9 @@ use Rattle.std.specs.Str.{bytes_eq}
 use Rattle.std.proofs.lemmas.List.{length-map, get_or-map}
 use Rattle.std.proofs.lemmas.List.Elements.{All-head}
 use Rattle.std.proofs.lemmas.Slice.Eq.{bytes_eq-Decides}
-use Rattle.clap.specs.Words.{Accepts, IsSignedIn, IsParsed, IsParsedFrom, Rule, app_of, args_of, found_of, groups_of, has_subcommand, matched_of, one_text, parser_of, read_as, reading_of, rule_of, without_minus}
+use Rattle.clap.specs.Words.{Accepts, IsSignedIn, IsParsed, IsParsedFrom, Rule, app_of, args_of}
+use Rattle.clap.specs.Words.{found_of, groups_of, has_subcommand, matched_of, one_text, parser_of}
+use Rattle.clap.specs.Words.{read_as, reading_of, rule_of, without_minus}
 use Rattle.clap.specs.Facts.{Entry, EntryPasses, HasReading, IsKnownGroup, PassesArg, parser_of_value}
 use Rattle.clap.specs.Built.{IsAuto}
 use Rattle.clap.specs.declared.builder.Arg.{Arg}
@@ -60,9 +64,12 @@ memory_only (suc (suc (suc (suc (suc (suc (suc (suc (suc (suc zero)))))))))) r l
 memory_only (suc (suc (suc (suc (suc (suc (suc (suc (suc (suc (suc zero))))))))))) r lt e = absurd (cc)
 memory_only (suc (suc (suc (suc (suc (suc (suc (suc (suc (suc (suc (suc zero)))))))))))) r lt e = absurd (cc)
 memory_only (suc (suc (suc (suc (suc (suc (suc (suc (suc (suc (suc (suc (suc zero))))))))))))) r lt e = absurd (cc)
-memory_only (suc (suc (suc (suc (suc (suc (suc (suc (suc (suc (suc (suc (suc (suc zero)))))))))))))) r lt e = absurd (cc)
-memory_only (suc (suc (suc (suc (suc (suc (suc (suc (suc (suc (suc (suc (suc (suc (suc zero))))))))))))))) r lt e = absurd (cc)
-memory_only (suc (suc (suc (suc (suc (suc (suc (suc (suc (suc (suc (suc (suc (suc (suc (suc j)))))))))))))))) r lt e = absurd (omega arith)
+memory_only (suc (suc (suc (suc (suc (suc (suc (suc (suc (suc (suc (suc (suc (suc zero)))))))))))))) r lt e =
+    absurd (cc)
+memory_only (suc (suc (suc (suc (suc (suc (suc (suc (suc (suc (suc (suc (suc (suc (suc zero))))))))))))))) r lt e =
+    absurd (cc)
+memory_only (suc (suc (suc (suc (suc (suc (suc (suc (suc (suc (suc (suc (suc (suc (suc (suc j)))))))))))))))) r lt e =
+    absurd (omega arith)
 
 choose_only : (j : ℕ) (r : Rule) → j < 16 → bytes_eq (get_or tool_rules j r).id (codes "choose") ≡ true → j ≡ 2
 choose_only zero r lt e = absurd (cc)
@@ -79,9 +86,12 @@ choose_only (suc (suc (suc (suc (suc (suc (suc (suc (suc (suc zero)))))))))) r l
 choose_only (suc (suc (suc (suc (suc (suc (suc (suc (suc (suc (suc zero))))))))))) r lt e = absurd (cc)
 choose_only (suc (suc (suc (suc (suc (suc (suc (suc (suc (suc (suc (suc zero)))))))))))) r lt e = absurd (cc)
 choose_only (suc (suc (suc (suc (suc (suc (suc (suc (suc (suc (suc (suc (suc zero))))))))))))) r lt e = absurd (cc)
-choose_only (suc (suc (suc (suc (suc (suc (suc (suc (suc (suc (suc (suc (suc (suc zero)))))))))))))) r lt e = absurd (cc)
-choose_only (suc (suc (suc (suc (suc (suc (suc (suc (suc (suc (suc (suc (suc (suc (suc zero))))))))))))))) r lt e = absurd (cc)
-choose_only (suc (suc (suc (suc (suc (suc (suc (suc (suc (suc (suc (suc (suc (suc (suc (suc j)))))))))))))))) r lt e = absurd (omega arith)
+choose_only (suc (suc (suc (suc (suc (suc (suc (suc (suc (suc (suc (suc (suc (suc zero)))))))))))))) r lt e =
+    absurd (cc)
+choose_only (suc (suc (suc (suc (suc (suc (suc (suc (suc (suc (suc (suc (suc (suc (suc zero))))))))))))))) r lt e =
+    absurd (cc)
+choose_only (suc (suc (suc (suc (suc (suc (suc (suc (suc (suc (suc (suc (suc (suc (suc (suc j)))))))))))))))) r lt e =
+    absurd (omega arith)
 
 memory_option : IsOption (codes "memory") 1 64 32767
 memory_option = record {
@@ -112,8 +122,10 @@ module _ (name : List ℕ) (place low high : ℕ) (option : IsOption name place 
   count : length (args_of c) ≡ 16
   count = sym (length-map (args_of c) rule_of) ∙ ap length rules_are
 
-  rule_at : (j : ℕ) (d : Arg) → j < length (args_of c) → rule_of (get_or (args_of c) j d) ≡ get_or tool_rules j (rule_of d)
-  rule_at j d lt = sym (get_or-map rule_of (args_of c) j d (rule_of d) lt) ∙ ap (λ rs. get_or rs j (rule_of d)) rules_are
+  rule_at : (j : ℕ) (d : Arg) → j < length (args_of c)
+      → rule_of (get_or (args_of c) j d) ≡ get_or tool_rules j (rule_of d)
+  rule_at j d lt =
+      sym (get_or-map rule_of (args_of c) j d (rule_of d) lt) ∙ ap (λ rs. get_or rs j (rule_of d)) rules_are
 
   within : place < length (args_of c)
   within = omega (arith, count, option.inside)
@@ -133,7 +145,8 @@ module _ (name : List ℕ) (place low high : ℕ) (option : IsOption name place 
       option.only j (rule_of e) (omega (arith, count, lt)) named
 
   -- an argument of the built command with this id has the option's parser
-  parser_is : (j : ℕ) (x : Arg) → j < length (args_of p.built) → get_or (args_of p.built) j x ≡ x → bytes_eq x.id.now name ≡ true
+  parser_is : (j : ℕ) (x : Arg) → j < length (args_of p.built) → get_or (args_of p.built) j x ≡ x
+      → bytes_eq x.id.now name ≡ true
       → parser_of x ≡ Signed (pos low) (pos high)
   parser_is j x lt at same =
       let named : bytes_eq x.id.now (get_or (args_of c) place x).id.now ≡ true = rw (id_is x) same in
@@ -141,19 +154,23 @@ module _ (name : List ℕ) (place low high : ℕ) (option : IsOption name place 
       ap parser_of_value (kept.parser (Signed (pos low) (pos high)) (ap (λ r. r.parser) (rule_at place x within ∙ option.there (rule_of x))))
 
   no_groups : groups_of p.built ≡ []
-  no_groups = (p.from.same_groups (simple_groups c (ap all_simple rules_are))).1 ∙ (plain_fields c (ap (λ a. a.top.is_plain) is_tool)).groups
+  no_groups =
+      (p.from.same_groups (simple_groups c (ap all_simple rules_are))).1
+      ∙ (plain_fields c (ap (λ a. a.top.is_plain) is_tool)).groups
 
   parsed : IsParsed p.built (found_of m) (has_subcommand m)
   parsed = p.parsed (p.from.globals ∙ (plain_fields c (ap (λ a. a.top.is_plain) is_tool)).globals)
 
   passed : (v : List ℕ) → PassesArg p.built name v → IsSignedIn (pos low) (pos high) v
-  passed v any = subst (λ (q : ValueParser). Accepts any.1.ignore_case q v) (parser_is any.0 any.1 any.2 any.3 any.4.0) any.4.1
+  passed v any =
+      subst (λ (q : ValueParser). Accepts any.1.ignore_case q v) (parser_is any.0 any.1 any.2 any.3 any.4.0) any.4.1
 
   read_without_minus : (how : Reading) → HasReading p.built name how → how ≡ WithoutMinus
   read_without_minus how any = sym any.4.1 ∙ ap reading_of (parser_is any.0 any.1 any.2 any.3 any.4.0)
 
   -- the entry of the option, as it was parsed
-  entry : (x : MatchedArg) → matched_of (found_of m) name ≡ Some x → (e : Entry) × (e.1 ≡ x) × (bytes_eq e.0.now name ≡ true) × EntryPasses p.built e
+  entry : (x : MatchedArg) → matched_of (found_of m) name ≡ Some x
+      → (e : Entry) × (e.1 ≡ x) × (bytes_eq e.0.now name ≡ true) × EntryPasses p.built e
   entry x found = entry_by_id (EntryPasses p.built) (found_of m).entries.items name x parsed.values found
 
   no_group : (e : Entry) → bytes_eq e.0.now name ≡ true → EntryPasses p.built e → e.1.is_group ≡ true → ⊥
@@ -163,14 +180,16 @@ module _ (name : List ℕ) (place low high : ℕ) (option : IsOption name place 
       known (inl empty) = option.some (sym ((bytes_eq-Decides e.0.now name).0 key) ∙ empty)
       known (inr some) = let none : 0 < 0 = rw no_groups at some in omega arith
 
-  in_range : (text : List ℕ) → IsSignedIn (pos low) (pos high) text → ForSome (number_in 16 (without_minus text)) (λ n. (low ≤ n) × (n ≤ high))
+  in_range : (text : List ℕ) → IsSignedIn (pos low) (pos high) text
+      → ForSome (number_in 16 (without_minus text)) (λ n. (low ≤ n) × (n ≤ high))
   in_range text h n found =
       let read = signed_reads (Unit {0}) (ParsesUnsigned 16 10) 16 low high text (number_in 16 (without_minus text)) (number_in-reads 16 (without_minus text))
       (λ u x g. g) (omega (arith, option.fits)) h in
       let same : n ≡ read.0 = some_injective n read.0 (sym found ∙ read.1) in
       rw same (read.2, read.3)
 
-  values_in_range : (how : Reading) (vs : List (Bor (List ℕ))) → how ≡ WithoutMinus → All (λ v. PassesArg p.built name v.now) vs
+  values_in_range : (how : Reading) (vs : List (Bor (List ℕ))) → how ≡ WithoutMinus
+      → All (λ v. PassesArg p.built name v.now) vs
       → ForSome (option_and_then (number_in 16) (option_map (λ s. read_as how s.now) (slice_get vs 0))) (λ n. (low ≤ n) × (n ≤ high))
   values_in_range how [] is all n found = absurd (none_is_some n found)
   values_in_range how (v ∷ vs) is all n found =

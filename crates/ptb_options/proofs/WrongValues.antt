@@ -1,13 +1,15 @@
 -- This file proves that no value of an option is passed over that is no number in the option's range.
 -- Main lemmas: `accepted_next` and `accepted_after`.
-use Rattle.std.proofs.Common.{◌≡◌, ◌∙◌, ap, append_assoc, sym, subst, arith, inl, inr, ℕ, ◌<◌, false, List, [], ◌∷◌, ◌++◌, length, Option, Some, None, IfSome}
+use Rattle.std.proofs.Common.{◌≡◌, ◌∙◌, ap, append_assoc, sym, subst, arith, inl, inr, ℕ, ◌<◌}
+use Rattle.std.proofs.Common.{false, List, [], ◌∷◌, ◌++◌, length, Option, Some, None, IfSome}
 use Rattle.std.specs.Prelude.{codes}
 use Rattle.std.specs.Borrow.{Bor}
 use Rattle.std.specs.List.{position_or_len}
 use Rattle.std.proofs.lemmas.Str.Pattern.{IsSplitOnceResult, split_once_first, split_parts}
 use Rattle.clap.specs.Words.{Accepts}
 use Rattle.clap.specs.declared.builder.ValueParser.{ValueParser}
-use Rattle.ptb_options.specs.WrongNumbers.{HasNoWrongValue, IsNumberOption, IsWrongFor, IsWrongValue, NamesNoNumber, option_word}
+use Rattle.ptb_options.specs.WrongNumbers.{HasNoWrongValue, IsNumberOption, IsWrongFor}
+use Rattle.ptb_options.specs.WrongNumbers.{IsWrongValue, NamesNoNumber, option_word}
 use Rattle.ptb_options.specs.declared.wrong_numbers.NumberOption.{NumberOption}
 use Rattle.ptb_options.specs.declared.wrong_numbers.WrongNumber.{WrongNumber}
 use Rattle.ptb_options.proofs.NumberRules.{IsCut, cut, is_equals, one_range}
@@ -22,12 +24,16 @@ names_injective : (a b : List ℕ) → option_word a ≡ option_word b → a ≡
 names_injective a b e = cc
 
 -- a value that the option accepts is not wrong
-accepted : (o : NumberOption) (word : List ℕ) (w : WrongNumber) (next : Option (List ℕ)) (value : List ℕ) (given : Option (List ℕ)) → IsNumberOption word o → Accepts false o.range value
+accepted : (o : NumberOption) (word : List ℕ) (w : WrongNumber) (next : Option (List ℕ)) (value : List ℕ)
+    (given : Option (List ℕ))
+    → IsNumberOption word o → Accepts false o.range value
     → IsWrongValue given next w → option_word w.option.name.now ≡ word → w.value.now ≡ value → ⊥
 accepted o word w next value given named good wrong name same =
     let ranges : o.range ≡ w.option.range =
-    one_range o.name.now w.option.name.now o.range w.option.range named.rule wrong.rule (names_injective o.name.now w.option.name.now (sym named.named ∙ sym name)) in
-    wrong.refused (subst (λ (r : ValueParser). Accepts false r w.value.now) ranges (subst (Accepts false o.range) (sym same) good))
+    one_range o.name.now w.option.name.now o.range w.option.range named.rule wrong.rule
+    (names_injective o.name.now w.option.name.now (sym named.named ∙ sym name)) in
+    wrong.refused
+    (subst (λ (r : ValueParser). Accepts false r w.value.now) ranges (subst (Accepts false o.range) (sym same) good))
 
 -- ---- the argument has a `=`
 
@@ -67,7 +73,8 @@ module _ (word : List ℕ) (next : Option (List ℕ)) (name value : Bor (List �
         accepted o name.now w next value.now (Some word) named good h given.name_is given.value_is
 
     -- its value may be wrong
-    pub wrong_after : (wrong : Option WrongNumber) → IfSome wrong (IsWrongFor o value) → IfSome wrong (IsWrongValue (Some word) next)
+    pub wrong_after : (wrong : Option WrongNumber) → IfSome wrong (IsWrongFor o value)
+        → IfSome wrong (IsWrongValue (Some word) next)
     wrong_after None h = tt
     wrong_after (Some w) h =
         let parts = split_parts 61 word (Some (name, value)) split (omega arith) in
@@ -98,7 +105,9 @@ module _ (word : List ℕ) (next : Option (List ℕ)) (split : IsSplitOnceResult
   pub last : next ≡ None → HasNoWrongValue (Some word) next
   last missing w h = none_is_some w.value.now (sym missing ∙ (next_given w h).value_is)
 
-  pub accepted_next : (o : NumberOption) (value : List ℕ) → next ≡ Some value → IsNumberOption word o → Accepts false o.range value → HasNoWrongValue (Some word) next
+  pub accepted_next : (o : NumberOption) (value : List ℕ) → next ≡ Some value → IsNumberOption word o
+      → Accepts false o.range value → HasNoWrongValue (Some word) next
   accepted_next o value there named good w h =
       let given = next_given w h in
-      accepted o word w next value (Some word) named good h given.name_is (some_injective _ _ (sym given.value_is ∙ there))
+      accepted o word w next value (Some word) named good h given.name_is
+      (some_injective _ _ (sym given.value_is ∙ there))

@@ -25,4 +25,6 @@ range_text _ = []
 
 -- in the form of clap's errors
 abbrev pub number_text : WrongNumber → List ℕ
-number_text wrong = codes "error: invalid value '" ++ wrong.value.now ++ codes "' for '--" ++ wrong.option.name.now ++ codes " <N>': " ++ range_text wrong.option.range ++ codes "\n\nFor more information, try '--help'.\n"
+number_text wrong =
+    codes "error: invalid value '" ++ wrong.value.now ++ codes "' for '--" ++ wrong.option.name.now ++ codes " <N>': "
+    ++ range_text wrong.option.range ++ codes "\n\nFor more information, try '--help'.\n"

@@ -15,7 +15,10 @@
 --     IsFirstMisspelled o m      m is what is wrong with the first of them that is no list
 --     HasItems mode              a list of the mode has items
 --     Refuses o fault            why the options ask for no request
-use Rattle.std.specs.Prelude.{◌≡◌, ◌≢◌, ◌≤◌, pos, ℤ, [], ◌∷◌, option_map, ℕ, ◌^◌, nat_lt, Bool, true, false, not, ◌&&◌, ◌||◌, ◌⊎◌, ◌==◌, if◌then◌else◌, List, length, Option, Some, None, is_some, unwrap_or, option_and_then, find, IsSomeAnd, codes}
+use Rattle.std.specs.Prelude.{◌≡◌, ◌≢◌, ◌≤◌, pos, ℤ, [], ◌∷◌, option_map, ℕ, ◌^◌, nat_lt, Bool}
+use Rattle.std.specs.Prelude.{true, false, not, ◌&&◌, ◌||◌, ◌⊎◌, ◌==◌, if◌then◌else◌, List, length}
+use Rattle.std.specs.Prelude.{Option, Some, None, is_some, unwrap_or, option_and_then, find}
+use Rattle.std.specs.Prelude.{IsSomeAnd, codes}
 use Rattle.std.specs.Option.{ForSome}
 use Rattle.std.specs.Str.{all_ascii_digits, bytes_eq}
 use Rattle.std.specs.Str.Parse.{digits_value, without_leading_plus}
@@ -42,7 +45,17 @@ use Rattle.ptb_options.specs.declared.request.Mode.{Mode}
 use Rattle.ptb_options.specs.declared.request.Mode.TheVariants as modes
 use Rattle.ptb_options.specs.declared.request.Request.{Request}
 use Rattle.ptb_options.specs.declared.usage.UsageFault.{UsageFault}
-use Rattle.ptb_options.specs.declared.usage.UsageFault.TheVariants.{ListWithOther, CheckWithOther, ChancesWithOther, AfterWithoutAll, FirstWithoutAll, FormWithoutAll, UnderWithoutAll, SharesWithoutAll, SharesWithOther, SampleWithoutSeed, AnswersWithAll, SeedWithAll, SeedWithAnswers, BadList, Memory}
+use Rattle.ptb_options.specs.declared.usage.UsageFault.TheVariants.{ListWithOther, CheckWithOther}
+use Rattle.ptb_options.specs.declared.usage.UsageFault.TheVariants.{ChancesWithOther}
+use Rattle.ptb_options.specs.declared.usage.UsageFault.TheVariants.{AfterWithoutAll}
+use Rattle.ptb_options.specs.declared.usage.UsageFault.TheVariants.{FirstWithoutAll, FormWithoutAll}
+use Rattle.ptb_options.specs.declared.usage.UsageFault.TheVariants.{UnderWithoutAll}
+use Rattle.ptb_options.specs.declared.usage.UsageFault.TheVariants.{SharesWithoutAll}
+use Rattle.ptb_options.specs.declared.usage.UsageFault.TheVariants.{SharesWithOther}
+use Rattle.ptb_options.specs.declared.usage.UsageFault.TheVariants.{SampleWithoutSeed}
+use Rattle.ptb_options.specs.declared.usage.UsageFault.TheVariants.{AnswersWithAll, SeedWithAll}
+use Rattle.ptb_options.specs.declared.usage.UsageFault.TheVariants.{SeedWithAnswers, BadList}
+use Rattle.ptb_options.specs.declared.usage.UsageFault.TheVariants.{Memory}
 
 -- ---- the options
 
@@ -123,7 +136,8 @@ HasBound o = ForSome o.choose (λ n. (1 ≤ n) × (n ≤ 32767))
 -- what may stand beside none of --list, --check and --chances
 abbrev pub says_which_runs : Options → Bool
 says_which_runs o =
-    o.all || is_some o.answers || is_some o.seed || is_some o.under || is_some o.after || is_some o.first || is_some o.form || is_some o.shares || is_some o.sample
+    o.all || is_some o.answers || is_some o.seed || is_some o.under || is_some o.after || is_some o.first
+    || is_some o.form || is_some o.shares || is_some o.sample
 
 -- what may stand beside neither --list nor --check
 abbrev pub asks_for_runs : Options → Bool
@@ -177,11 +191,15 @@ abbrev pub AsksMode : Options → Mode → Type 0
 AsksMode o modes.List = o.list ≡ true
 AsksMode o modes.Check = (o.list ≡ false) × (o.check ≡ true)
 AsksMode o modes.Chances = (o.list ≡ false) × (o.check ≡ false) × (o.chances ≡ true)
-AsksMode o (modes.All under after first form) = RunsIt o × (o.all ≡ true) × (o.shares ≡ None) × SpellsIfGiven o.under under × SpellsIfGiven o.after after × (first ≡ o.first) × (form ≡ form_of o.form)
+AsksMode o (modes.All under after first form) =
+    RunsIt o × (o.all ≡ true) × (o.shares ≡ None) × SpellsIfGiven o.under under × SpellsIfGiven o.after after
+    × (first ≡ o.first) × (form ≡ form_of o.form)
 AsksMode o (modes.Shares answers form) = RunsIt o × (o.all ≡ true) × (o.shares ≡ Some answers) × (form ≡ form_of o.form)
-AsksMode o (modes.Plain a) = RunsIt o × (o.all ≡ false) × (o.seed ≡ None) × SpellsAnswers (unwrap_or o.answers (codes "none")) a
+AsksMode o (modes.Plain a) =
+    RunsIt o × (o.all ≡ false) × (o.seed ≡ None) × SpellsAnswers (unwrap_or o.answers (codes "none")) a
 AsksMode o (modes.Seeded seed) = RunsIt o × (o.all ≡ false) × (o.seed ≡ Some seed) × (o.sample ≡ None)
-AsksMode o (modes.Sample seed runs form) = RunsIt o × (o.all ≡ false) × (o.seed ≡ Some seed) × (o.sample ≡ Some runs) × (form ≡ form_of o.form)
+AsksMode o (modes.Sample seed runs form) =
+    RunsIt o × (o.all ≡ false) × (o.seed ≡ Some seed) × (o.sample ≡ Some runs) × (form ≡ form_of o.form)
 
 -- without --steps a run begins at most so many commands
 abbrev pub default_steps : ℕ

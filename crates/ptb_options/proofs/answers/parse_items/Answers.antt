@@ -8,7 +8,8 @@ use Rattle.std.proofs.lemmas.Iterator.Splits.{YieldsList-from_str_split}
 use Rattle.std.proofs.lemmas.Iterator.Consumers.{YieldsList-turn, YieldsList-end}
 use Rattle.ptb_options.specs.AnswerLists.{IsItem, SpellsItem}
 use Rattle.ptb_options.proofs.AnswerTexts.{list_of_words, word_of_items, more_words}
-use Rattle.ptb_options.proofs.ListReturns.{memory_is_bad, none_is_items, read_is_bad, read_is_memory, refused_is_read, some_text}
+use Rattle.ptb_options.proofs.ListReturns.{memory_is_bad, none_is_items, read_is_bad}
+use Rattle.ptb_options.proofs.ListReturns.{read_is_memory, refused_is_read, some_text}
 use Rattle.ptb_options.proofs.answers.parse_items.Goals as goal
 
 none_is_some : {T : Type 0} (x : T) → ◌≡◌ {A = Option T} None (Some x) → ⊥
@@ -30,7 +31,9 @@ loop-word-preserved g c =
     let spells : SpellsItem c.in-Some.word.now (f item) = rw read at c.parse.ensures.some in
     record {
       words = rw (pushed, map-append f c.loop-word.items.items (item ∷ [])) (more_words c.loop-word.yielded (map f c.loop-word.items.items) c.in-Some.word (f item) c.loop-word.invariant.words spells.1);
-      each = rw (pushed, map-append f c.loop-word.items.items (item ∷ [])) (All-push IsItem (map f c.loop-word.items.items) (f item) c.loop-word.invariant.each spells.0);
+      each =
+          rw (pushed, map-append f c.loop-word.items.items (item ∷ []))
+          (All-push IsItem (map f c.loop-word.items.items) (f item) c.loop-word.invariant.each spells.0);
     }
 
 pub returns-in_err-item : goal.returns-in_err-item
@@ -64,7 +67,8 @@ returns g c = record {
       let split = c.split-word-items.ensures in
       let words = YieldsList-from_str_split 44 text (lit< tt) (ap split_text same ∙ split.text) (ap split_has_more same ∙ split.has_more) (ap split_pattern same ∙ split.pattern) in
       let all = YieldsList-end words c.loop-word.yielded _ c.loop-word.yielded_by _ _ c.in-None.is c.next.ensures.steps in
-      list_of_words text (map g.T.ListItem.marked c.loop-word.items.items) c.loop-word.invariant.each (sym all.0 ∙ c.loop-word.invariant.words);
+      list_of_words text (map g.T.ListItem.marked c.loop-word.items.items) c.loop-word.invariant.each
+      (sym all.0 ∙ c.loop-word.invariant.words);
   bad = read_is_bad c.loop-word.items;
   memory = read_is_memory c.loop-word.items;
 }

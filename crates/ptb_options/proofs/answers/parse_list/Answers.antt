@@ -19,7 +19,10 @@ returns-then-is_some-clause-one c = one_list c.args.text.now
 pub returns-in_err-parse_items : goal.returns-in_err-parse_items
 returns-in_err-parse_items c = record {
   ok = refused_is_read _ c.from_residual.result _ c.from_residual.ensures.1;
-  bad = λ e list spells. c.in_err-parse_items.ensures.bad (passed_on c.from_residual.result _ Bad c.from_residual.ensures.1 e) list (subst (SpellsList c.args.text.now) (sym (map-id list)) spells);
+  bad =
+      λ e list spells. c.in_err-parse_items.ensures.bad
+      (passed_on c.from_residual.result _ Bad c.from_residual.ensures.1 e) list
+      (subst (SpellsList c.args.text.now) (sym (map-id list)) spells);
   memory = λ e.
       let list = c.list_mistake.ensures.none (none_found c.list_mistake.result c.is_some.result c.is_some.ensures c.if-is_some.false) in
       (list.0, list.1, has_items c.args.text.now list.0 (c.in_err-parse_items.ensures.memory (passed_on c.from_residual.result _ Memory c.from_residual.ensures.1 e)) list.1);

@@ -7,7 +7,8 @@ use Rattle.ptb_options.proofs.command_line.command.Given as goal
 
 -- the command with so many of its rules
 abbrev pub tool_with : List Rule → App
-tool_with rules = record (new_app (codes "ptb")) { top = record (new_app (codes "ptb")).top { rules = rules; has_version = true } }
+tool_with rules =
+    record (new_app (codes "ptb")) { top = record (new_app (codes "ptb")).top { rules = rules; has_version = true } }
 
 -- it has the rules of the arguments so far
 abbrev pub invariant-loop-listed : goal.invariant-loop-listed

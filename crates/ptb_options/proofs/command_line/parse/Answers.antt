@@ -12,7 +12,8 @@ use Rattle.ptb_options.proofs.command_line.parse.Goals as goal
 is_simple-tool : is_simple tool ≡ true
 is_simple-tool = refl
 
-entries_by_app : (a t : App) (words : List Text) (m : ArgMatches) → HasMatchesOf a words m → a ≡ t → is_simple t ≡ true → entries_of m ≡ matches_of t words
+entries_by_app : (a t : App) (words : List Text) (m : ArgMatches) → HasMatchesOf a words m → a ≡ t → is_simple t ≡ true
+    → entries_of m ≡ matches_of t words
 entries_by_app a t words m found e simple = (found (ap is_simple e ∙ simple)).0 ∙ ap (λ (x : App). matches_of x words) e
 
 pub returns-clause-entries : goal.returns-clause-entries
@@ -23,21 +24,27 @@ returns-clause-entries g c =
 
 pub returns-clause-memory : goal.returns-clause-memory
 returns-clause-memory g c =
-    IfOk-weaker c.try_get_matches_from.result _ _ (λ m parsed. memory_in_range c.in_ok-command.field-0 m c.in_ok-command.ensures parsed)
+    IfOk-weaker c.try_get_matches_from.result _ _
+    (λ m parsed. memory_in_range c.in_ok-command.field-0 m c.in_ok-command.ensures parsed)
     c.try_get_matches_from.ensures.parsed
 
 pub returns-clause-bound : goal.returns-clause-bound
 returns-clause-bound g c =
-    IfOk-weaker c.try_get_matches_from.result _ _ (λ m parsed. choose_in_range c.in_ok-command.field-0 m c.in_ok-command.ensures parsed)
+    IfOk-weaker c.try_get_matches_from.result _ _
+    (λ m parsed. choose_in_range c.in_ok-command.field-0 m c.in_ok-command.ensures parsed)
     c.try_get_matches_from.ensures.parsed
 
 -- tool has only what clap's rules of faults know
 is_free-tool : is_simple_and_free tool ≡ true
 is_free-tool = refl
 
-fails_by_app : (a t : App) (words : List Text) (r : Result ArgMatches Error) → (is_simple_and_free a ≡ true → FailsBy (fault_of a words) r) → a ≡ t → is_simple_and_free t ≡ true → FailsBy (fault_of t words) r
-fails_by_app a t words r fails e free = subst (λ (x : App). FailsBy (fault_of x words) r) e (fails (ap is_simple_and_free e ∙ free))
+fails_by_app : (a t : App) (words : List Text) (r : Result ArgMatches Error)
+    → (is_simple_and_free a ≡ true → FailsBy (fault_of a words) r) → a ≡ t → is_simple_and_free t ≡ true
+    → FailsBy (fault_of t words) r
+fails_by_app a t words r fails e free =
+    subst (λ (x : App). FailsBy (fault_of x words) r) e (fails (ap is_simple_and_free e ∙ free))
 
 pub returns-clause-kinds : goal.returns-clause-kinds
 returns-clause-kinds g c =
-    fails_by_app _ tool (map g.S.AsStr.text c.args.words.now) _ c.try_get_matches_from.ensures.kinds c.in_ok-command.ensures is_free-tool
+    fails_by_app _ tool
+    (map g.S.AsStr.text c.args.words.now) _ c.try_get_matches_from.ensures.kinds c.in_ok-command.ensures is_free-tool

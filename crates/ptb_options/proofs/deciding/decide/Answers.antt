@@ -19,7 +19,8 @@ pub mode-requires-clause-clash : goal.mode-requires-clause-clash
 mode-requires-clause-clash c = sym c.clash.ensures ∙ c.in_default.is
 
 pub mode-requires-clause-spelled : goal.mode-requires-clause-spelled
-mode-requires-clause-spelled c = c.misspelled.ensures.none (no_list_found c.misspelled.result c.is_some.result c.is_some.ensures c.if-is_some.false)
+mode-requires-clause-spelled c =
+    c.misspelled.ensures.none (no_list_found c.misspelled.result c.is_some.result c.is_some.ensures c.if-is_some.false)
 
 -- a list is misspelled
 pub returns-then-is_some : goal.returns-then-is_some

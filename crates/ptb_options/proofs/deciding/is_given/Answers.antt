@@ -6,7 +6,8 @@ use Rattle.ptb_options.proofs.deciding.is_given.Goals as goal
 
 pub returns-in-Some-CommandLine : goal.returns-in-Some-CommandLine
 returns-in-Some-CommandLine c =
-    sym (ap (λ s. is_command_line (Some s)) c.in-Some-CommandLine.field-0-is) ∙ ap is_command_line (sym c.in-Some-CommandLine.is)
+    sym (ap (λ s. is_command_line (Some s)) c.in-Some-CommandLine.field-0-is)
+    ∙ ap is_command_line (sym c.in-Some-CommandLine.is)
     ∙ is_given-value_source c.args.matches.now c.args.id.now c.value_source.result c.value_source.ensures
 
 pub returns-in_default : goal.returns-in_default
@@ -16,4 +17,5 @@ returns-in_default c =
 
 pub returns-in_default-2 : goal.returns-in_default-2
 returns-in_default-2 c =
-    ap is_command_line (sym c.in_default.is) ∙ is_given-value_source c.args.matches.now c.args.id.now c.value_source.result c.value_source.ensures
+    ap is_command_line (sym c.in_default.is)
+    ∙ is_given-value_source c.args.matches.now c.args.id.now c.value_source.result c.value_source.ensures

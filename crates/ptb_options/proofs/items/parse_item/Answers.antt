@@ -3,7 +3,8 @@ use Rattle.ptb_options.proofs.ItemReading.{both, both_only, no_answer, no_bound,
 use Rattle.ptb_options.proofs.items.parse_item.Goals as goal
 
 pub returns-in_err-parse_number-clause-only : goal.returns-in_err-parse_number-clause-only
-returns-in_err-parse_number-clause-only c m h = no_number c.args.word.now c.in_default.ensures.cases m h c.in_err-parse_number.ensures.only
+returns-in_err-parse_number-clause-only c m h =
+    no_number c.args.word.now c.in_default.ensures.cases m h c.in_err-parse_number.ensures.only
 
 pub returns-in_default : goal.returns-in_default
 returns-in_default c = record {

@@ -4,7 +4,9 @@ use Rattle.std.specs.Result.{result_ok}
 use Rattle.ptb_options.specs.AnswerLists.{SpellsNumber}
 use Rattle.ptb_options.proofs.AnswerTexts.{SpellsNumber-first, SpellsNumber-from_parse, parse-SpellsNumber}
 use Rattle.ptb_options.proofs.items.parse_number.Goals as goal
-use Rattle.ptb_options.proofs.items.parse_number.Goals.{then-is_empty-via-then-is_empty, then-is_empty-via-else-is_empty+then-bytes-lt49, then-is_empty-via-else-is_empty+else-bytes-lt49+then-bytes-gt57}
+use Rattle.ptb_options.proofs.items.parse_number.Goals.{then-is_empty-via-then-is_empty}
+use Rattle.ptb_options.proofs.items.parse_number.Goals.{then-is_empty-via-else-is_empty+then-bytes-lt49}
+use Rattle.ptb_options.proofs.items.parse_number.Goals.{then-is_empty-via-else-is_empty+else-bytes-lt49+then-bytes-gt57}
 
 IfSome-result_ok : (E : Type 0) (P : ℤ → Type 0) (r : Result ℤ E) → IfOk r P → IfSome (result_ok r) P
 IfSome-result_ok E P (Ok k) h = h

@@ -8,8 +8,10 @@ none_is_some : (m : Marked) → ◌≡◌ {A = Option Marked} None (Some m) → 
 none_is_some m e = cc
 
 pub returns-in_default-clause-some : goal.returns-in_default-clause-some
-returns-in_default-clause-some c = no_item c.args.bounds c.args.word.now (λ m h. none_is_some m (c.in_default.ensures.only m h))
+returns-in_default-clause-some c =
+    no_item c.args.bounds c.args.word.now (λ m h. none_is_some m (c.in_default.ensures.only m h))
 
 pub returns-then-is_some-clause-some : goal.returns-then-is_some-clause-some
 returns-then-is_some-clause-some c =
-    rw c.in-Refused.is (marked_item c.args.word.now c.in-Some.item c.in-Some.ensures.some (sym c.is_some.ensures ∙ c.if-is_some.true))
+    rw c.in-Refused.is
+    (marked_item c.args.word.now c.in-Some.item c.in-Some.ensures.some (sym c.is_some.ensures ∙ c.if-is_some.true))

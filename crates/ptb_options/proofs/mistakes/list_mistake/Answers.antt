@@ -22,11 +22,14 @@ overflow_add-item c =
     omega (arith, turn.0, all, few, c.loop-word.invariant.counted)
 
 pub returns-then-eq-clause-none : goal.returns-then-eq-clause-none
-returns-then-eq-clause-none c _ = none_is_list_of c.args.bounds c.args.text.now (none_spelled c.args.text.now c.eq.result c.eq.ensures c.if-eq.true)
+returns-then-eq-clause-none c _ =
+    none_is_list_of c.args.bounds c.args.text.now (none_spelled c.args.text.now c.eq.result c.eq.ensures c.if-eq.true)
 
 pub loop-word-preserved : goal.loop-word-preserved
 loop-word-preserved c = record {
-  items = items_more c.args.bounds c.loop-word.yielded c.in-Some.word c.loop-word.invariant.items (c.item_fault.ensures.none c.in_default.is);
+  items =
+      items_more c.args.bounds c.loop-word.yielded c.in-Some.word c.loop-word.invariant.items
+      (c.item_fault.ensures.none c.in_default.is);
   counted = omega (arith, length-append c.loop-word.yielded (c.in-Some.word ∷ []), c.loop-word.invariant.counted);
 }
 
@@ -38,7 +41,8 @@ returns-in-Some-item_fault-clause-some c =
     let words = YieldsList-from_str_split 44 text (lit< tt) (ap split_text same ∙ split.text) (ap split_has_more same ∙ split.has_more) (ap split_pattern same ∙ split.pattern) in
     let turn = YieldsList-turn words c.loop-word.yielded _ c.loop-word.yielded_by _ _ c.in-Some.word c.in-Some.is c.next.ensures.steps in
     let so_far = YieldsList-so_far words c.loop-word.yielded _ c.loop-word.yielded_by in
-    mistake_at c.args.bounds text c.loop-word.yielded c.in-Some.word c.loop-word.item c.in-Some-item_fault.fault (some_text text c.eq.result c.eq.ensures c.if-eq.false)
+    mistake_at c.args.bounds text c.loop-word.yielded c.in-Some.word c.loop-word.item c.in-Some-item_fault.fault
+    (some_text text c.eq.result c.eq.ensures c.if-eq.false)
     so_far turn.0 turn.1 c.loop-word.invariant.items c.loop-word.invariant.counted c.in-Some-item_fault.ensures.some
 
 pub returns-clause-none : goal.returns-clause-none

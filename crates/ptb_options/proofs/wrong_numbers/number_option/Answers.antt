@@ -22,4 +22,5 @@ returns-then-is_named-clause-some c =
     found c.args.word.now _ c.loop-listed.listed-index _ c.in-Number.range c.loop-listed.invariant.so_far refl c.loop-listed-test.true c.in-Number.is (c.is_named.ensures.0 c.if-is_named.true)
 
 pub returns-clause-none : goal.returns-clause-none
-returns-clause-none c = λ _. unnamed_all c.args.word.now c.loop-listed.listed-index c.loop-listed-test.false c.loop-listed.invariant.unnamed
+returns-clause-none c =
+    λ _. unnamed_all c.args.word.now c.loop-listed.listed-index c.loop-listed-test.false c.loop-listed.invariant.unnamed

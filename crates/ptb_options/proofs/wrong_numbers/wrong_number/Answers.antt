@@ -2,25 +2,32 @@
 use Rattle.std.proofs.Common.{ap, map, arith}
 use Rattle.std.specs.Option.{option_copied}
 use Rattle.std.proofs.lemmas.List.{length-map}
-use Rattle.ptb_options.proofs.NumberArguments.{dashes_here, none_after, none_found, passed_more, some_found, there_is, wrong_here}
+use Rattle.ptb_options.proofs.NumberArguments.{dashes_here, none_after, none_found, passed_more}
+use Rattle.ptb_options.proofs.NumberArguments.{some_found, there_is, wrong_here}
 use Rattle.ptb_options.proofs.wrong_numbers.wrong_number.Goals as goal
 
 pub loop-i-preserved : goal.loop-i-preserved
 loop-i-preserved g c =
-    passed_more (map g.S.AsStr.text c.args.words.now) c.loop-i.i c.in_ok-word.word.now (option_copied c.text_at.result) c.eq.result c.text_at.ensures (ap option_copied c.in_ok-word.was) c.eq.ensures c.loop-i.invariant
+    passed_more (map g.S.AsStr.text c.args.words.now) c.loop-i.i c.in_ok-word.word.now
+    (option_copied c.text_at.result) c.eq.result c.text_at.ensures
+    (ap option_copied c.in_ok-word.was) c.eq.ensures c.loop-i.invariant
     c.if-eq.false (option_copied c.text_at-in-loop-i.result) c.text_at-in-loop-i.ensures (c.wrong_value-wrong.ensures.none (none_found c.wrong_value-wrong.result c.is_some.result c.is_some.ensures c.if-is_some.false))
 
 pub returns-then-is_some : goal.returns-then-is_some
 returns-then-is_some g c = record {
   some =
-      wrong_here (map g.S.AsStr.text c.args.words.now) c.loop-i.i c.in_ok-word.word.now (option_copied c.text_at.result) c.eq.result c.text_at.ensures (ap option_copied c.in_ok-word.was) c.eq.ensures c.loop-i.invariant
+      wrong_here (map g.S.AsStr.text c.args.words.now) c.loop-i.i c.in_ok-word.word.now
+      (option_copied c.text_at.result) c.eq.result c.text_at.ensures
+      (ap option_copied c.in_ok-word.was) c.eq.ensures c.loop-i.invariant
       c.if-eq.false c.wrong_value-wrong.result (option_copied c.text_at-in-loop-i.result) c.loop-i.auto.i c.text_at-in-loop-i.ensures c.wrong_value-wrong.ensures.some;
   none = some_found c.wrong_value-wrong.result c.is_some.result c.is_some.ensures c.if-is_some.true;
 }
 
 pub returns-then-eq-clause-none : goal.returns-then-eq-clause-none
 returns-then-eq-clause-none g c = λ _.
-    dashes_here (map g.S.AsStr.text c.args.words.now) c.loop-i.i c.in_ok-word.word.now (option_copied c.text_at.result) c.eq.result c.text_at.ensures (ap option_copied c.in_ok-word.was) c.eq.ensures c.loop-i.invariant
+    dashes_here (map g.S.AsStr.text c.args.words.now) c.loop-i.i c.in_ok-word.word.now
+    (option_copied c.text_at.result) c.eq.result c.text_at.ensures
+    (ap option_copied c.in_ok-word.was) c.eq.ensures c.loop-i.invariant
     c.loop-i.auto.i c.if-eq.true
 
 pub returns-in_err-word-clause-none : goal.returns-in_err-word-clause-none

@@ -10,10 +10,13 @@ wrong_for-requires-in-None c = number_range c.in_ok-number_option-in-None.field-
 
 pub returns-in_err-number_option-in-Some-clause-none : goal.returns-in_err-number_option-in-Some-clause-none
 returns-in_err-number_option-in-Some-clause-none c = λ _.
-    unnamed_after c.args.word.now (option_copied c.args.next) c.in-Some.name c.in-Some.value c.in-Some.ensures.cases (c.number_option.ensures.none c.in_err-number_option-in-Some.was)
+    unnamed_after c.args.word.now (option_copied c.args.next) c.in-Some.name c.in-Some.value c.in-Some.ensures.cases
+    (c.number_option.ensures.none c.in_err-number_option-in-Some.was)
 
 pub returns-in_err-next-in-None-clause-none : goal.returns-in_err-next-in-None-clause-none
-returns-in_err-next-in-None-clause-none c = λ _. last c.args.word.now (option_copied c.args.next) c.in-None.ensures.cases (ap option_copied c.in_err-next-in-None.was)
+returns-in_err-next-in-None-clause-none c =
+    λ _. last c.args.word.now (option_copied c.args.next) c.in-None.ensures.cases
+    (ap option_copied c.in_err-next-in-None.was)
 
 pub returns-in_ok-number_option-in-Some-clause-some : goal.returns-in_ok-number_option-in-Some-clause-some
 returns-in_ok-number_option-in-Some-clause-some c =

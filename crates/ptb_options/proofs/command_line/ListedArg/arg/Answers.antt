@@ -9,7 +9,8 @@ pub returns-in-Number : goal.returns-in-Number
 returns-in-Number c =
     let given = c.value_parser.ensures.given in
     let told =
-    number_rule c.under_heading-arg.result c.args.self.now.name c.args.self.now.kind (c.under_heading-arg.ensures.rule ∙ ap rule_of c.help.ensures ∙ c.new.ensures.rule)
+    number_rule c.under_heading-arg.result c.args.self.now.name c.args.self.now.kind
+    (c.under_heading-arg.ensures.rule ∙ ap rule_of c.help.ensures ∙ c.new.ensures.rule)
     (c.under_heading-arg.ensures.local ∙ ap (λ (x : Arg). x.global) c.help.ensures ∙ c.new.ensures.optional.1)
     c.long.result c.long.ensures c.value_name.result (ap rule_of c.value_name.ensures) (ap (λ (x : Arg). x.global) c.value_name.ensures) c.value_parser.result c.in-Number.parser c.value_parser.ensures.others (given.1 ∙ ap Some given.2) c.in-Number.is
     in
@@ -18,16 +19,19 @@ returns-in-Number c =
 pub returns-in-List : goal.returns-in-List
 returns-in-List c =
     let told =
-    text_rule c.under_heading-arg.result c.args.self.now.name c.args.self.now.kind (c.under_heading-arg.ensures.rule ∙ ap rule_of c.help.ensures ∙ c.new.ensures.rule)
+    text_rule c.under_heading-arg.result c.args.self.now.name c.args.self.now.kind
+    (c.under_heading-arg.ensures.rule ∙ ap rule_of c.help.ensures ∙ c.new.ensures.rule)
     (c.under_heading-arg.ensures.local ∙ ap (λ (x : Arg). x.global) c.help.ensures ∙ c.new.ensures.optional.1)
-    c.long-in-List.result c.long-in-List.ensures c.value_name-in-List.result (ap rule_of c.value_name-in-List.ensures) (ap (λ (x : Arg). x.global) c.value_name-in-List.ensures) c.in-List.is
+    c.long-in-List.result c.long-in-List.ensures c.value_name-in-List.result (ap rule_of c.value_name-in-List.ensures)
+    (ap (λ (x : Arg). x.global) c.value_name-in-List.ensures) c.in-List.is
     in
     record { rule = told.rule; local = told.local }
 
 pub returns-in-Flag : goal.returns-in-Flag
 returns-in-Flag c =
     let told =
-    flag_rule c.under_heading-arg.result c.args.self.now.name c.args.self.now.kind (c.under_heading-arg.ensures.rule ∙ ap rule_of c.help.ensures ∙ c.new.ensures.rule)
+    flag_rule c.under_heading-arg.result c.args.self.now.name c.args.self.now.kind
+    (c.under_heading-arg.ensures.rule ∙ ap rule_of c.help.ensures ∙ c.new.ensures.rule)
     (c.under_heading-arg.ensures.local ∙ ap (λ (x : Arg). x.global) c.help.ensures ∙ c.new.ensures.optional.1)
     c.long-in-Flag.result c.long-in-Flag.ensures c.action.result c.action.ensures c.in-Flag.is
     in
@@ -36,8 +40,10 @@ returns-in-Flag c =
 pub returns-in-Operand : goal.returns-in-Operand
 returns-in-Operand c =
     let told =
-    operand_rule c.under_heading-arg.result c.args.self.now.name c.args.self.now.kind (c.under_heading-arg.ensures.rule ∙ ap rule_of c.help.ensures ∙ c.new.ensures.rule)
+    operand_rule c.under_heading-arg.result c.args.self.now.name c.args.self.now.kind
+    (c.under_heading-arg.ensures.rule ∙ ap rule_of c.help.ensures ∙ c.new.ensures.rule)
     (c.under_heading-arg.ensures.local ∙ ap (λ (x : Arg). x.global) c.help.ensures ∙ c.new.ensures.optional.1)
-    c.value_name-in-Operand.result (ap rule_of c.value_name-in-Operand.ensures) (ap (λ (x : Arg). x.global) c.value_name-in-Operand.ensures) c.in-Operand.is
+    c.value_name-in-Operand.result (ap rule_of c.value_name-in-Operand.ensures)
+    (ap (λ (x : Arg). x.global) c.value_name-in-Operand.ensures) c.in-Operand.is
     in
     record { rule = told.rule; local = told.local }

@@ -7,7 +7,8 @@ use Rattle.ptb_options.specs.Options.{Options}
 use Rattle.ptb_options.proofs.deciding.GivenOptions.clashes.Goals as goal
 
 -- whether there is a text, by how the code has it
-given : (held : Option (Bor (List ℕ))) (text : Option (List ℕ)) (b : Bool) → b ≡ is_some held → option_copied held ≡ text → b ≡ is_some text
+given : (held : Option (Bor (List ℕ))) (text : Option (List ℕ)) (b : Bool) → b ≡ is_some held
+    → option_copied held ≡ text → b ≡ is_some text
 given None text b is same = is ∙ ap is_some same
 given (Some s) text b is same = is ∙ ap is_some same
 

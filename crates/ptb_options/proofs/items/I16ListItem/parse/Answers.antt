@@ -13,7 +13,8 @@ some_item : (m j : Marked) → Some m ≡ Some j → m ≡ j
 some_item m j e = cc
 
 pub returns-in_err-item-clause-only : goal.returns-in_err-item-clause-only
-returns-in_err-item-clause-only c k h = absurd (none_is_some (without_bound k) (c.in_err-item.ensures.only (without_bound k) h))
+returns-in_err-item-clause-only c k h =
+    absurd (none_is_some (without_bound k) (c.in_err-item.ensures.only (without_bound k) h))
 
 pub returns-then-is_some-clause-only : goal.returns-then-is_some-clause-only
 returns-then-is_some-clause-only c k h =
