@@ -1,6 +1,7 @@
 -- This file proves that a run goes by the answers of a list.
 -- Main lemma: `goes_by_list`.
-use Rattle.std.proofs.Common.{◌≡◌, ◌∙◌, ◌⊎◌, inl, inr, ℕ, suc, ◌<◌, List, ◌∷◌, ◌++◌, length, take, drop, Some, ℤ, sym, ap, arith, drop-cons}
+use Rattle.std.proofs.Common.{◌≡◌, ◌∙◌, ◌⊎◌, inl, inr, ℕ, suc, ◌<◌, List, ◌∷◌, ◌++◌, length, take}
+use Rattle.std.proofs.Common.{drop, Some, ℤ, sym, ap, arith, drop-cons}
 use Rattle.std.specs.Prelude.{slice_get}
 use Rattle.std.proofs.lemmas.List.{take-append-drop, drop_all}
 use Rattle.std.proofs.lemmas.Option.{slice_get_within, get_or_from_slice_get}
@@ -26,7 +27,8 @@ given_first a l answers bounds e =
     sym same ∙ sym (take-append-drop l.given l.answers) ∙ ap (λ t. t ++ drop l.given l.answers) first
 
 -- whatever its lines are
-pub goes_by_list : (a : List ℤ) (s l : AnswerList) (p : StoredProgram) (rules : Rules) → s ≡ record { answers = a; given = 0 }
+pub goes_by_list : (a : List ℤ) (s l : AnswerList) (p : StoredProgram) (rules : Rules)
+    → s ≡ record { answers = a; given = 0 }
     → GoesBy (RefusedByList l.answers l.given) (choices_of s) (choices_of l) (λ _. a) p rules
 goes_by_list a s l p rules begins lines taken bounds asked e = record {
   rest = drop l.given l.answers;

@@ -7,7 +7,8 @@ use Rattle.rand_pcg.specs.Pcg.{pcg32}
 use Rattle.ptb_text.specs.Statements.{StoredProgram}
 use Rattle.ptb_answers.specs.Outcome.{Answers, Outcome}
 use Rattle.ptb_answers.specs.Choices.{Asked, with_answers}
-use Rattle.ptb_answers.specs.Seeds.{SeededAnswers, RefusedForMemory, drawn_answer, drawn_from, generator_of, seeded_choices}
+use Rattle.ptb_answers.specs.Seeds.{SeededAnswers, RefusedForMemory, drawn_answer, drawn_from}
+use Rattle.ptb_answers.specs.Seeds.{generator_of, seeded_choices}
 use Rattle.ptb_answers.specs.Drawn.{answers_by, to_question}
 use Rattle.ptb_answers.proofs.Drawn.{Few, few_behind}
 use Rattle.ptb_answers.proofs.Seeds.{same_generator}
@@ -19,7 +20,8 @@ use Rattle.ptb_plain.specs.PlainRuns.{GoesBy, IsLed}
 use Rattle.ptb_plain.specs.SeededRuns.{IsDrawn, SeededLaws, seeded_answers}
 
 -- what is answered begins with what was taken, where that was drawn for its bounds
-pub drawn_first : {A W : Type 0} (most : ℕ) (g : Lcg) (f : Answers → Outcome A W) (ts : Answers) (bs : List ℤ) → Few f most → Asked f ts bs → ts ≡ drawn_from g bs
+pub drawn_first : {A W : Type 0} (most : ℕ) (g : Lcg) (f : Answers → Outcome A W) (ts : Answers) (bs : List ℤ)
+    → Few f most → Asked f ts bs → ts ≡ drawn_from g bs
     → (rest : Answers) × (answers_by most g f ≡ ts ++ rest)
 drawn_first most g f [] [] few asked e = (answers_by most g f, refl)
 drawn_first most g f [] (n ∷ bs) few asked e = absurd asked
@@ -38,7 +40,8 @@ drawn_first (suc most) g f (k ∷ ts) (n ∷ bs) few asked e =
 -- ---- a chooser by a seed
 
 -- what it has answered was drawn for the bounds of what it was asked
-taken_drawn : (seed : ℕ) (s t : SeededAnswers) (taken : Answers) (bounds : List ℤ) → s ≡ record { first = generator_of seed; bounds = [] }
+taken_drawn : (seed : ℕ) (s t : SeededAnswers) (taken : Answers) (bounds : List ℤ)
+    → s ≡ record { first = generator_of seed; bounds = [] }
     → seeded_choices t ≡ with_answers taken bounds (seeded_choices s) → taken ≡ drawn_from (generator_of seed) bounds
 taken_drawn seed s t taken bounds begins e =
     let new : SeededAnswers = record { first = generator_of seed; bounds = [] } in
@@ -49,7 +52,8 @@ taken_drawn seed s t taken bounds begins e =
     let same_bounds : t.bounds ≡ bounds = cc in
     sym answers ∙ ap (λ x. drawn_from x t.bounds) same_first ∙ ap (drawn_from (generator_of seed)) same_bounds
 
-goes_by_seed : RunLaws → (seed : ℕ) (s t : SeededAnswers) (p : StoredProgram) (rules : Rules) → s ≡ record { first = generator_of seed; bounds = [] }
+goes_by_seed : RunLaws → (seed : ℕ) (s t : SeededAnswers) (p : StoredProgram) (rules : Rules)
+    → s ≡ record { first = generator_of seed; bounds = [] }
     → GoesBy RefusedForMemory (seeded_choices s) (seeded_choices t) (λ lines. seeded_answers seed p lines rules) p rules
 goes_by_seed laws seed s t p rules begins lines taken bounds asked grown =
     let few = (laws.reads p lines rules).few in
@@ -57,8 +61,11 @@ goes_by_seed laws seed s t p rules begins lines taken bounds asked grown =
     record { rest = first.0; whole = first.1; ended = λ n h. absurd h; outside = λ k n h. absurd h }
 
 -- whatever answers are drawn from the seed, it goes by them
-pub goes_by_drawn : RunLaws → SeededLaws → (seed : ℕ) (s t : SeededAnswers) (p : StoredProgram) (rules : Rules) → s ≡ record { first = generator_of seed; bounds = [] }
-    → (answers : List (List ℕ) → Answers) → ((lines : List (List ℕ)) → IsDrawn seed (play p lines rules) (answers lines))
+pub goes_by_drawn : RunLaws → SeededLaws → (seed : ℕ) (s t : SeededAnswers) (p : StoredProgram) (rules : Rules)
+    → s ≡ record { first = generator_of seed; bounds = [] }
+    → (answers : List (List ℕ) → Answers)
+    → ((lines : List (List ℕ)) → IsDrawn seed (play p lines rules) (answers lines))
     → GoesBy RefusedForMemory (seeded_choices s) (seeded_choices t) answers p rules
 goes_by_drawn laws seeded seed s t p rules begins answers drawn lines taken bounds asked grown =
-    subst (IsLed RefusedForMemory taken) (sym (seeded.only seed p lines rules (answers lines) (drawn lines))) (goes_by_seed laws seed s t p rules begins lines taken bounds asked grown)
+    subst (IsLed RefusedForMemory taken) (sym (seeded.only seed p lines rules (answers lines) (drawn lines)))
+    (goes_by_seed laws seed s t p rules begins lines taken bounds asked grown)

@@ -1,4 +1,5 @@
--- This file proves that a seed gives the answers of one run, each drawn for the bound of its question, and that no other list is drawn so.
+-- This file proves that a seed gives the answers of one run, each drawn for the bound of its question, and that no
+-- other list is drawn so.
 -- Main lemma: `seeded_laws`.
 use Rattle.std.proofs.Common.{◌≡◌, ℕ}
 use Rattle.ptb_answers.specs.Outcome.{Answers, Outcome, IsReader}

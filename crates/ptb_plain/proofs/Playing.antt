@@ -1,6 +1,9 @@
--- This file proves the result of a run that goes by a list of answers, from a complete run with a chooser, a screen over a writer and a list of lines.
+-- This file proves the result of a run that goes by a list of answers, from a complete run with a chooser, a screen
+-- over a writer and a list of lines.
 -- Main lemma: `run_between`.
-use Rattle.std.proofs.Common.{◌≡◌, ℕ, ◌+◌, ◌≤◌, ◌⊎◌, inl, inr, Bool, true, false, List, [], ◌++◌, length, take, Option, Some, None, Result, Ok, Err, IfOk, IsErrOf, ℤ, refl, sym, ap, subst, ◌∙◌, arith, append-nil, length-append}
+use Rattle.std.proofs.Common.{◌≡◌, ℕ, ◌+◌, ◌≤◌, ◌⊎◌, inl, inr, Bool, true, false, List, [], ◌++◌}
+use Rattle.std.proofs.Common.{length, take, Option, Some, None, Result, Ok, Err, IfOk, IsErrOf, ℤ}
+use Rattle.std.proofs.Common.{refl, sym, ap, subst, ◌∙◌, arith, append-nil, length-append}
 use Rattle.std.specs.Borrow.{MutBor}
 use Rattle.std.specs.Io.KnownBytes.{Appends}
 use Rattle.std.proofs.KnownBytes.{Appends-nil}
@@ -25,14 +28,16 @@ use Rattle.ptb_devices.specs.Sources.{NoneLeft}
 use Rattle.ptb_command.specs.declared.stop.DeviceError.{DeviceError}
 use Rattle.ptb_command.specs.declared.stop.DeviceError.TheVariants as errors
 use Rattle.ptb_command.specs.Devices.{ScreenState, Devices, devices, with_failures, Exchange, Refusal, refused_by}
-use Rattle.ptb_machine.specs.Runs.{played_bytes, Plays, IsFinished, IsUnanswered, IsUnfinished, LacksInput, RunComes, Runs, UnlessRunMissed, StopsAt, IsLineOf}
+use Rattle.ptb_machine.specs.Runs.{played_bytes, Plays, IsFinished, IsUnanswered, IsUnfinished}
+use Rattle.ptb_machine.specs.Runs.{LacksInput, RunComes, Runs, UnlessRunMissed, StopsAt, IsLineOf}
 use Rattle.ptb_machine.proofs.Endings.{HasRunEnding, play_ends}
 use Rattle.ptb_plain.specs.Noted.{ended_for, noted, noted_result}
 use Rattle.ptb_plain.specs.PlainRuns.{ShowsRun, ShowsQuestion, ShowsUnread, lines_taken, IsLed, GoesBy}
 
 -- ---- lists
 
-pub takes_beginning : (old new : Option (List ℕ)) (bytes all : List ℕ) → Appends old new bytes → Begins bytes all → TakesSome old new all
+pub takes_beginning : (old new : Option (List ℕ)) (bytes all : List ℕ) → Appends old new bytes → Begins bytes all
+    → TakesSome old new all
 takes_beginning old new bytes all h begins =
     let size : length all ≡ length bytes + length begins.0 = ap length begins.1 ∙ length-append bytes begins.0 in
     let front : take (length bytes) all ≡ bytes = ap (take (length bytes)) begins.1 ∙ take-append_seam bytes begins.0 in
@@ -56,7 +61,8 @@ pub record IsPlainRun (p : StoredProgram) (rules : Rules) (lines : List (List �
   pub ok : IfOk result (ShowsRun (plain p lines rules a) old.shown new.shown)
   pub beginning : TakesSome old.shown new.shown (plain p lines rules a).0
   pub failed : IsErrOf result runs.Write → HasFailed old.failures new.failures
-  pub memory : IsErrOf result runs.Memory → Appends old.shown new.shown [] ⊎ (((n : ℤ) × refuses pauses.Memory n) × ShowsQuestion (plain p lines rules) a old.shown new.shown)
+  pub memory : IsErrOf result runs.Memory
+      → Appends old.shown new.shown [] ⊎ (((n : ℤ) × refuses pauses.Memory n) × ShowsQuestion (plain p lines rules) a old.shown new.shown)
   pub unfailed : (IsErrOf result runs.Write → ⊥) → new.failures ≡ old.failures
   pub unspent : IsErrOf result runs.Spent → ⊥
 
@@ -66,7 +72,8 @@ pub record IsUnreadRun (p : StoredProgram) (rules : Rules) (lines : List (List �
   pub shows : ShowsUnread rules.choose (plain p lines rules) a old.shown new.shown
   pub unfailed : new.failures ≡ old.failures
 
--- a source of lines gave some, and these come after them; it says what holds after its refusals, and whether the chooser noted that it was refused memory
+-- a source of lines gave some, and these come after them; it says what holds after its refusals, and whether the
+-- chooser noted that it was refused memory
 module _ (p : StoredProgram) (rules : Rules) (a : Answers) (refuses : Pause → ℤ → Type 0) (noticed : Bool) (c d : Choices) (old new : ScreenState) (could can : ℕ) (given behind : List (List ℕ)) (unread : ReadFault → Type 0) (left : Option (List (List ℕ)))
     (led : (taken : Answers) (bounds : List ℤ) → Asked (play p (given ++ behind) rules) taken bounds → d ≡ with_answers taken bounds c → IsLed refuses taken a) where
   abbrev refused : Refusal → Type 0
@@ -82,10 +89,13 @@ module _ (p : StoredProgram) (rules : Rules) (a : Answers) (refuses : Pause → 
   later = devices d new can rules.choose given
 
   -- what is left of the answers after those that were taken, however often the writer has failed
-  left_by : (failures : ℕ) (x : Exchange) (left : Answers → Outcome Finish (List ℕ)) → Plays p rules lines before (with_failures failures later) x left → IsLed refuses x.answers a
+  left_by : (failures : ℕ) (x : Exchange) (left : Answers → Outcome Finish (List ℕ))
+      → Plays p rules lines before (with_failures failures later) x left → IsLed refuses x.answers a
   left_by failures x left h = led x.answers x.bounds h.leaves.asked h.exchanges.grown
 
-  is_ok : {x : Exchange} {left : Answers → Outcome Finish (List ℕ)} (e : Ending) → Plays p rules lines before later x left → ShowsRun (plain p lines rules a) old.shown new.shown e → IsPlainRun p rules lines a refuses old new (Ok e)
+  is_ok : {x : Exchange} {left : Answers → Outcome Finish (List ℕ)} (e : Ending)
+      → Plays p rules lines before later x left → ShowsRun (plain p lines rules a) old.shown new.shown e
+      → IsPlainRun p rules lines a refuses old new (Ok e)
   is_ok e plays h = record {
     same_borrow = plays.exchanges.shows.same_borrow;
     ok = h;
@@ -97,14 +107,17 @@ module _ (p : StoredProgram) (rules : Rules) (a : Answers) (refuses : Pause → 
   }
 
   -- the play with all of the answers is what is left of it, with those that are left
-  play_is : (failures : ℕ) (x : Exchange) (left : Answers → Outcome Finish (List ℕ)) (h : Plays p rules lines before (with_failures failures later) x left)
+  play_is : (failures : ℕ) (x : Exchange) (left : Answers → Outcome Finish (List ℕ))
+      (h : Plays p rules lines before (with_failures failures later) x left)
       → play p lines rules a ≡ left (left_by failures x left h).rest
   play_is failures x left h =
       let behind = left_by failures x left h in
       ap (play p lines rules) behind.whole ∙ ap (λ (f : Answers → Outcome Finish (List ℕ)). f behind.rest) h.leaves.rest
 
-  shows_run : (x : Exchange) (left : Answers → Outcome Finish (List ℕ)) (e : Ending) (o : Outcome Finish (List ℕ)) (h : Plays p rules lines before later x left)
-      → left (left_by new.failures x left h).rest ≡ o → plain_of o ≡ (x.bytes, e) → ShowsRun (plain p lines rules a) old.shown new.shown e
+  shows_run : (x : Exchange) (left : Answers → Outcome Finish (List ℕ)) (e : Ending) (o : Outcome Finish (List ℕ))
+      (h : Plays p rules lines before later x left)
+      → left (left_by new.failures x left h).rest ≡ o → plain_of o ≡ (x.bytes, e)
+      → ShowsRun (plain p lines rules a) old.shown new.shown e
   shows_run x left e o h is ends =
       let all : plain p lines rules a ≡ (x.bytes, e) = ap plain_of (play_is new.failures x left h ∙ is) ∙ ends in
       record {
@@ -112,28 +125,34 @@ module _ (p : StoredProgram) (rules : Rules) (a : Answers) (refuses : Pause → 
         bytes = subst (Appends old.shown new.shown) (sym (ap (λ r. r.0) all)) h.exchanges.shows.shown;
       }
 
-  finished : (e : Ending) → IsFinished refused p rules lines before later e → IsPlainRun p rules lines a refuses old new (Ok e)
+  finished : (e : Ending) → IsFinished refused p rules lines before later e
+      → IsPlainRun p rules lines a refuses old new (Ok e)
   finished e h = is_ok e h.plays (shows_run h.exchange _ e _ h.plays refl refl)
 
   -- INPUT found no line left, so all of them were given
-  dry : (NoneLeft left → behind ≡ []) → RunComes refused p rules behind before later (Ok endings.NoInput) → IsPlainRun p rules lines a refuses old new (Ok endings.NoInput)
+  dry : (NoneLeft left → behind ≡ []) → RunComes refused p rules behind before later (Ok endings.NoInput)
+      → IsPlainRun p rules lines a refuses old new (Ok endings.NoInput)
   dry none h =
       let all : lines ≡ given = ap (λ r. given ++ r) (none h.0) ∙ append-nil given in
-      finished endings.NoInput (subst (λ i. IsFinished refused p rules i before later endings.NoInput) (sym all) (h.1 (none h.0)))
+      finished endings.NoInput
+      (subst (λ i. IsFinished refused p rules i before later endings.NoInput) (sym all) (h.1 (none h.0)))
 
   -- with the answers that were taken the play asks, and its bytes up to that question were shown
-  shows_question : (failures : ℕ) (bound : ℤ) (x : Exchange) (left : Answers → Outcome Finish (List ℕ)) → Plays p rules lines before (with_failures failures later) x left
+  shows_question : (failures : ℕ) (bound : ℤ) (x : Exchange) (left : Answers → Outcome Finish (List ℕ))
+      → Plays p rules lines before (with_failures failures later) x left
       → left [] ≡ Asks bound x.bytes → ShowsRun (plain p lines rules x.answers) old.shown new.shown endings.NoAnswer
   shows_question failures bound x left h asks =
       let all : plain p lines rules x.answers ≡ (x.bytes, endings.NoAnswer) =
-      ap (λ q. plain p lines rules q) (sym (append-nil x.answers)) ∙ ap plain_of (ap (λ (f : Answers → Outcome Finish (List ℕ)). f []) h.leaves.rest ∙ asks) in
+      ap (λ q. plain p lines rules q) (sym (append-nil x.answers))
+      ∙ ap plain_of (ap (λ (f : Answers → Outcome Finish (List ℕ)). f []) h.leaves.rest ∙ asks) in
       record {
         ending = sym (ap (λ r. r.1) all);
         bytes = subst (Appends old.shown new.shown) (sym (ap (λ r. r.0) all)) h.exchanges.shows.shown;
       }
 
   -- what was shown up to a question is a beginning
-  shown_before : {z : Pause} → IsUnanswered refused p rules lines before later z → TakesSome old.shown new.shown (plain p lines rules a).0
+  shown_before : {z : Pause} → IsUnanswered refused p rules lines before later z
+      → TakesSome old.shown new.shown (plain p lines rules a).0
   shown_before h =
       let begins = h.begins (left_by new.failures h.exchange h.left h.plays).rest in
       let all : (plain p lines rules a).0 ≡ played_bytes (h.left (left_by new.failures h.exchange h.left h.plays).rest) =
@@ -141,12 +160,15 @@ module _ (p : StoredProgram) (rules : Rules) (a : Answers) (refuses : Pause → 
       takes_beginning old.shown new.shown h.exchange.bytes _ h.plays.exchanges.shows.shown (begins.0, all ∙ begins.1)
 
   -- no answer is left, or it was refused memory
-  unanswered : IsUnanswered refused p rules lines before later pauses.Ended → IsPlainRun p rules lines a refuses old new (noted_result noticed (Ok endings.NoAnswer))
+  unanswered : IsUnanswered refused p rules lines before later pauses.Ended
+      → IsPlainRun p rules lines a refuses old new (noted_result noticed (Ok endings.NoAnswer))
   unanswered h = by_refusal noticed h.refuses where
-    by_refusal : (refused : Bool) → ended_for refused (refuses pauses.Memory h.bound) (refuses pauses.Ended h.bound) → IsPlainRun p rules lines a refuses old new (noted_result refused (Ok endings.NoAnswer))
+    by_refusal : (refused : Bool) → ended_for refused (refuses pauses.Memory h.bound) (refuses pauses.Ended h.bound)
+        → IsPlainRun p rules lines a refuses old new (noted_result refused (Ok endings.NoAnswer))
     by_refusal false r =
         let none = (left_by new.failures h.exchange h.left h.plays).ended h.bound r in
-        is_ok endings.NoAnswer h.plays (shows_run h.exchange h.left endings.NoAnswer _ h.plays (ap h.left none ∙ h.asks) refl)
+        is_ok endings.NoAnswer h.plays
+        (shows_run h.exchange h.left endings.NoAnswer _ h.plays (ap h.left none ∙ h.asks) refl)
     by_refusal true r =
         let behind = left_by new.failures h.exchange h.left h.plays in
         record {
@@ -167,20 +189,24 @@ module _ (p : StoredProgram) (rules : Rules) (a : Answers) (refuses : Pause → 
           unspent = λ f. cc;
         }
 
-  out_of_range : (k : ℤ) → IsUnanswered refused p rules lines before later (pauses.OutOfRange k) → IsPlainRun p rules lines a refuses old new (Ok endings.BadAnswer)
+  out_of_range : (k : ℤ) → IsUnanswered refused p rules lines before later (pauses.OutOfRange k)
+      → IsPlainRun p rules lines a refuses old new (Ok endings.BadAnswer)
   out_of_range k h =
       let next = (left_by new.failures h.exchange h.left h.plays).outside k h.bound h.refuses in
-      is_ok endings.BadAnswer h.plays (shows_run h.exchange h.left endings.BadAnswer _ h.plays (ap h.left next.1 ∙ h.outside next.0) refl)
+      is_ok endings.BadAnswer h.plays
+      (shows_run h.exchange h.left endings.BadAnswer _ h.plays (ap h.left next.1 ∙ h.outside next.0) refl)
 
   -- where a device fails, what was shown is a beginning
-  begun : {e : DeviceError} → IsUnfinished refused p rules lines before later e → TakesSome old.shown new.shown (plain p lines rules a).0
+  begun : {e : DeviceError} → IsUnfinished refused p rules lines before later e
+      → TakesSome old.shown new.shown (plain p lines rules a).0
   begun h =
       let begins = h.begins (left_by old.failures h.exchange h.left h.plays).rest in
       let all : (plain p lines rules a).0 ≡ played_bytes (h.left (left_by old.failures h.exchange h.left h.plays).rest) =
       plain_bytes (play p lines rules a) ∙ ap played_bytes (play_is old.failures h.exchange h.left h.plays) in
       takes_beginning old.shown new.shown h.exchange.bytes _ h.plays.exchanges.shows.shown (begins.0, all ∙ begins.1)
 
-  unwritten : RunComes refused p rules behind before later (Err runs.Write) → IsPlainRun p rules lines a refuses old new (Err runs.Write)
+  unwritten : RunComes refused p rules behind before later (Err runs.Write)
+      → IsPlainRun p rules lines a refuses old new (Err runs.Write)
   unwritten h = record {
     same_borrow = h.plays.exchanges.shows.same_borrow;
     ok = tt;
@@ -191,7 +217,8 @@ module _ (p : StoredProgram) (rules : Rules) (a : Answers) (refuses : Pause → 
     unspent = λ f. cc;
   }
 
-  not_read : RunComes refused p rules behind before later (Err runs.Read) → IsPlainRun p rules lines a refuses old new (Err runs.Read)
+  not_read : RunComes refused p rules behind before later (Err runs.Read)
+      → IsPlainRun p rules lines a refuses old new (Err runs.Read)
   not_read h = record {
     same_borrow = h.plays.exchanges.shows.same_borrow;
     ok = tt;
@@ -202,8 +229,10 @@ module _ (p : StoredProgram) (rules : Rules) (a : Answers) (refuses : Pause → 
     unspent = λ f. cc;
   }
 
-  -- a source without memory and a screen over a writer take none, and the chooser notes its refusals: it was refused to the machine itself
-  out_of_memory : old.takes_memory ≡ false → (unread reads.Memory → ⊥) → RunComes refused p rules behind before later (Err runs.Memory) → later ≡ before
+  -- a source without memory and a screen over a writer take none, and the chooser notes its refusals: it was refused
+  -- to the machine itself
+  out_of_memory : old.takes_memory ≡ false → (unread reads.Memory → ⊥)
+      → RunComes refused p rules behind before later (Err runs.Memory) → later ≡ before
   out_of_memory e no_memory h =
       elim h [
         | inl same ↦ same
@@ -232,21 +261,26 @@ module _ (p : StoredProgram) (rules : Rules) (a : Answers) (refuses : Pause → 
   -- ---- the lines that it takes
 
   -- the given lines are no more than it takes, with all of the answers
-  fits : (x : Exchange) (rest : Answers) (more : List (List ℕ)) → a ≡ x.answers ++ rest → lines ≡ given ++ (more ++ unasked_lines p lines rules (x.answers ++ rest)) → length given ≤ lines_taken p lines rules a
+  fits : (x : Exchange) (rest : Answers) (more : List (List ℕ)) → a ≡ x.answers ++ rest
+      → lines ≡ given ++ (more ++ unasked_lines p lines rules (x.answers ++ rest))
+      → length given ≤ lines_taken p lines rules a
   fits x rest more e k =
       let unasked : unasked_lines p lines rules a ≡ unasked_lines p lines rules (x.answers ++ rest) = ap (unasked_lines p lines rules) e in
       omega (arith, ap length k, ap length unasked, length-append given (more ++ unasked_lines p lines rules (x.answers ++ rest)), length-append more (unasked_lines p lines rules (x.answers ++ rest)))
 
-  fits_finished : (e : Ending) → IsFinished refused p rules lines before later e → length given ≤ lines_taken p lines rules a
+  fits_finished : (e : Ending) → IsFinished refused p rules lines before later e
+      → length given ≤ lines_taken p lines rules a
   fits_finished e h = let behind = left_by new.failures h.exchange _ h.plays in fits h.exchange behind.rest [] behind.whole (h.lines behind.rest)
 
-  fits_unanswered : (z : Pause) → IsUnanswered refused p rules lines before later z → length given ≤ lines_taken p lines rules a
+  fits_unanswered : (z : Pause) → IsUnanswered refused p rules lines before later z
+      → length given ≤ lines_taken p lines rules a
   fits_unanswered z h =
       let behind = left_by new.failures h.exchange h.left h.plays in
       let taken = h.more_lines behind.rest in
       fits h.exchange behind.rest taken.0 behind.whole taken.1
 
-  fits_unfinished : (e : DeviceError) → IsUnfinished refused p rules lines before later e → length given ≤ lines_taken p lines rules a
+  fits_unfinished : (e : DeviceError) → IsUnfinished refused p rules lines before later e
+      → length given ≤ lines_taken p lines rules a
   fits_unfinished e h =
       let behind = left_by old.failures h.exchange h.left h.plays in
       let taken = h.lines behind.rest in
@@ -255,12 +289,15 @@ module _ (p : StoredProgram) (rules : Rules) (a : Answers) (refuses : Pause → 
   fits_none : later ≡ before → length given ≤ lines_taken p lines rules a
   fits_none e = omega (arith, ap (λ (d : Devices). length d.given) e)
 
-  fits_dry : (NoneLeft left → behind ≡ []) → RunComes refused p rules behind before later (Ok endings.NoInput) → length given ≤ lines_taken p lines rules a
+  fits_dry : (NoneLeft left → behind ≡ []) → RunComes refused p rules behind before later (Ok endings.NoInput)
+      → length given ≤ lines_taken p lines rules a
   fits_dry none h =
       let all : lines ≡ given = ap (λ r. given ++ r) (none h.0) ∙ append-nil given in
-      fits_finished endings.NoInput (subst (λ i. IsFinished refused p rules i before later endings.NoInput) (sym all) (h.1 (none h.0)))
+      fits_finished endings.NoInput
+      (subst (λ i. IsFinished refused p rules i before later endings.NoInput) (sym all) (h.1 (none h.0)))
 
-  pub takes_given : old.takes_memory ≡ false → (unread reads.Memory → ⊥) → (NoneLeft left → behind ≡ []) → (result : Result Ending RunFault)
+  pub takes_given : old.takes_memory ≡ false → (unread reads.Memory → ⊥) → (NoneLeft left → behind ≡ [])
+      → (result : Result Ending RunFault)
       → RunComes refused p rules behind before later result → length given ≤ lines_taken p lines rules a
   takes_given e no_memory none (Ok endings.End) h = fits_finished endings.End h
   takes_given e no_memory none (Ok endings.Stop) h = fits_finished endings.Stop h
@@ -276,13 +313,17 @@ module _ (p : StoredProgram) (rules : Rules) (a : Answers) (refuses : Pause → 
   takes_given e no_memory none (Err runs.Write) h = fits_unfinished errors.Write h
   takes_given e no_memory none (Err runs.Spent) h = absurd h
 
-  -- where it asked for a line that it wasn't given, and these are all lines, it ends for want of it, or would ask for an answer
-  unread_shows : {e : Ending} → IsPlainRun p rules lines a refuses old new (Ok e) → ShowsUnread rules.choose (plain p lines rules) a old.shown new.shown → IsUnreadRun p rules lines a old new
+  -- where it asked for a line that it wasn't given, and these are all lines, it ends for want of it, or would ask for
+  -- an answer
+  unread_shows : {e : Ending} → IsPlainRun p rules lines a refuses old new (Ok e)
+      → ShowsUnread rules.choose (plain p lines rules) a old.shown new.shown → IsUnreadRun p rules lines a old new
   unread_shows run shows = record { same_borrow = run.same_borrow; shows = shows; unfailed = run.unfailed (λ f. cc) }
 
   -- an ending for want of a line
-  lacks_line : (choose : Option ℤ) → rules.choose ≡ choose → IsFinished refused p rules lines before later endings.NoInput
-      → IsPlainRun p rules lines a refuses old new (Ok endings.NoInput) → ShowsUnread choose (plain p lines rules) a old.shown new.shown
+  lacks_line : (choose : Option ℤ) → rules.choose ≡ choose
+      → IsFinished refused p rules lines before later endings.NoInput
+      → IsPlainRun p rules lines a refuses old new (Ok endings.NoInput)
+      → ShowsUnread choose (plain p lines rules) a old.shown new.shown
   lacks_line None is h run = run.ok
   lacks_line (Some n) is h run =
       let none : rules.choose ≡ None = subst (λ (o : Outcome Finish (List ℕ)). HasRunEnding rules.choose o) (ap (λ (f : Answers → Outcome Finish (List ℕ)). f []) h.plays.leaves.rest) (play_ends p lines rules (h.exchange.answers ++ [])) in
@@ -292,12 +333,15 @@ module _ (p : StoredProgram) (rules : Rules) (a : Answers) (refuses : Pause → 
   dry_ending h = let run = finished endings.NoInput h in unread_shows run (lacks_line rules.choose refl h run)
 
   -- a line that can't be read
-  asks_instead : (n : ℤ) (h : IsUnfinished refused p rules lines before later errors.Read) → h.left [] ≡ Asks n h.exchange.bytes
+  asks_instead : (n : ℤ) (h : IsUnfinished refused p rules lines before later errors.Read)
+      → h.left [] ≡ Asks n h.exchange.bytes
       → ShowsUnread (Some n) (plain p lines rules) a old.shown new.shown
   asks_instead n h asks = (begun h, (h.exchange.answers, shows_question old.failures n h.exchange h.left h.plays asks))
 
-  unread_line : (choose : Option ℤ) → rules.choose ≡ choose → (h : IsUnfinished refused p rules lines before later errors.Read)
-      → LacksInput refused p rules lines before later choose h.exchange.bytes h.left → IsUnreadRun p rules lines a old new
+  unread_line : (choose : Option ℤ) → rules.choose ≡ choose
+      → (h : IsUnfinished refused p rules lines before later errors.Read)
+      → LacksInput refused p rules lines before later choose h.exchange.bytes h.left
+      → IsUnreadRun p rules lines a old new
   unread_line None is h lacks = dry_ending lacks
   unread_line (Some n) is h lacks = record {
     same_borrow = h.plays.exchanges.shows.same_borrow;
@@ -305,7 +349,8 @@ module _ (p : StoredProgram) (rules : Rules) (a : Answers) (refuses : Pause → 
     unfailed = h.broken.1;
   }
 
-  pub ends_dry : (P : Type 0) → (P → ⊥) → (unread reads.Memory → ⊥) → behind ≡ [] → (result : Result Ending RunFault) → UnlessRunMissed unread P result
+  pub ends_dry : (P : Type 0) → (P → ⊥) → (unread reads.Memory → ⊥) → behind ≡ [] → (result : Result Ending RunFault)
+      → UnlessRunMissed unread P result
       → RunComes refused p rules behind before later result → IsUnreadRun p rules lines a old new
   ends_dry P never no_memory none (Ok endings.End) m h = absurd (never m)
   ends_dry P never no_memory none (Ok endings.Stop) m h = absurd (never m)
@@ -318,13 +363,17 @@ module _ (p : StoredProgram) (rules : Rules) (a : Answers) (refuses : Pause → 
       dry_ending (subst (λ i. IsFinished refused p rules i before later endings.NoInput) (sym all) (h.1 none))
   ends_dry P never no_memory none (Ok endings.NoAnswer) m h = absurd (never m)
   ends_dry P never no_memory none (Ok endings.BadAnswer) m h = absurd (never m)
-  ends_dry P never no_memory none (Err runs.Memory) m h = elim m [ inl q ↦ absurd (never q) | inr r ↦ absurd (no_memory r) ]
-  ends_dry P never no_memory none (Err runs.Read) m h = unread_line rules.choose refl h (h.dry refl (ap (λ r. given ++ r) none ∙ append-nil given))
+  ends_dry P never no_memory none (Err runs.Memory) m h =
+      elim m [ inl q ↦ absurd (never q) | inr r ↦ absurd (no_memory r) ]
+  ends_dry P never no_memory none (Err runs.Read) m h =
+      unread_line rules.choose refl h (h.dry refl (ap (λ r. given ++ r) none ∙ append-nil given))
   ends_dry P never no_memory none (Err runs.Write) m h = absurd (never m)
   ends_dry P never no_memory none (Err runs.Spent) m h = absurd h
 
-  pub run_comes : old.takes_memory ≡ false → (unread reads.Memory → ⊥) → (NoneLeft left → behind ≡ []) → (result : Result Ending RunFault)
-      → RunComes refused p rules behind before later result → IsPlainRun p rules lines a refuses old new (noted_result noticed result)
+  pub run_comes : old.takes_memory ≡ false → (unread reads.Memory → ⊥) → (NoneLeft left → behind ≡ [])
+      → (result : Result Ending RunFault)
+      → RunComes refused p rules behind before later result
+      → IsPlainRun p rules lines a refuses old new (noted_result noticed result)
   run_comes e no_memory none (Ok endings.End) h = finished endings.End h
   run_comes e no_memory none (Ok endings.Stop) h = finished endings.Stop h
   run_comes e no_memory none (Ok endings.What) h = finished endings.What h
@@ -343,20 +392,25 @@ module _ (p : StoredProgram) (rules : Rules) (a : Answers) (refuses : Pause → 
 module _ (p : StoredProgram) (rules : Rules) (answers : List (List ℕ) → Answers) (refuses : Pause → ℤ → Type 0) (noticed : Bool) (c d : Choices) (old new : ScreenState) (could can : ℕ) (given : List (List ℕ)) (unread : ReadFault → Type 0) (left : Option (List (List ℕ)))
     (result : Result Ending RunFault) (goes : GoesBy refuses c d answers p rules)
     (h : Runs (refused_by (noted noticed refuses) unread left) p rules (devices c old could rules.choose []) (devices d new can rules.choose given) result) (over : can ≡ 0 → NoneLeft left) where
-  pub led_run : old.takes_memory ≡ false → (unread reads.Memory → ⊥) → (behind : List (List ℕ)) → (NoneLeft left → behind ≡ [])
+  pub led_run : old.takes_memory ≡ false → (unread reads.Memory → ⊥) → (behind : List (List ℕ))
+      → (NoneLeft left → behind ≡ [])
       → IsPlainRun p rules (given ++ behind) (answers (given ++ behind)) refuses old new (noted_result noticed result)
   led_run no_room no_memory behind none =
-      run_comes p rules (answers (given ++ behind)) refuses noticed c d old new could can given behind unread left (goes (given ++ behind)) no_room no_memory none result (h behind (λ e. none (over e)))
+      run_comes p rules (answers (given ++ behind)) refuses noticed c d old new could can given behind unread left
+      (goes (given ++ behind)) no_room no_memory none result (h behind (λ e. none (over e)))
 
-  pub led_run_takes : old.takes_memory ≡ false → (unread reads.Memory → ⊥) → (behind : List (List ℕ)) → (NoneLeft left → behind ≡ [])
+  pub led_run_takes : old.takes_memory ≡ false → (unread reads.Memory → ⊥) → (behind : List (List ℕ))
+      → (NoneLeft left → behind ≡ [])
       → length given ≤ lines_taken p (given ++ behind) rules (answers (given ++ behind))
   led_run_takes no_room no_memory behind none =
-      takes_given p rules (answers (given ++ behind)) refuses noticed c d old new could can given behind unread left (goes (given ++ behind)) no_room no_memory none result (h behind (λ e. none (over e)))
+      takes_given p rules (answers (given ++ behind)) refuses noticed c d old new could can given behind unread left
+      (goes (given ++ behind)) no_room no_memory none result (h behind (λ e. none (over e)))
 
   pub led_run_dry : (unread reads.Memory → ⊥) → (P : Type 0) → (P → ⊥) → UnlessRunMissed unread P result
       → IsUnreadRun p rules (given ++ []) (answers (given ++ [])) old new
   led_run_dry no_memory P never missed =
-      ends_dry p rules (answers (given ++ [])) refuses noticed c d old new could can given [] unread left (goes (given ++ [])) P never no_memory refl result missed (h [] (λ _. refl))
+      ends_dry p rules (answers (given ++ [])) refuses noticed c d old new could can given [] unread left
+      (goes (given ++ [])) P never no_memory refl result missed (h [] (λ _. refl))
 
 -- the line of its end is that of the play
 module _ (p : StoredProgram) (rules : Rules) (answers : List (List ℕ) → Answers) (refuses : Pause → ℤ → Type 0) (noticed : Bool) (c d : Choices) (old new : ScreenState) (could can : ℕ) (given : List (List ℕ)) (unread : ReadFault → Type 0) (left : Option (List (List ℕ)))
@@ -365,7 +419,8 @@ module _ (p : StoredProgram) (rules : Rules) (answers : List (List ℕ) → Answ
   pub led_line : end.ending ≡ endings.Limit → (behind : List (List ℕ)) → (NoneLeft left → behind ≡ [])
       → end.line ≡ stopping_line p (given ++ behind) rules (answers (given ++ behind))
   led_line is behind none =
-      stops_at p rules (answers (given ++ behind)) refuses noticed c d old new could can given behind unread left (goes (given ++ behind)) end.line (h.at_limit is behind (λ e. none (over e)))
+      stops_at p rules (answers (given ++ behind)) refuses noticed c d old new could can given behind unread left
+      (goes (given ++ behind)) end.line (h.at_limit is behind (λ e. none (over e)))
 
 -- ---- the screen of a writer
 
@@ -379,12 +434,14 @@ pub record IsRunBetween {W : Type 0} (contents : W → Option (List ℕ)) (failu
   pub ok : IfOk result (ShowsRun (plain p ls rules a) (contents w) (contents v))
   pub beginning : TakesSome (contents w) (contents v) (plain p ls rules a).0
   pub failed : IsErrOf result runs.Write → HasFailed (failures w) (failures v)
-  pub memory : IsErrOf result runs.Memory → Appends (contents w) (contents v) [] ⊎ (((n : ℤ) × refuses pauses.Memory n) × ShowsQuestion (plain p ls rules) a (contents w) (contents v))
+  pub memory : IsErrOf result runs.Memory
+      → Appends (contents w) (contents v) [] ⊎ (((n : ℤ) × refuses pauses.Memory n) × ShowsQuestion (plain p ls rules) a (contents w) (contents v))
   pub unfailed : (IsErrOf result runs.Write → ⊥) → failures v ≡ failures w
   pub unspent : IsErrOf result runs.Spent → ⊥
 
 -- a writer ends as it is under the name of its borrow
-pub run_between : {W : Type 0} (contents : W → Option (List ℕ)) (failures : W → ℕ) (p : StoredProgram) (rules : Rules) (ls : List (List ℕ)) (a : Answers) (refuses : Pause → ℤ → Type 0)
+pub run_between : {W : Type 0} (contents : W → Option (List ℕ)) (failures : W → ℕ) (p : StoredProgram) (rules : Rules)
+    (ls : List (List ℕ)) (a : Answers) (refuses : Pause → ℤ → Type 0)
     (screen screen_after : MutBor W) (w v : W) (result : Result Ending RunFault)
     → screen.now ≡ w → (screen.ghost_name ≡ screen_after.ghost_name → v ≡ screen_after.now)
     → IsPlainRun p rules ls a refuses (state_of contents failures screen) (state_of contents failures screen_after) result
@@ -400,7 +457,8 @@ pub record IsUnreadBetween {W : Type 0} (contents : W → Option (List ℕ)) (fa
   pub shows : ShowsUnread rules.choose (plain p ls rules) a (contents w) (contents v)
   pub unfailed : failures v ≡ failures w
 
-pub unread_between : {W : Type 0} (contents : W → Option (List ℕ)) (failures : W → ℕ) (p : StoredProgram) (rules : Rules) (ls : List (List ℕ)) (a : Answers)
+pub unread_between : {W : Type 0} (contents : W → Option (List ℕ)) (failures : W → ℕ) (p : StoredProgram)
+    (rules : Rules) (ls : List (List ℕ)) (a : Answers)
     (screen screen_after : MutBor W) (w v : W)
     → screen.now ≡ w → (screen.ghost_name ≡ screen_after.ghost_name → v ≡ screen_after.now)
     → IsUnreadRun p rules ls a (state_of contents failures screen) (state_of contents failures screen_after)

@@ -1,6 +1,9 @@
 -- This file proves what a plain run took of its input, from how a source of its lines went on.
 -- Main lemma: `reads_for`.
-use Rattle.std.proofs.Common.{◌≡◌, ℕ, ◌+◌, ◌-◌, ◌≤◌, ◌<◌, ◌⊎◌, inl, inr, Bool, true, false, nat_lt, ◌==◌, List, [], ◌∷◌, ◌++◌, length, take, drop, Option, Some, None, Result, Ok, Err, IfOk, IfSome, IsErrOf, OnOk, ℤ, refl, sym, ap, subst, ◌∙◌, arith, append_assoc, length-append, take_all, take-append-drop}
+use Rattle.std.proofs.Common.{◌≡◌, ℕ, ◌+◌, ◌-◌, ◌≤◌, ◌<◌, ◌⊎◌, inl, inr, Bool, true, false, nat_lt}
+use Rattle.std.proofs.Common.{◌==◌, List, [], ◌∷◌, ◌++◌, length, take, drop, Option, Some, None}
+use Rattle.std.proofs.Common.{Result, Ok, Err, IfOk, IfSome, IsErrOf, OnOk, ℤ, refl, sym, ap, subst}
+use Rattle.std.proofs.Common.{◌∙◌, arith, append_assoc, length-append, take_all, take-append-drop}
 use Rattle.std.specs.Prelude.{option_map, OnErr, if◌then◌else◌}
 use Rattle.std.proofs.lemmas.Bool.{lt-ltb, le-ltb, ltb-true, ltb-false, eqb-false}
 use Rattle.std.specs.Io.KnownBytes.{Appends, Consumes}
@@ -12,7 +15,9 @@ use Rattle.ptb_devices.specs.declared.line_buffer.InputEnd.{InputEnd}
 use Rattle.ptb_devices.specs.declared.line_buffer.InputEnd.TheVariants.{Open, Ended, Failed, Exceeded}
 use Rattle.ptb_devices.specs.Cutting.{kept_bytes, whole_lines, last_piece, last_line}
 use Rattle.ptb_devices.specs.CuttingLaws.{whole_lines-append}
-use Rattle.ptb_devices.specs.Inputs.{InputState, InputNow, fresh_input, open_piece, lines_left, lines_to_end, known_lines, most_to_come, most_lines, input_now, ReadsOn, Refuses, asked, fault_at, IsReadAhead, asked_at}
+use Rattle.ptb_devices.specs.Inputs.{InputState, InputNow, fresh_input, open_piece, lines_left}
+use Rattle.ptb_devices.specs.Inputs.{lines_to_end, known_lines, most_to_come, most_lines, input_now}
+use Rattle.ptb_devices.specs.Inputs.{ReadsOn, Refuses, asked, fault_at, IsReadAhead, asked_at}
 use Rattle.ptb_devices.specs.InputLaws.{take-split, none_known}
 use Rattle.ptb_devices.specs.declared.reader_lines.ReaderLines.{ReaderLines}
 use Rattle.ptb_devices.specs.Readers.{line_input, line_reader, input_of, GivesFrom}
@@ -31,7 +36,9 @@ use Rattle.ptb_command.specs.declared.ending.Ending.TheVariants as endings
 use Rattle.ptb_machine.specs.declared.fault.RunFault.{RunFault}
 use Rattle.ptb_machine.specs.Play.{plain}
 use Rattle.ptb_plain.specs.Noted.{noted_result}
-use Rattle.ptb_plain.specs.PlainRuns.{IsUnreadable, ShowsRun, ShowsQuestion, ShowsUnread, run_fault, lines_come, lines_taken, ending_wanted, lines_wanted, ReadsFor}
+use Rattle.ptb_plain.specs.PlainRuns.{IsUnreadable, ShowsRun, ShowsQuestion, ShowsUnread, run_fault}
+use Rattle.ptb_plain.specs.PlainRuns.{lines_come, lines_taken, ending_wanted, lines_wanted}
+use Rattle.ptb_plain.specs.PlainRuns.{ReadsFor}
 use Rattle.ptb_plain.proofs.Playing.{IsRunBetween, IsUnreadBetween}
 
 abbrev pub fresh : Option (List ℕ) → ℕ → ℕ → InputNow
@@ -51,7 +58,8 @@ record IsKnown (n : InputNow) (xs given : List (List ℕ)) : Type 0 where
   is : n.bytes ≡ Some bytes
   lines : xs ≡ given ++ lines_left n.state bytes
 
-is_known : (n : InputNow) (xs given : List (List ℕ)) (b : Option (List ℕ)) → n.bytes ≡ b → Loses (Some xs) (option_map (lines_left n.state) b) given → IsKnown n xs given
+is_known : (n : InputNow) (xs given : List (List ℕ)) (b : Option (List ℕ)) → n.bytes ≡ b
+    → Loses (Some xs) (option_map (lines_left n.state) b) given → IsKnown n xs given
 is_known n xs given None e l = absurd l
 is_known n xs given (Some y) e l = record { bytes = y; is = e; lines = l }
 
@@ -68,7 +76,8 @@ module _ (wanted : ℕ) (c : List ℕ) (x f : ℕ) (n : InputNow) (given : List 
       let within : nat_lt (length c) 16777217 ≡ true = lt-ltb (length c) 16777217 fits in
       let all : take 16777216 c ≡ c = take_all 16777216 c (omega (arith, fits)) in
       let same : lines_left fresh_input c ≡ input_lines c =
-      ap (λ t. lines_to_end t None (take 16777216 c)) within ∙ ap (lines_to_end true None) all ∙ sym (input_lines-cut c) in
+      ap (λ t. lines_to_end t None (take 16777216 c)) within ∙ ap (lines_to_end true None) all
+      ∙ sym (input_lines-cut c) in
       record { rest = lines_left n.state known.bytes; whole = sym same ∙ known.lines; none = none_left }
 
   -- it is too long to be read to its end
@@ -95,13 +104,16 @@ module _ (wanted : ℕ) (c : List ℕ) (x f : ℕ) (n : InputNow) (given : List 
     behind = whole_lines (last_piece None front) (drop 16777216 taken ++ known.bytes)
 
     all_bytes : c ≡ front ++ (drop 16777216 taken ++ known.bytes)
-    all_bytes = split ∙ ap (λ l. l ++ known.bytes) (sym (take-append-drop 16777216 taken)) ∙ append_assoc front (drop 16777216 taken) known.bytes
+    all_bytes =
+        split ∙ ap (λ l. l ++ known.bytes) (sym (take-append-drop 16777216 taken))
+        ∙ append_assoc front (drop 16777216 taken) known.bytes
 
     whole : input_lines c ≡ given ++ (waiting ++ (behind ++ last_line (last_piece None c)))
     whole =
         input_lines-cut c
         ∙ ap (λ l. l ++ last_line (last_piece None c)) (ap (whole_lines None) all_bytes ∙ whole_lines-append None front (drop 16777216 taken ++ known.bytes) ∙ ap (λ l. l ++ behind) cut)
-        ∙ append_assoc (given ++ waiting) behind (last_line (last_piece None c)) ∙ append_assoc given waiting (behind ++ last_line (last_piece None c))
+        ∙ append_assoc (given ++ waiting) behind (last_line (last_piece None c))
+        ∙ append_assoc given waiting (behind ++ last_line (last_piece None c))
 
     -- the line that is cut off is never given
     left_over : NoneLeft (known_lines n) → ⊥
@@ -110,7 +122,8 @@ module _ (wanted : ℕ) (c : List ℕ) (x f : ℕ) (n : InputNow) (given : List 
         let first : take 16777216 c ≡ front ++ take (16777216 - length taken) known.bytes = ap (take 16777216) split ∙ take-split 16777216 taken known.bytes in
         let more = whole_lines (last_piece None front) (take (16777216 - length taken) known.bytes) in
         let cut_lines : whole_lines None (take 16777216 c) ≡ (given ++ waiting) ++ more =
-        ap (whole_lines None) first ∙ whole_lines-append None front (take (16777216 - length taken) known.bytes) ∙ ap (λ l. l ++ more) cut in
+        ap (whole_lines None) first ∙ whole_lines-append None front (take (16777216 - length taken) known.bytes)
+        ∙ ap (λ l. l ++ more) cut in
         let lines : lines_left fresh_input c ≡ whole_lines None (take 16777216 c) ++ (kept_bytes (last_piece None (take 16777216 c)) ∷ []) =
         ap (λ t. lines_to_end t None (take 16777216 c)) beyond in
         let all : whole_lines None (take 16777216 c) ++ (kept_bytes (last_piece None (take 16777216 c)) ∷ []) ≡ given ++ lines_left n.state known.bytes = sym lines ∙ known.lines in
@@ -235,7 +248,8 @@ fault_asked a fault e h = by_end a.end a.is_given e h where
   by_end Exceeded given e h = omega (arith, h)
 
 -- by how the run has ended, where it missed no line
-missed_within : (a : InputState) (P : Type 0) → (P → asked a ≤ 0) → (result : Result Ending RunFault) → UnlessRunMissed (Refuses a.end) P result → (k : ℕ) → k + asked a ≤ ending_wanted k result
+missed_within : (a : InputState) (P : Type 0) → (P → asked a ≤ 0) → (result : Result Ending RunFault)
+    → UnlessRunMissed (Refuses a.end) P result → (k : ℕ) → k + asked a ≤ ending_wanted k result
 missed_within a P few (Ok endings.End) m k = omega (arith, few m)
 missed_within a P few (Ok endings.Stop) m k = omega (arith, few m)
 missed_within a P few (Ok endings.What) m k = omega (arith, few m)
@@ -245,7 +259,8 @@ missed_within a P few (Ok endings.Limit) m k = omega (arith, few m)
 missed_within a P few (Ok endings.NoInput) m k = omega (arith, asked_one a)
 missed_within a P few (Ok endings.NoAnswer) m k = omega (arith, few m)
 missed_within a P few (Ok endings.BadAnswer) m k = omega (arith, few m)
-missed_within a P few (Err runs.Memory) m k = elim m [ inl q ↦ omega (arith, few q) | inr r ↦ absurd (fault_without_memory a.end r) ]
+missed_within a P few (Err runs.Memory) m k =
+    elim m [ inl q ↦ omega (arith, few q) | inr r ↦ absurd (fault_without_memory a.end r) ]
 missed_within a P few (Err runs.Read) m k = omega (arith, asked_one a)
 missed_within a P few (Err runs.Write) m k = omega (arith, few m)
 missed_within a P few (Err runs.Spent) m k = omega (arith, few m)
@@ -254,8 +269,10 @@ missed_within a P few (Err runs.Spent) m k = omega (arith, few m)
 abbrev pub WantsWithin : Rules → Result Ending RunFault → ℕ → ℕ → Type 0
 WantsWithin rules result wanted most = (given all k : ℕ) → given ≤ k → k ≤ all → (most ≡ 0 → all ≤ given) → given + wanted ≤ lines_wanted rules.choose all k result
 
-wanted_by_choose : (a : InputState) (most : ℕ) (choose : Option ℤ) (result : Result Ending RunFault) → UnlessRunMissed (Refuses a.end) (NotMissed choose 0 (asked a) most) result
-    → (given all k : ℕ) → given ≤ k → k ≤ all → (most ≡ 0 → all ≤ given) → given + asked a ≤ lines_wanted choose all k result
+wanted_by_choose : (a : InputState) (most : ℕ) (choose : Option ℤ) (result : Result Ending RunFault)
+    → UnlessRunMissed (Refuses a.end) (NotMissed choose 0 (asked a) most) result
+    → (given all k : ℕ) → given ≤ k → k ≤ all → (most ≡ 0 → all ≤ given)
+    → given + asked a ≤ lines_wanted choose all k result
 wanted_by_choose a most None result m given all k fits part over =
     let within = missed_within a (asked a ≤ 0) (λ q. q) result m k in omega (arith, fits, within)
 wanted_by_choose a most (Some n) result m given all k fits part over = by_all (k == all) refl where
@@ -271,19 +288,23 @@ wanted_by_choose a most (Some n) result m given all k fits part over = by_all (k
   by_all true e = omega (arith, fits, asked_one a)
   by_all false e = let within = missed_within a ((asked a ≤ 0) ⊎ (most ≡ 0)) (few e) result m k in omega (arith, fits, within)
 
-pub wanted_within : (a : InputState) (most : ℕ) (rules : Rules) (result : Result Ending RunFault) → UnlessRunMissed (Refuses a.end) (NotMissed rules.choose 0 (asked a) most) result
+pub wanted_within : (a : InputState) (most : ℕ) (rules : Rules) (result : Result Ending RunFault)
+    → UnlessRunMissed (Refuses a.end) (NotMissed rules.choose 0 (asked a) most) result
     → WantsWithin rules result (asked a) most
 wanted_within a most rules result m = wanted_by_choose a most rules.choose result m
 
 -- by the fault that has come
-fault_within : (a : InputState) (fault : ReadFault) → fault_at a.end ≡ Some fault → (k : ℕ) → k + asked a ≤ ending_wanted k (Err (run_fault fault))
+fault_within : (a : InputState) (fault : ReadFault) → fault_at a.end ≡ Some fault → (k : ℕ)
+    → k + asked a ≤ ending_wanted k (Err (run_fault fault))
 fault_within a reads.Read e k = omega (arith, asked_one a)
 fault_within a reads.TooLong e k = omega (arith, asked_one a)
 fault_within a reads.Memory e k = absurd (fault_without_memory a.end e)
 
-pub wanted_at_fault : (a : InputState) (most : ℕ) (rules : Rules) (fault : ReadFault) → fault_at a.end ≡ Some fault → WantsWithin rules (Err (run_fault fault)) (asked a) most
+pub wanted_at_fault : (a : InputState) (most : ℕ) (rules : Rules) (fault : ReadFault) → fault_at a.end ≡ Some fault
+    → WantsWithin rules (Err (run_fault fault)) (asked a) most
 wanted_at_fault a most rules fault e = by_choose rules.choose where
-  by_choose : (choose : Option ℤ) (given all k : ℕ) → given ≤ k → k ≤ all → (most ≡ 0 → all ≤ given) → given + asked a ≤ lines_wanted choose all k (Err (run_fault fault))
+  by_choose : (choose : Option ℤ) (given all k : ℕ) → given ≤ k → k ≤ all → (most ≡ 0 → all ≤ given)
+      → given + asked a ≤ lines_wanted choose all k (Err (run_fault fault))
   by_choose None given all k fits part over = let within = fault_within a fault e k in omega (arith, fits, within)
   by_choose (Some n) given all k fits part over = by_all (k == all) where
     by_all : (same : Bool) → given + asked a ≤ (if same then k + 1 else ending_wanted k (Err (run_fault fault)))
@@ -291,7 +312,8 @@ wanted_at_fault a most rules fault e = by_choose rules.choose where
     by_all false = let within = fault_within a fault e k in omega (arith, fits, within)
 
 -- where a fault has come, a line was asked for without success, though more could have come
-pub fault_missed : (a : InputState) (choose : Option ℤ) (fault : ReadFault) → fault_at a.end ≡ Some fault → NotMissed choose 0 (asked a) (most_lines a) → ⊥
+pub fault_missed : (a : InputState) (choose : Option ℤ) (fault : ReadFault) → fault_at a.end ≡ Some fault
+    → NotMissed choose 0 (asked a) (most_lines a) → ⊥
 fault_missed a None fault e m = fault_asked a fault e m
 fault_missed a (Some n) fault e (inl q) = fault_asked a fault e q
 fault_missed a (Some n) fault e (inr none) = by_end a.end e (omega (arith, none)) where
@@ -320,10 +342,14 @@ module _ (p : StoredProgram) (rules : Rules) (a : List (List ℕ) → Answers) (
     over none = omega (arith, ap length b.whole, length-append given b.rest, ap length (b.none (none_known n none)))
 
     needed : ℕ
-    needed = lines_wanted rules.choose (length (input_lines c)) (lines_taken p (input_lines c) rules (a (input_lines c))) result
+    needed =
+        lines_wanted rules.choose (length (input_lines c))
+        (lines_taken p (input_lines c) rules (a (input_lines c))) result
 
     enough : length given + wanted ≤ needed
-    enough = within (length given) (length (input_lines c)) (lines_taken p (input_lines c) rules (a (input_lines c))) few (omega arith) over
+    enough =
+        within (length given) (length (input_lines c)) (lines_taken p (input_lines c) rules (a (input_lines c))) few
+        (omega arith) over
 
     by_ahead : (on.taken ≡ []) ⊎ IsReadAhead fresh_input on.taken (length given + wanted) → ReadsFor on.taken needed
     by_ahead (inl none) = inl none
@@ -334,7 +360,8 @@ module _ (p : StoredProgram) (rules : Rules) (a : List (List ℕ) → Answers) (
 -- ---- a run on the lines of a reader
 
 -- what a source of lines over a reader took of it
-pub taken_by : {R : Type 0} (remaining : R → Option (List ℕ)) (counted failures : R → ℕ) (s t : ReaderLines R) (given : List (List ℕ)) (i : R)
+pub taken_by : {R : Type 0} (remaining : R → Option (List ℕ)) (counted failures : R → ℕ) (s t : ReaderLines R)
+    (given : List (List ℕ)) (i : R)
     → line_input s ≡ fresh_input → (line_reader s).now ≡ i → GivesFrom remaining counted failures s given t
     → ReadsOn (asked (line_input t)) (fresh (remaining i) (counted i) (failures i)) given (input_of remaining counted failures t)
 taken_by remaining counted failures s t given i state reader gives =
@@ -348,26 +375,31 @@ module _ {W : Type 0} (contents : W → Option (List ℕ)) (written : W → ℕ)
   pub shows_input : (known : Option (List ℕ)) → ReadsOn wanted (fresh known x f) given n
       → IfOk ended (λ e. IfSome known (λ c. ShowsRun (plain p (input_lines c) rules (a (input_lines c))) (contents w) (contents v) e))
   shows_input None on = nothing ended where
-    nothing : (r : Result Ending RunFault) → IfOk r (λ e. IfSome None (λ c. ShowsRun (plain p (input_lines c) rules (a (input_lines c))) (contents w) (contents v) e))
+    nothing : (r : Result Ending RunFault)
+        → IfOk r (λ e. IfSome None (λ c. ShowsRun (plain p (input_lines c) rules (a (input_lines c))) (contents w) (contents v) e))
     nothing (Ok e) = tt
     nothing (Err fault) = tt
   shows_input (Some c) on =
       let b = lines_behind wanted c x f n given on in
-      subst (λ i. IfOk ended (ShowsRun (plain p i rules (a i)) (contents w) (contents v))) (sym b.whole) (between b.rest b.none).ok
+      subst (λ i. IfOk ended (ShowsRun (plain p i rules (a i)) (contents w) (contents v))) (sym b.whole)
+      (between b.rest b.none).ok
 
   pub begins_input : (known : Option (List ℕ)) → ReadsOn wanted (fresh known x f) given n
       → IfSome known (λ c. TakesSome (contents w) (contents v) (plain p (input_lines c) rules (a (input_lines c))).0)
   begins_input None on = tt
   begins_input (Some c) on =
       let b = lines_behind wanted c x f n given on in
-      subst (λ i. TakesSome (contents w) (contents v) (plain p i rules (a i)).0) (sym b.whole) (between b.rest b.none).beginning
+      subst (λ i. TakesSome (contents w) (contents v) (plain p i rules (a i)).0) (sym b.whole)
+      (between b.rest b.none).beginning
 
   pub stops_input : IsErrOf ended runs.Memory → (known : Option (List ℕ)) → ReadsOn wanted (fresh known x f) given n
       → Appends (contents w) (contents v) [] ⊎ IfSome known (λ c. ShowsQuestion (plain p (input_lines c) rules) (a (input_lines c)) (contents w) (contents v))
   stops_input is None on = inr tt
   stops_input is (Some c) on =
       let b = lines_behind wanted c x f n given on in
-      subst (λ i. Appends (contents w) (contents v) [] ⊎ ShowsQuestion (plain p i rules) (a i) (contents w) (contents v)) (sym b.whole)
+      subst
+      (λ i. Appends (contents w) (contents v) [] ⊎ ShowsQuestion (plain p i rules) (a i) (contents w) (contents v))
+      (sym b.whole)
       (elim ((between b.rest b.none).memory is) [ inl nothing ↦ inl nothing | inr asks ↦ inr asks.1 ])
 
 -- what holds of the lines that were given, whatever lines come after them, holds of those of the input
@@ -380,16 +412,20 @@ of_input P wanted x f n given each (Some c) on =
     subst P (sym b.whole) (each b.rest b.none)
 
 -- on the lines that came complete, where a fault has come, it ends for want of a line, or would ask for an answer
-pub shows_come : {W : Type 0} (contents : W → Option (List ℕ)) (written : W → ℕ) (p : StoredProgram) (rules : Rules) (a : List (List ℕ) → Answers) (w v : W) (wanted x f : ℕ) (n : InputNow) (given : List (List ℕ)) (known : Option (List ℕ)) (on : ReadsOn wanted (fresh known x f) given n) (fault : ReadFault)
+pub shows_come : {W : Type 0} (contents : W → Option (List ℕ)) (written : W → ℕ) (p : StoredProgram) (rules : Rules)
+    (a : List (List ℕ) → Answers) (w v : W) (wanted x f : ℕ) (n : InputNow) (given : List (List ℕ))
+    (known : Option (List ℕ)) (on : ReadsOn wanted (fresh known x f) given n) (fault : ReadFault)
     → fault_at n.state.end ≡ Some fault → IsUnreadBetween contents written p rules (given ++ []) (a (given ++ [])) w v
     → ShowsUnread rules.choose (plain p (lines_come on.taken) rules) (a (lines_come on.taken)) (contents w) (contents v)
 shows_come contents written p rules a w v wanted x f n given known on fault is run =
-    subst (λ i. ShowsUnread rules.choose (plain p i rules) (a i) (contents w) (contents v)) (sym (came_whole wanted known x f n given on fault is)) run.shows
+    subst (λ i. ShowsUnread rules.choose (plain p i rules) (a i) (contents w) (contents v))
+    (sym (came_whole wanted known x f n given on fault is)) run.shows
 
 -- ---- how a run has ended
 
 -- what is noted is no line that could not be read, and wants no more lines
-pub noted_read : (noticed : Bool) (r : Result Ending RunFault) → IsErrOf (noted_result noticed r) runs.Read → IsErrOf r runs.Read
+pub noted_read : (noticed : Bool) (r : Result Ending RunFault) → IsErrOf (noted_result noticed r) runs.Read
+    → IsErrOf r runs.Read
 noted_read noticed (Ok endings.End) e = e
 noted_read noticed (Ok endings.Stop) e = e
 noted_read noticed (Ok endings.What) e = e
@@ -402,7 +438,8 @@ noted_read true (Ok endings.NoAnswer) e = absurd cc
 noted_read noticed (Ok endings.BadAnswer) e = e
 noted_read noticed (Err fault) e = e
 
-noted_wanted : (noticed : Bool) (k : ℕ) (r : Result Ending RunFault) → ending_wanted k (noted_result noticed r) ≡ ending_wanted k r
+noted_wanted : (noticed : Bool) (k : ℕ) (r : Result Ending RunFault)
+    → ending_wanted k (noted_result noticed r) ≡ ending_wanted k r
 noted_wanted noticed k (Ok endings.End) = refl
 noted_wanted noticed k (Ok endings.Stop) = refl
 noted_wanted noticed k (Ok endings.What) = refl
@@ -415,11 +452,13 @@ noted_wanted true k (Ok endings.NoAnswer) = refl
 noted_wanted noticed k (Ok endings.BadAnswer) = refl
 noted_wanted noticed k (Err fault) = refl
 
-noted_lines : (noticed : Bool) (choose : Option ℤ) (all k : ℕ) (r : Result Ending RunFault) → lines_wanted choose all k (noted_result noticed r) ≡ lines_wanted choose all k r
+noted_lines : (noticed : Bool) (choose : Option ℤ) (all k : ℕ) (r : Result Ending RunFault)
+    → lines_wanted choose all k (noted_result noticed r) ≡ lines_wanted choose all k r
 noted_lines noticed None all k r = noted_wanted noticed k r
 noted_lines noticed (Some n) all k r = ap (λ w. if k == all then k + 1 else w) (noted_wanted noticed k r)
 
-pub noted_within : (noticed : Bool) (rules : Rules) (r : Result Ending RunFault) (wanted most : ℕ) → WantsWithin rules r wanted most → WantsWithin rules (noted_result noticed r) wanted most
+pub noted_within : (noticed : Bool) (rules : Rules) (r : Result Ending RunFault) (wanted most : ℕ)
+    → WantsWithin rules r wanted most → WantsWithin rules (noted_result noticed r) wanted most
 noted_within noticed rules r wanted most within given all k fits part over =
     let enough = within given all k fits part over in omega (arith, enough, noted_lines noticed rules.choose all k r)
 

@@ -14,7 +14,9 @@
 --     WantsMemory p rules answers ..  where a run that was refused memory stopped
 --     ReadsLines input result    how much was read of the input, and when it is at fault
 --     HasLine p rules answers input end    the line at which the limit stopped the run
-use Rattle.std.specs.Prelude.{◌≡◌, ◌⊎◌, ◌+◌, ◌-◌, ◌==◌, if◌then◌else◌, ◌<◌, ◌≤◌, ℕ, List, [], ◌++◌, length, take, ◌∷◌, Option, Some, None, Result, Ok, Err, IfOk, IfSome, IsErrOf, OnErr, OnOk, ℤ}
+use Rattle.std.specs.Prelude.{◌≡◌, ◌⊎◌, ◌+◌, ◌-◌, ◌==◌, if◌then◌else◌, ◌<◌, ◌≤◌, ℕ, List, [], ◌++◌}
+use Rattle.std.specs.Prelude.{length, take, ◌∷◌, Option, Some, None, Result, Ok, Err, IfOk, IfSome}
+use Rattle.std.specs.Prelude.{IsErrOf, OnErr, OnOk, ℤ}
 use Rattle.std.specs.Io.KnownBytes.{Appends, Consumes}
 use Rattle.ptb_text.specs.Device.{GivesAtMost, GivesExactly, HasFailed, TakesSome}
 use Rattle.ptb_text.specs.Lines.{input_lines}
@@ -69,15 +71,16 @@ pub record IsLed (refuses : Pause → ℤ → Type 0) (taken all : Answers) : Ty
   pub outside : (k n : ℤ) → refuses (pauses.OutOfRange k) n → (later : Answers) × (rest ≡ k ∷ later)
 
 -- whatever a run on these lines has asked, between two states of its chooser; the answers may hang on the lines
-abbrev pub GoesBy : (Pause → ℤ → Type 0) → Choices → Choices → (List (List ℕ) → Answers) → StoredProgram → Rules → Type 0
+abbrev pub GoesBy : (Pause → ℤ → Type 0) → Choices → Choices → (List (List ℕ) → Answers) → StoredProgram → Rules
+    → Type 0
 GoesBy refuses c d answers p rules =
     (lines : List (List ℕ)) (taken : Answers) (bounds : List ℤ)
     → Asked (play p lines rules) taken bounds → d ≡ with_answers taken bounds c → IsLed refuses taken (answers lines)
 
 -- ---- a line that can't be read
 
--- On the lines that came complete, a run ends for want of the next one. With answers instead of lines it would ask for one:
--- what was shown is all that it shows before, and so a prefix of what it shows with the answers `a`.
+-- On the lines that came complete, a run ends for want of the next one. With answers instead of lines it would ask
+-- for one: what was shown is all that it shows before, and so a prefix of what it shows with the answers `a`.
 abbrev pub ShowsUnread : Option ℤ → (Answers → List ℕ × Ending) → Answers → Option (List ℕ) → Option (List ℕ) → Type 0
 ShowsUnread None run a old new = ShowsRun (run a) old new endings.NoInput
 ShowsUnread (Some n) run a old new =
@@ -85,7 +88,8 @@ ShowsUnread (Some n) run a old new =
 
 -- ---- an answer for which there is no memory
 
--- With the first of these answers a run ends for want of one more: what was shown is all that it shows up to that question.
+-- With the first of these answers a run ends for want of one more: what was shown is all that it shows up to that
+-- question.
 pub record ShowsQuestion (run : Answers → List ℕ × Ending) (all : Answers) (old new : Option (List ℕ)) : Type 0 where
   pub drawn : Answers
   pub rest : Answers
@@ -141,9 +145,11 @@ ReadsFor taken wanted = (taken ≡ []) ⊎ IsReadFor taken wanted
 -- The program was played by these rules with these answers, which may depend on the lines of the input.
 pub record PlaysWith {R : Type 0} (p : StoredProgram) (rules : Rules) (answers : List (List ℕ) → Answers) (input : Reads R) (out : Writes) (result : Result Ending RunFault) : Type 0 where
   -- What was written is what the play on the lines of the input shows, and the ending is that of the play.
-  pub ended : IfOk result (λ ending. IfSome input.bytes (λ c. ShowsRun (plain p (input_lines c) rules (answers (input_lines c))) out.before out.after ending))
+  pub ended : IfOk result
+      (λ ending. IfSome input.bytes (λ c. ShowsRun (plain p (input_lines c) rules (answers (input_lines c))) out.before out.after ending))
   -- After a fault it is a prefix of that.
-  pub broken_off : OnErr result (IfSome input.bytes (λ c. TakesSome out.before out.after (plain p (input_lines c) rules (answers (input_lines c))).0))
+  pub broken_off : OnErr result
+      (IfSome input.bytes (λ c. TakesSome out.before out.after (plain p (input_lines c) rules (answers (input_lines c))).0))
   -- Where a line could not be read, it is what the play on the lines that came complete shows.
   pub unread : IsErrOf result runs.Read
       → (taken : List ℕ) × Consumes input.bytes input.left taken × ShowsUnread rules.choose (plain p (lines_come taken) rules) (answers (lines_come taken)) out.before out.after
@@ -156,11 +162,12 @@ pub record PlaysWith {R : Type 0} (p : StoredProgram) (rules : Rules) (answers :
   -- The machine was new.
   pub unspent : ¬ IsErrOf result runs.Spent
 
--- Memory was refused before anything was written, or for the next answer: what was written is then what the play of the answers
--- so far shows up to the question.
+-- Memory was refused before anything was written, or for the next answer: what was written is then what the play of
+-- the answers so far shows up to the question.
 abbrev pub WantsMemory : {R : Type 0} → StoredProgram → Rules → (List (List ℕ) → Answers) → Reads R → Writes → Type 0
 WantsMemory p rules answers input out =
-    Appends out.before out.after [] ⊎ IfSome input.bytes (λ c. ShowsQuestion (plain p (input_lines c) rules) (answers (input_lines c)) out.before out.after)
+    Appends out.before out.after [] ⊎ IfSome input.bytes
+    (λ c. ShowsQuestion (plain p (input_lines c) rules) (answers (input_lines c)) out.before out.after)
 
 pub record ReadsLines {R : Type 0} (input : Reads R) (result : Result Ending RunFault) : Type 0 where
   -- A run that ends has taken at most 16,777,216 bytes, and no run takes more than one more.
@@ -171,10 +178,11 @@ pub record ReadsLines {R : Type 0} (input : Reads R) (result : Result Ending Run
   pub unreadable : IsErrOf result runs.Read → IsUnreadable input.bytes input.failed input.fails
   pub unfailed : ¬ IsErrOf result runs.Read → input.fails ≡ input.failed
   -- and gave 16,777,217.
-  pub failed_or_given : IsErrOf result runs.Read → HasFailed input.failed input.fails ⊎ GivesExactly input.gave input.gives (input_limit + 1)
+  pub failed_or_given : IsErrOf result runs.Read
+      → HasFailed input.failed input.fails ⊎ GivesExactly input.gave input.gives (input_limit + 1)
 
--- Where it ended at its limit, it has the number of the statement in which the next command of the play begins. No other ending has
--- a line.
+-- Where it ended at its limit, it has the number of the statement in which the next command of the play begins. No
+-- other ending has a line.
 pub record HasLine {R : Type 0} (p : StoredProgram) (rules : Rules) (answers : List (List ℕ) → Answers) (input : Reads R) (end : RunEnd) : Type 0 where
   pub at_limit : end.ending ≡ endings.Limit
       → IfSome input.bytes (λ c. end.line ≡ stopping_line p (input_lines c) rules (answers (input_lines c)))

@@ -19,14 +19,18 @@ IsDrawn seed play a = IsDrawnFrom (generator_of seed) play a
 
 -- no run asks more than `most_answers`
 abbrev pub seeded_answers : ℕ → StoredProgram → List (List ℕ) → Rules → Answers
-seeded_answers seed p input rules = answers_by (most_answers p input rules.limit) (generator_of seed) (play p input rules)
+seeded_answers seed p input rules =
+    answers_by (most_answers p input rules.limit) (generator_of seed) (play p input rules)
 
 abbrev pub seeded_run : ℕ → StoredProgram → List (List ℕ) → Rules → List ℕ × Ending
 seeded_run seed p input rules = plain p input rules (seeded_answers seed p input rules)
 
 -- ---- the law
 
--- what a seed gives is one run, whose answers are drawn from the seed for the bounds of its questions; no other list is drawn so
+-- what a seed gives is one run, whose answers are drawn from the seed for the bounds of its questions; no other list
+-- is drawn so
 pub record SeededLaws : Type 0 where
-  pub drawn : (seed : ℕ) (p : StoredProgram) (input : List (List ℕ)) (rules : Rules) → IsDrawn seed (play p input rules) (seeded_answers seed p input rules)
-  pub only : (seed : ℕ) (p : StoredProgram) (input : List (List ℕ)) (rules : Rules) (a : Answers) → IsDrawn seed (play p input rules) a → a ≡ seeded_answers seed p input rules
+  pub drawn : (seed : ℕ) (p : StoredProgram) (input : List (List ℕ)) (rules : Rules)
+      → IsDrawn seed (play p input rules) (seeded_answers seed p input rules)
+  pub only : (seed : ℕ) (p : StoredProgram) (input : List (List ℕ)) (rules : Rules) (a : Answers)
+      → IsDrawn seed (play p input rules) a → a ≡ seeded_answers seed p input rules
