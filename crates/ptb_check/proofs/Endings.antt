@@ -1,9 +1,11 @@
 -- This file proves that a command which halts keeps its place, and at which command a run ends with a fault.
 -- Main lemma: `play_next`.
-use Rattle.std.proofs.Common.{◌≡◌, ◌∙◌, ℕ, zero, suc, Bool, true, false, cond, leb, List, [], ◌∷◌, Option, Some, None, ap, refl}
+use Rattle.std.proofs.Common.{◌≡◌, ◌∙◌, ℕ, zero, suc, Bool, true, false, cond, leb, List, [], ◌∷◌}
+use Rattle.std.proofs.Common.{Option, Some, None, ap, refl}
 use Rattle.std.specs.Prelude.{ℤ, ◌-◌}
 use Rattle.ptb_words.specs.declared.word.Word.{Word}
-use Rattle.ptb_words.specs.declared.word.Word.TheVariants.{NextKw, IfKw, GotoKw, GosubKw, ReturnKw, RemKw, ForKw, StopKw}
+use Rattle.ptb_words.specs.declared.word.Word.TheVariants.{NextKw, IfKw, GotoKw, GosubKw, ReturnKw}
+use Rattle.ptb_words.specs.declared.word.Word.TheVariants.{RemKw, ForKw, StopKw}
 use Rattle.ptb_text.specs.Statements.{Statements, StoredProgram}
 use Rattle.ptb_answers.specs.Outcome.{Answers, Outcome, Done, Asks, Out, go_on, map_outcome}
 use Rattle.ptb_answers.specs.declared.rules.Rules.{Rules}
@@ -12,12 +14,17 @@ use Rattle.ptb_expr.specs.declared.fault.FaultKind.TheVariants as kinds
 use Rattle.ptb_expr.specs.Reading.{item_of}
 use Rattle.ptb_command.specs.declared.ending.Ending.TheVariants as endings
 use Rattle.ptb_command.specs.Actions.{Faults, Ends, Progress, Goes, Halts, Action, on_progress}
-use Rattle.ptb_command.specs.Act.{fails, is_full, if_room, goto_action, gosub_action, return_action, without_loop, with_loop, with_call, loops_from, next_action, statement, operand, finish, end_of, letter_of, first_width, parts_action, command_action, StepResult, Next, Over, step_result_of, ending_of, with_step, act}
+use Rattle.ptb_command.specs.Act.{fails, is_full, if_room, goto_action, gosub_action, return_action}
+use Rattle.ptb_command.specs.Act.{without_loop, with_loop, with_call, loops_from, next_action}
+use Rattle.ptb_command.specs.Act.{statement, operand, finish, end_of, letter_of, first_width}
+use Rattle.ptb_command.specs.Act.{parts_action, command_action, StepResult, Next, Over}
+use Rattle.ptb_command.specs.Act.{step_result_of, ending_of, with_step, act}
 use Rattle.ptb_command.specs.Commands.{Command}
 use Rattle.ptb_command.specs.Effects.{action_state}
 use Rattle.ptb_command.specs.State.{Place, Loop, Call, State, next_index, next_command, text_of, first_state}
 use Rattle.ptb_machine.specs.Laws.{EffectLaws}
-use Rattle.ptb_machine.specs.Play.{Last, act_unless, turn_by, turn, after_turn, turns_within, all_turns, last_state, Finish, finish_of, turns, play}
+use Rattle.ptb_machine.specs.Play.{Last, act_unless, turn_by, turn, after_turn, turns_within}
+use Rattle.ptb_machine.specs.Play.{all_turns, last_state, Finish, finish_of, turns, play}
 use Rattle.ptb_check.specs.Laws.{end_state}
 
 -- ---- commands
@@ -44,22 +51,27 @@ goto_stays : (e : ℕ) (o : Option Place) (S : State) (a : Answers) → HaltStay
 goto_stays e (Some r) S a = tt
 goto_stays e None S a = refl
 
-gosub_stays : (e : ℕ) (back : Place) (o : Option Place) (S : State) (a : Answers) → HaltStays S (gosub_action e back o S a)
+gosub_stays : (e : ℕ) (back : Place) (o : Option Place) (S : State) (a : Answers)
+    → HaltStays S (gosub_action e back o S a)
 gosub_stays e back (Some r) S a = room_stays e (with_call back r) S a
 gosub_stays e back None S a = refl
 
-next_stays : (e : ℕ) (next : Place) (loops : List Loop) (S : State) (a : Answers) → HaltStays S (next_action e next loops S a)
+next_stays : (e : ℕ) (next : Place) (loops : List Loop) (S : State) (a : Answers)
+    → HaltStays S (next_action e next loops S a)
 next_stays e next [] S a = refl
 next_stays e next (l ∷ ls) S a = tt
 
-for_stays : (e : ℕ) (loop : Loop) (S : State) (a : Answers) → HaltStays S (if_room e (with_loop loop) (without_loop loop.letter S) a)
+for_stays : (e : ℕ) (loop : Loop) (S : State) (a : Answers)
+    → HaltStays S (if_room e (with_loop loop) (without_loop loop.letter S) a)
 for_stays e loop S a = by_room (is_full (without_loop loop.letter S))
   where
-    by_room : (b : Bool) → HaltStays S (cond b (fails kinds.Sorry e (without_loop loop.letter S) a) (Done (Goes tt (with_loop loop (without_loop loop.letter S))) a))
+    by_room : (b : Bool)
+        → HaltStays S (cond b (fails kinds.Sorry e (without_loop loop.letter S) a) (Done (Goes tt (with_loop loop (without_loop loop.letter S))) a))
     by_room true = refl
     by_room false = tt
 
-finish_stays : (kind : Word) (p : Statements) (q : Place) (e x : ℕ) (operands : List ℤ) (S : State) (a : Answers) → HaltStays S (finish kind p q e x operands S a)
+finish_stays : (kind : Word) (p : Statements) (q : Place) (e x : ℕ) (operands : List ℤ) (S : State) (a : Answers)
+    → HaltStays S (finish kind p q e x operands S a)
 unfolding finish
 finish_stays RemKw p q e x operands S a = tt
 finish_stays StopKw p q e x operands S a = refl
@@ -71,13 +83,16 @@ finish_stays ForKw p q e x operands S a = for_stays e _ S a
 finish_stays NextKw p q e x operands S a = next_stays e (next_index q) (loops_from x S.loops) S a
 finish_stays _ p q e x operands S a = tt
 
-stays_as : {A : Type 0} (S T : State) (o : Outcome (Progress A) State) → T.place ≡ S.place → HaltStays T o → HaltStays S o
+stays_as : {A : Type 0} (S T : State) (o : Outcome (Progress A) State) → T.place ≡ S.place → HaltStays T o
+    → HaltStays S o
 stays_as S T (Done (Goes x U) rest) e h = tt
 stays_as S T (Done (Halts halt U) rest) e h = h ∙ e
 stays_as S T (Asks n U) e h = tt
 stays_as S T (Out n U) e h = tt
 
-then_stays : {A B : Type 0} (S : State) (o : Outcome (Progress A) State) (next : A → Action B) → (action_state o).place ≡ S.place → ((x : A) (T : State) (a : Answers) → HaltStays T (next x T a)) → HaltStays S (go_on o (on_progress next))
+then_stays : {A B : Type 0} (S : State) (o : Outcome (Progress A) State) (next : A → Action B)
+    → (action_state o).place ≡ S.place → ((x : A) (T : State) (a : Answers) → HaltStays T (next x T a))
+    → HaltStays S (go_on o (on_progress next))
 then_stays S (Done (Goes x T) rest) next e each = stays_as S T (next x T rest) e (each x T rest)
 then_stays S (Done (Halts halt T) rest) next e each = e
 then_stays S (Asks n T) next e each = tt
@@ -91,7 +106,8 @@ OverStays S (Done (Over ending T) rest) = T.place ≡ S.place
 OverStays S (Asks n T) = Unit {0}
 OverStays S (Out n T) = Unit {0}
 
-result_stays : (n : ℕ) (text : List ℕ) (S : State) (o : Outcome (Progress (Unit {0})) State) → HaltStays S o → OverStays S (map_outcome (step_result_of n text) (λ T. T) o)
+result_stays : (n : ℕ) (text : List ℕ) (S : State) (o : Outcome (Progress (Unit {0})) State) → HaltStays S o
+    → OverStays S (map_outcome (step_result_of n text) (λ T. T) o)
 result_stays n text S (Done (Goes x T) rest) h = tt
 result_stays n text S (Done (Halts (Faults f) T) rest) h = h
 result_stays n text S (Done (Halts (Ends ending) T) rest) h = h
@@ -115,15 +131,19 @@ not_limit kinds.How e = cc e
 not_limit kinds.Sorry e = cc e
 
 module _ (effects : EffectLaws) where
-  command_stays : (p : Statements) (q : Place) (c : Command) (S : State) (a : Answers) → HaltStays S (command_action p q c S a)
+  command_stays : (p : Statements) (q : Place) (c : Command) (S : State) (a : Answers)
+      → HaltStays S (command_action p q c S a)
   unfolding command_action
   command_stays p q c S a =
-      then_stays S (parts_action (item_of c.parts) first_width [] S a) _ (effects.parts (item_of c.parts) first_width [] S a).place
+      then_stays S (parts_action (item_of c.parts) first_width [] S a) _
+      (effects.parts (item_of c.parts) first_width [] S a).place
       (λ operands T b. finish_stays c.kind p q (end_of c.parts) (letter_of (item_of c.parts)) operands T b)
 
   act_stays : (p : Statements) (q : Place) (c : Command) (S : State) (a : Answers) → OverStays S (act p q c S a)
   unfolding act
-  act_stays p q c S a = result_stays q.number (text_of p q.number) S (command_action p q c (with_step S) a) (stays_as S (with_step S) _ refl (command_stays p q c (with_step S) a))
+  act_stays p q c S a =
+      result_stays q.number (text_of p q.number) S (command_action p q c (with_step S) a)
+      (stays_as S (with_step S) _ refl (command_stays p q c (with_step S) a))
 
   module _ (p : StoredProgram) (limit : ℕ) (kind : FaultKind) where
     abbrev NextWhereOver : Outcome StepResult State → Type 0
@@ -132,17 +152,21 @@ module _ (effects : EffectLaws) where
     NextWhereOver (Asks n T) = Unit {0}
     NextWhereOver (Out n T) = Unit {0}
 
-    stands : (q : Place) (c : Command) (S : State) (o : Outcome StepResult State) → next_command p.lines S.place ≡ Some (q, c) → OverStays S o → NextWhereOver o
+    stands : (q : Place) (c : Command) (S : State) (o : Outcome StepResult State)
+        → next_command p.lines S.place ≡ Some (q, c) → OverStays S o → NextWhereOver o
     stands q c S (Done (Next T) rest) e h = tt
-    stands q c S (Done (Over ending T) rest) e h = λ _. record { place = q; command = c; next = ap (next_command p.lines) h ∙ e }
+    stands q c S (Done (Over ending T) rest) e h =
+        λ _. record { place = q; command = c; next = ap (next_command p.lines) h ∙ e }
     stands q c S (Asks n T) e h = tt
     stands q c S (Out n T) e h = tt
 
-    by_limit : (q : Place) (c : Command) (S : State) (a : Answers) (b : Bool) → next_command p.lines S.place ≡ Some (q, c) → NextWhereOver (act_unless p (q, c) b S a)
+    by_limit : (q : Place) (c : Command) (S : State) (a : Answers) (b : Bool)
+        → next_command p.lines S.place ≡ Some (q, c) → NextWhereOver (act_unless p (q, c) b S a)
     by_limit q c S a true e = λ h. absurd (not_limit kind h)
     by_limit q c S a false e = stands q c S (act p.lines q c S a) e (act_stays p.lines q c S a)
 
-    by_next : (S : State) (a : Answers) (o : Option (Place × Command)) → next_command p.lines S.place ≡ o → NextWhereOver (turn_by p limit o S a)
+    by_next : (S : State) (a : Answers) (o : Option (Place × Command)) → next_command p.lines S.place ≡ o
+        → NextWhereOver (turn_by p limit o S a)
     by_next S a None e = λ h. absurd (not_end kind h)
     by_next S a (Some r) e = by_limit r.0 r.1 S a (leb limit S.steps) e
 
@@ -157,7 +181,9 @@ module _ (effects : EffectLaws) where
     NextAtLast (Asks n T) = Unit {0}
     NextAtLast (Out n T) = Unit {0}
 
-    after_next : (others : State → Answers → Outcome Last State) (o : Outcome StepResult State) → ((T : State) (a : Answers) → NextAtLast (others T a)) → NextWhereOver o → NextAtLast (go_on o (after_turn others))
+    after_next : (others : State → Answers → Outcome Last State) (o : Outcome StepResult State)
+        → ((T : State) (a : Answers) → NextAtLast (others T a)) → NextWhereOver o
+        → NextAtLast (go_on o (after_turn others))
     after_next others (Done (Next T) rest) each h = each T rest
     after_next others (Done (Over ending T) rest) each h = h
     after_next others (Asks n T) each h = tt
@@ -173,12 +199,16 @@ module _ (effects : EffectLaws) where
     all_next S a = within_next (suc (limit - S.steps)) S a
 
     -- as the result of play has the end of a run
-    told_next : (o : Outcome Last State) (f : Finish) (rest : Answers) → NextAtLast o → map_outcome (λ g. g) (λ (S : State). S.shown) (map_outcome finish_of (λ (S : State). S) o) ≡ Done f rest → f.ending ≡ ending_of kind → StandsNext p.lines (last_state o)
+    told_next : (o : Outcome Last State) (f : Finish) (rest : Answers) → NextAtLast o
+        → map_outcome (λ g. g) (λ (S : State). S.shown) (map_outcome finish_of (λ (S : State). S) o) ≡ Done f rest
+        → f.ending ≡ ending_of kind → StandsNext p.lines (last_state o)
     told_next (Done last r) f rest h e k = let same : finish_of last ≡ f = cc in h (ap (λ (g : Finish). g.ending) same ∙ k)
     told_next (Asks n T) f rest h e k = absurd cc
     told_next (Out n T) f rest h e k = absurd cc
 
-  pub play_next : (p : StoredProgram) (input : List (List ℕ)) (rules : Rules) (a rest : Answers) (f : Finish) (kind : FaultKind) → play p input rules a ≡ Done f rest → f.ending ≡ ending_of kind → StandsNext p.lines (end_state p input rules a)
+  pub play_next : (p : StoredProgram) (input : List (List ℕ)) (rules : Rules) (a rest : Answers) (f : Finish)
+      (kind : FaultKind)
+      → play p input rules a ≡ Done f rest → f.ending ≡ ending_of kind → StandsNext p.lines (end_state p input rules a)
   unfolding play turns
   play_next p input rules a rest f kind e h =
       let S = first_state p input rules.choose in

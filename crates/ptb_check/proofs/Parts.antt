@@ -1,17 +1,26 @@
 -- This file proves that malformed parts of a command have a fault, and whole ones have none.
 -- Main lemma: `parts_tell`.
-use Rattle.std.proofs.Common.{◌≡◌, ◌∙◌, ℕ, zero, suc, Bool, true, false, cond, List, [], length, Option, Some, None, IsSome, sym, subst, refl, arith}
+use Rattle.std.proofs.Common.{◌≡◌, ◌∙◌, ℕ, zero, suc, Bool, true, false, cond, List, [], length}
+use Rattle.std.proofs.Common.{Option, Some, None, IsSome, sym, subst, refl, arith}
 use Rattle.std.specs.Prelude.{◌-◌, ◌<◌, pos}
 use Rattle.ptb_words.specs.declared.word.Table.TheVariants.{To, Step}
 use Rattle.ptb_words.specs.declared.word.Word.{Word}
-use Rattle.ptb_words.specs.declared.word.Word.TheVariants.{NextKw, IfKw, GotoKw, GosubKw, ReturnKw, RemKw, ForKw, InputKw, PrintKw, StopKw}
+use Rattle.ptb_words.specs.declared.word.Word.TheVariants.{NextKw, IfKw, GotoKw, GosubKw, ReturnKw}
+use Rattle.ptb_words.specs.declared.word.Word.TheVariants.{RemKw, ForKw, InputKw, PrintKw, StopKw}
 use Rattle.ptb_words.specs.Words.{is_over, word_at, token_at, letter_at, Quotation, NoQuote, OpenQuote, QuotedText}
 use Rattle.ptb_expr.specs.declared.fault.FaultKind.TheVariants.{What}
 use Rattle.ptb_expr.specs.Reading.{Reading, Whole, Malformed, after, map_reading, expression, variable_tree}
 use Rattle.ptb_expr.specs.Spells.{SpellingLaws}
 use Rattle.ptb_expr.specs.Tree.{Tree, Num, Var, Bad}
 use Rattle.ptb_expr.specs.Value.{fault}
-use Rattle.ptb_command.specs.Commands.{Part, Assign, Width, Show, NewLine, Take, Letter, Operand, at_end, defect, end_check, over_check, part_and, after_part, comma_round, value_part, assignment, string_at, string_or_value, width_or, print_item, next_item, after_item, item_round, print_parts_if, print_parts, variable_begins, variable_item, string_item, input_item_by, input_item, step_by, step_parts, limit_by, limit_parts, first_parts, for_by, for_parts, next_by, next_parts, parts_of}
+use Rattle.ptb_command.specs.Commands.{Part, Assign, Width, Show, NewLine, Take, Letter, Operand}
+use Rattle.ptb_command.specs.Commands.{at_end, defect, end_check, over_check, part_and, after_part}
+use Rattle.ptb_command.specs.Commands.{comma_round, value_part, assignment, string_at}
+use Rattle.ptb_command.specs.Commands.{string_or_value, width_or, print_item, next_item, after_item}
+use Rattle.ptb_command.specs.Commands.{item_round, print_parts_if, print_parts, variable_begins}
+use Rattle.ptb_command.specs.Commands.{variable_item, string_item, input_item_by, input_item}
+use Rattle.ptb_command.specs.Commands.{step_by, step_parts, limit_by, limit_parts, first_parts}
+use Rattle.ptb_command.specs.Commands.{for_by, for_parts, next_by, next_parts, parts_of}
 use Rattle.ptb_command.specs.Items.{Round, Last, Onward, in_front, with_others, items_within, items, Advances}
 use Rattle.ptb_command.specs.Laws.{CommandLaws}
 use Rattle.ptb_check.specs.Mistakes.{part_fault, parts_fault}
@@ -20,18 +29,23 @@ use Rattle.ptb_check.proofs.Readings.{Tells, some_first, some_second, none_both,
 
 -- ---- one part and the others
 
-pub front_tells : (part : Part) (r : Reading (List Part)) → part_fault part ≡ None → Tells parts_fault r → Tells parts_fault (in_front part r)
+pub front_tells : (part : Part) (r : Reading (List Part)) → part_fault part ≡ None → Tells parts_fault r
+    → Tells parts_fault (in_front part r)
 front_tells part (Whole parts j) e h = none_both (part_fault part) (parts_fault parts) e h
 front_tells part (Malformed parts) e h = some_second (part_fault part) (parts_fault parts) h
 
 -- a part made of a tree alone
-mapped : (node : Tree → Part) (r : Reading Tree) → ((x : Tree) → part_fault (node x) ≡ written_fault x) → Tells written_fault r → Tells part_fault (map_reading node r)
+mapped : (node : Tree → Part) (r : Reading Tree) → ((x : Tree) → part_fault (node x) ≡ written_fault x)
+    → Tells written_fault r → Tells part_fault (map_reading node r)
 mapped node (Whole x j) same h = same x ∙ h
 mapped node (Malformed x) same h = subst IsSome (sym (same x)) h
 
-part_and_tells : (node : Tree → Part) (r : Reading Tree) (next : ℕ → Reading (List Part)) → ((x : Tree) → part_fault (node x) ≡ written_fault x) → Tells written_fault r → ((j : ℕ) → Tells parts_fault (next j)) → Tells parts_fault (part_and node r next)
+part_and_tells : (node : Tree → Part) (r : Reading Tree) (next : ℕ → Reading (List Part))
+    → ((x : Tree) → part_fault (node x) ≡ written_fault x) → Tells written_fault r
+    → ((j : ℕ) → Tells parts_fault (next j)) → Tells parts_fault (part_and node r next)
 part_and_tells node (Whole x j) next same h each = front_tells (node x) (next j) (same x ∙ h) (each j)
-part_and_tells node (Malformed x) next same h each = some_first (part_fault (node x)) None (subst IsSome (sym (same x)) h)
+part_and_tells node (Malformed x) next same h each =
+    some_first (part_fault (node x)) None (subst IsSome (sym (same x)) h)
 
 -- ---- rounds
 
@@ -45,7 +59,9 @@ module _ (t : List ℕ) (round : ℕ → Round Part) (advances : Advances t roun
   within_tells zero i h = absurd (omega arith)
   within_tells (suc n) i h = go (round i) refl (tells i) (within_tells n)
     where
-      go : (r : Round Part) → round i ≡ r → RoundTells r → ((j : ℕ) → length t - j < n → Tells parts_fault (items_within n round j)) → Tells parts_fault (with_others (items_within n round) r)
+      go : (r : Round Part) → round i ≡ r → RoundTells r
+          → ((j : ℕ) → length t - j < n → Tells parts_fault (items_within n round j))
+          → Tells parts_fault (with_others (items_within n round) r)
       go (Last r) e a others = a
       go (Onward part j) e a others =
           let ahead = advances.ahead i j part e in
@@ -90,7 +106,8 @@ module _ (spelling : SpellingLaws) (laws : CommandLaws) (t : List ℕ) where
       by_comma (Some j) = h
       by_comma None = front_tells part (end_check t i) h (end_tells i)
 
-  assigned : (x : Tree) (r : Reading Tree) → written_fault x ≡ None → Tells written_fault r → Tells part_fault (map_reading (Assign x) r)
+  assigned : (x : Tree) (r : Reading Tree) → written_fault x ≡ None → Tells written_fault r
+      → Tells part_fault (map_reading (Assign x) r)
   assigned x (Whole y j) e h = none_both (written_fault x) (written_fault y) e h
   assigned x (Malformed y) e h = some_second (written_fault x) (written_fault y) h
 
@@ -102,7 +119,8 @@ module _ (spelling : SpellingLaws) (laws : CommandLaws) (t : List ℕ) where
   unfolding assignment
   assignment_tells i = by_variable (variable_tree t i) (variables i)
     where
-      by_variable : (r : Reading Tree) → Tells written_fault r → Tells part_fault (after r (λ x. Assign x (Bad What i)) (λ x j. value_part t x j (token_at 61 t j)))
+      by_variable : (r : Reading Tree) → Tells written_fault r
+          → Tells part_fault (after r (λ x. Assign x (Bad What i)) (λ x j. value_part t x j (token_at 61 t j)))
       by_variable (Whole x j) h = value_tells x j (token_at 61 t j) h
       by_variable (Malformed x) h = some_first (written_fault x) _ h
 
@@ -114,7 +132,8 @@ module _ (spelling : SpellingLaws) (laws : CommandLaws) (t : List ℕ) where
       by_begin s j true = mapped _ (variable_tree t j) (λ x. refl) (variables j)
       by_begin s j false = refl
 
-      by_variable : (r : Reading Tree) (f : ℕ → List ℕ) → Tells written_fault r → Tells part_fault (after r (λ x. Take [] x []) (λ x j. Whole (Take [] x (f j)) j))
+      by_variable : (r : Reading Tree) (f : ℕ → List ℕ) → Tells written_fault r
+          → Tells part_fault (after r (λ x. Take [] x []) (λ x j. Whole (Take [] x (f j)) j))
       by_variable (Whole x j) f h = h
       by_variable (Malformed x) f h = h
 
@@ -138,7 +157,8 @@ module _ (spelling : SpellingLaws) (laws : CommandLaws) (t : List ℕ) where
       by_string OpenQuote = refl
       by_string NoQuote = mapped Show (expression t i) (λ x. refl) (expressions i)
 
-      by_value : (r : Reading Tree) (j : ℕ) → Tells written_fault r → Tells part_fault (after r (λ x. Width x j) (λ x k. Whole (Width x k) k))
+      by_value : (r : Reading Tree) (j : ℕ) → Tells written_fault r
+          → Tells part_fault (after r (λ x. Width x j) (λ x k. Whole (Width x k) k))
       by_value (Whole x k) j h = h
       by_value (Malformed x) j h = h
 
@@ -156,7 +176,8 @@ module _ (spelling : SpellingLaws) (laws : CommandLaws) (t : List ℕ) where
 
       by_comma : (o : Option ℕ) → RoundTells (after_item t part i o)
       by_comma (Some j) = by_next j (at_end t j)
-      by_comma None = front_tells part (in_front NewLine (end_check t i)) h (front_tells NewLine (end_check t i) refl (end_tells i))
+      by_comma None =
+          front_tells part (in_front NewLine (end_check t i)) h (front_tells NewLine (end_check t i) refl (end_tells i))
 
   print_tells : (i : ℕ) → Tells parts_fault (print_parts t i)
   unfolding print_parts
@@ -181,11 +202,13 @@ module _ (spelling : SpellingLaws) (laws : CommandLaws) (t : List ℕ) where
   limit_tells i = by_word (word_at To t i)
     where
       by_word : (o : Option (Word × ℕ)) → Tells parts_fault (limit_by t i o)
-      by_word (Some w) = part_and_tells Operand (expression t w.1) (step_parts t) (λ x. refl) (expressions w.1) step_tells
+      by_word (Some w) =
+          part_and_tells Operand (expression t w.1) (step_parts t) (λ x. refl) (expressions w.1) step_tells
       by_word None = refl
 
   first_tells : (x i : ℕ) (o : Option ℕ) → Tells parts_fault (first_parts t x i o)
-  first_tells x i (Some j) = part_and_tells (Assign (Var x)) (expression t j) (limit_parts t) (λ y. refl) (expressions j) limit_tells
+  first_tells x i (Some j) =
+      part_and_tells (Assign (Var x)) (expression t j) (limit_parts t) (λ y. refl) (expressions j) limit_tells
   first_tells x i None = refl
 
   for_tells : (i : ℕ) → Tells parts_fault (for_parts t i)
@@ -193,7 +216,9 @@ module _ (spelling : SpellingLaws) (laws : CommandLaws) (t : List ℕ) where
   for_tells i = by_letter (letter_at t i)
     where
       by_letter : (o : Option (ℕ × ℕ)) → Tells parts_fault (for_by t i o)
-      by_letter (Some x) = front_tells (Letter x.0) (first_parts t x.0 x.1 (token_at 61 t x.1)) refl (first_tells x.0 x.1 (token_at 61 t x.1))
+      by_letter (Some x) =
+          front_tells (Letter x.0) (first_parts t x.0 x.1 (token_at 61 t x.1)) refl
+          (first_tells x.0 x.1 (token_at 61 t x.1))
       by_letter None = refl
 
   next_tells : (i : ℕ) → Tells parts_fault (next_parts t i)

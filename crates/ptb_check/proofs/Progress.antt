@@ -1,6 +1,8 @@
 -- This file proves how mistakes that are written one after the other add up to all of them.
 -- Main lemmas: `more_written` and `all_written`.
-use Rattle.std.proofs.Common.{◌≡◌, ◌∙◌, ℕ, ◌+◌, Bool, true, false, List, [], ◌∷◌, ◌++◌, length, take, Option, Ok, Err, sym, ap, subst, refl, append_assoc, append-nil, arith, length-append}
+use Rattle.std.proofs.Common.{◌≡◌, ◌∙◌, ℕ, ◌+◌, Bool, true, false, List, [], ◌∷◌, ◌++◌, length}
+use Rattle.std.proofs.Common.{take, Option, Ok, Err, sym, ap, subst, refl, append_assoc, append-nil}
+use Rattle.std.proofs.Common.{arith, length-append}
 use Rattle.std.specs.Prelude.{flat_map, ◌||◌}
 use Rattle.std.specs.Io.KnownBytes.{Appends}
 use Rattle.std.proofs.KnownBytes.{Appends-trans}
@@ -10,9 +12,11 @@ use Rattle.ptb_text.specs.declared.listing.WriteFault.{WriteFault}
 use Rattle.ptb_check.specs.Mistakes.{Mistake, mistake_text}
 use Rattle.ptb_check.specs.Writing.{WritesMistakes, has_any, texts}
 
-flat_map-append : {X Y : Type 0} (f : X → List Y) (xs ys : List X) → flat_map f (xs ++ ys) ≡ flat_map f xs ++ flat_map f ys
+flat_map-append : {X Y : Type 0} (f : X → List Y) (xs ys : List X)
+    → flat_map f (xs ++ ys) ≡ flat_map f xs ++ flat_map f ys
 flat_map-append f [] ys = refl
-flat_map-append f (x ∷ xs) ys = ap (λ l. f x ++ l) (flat_map-append f xs ys) ∙ sym (append_assoc (f x) (flat_map f xs) (flat_map f ys))
+flat_map-append f (x ∷ xs) ys =
+    ap (λ l. f x ++ l) (flat_map-append f xs ys) ∙ sym (append_assoc (f x) (flat_map f xs) (flat_map f ys))
 
 has_any-append : (ms ns : List Mistake) → has_any (ms ++ ns) ≡ has_any ms || has_any ns
 has_any-append [] ns = refl
@@ -34,16 +38,23 @@ pub record IsWrittenUpTo (old now : Option (List ℕ)) (any : Bool) (all rest : 
   pub bytes : Appends old now (texts done)
   pub told : any ≡ has_any done
 
-pub more_written : {a b : Option (List ℕ)} {any : Bool} {all rest : List Mistake} (c : Option (List ℕ)) (some : Bool) (due others : List Mistake) → rest ≡ due ++ others
+pub more_written : {a b : Option (List ℕ)} {any : Bool} {all rest : List Mistake} (c : Option (List ℕ)) (some : Bool)
+    (due others : List Mistake)
+    → rest ≡ due ++ others
     → IsWrittenUpTo a b any all rest → WritesMistakes due b c (Ok some) → IsWrittenUpTo a c (some || any) all others
 more_written {a} {b} {any} {all} {rest} c some due others parts before now = record {
   done = before.done ++ due;
   split = before.split ∙ ap (λ r. before.done ++ r) parts ∙ sym (append_assoc before.done due others);
-  bytes = subst (Appends a c) (sym (flat_map-append mistake_text before.done due)) (Appends-trans a b c (texts before.done) (texts due) before.bytes now.ok);
-  told = or_swap some any ∙ ap (λ x. x || some) before.told ∙ ap (λ x. has_any before.done || x) now.any ∙ sym (has_any-append before.done due);
+  bytes =
+      subst (Appends a c) (sym (flat_map-append mistake_text before.done due))
+      (Appends-trans a b c (texts before.done) (texts due) before.bytes now.ok);
+  told =
+      or_swap some any ∙ ap (λ x. x || some) before.told ∙ ap (λ x. has_any before.done || x) now.any
+      ∙ sym (has_any-append before.done due);
 }
 
-pub all_written : {a b : Option (List ℕ)} {any : Bool} {all rest : List Mistake} → rest ≡ [] → IsWrittenUpTo a b any all rest → WritesMistakes all a b (Ok any)
+pub all_written : {a b : Option (List ℕ)} {any : Bool} {all rest : List Mistake} → rest ≡ []
+    → IsWrittenUpTo a b any all rest → WritesMistakes all a b (Ok any)
 all_written {a} {b} {any} {all} {rest} none before =
     let whole : all ≡ before.done = before.split ∙ ap (λ r. before.done ++ r) none ∙ append-nil before.done in
     record {
@@ -52,12 +63,15 @@ all_written {a} {b} {any} {all} {rest} none before =
       fault = tt;
     }
 
-pub not_written : {a b : Option (List ℕ)} {any : Bool} {all rest : List Mistake} (c : Option (List ℕ)) (fault other : WriteFault) (due others : List Mistake) → rest ≡ due ++ others
+pub not_written : {a b : Option (List ℕ)} {any : Bool} {all rest : List Mistake} (c : Option (List ℕ))
+    (fault other : WriteFault) (due others : List Mistake)
+    → rest ≡ due ++ others
     → IsWrittenUpTo a b any all rest → WritesMistakes due b c (Err fault) → WritesMistakes all a c (Err other)
 not_written {a} {b} {any} {all} {rest} c fault other due others parts before now =
     let front = texts before.done in
     let bytes : texts all ≡ front ++ (texts due ++ texts others) =
-    ap texts (before.split ∙ ap (λ r. before.done ++ r) parts) ∙ flat_map-append mistake_text before.done (due ++ others)
+    ap texts (before.split ∙ ap (λ r. before.done ++ r) parts)
+    ∙ flat_map-append mistake_text before.done (due ++ others)
     ∙ ap (λ l. front ++ l) (flat_map-append mistake_text due others)
     in
     let n = now.fault.0 in
@@ -66,7 +80,8 @@ not_written {a} {b} {any} {all} {rest} c fault other due others parts before now
     ∙ ap (λ l. front ++ l) (take-append-le n (texts due) (texts others) now.fault.1)
     in
     let size : length (texts all) ≡ length front + (length (texts due) + length (texts others)) =
-    ap length bytes ∙ length-append front (texts due ++ texts others) ∙ ap (λ k. length front + k) (length-append (texts due) (texts others))
+    ap length bytes ∙ length-append front (texts due ++ texts others)
+    ∙ ap (λ k. length front + k) (length-append (texts due) (texts others))
     in
     record {
       ok = tt;

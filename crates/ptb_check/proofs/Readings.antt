@@ -5,7 +5,8 @@ use Rattle.std.specs.Option.{option_or}
 use Rattle.ptb_expr.specs.declared.fault.Fault.{Fault}
 use Rattle.ptb_expr.specs.declared.fault.FaultKind.TheVariants.{What}
 use Rattle.ptb_expr.specs.Reading.{Reading, Whole, Malformed, node_over, expression, variable_tree}
-use Rattle.ptb_expr.specs.Spells.{Part, Expr, Sum, First, MoreSum, Product, MoreProduct, Factor, Variable, Paren, Spells, SpellingLaws}
+use Rattle.ptb_expr.specs.Spells.{Part, Expr, Sum, First, MoreSum, Product, MoreProduct, Factor}
+use Rattle.ptb_expr.specs.Spells.{Variable, Paren, Spells, SpellingLaws}
 use Rattle.ptb_expr.specs.Spells as spells
 use Rattle.ptb_expr.specs.Tree.{Tree, Elem, Rnd, Abs, Neg, Bin}
 use Rattle.ptb_expr.specs.Value.{fault}
@@ -40,7 +41,9 @@ IsClean Factor = Unit {0}
 IsClean Variable = Unit {0}
 IsClean Paren = Unit {0}
 
-over : (node : Tree → ℕ → Tree) (m : ℕ) (r : Reading Tree) → ((y : Tree) (k : ℕ) → written_fault (node y k) ≡ written_fault y) → Tells written_fault r → Tells written_fault (node_over node m r)
+over : (node : Tree → ℕ → Tree) (m : ℕ) (r : Reading Tree)
+    → ((y : Tree) (k : ℕ) → written_fault (node y k) ≡ written_fault y) → Tells written_fault r
+    → Tells written_fault (node_over node m r)
 over node m (Whole y k) same h = same y k ∙ h
 over node m (Malformed y) same h = subst IsSome (sym (same y m)) h
 
@@ -57,14 +60,18 @@ module _ (t : List ℕ) where
   spelled part i r (spells.no_sign e d s) h = spelled Product i r s tt
   spelled part i r (spells.sum_end e) h = h
   spelled part i r (spells.sum_more {l = l} {x = x} {y = y} {op = op} e s u) h =
-      spelled (MoreSum (Bin op x y l)) l r u (none_both (written_fault x) (written_fault y) h (spelled Product _ _ s tt))
-  spelled part i r (spells.product_malformed {x = x} {y = y} e s) h = some_second (written_fault x) (written_fault y) (spelled Product _ _ s tt)
+      spelled (MoreSum (Bin op x y l)) l r u
+      (none_both (written_fault x) (written_fault y) h (spelled Product _ _ s tt))
+  spelled part i r (spells.product_malformed {x = x} {y = y} e s) h =
+      some_second (written_fault x) (written_fault y) (spelled Product _ _ s tt)
   spelled part i r (spells.product {x = x} s u) h = spelled (MoreProduct x) _ r u (spelled Factor i _ s tt)
   spelled part i r (spells.first_factor_malformed s) h = spelled Factor i r s tt
   spelled part i r (spells.product_end e) h = h
   spelled part i r (spells.product_more {l = l} {x = x} {y = y} {op = op} e s u) h =
-      spelled (MoreProduct (Bin op x y l)) l r u (none_both (written_fault x) (written_fault y) h (spelled Factor _ _ s tt))
-  spelled part i r (spells.factor_malformed {x = x} {y = y} e s) h = some_second (written_fault x) (written_fault y) (spelled Factor _ _ s tt)
+      spelled (MoreProduct (Bin op x y l)) l r u
+      (none_both (written_fault x) (written_fault y) h (spelled Factor _ _ s tt))
+  spelled part i r (spells.factor_malformed {x = x} {y = y} e s) h =
+      some_second (written_fault x) (written_fault y) (spelled Factor _ _ s tt)
   spelled part i r (spells.rnd {r = q} e s) h = over Rnd _ q (λ y k. refl) (spelled Paren _ q s tt)
   spelled part i r (spells.abs {r = q} e s) h = over Abs _ q (λ y k. refl) (spelled Paren _ q s tt)
   spelled part i r (spells.size e) h = refl

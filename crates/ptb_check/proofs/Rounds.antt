@@ -1,11 +1,14 @@
 -- This file proves which mistakes are left after a command of a statement, and after a statement of a program.
 -- Main lemmas: `commands_left` and `mistakes_left`.
-use Rattle.std.proofs.Common.{◌≡◌, ◌∙◌, ℕ, zero, suc, ◌+◌, ◌<◌, Bool, true, false, List, [], ◌∷◌, ◌++◌, length, drop, Option, Some, None, ℤ, sym, ap, ap₂, refl, arith, add-one}
+use Rattle.std.proofs.Common.{◌≡◌, ◌∙◌, ℕ, zero, suc, ◌+◌, ◌<◌, Bool, true, false, List, [], ◌∷◌}
+use Rattle.std.proofs.Common.{◌++◌, length, drop, Option, Some, None, ℤ, sym, ap, ap₂, refl, arith}
+use Rattle.std.proofs.Common.{add-one}
 use Rattle.std.specs.Prelude.{flat_map, slice_get, unsigned_abs, IsTrue, IsFalse}
 use Rattle.ptb_words.specs.Words.{is_over}
 use Rattle.ptb_text.specs.Statements.{Statements}
 use Rattle.ptb_expr.specs.Reading.{Reading, Whole, Malformed}
-use Rattle.ptb_command.specs.Commands.{Part, Command, after_command, command_and, command_at, command_round, command_unless, commands_from, next_begin}
+use Rattle.ptb_command.specs.Commands.{Part, Command, after_command, command_and, command_at}
+use Rattle.ptb_command.specs.Commands.{command_round, command_unless, commands_from, next_begin}
 use Rattle.ptb_command.specs.Laws.{CommandLaws}
 use Rattle.ptb_command.specs.Places.{commands_after, next_place}
 use Rattle.ptb_command.specs.Representation.{IsLineAt}
@@ -18,11 +21,13 @@ abbrev left_at : List ℕ → Option ℕ → List Command
 left_at t None = []
 left_at t (Some j) = commands_from t j
 
-after_this : (t : List ℕ) (c : Command) (e : ℕ) (next : Option ℕ) → commands_after t (command_and c e next) ≡ c ∷ left_at t (next_place (command_and c e next))
+after_this : (t : List ℕ) (c : Command) (e : ℕ) (next : Option ℕ)
+    → commands_after t (command_and c e next) ≡ c ∷ left_at t (next_place (command_and c e next))
 after_this t c e (Some j) = refl
 after_this t c e None = refl
 
-after_parts : (t : List ℕ) (c : Command) (parts : Reading (List Part)) → commands_after t (after_command t c parts) ≡ c ∷ left_at t (next_place (after_command t c parts))
+after_parts : (t : List ℕ) (c : Command) (parts : Reading (List Part))
+    → commands_after t (after_command t c parts) ≡ c ∷ left_at t (next_place (after_command t c parts))
 after_parts t c (Whole parts e) = after_this t c e (next_begin c.kind t e)
 after_parts t c (Malformed parts) = refl
 
@@ -31,7 +36,8 @@ unfolding command_round
 round_here t i over e = ap (command_unless t i) e
 
 module _ (laws : CommandLaws) (t : List ℕ) (i : ℕ) where
-  pub commands_left : (next : Option ℕ) → is_over t i ≡ false → next_place (command_round t i) ≡ next → commands_from t i ≡ command_at t i ∷ left_at t next
+  pub commands_left : (next : Option ℕ) → is_over t i ≡ false → next_place (command_round t i) ≡ next
+      → commands_from t i ≡ command_at t i ∷ left_at t next
   commands_left next e is =
       let c = command_at t i in
       let here = round_here t i false e in
@@ -42,7 +48,8 @@ module _ (laws : CommandLaws) (t : List ℕ) (i : ℕ) where
   no_command_left e = laws.commands_by_round t i ∙ ap (commands_after t) (round_here t i true e)
 
 -- whether another one comes after it or not, some are left then
-pub others_left : (left : List Command) (c : Command) (after : List Command) (more : Bool) → (IsTrue more → left ≡ c ∷ after) → (IsFalse more → left ≡ c ∷ []) → (others : List Command) × (left ≡ c ∷ others)
+pub others_left : (left : List Command) (c : Command) (after : List Command) (more : Bool)
+    → (IsTrue more → left ≡ c ∷ after) → (IsFalse more → left ≡ c ∷ []) → (others : List Command) × (left ≡ c ∷ others)
 others_left left c after true is last = (after, is refl)
 others_left left c after false is last = ([], last refl)
 
@@ -74,4 +81,5 @@ statement_left p q at n t lt line =
     let is = line there.0.0 there.0.1 there.1 in
     let same : there.0 ≡ (unsigned_abs n, t) = ap₂ (λ (m : ℕ) (u : List ℕ). (m, u)) (sym (ap unsigned_abs is.0)) (sym is.1) in
     ap (flat_map (statement_mistakes q)) (drop_there p at there.0 there.1)
-    ∙ ap₂ (λ (s : ℕ × List ℕ) (k : ℕ). statement_mistakes q s ++ flat_map (statement_mistakes q) (drop k p)) same (sym (add-one at))
+    ∙ ap₂ (λ (s : ℕ × List ℕ) (k : ℕ). statement_mistakes q s ++ flat_map (statement_mistakes q) (drop k p)) same
+    (sym (add-one at))

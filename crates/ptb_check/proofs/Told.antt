@@ -1,6 +1,8 @@
 -- This file proves that each command of a program is well formed, or its mistake is reported.
 -- Main lemma: `command_told`.
-use Rattle.std.proofs.Common.{◌≡◌, ◌∙◌, ℕ, zero, suc, Bool, true, false, cond, List, [], ◌∷◌, ◌++◌, Option, Some, None, IsSome, sym, ap, subst, refl, append_assoc, inl, inr, slice_get}
+use Rattle.std.proofs.Common.{◌≡◌, ◌∙◌, ℕ, zero, suc, Bool, true, false, cond, List, [], ◌∷◌, ◌++◌}
+use Rattle.std.proofs.Common.{Option, Some, None, IsSome, sym, ap, subst, refl, append_assoc, inl}
+use Rattle.std.proofs.Common.{inr, slice_get}
 use Rattle.std.specs.Prelude.{flat_map, unwrap_or}
 use Rattle.std.specs.Ordering.{nat_cmp, eq_by_cmp}
 use Rattle.std.specs.Cmp.{unsigned_tied}
@@ -17,7 +19,8 @@ use Rattle.ptb_expr.specs.Spells.{SpellingLaws}
 use Rattle.ptb_command.specs.Commands.{Part, Command, command_by, command_at, commands, commands_from, command_round}
 use Rattle.ptb_command.specs.Items.{items, items_within}
 use Rattle.ptb_command.specs.Laws.{CommandLaws}
-use Rattle.ptb_command.specs.State.{Place, command_there, text_of, next_command, command_or_next, first_command, placed_at, place_after}
+use Rattle.ptb_command.specs.State.{Place, command_there, text_of, next_command, command_or_next}
+use Rattle.ptb_command.specs.State.{first_command, placed_at, place_after}
 use Rattle.ptb_check.specs.Laws.{IsAmong, IsMistakeOf, IsTold}
 use Rattle.ptb_check.specs.Mistakes.{Mistake, parts_fault, command_mistake, mistake_in, statement_mistakes, mistakes}
 use Rattle.ptb_check.proofs.Parts.{parts_tell}
@@ -40,11 +43,14 @@ among_second [] ys x h = h
 among_second (y ∷ xs) ys x h = among_later y (xs ++ ys) x (among_second xs ys x h)
 
 -- what stands in the list of one of several stands in the list of all
-among_each : {X Y : Type 0} (f : X → List Y) (before after : List X) (x : X) (y : Y) → IsAmong (f x) y → IsAmong (flat_map f (before ++ x ∷ after)) y
+among_each : {X Y : Type 0} (f : X → List Y) (before after : List X) (x : X) (y : Y) → IsAmong (f x) y
+    → IsAmong (flat_map f (before ++ x ∷ after)) y
 among_each f [] after x y h = among_first (f x) (flat_map f after) y h
-among_each f (z ∷ before) after x y h = among_second (f z) (flat_map f (before ++ x ∷ after)) y (among_each f before after x y h)
+among_each f (z ∷ before) after x y h =
+    among_second (f z) (flat_map f (before ++ x ∷ after)) y (among_each f before after x y h)
 
-among_all : {X Y : Type 0} (f : X → List Y) (xs : List X) (x : X) (y : Y) → IsAmong xs x → IsAmong (f x) y → IsAmong (flat_map f xs) y
+among_all : {X Y : Type 0} (f : X → List Y) (xs : List X) (x : X) (y : Y) → IsAmong xs x → IsAmong (f x) y
+    → IsAmong (flat_map f xs) y
 among_all f xs x y h k = subst (λ l. IsAmong (flat_map f l) y) (sym h.split) (among_each f h.before h.after x y k)
 
 at_index : {X : Type 0} (xs : List X) (k : ℕ) (x : X) → slice_get xs k ≡ Some x → IsAmong xs x
@@ -58,7 +64,8 @@ found : (p : Statements) (n : ℕ) (t : List ℕ) → text_at p n ≡ Some t →
 found [] n t e = absurd cc
 found (s ∷ p) n t e = by_number (eq_by_cmp nat_cmp n s.0) refl e (found p n t)
   where
-    by_number : (b : Bool) → eq_by_cmp nat_cmp n s.0 ≡ b → cond b (Some s.1) (text_at p n) ≡ Some t → (text_at p n ≡ Some t → IsAmong p (n, t)) → IsAmong (s ∷ p) (n, t)
+    by_number : (b : Bool) → eq_by_cmp nat_cmp n s.0 ≡ b → cond b (Some s.1) (text_at p n) ≡ Some t
+        → (text_at p n ≡ Some t → IsAmong p (n, t)) → IsAmong (s ∷ p) (n, t)
     by_number true h d others =
         let number : n ≡ s.0 = eqb-true n s.0 (sym (unsigned_tied n s.0) ∙ h) in
         let text : s.1 ≡ t = cc in
@@ -72,7 +79,8 @@ no_commands = refl
 none_there : (k : ℕ) (c : Command) → slice_get (commands []) k ≡ Some c → ⊥
 none_there k c e = none-some c (sym (ap (λ cs. slice_get cs k) no_commands) ∙ e)
 
-statement_there : (p : Statements) (q : Place) (c : Command) → command_there p q ≡ Some c → text_at p q.number ≡ Some (text_of p q.number)
+statement_there : (p : Statements) (q : Place) (c : Command) → command_there p q ≡ Some c
+    → text_at p q.number ≡ Some (text_of p q.number)
 statement_there p q c e = by_text (text_at p q.number) refl
   where
     by_text : (o : Option (List ℕ)) → text_at p q.number ≡ o → text_at p q.number ≡ Some (text_of p q.number)
@@ -82,11 +90,14 @@ statement_there p q c e = by_text (text_at p q.number) refl
 abbrev mistake_at : Statements → Place → Fault → Mistake
 mistake_at p q f = record { number = q.number; text = text_of p q.number; fault = f }
 
-alone : (p : Statements) (q : Place) (c : Command) (f : Fault) → command_mistake p c ≡ Some f → IsAmong (mistake_in (q.number, text_of p q.number) (command_mistake p c)) (mistake_at p q f)
+alone : (p : Statements) (q : Place) (c : Command) (f : Fault) → command_mistake p c ≡ Some f
+    → IsAmong (mistake_in (q.number, text_of p q.number) (command_mistake p c)) (mistake_at p q f)
 alone p q c f is =
-    subst (λ o. IsAmong (mistake_in (q.number, text_of p q.number) o) (mistake_at p q f)) (sym is) (record { before = []; after = []; split = refl })
+    subst (λ o. IsAmong (mistake_in (q.number, text_of p q.number) o) (mistake_at p q f)) (sym is)
+    (record { before = []; after = []; split = refl })
 
-in_all : (p : Statements) (q : Place) (c : Command) (f : Fault) → IsAmong p (q.number, text_of p q.number) → IsAmong (commands (text_of p q.number)) c → command_mistake p c ≡ Some f → IsAmong (mistakes p) (mistake_at p q f)
+in_all : (p : Statements) (q : Place) (c : Command) (f : Fault) → IsAmong p (q.number, text_of p q.number)
+    → IsAmong (commands (text_of p q.number)) c → command_mistake p c ≡ Some f → IsAmong (mistakes p) (mistake_at p q f)
 in_all p q c f statement there is =
     among_all (statement_mistakes p) p (q.number, text_of p q.number) (mistake_at p q f) statement
     (among_all (λ d. mistake_in (q.number, text_of p q.number) (command_mistake p d)) (commands (text_of p q.number)) c (mistake_at p q f) there (alone p q c f is))
@@ -112,10 +123,13 @@ module _ (spelling : SpellingLaws) (laws : CommandLaws) where
       told f is = record {
         fault = f;
         is = is;
-        told = in_all p q c f (found p q.number (text_of p q.number) (statement_there p q c e)) (at_index (commands (text_of p q.number)) q.index c e) is;
+        told =
+            in_all p q c f (found p q.number (text_of p q.number) (statement_there p q c e))
+            (at_index (commands (text_of p q.number)) q.index c e) is;
       }
 
-      by_fault : (parts : List Part) (o : Option Fault) → c.parts ≡ Malformed parts → parts_fault parts ≡ o → IsSome o → IsTold p q c
+      by_fault : (parts : List Part) (o : Option Fault) → c.parts ≡ Malformed parts → parts_fault parts ≡ o → IsSome o
+          → IsTold p q c
       by_fault parts (Some f) d h s = inr (told f (ap (λ r. command_mistake p (record c { parts = r })) d ∙ h))
       by_fault parts None d h s = cc s
 
@@ -125,7 +139,8 @@ module _ (spelling : SpellingLaws) (laws : CommandLaws) where
 
 -- ---- the next command
 
-placed : (p : Statements) (q r : Place) (o : Option Command) (c : Command) → command_there p q ≡ o → placed_at q o ≡ Some (r, c) → command_there p r ≡ Some c
+placed : (p : Statements) (q r : Place) (o : Option Command) (c : Command) → command_there p q ≡ o
+    → placed_at q o ≡ Some (r, c) → command_there p r ≡ Some c
 placed p q r (Some d) c e h =
     let both : (q, d) ≡ (r, c) = same_Some (q, d) (r, c) h in
     let same : q ≡ r = ap (λ z. z.0) both in
@@ -133,7 +148,8 @@ placed p q r (Some d) c e h =
     ap (command_there p) (sym same) ∙ e ∙ ap Some command
 placed p q r None c e h = absurd cc
 
-next_there : (p : Statements) (q r : Place) (o : Option Command) (c : Command) → command_there p q ≡ o → command_or_next p q o ≡ Some (r, c) → command_there p r ≡ Some c
+next_there : (p : Statements) (q r : Place) (o : Option Command) (c : Command) → command_there p q ≡ o
+    → command_or_next p q o ≡ Some (r, c) → command_there p r ≡ Some c
 next_there p q r (Some d) c e h = placed p q r (Some d) c e h
 next_there p q r None c e h = by_place (place_after p q.number) h
   where
@@ -141,7 +157,8 @@ next_there p q r None c e h = by_place (place_after p q.number) h
     by_place (Some s) d = placed p s r (command_there p s) c refl d
     by_place None d = absurd cc
 
-pub next_is_there : (p : Statements) (place : Option Place) (r : Place) (c : Command) → next_command p place ≡ Some (r, c) → command_there p r ≡ Some c
+pub next_is_there : (p : Statements) (place : Option Place) (r : Place) (c : Command)
+    → next_command p place ≡ Some (r, c) → command_there p r ≡ Some c
 unfolding next_command
 next_is_there p None r c h = absurd cc
 next_is_there p (Some q) r c h = next_there p q r (command_there p q) c refl h

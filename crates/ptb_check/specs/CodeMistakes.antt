@@ -40,7 +40,8 @@ code_mistake p steps (operations.Say l ∷ rest) = code_mistake p steps rest
 code_mistake p steps (operations.Show e ∷ rest) = option_or (expression_fail steps e) (code_mistake p steps rest)
 code_mistake p steps (operations.Width e mark ∷ rest) = option_or (expression_fail steps e) (code_mistake p steps rest)
 code_mistake p steps (operations.NewLine ∷ rest) = code_mistake p steps rest
-code_mistake p steps (operations.Input prompt d ∷ rest) = option_or (destination_fail steps d) (code_mistake p steps rest)
+code_mistake p steps (operations.Input prompt d ∷ rest) =
+    option_or (destination_fail steps d) (code_mistake p steps rest)
 code_mistake p steps (operations.Discard e ∷ rest) = option_or (expression_fail steps e) (code_mistake p steps rest)
 code_mistake p steps (operations.Fail kind mark ∷ rest) = Some (fault kind mark)
 code_mistake p steps (operations.GoTo e end ∷ rest) = jump_mistake p end (only_number (steps_at steps e))

@@ -1,5 +1,6 @@
 -- This file answers that the parts that are written are the report.
-use Rattle.std.proofs.Common.{◌≡◌, ◌∙◌, ap, subst, sym, inl, inr, arith, refl, ℕ, List, ◌++◌, take, drop, length, codes, decimal, true}
+use Rattle.std.proofs.Common.{◌≡◌, ◌∙◌, ap, subst, sym, inl, inr, arith, refl, ℕ, List, ◌++◌, take}
+use Rattle.std.proofs.Common.{drop, length, codes, decimal, true}
 use Rattle.std.specs.Prelude.{min}
 use Rattle.std.proofs.lemmas.Bool.{cases_lt}
 use Rattle.std.proofs.lemmas.List.{take_all, drop_all}
@@ -22,7 +23,8 @@ same_after k m t is = elim (cases_lt k (length t)) [
   | inr ge ↦ drop_all m t (omega arith) ∙ sym (drop_all k t ge)
 ]
 
-in_parts : (word digits before after text : List ℕ) (n m : ℕ) (f : Fault) → word ≡ word_of f.kind ++ newline → digits ≡ decimal n → before ≡ take m text → after ≡ drop m text → m ≡ min f.mark (length text)
+in_parts : (word digits before after text : List ℕ) (n m : ℕ) (f : Fault) → word ≡ word_of f.kind ++ newline
+    → digits ≡ decimal n → before ≡ take m text → after ≡ drop m text → m ≡ min f.mark (length text)
     → word ++ digits ++ codes " " ++ before ++ codes "?" ++ after ++ newline ≡ report_bytes true n text f
 in_parts word digits before after text n m f is count front rest at =
     let first : before ≡ take f.mark text = front ∙ same_before f.mark m text at in

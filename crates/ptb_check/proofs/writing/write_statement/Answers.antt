@@ -45,7 +45,8 @@ returns-clause-writes g c =
     let t = c.args.text.now in
     let i = c.commands.cursor.place in
     let over = subst (λ v. is_over v i ≡ true) c.commands.invariant.text (sym c.at_end.ensures ∙ c.commands-test.false) in
-    all_written (ap (mistakes_from p n t) (no_command_left c.command_laws.ensures t i over)) c.commands.invariant.written
+    all_written
+    (ap (mistakes_from p n t) (no_command_left c.command_laws.ensures t i over)) c.commands.invariant.written
 
 -- others are
 pub commands-preserved : goal.commands-preserved
@@ -63,5 +64,8 @@ commands-preserved g c =
     record {
       text = c.take_command-more.ensures.text ∙ same;
       unfailed = c.in_ok-any.ensures.unfailed ∙ c.commands.invariant.unfailed;
-      written = more_written _ c.in_ok-any.field-0 _ (mistakes_from p n t (commands_from t j)) (mistakes_left p n t i (commands_from t j) left) c.commands.invariant.written (c.in_ok-any.ensures.writes i code);
+      written =
+          more_written _ c.in_ok-any.field-0 _ (mistakes_from p n t (commands_from t j))
+          (mistakes_left p n t i (commands_from t j) left) c.commands.invariant.written
+          (c.in_ok-any.ensures.writes i code);
     }
