@@ -1,6 +1,7 @@
 -- This file proves how the mistakes in a program's text are served, from what was written of them.
 -- Main lemmas: `check_written` and `check_broken`.
-use Rattle.std.proofs.Common.{◌≡◌, ◌∙◌, ℕ, ◌+◌, ◌≤◌, Bool, List, Option, Some, Result, Ok, Err, IsErrOf, ap, sym, subst, refl, arith, inl, inr}
+use Rattle.std.proofs.Common.{◌≡◌, ◌∙◌, ℕ, ◌+◌, ◌≤◌, Bool, List, Option, Some, Result, Ok, Err}
+use Rattle.std.proofs.Common.{IsErrOf, ap, sym, subst, refl, arith, inl, inr}
 use Rattle.std.specs.Result.{IsErrAnd}
 use Rattle.std.proofs.lemmas.Result.{err_from_is_err_and}
 use Rattle.ptb_text.specs.Device.{HasFailed}
@@ -20,9 +21,12 @@ use Rattle.ptb_serve.proofs.Mismatching.{run_refuses_none, success_refuses_none}
 use Rattle.ptb_serve.proofs.Served.{consumes_nothing, nothing_told, serves_loaded}
 
 module _ (request : Request) (p : StoredProgram) (memory : p.memory ≡ request.memory) (old new known : Option (List ℕ)) where
-  pub mistakes_served : (any : Bool) (n : ℕ) → n ≡ check_status any → WritesMistakes (mistakes p.lines) old new (Ok any) → n ≤ 1 → ServesProgram modes.Check request p known known old new (Ok n)
+  pub mistakes_served : (any : Bool) (n : ℕ) → n ≡ check_status any → WritesMistakes (mistakes p.lines) old new (Ok any)
+      → n ≤ 1 → ServesProgram modes.Check request p known known old new (Ok n)
   mistakes_served any n is written within = record {
-    served = λ b c l _. serves_loaded request.memory (Some b) check_reply p old new (Ok n) l memory (record { bytes = written.ok; status = is ∙ ap check_status written.any; note = refl });
+    served =
+        λ b c l _. serves_loaded request.memory (Some b) check_reply p old new (Ok n) l memory
+        (record { bytes = written.ok; status = is ∙ ap check_status written.any; note = refl });
     taken = λ b l. nothing_told known;
     unread = λ b l x. absurd cc;
     silent = tt;
@@ -33,9 +37,12 @@ module _ (request : Request) (p : StoredProgram) (memory : p.memory ≡ request.
     loaded = λ x. x;
   }
 
-  pub mistakes_unwritten : (fault : WriteFault) → WritesMistakes (mistakes p.lines) old new (Err fault) → ServesProgram modes.Check request p known known old new (Err notes.Unwritten)
+  pub mistakes_unwritten : (fault : WriteFault) → WritesMistakes (mistakes p.lines) old new (Err fault)
+      → ServesProgram modes.Check request p known known old new (Err notes.Unwritten)
   mistakes_unwritten fault written = record {
-    served = λ b c l _. serves_loaded request.memory (Some b) check_reply p old new (Err notes.Unwritten) l memory written.fault;
+    served =
+        λ b c l _. serves_loaded request.memory (Some b) check_reply p old new
+        (Err notes.Unwritten) l memory written.fault;
     taken = λ b l. nothing_told known;
     unread = λ b l x. absurd cc;
     silent = tt;
@@ -50,12 +57,14 @@ module _ (request : Request) (p : StoredProgram) (memory : p.memory ≡ request.
 
 module _ (p : StoredProgram) (old new : Option (List ℕ)) (broke breaks : ℕ) where
   pub record IsChecked (result : Result ℕ Note) : Type 0 where
-    pub serves : (request : Request) → p.memory ≡ request.memory → (known : Option (List ℕ)) → ServesProgram modes.Check request p known known old new result
+    pub serves : (request : Request) → p.memory ≡ request.memory → (known : Option (List ℕ))
+        → ServesProgram modes.Check request p known known old new result
     pub read : IsErrOf result notes.InputUnread → ⊥
     pub failures : TellsFailures broke breaks result
     pub no_list : RefusesListIn result → ⊥
 
-  pub check_written : (any : Bool) (n : ℕ) → n ≡ check_status any → n ≤ 1 → WritesMistakes (mistakes p.lines) old new (Ok any) → breaks ≡ broke → IsChecked (Ok n)
+  pub check_written : (any : Bool) (n : ℕ) → n ≡ check_status any → n ≤ 1
+      → WritesMistakes (mistakes p.lines) old new (Ok any) → breaks ≡ broke → IsChecked (Ok n)
   check_written any n is within written unfailed = record {
     serves = λ request memory known. mistakes_served request p memory old new known any n is written within;
     read = λ x. absurd cc;
@@ -63,7 +72,8 @@ module _ (p : StoredProgram) (old new : Option (List ℕ)) (broke breaks : ℕ) 
     no_list = success_refuses_none n;
   }
 
-  pub check_broken : (result : Result ℕ Note) (fault : WriteFault) → IsErrAnd result (λ note. note ≡ notes.Unwritten) → WritesMistakes (mistakes p.lines) old new (Err fault) → HasFailed broke breaks → IsChecked result
+  pub check_broken : (result : Result ℕ Note) (fault : WriteFault) → IsErrAnd result (λ note. note ≡ notes.Unwritten)
+      → WritesMistakes (mistakes p.lines) old new (Err fault) → HasFailed broke breaks → IsChecked result
   check_broken result fault noted written has_failed =
       let e = err_from_is_err_and result noted in
       subst IsChecked (sym (e.1 ∙ ap Err e.2))
@@ -75,7 +85,9 @@ module _ (p : StoredProgram) (old new : Option (List ℕ)) (broke breaks : ℕ) 
       })
 
 -- the input is left alone
-pub check_reads : (known : Option (List ℕ)) (result : Result ℕ Note) (failed gave : ℕ) → (IsErrOf result notes.InputUnread → ⊥) → (RefusesListIn result → ⊥) → ReadsInput modes.Check known known failed failed gave gave result
+pub check_reads : (known : Option (List ℕ)) (result : Result ℕ Note) (failed gave : ℕ)
+    → (IsErrOf result notes.InputUnread → ⊥) → (RefusesListIn result → ⊥)
+    → ReadsInput modes.Check known known failed failed gave gave result
 check_reads known result failed gave fine no_list = record {
   within = λ x. absurd x;
   taken_within = λ x. absurd x;

@@ -45,7 +45,8 @@ three_parts true false d h = absurd cc
 three_parts false b d h = absurd cc
 
 -- which notes say that no listing is begun
-pub note_is : (share front : Bool) (note : Note) → note_of share front ≡ Some note → (note ≡ notes.NoBeginning) ⊎ (note ≡ notes.NoRun)
+pub note_is : (share front : Bool) (note : Note) → note_of share front ≡ Some note
+    → (note ≡ notes.NoBeginning) ⊎ (note ≡ notes.NoRun)
 note_is false front note e = inl cc
 note_is true false note e = inr cc
 note_is true true note e = absurd cc
@@ -59,10 +60,13 @@ module _ (game : Answers → Outcome Finish (List ℕ)) where
   pub share_false : (under : List Marked) → (IsMarkedBeginning game under → ⊥) → is_share game (Some under) ≡ false
   share_false under none = false_from_ne_true _ (λ h. none (both_parts _ _ h))
 
-  pub front_true : (under : Answers) (list : List Marked) → IsMarkedRun game list → begins_with (answers_of list) under ≡ true → is_front game under (Some list) ≡ true
+  pub front_true : (under : Answers) (list : List Marked) → IsMarkedRun game list
+      → begins_with (answers_of list) under ≡ true → is_front game under (Some list) ≡ true
   front_true under list run b = three_true _ _ _ run.0 run.1 b
 
-  pub front_false : (under : Answers) (list : List Marked) → (IsMarkedRun game list → begins_with (answers_of list) under ≡ true → ⊥) → is_front game under (Some list) ≡ false
+  pub front_false : (under : Answers) (list : List Marked)
+      → (IsMarkedRun game list → begins_with (answers_of list) under ≡ true → ⊥)
+      → is_front game under (Some list) ≡ false
   front_false under list none = false_from_ne_true _ (λ h. let p = three_parts _ _ _ h in none (p.0, p.1) p.2)
 
   -- ---- a listing that is begun
@@ -73,26 +77,34 @@ module _ (game : Answers → Outcome Finish (List ℕ)) where
   pub begun_under : (under : List Marked) → IsMarkedBeginning game under → front_note game (Some under) None ≡ None
   begun_under under b = ap (λ t. note_of t true) (share_true under b)
 
-  pub begun_both : (under list : List Marked) → IsMarkedBeginning game under → IsMarkedRun game list → begins_with (answers_of list) (answers_of under) ≡ true → front_note game (Some under) (Some list) ≡ None
+  pub begun_both : (under list : List Marked) → IsMarkedBeginning game under → IsMarkedRun game list
+      → begins_with (answers_of list) (answers_of under) ≡ true → front_note game (Some under) (Some list) ≡ None
   begun_both under list b run begins = ap₂ note_of (share_true under b) (front_true (answers_of under) list run begins)
 
   -- ---- one that isn't
 
-  pub no_front : (under : Option (List Marked)) (list : List Marked) → is_share game under ≡ true → (IsMarkedRun game list → begins_with (answers_of list) (answers_under under) ≡ true → ⊥) → front_note game under (Some list) ≡ Some notes.NoRun
+  pub no_front : (under : Option (List Marked)) (list : List Marked) → is_share game under ≡ true
+      → (IsMarkedRun game list → begins_with (answers_of list) (answers_under under) ≡ true → ⊥)
+      → front_note game under (Some list) ≡ Some notes.NoRun
   no_front under list share none = ap₂ note_of share (front_false (answers_under under) list none)
 
-  pub no_share : (under : List Marked) (after : Option (List Marked)) → (IsMarkedBeginning game under → ⊥) → front_note game (Some under) after ≡ Some notes.NoBeginning
+  pub no_share : (under : List Marked) (after : Option (List Marked)) → (IsMarkedBeginning game under → ⊥)
+      → front_note game (Some under) after ≡ Some notes.NoBeginning
   no_share under after none = ap (λ t. note_of t (is_front game (answers_of under) after)) (share_false under none)
 
   -- where a run begins with the first list, the second is what is refused
   pub unbegun_at : (under : Option (List Marked)) (list : List Marked) (fault : AfterFault) → is_share game under ≡ true
       → ((m : Mismatch) → fault ≡ afters.NotARun m → IsMarkedRun game list → begins_with (answers_of list) (answers_under under) ≡ true → ⊥)
-      → ((m : Mismatch) → fault ≡ afters.NotARun m → IsRunMismatch game (items_of under) list m) → IsUnbegun game under (Some list) (after_reason fault)
+      → ((m : Mismatch) → fault ≡ afters.NotARun m → IsRunMismatch game (items_of under) list m)
+      → IsUnbegun game under (Some list) (after_reason fault)
   unbegun_at None list (afters.NotARun m) share none why = (no_front None list share (none m refl), why m refl)
-  unbegun_at (Some under) list (afters.NotARun m) share none why = (no_front (Some under) list share (none m refl), why m refl)
+  unbegun_at (Some under) list (afters.NotARun m) share none why =
+      (no_front (Some under) list share (none m refl), why m refl)
   unbegun_at under list afters.Memory share none why = tt
 
-  pub unbegun_under : (under : List Marked) (fault : UnderFault) → ((m : Mismatch) → fault ≡ unders.NoBeginning m → IsMarkedBeginning game under → ⊥)
-      → ((m : Mismatch) → fault ≡ unders.NoBeginning m → IsItemMismatch game under m) → (after : Option (List Marked)) → IsUnbegun game (Some under) after (under_reason fault)
+  pub unbegun_under : (under : List Marked) (fault : UnderFault)
+      → ((m : Mismatch) → fault ≡ unders.NoBeginning m → IsMarkedBeginning game under → ⊥)
+      → ((m : Mismatch) → fault ≡ unders.NoBeginning m → IsItemMismatch game under m) → (after : Option (List Marked))
+      → IsUnbegun game (Some under) after (under_reason fault)
   unbegun_under under (unders.NoBeginning m) none why after = (no_share under after (none m refl), why m refl)
   unbegun_under under unders.Memory none why after = tt

@@ -69,28 +69,37 @@ ok_status n m result e h = let same : Ok n ≡ Ok m = sym e ∙ h in cc
 module _ {R : Type 0} (mode : Mode) (request : Request) (p : StoredProgram) (answers : List (List ℕ) → Answers) (input : Reads R)
     (known : (c : List ℕ) → IsInput mode input.bytes c → input.bytes ≡ Some c)
     (same : (lines : List (List ℕ)) → stopping_line p lines request.rules (answers lines) ≡ line_in_mode mode p lines request.rules) where
-  pub run_line : (ended : Result RunEnd RunFault) (result : Result ℕ Note) → IsRunStatus (ending_alone ended) result → IfOk ended (HasLine p request.rules answers input)
+  pub run_line : (ended : Result RunEnd RunFault) (result : Result ℕ Note) → IsRunStatus (ending_alone ended) result
+      → IfOk ended (HasLine p request.rules answers input)
       → TellsLine mode request p input.bytes result (line_of ended)
   run_line (Ok end) result h line = record {
     at_limit = λ e c is.
-        at_known (λ d. end.line ≡ stopping_line p (input_lines d) request.rules (answers (input_lines d))) c (known c is)
+        at_known (λ d. end.line ≡ stopping_line p (input_lines d) request.rules (answers (input_lines d))) c
+        (known c is)
         (line.at_limit (limit_alone end.ending (ok_status (status end.ending) 4 result h e)))
         ∙ same (input_lines c);
     elsewhere = λ other. line.elsewhere (λ limit. other (h ∙ ap (λ (x : Ending). Ok (status x)) limit));
   }
-  run_line (Err fault) result h line = record { at_limit = λ e c is. absurd (fault_beyond fault result h e); elsewhere = λ _. refl }
+  run_line (Err fault) result h line =
+      record { at_limit = λ e c is. absurd (fault_beyond fault result h e); elsewhere = λ _. refl }
 
 -- ---- other modes have none
 
-pub none_stopped : (mode : Mode) (request : Request) (p : StoredProgram) (known : Option (List ℕ)) (result : Result ℕ Note)
-    → ((lines : List (List ℕ)) → line_in_mode mode p lines request.rules ≡ None) → TellsLine mode request p known result None
-none_stopped mode request p known result none = record { at_limit = λ e c is. sym (none (input_lines c)); elsewhere = λ _. refl }
+pub none_stopped : (mode : Mode) (request : Request) (p : StoredProgram) (known : Option (List ℕ))
+    (result : Result ℕ Note)
+    → ((lines : List (List ℕ)) → line_in_mode mode p lines request.rules ≡ None)
+    → TellsLine mode request p known result None
+none_stopped mode request p known result none =
+    record { at_limit = λ e c is. sym (none (input_lines c)); elsewhere = λ _. refl }
 
 -- ---- for a program that was loaded
 
-pub line_loaded : (mode : Mode) (request : Request) (b : List ℕ) (lines : List (List ℕ)) (p : StoredProgram) (line : Option ℕ) → IsLoaded request.memory b p.lines → p.memory ≡ request.memory
+pub line_loaded : (mode : Mode) (request : Request) (b : List ℕ) (lines : List (List ℕ)) (p : StoredProgram)
+    (line : Option ℕ)
+    → IsLoaded request.memory b p.lines → p.memory ≡ request.memory
     → line ≡ line_in_mode mode p lines request.rules
     → IfOk (program_of_text request.memory b) (λ q. line ≡ line_in_mode mode (record { lines = q; memory = request.memory }) lines request.rules)
 line_loaded mode request b lines p line h e is =
     let stored : record { lines = p.lines; memory = request.memory } ≡ p = ap (λ m. record p { memory = m }) (sym e) in
-    rw (program_of_text-ok request.memory b p.lines h) (subst (λ q. line ≡ line_in_mode mode q lines request.rules) (sym stored) is)
+    rw (program_of_text-ok request.memory b p.lines h)
+    (subst (λ q. line ≡ line_in_mode mode q lines request.rules) (sym stored) is)

@@ -1,6 +1,8 @@
 -- This file proves how a listing of all runs is served, from where it began and what was written.
 -- Main lemmas: `all_listed` and `some_listed`.
-use Rattle.std.proofs.Common.{◌≡◌, ℕ, ◌+◌, ◌<◌, ◌≤◌, ◌⊎◌, inl, inr, List, [], ◌∷◌, ◌++◌, length, take, Option, Some, None, Result, Ok, Err, refl, ap, sym, ◌∙◌, subst, append_assoc, arith, IfOk, IfSome, IsErrOf, OnOk}
+use Rattle.std.proofs.Common.{◌≡◌, ℕ, ◌+◌, ◌<◌, ◌≤◌, ◌⊎◌, inl, inr, List, [], ◌∷◌, ◌++◌, length}
+use Rattle.std.proofs.Common.{take, Option, Some, None, Result, Ok, Err, refl, ap, sym, ◌∙◌, subst}
+use Rattle.std.proofs.Common.{append_assoc, arith, IfOk, IfSome, IsErrOf, OnOk}
 use Rattle.std.specs.Io.KnownBytes.{Appends}
 use Rattle.std.proofs.KnownBytes.{Appends-nil}
 use Rattle.std.proofs.Math.Seq.{take-append_seam}
@@ -32,16 +34,21 @@ use Rattle.ptb_options.specs.declared.request.Mode.TheVariants as modes
 use Rattle.ptb_options.specs.declared.request.Request.{Request}
 use Rattle.ptb_serve.specs.Loaded.{ReadsInput, ServesProgram}
 use Rattle.ptb_plain.specs.PlainRuns.{IsUnreadable, input_limit}
-use Rattle.ptb_serve.specs.Replies.{Reply, refusal, success, answers_under, first_front, front_note, is_front, is_share, listed_runs, listing_reply, runs_reply, all_reply}
-use Rattle.ptb_serve.specs.Serving.{outcome_of, input_note, reports_note, IsPlainRun, IsUnloaded, ListsFewerOf, NeedsInput, Serves, SilentBy}
+use Rattle.ptb_serve.specs.Replies.{Reply, refusal, success, answers_under, first_front, front_note}
+use Rattle.ptb_serve.specs.Replies.{is_front, is_share, listed_runs, listing_reply, runs_reply}
+use Rattle.ptb_serve.specs.Replies.{all_reply}
+use Rattle.ptb_serve.specs.Serving.{outcome_of, input_note, reports_note, IsPlainRun, IsUnloaded}
+use Rattle.ptb_serve.specs.Serving.{ListsFewerOf, NeedsInput, Serves, SilentBy}
 use Rattle.ptb_serve.proofs.Fronts.{note_is}
 use Rattle.ptb_plain.proofs.Playing.{takes_beginning}
-use Rattle.ptb_serve.proofs.Served.{at_known, consumes_nothing, lists_loaded, nothing_told, serves_loaded, takes_nothing, replies_refusal}
+use Rattle.ptb_serve.proofs.Served.{at_known, consumes_nothing, lists_loaded, nothing_told}
+use Rattle.ptb_serve.proofs.Served.{serves_loaded, takes_nothing, replies_refusal}
 
 -- ---- nothing was written but the front of what is due
 
 module _ (report : Answers → List ℕ) where
-  pub text-beginning : (list done rest : List Answers) → list ≡ done ++ rest → Begins (text report done) (text report list)
+  pub text-beginning : (list done rest : List Answers) → list ≡ done ++ rest
+      → Begins (text report done) (text report list)
   text-beginning list done rest e = (text report rest, ap (text report) e ∙ flat_map-append report done rest)
 
   pub text-into : (list done : List Answers) (at : Answers) (rest : List Answers) (part unwritten : List ℕ)
@@ -55,7 +62,8 @@ module _ (report : Answers → List ℕ) where
       )
 
 -- what comes before something is shorter than both
-pub below_both : (beginning rest list : List Answers) → list ≡ beginning ++ rest → (rest ≡ [] → ⊥) → length beginning < length list
+pub below_both : (beginning rest list : List Answers) → list ≡ beginning ++ rest → (rest ≡ [] → ⊥)
+    → length beginning < length list
 below_both beginning [] list e some = absurd (some refl)
 below_both beginning (a ∷ rest) list e some = let l = length-append beginning (a ∷ rest) in rw e (omega (arith, l))
 
@@ -73,7 +81,8 @@ input_note-beginning reads.TooLong h = absurd cc
 input_note-beginning reads.Memory h = absurd cc
 
 -- the note has the fault that came
-pub input_note-read : {T : Type 0} (fault : ReadFault) → (IsErrOf {T = ℕ} (Err (input_note fault)) notes.InputUnread → ⊥)
+pub input_note-read : {T : Type 0} (fault : ReadFault)
+    → (IsErrOf {T = ℕ} (Err (input_note fault)) notes.InputUnread → ⊥)
     → IsErrOf {T = T} (Err fault) reads.Read → ⊥
 input_note-read reads.Read h e = h refl
 input_note-read reads.TooLong h e = absurd cc
@@ -85,7 +94,8 @@ input_note-loaded reads.TooLong h = h
 input_note-loaded reads.Memory h = h
 
 module _ (game : Answers → Outcome Finish (List ℕ)) (under after : Option (List Marked)) where
-  pub front_note-loaded : (note : Note) → (note ≡ notes.OutOfMemory) ⊎ (front_note game under after ≡ Some note) → IsUnloaded (Some note) → ⊥
+  pub front_note-loaded : (note : Note) → (note ≡ notes.OutOfMemory) ⊎ (front_note game under after ≡ Some note)
+      → IsUnloaded (Some note) → ⊥
   front_note-loaded note (inl e) h = subst (λ m. IsUnloaded (Some m)) e h
   front_note-loaded note (inr e) h = elim (note_is (is_share game under) (is_front game (answers_under under) after) note e) [
     | inl b ↦ subst (λ m. IsUnloaded (Some m)) b h
@@ -94,16 +104,19 @@ module _ (game : Answers → Outcome Finish (List ℕ)) (under after : Option (L
 
   -- of a listing that isn't begun a note says nothing else
   pub front_note-other : (note other : Note) → (note ≡ notes.OutOfMemory) ⊎ (front_note game under after ≡ Some note)
-      → (other ≡ notes.OutOfMemory → ⊥) → (other ≡ notes.NoBeginning → ⊥) → (other ≡ notes.NoRun → ⊥) → IsErrOf {T = ℕ} (Err note) other → ⊥
+      → (other ≡ notes.OutOfMemory → ⊥) → (other ≡ notes.NoBeginning → ⊥) → (other ≡ notes.NoRun → ⊥)
+      → IsErrOf {T = ℕ} (Err note) other → ⊥
   front_note-other note other (inl e) memory beginning run h = memory cc
   front_note-other note other (inr e) memory beginning run h = elim (note_is (is_share game under) (is_front game (answers_under under) after) note e) [
     | inl b ↦ beginning cc
     | inr b ↦ run cc
   ]
 
-  pub front_note-silent : (first : Option ℕ) (form : Form) (held : Option (List ℕ)) (note : Note) → (note ≡ notes.OutOfMemory) ⊎ (front_note game under after ≡ Some note)
+  pub front_note-silent : (first : Option ℕ) (form : Form) (held : Option (List ℕ)) (note : Note)
+      → (note ≡ notes.OutOfMemory) ⊎ (front_note game under after ≡ Some note)
       → SilentBy (modes.All under after first form) (Some note) held held
-  front_note-silent first form held note (inl e) = subst (λ m. SilentBy (modes.All under after first form) (Some m) held held) (sym e) tt
+  front_note-silent first form held note (inl e) =
+      subst (λ m. SilentBy (modes.All under after first form) (Some m) held held) (sym e) tt
   front_note-silent first form held note (inr e) = elim (note_is (is_share game under) (is_front game (answers_under under) after) note e) [
     | inl b ↦ subst (λ m. SilentBy (modes.All under after first form) (Some m) held held) (sym b) (Appends-nil held)
     | inr b ↦ subst (λ m. SilentBy (modes.All under after first form) (Some m) held held) (sym b) (Appends-nil held)
@@ -113,18 +126,22 @@ pub reports_note-loaded : (fault : ExploreFault) → IsUnloaded (Some (reports_n
 reports_note-loaded (explores.Memory n) h = h
 reports_note-loaded (explores.Write n) h = h
 
-pub reports_note-failed : {T P : Type 0} (fault : ExploreFault) → ((n : ℕ) → IsErrOf {T = T} (Err fault) (explores.Write n) → P)
+pub reports_note-failed : {T P : Type 0} (fault : ExploreFault)
+    → ((n : ℕ) → IsErrOf {T = T} (Err fault) (explores.Write n) → P)
     → IsErrOf {T = ℕ} (Err (reports_note fault)) notes.Unwritten → P
 reports_note-failed (explores.Memory m) h e = absurd cc
 reports_note-failed (explores.Write m) h e = h m refl
 
-pub reports_note-write : {T : Type 0} (fault : ExploreFault) → (IsErrOf {T = ℕ} (Err (reports_note fault)) notes.Unwritten → ⊥)
+pub reports_note-write : {T : Type 0} (fault : ExploreFault)
+    → (IsErrOf {T = ℕ} (Err (reports_note fault)) notes.Unwritten → ⊥)
     → (n : ℕ) → IsErrOf {T = T} (Err fault) (explores.Write n) → ⊥
 reports_note-write (explores.Memory m) h n e = absurd cc
 reports_note-write (explores.Write m) h n e = h refl
 
 -- nothing was written where the input isn't read
-input_note-silent : (under after : Option (List Marked)) (first : Option ℕ) (form : Form) (held : Option (List ℕ)) (fault : ReadFault) → SilentBy (modes.All under after first form) (Some (input_note fault)) held held
+input_note-silent : (under after : Option (List Marked)) (first : Option ℕ) (form : Form) (held : Option (List ℕ))
+    (fault : ReadFault)
+    → SilentBy (modes.All under after first form) (Some (input_note fault)) held held
 input_note-silent under after first form held reads.Read = Appends-nil held
 input_note-silent under after first form held reads.TooLong = Appends-nil held
 input_note-silent under after first form held reads.Memory = tt
@@ -138,14 +155,17 @@ pub reports_note-read : (fault : ExploreFault) → IsErrOf {T = ℕ} (Err (repor
 reports_note-read (explores.Memory n) h = absurd cc
 reports_note-read (explores.Write n) h = absurd cc
 
-pub reports_note-silent : (under after : Option (List Marked)) (first : Option ℕ) (form : Form) (old new : Option (List ℕ)) (fault : ExploreFault) → SilentBy (modes.All under after first form) (Some (reports_note fault)) old new
+pub reports_note-silent : (under after : Option (List Marked)) (first : Option ℕ) (form : Form)
+    (old new : Option (List ℕ)) (fault : ExploreFault)
+    → SilentBy (modes.All under after first form) (Some (reports_note fault)) old new
 reports_note-silent under after first form old new (explores.Memory n) = tt
 reports_note-silent under after first form old new (explores.Write n) = tt
 
 -- ---- the replies
 
 -- the reply of a program, by the bytes of its input
-abbrev pub runs_due : Rules → Option (List Marked) → Option (List Marked) → Option ℕ → Form → List ℕ → StoredProgram → Reply
+abbrev pub runs_due : Rules → Option (List Marked) → Option (List Marked) → Option ℕ → Form → List ℕ → StoredProgram
+    → Reply
 runs_due rules under after first form c p = all_reply p (input_lines c) rules under after first form
 
 module _ (p : StoredProgram) (rules : Rules) (under after : Option (List Marked)) (first : Option ℕ) (form : Form) where
@@ -158,27 +178,35 @@ module _ (p : StoredProgram) (rules : Rules) (under after : Option (List Marked)
   abbrev due : List (List ℕ) → List ℕ
   due input = listed_runs (game input) (most_answers p input rules.limit) under after first form
 
-  pub reply-listed : (input : List (List ℕ)) → front_note (game input) under after ≡ None → reply input ≡ success (due input)
+  pub reply-listed : (input : List (List ℕ)) → front_note (game input) under after ≡ None
+      → reply input ≡ success (due input)
   unfolding runs_reply
   reply-listed input h = ap (λ (o : Option Note). elim o [ None ↦ success (due input) | Some note ↦ refusal note ]) h
 
-  pub reply-refused : (input : List (List ℕ)) (note : Note) → front_note (game input) under after ≡ Some note → reply input ≡ refusal note
+  pub reply-refused : (input : List (List ℕ)) (note : Note) → front_note (game input) under after ≡ Some note
+      → reply input ≡ refusal note
   unfolding runs_reply
-  reply-refused input note h = ap (λ (o : Option Note). elim o [ None ↦ success (due input) | Some note ↦ refusal note ]) h
+  reply-refused input note h =
+      ap (λ (o : Option Note). elim o [ None ↦ success (due input) | Some note ↦ refusal note ]) h
 
   -- ---- how it is served, where nothing was written
 
   module _ (held : Option (List ℕ)) where
-    serves_unread : (input : List (List ℕ)) (fault : ReadFault) → Serves (reply input) held held (outcome_of (Err (input_note fault)))
+    serves_unread : (input : List (List ℕ)) (fault : ReadFault)
+        → Serves (reply input) held held (outcome_of (Err (input_note fault)))
     serves_unread input reads.Read = takes_nothing held _
     serves_unread input reads.TooLong = takes_nothing held _
     serves_unread input reads.Memory = takes_nothing held _
 
-    serves_refused : (input : List (List ℕ)) (note : Note) → (note ≡ notes.NoBeginning) ⊎ (note ≡ notes.NoRun) → Serves (refusal note) held held (outcome_of (Err note))
-    serves_refused input note (inl e) = subst (λ m. Serves (refusal m) held held (outcome_of (Err m))) (sym e) (replies_refusal held notes.NoBeginning)
-    serves_refused input note (inr e) = subst (λ m. Serves (refusal m) held held (outcome_of (Err m))) (sym e) (replies_refusal held notes.NoRun)
+    serves_refused : (input : List (List ℕ)) (note : Note) → (note ≡ notes.NoBeginning) ⊎ (note ≡ notes.NoRun)
+        → Serves (refusal note) held held (outcome_of (Err note))
+    serves_refused input note (inl e) =
+        subst (λ m. Serves (refusal m) held held (outcome_of (Err m))) (sym e) (replies_refusal held notes.NoBeginning)
+    serves_refused input note (inr e) =
+        subst (λ m. Serves (refusal m) held held (outcome_of (Err m))) (sym e) (replies_refusal held notes.NoRun)
 
-    serves_unbegun : (input : List (List ℕ)) (note : Note) → (note ≡ notes.OutOfMemory) ⊎ (front_note (game input) under after ≡ Some note)
+    serves_unbegun : (input : List (List ℕ)) (note : Note)
+        → (note ≡ notes.OutOfMemory) ⊎ (front_note (game input) under after ≡ Some note)
         → Serves (reply input) held held (outcome_of (Err note))
     serves_unbegun input note (inl e) =
         subst (λ m. Serves (reply input) held held (outcome_of (Err m))) (sym e) (takes_nothing held _)
@@ -188,66 +216,91 @@ module _ (p : StoredProgram) (rules : Rules) (under after : Option (List Marked)
 
     -- by the bytes of the input, of which the lines are those that were read
     module _ (c : List ℕ) where
-      pub serves_input : (fault : ReadFault) → Serves (runs_due rules under after first form c p) held held (outcome_of (Err (input_note fault)))
+      pub serves_input : (fault : ReadFault)
+          → Serves (runs_due rules under after first form c p) held held (outcome_of (Err (input_note fault)))
       serves_input fault = serves_unread (input_lines c) fault
 
-      pub serves_front : (input : List (List ℕ)) → input ≡ input_lines c → (note : Note) → (note ≡ notes.OutOfMemory) ⊎ (front_note (game input) under after ≡ Some note)
+      pub serves_front : (input : List (List ℕ)) → input ≡ input_lines c → (note : Note)
+          → (note ≡ notes.OutOfMemory) ⊎ (front_note (game input) under after ≡ Some note)
           → Serves (runs_due rules under after first form c p) held held (outcome_of (Err note))
-      serves_front input is note one = subst (λ i. Serves (reply i) held held (outcome_of (Err note))) is (serves_unbegun input note one)
+      serves_front input is note one =
+          subst (λ i. Serves (reply i) held held (outcome_of (Err note))) is (serves_unbegun input note one)
 
   -- ---- how it is served, where reports were written
 
   module _ (old new : Option (List ℕ)) where
-    takes_due : (input : List (List ℕ)) (written : List ℕ) → front_note (game input) under after ≡ None → Appends old new written → Begins written (due input)
+    takes_due : (input : List (List ℕ)) (written : List ℕ) → front_note (game input) under after ≡ None
+        → Appends old new written → Begins written (due input)
         → TakesSome old new (reply input).bytes
     takes_due input written h w begins =
-        subst (λ r. TakesSome old new r.bytes) (sym (reply-listed input h)) (takes_beginning old new written (due input) w begins)
+        subst (λ r. TakesSome old new r.bytes) (sym (reply-listed input h))
+        (takes_beginning old new written (due input) w begins)
 
     abbrev Writes : List (List ℕ) → Front → Result ℕ ExploreFault → Type 0
     Writes input f result =
-        WritesRuns (game input) (answers_under under) (report form (game input)) (runs_left (game input) (most_answers p input rules.limit) (answers_under under) (first_front after) first) (first_front after) f old new result
+        WritesRuns (game input) (answers_under under) (report form (game input))
+        (runs_left (game input) (most_answers p input rules.limit) (answers_under under) (first_front after) first)
+        (first_front after) f old new result
 
-    serves_written : (input : List (List ℕ)) (f : Front) (n : ℕ) → front_note (game input) under after ≡ None → Writes input f (Ok n)
+    serves_written : (input : List (List ℕ)) (f : Front) (n : ℕ) → front_note (game input) under after ≡ None
+        → Writes input f (Ok n)
         → Serves (reply input) old new (outcome_of (Ok 0))
     serves_written input f n h w =
-        subst (λ r. Serves r old new (outcome_of (Ok 0))) (sym (reply-listed input h)) (record { bytes = w.bytes; status = refl; note = refl })
+        subst (λ r. Serves r old new (outcome_of (Ok 0))) (sym (reply-listed input h))
+        (record { bytes = w.bytes; status = refl; note = refl })
 
-    serves_cut : (input : List (List ℕ)) (f : Front) (fault : ExploreFault) → front_note (game input) under after ≡ None → Writes input f (Err fault)
+    serves_cut : (input : List (List ℕ)) (f : Front) (fault : ExploreFault) → front_note (game input) under after ≡ None
+        → Writes input f (Err fault)
         → Serves (reply input) old new (outcome_of (Err (reports_note fault)))
     serves_cut input f (explores.Memory n) h w =
         takes_due input _ h w.bytes (text-beginning (report form (game input)) _ w.beginning w.rest w.split)
     serves_cut input f (explores.Write n) h w =
-        takes_due input _ h w.bytes (text-into (report form (game input)) _ w.beginning w.at w.rest w.part w.remainder w.split w.cut)
+        takes_due input _ h w.bytes
+        (text-into (report form (game input)) _ w.beginning w.at w.rest w.part w.remainder w.split w.cut)
 
-    writes_fewer : (input : List (List ℕ)) (f : Front) (fault : ExploreFault) → Writes input f (Err fault) → IsErrOf {T = ℕ} (Err (reports_note fault)) notes.OutOfMemory
+    writes_fewer : (input : List (List ℕ)) (f : Front) (fault : ExploreFault) → Writes input f (Err fault)
+        → IsErrOf {T = ℕ} (Err (reports_note fault)) notes.OutOfMemory
         → ListsFewerOf p input rules under after first form old new
     writes_fewer input f (explores.Memory n) w refused = record {
       count = length w.beginning;
       fewer = below_both w.beginning w.rest _ w.split w.some_left;
-      bytes = subst (λ l. Appends old new (text (report form (game input)) l)) (sym (ap (take (length w.beginning)) w.split ∙ take-append_seam w.beginning w.rest)) w.bytes;
+      bytes =
+          subst (λ l. Appends old new (text (report form (game input)) l))
+          (sym (ap (take (length w.beginning)) w.split ∙ take-append_seam w.beginning w.rest)) w.bytes;
     }
     writes_fewer input f (explores.Write n) w refused = absurd cc
 
-    -- by the bytes of the input, of which the lines are those that were read, and an explorer that went on from its front
+    -- by the bytes of the input, of which the lines are those that were read, and an explorer that went on from its
+    -- front
     module _ (c : List ℕ) (input : List (List ℕ)) (is : input ≡ input_lines c) (e : Exploration) (f : Front)
         (same : e ≡ record { program = p; input = input; rules = rules; under = answers_under under; front = first_front after; kept = e.kept; played = e.played }) (h : front_note (game input) under after ≡ None) where
       abbrev WritesFrom : Exploration → Result ℕ ExploreFault → Type 0
-      WritesFrom e result = WritesRuns (play_of e) e.under (report form (play_of e)) (runs_left (play_of e) (most_of e) e.under e.front first) e.front f old new result
+      WritesFrom e result =
+          WritesRuns (play_of e) e.under (report form (play_of e))
+          (runs_left (play_of e) (most_of e) e.under e.front first) e.front f old new result
 
       written_from : (result : Result ℕ ExploreFault) → WritesFrom e result → Writes input f result
       written_from result w = subst (λ x. WritesFrom x result) same w
 
-      pub serves_reports : (n : ℕ) → WritesFrom e (Ok n) → Serves (runs_due rules under after first form c p) old new (outcome_of (Ok 0))
-      serves_reports n w = subst (λ i. Serves (reply i) old new (outcome_of (Ok 0))) is (serves_written input f n h (written_from (Ok n) w))
+      pub serves_reports : (n : ℕ) → WritesFrom e (Ok n)
+          → Serves (runs_due rules under after first form c p) old new (outcome_of (Ok 0))
+      serves_reports n w =
+          subst (λ i. Serves (reply i) old new (outcome_of (Ok 0))) is
+          (serves_written input f n h (written_from (Ok n) w))
 
       -- where memory is refused, some report is still to be written
-      pub lists_some : (fault : ExploreFault) → WritesFrom e (Err fault) → IsErrOf {T = ℕ} (Err (reports_note fault)) notes.OutOfMemory
+      pub lists_some : (fault : ExploreFault) → WritesFrom e (Err fault)
+          → IsErrOf {T = ℕ} (Err (reports_note fault)) notes.OutOfMemory
           → Appends old new [] ⊎ ListsFewerOf p (input_lines c) rules under after first form old new
-      lists_some fault w refused = subst (λ k. Appends old new [] ⊎ ListsFewerOf p k rules under after first form old new) is (inr (writes_fewer input f fault (written_from (Err fault) w) refused))
+      lists_some fault w refused =
+          subst (λ k. Appends old new [] ⊎ ListsFewerOf p k rules under after first form old new) is
+          (inr (writes_fewer input f fault (written_from (Err fault) w) refused))
 
-      pub serves_some : (fault : ExploreFault) → WritesFrom e (Err fault) → Serves (runs_due rules under after first form c p) old new (outcome_of (Err (reports_note fault)))
+      pub serves_some : (fault : ExploreFault) → WritesFrom e (Err fault)
+          → Serves (runs_due rules under after first form c p) old new (outcome_of (Err (reports_note fault)))
       serves_some fault w =
-          subst (λ i. Serves (reply i) old new (outcome_of (Err (reports_note fault)))) is (serves_cut input f fault h (written_from (Err fault) w))
+          subst (λ i. Serves (reply i) old new (outcome_of (Err (reports_note fault)))) is
+          (serves_cut input f fault h (written_from (Err fault) w))
 
 -- ---- how it is served, for a program that was loaded
 
@@ -265,7 +318,8 @@ on_ok (Err note) Q q = tt
 
 module _ (mode : Mode) (plain : IsPlainRun mode → ⊥) (needs : NeedsInput mode) (i j : Option (List ℕ)) (failed fails gave gives : ℕ) where
   -- once its lines were read
-  pub whole_reads : (result : Result ℕ Note) → IfSome i (λ c. length c ≤ input_limit) → ConsumesAtMost i j (input_limit + 1) → GivesAtMost gave gives (input_limit + 1)
+  pub whole_reads : (result : Result ℕ Note) → IfSome i (λ c. length c ≤ input_limit)
+      → ConsumesAtMost i j (input_limit + 1) → GivesAtMost gave gives (input_limit + 1)
       → fails ≡ failed → (IsErrOf result notes.InputUnread → ⊥) → ReadsInput mode i j failed fails gave gives result
   whole_reads result short bounded given same fine = record {
     within = λ _. on_ok result (IfSome i (λ c. length c ≤ input_limit)) short;
@@ -282,14 +336,17 @@ module _ (mode : Mode) (plain : IsPlainRun mode → ⊥) (needs : NeedsInput mod
 
   -- where they are not
   module _ {T : Type 0} (fault : ReadFault) (read : IsErrOf {T = T} (Err fault) reads.Read → HasFailed failed fails) where
-    unread_lines : (fault : ReadFault) → (IsErrOf {T = T} (Err fault) reads.Read → HasFailed failed fails) → (IsErrOf {T = T} (Err fault) reads.TooLong → IfSome i (λ c. input_limit < length c))
+    unread_lines : (fault : ReadFault) → (IsErrOf {T = T} (Err fault) reads.Read → HasFailed failed fails)
+        → (IsErrOf {T = T} (Err fault) reads.TooLong → IfSome i (λ c. input_limit < length c))
         → IsErrOf {T = ℕ} (Err (input_note fault)) notes.InputUnread → IsUnreadable i failed fails
     unread_lines reads.Read read long x = inl (read refl)
     unread_lines reads.TooLong read long x = inr (long refl)
     unread_lines reads.Memory read long x = absurd cc
 
-    told_lines : (fault : ReadFault) → (IsErrOf {T = T} (Err fault) reads.Read → HasFailed failed fails) → (IsErrOf {T = T} (Err fault) reads.TooLong → GivesExactly gave gives (input_limit + 1))
-        → IsErrOf {T = ℕ} (Err (input_note fault)) notes.InputUnread → HasFailed failed fails ⊎ GivesExactly gave gives (input_limit + 1)
+    told_lines : (fault : ReadFault) → (IsErrOf {T = T} (Err fault) reads.Read → HasFailed failed fails)
+        → (IsErrOf {T = T} (Err fault) reads.TooLong → GivesExactly gave gives (input_limit + 1))
+        → IsErrOf {T = ℕ} (Err (input_note fault)) notes.InputUnread
+        → HasFailed failed fails ⊎ GivesExactly gave gives (input_limit + 1)
     told_lines reads.Read read long x = inl (read refl)
     told_lines reads.TooLong read long x = inr (long refl)
     told_lines reads.Memory read long x = absurd cc
@@ -297,7 +354,8 @@ module _ (mode : Mode) (plain : IsPlainRun mode → ⊥) (needs : NeedsInput mod
     pub whole_unread : (IsErrOf {T = T} (Err fault) reads.TooLong → IfSome i (λ c. input_limit < length c))
         → (IsErrOf {T = T} (Err fault) reads.TooLong → GivesExactly gave gives (input_limit + 1))
         → ((IsErrOf {T = T} (Err fault) reads.Read → ⊥) → fails ≡ failed)
-        → ConsumesAtMost i j (input_limit + 1) → GivesAtMost gave gives (input_limit + 1) → ReadsInput mode i j failed fails gave gives (Err (input_note fault))
+        → ConsumesAtMost i j (input_limit + 1) → GivesAtMost gave gives (input_limit + 1)
+        → ReadsInput mode i j failed fails gave gives (Err (input_note fault))
     whole_unread long exactly unfailed bounded given = record {
       within = λ _. tt;
       taken_within = λ x. absurd (plain x);
@@ -325,7 +383,9 @@ module _ (request : Request) (p : StoredProgram) (memory : p.memory ≡ request.
       → OnOk result (result ≡ Ok 0) → (IsUnloaded (outcome_of result).note → ⊥)
       → ServesProgram listing request p i j old new result
   listing_serves old new result served quiet stopped unread success loaded = record {
-    served = λ b c l is. serves_loaded request.memory (Some b) (runs_due request.rules under after first form c) p old new result l memory (served c is);
+    served =
+        λ b c l is. serves_loaded request.memory (Some b)
+        (runs_due request.rules under after first form c) p old new result l memory (served c is);
     taken = λ b l. nothing_told i;
     unread = λ b l. unread;
     silent = quiet;
@@ -338,25 +398,34 @@ module _ (request : Request) (p : StoredProgram) (memory : p.memory ≡ request.
 
   module _ (failed fails gave gives : ℕ) where
     -- once its lines were read
-    pub listing_reads : (result : Result ℕ Note) → IfSome i (λ c. length c ≤ input_limit) → ConsumesAtMost i j (input_limit + 1) → GivesAtMost gave gives (input_limit + 1)
-        → fails ≡ failed → (IsErrOf result notes.InputUnread → ⊥) → ReadsInput listing i j failed fails gave gives result
+    pub listing_reads : (result : Result ℕ Note) → IfSome i (λ c. length c ≤ input_limit)
+        → ConsumesAtMost i j (input_limit + 1) → GivesAtMost gave gives (input_limit + 1)
+        → fails ≡ failed → (IsErrOf result notes.InputUnread → ⊥)
+        → ReadsInput listing i j failed fails gave gives result
     listing_reads result = whole_reads listing (λ x. x) tt i j failed fails gave gives result
 
     -- where they are not
-    pub lines_unread : {T : Type 0} (fault : ReadFault) (read : IsErrOf {T = T} (Err fault) reads.Read → HasFailed failed fails) → (IsErrOf {T = T} (Err fault) reads.TooLong → IfSome i (λ c. input_limit < length c))
+    pub lines_unread : {T : Type 0} (fault : ReadFault)
+        (read : IsErrOf {T = T} (Err fault) reads.Read → HasFailed failed fails)
+        → (IsErrOf {T = T} (Err fault) reads.TooLong → IfSome i (λ c. input_limit < length c))
         → (IsErrOf {T = T} (Err fault) reads.TooLong → GivesExactly gave gives (input_limit + 1))
         → ((IsErrOf {T = T} (Err fault) reads.Read → ⊥) → fails ≡ failed)
-        → ConsumesAtMost i j (input_limit + 1) → GivesAtMost gave gives (input_limit + 1) → ReadsInput listing i j failed fails gave gives (Err (input_note fault))
+        → ConsumesAtMost i j (input_limit + 1) → GivesAtMost gave gives (input_limit + 1)
+        → ReadsInput listing i j failed fails gave gives (Err (input_note fault))
     lines_unread {T = T} fault read = whole_unread listing (λ x. x) tt i j failed fails gave gives {T = T} fault read
 
   -- by the writer, which got nothing
-  pub unread_listed : (held : Option (List ℕ)) (fault : ReadFault) → ServesProgram listing request p i j held held (Err (input_note fault))
+  pub unread_listed : (held : Option (List ℕ)) (fault : ReadFault)
+      → ServesProgram listing request p i j held held (Err (input_note fault))
   unread_listed held fault =
-      listing_serves held held (Err (input_note fault)) (λ c is. serves_input p request.rules under after first form held c fault) (input_note-silent under after first form held fault)
+      listing_serves held held (Err (input_note fault))
+      (λ c is. serves_input p request.rules under after first form held c fault)
+      (input_note-silent under after first form held fault)
       (λ _ _ _. inl (Appends-nil held)) (λ _. Appends-nil held) tt (input_note-loaded fault)
 
   module _ (input : List (List ℕ)) (lines : IfSome i (λ c. input ≡ input_lines c)) where
-    pub unbegun_listed : (held : Option (List ℕ)) (note : Note) → (note ≡ notes.OutOfMemory) ⊎ (front_note (play p input request.rules) under after ≡ Some note)
+    pub unbegun_listed : (held : Option (List ℕ)) (note : Note)
+        → (note ≡ notes.OutOfMemory) ⊎ (front_note (play p input request.rules) under after ≡ Some note)
         → ServesProgram listing request p i j held held (Err note)
     unbegun_listed held note one =
         listing_serves held held (Err note) (λ c is. serves_front p request.rules under after first form held c input (at_known (λ d. input ≡ input_lines d) c is lines) note one)
@@ -367,7 +436,9 @@ module _ (request : Request) (p : StoredProgram) (memory : p.memory ≡ request.
         (same : e ≡ record { program = p; input = input; rules = request.rules; under = answers_under under; front = first_front after; kept = e.kept; played = e.played })
         (h : front_note (play p input request.rules) under after ≡ None) where
       abbrev WritesOn : Result ℕ ExploreFault → Type 0
-      WritesOn result = WritesRuns (play_of e) e.under (report form (play_of e)) (runs_left (play_of e) (most_of e) e.under e.front first) e.front f old new result
+      WritesOn result =
+          WritesRuns (play_of e) e.under (report form (play_of e))
+          (runs_left (play_of e) (most_of e) e.under e.front first) e.front f old new result
 
       pub all_listed : (n : ℕ) → WritesOn (Ok n) → ServesProgram listing request p i j old new (Ok 0)
       all_listed n w =
@@ -375,7 +446,8 @@ module _ (request : Request) (p : StoredProgram) (memory : p.memory ≡ request.
           (λ c is. serves_reports p request.rules under after first form old new c input (at_known (λ d. input ≡ input_lines d) c is lines) e f same h n w)
           tt (λ _ _ x. absurd cc) (λ x. absurd cc) refl (λ x. x)
 
-      pub some_listed : (fault : ExploreFault) → WritesOn (Err fault) → ServesProgram listing request p i j old new (Err (reports_note fault))
+      pub some_listed : (fault : ExploreFault) → WritesOn (Err fault)
+          → ServesProgram listing request p i j old new (Err (reports_note fault))
       some_listed fault w =
           listing_serves old new (Err (reports_note fault))
           (λ c is. serves_some p request.rules under after first form old new c input (at_known (λ d. input ≡ input_lines d) c is lines) e f same h fault w)
@@ -386,8 +458,10 @@ module _ (request : Request) (p : StoredProgram) (memory : p.memory ≡ request.
 -- ---- a listing of the program's text, which leaves the input alone
 
 module _ (request : Request) (p : StoredProgram) (memory : p.memory ≡ request.memory) (i : Option (List ℕ)) (result : Result ℕ Note) (fine : IsErrOf result notes.InputUnread → ⊥) where
-  pub text_serves : (old new : Option (List ℕ)) → Serves (listing_reply p) old new (outcome_of result) → SilentBy modes.List (outcome_of result).note old new
-      → OnOk result (result ≡ Ok 0) → (IsUnloaded (outcome_of result).note → ⊥) → ServesProgram modes.List request p i i old new result
+  pub text_serves : (old new : Option (List ℕ)) → Serves (listing_reply p) old new (outcome_of result)
+      → SilentBy modes.List (outcome_of result).note old new
+      → OnOk result (result ≡ Ok 0) → (IsUnloaded (outcome_of result).note → ⊥)
+      → ServesProgram modes.List request p i i old new result
   text_serves old new served quiet success loaded = record {
     served = λ b c l is. serves_loaded request.memory (Some b) listing_reply p old new result l memory served;
     taken = λ b l. nothing_told i;
@@ -400,7 +474,8 @@ module _ (request : Request) (p : StoredProgram) (memory : p.memory ≡ request.
     loaded = loaded;
   }
 
-  pub text_reads : (failed gave : ℕ) → (IsErrOf result notes.NoBeginning → ⊥) → (IsErrOf result notes.NoRun → ⊥) → ReadsInput modes.List i i failed failed gave gave result
+  pub text_reads : (failed gave : ℕ) → (IsErrOf result notes.NoBeginning → ⊥) → (IsErrOf result notes.NoRun → ⊥)
+      → ReadsInput modes.List i i failed failed gave gave result
   text_reads failed gave begun run = record {
     within = λ x. absurd x;
     taken_within = λ x. absurd x;

@@ -1,6 +1,7 @@
 -- This file joins all that is known of a listing of runs, by whether it was begun and written to its end.
 -- Main lemmas: `listing_written` and `listing_broken`.
-use Rattle.std.proofs.Common.{◌≡◌, ◌⊎◌, ℕ, ◌+◌, ◌<◌, List, length, Option, None, Some, Result, Ok, Err, IfSome, IsErrOf, inl, inr, refl, ap, sym, subst, ◌∙◌}
+use Rattle.std.proofs.Common.{◌≡◌, ◌⊎◌, ℕ, ◌+◌, ◌<◌, List, length, Option, None, Some, Result, Ok}
+use Rattle.std.proofs.Common.{Err, IfSome, IsErrOf, inl, inr, refl, ap, sym, subst, ◌∙◌}
 use Rattle.std.specs.Result.{IsErrAnd}
 use Rattle.std.proofs.lemmas.Result.{err_from_is_err_and}
 use Rattle.ptb_text.specs.Device.{GivesAtMost, GivesExactly, HasFailed}
@@ -29,7 +30,9 @@ use Rattle.ptb_serve.specs.Loaded.{ReadsInput, RefusesListIn, ServesProgram, Tel
 use Rattle.ptb_plain.specs.PlainRuns.{input_limit}
 use Rattle.ptb_serve.specs.Replies.{answers_under, first_front, front_note}
 use Rattle.ptb_serve.specs.Serving.{input_note, reports_note}
-use Rattle.ptb_serve.proofs.Listed.{all_listed, front_note-other, input_note-written, lines_unread, reports_note-failed, reports_note-read, reports_note-write, some_listed, unbegun_listed, unread_listed}
+use Rattle.ptb_serve.proofs.Listed.{all_listed, front_note-other, input_note-written, lines_unread}
+use Rattle.ptb_serve.proofs.Listed.{reports_note-failed, reports_note-read, reports_note-write}
+use Rattle.ptb_serve.proofs.Listed.{some_listed, unbegun_listed, unread_listed}
 
 -- what a `?` gives back is the error
 pub gives_err : {T E : Type 0} (r : Result T E) (e : E) → IsErrAnd r (λ y. y ≡ e) → r ≡ Err e
@@ -56,14 +59,18 @@ module _ (request : Request) (p : StoredProgram) (memory : p.memory ≡ request.
     pub reads : ReadsInput (modes.All under after first form) known left failed fails gave gives result
     pub failures : TellsFailures broke breaks result
 
-  pub listing_unread : {T : Type 0} (known left : Option (List ℕ)) (failed fails gave gives : ℕ) (held : Option (List ℕ)) (broke : ℕ) (result : Result ℕ Note) (fault : ReadFault)
+  pub listing_unread : {T : Type 0} (known left : Option (List ℕ)) (failed fails gave gives : ℕ)
+      (held : Option (List ℕ)) (broke : ℕ) (result : Result ℕ Note) (fault : ReadFault)
       → IsErrAnd result (λ n. n ≡ input_note fault)
-      → (IsErrOf {T = T} (Err fault) reads.Read → HasFailed failed fails) → (IsErrOf {T = T} (Err fault) reads.TooLong → IfSome known (λ c. input_limit < length c))
-      → (IsErrOf {T = T} (Err fault) reads.TooLong → GivesExactly gave gives (input_limit + 1)) → ((IsErrOf {T = T} (Err fault) reads.Read → ⊥) → fails ≡ failed)
+      → (IsErrOf {T = T} (Err fault) reads.Read → HasFailed failed fails)
+      → (IsErrOf {T = T} (Err fault) reads.TooLong → IfSome known (λ c. input_limit < length c))
+      → (IsErrOf {T = T} (Err fault) reads.TooLong → GivesExactly gave gives (input_limit + 1))
+      → ((IsErrOf {T = T} (Err fault) reads.Read → ⊥) → fails ≡ failed)
       → ConsumesAtMost known left (input_limit + 1) → GivesAtMost gave gives (input_limit + 1)
       → IsListed known left failed fails gave gives held held broke broke result
   listing_unread {T = T} known left failed fails gave gives held broke result fault is read long exactly unfailed bounded given =
-      subst (IsListed known left failed fails gave gives held held broke broke) (sym (gives_err result (input_note fault) is))
+      subst (IsListed known left failed fails gave gives held held broke broke)
+      (sym (gives_err result (input_note fault) is))
       (record {
         serves = unread_listed request p memory under after first form known left held fault;
         reads = lines_unread request p memory under after first form known left failed fails gave gives {T = T} fault read long exactly unfailed bounded given;
@@ -74,23 +81,28 @@ module _ (request : Request) (p : StoredProgram) (memory : p.memory ≡ request.
 
   module _ (input : List (List ℕ)) where
     pub record IsListedOn (old new : Option (List ℕ)) (broke breaks : ℕ) (result : Result ℕ Note) : Type 0 where
-      pub serves : (known left : Option (List ℕ)) → IfSome known (λ c. input ≡ input_lines c) → ServesProgram (modes.All under after first form) request p known left old new result
+      pub serves : (known left : Option (List ℕ)) → IfSome known (λ c. input ≡ input_lines c)
+          → ServesProgram (modes.All under after first form) request p known left old new result
       pub read : IsErrOf result notes.InputUnread → ⊥
       pub failures : TellsFailures broke breaks result
 
     -- no listing begins so
-    unbegun_noted : (held : Option (List ℕ)) (broke : ℕ) (note : Note) → (note ≡ notes.OutOfMemory) ⊎ (front_note (play p input request.rules) under after ≡ Some note)
+    unbegun_noted : (held : Option (List ℕ)) (broke : ℕ) (note : Note)
+        → (note ≡ notes.OutOfMemory) ⊎ (front_note (play p input request.rules) under after ≡ Some note)
         → IsListedOn held held broke broke (Err note)
     unbegun_noted held broke note unbegun = record {
       serves = λ known left lines. unbegun_listed request p memory under after first form known left input lines held note unbegun;
-      read = front_note-other (play p input request.rules) under after note notes.InputUnread unbegun (λ x. absurd cc) (λ x. absurd cc) (λ x. absurd cc);
+      read =
+          front_note-other (play p input request.rules) under after note notes.InputUnread unbegun (λ x. absurd cc)
+          (λ x. absurd cc) (λ x. absurd cc);
       failures = record {
         unwritten = λ x. absurd (front_note-other (play p input request.rules) under after note notes.Unwritten unbegun (λ x. absurd cc) (λ x. absurd cc) (λ x. absurd cc) x);
         written = λ _. refl;
       };
     }
 
-    pub listing_unbegun : (held : Option (List ℕ)) (broke : ℕ) (why : Unbegun) → IsUnbegun (play p input request.rules) under after why
+    pub listing_unbegun : (held : Option (List ℕ)) (broke : ℕ) (why : Unbegun)
+        → IsUnbegun (play p input request.rules) under after why
         → IsListedOn held held broke broke (unbegun_attempt why).served
     listing_unbegun held broke (Refused m) x = unbegun_noted held broke (mismatch_note m) (inr x.0)
     listing_unbegun held broke Memory x = unbegun_noted held broke notes.OutOfMemory (inl refl)
@@ -100,11 +112,15 @@ module _ (request : Request) (p : StoredProgram) (memory : p.memory ≡ request.
         (same : e ≡ record { program = p; input = input; rules = request.rules; under = answers_under under; front = first_front after; kept = e.kept; played = e.played })
         (begun : front_note (play p input request.rules) under after ≡ None) where
       abbrev Writes : Result ℕ ExploreFault → Type 0
-      Writes result = WritesRuns (play_of e) e.under (report form (play_of e)) (runs_left (play_of e) (most_of e) e.under e.front first) e.front f old new result
+      Writes result =
+          WritesRuns (play_of e) e.under (report form (play_of e))
+          (runs_left (play_of e) (most_of e) e.under e.front first) e.front f old new result
 
       -- some reports are written
-      pub listing_broken : {T : Type 0} (result : Result ℕ Note) (fault : ExploreFault) → IsErrAnd result (λ n. n ≡ reports_note fault) → Writes (Err fault)
-          → ((n : ℕ) → IsErrOf {T = T} (Err fault) (explores.Write n) → HasFailed broke breaks) → (((n : ℕ) → IsErrOf {T = T} (Err fault) (explores.Write n) → ⊥) → breaks ≡ broke)
+      pub listing_broken : {T : Type 0} (result : Result ℕ Note) (fault : ExploreFault)
+          → IsErrAnd result (λ n. n ≡ reports_note fault) → Writes (Err fault)
+          → ((n : ℕ) → IsErrOf {T = T} (Err fault) (explores.Write n) → HasFailed broke breaks)
+          → (((n : ℕ) → IsErrOf {T = T} (Err fault) (explores.Write n) → ⊥) → breaks ≡ broke)
           → IsListedOn old new broke breaks result
       listing_broken {T = T} result fault is writes failed unfailed =
           subst (IsListedOn old new broke breaks) (sym (gives_err result (reports_note fault) is))

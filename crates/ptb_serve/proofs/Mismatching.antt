@@ -1,6 +1,7 @@
 -- This file proves what is said of a list that fits no run.
 -- Main lemma: `unbegun_told`.
-use Rattle.std.proofs.Common.{◌≡◌, ◌⊎◌, inl, inr, ℕ, List, Option, Some, None, Result, Ok, Err, IfOk, IfSome, IsErrOf, IsSome, refl, ap, sym, subst}
+use Rattle.std.proofs.Common.{◌≡◌, ◌⊎◌, inl, inr, ℕ, List, Option, Some, None, Result, Ok, Err}
+use Rattle.std.proofs.Common.{IfOk, IfSome, IsErrOf, IsSome, refl, ap, sym, subst}
 use Rattle.ptb_text.specs.Lines.{input_lines}
 use Rattle.ptb_text.specs.Loading.{IsLoaded}
 use Rattle.ptb_text.specs.Statements.{StoredProgram}
@@ -29,11 +30,13 @@ use Rattle.ptb_serve.proofs.Listed.{input_note-beginning, input_note-start}
 use Rattle.ptb_serve.proofs.Served.{at_known, outcome_of-err, outcome_of-note, program_of_text-ok}
 
 -- nothing is said where no list is refused
-pub none_told : (mode : Mode) (request : Request) (p : StoredProgram) (known : Option (List ℕ)) (result : Result ℕ Note) → (RefusesListIn result → ⊥) → TellsMismatch mode request p known result None
+pub none_told : (mode : Mode) (request : Request) (p : StoredProgram) (known : Option (List ℕ)) (result : Result ℕ Note)
+    → (RefusesListIn result → ⊥) → TellsMismatch mode request p known result None
 none_told mode request p known result other = record { said = λ h. absurd (other h); noted = tt; fits = λ _ _. tt }
 
 -- as with a run that is served or not,
-pub run_refuses_none : (r : Result Ending RunFault) (result : Result ℕ Note) → IsRunStatus r result → RefusesListIn result → ⊥
+pub run_refuses_none : (r : Result Ending RunFault) (result : Result ℕ Note) → IsRunStatus r result
+    → RefusesListIn result → ⊥
 run_refuses_none (Ok e) result h (inl x) = cc
 run_refuses_none (Ok e) result h (inr x) = cc
 run_refuses_none (Err faults.Memory) result h (inl x) = cc
@@ -62,23 +65,31 @@ memory_refuses_none (inr x) = cc
 
 -- and with an input that can't be read
 pub unread_refuses_none : (note : Note) (fault : ReadFault) → note ≡ input_note fault → RefusesListIn (Err note) → ⊥
-unread_refuses_none note fault is (inl x) = input_note-beginning fault (subst (λ (n : Note). IsErrOf {T = ℕ} (Err n) notes.NoBeginning) is x)
-unread_refuses_none note fault is (inr x) = input_note-start fault (subst (λ (n : Note). IsErrOf {T = ℕ} (Err n) notes.NoRun) is x)
+unread_refuses_none note fault is (inl x) =
+    input_note-beginning fault (subst (λ (n : Note). IsErrOf {T = ℕ} (Err n) notes.NoBeginning) is x)
+unread_refuses_none note fault is (inr x) =
+    input_note-start fault (subst (λ (n : Note). IsErrOf {T = ℕ} (Err n) notes.NoRun) is x)
 
 -- what holds of a mismatch, if there is one, gives something else that does
-pub if_mismatch : (P Q : ListMismatch → Type 0) (o : Option ListMismatch) → ((m : ListMismatch) → P m → Q m) → IfSome o P → IfSome o Q
+pub if_mismatch : (P Q : ListMismatch → Type 0) (o : Option ListMismatch) → ((m : ListMismatch) → P m → Q m)
+    → IfSome o P → IfSome o Q
 if_mismatch P Q None f h = tt
 if_mismatch P Q (Some m) f h = f m h
 
 -- where a listing is not begun, it is said why a list is refused
-pub unbegun_told : (request : Request) (p : StoredProgram) (known : Option (List ℕ)) (input : List (List ℕ)) → IfSome known (λ c. input ≡ input_lines c)
-    → (under after : Option (List Marked)) (first : Option ℕ) (form : Form) (why : Unbegun) → IsUnbegun (play p input request.rules) under after why
+pub unbegun_told : (request : Request) (p : StoredProgram) (known : Option (List ℕ)) (input : List (List ℕ))
+    → IfSome known (λ c. input ≡ input_lines c)
+    → (under after : Option (List Marked)) (first : Option ℕ) (form : Form) (why : Unbegun)
+    → IsUnbegun (play p input request.rules) under after why
     → TellsMismatch (modes.All under after first form) request p known (unbegun_attempt why).served (unbegun_attempt why).mismatch
-unbegun_told request p known input lines under after first form Memory x = none_told (modes.All under after first form) request p known (Err notes.OutOfMemory) memory_refuses_none
+unbegun_told request p known input lines under after first form Memory x =
+    none_told (modes.All under after first form) request p known (Err notes.OutOfMemory) memory_refuses_none
 unbegun_told request p known input lines under after first form (Refused m) x = record {
   said = λ _. refl;
   noted = refl;
-  fits = λ c is. subst (λ i. IsMismatchIn (play p i request.rules) under after m) (at_known (λ d. input ≡ input_lines d) c is lines) x.1;
+  fits =
+      λ c is. subst (λ i. IsMismatchIn (play p i request.rules) under after m)
+      (at_known (λ d. input ≡ input_lines d) c is lines) x.1;
 }
 
 -- and no line stopped it
@@ -89,18 +100,25 @@ unbegun_line (Refused m) = refl
 -- ---- for a program that was loaded
 
 pub said_outcome : (result : Result ℕ Note) (mismatch : Option ListMismatch) → (RefusesListIn result → IsSome mismatch)
-    → ((outcome_of result).note ≡ Some notes.NoBeginning) ⊎ ((outcome_of result).note ≡ Some notes.NoRun) → IsSome mismatch
+    → ((outcome_of result).note ≡ Some notes.NoBeginning) ⊎ ((outcome_of result).note ≡ Some notes.NoRun)
+    → IsSome mismatch
 said_outcome result mismatch said (inl h) = said (inl (outcome_of-note result notes.NoBeginning h))
 said_outcome result mismatch said (inr h) = said (inr (outcome_of-note result notes.NoRun h))
 
-pub noted_outcome : (result : Result ℕ Note) (mismatch : Option ListMismatch) → IfSome mismatch (λ m. IsErrOf result (mismatch_note m))
+pub noted_outcome : (result : Result ℕ Note) (mismatch : Option ListMismatch)
+    → IfSome mismatch (λ m. IsErrOf result (mismatch_note m))
     → IfSome mismatch (λ m. (outcome_of result).note ≡ Some (mismatch_note m))
 noted_outcome result mismatch noted =
-    if_mismatch (λ m. IsErrOf result (mismatch_note m)) (λ m. (outcome_of result).note ≡ Some (mismatch_note m)) mismatch (λ m. outcome_of-err result (mismatch_note m)) noted
+    if_mismatch (λ m. IsErrOf result (mismatch_note m))
+    (λ m. (outcome_of result).note ≡ Some (mismatch_note m)) mismatch
+    (λ m. outcome_of-err result (mismatch_note m)) noted
 
-pub mismatch_loaded : (mode : Mode) (request : Request) (b c : List ℕ) (p : StoredProgram) (mismatch : Option ListMismatch) → IsLoaded request.memory b p.lines → p.memory ≡ request.memory
+pub mismatch_loaded : (mode : Mode) (request : Request) (b c : List ℕ) (p : StoredProgram)
+    (mismatch : Option ListMismatch)
+    → IsLoaded request.memory b p.lines → p.memory ≡ request.memory
     → IfSome mismatch (IsMismatchOf mode p (input_lines c) request.rules)
     → IfOk (program_of_text request.memory b) (λ q. IfSome mismatch (IsMismatchOf mode (record { lines = q; memory = request.memory }) (input_lines c) request.rules))
 mismatch_loaded mode request b c p mismatch h e fits =
     let stored : record { lines = p.lines; memory = request.memory } ≡ p = ap (λ m. record p { memory = m }) (sym e) in
-    rw (program_of_text-ok request.memory b p.lines h) (subst (λ q. IfSome mismatch (IsMismatchOf mode q (input_lines c) request.rules)) (sym stored) fits)
+    rw (program_of_text-ok request.memory b p.lines h)
+    (subst (λ q. IfSome mismatch (IsMismatchOf mode q (input_lines c) request.rules)) (sym stored) fits)

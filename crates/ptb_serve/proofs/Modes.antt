@@ -22,7 +22,8 @@ use Rattle.ptb_machine.specs.Runs.{ending_alone}
 use Rattle.ptb_machine.specs.declared.run_end.RunEnd.{RunEnd}
 use Rattle.ptb_plain.specs.PlainRuns.{HasLine, WantsMemory}
 use Rattle.ptb_plain.specs.Streams.{Reads, Writes}
-use Rattle.ptb_serve.specs.Loaded.{IsRunStatus, ReadsInput, RefusesListIn, ServesProgram, TellsFailures, TellsLine, TellsMismatch, line_of}
+use Rattle.ptb_serve.specs.Loaded.{IsRunStatus, ReadsInput, RefusesListIn, ServesProgram}
+use Rattle.ptb_serve.specs.Loaded.{TellsFailures, TellsLine, TellsMismatch, line_of}
 use Rattle.ptb_plain.specs.SeededRuns.{seeded_answers}
 use Rattle.ptb_serve.specs.Serving.{NeedsInput}
 use Rattle.ptb_serve.proofs.Checks.{check_reads}
@@ -56,7 +57,8 @@ module _ (request : Request) (p : StoredProgram) where
           (record {
             serves = plain_serves request p input out r result status b ran memory quiet;
             reads = plain_reads request p input out r result status b ran;
-            line = run_line (modes.Plain b) request p (λ _. b) input (λ c is. is) (λ lines. refl) end result status line;
+            line =
+                run_line (modes.Plain b) request p (λ _. b) input (λ c is. is) (λ lines. refl) end result status line;
             failures = run_failures request p (λ _ _. b) input out r result status ran;
             mismatch = none_told _ _ _ _ _ (run_refuses_none r result status);
             input_kept = λ x. absurd (x tt);
@@ -73,15 +75,23 @@ module _ (request : Request) (p : StoredProgram) where
           (record {
             serves = seeded_serves request p input out r result status seed ran memory wants;
             reads = seeded_reads request p input out r result status seed ran;
-            line = run_line (modes.Seeded seed) request p (λ lines. seeded_answers seed p lines request.rules) input (λ c is. is) (λ lines. refl) end result status line;
-            failures = run_failures request p (λ q lines. seeded_answers seed q lines request.rules) input out r result status ran;
+            line =
+                run_line (modes.Seeded seed) request p (λ lines. seeded_answers seed p lines request.rules) input
+                (λ c is. is) (λ lines. refl) end result status line;
+            failures =
+                run_failures request p
+                (λ q lines. seeded_answers seed q lines request.rules) input out r result status ran;
             mismatch = none_told _ _ _ _ _ (run_refuses_none r result status);
             input_kept = λ x. absurd (x tt);
           })
 
     -- a listing of its runs
-    pub served_all : (result : Result ℕ Note) (mismatch : Option ListMismatch) (mode : Mode) (under after : Option (List Marked)) (first : Option ℕ) (form : Form) → mode ≡ modes.All under after first form
-        → ServesProgram (modes.All under after first form) request p input.bytes input.left out.before out.after result → ReadsInput (modes.All under after first form) input.bytes input.left input.failed input.fails input.gave input.gives result → TellsFailures out.failed out.fails result
+    pub served_all : (result : Result ℕ Note) (mismatch : Option ListMismatch) (mode : Mode)
+        (under after : Option (List Marked)) (first : Option ℕ) (form : Form)
+        → mode ≡ modes.All under after first form
+        → ServesProgram (modes.All under after first form) request p input.bytes input.left out.before out.after result
+        → ReadsInput (modes.All under after first form) input.bytes input.left input.failed input.fails input.gave input.gives result
+        → TellsFailures out.failed out.fails result
         → TellsMismatch (modes.All under after first form) request p input.bytes result mismatch
         → IsServedIn input out result mismatch None mode
     served_all result mismatch mode under after first form is serves reads tells said =
@@ -91,7 +101,8 @@ module _ (request : Request) (p : StoredProgram) where
     -- the lists that split its runs
     pub served_shares : (result : Result ℕ Note) (mode : Mode) (n : ℕ) (form : Form) → mode ≡ modes.Shares n form
         → ServesProgram (modes.Shares n form) request p input.bytes input.left out.before out.after result
-        → ReadsInput (modes.Shares n form) input.bytes input.left input.failed input.fails input.gave input.gives result → TellsFailures out.failed out.fails result
+        → ReadsInput (modes.Shares n form) input.bytes input.left input.failed input.fails input.gave input.gives result
+        → TellsFailures out.failed out.fails result
         → (RefusesListIn result → ⊥)
         → IsServedIn input out result None None mode
     served_shares result mode n form is serves reads tells no_list =
@@ -99,9 +110,11 @@ module _ (request : Request) (p : StoredProgram) where
         (record { serves = serves; reads = reads; failures = tells; mismatch = none_told _ _ _ _ _ no_list; line = none_stopped _ _ _ _ _ (λ lines. refl); input_kept = λ x. absurd (x tt) })
 
     -- a sample of its runs
-    pub served_sample : (result : Result ℕ Note) (mode : Mode) (seed runs : ℕ) (form : Form) → mode ≡ modes.Sample seed runs form
+    pub served_sample : (result : Result ℕ Note) (mode : Mode) (seed runs : ℕ) (form : Form)
+        → mode ≡ modes.Sample seed runs form
         → ServesProgram (modes.Sample seed runs form) request p input.bytes input.left out.before out.after result
-        → ReadsInput (modes.Sample seed runs form) input.bytes input.left input.failed input.fails input.gave input.gives result → TellsFailures out.failed out.fails result
+        → ReadsInput (modes.Sample seed runs form) input.bytes input.left input.failed input.fails input.gave input.gives result
+        → TellsFailures out.failed out.fails result
         → (RefusesListIn result → ⊥)
         → IsServedIn input out result None None mode
     served_sample result mode seed runs form is serves reads tells no_list =
@@ -111,7 +124,8 @@ module _ (request : Request) (p : StoredProgram) where
     -- the table of its chances
     pub served_chances : (result : Result ℕ Note) (mode : Mode) → mode ≡ modes.Chances
         → ServesProgram modes.Chances request p input.bytes input.left out.before out.after result
-        → ReadsInput modes.Chances input.bytes input.left input.failed input.fails input.gave input.gives result → TellsFailures out.failed out.fails result
+        → ReadsInput modes.Chances input.bytes input.left input.failed input.fails input.gave input.gives result
+        → TellsFailures out.failed out.fails result
         → (RefusesListIn result → ⊥)
         → IsServedIn input out result None None mode
     served_chances result mode is serves reads tells no_list =
@@ -120,12 +134,16 @@ module _ (request : Request) (p : StoredProgram) where
 
   -- a listing of its text, which leaves the input alone
   module _ {R : Type 0} (i : R) (known : Option (List ℕ)) (failed gave : ℕ) (out : Writes) (mode : Mode) (is : mode ≡ modes.List) (memory : p.memory ≡ request.memory) where
-    pub served_text : Appends out.before out.after (listing p.lines) → out.fails ≡ out.failed → IsServedIn (unread i known gave failed) out (Ok 0) None None mode
+    pub served_text : Appends out.before out.after (listing p.lines) → out.fails ≡ out.failed
+        → IsServedIn (unread i known gave failed) out (Ok 0) None None mode
     served_text all unfailed =
         subst (IsServedIn (unread i known gave failed) out (Ok 0) None None) (sym is)
         (record {
-          serves = text_serves request p memory known (Ok 0) (λ x. absurd cc) out.before out.after (record { bytes = all; status = refl; note = refl }) tt refl (λ x. x);
-          reads = text_reads request p memory known (Ok 0) (λ x. absurd cc) failed gave (λ x. absurd cc) (λ x. absurd cc);
+          serves =
+              text_serves request p memory known (Ok 0) (λ x. absurd cc) out.before out.after
+              (record { bytes = all; status = refl; note = refl }) tt refl (λ x. x);
+          reads =
+              text_reads request p memory known (Ok 0) (λ x. absurd cc) failed gave (λ x. absurd cc) (λ x. absurd cc);
           failures = record { unwritten = λ x. absurd cc; written = λ _. unfailed };
           mismatch = none_told _ _ _ _ _ (success_refuses_none 0);
           line = none_stopped _ _ _ _ _ (λ lines. refl);
@@ -133,15 +151,20 @@ module _ (request : Request) (p : StoredProgram) where
         })
 
     -- the writer failed
-    pub text_broken : (result : Result ℕ Note) → IsErrAnd result (λ n. n ≡ notes.Unwritten) → TakesSome out.before out.after (listing p.lines) → HasFailed out.failed out.fails
+    pub text_broken : (result : Result ℕ Note) → IsErrAnd result (λ n. n ≡ notes.Unwritten)
+        → TakesSome out.before out.after (listing p.lines) → HasFailed out.failed out.fails
         → IsServedIn (unread i known gave failed) out result None None mode
     text_broken result noted some has_failed =
         let e = err_from_is_err_and result noted in
         subst (λ (m : Mode). IsServedIn (unread i known gave failed) out result None None m) (sym is)
         (subst (λ (r : Result ℕ Note). IsServedIn (unread i known gave failed) out r None None modes.List) (sym (e.1 ∙ ap Err e.2))
         (record {
-          serves = text_serves request p memory known (Err notes.Unwritten) (λ x. absurd cc) out.before out.after some tt tt (λ x. x);
-          reads = text_reads request p memory known (Err notes.Unwritten) (λ x. absurd cc) failed gave (λ x. absurd cc) (λ x. absurd cc);
+          serves =
+              text_serves request p memory known (Err notes.Unwritten) (λ x. absurd cc) out.before out.after some tt tt
+              (λ x. x);
+          reads =
+              text_reads request p memory known (Err notes.Unwritten) (λ x. absurd cc) failed gave (λ x. absurd cc)
+              (λ x. absurd cc);
           failures = record { unwritten = λ _. has_failed; written = λ x. absurd (x refl) };
           mismatch = none_told _ _ _ _ _ (run_refuses_none (Err faults.Write) (Err notes.Unwritten) refl);
           line = none_stopped _ _ _ _ _ (λ lines. refl);
@@ -149,8 +172,11 @@ module _ (request : Request) (p : StoredProgram) where
         }))
 
   -- the mistakes in it, which leave the input alone, too
-  pub served_check : {R : Type 0} (i : R) (known : Option (List ℕ)) (failed gave : ℕ) (out : Writes) (mode : Mode) (result : Result ℕ Note) → mode ≡ modes.Check → ServesProgram modes.Check request p known known out.before out.after result
-      → (IsErrOf result notes.InputUnread → ⊥) → TellsFailures out.failed out.fails result → (RefusesListIn result → ⊥) → IsServedIn (unread i known gave failed) out result None None mode
+  pub served_check : {R : Type 0} (i : R) (known : Option (List ℕ)) (failed gave : ℕ) (out : Writes) (mode : Mode)
+      (result : Result ℕ Note)
+      → mode ≡ modes.Check → ServesProgram modes.Check request p known known out.before out.after result
+      → (IsErrOf result notes.InputUnread → ⊥) → TellsFailures out.failed out.fails result → (RefusesListIn result → ⊥)
+      → IsServedIn (unread i known gave failed) out result None None mode
   served_check i known failed gave out mode result is serves fine tells no_list =
       subst (IsServedIn (unread i known gave failed) out result None None) (sym is)
       (record { serves = serves; reads = check_reads known result failed gave fine no_list; failures = tells; mismatch = none_told _ _ _ _ _ no_list; line = none_stopped _ _ _ _ _ (λ lines. refl); input_kept = λ _. refl })

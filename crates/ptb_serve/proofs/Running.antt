@@ -1,6 +1,7 @@
 -- This file proves how a run of a program that was loaded is served, with a list of answers or by a seed.
 -- Main lemmas: `plain_serves` and `seeded_serves`.
-use Rattle.std.proofs.Common.{◌≡◌, inl, inr, ℕ, List, [], Option, Some, None, Result, Ok, Err, IfSome, IsErrOf, refl, subst, sym}
+use Rattle.std.proofs.Common.{◌≡◌, inl, inr, ℕ, List, [], Option, Some, None, Result, Ok, Err}
+use Rattle.std.proofs.Common.{IfSome, IsErrOf, refl, subst, sym}
 use Rattle.std.specs.Io.KnownBytes.{Appends, Consumes}
 use Rattle.ptb_text.specs.Device.{TakesSome}
 use Rattle.ptb_text.specs.Lines.{input_lines}
@@ -22,8 +23,13 @@ use Rattle.ptb_plain.specs.PlainRuns.{PlaysWith, ReadsLines, WantsMemory, ending
 use Rattle.ptb_plain.specs.Streams.{Reads, Writes}
 use Rattle.ptb_serve.specs.Replies.{Reply, program_reply, program_reply_in_mode, run_reply}
 use Rattle.ptb_plain.specs.SeededRuns.{seeded_answers}
-use Rattle.ptb_serve.specs.Serving.{AsksForMore, EndsUnread, IsInput, IsPlainRun, IsUnloaded, NeedsInput, NeedsWholeInput, ReadsBy, ReadsForRun, Serves, ServesUnread, SilentBy, StopsForMemory, outcome_of, outcome_wanted}
-use Rattle.ptb_serve.proofs.Served.{asks_loaded, at_known, each_known, reads_loaded, run_no_check, serves_ended, serves_loaded, status_within, unread_loaded, wanted_ended}
+use Rattle.ptb_serve.specs.Serving.{AsksForMore, EndsUnread, IsInput, IsPlainRun, IsUnloaded}
+use Rattle.ptb_serve.specs.Serving.{NeedsInput, NeedsWholeInput, ReadsBy, ReadsForRun, Serves}
+use Rattle.ptb_serve.specs.Serving.{ServesUnread, SilentBy, StopsForMemory, outcome_of}
+use Rattle.ptb_serve.specs.Serving.{outcome_wanted}
+use Rattle.ptb_serve.proofs.Served.{asks_loaded, at_known, each_known, reads_loaded, run_no_check}
+use Rattle.ptb_serve.proofs.Served.{serves_ended, serves_loaded, status_within, unread_loaded}
+use Rattle.ptb_serve.proofs.Served.{wanted_ended}
 
 -- the program was played with these answers, which may depend on the lines
 pub record Ran {R : Type 0} (request : Request) (p : StoredProgram) (answers : List (List ℕ) → Answers) (input : Reads R) (out : Writes) (r : Result Ending RunFault) : Type 0 where
@@ -38,11 +44,20 @@ module _ {R : Type 0} (request : Request) (p : StoredProgram) (answers : StoredP
   run lines = plain p lines request.rules (answers p lines)
 
   -- whether the writer failed
-  pub run_failures : (r : Result Ending RunFault) (result : Result ℕ Note) → IsRunStatus r result → RanBy r → TellsFailures out.failed out.fails result
-  run_failures (Ok e) result h ran = subst (TellsFailures out.failed out.fails) (sym h) (record { unwritten = λ x. absurd cc; written = λ _. ran.plays.unfailed (λ x. absurd cc) })
-  run_failures (Err faults.Memory) result h ran = subst (TellsFailures out.failed out.fails) (sym h) (record { unwritten = λ x. absurd cc; written = λ _. ran.plays.unfailed (λ x. absurd cc) })
-  run_failures (Err faults.Read) result h ran = subst (TellsFailures out.failed out.fails) (sym h) (record { unwritten = λ x. absurd cc; written = λ _. ran.plays.unfailed (λ x. absurd cc) })
-  run_failures (Err faults.Write) result h ran = subst (TellsFailures out.failed out.fails) (sym h) (record { unwritten = λ _. ran.plays.failed refl; written = λ x. absurd (x refl) })
+  pub run_failures : (r : Result Ending RunFault) (result : Result ℕ Note) → IsRunStatus r result → RanBy r
+      → TellsFailures out.failed out.fails result
+  run_failures (Ok e) result h ran =
+      subst (TellsFailures out.failed out.fails) (sym h)
+      (record { unwritten = λ x. absurd cc; written = λ _. ran.plays.unfailed (λ x. absurd cc) })
+  run_failures (Err faults.Memory) result h ran =
+      subst (TellsFailures out.failed out.fails) (sym h)
+      (record { unwritten = λ x. absurd cc; written = λ _. ran.plays.unfailed (λ x. absurd cc) })
+  run_failures (Err faults.Read) result h ran =
+      subst (TellsFailures out.failed out.fails) (sym h)
+      (record { unwritten = λ x. absurd cc; written = λ _. ran.plays.unfailed (λ x. absurd cc) })
+  run_failures (Err faults.Write) result h ran =
+      subst (TellsFailures out.failed out.fails) (sym h)
+      (record { unwritten = λ _. ran.plays.failed refl; written = λ x. absurd (x refl) })
   run_failures (Err faults.Spent) result h ran = absurd h
 
   -- in a mode that runs the program once, with these answers
@@ -65,8 +80,10 @@ module _ {R : Type 0} (request : Request) (p : StoredProgram) (answers : StoredP
     }
 
     -- a note that says nothing of the input
-    reads_note : (note : Note) (fault : RunFault) → (IsErrOf {T = Ending} (Err fault) faults.Read → ⊥) → (IsErrOf {T = ℕ} (Err note) notes.InputUnread → ⊥)
-        → (IsErrOf {T = ℕ} (Err note) notes.NoBeginning → ⊥) → (IsErrOf {T = ℕ} (Err note) notes.NoRun → ⊥) → RanBy (Err fault) → ReadsAs (Err note)
+    reads_note : (note : Note) (fault : RunFault) → (IsErrOf {T = Ending} (Err fault) faults.Read → ⊥)
+        → (IsErrOf {T = ℕ} (Err note) notes.InputUnread → ⊥)
+        → (IsErrOf {T = ℕ} (Err note) notes.NoBeginning → ⊥) → (IsErrOf {T = ℕ} (Err note) notes.NoRun → ⊥)
+        → RanBy (Err fault) → ReadsAs (Err note)
     reads_note note fault fine known begun started ran = record {
       within = λ x. absurd (not_whole x);
       taken_within = λ _. tt;
@@ -94,7 +111,8 @@ module _ {R : Type 0} (request : Request) (p : StoredProgram) (answers : StoredP
       unneeded = λ x. absurd (x is_needed);
     }
 
-    pub run_reads : (r : Result Ending RunFault) (result : Result ℕ Note) → IsRunStatus r result → RanBy r → ReadsAs result
+    pub run_reads : (r : Result Ending RunFault) (result : Result ℕ Note) → IsRunStatus r result → RanBy r
+        → ReadsAs result
     run_reads (Ok e) result h ran = subst ReadsAs (sym h) (reads_status (status e) e ran)
     run_reads (Err faults.Memory) result h ran =
         subst ReadsAs (sym h) (reads_note notes.OutOfMemory faults.Memory (λ x. absurd cc) (λ x. absurd cc) (λ x. absurd cc) (λ x. absurd cc) ran)
@@ -114,21 +132,28 @@ module _ {R : Type 0} (request : Request) (p : StoredProgram) (answers : StoredP
       abbrev ServesAs : Result ℕ Note → Type 0
       ServesAs result = ServesProgram mode request p input.bytes input.left out.before out.after result
 
-      loaded_run : (b c : List ℕ) (result : Result ℕ Note) → IsLoaded request.memory b p.lines → Serves (run_reply (run (input_lines c))) out.before out.after (outcome_of result)
+      loaded_run : (b c : List ℕ) (result : Result ℕ Note) → IsLoaded request.memory b p.lines
+          → Serves (run_reply (run (input_lines c))) out.before out.after (outcome_of result)
           → Serves (program_reply request.memory b (program_reply_in_mode mode request.rules c)) out.before out.after (outcome_of result)
       loaded_run b c result l s =
-          serves_loaded request.memory (Some b) (program_reply_in_mode mode request.rules c) p out.before out.after result l memory
+          serves_loaded request.memory (Some b)
+          (program_reply_in_mode mode request.rules c) p out.before out.after result l memory
           (subst (λ q. Serves q out.before out.after (outcome_of result)) (sym (same_reply c)) s)
 
-      taken_run : (b : List ℕ) (r : Result Ending RunFault) (outcome : Outcome) → IsLoaded request.memory b p.lines → ((k : ℕ) → ending_wanted k r ≡ outcome_wanted k outcome) → RanBy r
+      taken_run : (b : List ℕ) (r : Result Ending RunFault) (outcome : Outcome) → IsLoaded request.memory b p.lines
+          → ((k : ℕ) → ending_wanted k r ≡ outcome_wanted k outcome) → RanBy r
           → IfSome input.bytes (λ c. ReadsForRun mode request b c input.left outcome)
       taken_run b r outcome l wanted ran =
-          each_known (λ c. ReadsBy request (λ q lines. lines_taken q lines request.rules (answers q lines)) b c input.left outcome) (λ c. ReadsForRun mode request b c input.left outcome) input.bytes (λ c. same_taken b c outcome)
+          each_known
+          (λ c. ReadsBy request (λ q lines. lines_taken q lines request.rules (answers q lines)) b c input.left outcome)
+          (λ c. ReadsForRun mode request b c input.left outcome) input.bytes (λ c. same_taken b c outcome)
           (reads_loaded request (λ q lines. lines_taken q lines request.rules (answers q lines)) (Some b) input.bytes input.left p outcome r l memory wanted ran.plays.asked)
 
       serves_status : (e : Ending) → RanBy (Ok e) → SilentBy mode None out.before out.after → ServesAs (Ok (status e))
       serves_status e ran quiet = record {
-        served = λ b c l is. loaded_run b c (Ok (status e)) l (serves_ended run input.bytes c out.before out.after e (status e) refl (is_input c is) ran.plays.ended);
+        served =
+            λ b c l is. loaded_run b c (Ok (status e)) l
+            (serves_ended run input.bytes c out.before out.after e (status e) refl (is_input c is) ran.plays.ended);
         taken = λ b l. taken_run b (Ok e) (outcome_of (Ok (status e))) l (wanted_ended e (status e) refl) ran;
         unread = λ b l x. absurd cc;
         silent = quiet;
@@ -140,7 +165,8 @@ module _ {R : Type 0} (request : Request) (p : StoredProgram) (answers : StoredP
       }
 
       -- a note of a run that is broken off, which serves whatever begins so
-      serves_note : (fault : RunFault) (note : Note) → ((reply : Reply) → TakesSome out.before out.after reply.bytes → Serves reply out.before out.after (outcome_of (Err note)))
+      serves_note : (fault : RunFault) (note : Note)
+          → ((reply : Reply) → TakesSome out.before out.after reply.bytes → Serves reply out.before out.after (outcome_of (Err note)))
           → ((k : ℕ) → ending_wanted k (Err fault) ≡ outcome_wanted k (outcome_of (Err note)))
           → ((b : List ℕ) → IsLoaded request.memory b p.lines → IsErrOf {T = ℕ} (Err note) notes.InputUnread → ServesUnread mode request input.bytes input.left b out.before out.after)
           → RanBy (Err fault) → SilentBy mode (Some note) out.before out.after → (IsUnloaded (Some note) → ⊥)
@@ -158,15 +184,19 @@ module _ {R : Type 0} (request : Request) (p : StoredProgram) (answers : StoredP
         loaded = loaded;
       }
 
-      unread_run : RanBy (Err faults.Read) → (b : List ℕ) → IsLoaded request.memory b p.lines → ServesUnread mode request input.bytes input.left b out.before out.after
+      unread_run : RanBy (Err faults.Read) → (b : List ℕ) → IsLoaded request.memory b p.lines
+          → ServesUnread mode request input.bytes input.left b out.before out.after
       unread_run ran b l =
           same_unread b (unread_loaded request.memory request.rules.choose (λ q lines. plain q lines request.rules) answers p input.bytes input.left out.before out.after (Some b) l memory (ran.plays.unread refl))
 
       abbrev StopsBy : Result Ending RunFault → Type 0
       StopsBy r = (b c : List ℕ) → IsLoaded request.memory b p.lines → IsInput mode input.bytes c → IsErrOf r faults.Memory → StopsForMemory mode request b c out.before out.after
 
-      pub run_serves : (r : Result Ending RunFault) (result : Result ℕ Note) → IsRunStatus r result → RanBy r → SilentBy mode (outcome_of result).note out.before out.after → StopsBy r → ServesAs result
-      run_serves (Ok e) result h ran quiet stopped = subst ServesAs (sym h) (serves_status e ran (subst (λ x. SilentBy mode (outcome_of x).note out.before out.after) h quiet))
+      pub run_serves : (r : Result Ending RunFault) (result : Result ℕ Note) → IsRunStatus r result → RanBy r
+          → SilentBy mode (outcome_of result).note out.before out.after → StopsBy r → ServesAs result
+      run_serves (Ok e) result h ran quiet stopped =
+          subst ServesAs (sym h)
+          (serves_status e ran (subst (λ x. SilentBy mode (outcome_of x).note out.before out.after) h quiet))
       run_serves (Err faults.Memory) result h ran quiet stopped =
           subst ServesAs (sym h)
           (serves_note faults.Memory notes.OutOfMemory (λ _ t. t) (λ k. refl) (λ b l x. absurd cc) ran (subst (λ x. SilentBy mode (outcome_of x).note out.before out.after) h quiet) (λ x. x) (λ b c l i _. stopped b c l i refl))
@@ -180,48 +210,67 @@ module _ {R : Type 0} (request : Request) (p : StoredProgram) (answers : StoredP
 
 -- ---- when nothing was written
 
-pub plain_silent : (a : Answers) (old new : Option (List ℕ)) (r : Result Ending RunFault) (result : Result ℕ Note) → IsRunStatus r result
+pub plain_silent : (a : Answers) (old new : Option (List ℕ)) (r : Result Ending RunFault) (result : Result ℕ Note)
+    → IsRunStatus r result
     → (IsErrOf r faults.Memory → Appends old new []) → SilentBy (modes.Plain a) (outcome_of result).note old new
-plain_silent a old new (Ok e) result h quiet = subst (λ x. SilentBy (modes.Plain a) (outcome_of x).note old new) (sym h) tt
-plain_silent a old new (Err faults.Memory) result h quiet = subst (λ x. SilentBy (modes.Plain a) (outcome_of x).note old new) (sym h) (quiet refl)
-plain_silent a old new (Err faults.Read) result h quiet = subst (λ x. SilentBy (modes.Plain a) (outcome_of x).note old new) (sym h) tt
-plain_silent a old new (Err faults.Write) result h quiet = subst (λ x. SilentBy (modes.Plain a) (outcome_of x).note old new) (sym h) tt
+plain_silent a old new (Ok e) result h quiet =
+    subst (λ x. SilentBy (modes.Plain a) (outcome_of x).note old new) (sym h) tt
+plain_silent a old new (Err faults.Memory) result h quiet =
+    subst (λ x. SilentBy (modes.Plain a) (outcome_of x).note old new) (sym h) (quiet refl)
+plain_silent a old new (Err faults.Read) result h quiet =
+    subst (λ x. SilentBy (modes.Plain a) (outcome_of x).note old new) (sym h) tt
+plain_silent a old new (Err faults.Write) result h quiet =
+    subst (λ x. SilentBy (modes.Plain a) (outcome_of x).note old new) (sym h) tt
 plain_silent a old new (Err faults.Spent) result h quiet = absurd h
 
 -- the answers of a seed take memory
-pub seeded_silent : (seed : ℕ) (old new : Option (List ℕ)) (r : Result Ending RunFault) (result : Result ℕ Note) → IsRunStatus r result → SilentBy (modes.Seeded seed) (outcome_of result).note old new
-seeded_silent seed old new (Ok e) result h = subst (λ x. SilentBy (modes.Seeded seed) (outcome_of x).note old new) (sym h) tt
-seeded_silent seed old new (Err faults.Memory) result h = subst (λ x. SilentBy (modes.Seeded seed) (outcome_of x).note old new) (sym h) tt
-seeded_silent seed old new (Err faults.Read) result h = subst (λ x. SilentBy (modes.Seeded seed) (outcome_of x).note old new) (sym h) tt
-seeded_silent seed old new (Err faults.Write) result h = subst (λ x. SilentBy (modes.Seeded seed) (outcome_of x).note old new) (sym h) tt
+pub seeded_silent : (seed : ℕ) (old new : Option (List ℕ)) (r : Result Ending RunFault) (result : Result ℕ Note)
+    → IsRunStatus r result → SilentBy (modes.Seeded seed) (outcome_of result).note old new
+seeded_silent seed old new (Ok e) result h =
+    subst (λ x. SilentBy (modes.Seeded seed) (outcome_of x).note old new) (sym h) tt
+seeded_silent seed old new (Err faults.Memory) result h =
+    subst (λ x. SilentBy (modes.Seeded seed) (outcome_of x).note old new) (sym h) tt
+seeded_silent seed old new (Err faults.Read) result h =
+    subst (λ x. SilentBy (modes.Seeded seed) (outcome_of x).note old new) (sym h) tt
+seeded_silent seed old new (Err faults.Write) result h =
+    subst (λ x. SilentBy (modes.Seeded seed) (outcome_of x).note old new) (sym h) tt
 seeded_silent seed old new (Err faults.Spent) result h = absurd h
 
 -- ---- in both modes
 
 module _ {R : Type 0} (request : Request) (p : StoredProgram) (input : Reads R) (out : Writes) (r : Result Ending RunFault) (result : Result ℕ Note) (h : IsRunStatus r result) where
   module _ (a : Answers) (ran : Ran request p (λ _. a) input out r) where
-    pub plain_reads : ReadsInput (modes.Plain a) input.bytes input.left input.failed input.fails input.gave input.gives result
+    pub plain_reads : ReadsInput
+        (modes.Plain a) input.bytes input.left input.failed input.fails input.gave input.gives result
     plain_reads = run_reads request p (λ _ _. a) input out (modes.Plain a) tt tt (λ x. x) r result h ran
 
-    pub plain_serves : p.memory ≡ request.memory → (IsErrOf r faults.Memory → Appends out.before out.after []) → ServesProgram (modes.Plain a) request p input.bytes input.left out.before out.after result
+    pub plain_serves : p.memory ≡ request.memory → (IsErrOf r faults.Memory → Appends out.before out.after [])
+        → ServesProgram (modes.Plain a) request p input.bytes input.left out.before out.after result
     plain_serves memory quiet =
-        run_serves request p (λ _ _. a) input out (modes.Plain a) tt tt (λ x. x) memory (λ c is. is) (λ c. refl) (λ b c outcome x. x) (λ b x. x)
+        run_serves request p (λ _ _. a) input out (modes.Plain a) tt tt (λ x. x) memory (λ c is. is) (λ c. refl)
+        (λ b c outcome x. x) (λ b x. x)
         r result h ran (plain_silent a out.before out.after r result h quiet) (λ b c _ _ _. tt)
 
   module _ (seed : ℕ) (ran : Ran request p (λ lines. seeded_answers seed p lines request.rules) input out r) where
-    pub seeded_reads : ReadsInput (modes.Seeded seed) input.bytes input.left input.failed input.fails input.gave input.gives result
+    pub seeded_reads : ReadsInput
+        (modes.Seeded seed) input.bytes input.left input.failed input.fails input.gave input.gives result
     seeded_reads =
-        run_reads request p (λ q lines. seeded_answers seed q lines request.rules) input out (modes.Seeded seed) tt tt (λ x. x) r result h ran
+        run_reads request p (λ q lines. seeded_answers seed q lines request.rules) input out (modes.Seeded seed) tt tt
+        (λ x. x) r result h ran
 
     -- memory is refused before anything is shown, or at a question
-    stops : p.memory ≡ request.memory → (IsErrOf r faults.Memory → WantsMemory p request.rules (λ lines. seeded_answers seed p lines request.rules) input out)
-        → (b c : List ℕ) → IsLoaded request.memory b p.lines → input.bytes ≡ Some c → IsErrOf r faults.Memory → StopsForMemory (modes.Seeded seed) request b c out.before out.after
+    stops : p.memory ≡ request.memory
+        → (IsErrOf r faults.Memory → WantsMemory p request.rules (λ lines. seeded_answers seed p lines request.rules) input out)
+        → (b c : List ℕ) → IsLoaded request.memory b p.lines → input.bytes ≡ Some c → IsErrOf r faults.Memory
+        → StopsForMemory (modes.Seeded seed) request b c out.before out.after
     stops memory wants b c l is x =
         asks_loaded request b c p seed out.before out.after l memory
         (elim (wants x) [ inl nothing ↦ inl nothing | inr shown ↦ inr (at_known (λ d. AsksForMore p (input_lines d) request.rules seed out.before out.after) c is shown) ])
 
-    pub seeded_serves : p.memory ≡ request.memory → (IsErrOf r faults.Memory → WantsMemory p request.rules (λ lines. seeded_answers seed p lines request.rules) input out)
+    pub seeded_serves : p.memory ≡ request.memory
+        → (IsErrOf r faults.Memory → WantsMemory p request.rules (λ lines. seeded_answers seed p lines request.rules) input out)
         → ServesProgram (modes.Seeded seed) request p input.bytes input.left out.before out.after result
     seeded_serves memory wants =
-        run_serves request p (λ q lines. seeded_answers seed q lines request.rules) input out (modes.Seeded seed) tt tt (λ x. x) memory (λ c is. is) (λ c. refl)
+        run_serves request p (λ q lines. seeded_answers seed q lines request.rules) input out (modes.Seeded seed) tt tt
+        (λ x. x) memory (λ c is. is) (λ c. refl)
         (λ b c outcome x. x) (λ b x. x) r result h ran (seeded_silent seed out.before out.after r result h) (stops memory wants)

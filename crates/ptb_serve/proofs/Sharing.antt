@@ -1,6 +1,8 @@
 -- This file proves how the replies to shares of all runs fit together.
 -- Main lemma: `splits_runs`.
-use Rattle.std.proofs.Common.{◌≡◌, ◌∙◌, inl, inr, refl, ap, ap₂, sym, ℕ, zero, suc, ◌+◌, ◌<◌, ◌≤◌, List, [], ◌∷◌, ◌++◌, length, true, Option, Some, None, append-nil, arith}
+use Rattle.std.proofs.Common.{◌≡◌, ◌∙◌, inl, inr, refl, ap, ap₂, sym, ℕ, zero, suc, ◌+◌, ◌<◌, ◌≤◌}
+use Rattle.std.proofs.Common.{List, [], ◌∷◌, ◌++◌, length, true, Option, Some, None, append-nil}
+use Rattle.std.proofs.Common.{arith}
 use Rattle.std.specs.Prelude.{ℤ, pos, negsuc, int_le, map, Contains}
 use Rattle.std.specs.List.{filter, flat_map, range_with_len}
 use Rattle.std.proofs.lemmas.Bool.{and_from, le-leb}
@@ -33,12 +35,16 @@ use Rattle.ptb_serve.proofs.Listed.{reply-listed}
 
 -- ---- the answers to a question
 
-same_branches : (f g : ℤ → List ℕ) (m n : ℕ) → ((k : ℕ) → m ≤ k → k < m + n → f (pos k) ≡ g (pos k)) → flat_map f (map pos (range_with_len m n)) ≡ flat_map g (map pos (range_with_len m n))
+same_branches : (f g : ℤ → List ℕ) (m n : ℕ) → ((k : ℕ) → m ≤ k → k < m + n → f (pos k) ≡ g (pos k))
+    → flat_map f (map pos (range_with_len m n)) ≡ flat_map g (map pos (range_with_len m n))
 same_branches f g m zero same = refl
-same_branches f g m (suc n) same = ap₂ ◌++◌ (same m (omega arith) (omega arith)) (same_branches f g (m + 1) n (λ k l u. same k (omega arith) (omega arith)))
+same_branches f g m (suc n) same =
+    ap₂ ◌++◌ (same m (omega arith) (omega arith))
+    (same_branches f g (m + 1) n (λ k l u. same k (omega arith) (omega arith)))
 
 -- texts that are the same for each answer are so for all of them
-same_answers : (f g : ℤ → List ℕ) (n : ℤ) → ((k : ℤ) → is_answer n k ≡ true → f k ≡ g k) → flat_map f (answers_to n) ≡ flat_map g (answers_to n)
+same_answers : (f g : ℤ → List ℕ) (n : ℤ) → ((k : ℤ) → is_answer n k ≡ true → f k ≡ g k)
+    → flat_map f (answers_to n) ≡ flat_map g (answers_to n)
 same_answers f g (pos n) same = same_branches f g 1 n (λ k l u. same (pos k) (and_from (int_le (pos 1) (pos k)) (int_le (pos k) (pos n)) (le-leb 1 k l) (le-leb k n (omega arith))))
 same_answers f g (negsuc n) same = refl
 
@@ -49,7 +55,8 @@ answers_more [] k = refl
 answers_more (m ∷ list) k = ap (λ l. m.answer ∷ l) (answers_more list k)
 
 -- no bound is stated of it
-bounds_more : (list : List Marked) (bs : List ℤ) (k n : ℤ) → states_bounds list bs ≡ true → states_bounds (list ++ without_bound k ∷ []) (bs ++ n ∷ []) ≡ true
+bounds_more : (list : List Marked) (bs : List ℤ) (k n : ℤ) → states_bounds list bs ≡ true
+    → states_bounds (list ++ without_bound k ∷ []) (bs ++ n ∷ []) ≡ true
 bounds_more [] [] k n h = refl
 bounds_more [] (b ∷ bs) k n h = refl
 bounds_more (m ∷ list) [] k n h = absurd cc
@@ -75,19 +82,22 @@ states_alone (k ∷ a) (b ∷ bs) h = states_alone a bs (omega (arith, h))
 states_marked : (a : Answers) (bs : List ℤ) → length bs ≡ length a → states_bounds (marked a bs) bs ≡ true
 states_marked [] bs h = refl
 states_marked (k ∷ a) [] h = absurd cc
-states_marked (k ∷ a) (b ∷ bs) h = both_true (is_bound (Some b) b) _ (same_from b) (states_marked a bs (omega (arith, h)))
+states_marked (k ∷ a) (b ∷ bs) h =
+    both_true (is_bound (Some b) b) _ (same_from b) (states_marked a bs (omega (arith, h)))
 
 items_answers : (form : Form) (a : Answers) (bs : List ℤ) → length bs ≡ length a → answers_of (items_in form a bs) ≡ a
 items_answers One a bs h = answers_alone a
 items_answers Two a bs h = answers_marked a bs h
 
-items_state : (form : Form) (a : Answers) (bs : List ℤ) → length bs ≡ length a → states_bounds (items_in form a bs) bs ≡ true
+items_state : (form : Form) (a : Answers) (bs : List ℤ) → length bs ≡ length a
+    → states_bounds (items_in form a bs) bs ≡ true
 items_state One a bs h = states_alone a bs h
 items_state Two a bs h = states_marked a bs h
 
 -- ---- texts one after the other
 
-same_each : (f g : Answers → List ℕ) (list : List Answers) → ((u : Answers) → IsIn u list → f u ≡ g u) → flat_map f list ≡ flat_map g list
+same_each : (f g : Answers → List ℕ) (list : List Answers) → ((u : Answers) → IsIn u list → f u ≡ g u)
+    → flat_map f list ≡ flat_map g list
 same_each f g [] same = refl
 same_each f g (u ∷ list) same = ap₂ ◌++◌ (same u (inl refl)) (same_each f g list (λ v i. same v (inr i)))
 
@@ -106,39 +116,53 @@ module _ (p : StoredProgram) (c : List ℕ) (rules : Rules) (reads : IsReader (p
   game = play p (input_lines c) rules
 
   abbrev share_text : Form → Answers → List ℕ
-  share_text form under = text (report form game) (runs_after game (most_answers p (input_lines c) rules.limit) under Start)
+  share_text form under =
+      text (report form game) (runs_after game (most_answers p (input_lines c) rules.limit) under Start)
 
-  reply_share : (under : List Marked) (form : Form) → IsMarkedBeginning game under → reply (modes.All (Some under) None None form) ≡ success (share_text form (answers_of under))
-  reply_share under form b = all (Some under) None None form ∙ reply-listed p rules (Some under) None None form (input_lines c) (begun_under game under b)
+  reply_share : (under : List Marked) (form : Form) → IsMarkedBeginning game under
+      → reply (modes.All (Some under) None None form) ≡ success (share_text form (answers_of under))
+  reply_share under form b =
+      all (Some under) None None form
+      ∙ reply-listed p rules (Some under) None None form (input_lines c) (begun_under game under b)
 
   -- each answer to a question makes a beginning one longer
-  begins_more : (under : List Marked) (n k : ℤ) (shown : List ℕ) → IsMarkedBeginning game under → game (answers_of under) ≡ Asks n shown → is_answer n k ≡ true → IsMarkedBeginning game (under ++ without_bound k ∷ [])
+  begins_more : (under : List Marked) (n k : ℤ) (shown : List ℕ) → IsMarkedBeginning game under
+      → game (answers_of under) ≡ Asks n shown → is_answer n k ≡ true
+      → IsMarkedBeginning game (under ++ without_bound k ∷ [])
   begins_more under n k shown b asks i =
       let is : answers_of (under ++ without_bound k ∷ []) ≡ answers_of under ++ k ∷ [] = answers_more under k in (
         ap (λ a. is_open (game a)) is ∙ reads.inside (answers_of under) n k shown asks i,
-        ap (λ a. states_bounds (under ++ without_bound k ∷ []) (bounds game a)) is ∙ ap (states_bounds (under ++ without_bound k ∷ [])) (bounds-append game [] (answers_of under) (k ∷ []))
+        ap (λ a. states_bounds (under ++ without_bound k ∷ []) (bounds game a)) is
+            ∙ ap (states_bounds (under ++ without_bound k ∷ [])) (bounds-append game [] (answers_of under) (k ∷ []))
             ∙ bounds_more under (bounds game (answers_of under)) k (bound_of (game (answers_of under))) b.1,
       )
 
-  question : (under : List Marked) (n : ℤ) (shown : List ℕ) (form : Form) → IsMarkedBeginning game under → game (answers_of under) ≡ Asks n shown
+  question : (under : List Marked) (n : ℤ) (shown : List ℕ) (form : Form) → IsMarkedBeginning game under
+      → game (answers_of under) ≡ Asks n shown
       → reply (modes.All (Some under) None None form) ≡ success (flat_map (λ k. (reply (modes.All (Some (under ++ without_bound k ∷ [])) None None form)).bytes) (answers_to n))
   question under n shown form b asks =
       let more : (k : ℤ) → is_answer n k ≡ true → share_text form (answers_of under ++ k ∷ []) ≡ (reply (modes.All (Some (under ++ without_bound k ∷ [])) None None form)).bytes =
       λ k i. ap (share_text form) (sym (answers_more under k)) ∙ sym (ap (λ (r : Reply). r.bytes) (reply_share (under ++ without_bound k ∷ []) form (begins_more under n k shown b asks i))) in
-      reply_share under form b ∙ ap success (share.question (report form game) (answers_of under) n shown Start asks ∙ same_answers _ _ n more)
+      reply_share under form b
+      ∙ ap success (share.question (report form game) (answers_of under) n shown Start asks ∙ same_answers _ _ n more)
 
-  run : (a : List Marked) (form : Form) → IsMarkedRun game a → reply (modes.All (Some a) None None form) ≡ success (report form game (answers_of a))
+  run : (a : List Marked) (form : Form) → IsMarkedRun game a
+      → reply (modes.All (Some a) None None form) ≡ success (report form game (answers_of a))
   run a form r =
       let ends = whole_is (game (answers_of a)) r.0 in
-      reply_share a form (ap is_open ends.1, r.1) ∙ ap success (ap (text (report form game)) (share.run (answers_of a) r.0) ∙ append-nil (report form game (answers_of a)))
+      reply_share a form (ap is_open ends.1, r.1) ∙ ap success
+      (ap (text (report form game)) (share.run (answers_of a) r.0) ∙ append-nil (report form game (answers_of a)))
 
-  pub share_replies : ((after : Option (List Marked)) (first : Option ℕ) (form : Form) → reply (modes.All (Some []) after first form) ≡ reply (modes.All None after first form)) → ShareReplies game reply
+  pub share_replies : ((after : Option (List Marked)) (first : Option ℕ) (form : Form) → reply (modes.All (Some []) after first form) ≡ reply (modes.All None after first form))
+      → ShareReplies game reply
   share_replies whole = record {
     beginning = λ under. ((share.beginning under).1, (share.beginning under).0);
     whole = whole;
     question = question;
     run = run;
-    apart = λ u v a before r bu bv. share.apart u v a Start Start before ((listing.runs u Start a).1 (r, both_true _ _ bu refl)) ((listing.runs v Start a).1 (r, both_true _ _ bv refl));
+    apart =
+        λ u v a before r bu bv. share.apart u v a Start Start before
+        ((listing.runs u Start a).1 (r, both_true _ _ bu refl)) ((listing.runs v Start a).1 (r, both_true _ _ bv refl));
   }
 
   -- ---- the lists that split all runs
@@ -158,19 +182,23 @@ module _ (p : StoredProgram) (c : List ℕ) (rules : Rules) (reads : IsReader (p
     marks : (form : Form) (u : Answers) → Contains (beginnings n game) u → IsMarkedBeginning game (items form u)
     marks form u i = (
       ap (λ a. is_open (game a)) (items_are form u) ∙ opens u ((laws.lists u).0 i),
-      ap (λ a. states_bounds (items form u) (bounds game a)) (items_are form u) ∙ items_state form u (bounds game u) (length-bounds game [] u),
+      ap (λ a. states_bounds (items form u) (bounds game a)) (items_are form u)
+          ∙ items_state form u (bounds game u) (length-bounds game [] u),
     )
 
-    each_share : (form shown : Form) (u : Answers) → IsIn u (beginnings n game) → share_text shown u ≡ (reply (modes.All (Some (items form u)) None None shown)).bytes
+    each_share : (form shown : Form) (u : Answers) → IsIn u (beginnings n game)
+        → share_text shown u ≡ (reply (modes.All (Some (items form u)) None None shown)).bytes
     each_share form shown u i =
         ap (share_text shown) (sym (items_are form u)) ∙ sym (ap (λ (r : Reply). r.bytes) (reply_share (items form u) shown (marks form u (in_contained u (beginnings n game) i))))
 
-    joined : (form shown : Form) → reply (modes.All None None None shown) ≡ success (flat_map (λ u. (reply (modes.All (Some (items form u)) None None shown)).bytes) (beginnings n game))
+    joined : (form shown : Form)
+        → reply (modes.All None None None shown) ≡ success (flat_map (λ u. (reply (modes.All (Some (items form u)) None None shown)).bytes) (beginnings n game))
     joined form shown =
         all None None None shown ∙ reply-listed p rules None None None shown (input_lines c) refl
         ∙ ap success (ap (text (report shown game)) (all_left (tree game (most_answers p (input_lines c) rules.limit))) ∙ sym (laws.whole_text (report shown game)) ∙ same_each _ _ (beginnings n game) (each_share form shown))
 
-    pub splits_runs : ((form : Form) → reply (modes.Shares n form) ≡ shares_reply p (input_lines c) rules n form) → SplitsRuns game n reply
+    pub splits_runs : ((form : Form) → reply (modes.Shares n form) ≡ shares_reply p (input_lines c) rules n form)
+        → SplitsRuns game n reply
     splits_runs lines = record {
       lists = beginnings n game;
       rising = laws.order;

@@ -1,6 +1,7 @@
 -- This file proves how the table of chances is served, from what was read and what was written.
 -- Main lemmas: `chances_written` and `chances_broken`.
-use Rattle.std.proofs.Common.{◌≡◌, ℕ, ◌+◌, ◌<◌, ◌≤◌, List, [], length, Option, Some, Result, Ok, Err, refl, sym, subst, IfSome, IsErrOf, OnOk}
+use Rattle.std.proofs.Common.{◌≡◌, ℕ, ◌+◌, ◌<◌, ◌≤◌, List, [], length, Option, Some, Result, Ok}
+use Rattle.std.proofs.Common.{Err, refl, sym, subst, IfSome, IsErrOf, OnOk}
 use Rattle.std.specs.Io.KnownBytes.{Appends}
 use Rattle.std.specs.Result.{IsErrAnd}
 use Rattle.std.proofs.KnownBytes.{Appends-nil}
@@ -33,12 +34,14 @@ module _ (request : Request) (p : StoredProgram) (memory : p.memory ≡ request.
   abbrev pub due : List (List ℕ) → List ℕ
   due input = chances (play p input request.rules) (most_answers p input request.rules.limit)
 
-  input_silent : (held : Option (List ℕ)) (fault : ReadFault) → SilentBy modes.Chances (Some (input_note fault)) held held
+  input_silent : (held : Option (List ℕ)) (fault : ReadFault)
+      → SilentBy modes.Chances (Some (input_note fault)) held held
   input_silent held reads.Read = Appends-nil held
   input_silent held reads.TooLong = Appends-nil held
   input_silent held reads.Memory = Appends-nil held
 
-  input_served : (input : List (List ℕ)) (held : Option (List ℕ)) (fault : ReadFault) → Serves (chances_reply p input request.rules) held held (outcome_of (Err (input_note fault)))
+  input_served : (input : List (List ℕ)) (held : Option (List ℕ)) (fault : ReadFault)
+      → Serves (chances_reply p input request.rules) held held (outcome_of (Err (input_note fault)))
   input_served input held reads.Read = takes_nothing held _
   input_served input held reads.TooLong = takes_nothing held _
   input_served input held reads.Memory = takes_nothing held _
@@ -53,7 +56,9 @@ module _ (request : Request) (p : StoredProgram) (memory : p.memory ≡ request.
         → OnOk result (result ≡ Ok 0) → (IsUnloaded (outcome_of result).note → ⊥)
         → ServesProgram modes.Chances request p i j old new result
     table_serves old new result served quiet unread success loaded = record {
-      served = λ b c l is. serves_loaded request.memory (Some b) (λ q. chances_reply q (input_lines c) request.rules) p old new result l memory (served c is);
+      served =
+          λ b c l is. serves_loaded request.memory (Some b)
+          (λ q. chances_reply q (input_lines c) request.rules) p old new result l memory (served c is);
       taken = λ b l. nothing_told i;
       unread = λ b l. unread;
       silent = quiet;
@@ -64,26 +69,37 @@ module _ (request : Request) (p : StoredProgram) (memory : p.memory ≡ request.
       loaded = loaded;
     }
 
-    unread_served : (held : Option (List ℕ)) (fault : ReadFault) → ServesProgram modes.Chances request p i j held held (Err (input_note fault))
+    unread_served : (held : Option (List ℕ)) (fault : ReadFault)
+        → ServesProgram modes.Chances request p i j held held (Err (input_note fault))
     unread_served held fault =
-        table_serves held held (Err (input_note fault)) (λ c is. input_served (input_lines c) held fault) (input_silent held fault)
+        table_serves held held (Err (input_note fault)) (λ c is. input_served (input_lines c) held fault)
+        (input_silent held fault)
         (λ _. Appends-nil held) tt (input_note-loaded fault)
 
     module _ (input : List (List ℕ)) (lines : IfSome i (λ c. input ≡ input_lines c)) (old new : Option (List ℕ)) where
-      on_lines : (result : Result ℕ Note) → Serves (chances_reply p input request.rules) old new (outcome_of result) → (c : List ℕ) → i ≡ Some c
+      on_lines : (result : Result ℕ Note) → Serves (chances_reply p input request.rules) old new (outcome_of result)
+          → (c : List ℕ) → i ≡ Some c
           → Serves (chances_reply p (input_lines c) request.rules) old new (outcome_of result)
-      on_lines result served c is = subst (λ l. Serves (chances_reply p l request.rules) old new (outcome_of result)) (at_known (λ d. input ≡ input_lines d) c is lines) served
+      on_lines result served c is =
+          subst (λ l. Serves (chances_reply p l request.rules) old new (outcome_of result))
+          (at_known (λ d. input ≡ input_lines d) c is lines) served
 
       table_written : Appends old new (due input) → ServesProgram modes.Chances request p i j old new (Ok 0)
-      table_written all = table_serves old new (Ok 0) (on_lines (Ok 0) (record { bytes = all; status = refl; note = refl })) tt (λ x. absurd cc) refl (λ x. x)
+      table_written all =
+          table_serves old new (Ok 0) (on_lines (Ok 0) (record { bytes = all; status = refl; note = refl })) tt
+          (λ x. absurd cc) refl (λ x. x)
 
       table_refused : new ≡ old → ServesProgram modes.Chances request p i j old new (Err notes.OutOfMemory)
       table_refused kept =
-          table_serves old new (Err notes.OutOfMemory) (on_lines (Err notes.OutOfMemory) (subst (λ n. TakesSome old n (due input)) (sym kept) (takes_nothing old _)))
+          table_serves old new (Err notes.OutOfMemory)
+          (on_lines (Err notes.OutOfMemory) (subst (λ n. TakesSome old n (due input)) (sym kept) (takes_nothing old _)))
           (subst (λ n. Appends old n []) (sym kept) (Appends-nil old)) (λ x. absurd cc) tt (λ x. x)
 
-      table_cut : TakesSome old new (due input) → ServesProgram modes.Chances request p i j old new (Err notes.Unwritten)
-      table_cut some = table_serves old new (Err notes.Unwritten) (on_lines (Err notes.Unwritten) some) tt (λ x. absurd cc) tt (λ x. x)
+      table_cut : TakesSome old new (due input)
+          → ServesProgram modes.Chances request p i j old new (Err notes.Unwritten)
+      table_cut some =
+          table_serves old new (Err notes.Unwritten) (on_lines (Err notes.Unwritten) some) tt (λ x. absurd cc) tt
+          (λ x. x)
 
   -- ---- the whole contract
 
@@ -94,23 +110,30 @@ module _ (request : Request) (p : StoredProgram) (memory : p.memory ≡ request.
     pub no_list : RefusesListIn result → ⊥
 
   -- the lines can't be read
-  pub chances_unread : {T : Type 0} (known left : Option (List ℕ)) (failed fails gave gives : ℕ) (held : Option (List ℕ)) (broke : ℕ) (note : Note) (fault : ReadFault) → note ≡ input_note fault
-      → (IsErrOf {T = T} (Err fault) reads.Read → HasFailed failed fails) → (IsErrOf {T = T} (Err fault) reads.TooLong → IfSome known (λ c. input_limit < length c))
-      → (IsErrOf {T = T} (Err fault) reads.TooLong → GivesExactly gave gives (input_limit + 1)) → ((IsErrOf {T = T} (Err fault) reads.Read → ⊥) → fails ≡ failed)
+  pub chances_unread : {T : Type 0} (known left : Option (List ℕ)) (failed fails gave gives : ℕ)
+      (held : Option (List ℕ)) (broke : ℕ) (note : Note) (fault : ReadFault)
+      → note ≡ input_note fault
+      → (IsErrOf {T = T} (Err fault) reads.Read → HasFailed failed fails)
+      → (IsErrOf {T = T} (Err fault) reads.TooLong → IfSome known (λ c. input_limit < length c))
+      → (IsErrOf {T = T} (Err fault) reads.TooLong → GivesExactly gave gives (input_limit + 1))
+      → ((IsErrOf {T = T} (Err fault) reads.Read → ⊥) → fails ≡ failed)
       → ConsumesAtMost known left (input_limit + 1) → GivesAtMost gave gives (input_limit + 1)
       → IsTabled known left failed fails gave gives held held broke broke (Err note)
   chances_unread {T = T} known left failed fails gave gives held broke note fault is read long exactly unfailed bounded given =
       subst (λ (n : Note). IsTabled known left failed fails gave gives held held broke broke (Err n)) (sym is)
       (record {
         serves = unread_served known left held fault;
-        reads = whole_unread modes.Chances (λ x. x) tt known left failed fails gave gives {T = T} fault read long exactly unfailed bounded given;
+        reads =
+            whole_unread modes.Chances
+            (λ x. x) tt known left failed fails gave gives {T = T} fault read long exactly unfailed bounded given;
         failures = record { unwritten = λ x. absurd (input_note-written fault x); written = λ _. refl };
         no_list = unread_refuses_none (input_note fault) fault refl;
       })
 
   -- they were read, and are `input`
   pub record IsTabledOn (input : List (List ℕ)) (old new : Option (List ℕ)) (broke breaks : ℕ) (result : Result ℕ Note) : Type 0 where
-    pub serves : (known left : Option (List ℕ)) → IfSome known (λ c. input ≡ input_lines c) → ServesProgram modes.Chances request p known left old new result
+    pub serves : (known left : Option (List ℕ)) → IfSome known (λ c. input ≡ input_lines c)
+        → ServesProgram modes.Chances request p known left old new result
     pub read : IsErrOf result notes.InputUnread → ⊥
     pub failures : TellsFailures broke breaks result
     pub no_list : RefusesListIn result → ⊥
@@ -124,8 +147,10 @@ module _ (request : Request) (p : StoredProgram) (memory : p.memory ≡ request.
       no_list = success_refuses_none 0;
     }
 
-    broken_by : {T : Type 0} (fault : ChancesFault) → (IsErrOf {T = T} (Err fault) tables.Memory → new ≡ old) → (IsErrOf {T = T} (Err fault) tables.Write → TakesSome old new (due input))
-        → (IsErrOf {T = T} (Err fault) tables.Write → HasFailed broke breaks) → ((IsErrOf {T = T} (Err fault) tables.Write → ⊥) → breaks ≡ broke)
+    broken_by : {T : Type 0} (fault : ChancesFault) → (IsErrOf {T = T} (Err fault) tables.Memory → new ≡ old)
+        → (IsErrOf {T = T} (Err fault) tables.Write → TakesSome old new (due input))
+        → (IsErrOf {T = T} (Err fault) tables.Write → HasFailed broke breaks)
+        → ((IsErrOf {T = T} (Err fault) tables.Write → ⊥) → breaks ≡ broke)
         → IsTabledOn input old new broke breaks (Err (chances_note fault))
     broken_by tables.Memory kept some failed unfailed = record {
       serves = λ known left lines. table_refused known left input lines old new (kept refl);
@@ -140,14 +165,21 @@ module _ (request : Request) (p : StoredProgram) (memory : p.memory ≡ request.
       no_list = run_refuses_none (Err faults.Write) (Err notes.Unwritten) refl;
     }
 
-    pub chances_broken : {T : Type 0} (result : Result ℕ Note) (fault : ChancesFault) → IsErrAnd result (λ m. m ≡ chances_note fault)
-        → (IsErrOf {T = T} (Err fault) tables.Memory → new ≡ old) → (IsErrOf {T = T} (Err fault) tables.Write → TakesSome old new (due input))
-        → (IsErrOf {T = T} (Err fault) tables.Write → HasFailed broke breaks) → ((IsErrOf {T = T} (Err fault) tables.Write → ⊥) → breaks ≡ broke)
+    pub chances_broken : {T : Type 0} (result : Result ℕ Note) (fault : ChancesFault)
+        → IsErrAnd result (λ m. m ≡ chances_note fault)
+        → (IsErrOf {T = T} (Err fault) tables.Memory → new ≡ old)
+        → (IsErrOf {T = T} (Err fault) tables.Write → TakesSome old new (due input))
+        → (IsErrOf {T = T} (Err fault) tables.Write → HasFailed broke breaks)
+        → ((IsErrOf {T = T} (Err fault) tables.Write → ⊥) → breaks ≡ broke)
         → IsTabledOn input old new broke breaks result
     chances_broken {T = T} result fault is kept some failed unfailed =
-        subst (IsTabledOn input old new broke breaks) (sym (gives_err result (chances_note fault) is)) (broken_by {T = T} fault kept some failed unfailed)
+        subst (IsTabledOn input old new broke breaks) (sym (gives_err result (chances_note fault) is))
+        (broken_by {T = T} fault kept some failed unfailed)
 
   -- the lines that were read
-  pub chances_reads : (known left : Option (List ℕ)) (failed fails gave gives : ℕ) (result : Result ℕ Note) → IfSome known (λ c. length c ≤ input_limit) → ConsumesAtMost known left (input_limit + 1) → GivesAtMost gave gives (input_limit + 1)
-      → fails ≡ failed → (IsErrOf result notes.InputUnread → ⊥) → ReadsInput modes.Chances known left failed fails gave gives result
+  pub chances_reads : (known left : Option (List ℕ)) (failed fails gave gives : ℕ) (result : Result ℕ Note)
+      → IfSome known (λ c. length c ≤ input_limit) → ConsumesAtMost known left (input_limit + 1)
+      → GivesAtMost gave gives (input_limit + 1)
+      → fails ≡ failed → (IsErrOf result notes.InputUnread → ⊥)
+      → ReadsInput modes.Chances known left failed fails gave gives result
   chances_reads = whole_reads modes.Chances (λ x. x) tt

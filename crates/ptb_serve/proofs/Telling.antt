@@ -1,6 +1,7 @@
 -- This file joins all that is promised of a request that was served, by whether its program was loaded.
 -- Main lemmas: `told_loaded` and `told_unloaded`.
-use Rattle.std.proofs.Common.{◌≡◌, inl, inr, ℕ, ◌+◌, ◌<◌, List, length, Option, Some, None, Result, Ok, Err, IfOk, IfSome, refl, sym, subst, ◌∙◌, ap, arith}
+use Rattle.std.proofs.Common.{◌≡◌, inl, inr, ℕ, ◌+◌, ◌<◌, List, length, Option, Some, None, Result}
+use Rattle.std.proofs.Common.{Ok, Err, IfOk, IfSome, refl, sym, subst, ◌∙◌, ap, arith}
 use Rattle.ptb_text.specs.declared.fault.LoadFault.{LoadFault}
 use Rattle.ptb_text.specs.declared.fault.LoadFault.TheVariants as loads
 use Rattle.ptb_text.specs.Device.{GivesAtMost, GivesExactly, HasFailed}
@@ -19,13 +20,22 @@ use Rattle.ptb_serve.specs.Loaded.{ServesProgram, ReadsInput, TellsFailures, Tel
 use Rattle.ptb_serve.specs.ListMismatches.{IsMismatchOf}
 use Rattle.ptb_serve.specs.Promises.{Served, ReadsOnlyWhatIsAsked, FailsLoudly}
 use Rattle.ptb_serve.specs.Replies.{listing_reply, program_of_text, program_reply_in_mode, reply_in_mode}
-use Rattle.ptb_serve.specs.Serving.{IsUnloaded, NeedsInput, ReadsForRun, Serves, ServesUnread, StopsForMemory, load_note, outcome_of}
+use Rattle.ptb_serve.specs.Serving.{IsUnloaded, NeedsInput, ReadsForRun, Serves, ServesUnread}
+use Rattle.ptb_serve.specs.Serving.{StopsForMemory, load_note, outcome_of}
 use Rattle.ptb_serve.proofs.Lines.{line_loaded, note_beyond, served_at_limit, status_at_limit}
 use Rattle.ptb_serve.proofs.Mismatching.{mismatch_loaded, noted_outcome, said_outcome}
-use Rattle.ptb_serve.proofs.Served.{consumes_nothing, each_known, load_note-length, load_note-other, load_note-read, load_note-refusal, load_note-silent, load_note-unread, loaded_length, loaded_refusal, loaded_unrefused, outcome_of-err, outcome_of-none, outcome_of-note, outcome_of-status, outcome_of-checked, outcome_of-success, serves_refusal, serves_unloaded, stops_unloaded, takes_nothing_in, unread, unwritten, when_refused}
+use Rattle.ptb_serve.proofs.Served.{consumes_nothing, each_known, load_note-length, load_note-other}
+use Rattle.ptb_serve.proofs.Served.{load_note-read, load_note-refusal, load_note-silent}
+use Rattle.ptb_serve.proofs.Served.{load_note-unread, loaded_length, loaded_refusal}
+use Rattle.ptb_serve.proofs.Served.{loaded_unrefused, outcome_of-err, outcome_of-none}
+use Rattle.ptb_serve.proofs.Served.{outcome_of-note, outcome_of-status, outcome_of-checked}
+use Rattle.ptb_serve.proofs.Served.{outcome_of-success, serves_refusal, serves_unloaded}
+use Rattle.ptb_serve.proofs.Served.{stops_unloaded, takes_nothing_in, unread, unwritten}
+use Rattle.ptb_serve.proofs.Served.{when_refused}
 
 -- without a mismatch nothing is said of any program
-nothing_said : (memory : ℕ) (known : Option (List ℕ)) → IfSome known (λ b. IfOk (program_of_text memory b) (λ _. Unit {0}))
+nothing_said : (memory : ℕ) (known : Option (List ℕ))
+    → IfSome known (λ b. IfOk (program_of_text memory b) (λ _. Unit {0}))
 nothing_said memory None = tt
 nothing_said memory (Some b) = by_text (program_of_text memory b) where
   by_text : (t : Result Statements (ℕ × LoadFault)) → IfOk t (λ _. Unit {0})
@@ -39,8 +49,10 @@ pub record Told {P R : Type 0} (request : Request) (text : Reads P) (input : Rea
 
 module _ {P R : Type 0} (request : Request) (text : Reads P) (consumed : ConsumesAtMost text.bytes text.left (program_limit + 1)) (given : GivesAtMost text.gave text.gives (program_limit + 1)) where
   -- the program p was loaded
-  pub told_loaded : (input : Reads R) (out : Writes) (outcome : Outcome) (result : Result ℕ Note) (mismatch : Option ListMismatch) (line : Option ℕ) (p : StoredProgram)
-      → outcome ≡ record (outcome_of result) { mismatch = mismatch; line = line } → p.memory ≡ request.memory → IfSome text.bytes (λ b. IsLoaded request.memory b p.lines) → text.fails ≡ text.failed
+  pub told_loaded : (input : Reads R) (out : Writes) (outcome : Outcome) (result : Result ℕ Note)
+      (mismatch : Option ListMismatch) (line : Option ℕ) (p : StoredProgram)
+      → outcome ≡ record (outcome_of result) { mismatch = mismatch; line = line } → p.memory ≡ request.memory
+      → IfSome text.bytes (λ b. IsLoaded request.memory b p.lines) → text.fails ≡ text.failed
       → ServesProgram request.mode request p input.bytes input.left out.before out.after result
       → ReadsInput request.mode input.bytes input.left input.failed input.fails input.gave input.gives result
       → TellsFailures out.failed out.fails result
@@ -52,14 +64,20 @@ module _ {P R : Type 0} (request : Request) (text : Reads P) (consumed : Consume
       subst (Told request text input out) (sym is)
       (record {
         served = record {
-          reply = λ c i. each_known (λ b. IsLoaded request.memory b p.lines) (λ b. Serves (reply_in_mode request.mode request b c) out.before out.after (outcome_of result)) text.bytes (λ b l. serves.served b c l i) loaded;
+          reply =
+              λ c i. each_known (λ b. IsLoaded request.memory b p.lines)
+              (λ b. Serves (reply_in_mode request.mode request b c) out.before out.after (outcome_of result)) text.bytes
+              (λ b l. serves.served b c l i) loaded;
           refusal = loaded_unrefused request.memory text.bytes p.lines _ loaded;
           refused_at = loaded_refusal request.memory text.bytes (outcome_of result).note serves.loaded;
           status = outcome_of-status result serves.status;
           success = λ h k. outcome_of-success result (serves.success h k);
           checked = λ h. outcome_of-checked result (serves.checked h);
           silent = serves.silent;
-          stopped = λ h c i. each_known (λ b. IsLoaded request.memory b p.lines) (λ b. StopsForMemory request.mode request b c out.before out.after) text.bytes (λ b l. serves.stopped b c l i (outcome_of-note result notes.OutOfMemory h)) loaded;
+          stopped =
+              λ h c i. each_known (λ b. IsLoaded request.memory b p.lines)
+              (λ b. StopsForMemory request.mode request b c out.before out.after) text.bytes
+              (λ b l. serves.stopped b c l i (outcome_of-note result notes.OutOfMemory h)) loaded;
           mismatch_said = said_outcome result mismatch said.said;
           mismatch_noted = noted_outcome result mismatch said.noted;
           mismatch = λ c i.
@@ -71,7 +89,10 @@ module _ {P R : Type 0} (request : Request) (text : Reads P) (consumed : Consume
               (λ b. IfOk (program_of_text request.memory b) (λ q. line ≡ line_in_mode request.mode (record { lines = q; memory = request.memory }) (input_lines c) request.rules)) text.bytes
               (λ b l. line_loaded request.mode request b (input_lines c) p line l memory (stopped.at_limit (served_at_limit result h) c i)) loaded;
           no_line = λ h. stopped.elsewhere (λ e. h (status_at_limit result e));
-          unread = λ h. each_known (λ b. IsLoaded request.memory b p.lines) (λ b. ServesUnread request.mode request input.bytes input.left b out.before out.after) text.bytes (λ b l. serves.unread b l (outcome_of-note result notes.InputUnread h)) loaded;
+          unread =
+              λ h. each_known (λ b. IsLoaded request.memory b p.lines)
+              (λ b. ServesUnread request.mode request input.bytes input.left b out.before out.after) text.bytes
+              (λ b l. serves.unread b l (outcome_of-note result notes.InputUnread h)) loaded;
         };
         reads = record {
           load_first = loaded_unrefused request.memory text.bytes p.lines _ loaded;
@@ -100,21 +121,28 @@ module _ {P R : Type 0} (request : Request) (text : Reads P) (consumed : Consume
       })
 
   -- it wasn't, for the reason e: the input and the writer are as they were
-  pub told_unloaded : (i : R) (known : Option (List ℕ)) (gave failed : ℕ) (held : Option (List ℕ)) (broke : ℕ) (outcome : Outcome) (note : Note) (e : ℕ × LoadFault)
+  pub told_unloaded : (i : R) (known : Option (List ℕ)) (gave failed : ℕ) (held : Option (List ℕ)) (broke : ℕ)
+      (outcome : Outcome) (note : Note) (e : ℕ × LoadFault)
       → outcome ≡ outcome_of (Err note) → note ≡ load_note e
       → (IsLineFault e.1 → IfSome text.bytes (λ b. IsRefusedAt request.memory b e))
       → (e.1 ≡ loads.TooLong → (e.0 ≡ 0) × IfSome text.bytes (λ b. program_limit < length b))
       → (e.1 ≡ loads.TooLong → GivesExactly text.gave text.gives (program_limit + 1))
-      → (e.1 ≡ loads.Read → (e.0 ≡ 0) × HasFailed text.failed text.fails) → ((e.1 ≡ loads.Read → ⊥) → text.fails ≡ text.failed)
+      → (e.1 ≡ loads.Read → (e.0 ≡ 0) × HasFailed text.failed text.fails)
+      → ((e.1 ≡ loads.Read → ⊥) → text.fails ≡ text.failed)
       → Told request text (unread i known gave failed) (unwritten held broke) outcome
   told_unloaded i known gave failed held broke outcome note e is noted refused too_long given_too_long read unfailed =
       let other : (n : Note) → (IsUnloaded (Some n) → ⊥) → (n ≡ notes.OutOfMemory → ⊥) → Some (load_note e) ≡ Some n → ⊥ = load_note-other e in
       let no_input : Some (load_note e) ≡ Some notes.InputUnread → ⊥ = other notes.InputUnread (λ x. x) (λ x. absurd cc) in
-      subst (Told request text (unread i known gave failed) (unwritten held broke)) (sym (is ∙ ap (λ (n : Note). outcome_of (Err n)) noted))
+      subst (Told request text (unread i known gave failed) (unwritten held broke))
+      (sym (is ∙ ap (λ (n : Note). outcome_of (Err n)) noted))
       (record {
         served = record {
-          reply = λ c _. serves_unloaded request.memory text.bytes (program_reply_in_mode request.mode request.rules c) held e refused too_long;
-          refusal = serves_refusal request.memory text.bytes listing_reply held held (Err (load_note e)) (serves_unloaded request.memory text.bytes listing_reply held e refused too_long);
+          reply =
+              λ c _. serves_unloaded request.memory text.bytes
+              (program_reply_in_mode request.mode request.rules c) held e refused too_long;
+          refusal =
+              serves_refusal request.memory text.bytes listing_reply held held (Err (load_note e))
+              (serves_unloaded request.memory text.bytes listing_reply held e refused too_long);
           refused_at = load_note-refusal request.memory text.bytes e refused too_long;
           status = refl;
           success = λ _ _ h. absurd cc;

@@ -36,7 +36,8 @@ abbrev pub items_of : Option (List Marked) → List Marked
 items_of None = []
 items_of (Some list) = list
 
-abbrev pub IsMismatchIn : (Answers → Outcome Finish (List ℕ)) → Option (List Marked) → Option (List Marked) → ListMismatch → Type 0
+abbrev pub IsMismatchIn : (Answers → Outcome Finish (List ℕ)) → Option (List Marked) → Option (List Marked)
+    → ListMismatch → Type 0
 IsMismatchIn game (Some under) after (Under m) = IsItemMismatch game under m
 IsMismatchIn game None after (Under m) = ⊥
 IsMismatchIn game under (Some list) (After m) = IsRunMismatch game (items_of under) list m
@@ -67,6 +68,8 @@ abbrev pub unbegun_attempt : Unbegun → Attempt
 unbegun_attempt (Refused m) = record { served = Err (mismatch_note m); mismatch = Some m; line = None }
 unbegun_attempt Memory = record { served = Err notes.OutOfMemory; mismatch = None; line = None }
 
-abbrev pub IsUnbegun : (Answers → Outcome Finish (List ℕ)) → Option (List Marked) → Option (List Marked) → Unbegun → Type 0
-IsUnbegun game under after (Refused m) = (front_note game under after ≡ Some (mismatch_note m)) × IsMismatchIn game under after m
+abbrev pub IsUnbegun : (Answers → Outcome Finish (List ℕ)) → Option (List Marked) → Option (List Marked) → Unbegun
+    → Type 0
+IsUnbegun game under after (Refused m) =
+    (front_note game under after ≡ Some (mismatch_note m)) × IsMismatchIn game under after m
 IsUnbegun game under after Memory = Unit {0}

@@ -8,7 +8,8 @@
 --     line_of ended               the line at which the limit stopped a run
 --     line_in_mode mode p lines rules     the same of the play on these lines
 --     TellsLine mode ..           where the limit stopped a run, the line is that of the play
-use Rattle.std.specs.Prelude.{◌≡◌, ◌⊎◌, ◌+◌, ◌≤◌, ℕ, List, length, Option, None, Result, Ok, Err, IfOk, IfSome, IsErrOf, IsSome, OnOk}
+use Rattle.std.specs.Prelude.{◌≡◌, ◌⊎◌, ◌+◌, ◌≤◌, ℕ, List, length, Option, None, Result, Ok, Err}
+use Rattle.std.specs.Prelude.{IfOk, IfSome, IsErrOf, IsSome, OnOk}
 use Rattle.ptb_text.specs.Device.{GivesAtMost, GivesExactly, HasFailed}
 use Rattle.ptb_text.specs.Lines.{input_lines}
 use Rattle.ptb_text.specs.Loading.{IsLoaded}
@@ -31,7 +32,9 @@ use Rattle.ptb_plain.specs.PlainRuns.{IsUnreadable, input_limit}
 use Rattle.ptb_plain.specs.SeededRuns.{seeded_answers}
 use Rattle.ptb_serve.specs.ListMismatches.{IsMismatchOf, mismatch_note}
 use Rattle.ptb_serve.specs.Replies.{reply_in_mode}
-use Rattle.ptb_serve.specs.Serving.{IsCheck, IsInput, IsPlainRun, IsUnloaded, NeedsInput, NeedsWholeInput, ReadsForRun, Serves, ServesUnread, SilentBy, StopsForMemory, outcome_of}
+use Rattle.ptb_serve.specs.Serving.{IsCheck, IsInput, IsPlainRun, IsUnloaded, NeedsInput}
+use Rattle.ptb_serve.specs.Serving.{NeedsWholeInput, ReadsForRun, Serves, ServesUnread, SilentBy}
+use Rattle.ptb_serve.specs.Serving.{StopsForMemory, outcome_of}
 
 -- a run that is begun isn't spent
 abbrev pub IsRunStatus : Result Ending RunFault → Result ℕ Note → Type 0
@@ -41,13 +44,18 @@ IsRunStatus (Err faults.Read) result = result ≡ Err notes.InputUnread
 IsRunStatus (Err faults.Write) result = result ≡ Err notes.Unwritten
 IsRunStatus (Err faults.Spent) result = ⊥
 
--- the input is `known` before and `left` after, and what is written goes from `old` to `new`; b is a text of which p is the program
+-- the input is `known` before and `left` after, and what is written goes from `old` to `new`; b is a text of which p
+-- is the program
 pub record ServesProgram (mode : Mode) (request : Request) (p : StoredProgram) (known left old new : Option (List ℕ)) (result : Result ℕ Note) : Type 0 where
-  pub served : (b c : List ℕ) → IsLoaded request.memory b p.lines → IsInput mode known c → Serves (reply_in_mode mode request b c) old new (outcome_of result)
-  pub taken : (b : List ℕ) → IsLoaded request.memory b p.lines → IfSome known (λ c. ReadsForRun mode request b c left (outcome_of result))
-  pub unread : (b : List ℕ) → IsLoaded request.memory b p.lines → IsErrOf result notes.InputUnread → ServesUnread mode request known left b old new
+  pub served : (b c : List ℕ) → IsLoaded request.memory b p.lines → IsInput mode known c
+      → Serves (reply_in_mode mode request b c) old new (outcome_of result)
+  pub taken : (b : List ℕ) → IsLoaded request.memory b p.lines
+      → IfSome known (λ c. ReadsForRun mode request b c left (outcome_of result))
+  pub unread : (b : List ℕ) → IsLoaded request.memory b p.lines → IsErrOf result notes.InputUnread
+      → ServesUnread mode request known left b old new
   pub silent : SilentBy mode (outcome_of result).note old new
-  pub stopped : (b c : List ℕ) → IsLoaded request.memory b p.lines → IsInput mode known c → IsErrOf result notes.OutOfMemory → StopsForMemory mode request b c old new
+  pub stopped : (b c : List ℕ) → IsLoaded request.memory b p.lines → IsInput mode known c
+      → IsErrOf result notes.OutOfMemory → StopsForMemory mode request b c old new
   pub status : IfOk result (λ n. n ≤ 7)
   pub success : (IsPlainRun mode → ⊥) → (IsCheck mode → ⊥) → OnOk result (result ≡ Ok 0)
   pub checked : IsCheck mode → IfOk result (λ n. n ≤ 1)
@@ -63,7 +71,8 @@ pub record ReadsInput (mode : Mode) (known left : Option (List ℕ)) (failed fai
   pub bounded : ConsumesAtMost known left (input_limit + 1)
   pub given : GivesAtMost gave gives (input_limit + 1)
   pub unread : IsErrOf result notes.InputUnread → IsUnreadable known failed fails
-  pub failed_or_given : IsErrOf result notes.InputUnread → HasFailed failed fails ⊎ GivesExactly gave gives (input_limit + 1)
+  pub failed_or_given : IsErrOf result notes.InputUnread
+      → HasFailed failed fails ⊎ GivesExactly gave gives (input_limit + 1)
   pub read : (IsErrOf result notes.InputUnread → ⊥) → fails ≡ failed
   pub unneeded : (NeedsInput mode → ⊥) → IsErrOf result notes.InputUnread → ⊥
 
@@ -94,6 +103,7 @@ line_in_mode modes.Check p lines rules = None
 line_in_mode modes.Chances p lines rules = None
 
 pub record TellsLine (mode : Mode) (request : Request) (p : StoredProgram) (known : Option (List ℕ)) (result : Result ℕ Note) (line : Option ℕ) : Type 0 where
-  pub at_limit : result ≡ Ok (status endings.Limit) → (c : List ℕ) → IsInput mode known c → line ≡ line_in_mode mode p (input_lines c) request.rules
+  pub at_limit : result ≡ Ok (status endings.Limit) → (c : List ℕ) → IsInput mode known c
+      → line ≡ line_in_mode mode p (input_lines c) request.rules
   -- nothing else has a line
   pub elsewhere : ¬ (result ≡ Ok (status endings.Limit)) → line ≡ None

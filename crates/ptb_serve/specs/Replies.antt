@@ -73,7 +73,8 @@ listing_reply p = success (listing p.lines)
 
 -- each mistake in the text, and status 1 where there is one
 abbrev pub check_reply : StoredProgram → Reply
-check_reply p = record { bytes = mistakes_text p.lines; status = check_status (has_any (mistakes p.lines)); note = None }
+check_reply p =
+    record { bytes = mistakes_text p.lines; status = check_status (has_any (mistakes p.lines)); note = None }
 
 -- ---- the program
 
@@ -109,7 +110,9 @@ is_share game (Some list) = is_open (game (answers_of list)) && states_bounds li
 -- so it is with the run after which it begins, which must be one of the listing
 abbrev pub is_front : (Answers → Outcome Finish (List ℕ)) → Answers → Option (List Marked) → Bool
 is_front game under None = true
-is_front game under (Some list) = is_whole (game (answers_of list)) && states_bounds list (bounds game (answers_of list)) && begins_with (answers_of list) under
+is_front game under (Some list) =
+    is_whole (game (answers_of list)) && states_bounds list (bounds game (answers_of list))
+    && begins_with (answers_of list) under
 
 -- why no listing is begun: the beginning is looked at first
 abbrev pub note_of : Bool → Bool → Option Note
@@ -121,27 +124,33 @@ abbrev pub front_note : (Answers → Outcome Finish (List ℕ)) → Option (List
 front_note game under after = note_of (is_share game under) (is_front game (answers_under under) after)
 
 -- the runs that a listing has, where none has more answers than `most`
-abbrev pub runs_due : (Answers → Outcome Finish (List ℕ)) → ℕ → Option (List Marked) → Option (List Marked) → Option ℕ → List Answers
+abbrev pub runs_due : (Answers → Outcome Finish (List ℕ)) → ℕ → Option (List Marked) → Option (List Marked) → Option ℕ
+    → List Answers
 runs_due game most under after first = runs_left game most (answers_under under) (first_front after) first
 
 -- their reports
-abbrev pub listed_runs : (Answers → Outcome Finish (List ℕ)) → ℕ → Option (List Marked) → Option (List Marked) → Option ℕ → Form → List ℕ
+abbrev pub listed_runs : (Answers → Outcome Finish (List ℕ)) → ℕ → Option (List Marked) → Option (List Marked)
+    → Option ℕ → Form → List ℕ
 listed_runs game most under after first form = text (report form game) (runs_due game most under after first)
 
 -- a list that begins no run, is no run of the listing, or states another bound is refused before anything is written
-unfoldable pub runs_reply : (Answers → Outcome Finish (List ℕ)) → ℕ → Option (List Marked) → Option (List Marked) → Option ℕ → Form → Reply
+unfoldable pub runs_reply : (Answers → Outcome Finish (List ℕ)) → ℕ → Option (List Marked) → Option (List Marked)
+    → Option ℕ → Form → Reply
 runs_reply game most under after first form =
     elim (front_note game under after) [ None ↦ success (listed_runs game most under after first form) | Some note ↦ refusal note ]
 
 -- the runs of a program on these input lines
-abbrev pub all_reply : StoredProgram → List (List ℕ) → Rules → Option (List Marked) → Option (List Marked) → Option ℕ → Form → Reply
-all_reply p input rules under after first form = runs_reply (play p input rules) (most_answers p input rules.limit) under after first form
+abbrev pub all_reply : StoredProgram → List (List ℕ) → Rules → Option (List Marked) → Option (List Marked) → Option ℕ
+    → Form → Reply
+all_reply p input rules under after first form =
+    runs_reply (play p input rules) (most_answers p input rules.limit) under after first form
 
 -- ---- the lists that split all runs
 
 -- those of at most n answers, a line each
 abbrev pub shares_reply : StoredProgram → List (List ℕ) → Rules → ℕ → Form → Reply
-shares_reply p input rules n form = success (text (beginning_line form (play p input rules)) (beginnings n (play p input rules)))
+shares_reply p input rules n form =
+    success (text (beginning_line form (play p input rules)) (beginnings n (play p input rules)))
 
 -- ---- a sample
 
@@ -165,7 +174,8 @@ chances_reply p input rules = success (chances (play p input rules) (most_answer
 abbrev pub program_reply_in_mode : Mode → Rules → List ℕ → StoredProgram → Reply
 program_reply_in_mode (modes.Plain a) rules c = plain_reply rules a c
 program_reply_in_mode (modes.Seeded seed) rules c = seeded_reply rules seed c
-program_reply_in_mode (modes.All under after first form) rules c = λ p. all_reply p (input_lines c) rules under after first form
+program_reply_in_mode (modes.All under after first form) rules c =
+    λ p. all_reply p (input_lines c) rules under after first form
 program_reply_in_mode (modes.Shares answers form) rules c = λ p. shares_reply p (input_lines c) rules answers form
 program_reply_in_mode (modes.Sample seed runs form) rules c = λ p. sample_reply p (input_lines c) rules seed runs form
 program_reply_in_mode modes.List rules c = listing_reply

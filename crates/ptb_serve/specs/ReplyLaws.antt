@@ -9,7 +9,8 @@
 --     ChecksText p reply               the reply to a check of the program p
 --     TellsChances play most reply     the reply to `--chances` is the table of all results that runs have
 --     ReplyLaws                        what a reply is for every program text and every input
-use Rattle.std.specs.Prelude.{◌≡◌, true, ℕ, suc, ◌<◌, List, [], ◌∷◌, ◌++◌, length, take, Option, Some, None, Ok, Err, ◌↔◌, Contains, ℤ}
+use Rattle.std.specs.Prelude.{◌≡◌, true, ℕ, suc, ◌<◌, List, [], ◌∷◌, ◌++◌, length, take, Option}
+use Rattle.std.specs.Prelude.{Some, None, Ok, Err, ◌↔◌, Contains, ℤ}
 use Rattle.std.specs.List.{flat_map}
 use Rattle.ptb_text.specs.declared.fault.LoadFault.{LoadFault}
 use Rattle.ptb_text.specs.declared.fault.LoadFault.TheVariants.{TooLong}
@@ -54,7 +55,8 @@ pub record ListsRuns (play : Answers → Outcome Finish (List ℕ)) (IsListed : 
   -- with a number n, the reports of the first n of them, or of all where there are fewer
   pub first : (n : ℕ) (form : Form) → reply (Some n) form ≡ success (text (report form play) (take n runs))
 
--- A seed gives the answers of one run: each is drawn from the seed for the bound of its question. No other list of answers is drawn so.
+-- A seed gives the answers of one run: each is drawn from the seed for the bound of its question. No other list of
+-- answers is drawn so.
 pub record RunsBySeed (seed : ℕ) (play : Answers → Outcome Finish (List ℕ)) (reply : Mode → Reply) : Type 0 where
   pub answers : Answers
   pub drawn : IsDrawn seed play answers
@@ -67,15 +69,17 @@ pub record SamplesBySeed (seed : ℕ) (play : Answers → Outcome Finish (List �
   pub runs : List Answers
   pub count : length runs ≡ n
   pub members : (a : Answers) → Contains runs a → IsRun play a
-  -- the words of the seed's generator, one after the other, draw the answers of all of them for the bounds of their questions: no word
-  -- is left out, and none serves two answers
+  -- the words of the seed's generator, one after the other, draw the answers of all of them for the bounds of their
+  -- questions: no word is left out, and none serves two answers
   pub drawn : concatenated runs ≡ drawn_answers seed (flat_map (bounds play) runs)
   -- the first of them is the run by the seed
-  pub first : (a : Answers) (later : ℕ) → n ≡ suc later → IsDrawn seed play a → (rest : List Answers) × (runs ≡ a ∷ rest)
+  pub first : (a : Answers) (later : ℕ) → n ≡ suc later → IsDrawn seed play a
+      → (rest : List Answers) × (runs ≡ a ∷ rest)
   -- the report of each is written in this order, and the status is 0
   pub reports : (form : Form) → reply form ≡ success (text (report form play) runs)
 
--- The results of all runs, each with its exact chance and the number of its runs. A result is an ending and the last line that was shown.
+-- The results of all runs, each with its exact chance and the number of its runs. A result is an ending and the last
+-- line that was shown.
 pub record TellsChances (play : Answers → Outcome Finish (List ℕ)) (most : ℕ) (reply : Reply) : Type 0 where
   -- the table of the tree is written, whose members are the runs, and the status is 0
   pub rows : reply ≡ success (table_text (table play (tree play most)))
@@ -85,14 +89,19 @@ pub record TellsChances (play : Answers → Outcome Finish (List ℕ)) (most : �
 -- A share of all runs are those that begin with some answers.
 pub record ShareReplies (play : Answers → Outcome Finish (List ℕ)) (reply : Mode → Reply) : Type 0 where
   -- a run begins with some answers exactly where they are a run, or are asked for one more
-  pub beginning : (under : Answers) → ((a : Answers) × IsRun play a × (begins_with a under ≡ true)) ↔ (is_open (play under) ≡ true)
+  pub beginning : (under : Answers)
+      → ((a : Answers) × IsRun play a × (begins_with a under ≡ true)) ↔ (is_open (play under) ≡ true)
   -- every run begins with no answers
-  pub whole : (after : Option (List Marked)) (first : Option ℕ) (form : Form) → reply (modes.All (Some []) after first form) ≡ reply (modes.All None after first form)
-  -- where a question with bound n comes after some answers, their share is that of each answer to it, from 1 to n, one after the other
-  pub question : (under : List Marked) (n : ℤ) (shown : List ℕ) (form : Form) → IsMarkedBeginning play under → play (answers_of under) ≡ Asks n shown
+  pub whole : (after : Option (List Marked)) (first : Option ℕ) (form : Form)
+      → reply (modes.All (Some []) after first form) ≡ reply (modes.All None after first form)
+  -- where a question with bound n comes after some answers, their share is that of each answer to it, from 1 to n,
+  -- one after the other
+  pub question : (under : List Marked) (n : ℤ) (shown : List ℕ) (form : Form) → IsMarkedBeginning play under
+      → play (answers_of under) ≡ Asks n shown
       → reply (modes.All (Some under) None None form) ≡ success (flat_map (λ k. (reply (modes.All (Some (under ++ without_bound k ∷ [])) None None form)).bytes) (answers_to n))
   -- the share of a run is its report
-  pub run : (a : List Marked) (form : Form) → IsMarkedRun play a → reply (modes.All (Some a) None None form) ≡ success (report form play (answers_of a))
+  pub run : (a : List Marked) (form : Form) → IsMarkedRun play a
+      → reply (modes.All (Some a) None None form) ≡ success (report form play (answers_of a))
   -- where two lists first differ, no run begins with both
   pub apart : (u v a : Answers) → Before u v → IsRun play a → begins_with a u ≡ true → begins_with a v ≡ true → ⊥
 
@@ -119,23 +128,29 @@ pub record SplitsRuns (play : Answers → Outcome Finish (List ℕ)) (n : ℕ) (
 
 -- `play` gives the result of the program on the input, by the list of answers. No run has more answers than `most`.
 pub record RunReplies (play : Answers → Outcome Finish (List ℕ)) (most : ℕ) (reply : Mode → Reply) : Type 0 where
-  -- the runs are in a tree, each once, in rising order; fewer than `most` answers come before a question; and no run begins another
+  -- the runs are in a tree, each once, in rising order; fewer than `most` answers come before a question; and no run
+  -- begins another
   pub tree : TreeLaws play most
   -- all runs are listed, and nothing else
   pub all_runs : ListsRuns play (IsRun play) (λ first form. reply (modes.All None None first form))
-  -- after a run that is named, exactly the runs that it is before; bounds that are stated of it are those of its questions
+  -- after a run that is named, exactly the runs that it is before; bounds that are stated of it are those of its
+  -- questions
   pub runs_after : (list : List Marked) → IsMarkedRun play list
       → ListsRuns play (λ a. IsRun play a × Before (answers_of list) a) (λ first form. reply (modes.All None (Some list) first form))
   -- where what is named is no run, or a bound is another, nothing is written, and the note and its status say so
-  pub no_run : (list : List Marked) (first : Option ℕ) (form : Form) → (IsMarkedRun play list → ⊥) → reply (modes.All None (Some list) first form) ≡ refusal notes.NoRun
+  pub no_run : (list : List Marked) (first : Option ℕ) (form : Form) → (IsMarkedRun play list → ⊥)
+      → reply (modes.All None (Some list) first form) ≡ refusal notes.NoRun
   -- of the runs that begin with some answers, the same: all of them
   pub share : (under : List Marked) → IsMarkedBeginning play under
       → ListsRuns play (λ a. IsRun play a × (begins_with a (answers_of under) ≡ true)) (λ first form. reply (modes.All (Some under) None first form))
   -- or those after one of them that is named
-  pub share_after : (under list : List Marked) → IsMarkedBeginning play under → IsMarkedRun play list → begins_with (answers_of list) (answers_of under) ≡ true
+  pub share_after : (under list : List Marked) → IsMarkedBeginning play under → IsMarkedRun play list
+      → begins_with (answers_of list) (answers_of under) ≡ true
       → ListsRuns play (λ a. IsRun play a × Before (answers_of list) a × (begins_with a (answers_of under) ≡ true)) (λ first form. reply (modes.All (Some under) (Some list) first form))
-  -- where no run begins so, or a bound is another, nothing is written, whatever run is named, and the note and its status say so
-  pub no_beginning : (under : List Marked) (after : Option (List Marked)) (first : Option ℕ) (form : Form) → (IsMarkedBeginning play under → ⊥)
+  -- where no run begins so, or a bound is another, nothing is written, whatever run is named, and the note and its
+  -- status say so
+  pub no_beginning : (under : List Marked) (after : Option (List Marked)) (first : Option ℕ) (form : Form)
+      → (IsMarkedBeginning play under → ⊥)
       → reply (modes.All (Some under) after first form) ≡ refusal notes.NoBeginning
   -- where what is named is no run, or begins otherwise, it is as with any listing
   pub not_in_share : (under list : List Marked) (first : Option ℕ) (form : Form) → IsMarkedBeginning play under
@@ -147,10 +162,12 @@ pub record RunReplies (play : Answers → Outcome Finish (List ℕ)) (most : ℕ
   pub split : (n : ℕ) → SplitsRuns play n reply
   -- two runs have two different reports, and no report is in two shares
   pub reports : ReportLaws play most
-  -- the report of a run has its answers, in form 2 with their bounds, and the ending, the steps and the transcript of its play
+  -- the report of a run has its answers, in form 2 with their bounds, and the ending, the steps and the transcript of
+  -- its play
   pub run_report : (form : Form) (a : Answers) (f : Finish) → play a ≡ Done f []
       → report form play a ≡ report_text (items_in form a (bounds play a)) (word_of f.ending) f.steps f.shown
-  -- a plain run writes what play shows, and has the status of its ending, also where an answer is missing or outside its bound
+  -- a plain run writes what play shows, and has the status of its ending, also where an answer is missing or outside
+  -- its bound
   pub plain_run : (a : Answers) → reply (modes.Plain a) ≡ run_reply (plain_of (play a))
   -- a run by a seed is a plain run with the answers that are drawn from the seed
   pub seeded_run : (seed : ℕ) → RunsBySeed seed play reply
@@ -159,8 +176,8 @@ pub record RunReplies (play : Answers → Outcome Finish (List ℕ)) (most : ℕ
   -- the table of chances has each result that a run has
   pub chances : TellsChances play most (reply modes.Chances)
 
--- The reply to a check is each mistake in the text of the program, as a run reports it on a fresh line, and the status shows whether
--- there is one.
+-- The reply to a check is each mistake in the text of the program, as a run reports it on a fresh line, and the
+-- status shows whether there is one.
 pub record ChecksText (p : Statements) (reply : Reply) : Type 0 where
   pub bytes : reply.bytes ≡ mistakes_text p
   pub none : mistakes p ≡ [] → reply.status ≡ 0
@@ -169,31 +186,39 @@ pub record ChecksText (p : Statements) (reply : Reply) : Type 0 where
 
 pub record ReplyLaws : Type 0 where
   -- a text that is too long is refused as a whole, whatever is asked for and whatever it contains
-  pub too_long : (r : Request) (b c : List ℕ) → program_limit < length b → reply_to r b c ≡ refusal (notes.Load 0 TooLong)
-  -- where a text is refused nothing is written, whatever is asked for, and the note has the line that is refused, and why
-  pub refused : (r : Request) (b c : List ℕ) (e : ℕ × LoadFault) → program_of_text r.memory b ≡ Err e → reply_to r b c ≡ refusal (notes.Load e.0 e.1)
-  -- This is for each program text that is accepted, each input, each memory size, each limit of commands, and each bound for
-  -- answers instead of lines, or none. A run is a list of answers that are all taken when play is over. The reply to `--all` is one
-  -- report for each run and nothing else, in rising order of the answers: where two runs first differ, the first of them has the
-  -- smaller answer. Each report has the answers, in form 2 with their bounds, and the ending, the steps and the transcript of its
-  -- play. With `--after` and a run, the reply is this for the runs after that run. Where the list of `--after` is no run, or has a
-  -- bound that isn't that of its question, nothing is written, and the status is 67. With `--under` and the beginning of a run, the
-  -- reply is this for the runs that begin so. Where no run begins so, or a bound isn't that of its question, nothing is written,
-  -- and the status is 67. With `--first n` it is the first n of the same reports. The status of these replies is 0, except where
-  -- 67 is named. The reply to a plain run is what play shows with its answers, and the status is that of the ending. A run by a seed
-  -- is a plain run with the answers that are drawn from the seed. With `--sample n` the reply is the reports of n runs: the first is the
-  -- run by the seed, and each later one is drawn by the words that the runs before it left. With `--shares n` the reply is a line for each
-  -- run of at most n answers, and for each n answers after which one more is asked for; the replies to `--under` these lists are, one
-  -- after the other, the reply to `--all`. With `--chances` the reply is a row for each result that a run has: an ending and a last
-  -- line. It has the chance of this result in lowest terms, where each answer to a question is equally likely, and the number of its
-  -- runs.
+  pub too_long : (r : Request) (b c : List ℕ) → program_limit < length b
+      → reply_to r b c ≡ refusal (notes.Load 0 TooLong)
+  -- where a text is refused nothing is written, whatever is asked for, and the note has the line that is refused, and
+  -- why
+  pub refused : (r : Request) (b c : List ℕ) (e : ℕ × LoadFault) → program_of_text r.memory b ≡ Err e
+      → reply_to r b c ≡ refusal (notes.Load e.0 e.1)
+  -- This is for each program text that is accepted, each input, each memory size, each limit of commands, and each
+  -- bound for answers instead of lines, or none. A run is a list of answers that are all taken when play is over. The
+  -- reply to `--all` is one report for each run and nothing else, in rising order of the answers: where two runs
+  -- first differ, the first of them has the smaller answer. Each report has the answers, in form 2 with their bounds,
+  -- and the ending, the steps and the transcript of its play. With `--after` and a run, the reply is this for the
+  -- runs after that run. Where the list of `--after` is no run, or has a bound that isn't that of its question,
+  -- nothing is written, and the status is 67. With `--under` and the beginning of a run, the reply is this for the
+  -- runs that begin so. Where no run begins so, or a bound isn't that of its question, nothing is written, and the
+  -- status is 67. With `--first n` it is the first n of the same reports. The status of these replies is 0, except
+  -- where 67 is named. The reply to a plain run is what play shows with its answers, and the status is that of the
+  -- ending. A run by a seed is a plain run with the answers that are drawn from the seed. With `--sample n` the reply
+  -- is the reports of n runs: the first is the run by the seed, and each later one is drawn by the words that the
+  -- runs before it left. With `--shares n` the reply is a line for each run of at most n answers, and for each n
+  -- answers after which one more is asked for; the replies to `--under` these lists are, one after the other, the
+  -- reply to `--all`. With `--chances` the reply is a row for each result that a run has: an ending and a last line.
+  -- It has the chance of this result in lowest terms, where each answer to a question is equally likely, and the
+  -- number of its runs.
   pub accepted :
       (memory : ℕ) (size : IsMemorySize memory) (rules : Rules) (b c : List ℕ) (p : Statements) → program_of_text memory b ≡ Ok p
       → RunReplies (play (record { lines = p; memory = memory }) (input_lines c) rules) (most_answers (record { lines = p; memory = memory }) (input_lines c) rules.limit)
       (λ mode. reply_to (record { rules = rules; memory = memory; mode = mode; in_range = size }) b c)
   -- the reply to a listing of a text that is accepted is the listing of its lines
-  pub listed : (r : Request) (b c : List ℕ) (p : Statements) → program_of_text r.memory b ≡ Ok p → r.mode ≡ modes.List → reply_to r b c ≡ success (listing p)
+  pub listed : (r : Request) (b c : List ℕ) (p : Statements) → program_of_text r.memory b ≡ Ok p → r.mode ≡ modes.List
+      → reply_to r b c ≡ success (listing p)
   -- the reply to a check of a text that is accepted is its mistakes
-  pub checked : (r : Request) (b c : List ℕ) (p : Statements) → program_of_text r.memory b ≡ Ok p → r.mode ≡ modes.Check → ChecksText p (reply_to r b c)
-  -- and where a run of it ends with WHAT, HOW or SORRY, the command at its place is well formed, or its mistake is one of these
+  pub checked : (r : Request) (b c : List ℕ) (p : Statements) → program_of_text r.memory b ≡ Ok p → r.mode ≡ modes.Check
+      → ChecksText p (reply_to r b c)
+  -- and where a run of it ends with WHAT, HOW or SORRY, the command at its place is well formed, or its mistake is
+  -- one of these
   pub mistakes : CheckLaws

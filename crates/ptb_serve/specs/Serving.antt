@@ -20,7 +20,8 @@
 --     NeedsInput mode                   the input may be read
 --     NeedsWholeInput mode              the input is read to its end
 --     IsInput mode known c              c is the input, where the mode needs it
-use Rattle.std.specs.Prelude.{◌≡◌, ◌==◌, ◌⊎◌, ◌<◌, ℕ, ℤ, ◌+◌, if◌then◌else◌, IfOk, IfSome, List, [], length, take, Option, Some, None, Result, Ok, Err}
+use Rattle.std.specs.Prelude.{◌≡◌, ◌==◌, ◌⊎◌, ◌<◌, ℕ, ℤ, ◌+◌, if◌then◌else◌, IfOk, IfSome, List, []}
+use Rattle.std.specs.Prelude.{length, take, Option, Some, None, Result, Ok, Err}
 use Rattle.std.specs.Io.KnownBytes.{Appends, Consumes}
 use Rattle.ptb_text.specs.declared.fault.LoadFault.{LoadFault}
 use Rattle.ptb_text.specs.declared.fault.LoadFault.TheVariants as loads
@@ -51,7 +52,8 @@ use Rattle.ptb_serve.specs.declared.service.Outcome.{Outcome}
 use Rattle.ptb_serve.specs.Statuses.{note_status}
 use Rattle.ptb_options.specs.declared.request.Request.{Request}
 use Rattle.ptb_plain.specs.PlainRuns.{ReadsFor, ShowsQuestion, lines_come, lines_taken}
-use Rattle.ptb_serve.specs.Replies.{Reply, lines_reply, seeded_lines_reply, program_of_text, program_reply, runs_drawn, runs_due}
+use Rattle.ptb_serve.specs.Replies.{Reply, lines_reply, seeded_lines_reply, program_of_text}
+use Rattle.ptb_serve.specs.Replies.{program_reply, runs_drawn, runs_due}
 use Rattle.ptb_plain.specs.SeededRuns.{seeded_answers}
 
 -- ---- outcomes
@@ -106,7 +108,8 @@ ServesBy (Some note) status reply old new = IsReply reply old new status (Some n
 abbrev pub Serves : Reply → Option (List ℕ) → Option (List ℕ) → Outcome → Type 0
 Serves reply old new outcome = ServesBy outcome.note outcome.status reply old new
 
--- memory is asked for before anything is written, and where runs are listed or sampled between their reports, and for the answers of a seed, too
+-- memory is asked for before anything is written, and where runs are listed or sampled between their reports, and for
+-- the answers of a seed, too
 abbrev pub SilentWithoutMemory : Mode → Option (List ℕ) → Option (List ℕ) → Type 0
 SilentWithoutMemory (modes.Plain a) old new = Appends old new []
 SilentWithoutMemory (modes.Seeded seed) old new = Unit {0}
@@ -133,21 +136,29 @@ pub record WritesFewer (report : Answers → List ℕ) (due : List Answers) (old
   pub fewer : count < length due
   pub bytes : Appends old new (text report (take count due))
 
-abbrev pub ListsFewerOf : StoredProgram → List (List ℕ) → Rules → Option (List Marked) → Option (List Marked) → Option ℕ → Form → Option (List ℕ) → Option (List ℕ) → Type 0
-ListsFewerOf p input rules under after first form old new = WritesFewer (report form (play p input rules)) (runs_due (play p input rules) (most_answers p input rules.limit) under after first) old new
+abbrev pub ListsFewerOf : StoredProgram → List (List ℕ) → Rules → Option (List Marked) → Option (List Marked) → Option ℕ
+    → Form → Option (List ℕ) → Option (List ℕ) → Type 0
+ListsFewerOf p input rules under after first form old new =
+    WritesFewer (report form (play p input rules))
+    (runs_due (play p input rules) (most_answers p input rules.limit) under after first) old new
 
 -- the first few of the lines that split the runs
 abbrev pub SplitsFewerOf : StoredProgram → List (List ℕ) → Rules → ℕ → Form → Option (List ℕ) → Option (List ℕ) → Type 0
-SplitsFewerOf p input rules n form old new = WritesFewer (beginning_line form (play p input rules)) (beginnings n (play p input rules)) old new
+SplitsFewerOf p input rules n form old new =
+    WritesFewer (beginning_line form (play p input rules)) (beginnings n (play p input rules)) old new
 
-abbrev pub SamplesFewerOf : StoredProgram → List (List ℕ) → Rules → ℕ → ℕ → Form → Option (List ℕ) → Option (List ℕ) → Type 0
-SamplesFewerOf p input rules seed runs form old new = WritesFewer (report form (play p input rules)) (runs_drawn (play p input rules) (most_answers p input rules.limit) seed runs) old new
+abbrev pub SamplesFewerOf : StoredProgram → List (List ℕ) → Rules → ℕ → ℕ → Form → Option (List ℕ) → Option (List ℕ)
+    → Type 0
+SamplesFewerOf p input rules seed runs form old new =
+    WritesFewer (report form (play p input rules))
+    (runs_drawn (play p input rules) (most_answers p input rules.limit) seed runs) old new
 
 -- with the first of the answers that a seed gives, the run asks for one more, and what it shows until then was written
 abbrev pub AsksForMore : StoredProgram → List (List ℕ) → Rules → ℕ → Option (List ℕ) → Option (List ℕ) → Type 0
 AsksForMore p input rules seed old new = ShowsQuestion (plain p input rules) (seeded_answers seed p input rules) old new
 
--- memory was refused before anything was written, or before a report that was still to be written, or for the answer to a question
+-- memory was refused before anything was written, or before a report that was still to be written, or for the answer
+-- to a question
 abbrev pub StopsForMemory : Mode → Request → List ℕ → List ℕ → Option (List ℕ) → Option (List ℕ) → Type 0
 StopsForMemory (modes.Plain a) request b c old new = Unit {0}
 StopsForMemory (modes.Seeded seed) request b c old new = IfOk (program_of_text request.memory b) (λ p. Appends old new [] ⊎ AsksForMore (record { lines = p; memory = request.memory }) (input_lines c) request.rules seed old new)
@@ -176,16 +187,20 @@ EndsUnread None reply others old new = LacksLine reply old new
 EndsUnread (Some n) reply others old new = AsksUnread reply others old new
 
 -- the reply to a run of the text b, on the lines that came complete in the bytes that were taken of the input
-abbrev pub RunUnread : Request → Option (List ℕ) → Option (List ℕ) → List ℕ → (List (List ℕ) → StoredProgram → Reply) → Option (List ℕ) → Option (List ℕ) → Type 0
+abbrev pub RunUnread : Request → Option (List ℕ) → Option (List ℕ) → List ℕ → (List (List ℕ) → StoredProgram → Reply)
+    → Option (List ℕ) → Option (List ℕ) → Type 0
 RunUnread request known left b run old new =
     (taken : List ℕ) × Consumes known left taken
     × EndsUnread request.rules.choose (program_reply request.memory b (run (lines_come taken)))
     (λ a. program_reply request.memory b (lines_reply request.rules a (lines_come taken))) old new
 
 -- a listing, a sample or a table begins once the input was read
-abbrev pub ServesUnread : Mode → Request → Option (List ℕ) → Option (List ℕ) → List ℕ → Option (List ℕ) → Option (List ℕ) → Type 0
-ServesUnread (modes.Plain a) request known left b old new = RunUnread request known left b (lines_reply request.rules a) old new
-ServesUnread (modes.Seeded seed) request known left b old new = RunUnread request known left b (seeded_lines_reply request.rules seed) old new
+abbrev pub ServesUnread : Mode → Request → Option (List ℕ) → Option (List ℕ) → List ℕ → Option (List ℕ)
+    → Option (List ℕ) → Type 0
+ServesUnread (modes.Plain a) request known left b old new =
+    RunUnread request known left b (lines_reply request.rules a) old new
+ServesUnread (modes.Seeded seed) request known left b old new =
+    RunUnread request known left b (seeded_lines_reply request.rules seed) old new
 ServesUnread (modes.All under after first form) request known left b old new = Appends old new []
 ServesUnread (modes.Shares answers form) request known left b old new = Appends old new []
 ServesUnread (modes.Sample seed runs form) request known left b old new = Appends old new []
@@ -229,7 +244,8 @@ IsUnloaded None = ⊥
 
 -- the line and the fault that are noted are those of the first refusal
 abbrev pub TellsRefusal : ℕ → Option (List ℕ) → Option Note → Type 0
-TellsRefusal memory known (Some (notes.Load line fault)) = IfSome known (λ b. program_of_text memory b ≡ Err (line, fault))
+TellsRefusal memory known (Some (notes.Load line fault)) =
+    IfSome known (λ b. program_of_text memory b ≡ Err (line, fault))
 TellsRefusal memory known (Some note) = Unit {0}
 TellsRefusal memory known None = Unit {0}
 
@@ -263,17 +279,21 @@ abbrev pub seeded_taken : ℕ → StoredProgram → List (List ℕ) → Rules �
 seeded_taken seed p lines rules = lines_taken p lines rules (seeded_answers seed p lines rules)
 
 -- the input c is read only for the lines that a run wants, of which it takes so many
-abbrev pub ReadsByNote : Request → (StoredProgram → List (List ℕ) → ℕ) → List ℕ → List ℕ → Option (List ℕ) → Option Note → ℕ → Type 0
+abbrev pub ReadsByNote : Request → (StoredProgram → List (List ℕ) → ℕ) → List ℕ → List ℕ → Option (List ℕ) → Option Note
+    → ℕ → Type 0
 ReadsByNote request count b c left note number =
     IfOk (program_of_text request.memory b) (λ p. (taken : List ℕ) × Consumes (Some c) left taken
     × ReadsFor taken (note_wanted_by request.rules.choose (length (input_lines c)) (count (record { lines = p; memory = request.memory }) (input_lines c)) note number))
 
-abbrev pub ReadsBy : Request → (StoredProgram → List (List ℕ) → ℕ) → List ℕ → List ℕ → Option (List ℕ) → Outcome → Type 0
+abbrev pub ReadsBy : Request → (StoredProgram → List (List ℕ) → ℕ) → List ℕ → List ℕ → Option (List ℕ) → Outcome
+    → Type 0
 ReadsBy request count b c left outcome = ReadsByNote request count b c left outcome.note outcome.status
 
 abbrev pub ReadsInMode : Mode → Request → List ℕ → List ℕ → Option (List ℕ) → Option Note → ℕ → Type 0
-ReadsInMode (modes.Plain a) request b c left note number = ReadsByNote request (λ p lines. lines_taken p lines request.rules a) b c left note number
-ReadsInMode (modes.Seeded seed) request b c left note number = ReadsByNote request (λ p lines. seeded_taken seed p lines request.rules) b c left note number
+ReadsInMode (modes.Plain a) request b c left note number =
+    ReadsByNote request (λ p lines. lines_taken p lines request.rules a) b c left note number
+ReadsInMode (modes.Seeded seed) request b c left note number =
+    ReadsByNote request (λ p lines. seeded_taken seed p lines request.rules) b c left note number
 ReadsInMode (modes.All under after first form) request b c left _ _ = Unit {0}
 ReadsInMode (modes.Shares answers form) request b c left _ _ = Unit {0}
 ReadsInMode (modes.Sample seed runs form) request b c left _ _ = Unit {0}

@@ -1,9 +1,11 @@
--- This file answers that the runs on the lines of an input are listed as is due, and what is said of a list that fits no run.
+-- This file answers that the runs on the lines of an input are listed as is due, and what is said of a list that fits
+-- no run.
 use Rattle.std.proofs.Common.{Err, refl, subst}
 use Rattle.ptb_serve.specs.declared.note.Note.{Note}
 use Rattle.ptb_serve.specs.Loaded.{RefusesListIn}
 use Rattle.ptb_serve.proofs.Listing.{listing_broken, listing_unbegun, listing_written, no_fault}
-use Rattle.ptb_serve.proofs.Mismatching.{none_told, reports_refuse_none, success_refuses_none, unbegun_line, unbegun_told}
+use Rattle.ptb_serve.proofs.Mismatching.{none_told, reports_refuse_none, success_refuses_none}
+use Rattle.ptb_serve.proofs.Mismatching.{unbegun_line, unbegun_told}
 use Rattle.ptb_serve.proofs.all_runs.list_runs_on.Goals as goal
 
 -- all reports are written
@@ -33,7 +35,9 @@ returns-in-Err-write_reports g c =
       serves = listed.serves;
       read = listed.read;
       failures = listed.failures;
-      mismatch = λ known _. none_told _ _ _ known _ (λ refuses. reports_refuse_none fault (subst (λ (n : Note). RefusesListIn (Err n)) c.from.ensures refuses));
+      mismatch =
+          λ known _. none_told _ _ _ known _
+          (λ refuses. reports_refuse_none fault (subst (λ (n : Note). RefusesListIn (Err n)) c.from.ensures refuses));
       no_line = refl;
     })
 

@@ -15,7 +15,8 @@ returns-in_err-any g c =
 pub returns-then-any : goal.returns-then-any
 returns-then-any g c =
     let told =
-    check_written c.args.program.now (g.W.Write.contents c.args.out.now) (g.W.Write.contents c.write_mistakes.new.writer)
+    check_written c.args.program.now (g.W.Write.contents c.args.out.now)
+    (g.W.Write.contents c.write_mistakes.new.writer)
     (g.W.Write.failures c.args.out.now) (g.W.Write.failures c.write_mistakes.new.writer) c.in_ok-any.any 1 (ap check_status (sym c.if-any.true)) (omega arith) c.in_ok-any.ensures.writes c.in_ok-any.ensures.unfailed
     in
     record { serves = told.serves; read = told.read; failures = told.failures; no_list = told.no_list }
@@ -23,7 +24,8 @@ returns-then-any g c =
 pub returns : goal.returns
 returns g c =
     let told =
-    check_written c.args.program.now (g.W.Write.contents c.args.out.now) (g.W.Write.contents c.write_mistakes.new.writer)
+    check_written c.args.program.now (g.W.Write.contents c.args.out.now)
+    (g.W.Write.contents c.write_mistakes.new.writer)
     (g.W.Write.failures c.args.out.now) (g.W.Write.failures c.write_mistakes.new.writer) c.in_ok-any.any 0 (ap check_status (sym c.if-any.false)) (omega arith) c.in_ok-any.ensures.writes c.in_ok-any.ensures.unfailed
     in
     record { serves = told.serves; read = told.read; failures = told.failures; no_list = told.no_list }

@@ -1,4 +1,5 @@
--- This file answers that a request is served as is promised: its program is loaded, and then its mode decides, or it isn't loaded.
+-- This file answers that a request is served as is promised: its program is loaded, and then its mode decides, or it
+-- isn't loaded.
 use Rattle.std.proofs.Common.{ap, ◌∙◌}
 use Rattle.ptb_plain.specs.Streams.{reads_of, writes_of}
 use Rattle.ptb_serve.specs.declared.attempt.Attempt.{Attempt}
@@ -25,7 +26,8 @@ returns-in-Err g c =
     let load = c.in-Err.ensures in
     let told =
     told_unloaded c.args.request.now (reads_of g.P.Read.remaining g.P.Read.given g.P.Read.failures c.args.program.now c.load.new.reader) load.reads.consumed load.reads.given
-    c.args.input.now (g.R.Read.remaining c.args.input.now) (g.R.Read.given c.args.input.now) (g.R.Read.failures c.args.input.now) (g.W.Write.contents c.args.out.now) (g.W.Write.failures c.args.out.now)
+    c.args.input.now (g.R.Read.remaining c.args.input.now) (g.R.Read.given c.args.input.now)
+    (g.R.Read.failures c.args.input.now) (g.W.Write.contents c.args.out.now) (g.W.Write.failures c.args.out.now)
     c.of-in-Err.result c.from.result c.in-Err.refusal (c.of-in-Err.ensures ∙ ap (λ (a : Attempt). record (outcome_of a.served) { mismatch = a.mismatch; line = a.line }) c.without_mismatch.ensures) c.from.ensures load.loads.refused
     (λ h. (load.loads.too_long h, load.reads.longer h)) load.reads.given_longer (λ h. (load.loads.unread h, load.reads.has_failed h)) load.reads.unfailed
     in

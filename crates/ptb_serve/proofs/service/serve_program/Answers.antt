@@ -2,7 +2,9 @@
 use Rattle.std.proofs.Common.{Err}
 use Rattle.ptb_plain.specs.SeededRuns.{seeded_answers}
 use Rattle.ptb_plain.specs.Streams.{reads_of, writes_of}
-use Rattle.ptb_serve.proofs.Modes.{served_all, served_chances, served_check, served_plain, served_sample, served_seeded, served_shares, served_text, text_broken}
+use Rattle.ptb_serve.proofs.Modes.{served_all, served_chances, served_check, served_plain}
+use Rattle.ptb_serve.proofs.Modes.{served_sample, served_seeded, served_shares, served_text}
+use Rattle.ptb_serve.proofs.Modes.{text_broken}
 use Rattle.ptb_serve.proofs.service.serve_program.Goals as goal
 
 -- a run with a list of answers
@@ -10,7 +12,8 @@ pub returns-in-Plain : goal.returns-in-Plain
 returns-in-Plain g c =
     let run = c.run_plain_to_end-ended.ensures in
     let told =
-    served_plain c.args.request.now c.args.program.now (reads_of g.R.Read.remaining g.R.Read.given g.R.Read.failures c.args.input.now c.run_plain_to_end-ended.new.input)
+    served_plain c.args.request.now c.args.program.now
+    (reads_of g.R.Read.remaining g.R.Read.given g.R.Read.failures c.args.input.now c.run_plain_to_end-ended.new.input)
     (writes_of g.W.Write.contents g.W.Write.failures c.args.out.now c.run_plain_to_end-ended.new.out)
     c.run_plain_to_end-ended.result c.run_attempt.result.served c.args.request.now.mode c.run_attempt.ensures.status c.requires.memory _ c.as_slice-answers.result.now c.in-Plain.is c.as_slice-answers.ensures
     (record { plays = run.plays; reads = run.reads }) run.memory run.line
@@ -40,7 +43,8 @@ returns-in-Seeded g c =
     let request = c.args.request.now in
     let p = c.args.program.now in
     let told =
-    served_seeded request p (reads_of g.R.Read.remaining g.R.Read.given g.R.Read.failures c.args.input.now c.run_seeded_to_end-ended.new.input)
+    served_seeded request p
+    (reads_of g.R.Read.remaining g.R.Read.given g.R.Read.failures c.args.input.now c.run_seeded_to_end-ended.new.input)
     (writes_of g.W.Write.contents g.W.Write.failures c.args.out.now c.run_seeded_to_end-ended.new.out)
     c.run_seeded_to_end-ended.result c.run_attempt-in-Seeded.result.served request.mode c.run_attempt-in-Seeded.ensures.status c.requires.memory seed c.in-Seeded.is
     (record { plays = run.plays (λ lines. seeded_answers seed p lines request.rules) (λ lines. run.laws.drawn seed p lines request.rules); reads = run.reads })
@@ -60,7 +64,8 @@ returns-in-Seeded g c =
 pub returns-in-All : goal.returns-in-All
 returns-in-All g c =
     let told =
-    served_all c.args.request.now c.args.program.now (reads_of g.R.Read.remaining g.R.Read.given g.R.Read.failures c.args.input.now c.list_runs.new.input)
+    served_all c.args.request.now c.args.program.now
+    (reads_of g.R.Read.remaining g.R.Read.given g.R.Read.failures c.args.input.now c.list_runs.new.input)
     (writes_of g.W.Write.contents g.W.Write.failures c.args.out.now c.list_runs.new.out)
     c.list_runs.result.served c.list_runs.result.mismatch c.args.request.now.mode _ _ _ _ c.in-All.is c.list_runs.ensures.serves c.list_runs.ensures.reads c.list_runs.ensures.failures c.list_runs.ensures.mismatch
     in
@@ -77,7 +82,8 @@ returns-in-All g c =
 pub returns-in-Shares : goal.returns-in-Shares
 returns-in-Shares g c =
     let told =
-    served_shares c.args.request.now c.args.program.now (reads_of g.R.Read.remaining g.R.Read.given g.R.Read.failures c.args.input.now c.list_shares-served.new.input)
+    served_shares c.args.request.now c.args.program.now
+    (reads_of g.R.Read.remaining g.R.Read.given g.R.Read.failures c.args.input.now c.list_shares-served.new.input)
     (writes_of g.W.Write.contents g.W.Write.failures c.args.out.now c.list_shares-served.new.out)
     c.list_shares-served.result c.args.request.now.mode _ _ c.in-Shares.is c.list_shares-served.ensures.serves c.list_shares-served.ensures.reads c.list_shares-served.ensures.failures c.list_shares-served.ensures.no_list
     in
@@ -87,7 +93,8 @@ returns-in-Shares g c =
 pub returns-in-Sample : goal.returns-in-Sample
 returns-in-Sample g c =
     let told =
-    served_sample c.args.request.now c.args.program.now (reads_of g.R.Read.remaining g.R.Read.given g.R.Read.failures c.args.input.now c.list_sample-served.new.input)
+    served_sample c.args.request.now c.args.program.now
+    (reads_of g.R.Read.remaining g.R.Read.given g.R.Read.failures c.args.input.now c.list_sample-served.new.input)
     (writes_of g.W.Write.contents g.W.Write.failures c.args.out.now c.list_sample-served.new.out)
     c.list_sample-served.result c.args.request.now.mode _ _ _ c.in-Sample.is c.list_sample-served.ensures.serves c.list_sample-served.ensures.reads c.list_sample-served.ensures.failures c.list_sample-served.ensures.no_list
     in
@@ -97,7 +104,8 @@ returns-in-Sample g c =
 pub returns-in-Err : goal.returns-in-Err
 returns-in-Err g c =
     let told =
-    text_broken c.args.request.now c.args.program.now c.args.input.now (g.R.Read.remaining c.args.input.now) (g.R.Read.failures c.args.input.now) (g.R.Read.given c.args.input.now)
+    text_broken c.args.request.now c.args.program.now c.args.input.now (g.R.Read.remaining c.args.input.now)
+    (g.R.Read.failures c.args.input.now) (g.R.Read.given c.args.input.now)
     (writes_of g.W.Write.contents g.W.Write.failures c.args.out.now c.list.new.writer) c.args.request.now.mode c.in-List.is c.requires.memory
     (Err c.from.result) c.from.ensures c.in-Err.ensures.fault c.in-Err.ensures.failed
     in
@@ -106,7 +114,8 @@ returns-in-Err g c =
 pub returns-in-Ok : goal.returns-in-Ok
 returns-in-Ok g c =
     let told =
-    served_text c.args.request.now c.args.program.now c.args.input.now (g.R.Read.remaining c.args.input.now) (g.R.Read.failures c.args.input.now) (g.R.Read.given c.args.input.now)
+    served_text c.args.request.now c.args.program.now c.args.input.now (g.R.Read.remaining c.args.input.now)
+    (g.R.Read.failures c.args.input.now) (g.R.Read.given c.args.input.now)
     (writes_of g.W.Write.contents g.W.Write.failures c.args.out.now c.list.new.writer) c.args.request.now.mode c.in-List.is c.requires.memory
     c.in-Ok.ensures.ok c.in-Ok.ensures.unfailed
     in
@@ -116,7 +125,8 @@ returns-in-Ok g c =
 pub returns-in-Chances : goal.returns-in-Chances
 returns-in-Chances g c =
     let told =
-    served_chances c.args.request.now c.args.program.now (reads_of g.R.Read.remaining g.R.Read.given g.R.Read.failures c.args.input.now c.list_table.new.input)
+    served_chances c.args.request.now c.args.program.now
+    (reads_of g.R.Read.remaining g.R.Read.given g.R.Read.failures c.args.input.now c.list_table.new.input)
     (writes_of g.W.Write.contents g.W.Write.failures c.args.out.now c.list_table.new.out)
     c.list_table.result c.args.request.now.mode c.in-Chances.is c.list_table.ensures.serves c.list_table.ensures.reads c.list_table.ensures.failures c.list_table.ensures.no_list
     in
@@ -126,7 +136,8 @@ returns-in-Chances g c =
 pub returns-in-Check : goal.returns-in-Check
 returns-in-Check g c =
     let told =
-    served_check c.args.request.now c.args.program.now c.args.input.now (g.R.Read.remaining c.args.input.now) (g.R.Read.failures c.args.input.now) (g.R.Read.given c.args.input.now)
+    served_check c.args.request.now c.args.program.now c.args.input.now (g.R.Read.remaining c.args.input.now)
+    (g.R.Read.failures c.args.input.now) (g.R.Read.given c.args.input.now)
     (writes_of g.W.Write.contents g.W.Write.failures c.args.out.now c.list_mistakes.new.out) c.args.request.now.mode c.list_mistakes.result c.in-Check.is
     (c.list_mistakes.ensures.serves c.args.request.now c.requires.memory (g.R.Read.remaining c.args.input.now)) c.list_mistakes.ensures.read c.list_mistakes.ensures.failures c.list_mistakes.ensures.no_list
     in
