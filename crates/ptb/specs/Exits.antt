@@ -9,7 +9,8 @@
 --     AnswersOptions .. terminals entries n     the request of the options is served, or they ask for none
 --     ExitsBy .. terminals words n    so it is with the options of these arguments, or clap finds a fault in them
 --     IsUnreadStatus kind input out n     the arguments can't be read
-use Rattle.std.specs.Prelude.{◌≡◌, ◌≤◌, ◌&&◌, ◌⊎◌, ℕ, Bool, true, false, not, List, [], Option, Some, None, IfSome, Result, codes, is_some}
+use Rattle.std.specs.Prelude.{◌≡◌, ◌≤◌, ◌&&◌, ◌⊎◌, ℕ, Bool, true, false, not, List, [], Option}
+use Rattle.std.specs.Prelude.{Some, None, IfSome, Result, codes, is_some}
 use Rattle.std.specs.declared.io.ErrorKind.{ErrorKind as ReadErrorKind}
 use Rattle.std.specs.declared.io.ErrorKind.TheVariants as reading
 use Rattle.clap.specs.declared.error.ErrorKind.{ErrorKind}
@@ -39,7 +40,8 @@ unread_status _ = 64
 -- at a terminal a run that is given neither answers nor a seed draws its seed
 abbrev pub wants_seed : Terminals → Options → Bool
 wants_seed terminals o =
-    terminals.input && terminals.output && not o.list && not o.check && not o.chances && not o.all && not (is_some o.answers) && not (is_some o.seed)
+    terminals.input && terminals.output && not o.list && not o.check && not o.chances && not o.all
+    && not (is_some o.answers) && not (is_some o.seed)
 
 abbrev pub is_answered : Mode → Bool
 is_answered (modes.Plain a) = true
@@ -105,8 +107,10 @@ module _ {P R : Type 0} (opens : Option (List ℕ) → Result P Note → Type 0)
     pub serves : ServesTask opens text (first_of (codes "program") entries) request input out n
 
   abbrev pub AnswersOptions : Terminals → List Row → ℕ → Type 0
-  AnswersOptions terminals entries n = AnswersRequest terminals entries n ⊎ IsUsageStatus input out (options_of entries) n
+  AnswersOptions terminals entries n =
+      AnswersRequest terminals entries n ⊎ IsUsageStatus input out (options_of entries) n
 
   -- the options of arguments without a fault are answered, and otherwise it is the status of their fault
   pub record ExitsBy (terminals : Terminals) (words : List Text) (n : ℕ) : Type 0 where
-    pub exits : ((fault_of tool words ≡ []) × AnswersOptions terminals (matches_of tool words) n) ⊎ IsFaultStatus input out (fault_of tool words) n
+    pub exits : ((fault_of tool words ≡ []) × AnswersOptions terminals (matches_of tool words) n) ⊎ IsFaultStatus input out
+        (fault_of tool words) n

@@ -6,7 +6,8 @@
 use Rattle.std.specs.Prelude.{List, ◌++◌, ℕ, ◌==◌, if◌then◌else◌, Option, None, Some, [], codes, decimal, option_map}
 use Rattle.std.specs.Fmt.{signed_decimal}
 use Rattle.ptb_explore.specs.declared.mismatch.Mismatch.{Mismatch}
-use Rattle.ptb_explore.specs.declared.mismatch.Mismatch.TheVariants.{Missing, NoQuestion, NotUnder, OtherBound, OutOfRange}
+use Rattle.ptb_explore.specs.declared.mismatch.Mismatch.TheVariants.{Missing, NoQuestion, NotUnder}
+use Rattle.ptb_explore.specs.declared.mismatch.Mismatch.TheVariants.{OtherBound, OutOfRange}
 use Rattle.ptb_serve.specs.declared.list_mismatch.ListMismatch.TheVariants as lists
 use Rattle.ptb.specs.declared.endings.Shortage.{Shortage}
 use Rattle.ptb.specs.declared.endings.Shortage.TheVariants as shortages
@@ -34,19 +35,28 @@ abbrev pub plural : ℕ → List ℕ
 plural n = if n == 1 then [] else codes "s"
 
 abbrev pub shortage_line : Shortage → List ℕ
-shortage_line (shortages.Commands line limit) = codes "ptb: stopped at line " ++ decimal line ++ codes " by the limit of " ++ decimal limit ++ codes " command" ++ plural limit ++ codes "; --steps N allows more"
+shortage_line (shortages.Commands line limit) =
+    codes "ptb: stopped at line " ++ decimal line ++ codes " by the limit of " ++ decimal limit ++ codes " command"
+    ++ plural limit ++ codes "; --steps N allows more"
 shortage_line shortages.Lines = codes "ptb: INPUT found no line left; give more lines, or use --choose N"
-shortage_line shortages.LinesBesideProgram = codes "ptb: INPUT found no line, since standard input was the program; name its file as PROGRAM"
-shortage_line shortages.Answers = codes "ptb: a random number was wanted and none is left; use --seed N, or give more --answers"
+shortage_line shortages.LinesBesideProgram =
+    codes "ptb: INPUT found no line, since standard input was the program; name its file as PROGRAM"
+shortage_line shortages.Answers =
+    codes "ptb: a random number was wanted and none is left; use --seed N, or give more --answers"
 shortage_line shortages.LargeAnswer = codes "ptb: one of the --answers is greater than its question allows; change it"
 
 -- ---- what was wrong
 
 abbrev pub mismatch_text : Mismatch → List ℕ
-mismatch_text (OutOfRange item answer bound) = codes "item " ++ decimal item ++ codes " is " ++ signed_decimal answer ++ codes ", but its question allows 1 to " ++ signed_decimal bound
-mismatch_text (OtherBound item stated bound) = codes "item " ++ decimal item ++ codes " states the bound " ++ signed_decimal stated ++ codes ", but its question has " ++ signed_decimal bound
+mismatch_text (OutOfRange item answer bound) =
+    codes "item " ++ decimal item ++ codes " is " ++ signed_decimal answer ++ codes ", but its question allows 1 to "
+    ++ signed_decimal bound
+mismatch_text (OtherBound item stated bound) =
+    codes "item " ++ decimal item ++ codes " states the bound " ++ signed_decimal stated
+    ++ codes ", but its question has " ++ signed_decimal bound
 mismatch_text (NoQuestion items) = codes "the run is over after " ++ decimal items ++ codes " item" ++ plural items
-mismatch_text (Missing item bound) = codes "item " ++ decimal item ++ codes " is missing; its question allows 1 to " ++ signed_decimal bound
+mismatch_text (Missing item bound) =
+    codes "item " ++ decimal item ++ codes " is missing; its question allows 1 to " ++ signed_decimal bound
 mismatch_text NotUnder = codes "the list does not begin with the items of --under"
 
 -- the option whose list it is comes first

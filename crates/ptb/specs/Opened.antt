@@ -34,7 +34,8 @@ pub record NotesUnopened {R : Type 0} (note : Note) (input : Reads R) (out : Wri
   pub noted : result ≡ Err note
   pub untouched : IsUntouched input out
 
-abbrev pub ServesOpened : {P R : Type 0} → (P → P → Reads P) → Request → Result P Note → Reads R → Writes → Result Outcome Note → Type 0
+abbrev pub ServesOpened : {P R : Type 0} → (P → P → Reads P) → Request → Result P Note → Reads R → Writes
+    → Result Outcome Note → Type 0
 ServesOpened text request (Ok program) input out result = KeepsPromises (text program) request input out result
 ServesOpened text request (Err note) input out result = NotesUnopened note input out result
 
@@ -48,9 +49,11 @@ abbrev pub no_lines : Reads NoLines
 no_lines = reads_of (λ _. Some []) (λ _. 0) (λ _. 0) (record {}) (record {})
 
 -- where standard input is the program, the request is served without lines, and no more is read of standard input
-abbrev pub ServesBeside : {P R : Type 0} → Option (List ℕ) → (P → P → Reads P) → Request → Result P Note → Reads R → Writes → Result Outcome Note → Type 0
+abbrev pub ServesBeside : {P R : Type 0} → Option (List ℕ) → (P → P → Reads P) → Request → Result P Note → Reads R
+    → Writes → Result Outcome Note → Type 0
 ServesBeside (Some path) text request opened input out result = ServesOpened text request opened input out result
-ServesBeside None text request opened input out result = ServesOpened text request opened no_lines out result × (input.new ≡ input.old)
+ServesBeside None text request opened input out result =
+    ServesOpened text request opened no_lines out result × (input.new ≡ input.old)
 
 -- what is opened at the path is served, and the program exits with the status of that
 pub record ServesTask {P R : Type 0} (opens : Option (List ℕ) → Result P Note → Type 0) (text : P → P → Reads P) (path : Option (List ℕ)) (request : Request) (input : Reads R) (out : Writes) (n : ℕ) : Type 0 where
