@@ -105,27 +105,11 @@ const LETTERS: &[(&str, Option<u8>, usize)] = &[
     ("", None, 0),
 ];
 
-// The same of letters with which no word begins.
-const LONE_LETTERS: &[(&str, Option<u8>, usize)] = &[
-    ("A*3", Some(b'A'), 1),
-    (" Z  (", Some(b'Z'), 4),
-    ("S", Some(b'S'), 1),
-    ("A.(1)", None, 0),
-    ("ABS(1)", None, 0),
-    ("1", None, 0),
-];
-
 #[test]
 fn finds_letters(rt: HostRuntime) {
     for &(text, letter, after) in LETTERS {
         let mut cursor = cursor_in_front(&rt, text.as_bytes());
         let found = cursor.letter();
-        let letter = letter.and_then(Letter::new);
-        expect_same(&rt, text, (found, cursor.place()), (letter, after));
-    }
-    for &(text, letter, after) in LONE_LETTERS {
-        let mut cursor = cursor_in_front(&rt, text.as_bytes());
-        let found = cursor.lone_letter();
         let letter = letter.and_then(Letter::new);
         expect_same(&rt, text, (found, cursor.place()), (letter, after));
     }

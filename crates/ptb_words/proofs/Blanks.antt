@@ -1,6 +1,7 @@
 -- This file proves how blanks are passed.
 -- Main lemma: `past_blanks_twice`.
-use Rattle.std.proofs.Common.{◌≡◌, ℕ, ◌+◌, ◌<◌, ◌≤◌, List, length, drop, get_or, arith, length-drop, get_or-drop, inl, inr}
+use Rattle.std.proofs.Common.{◌≡◌, ℕ, ◌+◌, ◌<◌, ◌≤◌, List, length, drop, get_or, arith, length-drop}
+use Rattle.std.proofs.Common.{get_or-drop, inl, inr}
 use Rattle.std.specs.List.{prefix_len}
 use Rattle.std.proofs.lemmas.Bool.{cases_lt, eqb-false, eq-eqb, ne_eqb}
 use Rattle.std.proofs.lemmas.List.{at_drop_all}

@@ -3,6 +3,5 @@ pub mod Blanks
 pub mod Pairs
 pub mod Digits
 pub mod Words
-pub mod Lone
 pub mod Finding
 pub mod Taking

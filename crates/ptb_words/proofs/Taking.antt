@@ -1,21 +1,26 @@
 -- This file proves what a cursor takes: its text is x, and n is the next place without a blank.
 -- Main lemmas: `letter_taken`, `number_value` and `word_taken`.
-use Rattle.std.proofs.Common.{◌≡◌, ℕ, ◌+◌, ◌-◌, ◌<◌, ◌≤◌, ◌∙◌, true, false, cond, List, length, take, drop, get_or, min, Some, None, refl, sym, ap, arith, ℤ, pos, length-take-le, length-drop, to_z, of_z, w16, w64, Fits, SFits, inl, inr}
-use Rattle.std.specs.Prelude.{◌==◌, position, slice_get}
+use Rattle.std.proofs.Common.{◌≡◌, ℕ, ◌+◌, ◌-◌, ◌<◌, ◌≤◌, ◌∙◌, true, cond, List, length}
+use Rattle.std.proofs.Common.{take, drop, min, Some, None, refl, sym, ap, arith, ℤ, pos}
+use Rattle.std.proofs.Common.{length-take-le, length-drop, to_z, of_z, w16, w64, Fits, SFits, inl}
+use Rattle.std.proofs.Common.{inr}
+use Rattle.std.specs.Prelude.{◌==◌, position}
 use Rattle.std.specs.List.{prefix_len, slice_range}
 use Rattle.std.proofs.lemmas.Bool.{ne_eqb, le-leb, lt-leb, cases_lt}
 use Rattle.std.proofs.lemmas.Int.{ints, to_z-of_z}
 use Rattle.std.proofs.lemmas.List.{take_rest}
 use Rattle.std.proofs.lemmas.List.Sums.{prefix_len-le-length}
-use Rattle.std.proofs.lemmas.Option.{cond_some, slice_get_read}
+use Rattle.std.proofs.lemmas.Option.{cond_some}
 use Rattle.ptb_words.specs.declared.cursor.TheConstants.{TOO_BIG}
 use Rattle.ptb_words.specs.declared.word.Table.{Table}
 use Rattle.ptb_words.specs.declared.word.Word.{Word}
 use Rattle.ptb_words.specs.declared.word.Number.TheVariants.{Absent, Value, TooBig}
 use Rattle.ptb_words.specs.CursorState.{CursorState, bytes_left}
 use Rattle.ptb_words.specs.Digits.{is_digit, digits_value}
-use Rattle.ptb_words.specs.Words.{past_blanks, next_byte_at, words, first_word, word_at, is_letter, letter_there, letter_at, small_number, number_at, is_quote, quotation_at, QuotedText, OpenQuote}
-use Rattle.ptb_words.specs.Finding.{LiesAhead, is_next, past_byte, continues_word, lone_letter_at}
+use Rattle.ptb_words.specs.Words.{past_blanks, next_byte_at, words, first_word, word_at, is_letter}
+use Rattle.ptb_words.specs.Words.{letter_there, letter_at, small_number, number_at, is_quote}
+use Rattle.ptb_words.specs.Words.{quotation_at, QuotedText, OpenQuote}
+use Rattle.ptb_words.specs.Finding.{LiesAhead, past_byte}
 
 -- what stands from a place on, as the code cuts it
 abbrev pub behind : List ℕ → ℕ → List ℕ
@@ -35,19 +40,23 @@ ahead_left a b e h = omega (arith, ap length e, h.after, h.within)
 
 -- ---- a quotation
 
-pub quotation_closed : (t x : List ℕ) (i n m q k p : ℕ) → x ≡ t → n ≡ past_blanks t i → m ≡ past_blanks t i → next_byte_at t i ≡ Some q → is_quote q ≡ true → position (λ b. b == q) (behind x (n + 1)) ≡ Some k → p ≡ past_blanks t (m + 1 + k + 1) → quotation_at t i ≡ QuotedText (take k (behind x (n + 1))) p
+pub quotation_closed : (t x : List ℕ) (i n m q k p : ℕ) → x ≡ t → n ≡ past_blanks t i → m ≡ past_blanks t i
+    → next_byte_at t i ≡ Some q → is_quote q ≡ true → position (λ b. b == q) (behind x (n + 1)) ≡ Some k
+    → p ≡ past_blanks t (m + 1 + k + 1) → quotation_at t i ≡ QuotedText (take k (behind x (n + 1))) p
 unfolding quotation_at
 quotation_closed t x i n m q k p same at goes byte quote found place =
     let there = rw (take_rest x (n + 1), same, at) at found in
     rw (place, take_rest x (n + 1), same, at, goes, byte, quote, there) refl
 
-pub quotation_open : (t x : List ℕ) (i n q : ℕ) → x ≡ t → n ≡ past_blanks t i → next_byte_at t i ≡ Some q → is_quote q ≡ true → position (λ b. b == q) (behind x (n + 1)) ≡ None → quotation_at t i ≡ OpenQuote
+pub quotation_open : (t x : List ℕ) (i n q : ℕ) → x ≡ t → n ≡ past_blanks t i → next_byte_at t i ≡ Some q
+    → is_quote q ≡ true → position (λ b. b == q) (behind x (n + 1)) ≡ None → quotation_at t i ≡ OpenQuote
 unfolding quotation_at
 quotation_open t x i n q same at byte quote found =
     let there = rw (take_rest x (n + 1), same, at) at found in
     rw (byte, quote, there) refl
 
-pub quoted_piece : (t x : List ℕ) (i n k : ℕ) → x ≡ t → n ≡ past_blanks t i → k < length (behind x (n + 1)) → take k (behind x (n + 1)) ≡ slice_range t (past_blanks t i + 1) (past_blanks t i + 1 + length (take k (behind x (n + 1))))
+pub quoted_piece : (t x : List ℕ) (i n k : ℕ) → x ≡ t → n ≡ past_blanks t i → k < length (behind x (n + 1))
+    → take k (behind x (n + 1)) ≡ slice_range t (past_blanks t i + 1) (past_blanks t i + 1 + length (take k (behind x (n + 1))))
 quoted_piece t x i n k same at h =
     let size : length (take k (behind x (n + 1))) ≡ k = length-take-le k (behind x (n + 1)) (omega arith) in
     let part : past_blanks t i + 1 + k - (past_blanks t i + 1) ≡ k = omega arith in
@@ -55,7 +64,8 @@ quoted_piece t x i n k same at h =
 
 -- ---- a number
 
-pub digits_within : (t x : List ℕ) (i n k : ℕ) → x ≡ t → n ≡ past_blanks t i → n ≤ length x → k ≡ prefix_len is_digit (behind x n) → past_blanks t i + k ≤ length t
+pub digits_within : (t x : List ℕ) (i n k : ℕ) → x ≡ t → n ≡ past_blanks t i → n ≤ length x
+    → k ≡ prefix_len is_digit (behind x n) → past_blanks t i + k ≤ length t
 digits_within t x i n k same at h count =
     let most = rw (take_rest x n) at (prefix_len-le-length is_digit (behind x n)) in
     let there = rw (take_rest x n) at count in
@@ -64,60 +74,60 @@ digits_within t x i n k same at h count =
 pub fits_within : (a b : ℕ) → a ≤ b → b < 18446744073709551616 → Fits w64 a
 fits_within a b h k = omega arith
 
-pub number_absent : (t x : List ℕ) (i n k : ℕ) → x ≡ t → n ≡ past_blanks t i → k ≡ prefix_len is_digit (behind x n) → k ≡ 0 → number_at t i ≡ (Absent, i)
+pub number_absent : (t x : List ℕ) (i n k : ℕ) → x ≡ t → n ≡ past_blanks t i → k ≡ prefix_len is_digit (behind x n)
+    → k ≡ 0 → number_at t i ≡ (Absent, i)
 unfolding number_at
 number_absent t x i n k same at count none =
     let there = rw (take_rest x n, same, at, none) at count in
     rw (sym there) refl
 
 -- a number that is there, whichever it is
-number_there : (t x : List ℕ) (i n m k : ℕ) → x ≡ t → n ≡ past_blanks t i → m ≡ past_blanks t i → k ≡ prefix_len is_digit (behind x n) → (k ≡ 0 → ⊥) → number_at t i ≡ (small_number (digits_value (take k (behind x n))), past_blanks t (m + k))
+number_there : (t x : List ℕ) (i n m k : ℕ) → x ≡ t → n ≡ past_blanks t i → m ≡ past_blanks t i
+    → k ≡ prefix_len is_digit (behind x n) → (k ≡ 0 → ⊥)
+    → number_at t i ≡ (small_number (digits_value (take k (behind x n))), past_blanks t (m + k))
 unfolding number_at
 number_there t x i n m k same at goes count some =
     let there = rw (take_rest x n, same, at) at count in
     rw (take_rest x n, same, at, goes, sym there, ne_eqb k 0 some) refl
 
-pub number_value : (t x : List ℕ) (i n m k v p : ℕ) (z : ℤ) → x ≡ t → n ≡ past_blanks t i → m ≡ past_blanks t i → k ≡ prefix_len is_digit (behind x n) → (k ≡ 0 → ⊥) → v ≡ min (digits_value (take k (behind x n))) TOO_BIG → SFits w16 (pos v) × (z ≡ pos v) → p ≡ past_blanks t (m + k) → number_at t i ≡ (Value (to_z w16 (of_z w16 z)), p)
+pub number_value : (t x : List ℕ) (i n m k v p : ℕ) (z : ℤ) → x ≡ t → n ≡ past_blanks t i → m ≡ past_blanks t i
+    → k ≡ prefix_len is_digit (behind x n) → (k ≡ 0 → ⊥) → v ≡ min (digits_value (take k (behind x n))) TOO_BIG
+    → SFits w16 (pos v) × (z ≡ pos v) → p ≡ past_blanks t (m + k) → number_at t i ≡ (Value (to_z w16 (of_z w16 z)), p)
 number_value t x i n m k v p z same at goes count some value fits place =
     let low : v ≤ 32767 = omega (arith, ints, fits.0) in
     let all : digits_value (take k (behind x n)) ≡ v = omega (arith, value, low) in
     let kept : to_z w16 (of_z w16 z) ≡ pos v = rw fits.1 (to_z-of_z w16 (pos v) fits.0) in
     number_there t x i n m k same at goes count some ∙ rw (place, kept, all, le-leb v 32767 low) refl
 
-pub number_too_big : (t x : List ℕ) (i n m k v p : ℕ) → x ≡ t → n ≡ past_blanks t i → m ≡ past_blanks t i → k ≡ prefix_len is_digit (behind x n) → (k ≡ 0 → ⊥) → v ≡ min (digits_value (take k (behind x n))) TOO_BIG → (SFits w16 (pos v) → ⊥) → p ≡ past_blanks t (m + k) → number_at t i ≡ (TooBig, p)
+pub number_too_big : (t x : List ℕ) (i n m k v p : ℕ) → x ≡ t → n ≡ past_blanks t i → m ≡ past_blanks t i
+    → k ≡ prefix_len is_digit (behind x n) → (k ≡ 0 → ⊥) → v ≡ min (digits_value (take k (behind x n))) TOO_BIG
+    → (SFits w16 (pos v) → ⊥) → p ≡ past_blanks t (m + k) → number_at t i ≡ (TooBig, p)
 number_too_big t x i n m k v p same at goes count some value big place =
     let high : 32767 < v = elim (cases_lt 32767 v) [
       | inl h ↦ h
       | inr h ↦ let fits : SFits w16 (pos v) = omega (arith, ints) in absurd (big fits)
     ] in
     let all : 32767 < digits_value (take k (behind x n)) = omega (arith, value, high) in
-    number_there t x i n m k same at goes count some ∙ rw (place, lt-leb (digits_value (take k (behind x n))) 32767 all) refl
+    number_there t x i n m k same at goes count some
+    ∙ rw (place, lt-leb (digits_value (take k (behind x n))) 32767 all) refl
 
 -- ---- a letter
 
-pub letter_taken : (t : List ℕ) (i b l p : ℕ) → letter_at t i ≡ letter_there t (past_blanks t i) (Some b) → Some l ≡ cond (is_letter b) (Some b) None → p ≡ past_byte t i → letter_at t i ≡ Some (l, p)
+pub letter_taken : (t : List ℕ) (i b l p : ℕ) → letter_at t i ≡ letter_there t (past_blanks t i) (Some b)
+    → Some l ≡ cond (is_letter b) (Some b) None → p ≡ past_byte t i → letter_at t i ≡ Some (l, p)
 letter_taken t i b l p e found place =
     let h = cond_some (is_letter b) b l (sym found) in
     e ∙ rw (h.0, place, h.1) refl
 
--- ---- a letter that stands alone
-
-pub lone_none : (t x : List ℕ) (i n b : ℕ) → x ≡ t → n ≡ past_blanks t i → n + 1 < length x → b ≡ get_or x (n + 1) b → continues_word b ≡ true → lone_letter_at t i ≡ None
-lone_none t x i n b same at h e goes =
-    let there = rw (same, at) at (slice_get_read x (length x) (n + 1) b refl h e) in
-    rw (there, goes) refl
-
-pub lone_some : (t x : List ℕ) (i n : ℕ) → x ≡ t → n ≡ past_blanks t i → is_next continues_word (slice_get x (n + 1)) ≡ false → lone_letter_at t i ≡ letter_at t i
-lone_some t x i n same at ends =
-    let there = rw (same, at) at ends in
-    rw there refl
-
 -- ---- a word
 
-pub word_none : (table : Table) (t x : List ℕ) (i n : ℕ) → x ≡ t → n ≡ past_blanks t i → first_word (words table) x n ≡ None → word_at table t i ≡ None
+pub word_none : (table : Table) (t x : List ℕ) (i n : ℕ) → x ≡ t → n ≡ past_blanks t i
+    → first_word (words table) x n ≡ None → word_at table t i ≡ None
 unfolding word_at
 word_none table t x i n same at found = rw (same, at) at found
 
-pub word_taken : (table : Table) (t x : List ℕ) (i n : ℕ) (w : Word) (end p : ℕ) → x ≡ t → n ≡ past_blanks t i → first_word (words table) x n ≡ Some (w, past_blanks x end) → p ≡ past_blanks t end → word_at table t i ≡ Some (w, p)
+pub word_taken : (table : Table) (t x : List ℕ) (i n : ℕ) (w : Word) (end p : ℕ) → x ≡ t → n ≡ past_blanks t i
+    → first_word (words table) x n ≡ Some (w, past_blanks x end) → p ≡ past_blanks t end
+    → word_at table t i ≡ Some (w, p)
 unfolding word_at
 word_taken table t x i n w end p same at found place = rw place (rw (same, at) at found)

@@ -1,16 +1,20 @@
 -- This file proves how the words of a table are found.
 -- Main lemmas: `spelt_word` and `finds_begins`.
-use Rattle.std.proofs.Common.{◌≡◌, ℕ, ◌+◌, ◌<◌, ◌≤◌, ◌∙◌, ap, sym, subst, Bool, true, false, cond, List, [], ◌∷◌, map, length, drop, get_or, eqb, arith, refl, Option, Some, None, inl, inr}
+use Rattle.std.proofs.Common.{◌≡◌, ℕ, ◌+◌, ◌<◌, ◌≤◌, ◌∙◌, ap, sym, subst, Bool, true, false, cond}
+use Rattle.std.proofs.Common.{List, [], ◌∷◌, map, length, drop, get_or, eqb, arith, refl, Option}
+use Rattle.std.proofs.Common.{Some, None, inl, inr}
 use Rattle.std.specs.Prelude.{◌&&◌, ◌==◌, not, nat_eq, nat_lt, find, filter, option_map, IfSome}
 use Rattle.std.specs.Option.{option_or}
 use Rattle.std.specs.List.{starts_with, list_any, list_all}
-use Rattle.std.proofs.lemmas.Bool.{or_parts, and_parts, cases_eq, eq-eqb, ne_eqb, eqb-false, not-true, false≢true, lt-ltb}
+use Rattle.std.proofs.lemmas.Bool.{or_parts, and_parts, cases_eq, eq-eqb, ne_eqb, eqb-false}
+use Rattle.std.proofs.lemmas.Bool.{not-true, false≢true, lt-ltb}
 use Rattle.std.proofs.lemmas.List.{drop_more, drop_all}
 use Rattle.ptb_words.specs.declared.word.Table.{Table}
 use Rattle.ptb_words.specs.declared.word.Table.TheVariants.{Commands, Functions, To, Step}
 use Rattle.ptb_words.specs.declared.word.Word.{Word}
 use Rattle.ptb_words.specs.WordSearch.{FindsWord}
-use Rattle.ptb_words.specs.Words.{past_blanks, Entry, words, abbreviations, spellings, spelling_in_front, first_word, word_at, begins_word}
+use Rattle.ptb_words.specs.Words.{past_blanks, Entry, words, abbreviations, spellings}
+use Rattle.ptb_words.specs.Words.{spelling_in_front, first_word, word_at, begins_word}
 
 -- ---- spellings, one letter after the other
 
@@ -28,15 +32,21 @@ abbrev in_front : List ℕ → List (List ℕ) → Option (List ℕ)
 in_front rest ss = find (λ s. starts_with nat_eq rest s) ss
 
 -- the others and this one, all behind one more byte
-one_more : (same here : Bool) (c : ℕ) (s : List ℕ) (others behind : Option (List ℕ)) → behind ≡ cond same (option_map (λ s. c ∷ s) others) None → cond (same && here) (Some (c ∷ s)) behind ≡ cond same (option_map (λ s. c ∷ s) (cond here (Some s) others)) None
+one_more : (same here : Bool) (c : ℕ) (s : List ℕ) (others behind : Option (List ℕ))
+    → behind ≡ cond same (option_map (λ s. c ∷ s) others) None
+    → cond (same && here) (Some (c ∷ s)) behind ≡ cond same (option_map (λ s. c ∷ s) (cond here (Some s) others)) None
 one_more true true c s others behind e = refl
 one_more true false c s others behind e = e
 one_more false here c s others behind e = e
 
 -- pieces with one byte in front stand there if that byte does, and they stand behind it
-in_front-map : (c b : ℕ) (rest : List ℕ) (ss : List (List ℕ)) → in_front (b ∷ rest) (map (λ s. c ∷ s) ss) ≡ cond (eqb c b) (option_map (λ s. c ∷ s) (in_front rest ss)) None
-in_front-map c b rest [] = elim (eqb c b) as (λ v. ◌≡◌ {A = Option (List ℕ)} None (cond v None None)) [ true ↦ refl | false ↦ refl ]
-in_front-map c b rest (s ∷ ss) = one_more (eqb c b) (starts_with nat_eq rest s) c s (in_front rest ss) (in_front (b ∷ rest) (map (λ s. c ∷ s) ss)) (in_front-map c b rest ss)
+in_front-map : (c b : ℕ) (rest : List ℕ) (ss : List (List ℕ))
+    → in_front (b ∷ rest) (map (λ s. c ∷ s) ss) ≡ cond (eqb c b) (option_map (λ s. c ∷ s) (in_front rest ss)) None
+in_front-map c b rest [] =
+    elim (eqb c b) as (λ v. ◌≡◌ {A = Option (List ℕ)} None (cond v None None)) [ true ↦ refl | false ↦ refl ]
+in_front-map c b rest (s ∷ ss) =
+    one_more (eqb c b) (starts_with nat_eq rest s) c s (in_front rest ss) (in_front (b ∷ rest) (map (λ s. c ∷ s) ss))
+    (in_front-map c b rest ss)
 
 in_front-map_end : (c : ℕ) (ss : List (List ℕ)) → in_front [] (map (λ s. c ∷ s) ss) ≡ None
 in_front-map_end c [] = refl
@@ -44,11 +54,13 @@ in_front-map_end c (s ∷ ss) = in_front-map_end c ss
 
 -- ---- the loop over a word's letters
 
--- the place after the letters that are left of a word, at place p: all of them, or, once a letter stood, fewer and a period
+-- the place after the letters that are left of a word, at place p: all of them, or, once a letter stood, fewer and a
+-- period
 pub spelt : Bool → List ℕ → ℕ → List ℕ → Option ℕ
 spelt started [] p s = cond started (Some p) None
 spelt started (c ∷ w) p [] = None
-spelt started (c ∷ w) p (b ∷ s) = cond (eqb b c) (spelt true w (p + 1) s) (cond (started && eqb b 46) (Some (p + 1)) None)
+spelt started (c ∷ w) p (b ∷ s) =
+    cond (eqb b c) (spelt true w (p + 1) s) (cond (started && eqb b 46) (Some (p + 1)) None)
 
 -- no letter is a period
 abbrev pub has_no_period : List ℕ → Bool
@@ -58,26 +70,37 @@ has_no_period letters = list_all (λ c. not (c == 46)) letters
 abbreviations_end : (d : ℕ) (ds : List ℕ) → in_front [] (abbreviations (d ∷ ds)) ≡ None
 abbreviations_end d ds = ap (λ ss. in_front [] ss) (spellings_are d ds) ∙ in_front-map_end d (endings ds)
 
-spellings_there : (d b : ℕ) (ds s : List ℕ) → in_front (b ∷ s) (spellings (d ∷ ds)) ≡ cond (eqb d b) (option_map (λ w. d ∷ w) (in_front s (endings ds))) None
+spellings_there : (d b : ℕ) (ds s : List ℕ)
+    → in_front (b ∷ s) (spellings (d ∷ ds)) ≡ cond (eqb d b) (option_map (λ w. d ∷ w) (in_front s (endings ds))) None
 spellings_there d b ds s = ap (λ ss. in_front (b ∷ s) ss) (spellings_are d ds) ∙ in_front-map d b s (endings ds)
 
-spellings_same : (d b : ℕ) (ds s : List ℕ) → b ≡ d → in_front (b ∷ s) (spellings (d ∷ ds)) ≡ option_map (λ w. d ∷ w) (in_front s (endings ds))
-spellings_same d b ds s e = spellings_there d b ds s ∙ ap (λ v. cond v (option_map (λ w. d ∷ w) (in_front s (endings ds))) None) (eq-eqb d b (sym e))
+spellings_same : (d b : ℕ) (ds s : List ℕ) → b ≡ d
+    → in_front (b ∷ s) (spellings (d ∷ ds)) ≡ option_map (λ w. d ∷ w) (in_front s (endings ds))
+spellings_same d b ds s e =
+    spellings_there d b ds s
+    ∙ ap (λ v. cond v (option_map (λ w. d ∷ w) (in_front s (endings ds))) None) (eq-eqb d b (sym e))
 
 spellings_other : (d b : ℕ) (ds s : List ℕ) → (b ≡ d → ⊥) → in_front (b ∷ s) (spellings (d ∷ ds)) ≡ None
-spellings_other d b ds s n = spellings_there d b ds s ∙ ap (λ v. cond v (option_map (λ w. d ∷ w) (in_front s (endings ds))) None) (ne_eqb d b (λ q. n (sym q)))
+spellings_other d b ds s n =
+    spellings_there d b ds s
+    ∙ ap (λ v. cond v (option_map (λ w. d ∷ w) (in_front s (endings ds))) None) (ne_eqb d b (λ q. n (sym q)))
 
-one_longer : (p d : ℕ) (o : Option (List ℕ)) → option_map (λ w. p + 1 + length w) o ≡ option_map (λ w. p + length w) (option_map (λ w. d ∷ w) o)
+one_longer : (p d : ℕ) (o : Option (List ℕ))
+    → option_map (λ w. p + 1 + length w) o ≡ option_map (λ w. p + length w) (option_map (λ w. d ∷ w) o)
 one_longer p d None = refl
 one_longer p d (Some w) = let e : p + 1 + length w ≡ p + length (d ∷ w) = omega arith in ap Some e
 
-spelt_on : (d : ℕ) (ds : List ℕ) (b : ℕ) (s : List ℕ) (p : ℕ) → b ≡ d → (b ≡ 46 → ⊥) → spelt true ds (p + 1) s ≡ option_map (λ w. p + 1 + length w) (in_front s (endings ds)) → spelt true (d ∷ ds) p (b ∷ s) ≡ option_map (λ w. p + length w) (in_front (b ∷ s) (endings (d ∷ ds)))
+spelt_on : (d : ℕ) (ds : List ℕ) (b : ℕ) (s : List ℕ) (p : ℕ) → b ≡ d → (b ≡ 46 → ⊥)
+    → spelt true ds (p + 1) s ≡ option_map (λ w. p + 1 + length w) (in_front s (endings ds))
+    → spelt true (d ∷ ds) p (b ∷ s) ≡ option_map (λ w. p + length w) (in_front (b ∷ s) (endings (d ∷ ds)))
 unfolding spelt
 spelt_on d ds b s p e n others =
     let there = rw (eq-eqb d b (sym e)) at (spellings_there d b ds s) in
-    rw (eq-eqb b d e, eq-eqb d b (sym e), ne_eqb 46 b (λ q. n (sym q))) (others ∙ one_longer p d (in_front s (endings ds)) ∙ ap (λ o. option_map (λ w. p + length w) o) (sym there))
+    rw (eq-eqb b d e, eq-eqb d b (sym e), ne_eqb 46 b (λ q. n (sym q)))
+    (others ∙ one_longer p d (in_front s (endings ds)) ∙ ap (λ o. option_map (λ w. p + length w) o) (sym there))
 
-spelt_off : (d : ℕ) (ds : List ℕ) (b : ℕ) (s : List ℕ) (p : ℕ) → (b ≡ d → ⊥) → spelt true (d ∷ ds) p (b ∷ s) ≡ option_map (λ w. p + length w) (in_front (b ∷ s) (endings (d ∷ ds)))
+spelt_off : (d : ℕ) (ds : List ℕ) (b : ℕ) (s : List ℕ) (p : ℕ) → (b ≡ d → ⊥)
+    → spelt true (d ∷ ds) p (b ∷ s) ≡ option_map (λ w. p + length w) (in_front (b ∷ s) (endings (d ∷ ds)))
 unfolding spelt
 spelt_off d ds b s p n =
     let there = rw (ne_eqb d b (λ q. n (sym q))) at (spellings_there d b ds s) in
@@ -86,19 +109,23 @@ spelt_off d ds b s p n =
       | inr m ↦ rw (ne_eqb b 46 m, ne_eqb 46 b (λ q. m (sym q))) refl
     ])
 
-spelt_endings : (cs s : List ℕ) (p : ℕ) → has_no_period cs ≡ true → spelt true cs p s ≡ option_map (λ w. p + length w) (in_front s (endings cs))
+spelt_endings : (cs s : List ℕ) (p : ℕ) → has_no_period cs ≡ true
+    → spelt true cs p s ≡ option_map (λ w. p + length w) (in_front s (endings cs))
 unfolding spelt
 spelt_endings [] s p h = let e : p ≡ p + 0 = omega arith in ap Some e
 spelt_endings (d ∷ ds) [] p h = rw (abbreviations_end d ds) refl
 spelt_endings (d ∷ ds) (b ∷ s) p h =
     let letters = and_parts (not (d == 46)) (has_no_period ds) h in
     elim (cases_eq b d) [
-      | inl e ↦ spelt_on d ds b s p e (λ q. eqb-false d 46 (not-true (d == 46) letters.0) (sym e ∙ q)) (spelt_endings ds s (p + 1) letters.1)
+      | inl e ↦
+          spelt_on d ds b s p e (λ q. eqb-false d 46 (not-true (d == 46) letters.0) (sym e ∙ q))
+          (spelt_endings ds s (p + 1) letters.1)
       | inr n ↦ spelt_off d ds b s p n
     ]
 
 -- the loop gives what the definition gives
-pub spelt_word : (letters : List ℕ) (p : ℕ) (s : List ℕ) → 0 < length letters → has_no_period letters ≡ true → spelt false letters p s ≡ option_map (λ w. p + length w) (spelling_in_front letters s)
+pub spelt_word : (letters : List ℕ) (p : ℕ) (s : List ℕ) → 0 < length letters → has_no_period letters ≡ true
+    → spelt false letters p s ≡ option_map (λ w. p + length w) (spelling_in_front letters s)
 unfolding spelt spelling_in_front
 spelt_word [] p s some h = absurd (omega arith)
 spelt_word (c ∷ cs) p [] some h = rw (abbreviations_end c cs) refl
@@ -111,21 +138,27 @@ spelt_word (c ∷ cs) p (b ∷ s) some h =
 
 -- ---- a turn of the loop, and its end
 
-pub spelt_more : (w : List ℕ) (k p : ℕ) (t : List ℕ) (i : ℕ) → k < length w → i < length t → get_or t i 0 ≡ get_or w k 0 → spelt (nat_lt 0 (k + 1)) (drop (k + 1) w) (p + 1) (drop (i + 1) t) ≡ spelt (nat_lt 0 k) (drop k w) p (drop i t)
+pub spelt_more : (w : List ℕ) (k p : ℕ) (t : List ℕ) (i : ℕ) → k < length w → i < length t → get_or t i 0 ≡ get_or w k 0
+    → spelt (nat_lt 0 (k + 1)) (drop (k + 1) w) (p + 1) (drop (i + 1) t) ≡ spelt (nat_lt 0 k) (drop k w) p (drop i t)
 unfolding spelt
 spelt_more w k p t i h g e =
     let started : nat_lt 0 (k + 1) ≡ true = lt-ltb 0 (k + 1) (omega arith) in
     rw (started, drop_more w k 0 h, drop_more t i 0 g, eq-eqb (get_or t i 0) (get_or w k 0) e) refl
 
-pub spelt_stop : (started : Bool) (w : List ℕ) (k p : ℕ) (t : List ℕ) (i : ℕ) → k < length w → i < length t → (get_or t i 0 ≡ get_or w k 0 → ⊥) → spelt started (drop k w) p (drop i t) ≡ cond (started && eqb (get_or t i 0) 46) (Some (p + 1)) None
+pub spelt_stop : (started : Bool) (w : List ℕ) (k p : ℕ) (t : List ℕ) (i : ℕ) → k < length w → i < length t
+    → (get_or t i 0 ≡ get_or w k 0 → ⊥)
+    → spelt started (drop k w) p (drop i t) ≡ cond (started && eqb (get_or t i 0) 46) (Some (p + 1)) None
 unfolding spelt
-spelt_stop started w k p t i h g n = rw (drop_more w k 0 h, drop_more t i 0 g, ne_eqb (get_or t i 0) (get_or w k 0) n) refl
+spelt_stop started w k p t i h g n =
+    rw (drop_more w k 0 h, drop_more t i 0 g, ne_eqb (get_or t i 0) (get_or w k 0) n) refl
 
-pub spelt_cut : (started : Bool) (w : List ℕ) (k p : ℕ) (t : List ℕ) (i : ℕ) → k < length w → length t ≤ i → spelt started (drop k w) p (drop i t) ≡ None
+pub spelt_cut : (started : Bool) (w : List ℕ) (k p : ℕ) (t : List ℕ) (i : ℕ) → k < length w → length t ≤ i
+    → spelt started (drop k w) p (drop i t) ≡ None
 unfolding spelt
 spelt_cut started w k p t i h g = rw (drop_more w k 0 h, drop_all i t g) refl
 
-pub spelt_end : (started : Bool) (w : List ℕ) (k p : ℕ) (s : List ℕ) → length w ≤ k → spelt started (drop k w) p s ≡ cond started (Some p) None
+pub spelt_end : (started : Bool) (w : List ℕ) (k p : ℕ) (s : List ℕ) → length w ≤ k
+    → spelt started (drop k w) p s ≡ cond started (Some p) None
 unfolding spelt
 spelt_end started w k p s h = rw (drop_all k w h) refl
 
@@ -147,7 +180,8 @@ unfolding spelling_in_front
 spelling_end c cs = abbreviations_end c cs
 
 -- only the words that begin with the byte that stands there are to be tried
-pub first_word_begins : (ws : List Entry) (t : List ℕ) (i b : ℕ) (s : List ℕ) → list_all has_letter ws ≡ true → drop i t ≡ b ∷ s → first_word ws t i ≡ first_word (filter (begins b) ws) t i
+pub first_word_begins : (ws : List Entry) (t : List ℕ) (i b : ℕ) (s : List ℕ) → list_all has_letter ws ≡ true
+    → drop i t ≡ b ∷ s → first_word ws t i ≡ first_word (filter (begins b) ws) t i
 first_word_begins [] t i b s h e = refl
 first_word_begins ((k, []) ∷ ws) t i b s h e = absurd (false≢true h)
 first_word_begins ((k, c ∷ cs) ∷ ws) t i b s h e =
@@ -159,7 +193,8 @@ first_word_begins ((k, c ∷ cs) ∷ ws) t i b s h e =
     ]
 
 -- at the end there is no word
-pub first_word_end : (ws : List Entry) (t : List ℕ) (i : ℕ) → list_all has_letter ws ≡ true → drop i t ≡ [] → first_word ws t i ≡ None
+pub first_word_end : (ws : List Entry) (t : List ℕ) (i : ℕ) → list_all has_letter ws ≡ true → drop i t ≡ []
+    → first_word ws t i ≡ None
 first_word_end [] t i h e = refl
 first_word_end ((k, []) ∷ ws) t i h e = absurd (false≢true h)
 first_word_end ((k, c ∷ cs) ∷ ws) t i h e =
@@ -173,9 +208,12 @@ words_have_letters To = refl
 words_have_letters Step = refl
 
 -- what finds the words that begin with the byte that stands there finds the table's
-pub finds_begins : (table : Table) (b : ℕ) (t : List ℕ) (place : ℕ) (r : Option (Word × ℕ)) → place < length t → get_or t place 0 ≡ b → FindsWord (filter (begins b) (words table)) t place r → FindsWord (words table) t place r
+pub finds_begins : (table : Table) (b : ℕ) (t : List ℕ) (place : ℕ) (r : Option (Word × ℕ)) → place < length t
+    → get_or t place 0 ≡ b → FindsWord (filter (begins b) (words table)) t place r → FindsWord (words table) t place r
 finds_begins table b t place r h e found = record {
-  first = first_word_begins (words table) t place b (drop (place + 1) t) (words_have_letters table) (drop_more t place 0 h ∙ ap (λ c. c ∷ drop (place + 1) t) e) ∙ found.first;
+  first =
+      first_word_begins (words table) t place b (drop (place + 1) t) (words_have_letters table)
+      (drop_more t place 0 h ∙ ap (λ c. c ∷ drop (place + 1) t) e) ∙ found.first;
   ahead = found.ahead;
 }
 
@@ -186,9 +224,11 @@ filter_none b (w ∷ ws) h =
     rw parts.0 (filter_none b ws parts.1)
 
 -- a byte with which no word begins
-pub finds_none : (table : Table) (t : List ℕ) (place : ℕ) → place < length t → begins_word table (get_or t place 0) ≡ false → FindsWord (words table) t place None
+pub finds_none : (table : Table) (t : List ℕ) (place : ℕ) → place < length t
+    → begins_word table (get_or t place 0) ≡ false → FindsWord (words table) t place None
 finds_none table t place h none =
-    finds_begins table (get_or t place 0) t place None h refl (rw (filter_none (get_or t place 0) (words table) none) (record { first = refl; ahead = tt }))
+    finds_begins table (get_or t place 0) t place None h refl
+    (rw (filter_none (get_or t place 0) (words table) none) (record { first = refl; ahead = tt }))
 
 or_other : (o p : Option (Word × ℕ)) → option_or o None ≡ None → option_or o p ≡ p
 or_other None p e = refl
@@ -199,7 +239,9 @@ or_first None p x e = absurd cc
 or_first (Some y) p x e = e
 
 -- the second of two words is tried where the first isn't found
-pub finds_second : (v w : Entry) (t : List ℕ) (place : ℕ) (r s : Option (Word × ℕ)) → FindsWord (v ∷ []) t place r → (r ≡ None → FindsWord (w ∷ []) t place s) → ((x : Word × ℕ) → r ≡ Some x → s ≡ Some x) → FindsWord (v ∷ w ∷ []) t place s
+pub finds_second : (v w : Entry) (t : List ℕ) (place : ℕ) (r s : Option (Word × ℕ)) → FindsWord (v ∷ []) t place r
+    → (r ≡ None → FindsWord (w ∷ []) t place s) → ((x : Word × ℕ) → r ≡ Some x → s ≡ Some x)
+    → FindsWord (v ∷ w ∷ []) t place s
 finds_second v w t place None s one two same = record {
   first = or_other _ _ one.first ∙ (two refl).first;
   ahead = (two refl).ahead;
@@ -209,10 +251,12 @@ finds_second v w t place (Some x) s one two same =
     subst (λ r. FindsWord (v ∷ w ∷ []) t place r) (sym (same x refl)) found
 
 -- what holds of a word holds of what is found, if that is the word
-pub is_of : (P : Word → Type 0) (r : Option (Word × ℕ)) (w : Word) → IfSome r (λ found. found.0 ≡ w) → P w → IfSome r (λ found. P found.0)
+pub is_of : (P : Word → Type 0) (r : Option (Word × ℕ)) (w : Word) → IfSome r (λ found. found.0 ≡ w) → P w
+    → IfSome r (λ found. P found.0)
 is_of P None w e h = tt
 is_of P (Some x) w e h = subst P (sym e) h
 
 pub word_at_end : (table : Table) (t : List ℕ) (i : ℕ) → length t ≤ past_blanks t i → word_at table t i ≡ None
 unfolding word_at
-word_at_end table t i h = first_word_end (words table) t (past_blanks t i) (words_have_letters table) (drop_all (past_blanks t i) t h)
+word_at_end table t i h =
+    first_word_end (words table) t (past_blanks t i) (words_have_letters table) (drop_all (past_blanks t i) t h)

@@ -1,15 +1,20 @@
--- This file states what holds of all that is found at a place: where it ends, and what the byte that stands next tells of it.
+-- This file states what holds of all that is found at a place: where it ends, and what the byte that stands next
+-- tells of it.
 --     LiesAhead t i j          j is a place that something found at i may end at
 --     StandsNext t i next      what the byte that stands next tells of each thing that may be found at i
---     lone_letter_at t i       a letter with which no word can begin, and the place after it
 --     FindingLaws              both hold of all that is found
-use Rattle.std.specs.Prelude.{◌≡◌, ℕ, ◌+◌, ◌<◌, ◌≤◌, Bool, false, ◌||◌, ◌==◌, if◌then◌else◌, List, length, Option, Some, None, is_none, slice_get, IsTrue, IsFalse, ℤ, pos, ◌≤ℤ◌}
+use Rattle.std.specs.Prelude.{◌≡◌, ℕ, ◌+◌, ◌<◌, ◌≤◌, Bool, false, ◌==◌, if◌then◌else◌, List}
+use Rattle.std.specs.Prelude.{length, Option, Some, None, is_none, IsTrue, IsFalse, ℤ}
+use Rattle.std.specs.Prelude.{pos, ◌≤ℤ◌}
 use Rattle.ptb_words.specs.declared.word.Table.{Table}
 use Rattle.ptb_words.specs.declared.word.Word.{Word}
 use Rattle.ptb_words.specs.declared.word.Number.{Number}
 use Rattle.ptb_words.specs.declared.word.Number.TheVariants.{Absent, Value}
 use Rattle.ptb_words.specs.Digits.{is_digit, number_limit}
-use Rattle.ptb_words.specs.Words.{past_blanks, next_byte_at, is_over, word_at, begins_word, IsWordOf, token_at, pair_at, is_letter, letter_at, letter_there, number_at, is_number, is_quote, is_quotation, quotation_at, NoQuote, QuotedText}
+use Rattle.ptb_words.specs.Words.{past_blanks, next_byte_at, is_over, word_at, begins_word}
+use Rattle.ptb_words.specs.Words.{IsWordOf, token_at, pair_at, letter_at, letter_there}
+use Rattle.ptb_words.specs.Words.{number_at, is_number, is_quote, is_quotation, quotation_at}
+use Rattle.ptb_words.specs.Words.{NoQuote, QuotedText}
 
 -- ---- where it ends
 
@@ -43,15 +48,6 @@ pub record StandsNext (t : List ℕ) (i : ℕ) (next : Option ℕ) : Type 0 wher
   pub no_quotation : IsFalse (is_next is_quote next) → quotation_at t i ≡ NoQuote
   pub quotation : is_quotation (quotation_at t i) ≡ is_next is_quote next
 
--- ---- a letter that begins no word
-
--- whether a word can go on with this byte behind its first letter: a letter, or the period of a cut word
-abbrev pub continues_word : ℕ → Bool
-continues_word b = is_letter b || b == 46
-
-abbrev pub lone_letter_at : List ℕ → ℕ → Option (ℕ × ℕ)
-lone_letter_at t i = if is_next continues_word (slice_get t (past_blanks t i + 1)) then None else letter_at t i
-
 -- ---- the laws
 
 pub record FindingLaws : Type 0 where
@@ -59,14 +55,16 @@ pub record FindingLaws : Type 0 where
   pub within : (t : List ℕ) (i : ℕ) → i ≤ length t → past_blanks t i ≤ length t
   pub twice : (t : List ℕ) (i : ℕ) → past_blanks t (past_blanks t i) ≡ past_blanks t i
   pub word : (table : Table) (t : List ℕ) (i : ℕ) (w : Word) (j : ℕ) → word_at table t i ≡ Some (w, j) → LiesAhead t i j
-  pub word_of : (table : Table) (t : List ℕ) (i : ℕ) (w : Word) (j : ℕ) → word_at table t i ≡ Some (w, j) → IsWordOf table w
+  pub word_of : (table : Table) (t : List ℕ) (i : ℕ) (w : Word) (j : ℕ) → word_at table t i ≡ Some (w, j)
+      → IsWordOf table w
   pub token : (c : ℕ) (t : List ℕ) (i j : ℕ) → token_at c t i ≡ Some j → LiesAhead t i j
   pub pair : (c d : ℕ) (t : List ℕ) (i j : ℕ) → pair_at c d t i ≡ Some j → LiesAhead t i j
   pub letter : (t : List ℕ) (i c j : ℕ) → letter_at t i ≡ Some (c, j) → LiesAhead t i j
   pub letter_range : (t : List ℕ) (i c j : ℕ) → letter_at t i ≡ Some (c, j) → (65 ≤ c) × (c ≤ 90)
-  pub number : (t : List ℕ) (i : ℕ) (n : Number) (j : ℕ) → number_at t i ≡ (n, j) → IsTrue (is_number n) → LiesAhead t i j
+  pub number : (t : List ℕ) (i : ℕ) (n : Number) (j : ℕ) → number_at t i ≡ (n, j) → IsTrue (is_number n)
+      → LiesAhead t i j
   pub no_number : (t : List ℕ) (i j : ℕ) → number_at t i ≡ (Absent, j) → j ≡ i
-  pub number_range : (t : List ℕ) (i : ℕ) (v : ℤ) (j : ℕ) → number_at t i ≡ (Value v, j) → (pos 0 ≤ℤ v) × (v ≤ℤ pos number_limit)
+  pub number_range : (t : List ℕ) (i : ℕ) (v : ℤ) (j : ℕ) → number_at t i ≡ (Value v, j)
+      → (pos 0 ≤ℤ v) × (v ≤ℤ pos number_limit)
   pub quotation : (t : List ℕ) (i : ℕ) (s : List ℕ) (j : ℕ) → quotation_at t i ≡ QuotedText s j → LiesAhead t i j
-  pub lone_letter : (table : Table) (t : List ℕ) (i c j : ℕ) → lone_letter_at t i ≡ Some (c, j) → word_at table t i ≡ None
   pub next : (t : List ℕ) (i : ℕ) → StandsNext t i (next_byte_at t i)

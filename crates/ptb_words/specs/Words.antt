@@ -9,13 +9,18 @@
 --     letter_at t i                a letter A to Z, and the place after it
 --     number_at t i                what the longest run of digits writes, and the place after it
 --     quotation_at t i             the text between two equal quotes, and the place after it
-use Rattle.std.specs.Prelude.{◌≡◌, ℕ, ◌+◌, Bool, true, false, ◌&&◌, ◌||◌, ◌==◌, nat_le, nat_eq, if◌then◌else◌, List, [], ◌∷◌, length, map, drop, take, Option, Some, None, option_map, find, position, codes, slice_get, slice_range, pos}
+use Rattle.std.specs.Prelude.{◌≡◌, ℕ, ◌+◌, Bool, true, false, ◌&&◌, ◌||◌, ◌==◌, nat_le, nat_eq}
+use Rattle.std.specs.Prelude.{if◌then◌else◌, List, [], ◌∷◌, length, map, drop, take, Option, Some}
+use Rattle.std.specs.Prelude.{None, option_map, find, position, codes, slice_get, slice_range, pos}
 use Rattle.std.specs.List.{starts_with, prefix_len, list_any}
 use Rattle.std.specs.Option.{option_or}
 use Rattle.ptb_words.specs.declared.word.Table.{Table}
 use Rattle.ptb_words.specs.declared.word.Table.TheVariants.{Commands, Functions, To, Step}
 use Rattle.ptb_words.specs.declared.word.Word.{Word}
-use Rattle.ptb_words.specs.declared.word.Word.TheVariants.{NextKw, LetKw, IfKw, GotoKw, GosubKw, ReturnKw, RemKw, ForKw, InputKw, PrintKw, StopKw, RndKw, AbsKw, SizeKw, ToKw, StepKw}
+use Rattle.ptb_words.specs.declared.word.Word.TheVariants.{NextKw, LetKw, IfKw, GotoKw, GosubKw}
+use Rattle.ptb_words.specs.declared.word.Word.TheVariants.{ReturnKw, RemKw, ForKw, InputKw, PrintKw}
+use Rattle.ptb_words.specs.declared.word.Word.TheVariants.{StopKw, RndKw, AbsKw, SizeKw, ToKw}
+use Rattle.ptb_words.specs.declared.word.Word.TheVariants.{StepKw}
 use Rattle.ptb_words.specs.declared.word.Number.{Number}
 use Rattle.ptb_words.specs.declared.word.Number.TheVariants.{Absent, Value, TooBig}
 use Rattle.ptb_words.specs.declared.word.Quoted.{Quoted}
@@ -65,7 +70,8 @@ spelling_in_front letters rest = find (λ s. starts_with nat_eq rest s) (spellin
 abbrev pub first_word : List Entry → List ℕ → ℕ → Option (Word × ℕ)
 first_word [] t b = None
 first_word (w ∷ ws) t b =
-    option_or (option_map (λ s. (w.0, past_blanks t (b + length s))) (spelling_in_front w.1 (drop b t))) (first_word ws t b)
+    option_or (option_map (λ s. (w.0, past_blanks t (b + length s))) (spelling_in_front w.1 (drop b t)))
+    (first_word ws t b)
 
 unfoldable pub word_at : Table → List ℕ → ℕ → Option (Word × ℕ)
 word_at table t i = first_word (words table) t (past_blanks t i)
@@ -154,7 +160,8 @@ quotation_up_to t i (Some k) = QuotedText (take k (drop i t)) (past_blanks t (i 
 quotation_up_to t i None = OpenQuote
 
 abbrev pub quotation_there : List ℕ → ℕ → Option ℕ → Quotation
-quotation_there t b (Some q) = if is_quote q then quotation_up_to t (b + 1) (position (λ c. c == q) (drop (b + 1) t)) else NoQuote
+quotation_there t b (Some q) =
+    if is_quote q then quotation_up_to t (b + 1) (position (λ c. c == q) (drop (b + 1) t)) else NoQuote
 quotation_there t b None = NoQuote
 
 unfoldable pub quotation_at : List ℕ → ℕ → Quotation

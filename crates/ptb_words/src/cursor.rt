@@ -6,7 +6,7 @@ ghost use Rattle.std.specs.Prelude.{position, ◌==◌};
 ghost use Rattle.std.specs.List.{prefix_len};
 ghost use Rattle.ptb_words.specs.CursorState.{CursorState, bytes_left};
 ghost use Rattle.ptb_words.specs.Digits.{is_digit, digits_value};
-ghost use Rattle.ptb_words.specs.Finding.{past_byte, StandsNext, lone_letter_at};
+ghost use Rattle.ptb_words.specs.Finding.{past_byte, StandsNext};
 ghost use Rattle.ptb_words.specs.Words.{past_blanks, next_byte_at, is_over, token_at, pair_at};
 ghost use Rattle.ptb_words.specs.Words.{letter_at, number_at, is_number, quotation_at, quotation_of};
 ghost use Rattle.ptb_words.specs.Words.{is_text, IsPieceFrom, word_at, IsWordOf};
@@ -241,31 +241,6 @@ impl<'a> Cursor<'a> {
         let letter = Letter::new(byte)?;
         self.take_byte();
         Some(letter)
-    }
-
-    /// Takes a letter A to Z that neither a letter nor a period follows at once. So no word begins
-    /// there.
-    ///
-    /// Most letters in expressions are such, and it pays to look for one before any word.
-    #[inline(always)]
-    pub fn lone_letter(&mut self) -> Option<Letter>
-        ensures value { lone_letter_at self.old.text self.old.place
-            ≡ option_map (λ b. (b, self.new.place)) result }
-        ensures letter { IfSome result (λ b.
-            letter_at self.old.text self.old.place ≡ Some (b, self.new.place)) }
-        ensures text { self.new.text ≡ self.old.text }
-        ensures taken { IsSome result → bytes_left self.new < bytes_left self.old }
-        ensures left { bytes_left self.new ≤ bytes_left self.old }
-        ensures absent { IsNone result → self.new.place ≡ self.old.place }
-    {
-        let letter = Letter::new(self.next_byte()?)?;
-        match self.text.get(self.next + 1) {
-            Some(byte) if byte.is_ascii_uppercase() || *byte == b'.' => None,
-            _ => {
-                self.take_byte();
-                Some(letter)
-            }
-        }
     }
 
     /// Takes the longest run of digits that stands next.

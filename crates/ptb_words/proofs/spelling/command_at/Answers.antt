@@ -25,7 +25,8 @@ pub spelled_word-found_goto-requires : goal.spelled_word-found_goto-requires
 spelled_word-found_goto-requires c = record { within = le_of_lt c.requires; some = ltb-true 0 _ refl; no_period = refl }
 
 pub spelled_word-found_return-requires : goal.spelled_word-found_return-requires
-spelled_word-found_return-requires c = record { within = le_of_lt c.requires; some = ltb-true 0 _ refl; no_period = refl }
+spelled_word-found_return-requires c =
+    record { within = le_of_lt c.requires; some = ltb-true 0 _ refl; no_period = refl }
 
 pub spelled_word-requires-in-70 : goal.spelled_word-requires-in-70
 spelled_word-requires-in-70 c = record { within = le_of_lt c.requires; some = ltb-true 0 _ refl; no_period = refl }
@@ -54,7 +55,8 @@ returns-in-73-clause-value c =
     let s = c.or_else.result in
     let two : r ≡ None → FindsWord ((InputKw, codes "INPUT") ∷ []) c.args.text.now c.args.place s = search rules fits 50 depth 2 in
     let same : (x : Word × ℕ) → r ≡ Some x → s ≡ Some x = search rules fits 50 depth 2 in
-    finds_begins Commands 73 _ _ _ c.requires c.in-73.is (finds_second _ _ _ _ _ _ c.spelled_word-found_if.ensures.value two same)
+    finds_begins Commands 73 _ _ _ c.requires c.in-73.is
+    (finds_second _ _ _ _ _ _ c.spelled_word-found_if.ensures.value two same)
 
 pub returns-in-71-clause-value : goal.returns-in-71-clause-value
 returns-in-71-clause-value c =
@@ -62,7 +64,8 @@ returns-in-71-clause-value c =
     let s = c.or_else-in-71.result in
     let two : r ≡ None → FindsWord ((GosubKw, codes "GOSUB") ∷ []) c.args.text.now c.args.place s = search rules fits 50 depth 2 in
     let same : (x : Word × ℕ) → r ≡ Some x → s ≡ Some x = search rules fits 50 depth 2 in
-    finds_begins Commands 71 _ _ _ c.requires c.in-71.is (finds_second _ _ _ _ _ _ c.spelled_word-found_goto.ensures.value two same)
+    finds_begins Commands 71 _ _ _ c.requires c.in-71.is
+    (finds_second _ _ _ _ _ _ c.spelled_word-found_goto.ensures.value two same)
 
 pub returns-in-82-clause-value : goal.returns-in-82-clause-value
 returns-in-82-clause-value c =
@@ -70,7 +73,8 @@ returns-in-82-clause-value c =
     let s = c.or_else-in-82.result in
     let two : r ≡ None → FindsWord ((RemKw, codes "REM") ∷ []) c.args.text.now c.args.place s = search rules fits 50 depth 2 in
     let same : (x : Word × ℕ) → r ≡ Some x → s ≡ Some x = search rules fits 50 depth 2 in
-    finds_begins Commands 82 _ _ _ c.requires c.in-82.is (finds_second _ _ _ _ _ _ c.spelled_word-found_return.ensures.value two same)
+    finds_begins Commands 82 _ _ _ c.requires c.in-82.is
+    (finds_second _ _ _ _ _ _ c.spelled_word-found_return.ensures.value two same)
 
 pub returns-in-70 : goal.returns-in-70
 returns-in-70 c = record {

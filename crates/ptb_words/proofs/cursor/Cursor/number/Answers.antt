@@ -3,7 +3,8 @@ use Rattle.std.proofs.Common.{refl}
 use Rattle.std.proofs.Math.Nat.{le_refl, le_of_lt}
 use Rattle.std.proofs.lemmas.Bool.{true≢false, false≢true}
 use Rattle.ptb_words.proofs.Finding.{number_ahead}
-use Rattle.ptb_words.proofs.Taking.{text_is, next_is, ahead_left, digits_within, fits_within, number_absent, number_value, number_too_big}
+use Rattle.ptb_words.proofs.Taking.{text_is, next_is, ahead_left, digits_within, fits_within}
+use Rattle.ptb_words.proofs.Taking.{number_absent, number_value, number_too_big}
 use Rattle.ptb_words.proofs.cursor.Cursor.number.Goals as goal
 
 pub overflow_add-self : goal.overflow_add-self
@@ -19,7 +20,9 @@ pass_to-requires c =
 
 pub returns-then-count-eq0 : goal.returns-then-count-eq0
 returns-then-count-eq0 c = record {
-  value = number_absent _ _ _ _ _ (text_is c.self.view_is) (next_is c.self.view_is c.self.invariant.0) c.leading_digits-value.ensures.count c.if-count-eq0.true;
+  value =
+      number_absent _ _ _ _ _ (text_is c.self.view_is)
+      (next_is c.self.view_is c.self.invariant.0) c.leading_digits-value.ensures.count c.if-count-eq0.true;
   text = refl;
   taken = λ h. absurd (false≢true h);
   left = le_refl _;

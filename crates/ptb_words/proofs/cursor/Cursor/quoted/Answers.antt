@@ -21,7 +21,10 @@ pub returns-in_default-bytes_before : goal.returns-in_default-bytes_before
 returns-in_default-bytes_before c =
     let quote : is_quote c.in-Some.byte ≡ true = elim c.if-byte-eq39.either [ inl e ↦ rw e refl | inr e ↦ rw e.1 refl ] in
     record {
-      value = quotation_open _ _ _ _ _ (text_is c.self.view_is) (next_is c.self.view_is c.self.invariant.0) c.in-Some.ensures.byte quote (sym c.in_default-bytes_before.ensures.value);
+      value =
+          quotation_open _ _ _ _ _ (text_is c.self.view_is)
+          (next_is c.self.view_is c.self.invariant.0) c.in-Some.ensures.byte quote
+          (sym c.in_default-bytes_before.ensures.value);
       piece = tt;
       text = refl;
       taken = λ h. absurd (false≢true h);
@@ -39,10 +42,13 @@ returns-clause-value c =
     grind (arith, closed)
 
 pub returns-clause-piece : goal.returns-clause-piece
-returns-clause-piece c = quoted_piece _ _ _ _ _ (text_is c.self.view_is) (next_is c.self.view_is c.self.invariant.0) c.in-Some-bytes_before.ensures.within
+returns-clause-piece c =
+    quoted_piece _ _ _ _ _ (text_is c.self.view_is)
+    (next_is c.self.view_is c.self.invariant.0) c.in-Some-bytes_before.ensures.within
 
 pub returns-clause-taken : goal.returns-clause-taken
 returns-clause-taken c = λ _. ahead_left _ _ c.pass_to-2.ensures.text (quotation_ahead _ _ _ _ (returns-clause-value c))
 
 pub returns-clause-left : goal.returns-clause-left
-returns-clause-left c = le_of_lt (ahead_left _ _ c.pass_to-2.ensures.text (quotation_ahead _ _ _ _ (returns-clause-value c)))
+returns-clause-left c =
+    le_of_lt (ahead_left _ _ c.pass_to-2.ensures.text (quotation_ahead _ _ _ _ (returns-clause-value c)))
