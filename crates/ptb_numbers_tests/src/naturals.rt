@@ -172,27 +172,20 @@ fn numbers_compare(rt: HostRuntime) {
     expect_orders(&rt, rt.alloc()).expect(&rt, "memory");
 }
 
-// A word, how often it is a factor, and the word that the product is, if it is one.
-const WORDS: &[(u32, u32, Option<u32>)] = &[
-    (0, 1, Some(0)),
-    (1, 1, Some(1)),
-    (4_294_967_295, 1, Some(4_294_967_295)),
-    (65536, 2, None),
-    (10, 27, None),
-];
+// A word, and how often it is a factor.
+const PRODUCTS: &[(u32, u32)] = &[(0, 1), (1, 1), (4_294_967_295, 1), (65536, 2), (10, 27)];
 
-fn expect_words(rt: &impl Abort, alloc: Global) -> Result<(), AllocError> {
-    for &(word, times, wanted) in WORDS {
+fn expect_zero(rt: &impl Abort, alloc: Global) -> Result<(), AllocError> {
+    for &(word, times) in PRODUCTS {
         let number = power(alloc, word, times)?;
-        let found = (number.to_word(), number.is_zero());
-        expect_same(rt, "a word", found, (wanted, word == 0));
+        expect_same(rt, "0", number.is_zero(), word == 0);
     }
     Ok(())
 }
 
 #[test]
-fn words_come_back(rt: HostRuntime) {
-    expect_words(&rt, rt.alloc()).expect(&rt, "memory");
+fn zero_is_known(rt: HostRuntime) {
+    expect_zero(&rt, rt.alloc()).expect(&rt, "memory");
 }
 
 // A word, how often it is a factor, another word, and the greatest common divisor.
