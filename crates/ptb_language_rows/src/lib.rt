@@ -2,7 +2,7 @@
 //! trees of runs and samples come to, by the definitions.
 //!
 //! It stands on `ptb_explore` and the crates below it. No crate stands on it: neither a build of the
-//! program nor the trial of a wrong body computes its rows.
+//! program nor the trial of a planted bug computes its rows.
 #![tactic(auto)]
 
 mod rows;

@@ -1,4 +1,4 @@
--- This file proves goals of `apply`: what a sum and a difference give, and the rest by short searches, so that a wrong body is refused soon.
+-- This file proves goals of `apply`: what a sum and a difference give, and the rest by short searches, so that a planted bug is refused soon.
 use Rattle.std.proofs.Common.{arith, rules, ◌≡◌, ◌∙◌, ap, ℤ, pos, neg_ℤ, ◌+ℤ◌, ◌-ℤ◌}
 use Rattle.std.proofs.lemmas.Grind.{common_steps}
 use Rattle.std.proofs.lemmas.Int.{ints}

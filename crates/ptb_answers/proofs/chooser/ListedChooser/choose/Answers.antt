@@ -1,4 +1,4 @@
--- This file proves goals of `choose` by short searches, so that a wrong body is refused soon.
+-- This file proves goals of `choose` by short searches, so that a planted bug is refused soon.
 use Rattle.std.proofs.Common.{FitsSigned, arith, get_or, of_z, pos, refl, rules, to_z, w16}
 use Rattle.std.proofs.lemmas.Grind.{common_steps}
 use Rattle.ptb_answers.proofs.Refusing.{next_is, too_high, too_low}

@@ -1,4 +1,4 @@
--- This file proves goals of `new` by short searches, so that a wrong body is refused soon.
+-- This file proves goals of `new` by short searches, so that a planted bug is refused soon.
 use Rattle.std.proofs.Common.{rules}
 use Rattle.ptb_text.proofs.program.Program.new.Goals as goal
 
