@@ -6,12 +6,12 @@ use Rattle.ptb_command.specs.Devices.{nothing_refused}
 use Rattle.ptb_command.specs.Representation.{PlacesAre}
 use Rattle.ptb_command.specs.State.{Place}
 use Rattle.ptb_command.specs.Stops.{NotMissed}
-use Rattle.ptb_command.proofs.Missed.{not_missed, not_missed_then, fewer_lines}
+use Rattle.ptb_command.proofs.Missed.{missed_from, not_missed, not_missed_then, fewer_lines}
 use Rattle.ptb_machine.specs.Play.{next_number}
 use Rattle.ptb_machine.specs.RunDevices.{run_devices, held, refusals}
 use Rattle.ptb_machine.specs.Runs.{StopsAt}
 use Rattle.ptb_machine.proofs.Ends.{end_broken, end_over}
-use Rattle.ptb_machine.proofs.Results.{fault_missed_from, ending_missed_from, step_missed_at}
+use Rattle.ptb_machine.proofs.Results.{step_missed_at}
 use Rattle.ptb_machine.proofs.Runs.{run_begins, run_advanced, run_on, run_falls, run_over, run_stops, run_breaks, steps_at, runs_of, not_spent}
 use Rattle.ptb_machine.proofs.running.play.Goals as goal
 
@@ -52,7 +52,7 @@ returns-in_err-ending g c =
           runs_of refused _ _ c.args.rules o n (Err c.in_err-ending.field-0.0) program
           (run_breaks _ c.advance.new.self c.args.rules _ _ o d e refl (g.met.L.LineSource.falls _ _ _ step.step.turn.gives) advanced _ (not_spent _ _ (c.advance.ensures.spent ∙ c.steps.invariant.2) (λ k. step.step.spent.0 (ap Err k))) step.step.turn.steps);
       missed =
-          fault_missed_from (g.L.LineSource.refused c.step.new.source) (NotMissed c.args.rules.choose (g.L.LineSource.missed c.steps.source) (g.L.LineSource.missed c.step.new.source) (g.L.LineSource.most c.step.new.source)) (NotMissed c.args.rules.choose (g.L.LineSource.missed c.args.source.now) (g.L.LineSource.missed c.step.new.source) (g.L.LineSource.most c.step.new.source)) (λ h. not_missed_then c.args.rules.choose _ _ _ _ _ (fewer_lines g.L.LineSource.gives g.L.LineSource.most g.met.L.LineSource.falls _ _ _ step.step.turn.gives) c.steps.invariant.4 h) _ step.step.turn.missed;
+          missed_from (g.L.LineSource.refused c.step.new.source) (NotMissed c.args.rules.choose (g.L.LineSource.missed c.steps.source) (g.L.LineSource.missed c.step.new.source) (g.L.LineSource.most c.step.new.source)) (NotMissed c.args.rules.choose (g.L.LineSource.missed c.args.source.now) (g.L.LineSource.missed c.step.new.source) (g.L.LineSource.most c.step.new.source)) (λ h. not_missed_then c.args.rules.choose _ _ _ _ _ (fewer_lines g.L.LineSource.gives g.L.LineSource.most g.met.L.LineSource.falls _ _ _ step.step.turn.gives) c.steps.invariant.4 h) _ step.step.turn.missed;
     })
 
 pub end-requires : goal.end-requires
@@ -84,7 +84,7 @@ returns-in-Some g c =
           runs_of refused _ _ c.args.rules o n (Ok c.in-Some.ending) program
           (run_over _ c.advance.new.self c.args.rules _ _ o d e refl falls advanced _ (steps_at _ _ c.args.rules _ _ (record d { given = [] }) _ _ _ c.in-Some.is step.step.turn.steps));
       missed =
-          ending_missed_from (NotMissed c.args.rules.choose (g.L.LineSource.missed c.steps.source) (g.L.LineSource.missed c.step.new.source) (g.L.LineSource.most c.step.new.source)) (NotMissed c.args.rules.choose (g.L.LineSource.missed c.args.source.now) (g.L.LineSource.missed c.step.new.source) (g.L.LineSource.most c.step.new.source)) (λ h. not_missed_then c.args.rules.choose _ _ _ _ _ (fewer_lines g.L.LineSource.gives g.L.LineSource.most g.met.L.LineSource.falls _ _ _ step.step.turn.gives) c.steps.invariant.4 h) _ (step_missed_at (g.L.LineSource.refused c.step.new.source) (NotMissed c.args.rules.choose (g.L.LineSource.missed c.steps.source) (g.L.LineSource.missed c.step.new.source) (g.L.LineSource.most c.step.new.source)) _ _ c.in-Some.is step.step.turn.missed);
+          missed_from (g.L.LineSource.refused c.step.new.source) (NotMissed c.args.rules.choose (g.L.LineSource.missed c.steps.source) (g.L.LineSource.missed c.step.new.source) (g.L.LineSource.most c.step.new.source)) (NotMissed c.args.rules.choose (g.L.LineSource.missed c.args.source.now) (g.L.LineSource.missed c.step.new.source) (g.L.LineSource.most c.step.new.source)) (λ h. not_missed_then c.args.rules.choose _ _ _ _ _ (fewer_lines g.L.LineSource.gives g.L.LineSource.most g.met.L.LineSource.falls _ _ _ step.step.turn.gives) c.steps.invariant.4 h) _ (step_missed_at (g.L.LineSource.refused c.step.new.source) (NotMissed c.args.rules.choose (g.L.LineSource.missed c.steps.source) (g.L.LineSource.missed c.step.new.source) (g.L.LineSource.most c.step.new.source)) _ _ c.in-Some.is step.step.turn.missed);
     })
     (record {
       at_limit = λ is rest f.
