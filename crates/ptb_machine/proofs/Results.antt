@@ -130,10 +130,6 @@ result_missed refused P o n number text done r is h = by_result done is h
     by_result (Err (stops.Pause pauses.Memory)) is h = is_so _ is.is (inl h)
     by_result (Err (stops.Broke x)) is h = is_so _ is.is (subst (UnlessMissed refused P) (sym (error_missed x)) h)
 
--- a step that gave this result
-pub step_missed_at : (refused : ReadFault → Type 0) (P : Type 0) (x y : Option Ending) → x ≡ y → UnlessMissed refused P (step_miss (Ok x)) → UnlessMissed refused P (step_miss (Ok y))
-step_missed_at refused P x y e h = subst (λ (z : Option Ending). UnlessMissed refused P (step_miss (Ok z))) e h
-
 -- ---- devices
 
 -- what holds of devices that are the same

@@ -398,12 +398,5 @@ run_advanced p q rules n old new o d chosen program h turns =
 
 -- ---- at the exits of the loop
 
-pub steps_at : (refused : Refusal → Type 0) (p : StoredProgram) (rules : Rules) (m n : Configuration) (o d : Devices) (x y : Option Ending) → x ≡ y → Steps refused p rules.limit m n o d (Ok x) → Steps refused p rules.limit m n o d (Ok y)
-steps_at refused p rules m n o d x y e s = subst (λ (z : Option Ending). Steps refused p rules.limit m n o d (Ok z)) e s
-
--- what a player of a program runs
-pub runs_of : (refused : Refusal → Type 0) (p q : StoredProgram) (rules : Rules) (o n : Devices) (r : Result Ending RunFault) → q ≡ p → Runs refused q rules o n r → Runs refused p rules o n r
-runs_of refused p q rules o n r e x = subst (λ (z : StoredProgram). Runs refused z rules o n r) e x
-
 pub not_spent : (b : Bool) (fault : RunFault) → b ≡ false → (fault ≡ faults.Spent → b ≡ true) → fault ≡ faults.Spent → ⊥
 not_spent b fault e h k = false≢true (sym e ∙ h k)
