@@ -21,7 +21,8 @@ use Rattle.ptb_command.specs.Configuration.{Configuration}
 use Rattle.ptb_command.specs.Effects.{act_state}
 use Rattle.ptb_command.specs.Stops.{Waits, IsDry}
 use Rattle.ptb_devices.specs.Sources.{Gives, LineList}
-use Rattle.ptb_machine.specs.Steps.{FitsProgram, QuietTurns, StepsTo, goes, ends, StepComes, Steps}
+use Rattle.ptb_machine.specs.Steps.{FitsProgram, QuietTurns, Steps}
+use Rattle.ptb_machine.specs.TurnResults.{StepsTo, goes, ends, StepComes}
 use Rattle.ptb_explore.specs.Chances.{last_line}
 use Rattle.ptb_explore.specs.Playing.{run_from}
 use Rattle.ptb_chances.specs.Planned.{PlanAnswers, choices_of, RefusedByPlan}
@@ -97,7 +98,7 @@ module _ (laws : RunLaws) (p : StoredProgram) (rules : Rules) where
         let T : State = x.leads.state in
         let all : take l.given l.answers ++ [] ≡ l.answers = all_taken l.answers l.given w.refuses.0 in
         let asks : run_from p rules S l.answers ≡ Asks w.bound T.shown =
-        ap (run_from p rules S) (sym all) ∙ turned S m new c (choices_of l) s t given left rest most few u w.left x [] ∙ ap (from_turn p rules) (w.asks T) in
+        ap (run_from p rules S) (sym all) ∙ turned S m new c (choices_of l) s t given left rest most few u w.left x [] ∙ ap (from_turn p rules) (w.question T).asks in
         record { shown = T.shown; asks = asks ∙ ap (λ (n : ℤ). Asks n T.shown) (sym w.refuses.1) }
 
     turn_out : (k : ℤ) → Paused (pauses.OutOfRange k) → is_open (run_from p rules S l.answers) ≡ true → ⊥
@@ -106,7 +107,7 @@ module _ (laws : RunLaws) (p : StoredProgram) (rules : Rules) where
         let T : State = x.leads.state in
         let all : l.answers ≡ take l.given l.answers ++ k ∷ drop (suc l.given) l.answers = next_taken l.answers l.given k w.refuses.0 in
         let out : run_from p rules S l.answers ≡ Out w.bound T.shown =
-        ap (run_from p rules S) all ∙ turned S m new c (choices_of l) s t given left rest most few u w.left x (k ∷ drop (suc l.given) l.answers) ∙ ap (from_turn p rules) (w.outside T (drop (suc l.given) l.answers)) in
+        ap (run_from p rules S) all ∙ turned S m new c (choices_of l) s t given left rest most few u w.left x (k ∷ drop (suc l.given) l.answers) ∙ ap (from_turn p rules) ((w.question T).outside (drop (suc l.given) l.answers)) in
         let never : false ≡ true = ap is_open (sym out) ∙ opens in
         absurd cc
 
@@ -125,7 +126,7 @@ module _ (laws : RunLaws) (p : StoredProgram) (rules : Rules) where
 
   module _ (S : State) (m new : Configuration) (c d : Choices) (s t : List ℕ) (given left rest : List (List ℕ)) (most few : ℕ) (refused : Refusal → Type 0) (r answer : Result (Option Ending) RunFault) (u : Came p rules S c.taken m left s) (is : r ≡ answer) (l : left ≡ given ++ rest) (follows : few ≡ 0 → rest ≡ []) (steps : Steps refused p rules.limit m new (devices c (text_state s) most rules.choose []) (devices d (text_state t) few rules.choose given) r) where
     pub step_comes : StepComes refused (StepsTo p.lines new (devices c (text_state s) most rules.choose []) u.state rest (turn p rules.limit u.state)) (devices d (text_state t) few rules.choose given) answer
-    step_comes = subst (λ r. StepComes refused (StepsTo p.lines new (devices c (text_state s) most rules.choose []) u.state rest (turn p rules.limit u.state)) (devices d (text_state t) few rules.choose given) r) is (steps u.state rest u.stands.represents u.stands.choose follows (u.stands.lines_left ∙ l))
+    step_comes = subst (λ r. StepComes refused (StepsTo p.lines new (devices c (text_state s) most rules.choose []) u.state rest (turn p rules.limit u.state)) (devices d (text_state t) few rules.choose given) r) is (steps u.state rest (record { represents = u.stands.represents; lines = u.stands.lines_left ∙ l; follow = follows; choose = u.stands.choose }))
 
   pub step_came : (S : State) (m new : Configuration) (c d : Choices) (s t : List ℕ) (given left rest : List (List ℕ)) (most few : ℕ) (refused : Refusal → Type 0) (r : Result (Option Ending) RunFault) → r ≡ Ok None → Came p rules S c.taken m left s → left ≡ given ++ rest → (few ≡ 0 → rest ≡ []) → Steps refused p rules.limit m new (devices c (text_state s) most rules.choose []) (devices d (text_state t) few rules.choose given) r → Came p rules S d.taken new rest t
   step_came S m new c d s t given left rest most few refused r is u l follows steps =
@@ -204,7 +205,7 @@ module _ (laws : RunLaws) (p : StoredProgram) (rules : Rules) where
     pub never_unwritten : r ≡ Err faults.Write → ⊥
     never_unwritten is =
         let w : Comes (Err faults.Write) = comes (Err faults.Write) is in
-        let none : w.middle.failures ≡ 0 = w.comes.exchanges.unfailed in
+        let none : w.screen.failures ≡ 0 = w.comes.exchanges.unfailed in
         elim w.broken.0 [ inl x ↦ absurd (omega (arith, none, x)) | inr x ↦ absurd (omega (arith, none, x)) ]
 
 -- where a list can give no line, none is left

@@ -100,11 +100,9 @@ module _ {A X : Type 0} (refused : Refusal → Type 0) (o m : Trace) (f : Action
         left = w.left;
         bound = w.bound;
         comes = refines_part_then w.comes (refines_part_on (λ u. w.left) a);
-        asks = w.asks;
-        begins = w.begins;
-        takes = w.takes;
-        outside = w.outside;
-        refusal = w.refusal;
+        question = w.question;
+        continues = w.continues;
+        pause = w.pause;
         refuses = w.refuses;
       }
   finished d fresh cells a (Err (stops.Broke x)) k h = cc
@@ -121,5 +119,5 @@ module _ {A X : Type 0} (refused : Refusal → Type 0) (o m : Trace) (f : Action
     finish_breaks (Err stops.NoInput) k h = cc
     finish_breaks (Err (stops.Pause z)) k h =
         let w = stop_there (stops.Pause z) k h in
-        breaks_before w.left (record { at = λ S a. record { shown = w.begins S a; lines = w.takes S a } }) w.comes
+        breaks_before w.left (record { at = λ S a. record { shown = w.continues.begins S a; lines = w.continues.takes S a } }) w.comes
     finish_breaks (Err (stops.Broke x)) k h = cc

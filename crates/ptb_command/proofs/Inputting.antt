@@ -358,13 +358,15 @@ module _ (said : List ℕ) (x : Tree) (prompt : List ℕ) where
   unread : (refused : Refusal → Type 0) {o m : Trace} (most : ℕ) (at : Target) (e : DeviceError) → most ≤ m.devices.most → RefinesPart o m (ask_for said x prompt) (goes_on at) → HasBroken refused m.devices.screen m.devices.screen e → Stops refused (RefinesPartTo o (with_most most m) (item_action said x prompt)) (with_most most m).devices (stops.Broke e)
   unread refused {m = m} most at e fewer a h = record {
     left = wants at;
-    middle = m.devices.screen;
-    part = [];
+    screen = m.devices.screen;
+    bytes = [];
     comes = refines_part_then (wanted at a) (fewer_left m most fewer (wants at));
     shows = shows_nothing m.devices.screen;
-    begins = λ S b. let more = ((wants_adds at).at S b).shown in (more.0, more.1 ∙ ap (λ s. s ++ more.0) (sym (append-nil S.shown)));
-    takes = λ S b. ((wants_adds at).at S b).lines;
-    wants = line_wanted at e;
+    continues = record {
+      begins = λ S b. let more = ((wants_adds at).at S b).shown in (more.0, more.1 ∙ ap (λ s. s ++ more.0) (sym (append-nil S.shown)));
+      takes = λ S b. ((wants_adds at).at S b).lines;
+    };
+    line = line_wanted at e;
     broken = h;
   }
 

@@ -10,25 +10,23 @@ use Rattle.ptb_devices.specs.Sources.{given_lines}
 use Rattle.ptb_command.specs.declared.stop.DeviceError.TheVariants as errors
 use Rattle.ptb_command.specs.declared.stop.Stop.{Stop}
 use Rattle.ptb_command.specs.declared.stop.Stop.TheVariants as stops
-use Rattle.ptb_command.specs.Stops.{stop_of_read, still_shows, UnlessStopMissed, UnlessMissed, NotMissed}
+use Rattle.ptb_command.specs.Stops.{stop_of_read, still_shows, Miss, NoMiss, LineMiss, MemoryMiss, UnlessMissed, stop_miss, miss_of, NotMissed}
 
 module _ (refused : ReadFault → Type 0) (P : Type 0) where
   -- what holds in any case
-  pub stop_unmissed : P → (e : Stop) → UnlessStopMissed refused P e
-  stop_unmissed p (stops.Fault f) = p
-  stop_unmissed p stops.Ended = p
-  stop_unmissed p stops.NoInput = tt
-  stop_unmissed p (stops.Pause z) = p
-  stop_unmissed p (stops.Broke errors.Memory) = inl p
-  stop_unmissed p (stops.Broke errors.Read) = tt
-  stop_unmissed p (stops.Broke errors.Write) = p
+  pub miss_unmissed : P → (m : Miss) → UnlessMissed refused P m
+  miss_unmissed p NoMiss = p
+  miss_unmissed p LineMiss = tt
+  miss_unmissed p MemoryMiss = inl p
 
-  pub unmissed : {X : Type 0} → P → (r : Result X Stop) → UnlessMissed refused P r
-  unmissed p (Ok x) = p
-  unmissed p (Err e) = stop_unmissed p e
+  pub stop_unmissed : P → (e : Stop) → UnlessMissed refused P (stop_miss e)
+  stop_unmissed p e = miss_unmissed p (stop_miss e)
+
+  pub unmissed : {X : Type 0} → P → (r : Result X Stop) → UnlessMissed refused P (miss_of r)
+  unmissed p r = miss_unmissed p (miss_of r)
 
   -- where what is gathered is still shown
-  pub missed_none : {X : Type 0} (r : Result X Stop) → still_shows r ≡ true → UnlessMissed refused P r → P
+  pub missed_none : {X : Type 0} (r : Result X Stop) → still_shows r ≡ true → UnlessMissed refused P (miss_of r) → P
   missed_none (Ok x) k h = h
   missed_none (Err (stops.Fault f)) k h = h
   missed_none (Err stops.Ended) k h = h
@@ -37,27 +35,23 @@ module _ (refused : ReadFault → Type 0) (P : Type 0) where
   missed_none (Err (stops.Broke e)) k h = cc
 
   -- at the exit of a `?`
-  pub missed_err : {X : Type 0} (r : Result X Stop) (e : Stop) → IsErrAnd r (λ y. y ≡ e) → UnlessStopMissed refused P e → UnlessMissed refused P r
+  pub missed_err : {X : Type 0} (r : Result X Stop) (e : Stop) → IsErrAnd r (λ y. y ≡ e) → UnlessMissed refused P (stop_miss e) → UnlessMissed refused P (miss_of r)
   missed_err {X = X} r e k h =
       let p = err_from_is_err_and r k in
-      subst (λ (x : Result X Stop). UnlessMissed refused P x) (sym (p.1 ∙ ap Err p.2)) h
+      subst (λ (x : Result X Stop). UnlessMissed refused P (miss_of x)) (sym (p.1 ∙ ap Err p.2)) h
 
   -- where the source refuses a line
-  pub missed_read : (f : ReadFault) → refused f → UnlessStopMissed refused P (stop_of_read f)
+  pub missed_read : (f : ReadFault) → refused f → UnlessMissed refused P (stop_miss (stop_of_read f))
   missed_read reads.Read h = tt
   missed_read reads.TooLong h = tt
   missed_read reads.Memory h = inr h
 
   -- what follows from it
   module _ (Q : Type 0) (follows : P → Q) where
-    pub stop_missed_from : (e : Stop) → UnlessStopMissed refused P e → UnlessStopMissed refused Q e
-    stop_missed_from (stops.Fault f) h = follows h
-    stop_missed_from stops.Ended h = follows h
-    stop_missed_from stops.NoInput h = tt
-    stop_missed_from (stops.Pause z) h = follows h
-    stop_missed_from (stops.Broke errors.Memory) h = elim h [ inl p ↦ inl (follows p) | inr r ↦ inr r ]
-    stop_missed_from (stops.Broke errors.Read) h = tt
-    stop_missed_from (stops.Broke errors.Write) h = follows h
+    pub missed_from : (m : Miss) → UnlessMissed refused P m → UnlessMissed refused Q m
+    missed_from NoMiss h = follows h
+    missed_from LineMiss h = tt
+    missed_from MemoryMiss h = elim h [ inl p ↦ inl (follows p) | inr r ↦ inr r ]
 
 -- ---- where answers may be asked for instead
 
@@ -98,16 +92,16 @@ given_missed missed s t u line r e h k =
 
 module _ {L : Type 0} (refused : L → ReadFault → Type 0) (missed most : L → ℕ) (choose : Option ℤ) (s : L) where
   -- no line more was asked for in vain
-  pub fewer_missed : {X : Type 0} (t : L) → missed t ≤ missed s → (r : Result X Stop) → UnlessMissed (refused t) (NotMissed choose (missed s) (missed t) (most t)) r
+  pub fewer_missed : {X : Type 0} (t : L) → missed t ≤ missed s → (r : Result X Stop) → UnlessMissed (refused t) (NotMissed choose (missed s) (missed t) (most t)) (miss_of r)
   fewer_missed t h = unmissed (refused t) (NotMissed choose (missed s) (missed t) (most t)) (not_missed choose (missed s) (missed t) (most t) h)
 
   -- the same by an answer that was asked for instead, once the source u said that it has no line
-  pub instead_missed : {X : Type 0} (b : Option ℤ) → b ≡ choose → (n : ℤ) → b ≡ Some n → (u t : L) → t ≡ u → most u ≡ 0 → (r : Result X Stop) → UnlessMissed (refused t) (NotMissed choose (missed s) (missed t) (most t)) r
+  pub instead_missed : {X : Type 0} (b : Option ℤ) → b ≡ choose → (n : ℤ) → b ≡ Some n → (u t : L) → t ≡ u → most u ≡ 0 → (r : Result X Stop) → UnlessMissed (refused t) (NotMissed choose (missed s) (missed t) (most t)) (miss_of r)
   instead_missed b is n e u t same none r =
       unmissed (refused t) (NotMissed choose (missed s) (missed t) (most t)) (not_missed_instead choose n (missed s) (missed t) (most t) (sym is ∙ e) (ap most same ∙ none)) r
 
   -- what was gathered before r is still shown, and the source is the same
-  pub shown_missed : {X Y : Type 0} (u t : L) → t ≡ u → (r : Result X Stop) → still_shows r ≡ true → UnlessMissed (refused u) (NotMissed choose (missed s) (missed u) (most u)) r → (q : Result Y Stop) → UnlessMissed (refused t) (NotMissed choose (missed s) (missed t) (most t)) q
+  pub shown_missed : {X Y : Type 0} (u t : L) → t ≡ u → (r : Result X Stop) → still_shows r ≡ true → UnlessMissed (refused u) (NotMissed choose (missed s) (missed u) (most u)) (miss_of r) → (q : Result Y Stop) → UnlessMissed (refused t) (NotMissed choose (missed s) (missed t) (most t)) (miss_of q)
   shown_missed u t e r shows h =
       unmissed (refused t) (NotMissed choose (missed s) (missed t) (most t))
       (subst (λ (v : L). NotMissed choose (missed s) (missed v) (most v)) (sym e) (missed_none (refused u) (NotMissed choose (missed s) (missed u) (most u)) r shows h))
@@ -118,15 +112,15 @@ module _ {L : Type 0} (refused : L → ReadFault → Type 0) (missed most : L �
     missed_on k = not_missed_then choose (missed s) (missed u) (missed t) (most u) (most t) fewer h (subst (λ (x : Option ℤ). NotMissed x (missed u) (missed t) (most t)) is k)
 
     -- at the exit of a `?`
-    pub missed_out : {X : Type 0} (r : Result X Stop) (e : Stop) → IsErrAnd r (λ y. y ≡ e) → UnlessStopMissed (refused t) (NotMissed b (missed u) (missed t) (most t)) e → UnlessMissed (refused t) (NotMissed choose (missed s) (missed t) (most t)) r
+    pub missed_out : {X : Type 0} (r : Result X Stop) (e : Stop) → IsErrAnd r (λ y. y ≡ e) → UnlessMissed (refused t) (NotMissed b (missed u) (missed t) (most t)) (stop_miss e) → UnlessMissed (refused t) (NotMissed choose (missed s) (missed t) (most t)) (miss_of r)
     missed_out r e out k =
         missed_err (refused t) (NotMissed choose (missed s) (missed t) (most t)) r e out
-        (stop_missed_from (refused t) (NotMissed b (missed u) (missed t) (most t)) (NotMissed choose (missed s) (missed t) (most t)) missed_on e k)
+        (missed_from (refused t) (NotMissed b (missed u) (missed t) (most t)) (NotMissed choose (missed s) (missed t) (most t)) missed_on (stop_miss e) k)
 
 -- a command that takes no line from the source
-pub alone_missed : {L X : Type 0} (refused : L → ReadFault → Type 0) (missed most : L → ℕ) (choose : Option ℤ) (s t : L) → t ≡ s → (r : Result X Stop) → UnlessMissed (refused t) (NotMissed choose (missed s) (missed t) (most t)) r
+pub alone_missed : {L X : Type 0} (refused : L → ReadFault → Type 0) (missed most : L → ℕ) (choose : Option ℤ) (s t : L) → t ≡ s → (r : Result X Stop) → UnlessMissed (refused t) (NotMissed choose (missed s) (missed t) (most t)) (miss_of r)
 alone_missed {L = L} refused missed most choose s t e r =
-    subst (λ (u : L). UnlessMissed (refused u) (NotMissed choose (missed s) (missed u) (most u)) r) (sym e)
+    subst (λ (u : L). UnlessMissed (refused u) (NotMissed choose (missed s) (missed u) (most u)) (miss_of r)) (sym e)
     (fewer_missed refused missed most choose s s (le_refl (missed s)) r)
 
 -- what was missed stays
@@ -134,6 +128,6 @@ pub missed_same : {L : Type 0} (missed : L → ℕ) (s u t : L) → t ≡ u → 
 missed_same missed s u t e h = omega (arith, ap missed e, h)
 
 -- a source that refused a line
-pub refused_missed : {X Y : Type 0} (refused : ReadFault → Type 0) (P : Type 0) (f : ReadFault) (line : Result Y ReadFault) → line ≡ Err f → IfErr line refused → (r : Result X Stop) → IsErrAnd r (λ y. y ≡ stop_of_read f) → UnlessMissed refused P r
+pub refused_missed : {X Y : Type 0} (refused : ReadFault → Type 0) (P : Type 0) (f : ReadFault) (line : Result Y ReadFault) → line ≡ Err f → IfErr line refused → (r : Result X Stop) → IsErrAnd r (λ y. y ≡ stop_of_read f) → UnlessMissed refused P (miss_of r)
 refused_missed {Y = Y} refused P f line is h r out =
     missed_err refused P r (stop_of_read f) out (missed_read refused P f (subst (λ (l : Result Y ReadFault). IfErr l refused) is h))

@@ -67,13 +67,15 @@ module _ (old new : ScreenState) (d : Devices) (fresh : Bool) (cells : Cells) (b
   part_shown : (n : ℕ) → Shows old new (take n bytes) → (e : DeviceError) → WantsLine e (Halts (Ends endings.NoInput)) (take n bytes) (show bytes) → HasBroken nothing_refused old new e → Breaks nothing_refused (RefinesPartTo (trace (with_screen old d) fresh cells) (trace (with_screen new d) fresh cells) (show bytes)) (with_screen new d) action_state (Halts (Ends endings.NoInput)) e
   part_shown n s e wants broken = record {
     left = show bytes;
-    middle = old;
-    part = take n bytes;
+    screen = old;
+    bytes = take n bytes;
     comes = refines_part_refl (trace (with_screen old d) fresh cells) (show bytes);
     shows = s;
-    begins = λ S a. (drop n bytes, ap (λ l. S.shown ++ l) (sym (take-append-drop n bytes)) ∙ sym (append_assoc S.shown (take n bytes) (drop n bytes)));
-    takes = λ S a. ([], refl);
-    wants = wants;
+    continues = record {
+      begins = λ S a. (drop n bytes, ap (λ l. S.shown ++ l) (sym (take-append-drop n bytes)) ∙ sym (append_assoc S.shown (take n bytes) (drop n bytes)));
+      takes = λ S a. ([], refl);
+    };
+    line = wants;
     broken = broken;
   }
 

@@ -22,7 +22,7 @@ use Rattle.ptb_command.specs.Act.{parts_action}
 use Rattle.ptb_command.specs.Effects.{action_state, Begins, TakesLines}
 use Rattle.ptb_command.specs.Devices.{Devices, with_screen, Refusal, Unanswered, NoLine}
 use Rattle.ptb_command.specs.Traces.{Trace, with_due, still_due, RefinesPart}
-use Rattle.ptb_command.specs.Stops.{LacksLine, WantsLine, Stops, RefinesPartTo, Comes}
+use Rattle.ptb_command.specs.Stops.{AsksNext, Continues, LacksLine, WantsLine, Stops, RefinesPartTo, Comes}
 use Rattle.ptb_command.proofs.Effects.{Preserves, begins_itself, begins_joined, takes_itself, takes_joined, attempt_state, parts_part, parts_take}
 use Rattle.ptb_command.proofs.Exchanges.{has_broken_from}
 use Rattle.ptb_command.proofs.PartRefinement.{refines_part_then, refines_part_under}
@@ -86,6 +86,15 @@ out_before into beside outs f n v pauses.Ended h = tt
 out_before into beside outs f n v (pauses.OutOfRange k) h = λ later. ap into (h later) ∙ outs n v
 out_before into beside outs f n v pauses.Memory h = tt
 
+pub asks_before : {A B V W : Type 0} (into : Outcome A V → Outcome B W) (beside : V → W) → ((n : ℤ) (v : V) → into (Asks n v) ≡ Asks n (beside v)) → ((n : ℤ) (v : V) → into (Out n v) ≡ Out n (beside v)) → (f : Answers → Outcome A V) (n : ℤ) (v : V) (z : Pause) → AsksNext f n v z → AsksNext (λ a. into (f a)) n (beside v) z
+asks_before into beside asks outs f n v z h = record { asks = ap into h.asks ∙ asks n v; outside = out_before into beside outs f n v z h.outside }
+
+continues_before : {A B : Type 0} (next : A → Action B) → ((x : A) → Adds (next x)) → (shown : State → List ℕ) (left : Action A) → Continues action_state shown left → Continues action_state shown (and_then left next)
+continues_before next adds shown left h = record {
+  begins = λ S a. begins_before next adds (shown S) (left S a) (h.begins S a);
+  takes = λ S a. takes_before next adds S.lines (left S a) (h.takes S a);
+}
+
 -- what stops an action stops it before what comes next
 module _ {A B : Type 0} (refused : Refusal → Type 0) (R : Devices → Action A → Type 0) (Q : Devices → Action B → Type 0) (next : A → Action B) (adds : (x : A) → Adds (next x)) (under : (d : Devices) (g : Action A) → R d g → Q d (and_then g next)) (n : Devices) where
   pub stops_before : (e : Stop) → Stops refused R n e → Stops refused Q n e
@@ -101,22 +110,19 @@ module _ {A B : Type 0} (refused : Refusal → Type 0) (R : Devices → Action A
     left = and_then h.left next;
     bound = h.bound;
     comes = under n h.left h.comes;
-    asks = λ S. ap (λ o. go_on o (on_progress next)) (h.asks S);
-    begins = λ S a. begins_before next adds S.shown (h.left S a) (h.begins S a);
-    takes = λ S a. takes_before next adds S.lines (h.left S a) (h.takes S a);
-    outside = λ S. out_before (λ o. go_on o (on_progress next)) (λ T. T) (λ k T. refl) (h.left S) h.bound S z (h.outside S);
-    refusal = h.refusal;
+    question = λ S. asks_before (λ o. go_on o (on_progress next)) (λ T. T) (λ k T. refl) (λ k T. refl) (h.left S) h.bound S z (h.question S);
+    continues = continues_before next adds (λ S. S.shown) h.left h.continues;
+    pause = h.pause;
     refuses = h.refuses;
   }
   stops_before (stops.Broke e) h = record {
     left = and_then h.left next;
-    middle = h.middle;
-    part = h.part;
-    comes = under (with_screen h.middle n) h.left h.comes;
+    screen = h.screen;
+    bytes = h.bytes;
+    comes = under (with_screen h.screen n) h.left h.comes;
     shows = h.shows;
-    begins = λ S a. begins_before next adds (S.shown ++ h.part) (h.left S a) (h.begins S a);
-    takes = λ S a. takes_before next adds S.lines (h.left S a) (h.takes S a);
-    wants = wants_before (λ o. go_on o (on_progress next)) (Halts (Ends endings.NoInput)) (Halts (Ends endings.NoInput)) (λ S a. refl) (λ n S. refl) h.part h.left e h.wants;
+    continues = continues_before next adds (λ S. S.shown ++ h.bytes) h.left h.continues;
+    line = wants_before (λ o. go_on o (on_progress next)) (Halts (Ends endings.NoInput)) (Halts (Ends endings.NoInput)) (λ S a. refl) (λ n S. refl) h.bytes h.left e h.line;
     broken = h.broken;
   }
 
@@ -130,23 +136,20 @@ module _ {A : Type 0} (refused others : Refusal → Type 0) (more : (r : Refusal
     left = h.left;
     bound = h.bound;
     comes = along n h.left h.comes;
-    asks = h.asks;
-    begins = h.begins;
-    takes = h.takes;
-    outside = h.outside;
-    refusal = h.refusal;
+    question = h.question;
+    continues = h.continues;
+    pause = h.pause;
     refuses = more (Unanswered z h.bound) h.refuses;
   }
   stops_along (stops.Broke e) h = record {
     left = h.left;
-    middle = h.middle;
-    part = h.part;
-    comes = along (with_screen h.middle n) h.left h.comes;
+    screen = h.screen;
+    bytes = h.bytes;
+    comes = along (with_screen h.screen n) h.left h.comes;
     shows = h.shows;
-    begins = h.begins;
-    takes = h.takes;
-    wants = h.wants;
-    broken = has_broken_from refused others more h.middle h.middle n.screen refl refl e h.broken;
+    continues = h.continues;
+    line = h.line;
+    broken = has_broken_from refused others more h.screen h.screen n.screen refl refl e h.broken;
   }
 
 -- ---- from trace to trace

@@ -25,7 +25,7 @@ use Rattle.ptb_command.proofs.Exchanges.{shows_nothing}
 use Rattle.ptb_command.proofs.PartRefinement.{leaves_under, leaves_to, once_nothing, freshens_nothing, refines_part_under}
 use Rattle.ptb_command.proofs.Due.{behind_is, refines_part_dropped, stops_due, stops_dropped}
 use Rattle.ptb_command.specs.declared.stop.Stop.TheVariants as stops
-use Rattle.ptb_command.proofs.Stops.{out_before, attempt_adds, or_halt_adds, stops_under}
+use Rattle.ptb_command.proofs.Stops.{asks_before, attempt_adds, or_halt_adds, stops_under}
 
 -- for devices that hold d but for the choices, and a state that is fresh or not, with these bytes due and these cells
 module _ {A : Type 0} (f : Cells → Work A) (c e : Choices) (d : Devices) (fresh : Bool) (due : List ℕ) (cells : Cells) where
@@ -49,11 +49,12 @@ module _ {A : Type 0} (f : Cells → Work A) (c e : Choices) (d : Devices) (fres
     left = attempt (λ k. p.left);
     bound = p.bound;
     comes = attempted p.left p.reaches;
-    asks = λ S. ap (λ o. map_outcome (λ r. Goes r S) (λ u. S) o) p.asks;
-    begins = λ S a. ((attempt_adds (λ k. p.left)).at S a).shown;
-    takes = λ S a. ((attempt_adds (λ k. p.left)).at S a).lines;
-    outside = λ S. out_before (λ o. map_outcome (λ r. Goes r S) (λ u. S) o) (λ v. S) (λ n v. refl) p.left p.bound p.beside z p.outside;
-    refusal = r;
+    question = λ S. asks_before (λ o. map_outcome (λ r. Goes r S) (λ u. S) o) (λ v. S) (λ n v. refl) (λ n v. refl) p.left p.bound p.beside z (record { asks = p.asks; outside = p.outside });
+    continues = record {
+      begins = λ S a. ((attempt_adds (λ k. p.left)).at S a).shown;
+      takes = λ S a. ((attempt_adds (λ k. p.left)).at S a).lines;
+    };
+    pause = r;
     refuses = p.refuses;
   }
 
@@ -61,13 +62,15 @@ module _ {A : Type 0} (f : Cells → Work A) (c e : Choices) (d : Devices) (fres
   breaks : (refused : Pause → ℤ → Type 0) → Pauses refused (f cells) c e pauses.Memory → Breaks (refused_answers refused) (RefinesPartTo (with_due due (trace (with_choices c d) fresh cells)) (trace (with_choices e d) fresh cells) (attempt f)) (with_choices e d) action_state (Halts (Ends endings.NoInput)) errors.Memory
   breaks refused p = record {
     left = λ S. attempt (λ k. p.left) (once_shown due S);
-    middle = d.screen;
-    part = [];
+    screen = d.screen;
+    bytes = [];
     comes = refines_part_dropped (attempted p.left p.reaches);
     shows = shows_nothing d.screen;
-    begins = λ S a. (due, ap (λ (T : State). T.shown) (attempt_state (λ k. p.left) (once_shown due S) a) ∙ behind_is S.shown due ∙ ap (λ s. s ++ due) (sym (append-nil S.shown)));
-    takes = λ S a. ([], sym (ap (λ (T : State). T.lines) (attempt_state (λ k. p.left) (once_shown due S) a)));
-    wants = tt;
+    continues = record {
+      begins = λ S a. (due, ap (λ (T : State). T.shown) (attempt_state (λ k. p.left) (once_shown due S) a) ∙ behind_is S.shown due ∙ ap (λ s. s ++ due) (sym (append-nil S.shown)));
+      takes = λ S a. ([], sym (ap (λ (T : State). T.lines) (attempt_state (λ k. p.left) (once_shown due S) a)));
+    };
+    line = tt;
     broken = (record { by = inr (inl (p.bound, p.refuses)) }, refl);
   }
 

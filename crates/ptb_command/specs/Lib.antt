@@ -16,6 +16,7 @@ pub mod Representation
 pub mod Acts
 pub mod Reports
 pub mod Io
+pub mod Executed
 pub mod Stacks
 pub mod Loops
 pub mod Code

@@ -1,12 +1,19 @@
 -- This file defines what a part of a command comes to, where it stops and where it goes on.
+--
+-- Where a device stops it, it has come to what is `left` to do. A question that was refused, or a line that isn't
+-- there, is what is left next; where a device broke, the screen may have shown some of what is left.
 --     stop_of_screen, stop_of_read, stop_of    why a command stops where a device fails, and where an expression has no value
+--     AsksNext f bound beside z            f asks a question next, which is refused for this pause
+--     Continues state shown left           what is left takes back nothing
 --     LacksLine choose ends left S         without a line it ends, or asks for an answer
---     WantsLine e ends part left           where the input can't be read, a line is wanted
+--     WantsLine e ends bytes left          where the input can't be read, a line is wanted
 --     Waits, IsDry, Breaks                 it stops at a question, at an input line, at a device
 --     Stops refused R n e                  it stops for the reason e
 --     still_shows result                   once it comes to this, what is gathered is shown
---     UnlessMissed refused P result        P holds, unless a line was wanted and the source gave none
+--     Miss, stop_miss, miss_of             whether a result reports that a line was asked for in vain
+--     UnlessMissed refused P miss          P holds, unless that is reported
 --     NotMissed choose old new most        no line was asked for in vain, unless an answer was asked for instead
+--     ReportsMissed source choose old new miss    the same of a source, unless it is reported
 --     Comes refused o n f ok result        from trace o to trace n, f comes to the result
 use Rattle.std.specs.Prelude.{◌≡◌, ◌≤◌, ◌⊎◌, ℕ, Bool, true, false, List, [], ◌++◌, Option, Some, None, Result, Ok, Err, ℤ, pos, ◌≤ℤ◌}
 use Rattle.ptb_expr.specs.declared.fault.Stop.{Stop as NoValue}
@@ -20,6 +27,7 @@ use Rattle.ptb_devices.specs.declared.fault.ReadFault.{ReadFault}
 use Rattle.ptb_devices.specs.declared.fault.ReadFault.TheVariants as reads
 use Rattle.ptb_devices.specs.declared.fault.ScreenFault.{ScreenFault}
 use Rattle.ptb_devices.specs.declared.fault.ScreenFault.TheVariants as screens
+use Rattle.ptb_devices.specs.declared.lines.LineSource as sources
 use Rattle.ptb_command.specs.declared.stop.DeviceError.{DeviceError}
 use Rattle.ptb_command.specs.declared.stop.DeviceError.TheVariants as errors
 use Rattle.ptb_command.specs.declared.stop.Stop.{Stop}
@@ -57,51 +65,57 @@ IsRefusal pauses.Ended = Unit {0}
 IsRefusal (pauses.OutOfRange k) = Unit {0}
 IsRefusal pauses.Memory = ⊥
 
+-- f asks a question with this bound next; with an answer that z says is out of range, it is out
+pub record AsksNext {A W : Type 0} (f : Answers → Outcome A W) (bound : ℤ) (beside : W) (z : Pause) : Type 0 where
+  pub asks : f [] ≡ Asks bound beside
+  pub outside : SaysOut f bound beside z
+
+-- whatever answers follow, what is left shows these bytes and perhaps more, and takes lines from the first on
+pub record Continues {A : Type 0} (state : Outcome A State → State) (shown : State → List ℕ) (left : State → Answers → Outcome A State) : Type 0 where
+  pub begins : (S : State) (a : Answers) → Begins (shown S) (state (left S a)).shown
+  pub takes : (S : State) (a : Answers) → TakesLines S.lines (state (left S a)).lines
+
 -- without a line it ends so, or asks with this bound, which is at least 1
 abbrev pub LacksLine : {A : Type 0} → Option ℤ → (State → A) → (State → Answers → Outcome A State) → State → Type 0
 LacksLine None ends left S = (a : Answers) → left S a ≡ Done (ends S) a
 LacksLine (Some n) ends left S = pos 1 ≤ℤ n → left S [] ≡ Asks n S
 
--- the input is read only where a line is wanted: nothing of what is left was shown then, and without a line it comes to no more
+-- the input is read only where a line is wanted: nothing of what is left was shown then, and it lacks a line where none is left
 abbrev pub WantsLine : {A : Type 0} → DeviceError → (State → A) → List ℕ → (State → Answers → Outcome A State) → Type 0
-WantsLine errors.Read ends part left =
-    (part ≡ []) × ((S : State) → S.lines ≡ [] → LacksLine S.choose ends left S)
-WantsLine errors.Memory ends part left = Unit {0}
-WantsLine errors.Write ends part left = Unit {0}
+WantsLine errors.Read ends bytes left = (bytes ≡ []) × ((S : State) → S.lines ≡ [] → LacksLine S.choose ends left S)
+WantsLine errors.Memory ends bytes left = Unit {0}
+WantsLine errors.Write ends bytes left = Unit {0}
 
--- R d g says that it has come to g, with devices that hold d; `refused` is what stands after a refusal
+-- R d g says that it has come to g, with devices that hold d; `refused` is what holds after a refusal
 module _ {A : Type 0} (refused : Refusal → Type 0) (R : Devices → (State → Answers → Outcome A State) → Type 0) (n : Devices) where
-  -- what is left asks, and the chooser has refused the question; it takes back nothing that was shown, and gives back no line
+  -- the chooser has refused the question that is next
   pub record Waits (state : Outcome A State → State) (z : Pause) : Type 0 where
     pub left : State → Answers → Outcome A State
-    pub bound : ℤ
     pub comes : R n left
-    pub asks : (S : State) → left S [] ≡ Asks bound S
-    pub begins : (S : State) (a : Answers) → Begins S.shown (state (left S a)).shown
-    pub takes : (S : State) (a : Answers) → TakesLines S.lines (state (left S a)).lines
-    pub outside : (S : State) → SaysOut (left S) bound S z
-    pub refusal : IsRefusal z
+    pub bound : ℤ
+    pub question : (S : State) → AsksNext (left S) bound S z
+    pub continues : Continues state (λ S. S.shown) left
+    pub pause : IsRefusal z
     pub refuses : refused (Unanswered z bound)
 
-  -- what is left wants a line, and the source has none; it ends so without one
+  -- a line is wanted next, and the source has none; it ends so without one
   pub record IsDry (ends : State → A) : Type 0 where
     pub left : State → Answers → Outcome A State
     pub comes : R n left
     pub dry : (S : State) (a : Answers) → S.lines ≡ [] → left S a ≡ Done (ends S) a
     pub refuses : refused NoLine
 
-  -- a device has failed, or was refused memory, once it had come to what is left;
-  -- what was shown of that is a beginning of what it shows, and it takes further lines at most
+  -- a device has failed, or was refused memory
   pub record Breaks (state : Outcome A State → State) (ends : State → A) (e : DeviceError) : Type 0 where
     pub left : State → Answers → Outcome A State
-    pub middle : ScreenState
-    pub part : List ℕ
-    pub comes : R (with_screen middle n) left
-    pub shows : Shows middle n.screen part
-    pub begins : (S : State) (a : Answers) → Begins (S.shown ++ part) (state (left S a)).shown
-    pub takes : (S : State) (a : Answers) → TakesLines S.lines (state (left S a)).lines
-    pub wants : WantsLine e ends part left
-    pub broken : HasBroken refused middle n.screen e
+    -- the screen when it had come there, and the bytes that it has shown since then
+    pub screen : ScreenState
+    pub bytes : List ℕ
+    pub comes : R (with_screen screen n) left
+    pub shows : Shows screen n.screen bytes
+    pub continues : Continues state (λ S. S.shown ++ bytes) left
+    pub line : WantsLine e ends bytes left
+    pub broken : HasBroken refused screen n.screen e
 
 abbrev pub Stops : {A : Type 0} → (Refusal → Type 0) → (Devices → Action A → Type 0) → Devices → Stop → Type 0
 Stops refused R n (stops.Fault f) = R n (halt (Faults f))
@@ -121,24 +135,38 @@ still_shows (Err (stops.Broke e)) = false
 
 -- ---- lines that the source didn't give
 
--- `refused` is what stands after a fault of the source; memory may have been refused to another device, too
-abbrev pub UnlessStopMissed : (ReadFault → Type 0) → Type 0 → Stop → Type 0
-UnlessStopMissed refused P (stops.Fault f) = P
-UnlessStopMissed refused P stops.Ended = P
-UnlessStopMissed refused P stops.NoInput = Unit {0}
-UnlessStopMissed refused P (stops.Pause z) = P
-UnlessStopMissed refused P (stops.Broke errors.Memory) = P ⊎ refused reads.Memory
-UnlessStopMissed refused P (stops.Broke errors.Read) = Unit {0}
-UnlessStopMissed refused P (stops.Broke errors.Write) = P
+-- whether a result reports that a line was asked for without success
+pub data Miss : Type 0 where
+  NoMiss : Miss
+  LineMiss : Miss
+  -- memory was refused, to the source or to another device
+  MemoryMiss : Miss
 
-abbrev pub UnlessMissed : {X : Type 0} → (ReadFault → Type 0) → Type 0 → Result X Stop → Type 0
-UnlessMissed refused P (Ok x) = P
-UnlessMissed refused P (Err e) = UnlessStopMissed refused P e
+-- P holds, unless that is reported; `refused` is what holds after a fault of the source
+abbrev pub UnlessMissed : (ReadFault → Type 0) → Type 0 → Miss → Type 0
+UnlessMissed refused P NoMiss = P
+UnlessMissed refused P LineMiss = Unit {0}
+UnlessMissed refused P MemoryMiss = P ⊎ refused reads.Memory
+
+abbrev pub stop_miss : Stop → Miss
+stop_miss stops.NoInput = LineMiss
+stop_miss (stops.Broke errors.Read) = LineMiss
+stop_miss (stops.Broke errors.Memory) = MemoryMiss
+stop_miss _ = NoMiss
+
+abbrev pub miss_of : {X : Type 0} → Result X Stop → Miss
+miss_of (Ok x) = NoMiss
+miss_of (Err e) = stop_miss e
 
 -- no line was asked for in vain; where answers are asked for instead, one may have been that the source can't give
 abbrev pub NotMissed : Option ℤ → ℕ → ℕ → ℕ → Type 0
 NotMissed None old new most = new ≤ old
 NotMissed (Some n) old new most = (new ≤ old) ⊎ (most ≡ 0)
+
+-- no line was asked for in vain between the old source and the new one, unless the result reports it
+abbrev pub ReportsMissed : {L : Type 0} → sources.Ghosts L → Option ℤ → L → L → Miss → Type 0
+ReportsMissed source choose old new miss =
+    UnlessMissed (source.refused new) (NotMissed choose (source.missed old) (source.missed new) (source.most new)) miss
 
 -- ---- where it comes to
 

@@ -21,7 +21,8 @@ use Rattle.ptb_machine.specs.declared.fault.RunFault.{RunFault}
 use Rattle.ptb_machine.specs.Laws.{RunLaws}
 use Rattle.ptb_machine.specs.Play.{Finish, play, turn}
 use Rattle.ptb_machine.specs.Questions.{most_answers}
-use Rattle.ptb_machine.specs.Steps.{StepComes, Steps, StepsTo}
+use Rattle.ptb_machine.specs.Steps.{Steps}
+use Rattle.ptb_machine.specs.TurnResults.{StepComes, StepsTo}
 use Rattle.ptb_report.specs.Report.{report_text}
 use Rattle.ptb_explore.specs.Playing.{Holds, IsRunPrefix}
 use Rattle.ptb_explore.specs.Report.{report, report_of, word_of}
@@ -49,7 +50,7 @@ module _ (laws : RunLaws) (p : StoredProgram) (input : List (List ℕ)) (rules :
 
   pub drawn_ends : (e : Ending) (r : Result (Option Ending) RunFault) → r ≡ Ok (Some e) → left ≡ given ++ rest → (few ≡ 0 → rest ≡ []) → Steps (refused_by RefusedForMemory (λ _. ⊥) (Some rest)) p rules.limit m new (devices c (text_state s) most rules.choose []) (devices d (text_state t) few rules.choose given) r → EndsBy e
   drawn_ends e r is l follows steps =
-      drawn_comes e (subst (λ r. StepComes (refused_by RefusedForMemory (λ _. ⊥) (Some rest)) (StepsTo p.lines new (devices c (text_state s) most rules.choose []) u.state rest (turn p rules.limit u.state)) (devices d (text_state t) few rules.choose given) r) is (steps u.state rest u.represents u.choose follows (u.left_is ∙ l)))
+      drawn_comes e (subst (λ r. StepComes (refused_by RefusedForMemory (λ _. ⊥) (Some rest)) (StepsTo p.lines new (devices c (text_state s) most rules.choose []) u.state rest (turn p rules.limit u.state)) (devices d (text_state t) few rules.choose given) r) is (steps u.state rest (record { represents = u.represents; lines = u.left_is ∙ l; follow = follows; choose = u.choose })))
 
 -- ---- the run of a chooser
 

@@ -21,7 +21,8 @@ use Rattle.ptb_command.specs.Configuration.{Configuration}
 use Rattle.ptb_command.specs.Effects.{act_state}
 use Rattle.ptb_command.specs.Representation.{Represents}
 use Rattle.ptb_command.specs.Stops.{Waits, IsDry}
-use Rattle.ptb_machine.specs.Steps.{QuietTurns, StepsTo, goes, ends, StepComes, Steps}
+use Rattle.ptb_machine.specs.Steps.{QuietTurns, Steps}
+use Rattle.ptb_machine.specs.TurnResults.{StepsTo, goes, ends, StepComes}
 use Rattle.ptb_answers.specs.declared.rules.Rules.{Rules}
 use Rattle.ptb_machine.specs.Questions.{most_answers}
 use Rattle.ptb_explore.specs.Laws.{TreeLaws}
@@ -156,7 +157,7 @@ module _ (laws : RunLaws) (p : StoredProgram) (input : List (List ℕ)) (rules :
         let h = turn_holds m new c d s t given left rest most few u w.left x in
         let reads = laws.reads p input rules in
         let later = w.refuses.0.0 in
-        let asks : play p input rules d.taken ≡ Asks w.bound T.shown = ap (play p input rules) (sym (append-nil d.taken)) ∙ h.1.rest [] ∙ ap (from_turn p rules) (w.asks T) in
+        let asks : play p input rules d.taken ≡ Asks w.bound T.shown = ap (play p input rules) (sym (append-nil d.taken)) ∙ h.1.rest [] ∙ ap (from_turn p rules) (w.question T).asks in
         let out : play p input rules (d.taken ++ k ∷ []) ≡ Out w.bound T.shown = reads.outside d.taken w.bound k T.shown asks w.refuses.1 in
         let all : play p input rules ((d.taken ++ k ∷ []) ++ later) ≡ Out w.bound T.shown = reads.out (d.taken ++ k ∷ []) later w.bound T.shown out in (
           h.0,
@@ -187,7 +188,7 @@ module _ (laws : RunLaws) (p : StoredProgram) (input : List (List ℕ)) (rules :
 
   pub step_goes : (m new : Configuration) (c d : Choices) (s t : List ℕ) (given left rest : List (List ℕ)) (most few : ℕ) (refused : Refusal → Type 0) (r : Result (Option Ending) RunFault) → r ≡ Ok None → IsRunPrefix p input rules c s left m → left ≡ given ++ rest → (few ≡ 0 → rest ≡ []) → Steps refused p rules.limit m new (devices c (text_state s) most rules.choose []) (devices d (text_state t) few rules.choose given) r → (d.plan ≡ c.plan) × IsRunPrefix p input rules d t rest new × ((m.steps < rules.limit) × (new.steps ≡ m.steps + 1))
   step_goes m new c d s t given left rest most few refused r e u l follows steps =
-      let x = subst (λ r. StepComes refused (StepsTo p.lines new (devices c (text_state s) most rules.choose []) u.state rest (turn p rules.limit u.state)) (devices d (text_state t) few rules.choose given) r) e (steps u.state rest u.represents u.choose follows (u.left_is ∙ l)) in
+      let x = subst (λ r. StepComes refused (StepsTo p.lines new (devices c (text_state s) most rules.choose []) u.state rest (turn p rules.limit u.state)) (devices d (text_state t) few rules.choose given) r) e (steps u.state rest (record { represents = u.represents; lines = u.left_is ∙ l; follow = follows; choose = u.choose })) in
       ((turn_holds m new c d s t given left rest most few u goes x).0, goes_run_prefix m new c d s t given left rest most few u x, goes_below m new c d s t given left rest most few u x)
 
   -- ---- turns that ask nothing
@@ -204,7 +205,7 @@ module _ (laws : RunLaws) (p : StoredProgram) (input : List (List ℕ)) (rules :
 
   pub step_ends : (m new : Configuration) (c d : Choices) (bound : ℤ) (s t : List ℕ) (given left rest : List (List ℕ)) (most few : ℕ) (e : Ending) (r : Result (Option Ending) RunFault) → r ≡ Ok (Some e) → IsRunPrefix p input rules c s left m → left ≡ given ++ rest → (few ≡ 0 → rest ≡ []) → Steps (refused_by (RefusedByPlan d bound) (λ _. ⊥) (Some rest)) p rules.limit m new (devices c (text_state s) most rules.choose []) (devices d (text_state t) few rules.choose given) r → (d.plan ≡ c.plan) × PlayEnds (play p input rules) d bound new.steps t e
   step_ends m new c d bound s t given left rest most few e r is u l follows steps =
-      let x = subst (λ r. StepComes (refused_by (RefusedByPlan d bound) (λ _. ⊥) (Some rest)) (StepsTo p.lines new (devices c (text_state s) most rules.choose []) u.state rest (turn p rules.limit u.state)) (devices d (text_state t) few rules.choose given) r) is (steps u.state rest u.represents u.choose follows (u.left_is ∙ l)) in
+      let x = subst (λ r. StepComes (refused_by (RefusedByPlan d bound) (λ _. ⊥) (Some rest)) (StepsTo p.lines new (devices c (text_state s) most rules.choose []) u.state rest (turn p rules.limit u.state)) (devices d (text_state t) few rules.choose given) r) is (steps u.state rest (record { represents = u.represents; lines = u.left_is ∙ l; follow = follows; choose = u.choose })) in
       ending_comes m new c d bound s t given left rest most few u e x
 
   -- a machine that isn't spent, whose bytes and lines are in memory, has no fault but want of memory
@@ -213,7 +214,7 @@ module _ (laws : RunLaws) (p : StoredProgram) (input : List (List ℕ)) (rules :
     Fault f = StepComes (refused_by refuses (λ _. ⊥) (Some rest)) (StepsTo p.lines new (devices c (text_state s) most rules.choose []) u.state rest (turn p rules.limit u.state)) (devices d (text_state t) few rules.choose given) (Err f)
 
     faulted : (f : RunFault) → r ≡ Err f → Fault f
-    faulted f is = subst (λ r. StepComes (refused_by refuses (λ _. ⊥) (Some rest)) (StepsTo p.lines new (devices c (text_state s) most rules.choose []) u.state rest (turn p rules.limit u.state)) (devices d (text_state t) few rules.choose given) r) is (steps u.state rest u.represents u.choose follows (u.left_is ∙ l))
+    faulted f is = subst (λ r. StepComes (refused_by refuses (λ _. ⊥) (Some rest)) (StepsTo p.lines new (devices c (text_state s) most rules.choose []) u.state rest (turn p rules.limit u.state)) (devices d (text_state t) few rules.choose given) r) is (steps u.state rest (record { represents = u.represents; lines = u.left_is ∙ l; follow = follows; choose = u.choose }))
 
     pub never_unread : r ≡ Err faults.Read → ⊥
     never_unread is = let w : Fault faults.Read = faulted faults.Read is in elim w.broken.0.by [ inl x ↦ x | inr x ↦ x ]
@@ -221,7 +222,7 @@ module _ (laws : RunLaws) (p : StoredProgram) (input : List (List ℕ)) (rules :
     pub never_unwritten : r ≡ Err faults.Write → ⊥
     never_unwritten is =
         let w : Fault faults.Write = faulted faults.Write is in
-        let none : w.middle.failures ≡ 0 = w.comes.exchanges.unfailed in
+        let none : w.screen.failures ≡ 0 = w.comes.exchanges.unfailed in
         elim w.broken.0 [ inl x ↦ absurd (omega (arith, none, x)) | inr x ↦ absurd (omega (arith, none, x)) ]
 
 -- ---- a chooser that took the same answers
@@ -263,9 +264,9 @@ module _ (p : StoredProgram) (input : List (List ℕ)) (rules : Rules) (m new : 
 
   pub step_extends : (o : Option Ending) (r : Result (Option Ending) RunFault) → r ≡ Ok o → left ≡ given ++ rest → (few ≡ 0 → rest ≡ []) → Steps refused p rules.limit m new (devices c (text_state s) most rules.choose []) (devices d (text_state t) few rules.choose given) r → Extends c d s t
   step_extends None r is l follows steps =
-      turn_extends goes (subst (λ r. StepComes refused (StepsTo p.lines new (devices c (text_state s) most rules.choose []) u.state rest (turn p rules.limit u.state)) (devices d (text_state t) few rules.choose given) r) is (steps u.state rest u.represents u.choose follows (u.left_is ∙ l)))
+      turn_extends goes (subst (λ r. StepComes refused (StepsTo p.lines new (devices c (text_state s) most rules.choose []) u.state rest (turn p rules.limit u.state)) (devices d (text_state t) few rules.choose given) r) is (steps u.state rest (record { represents = u.represents; lines = u.left_is ∙ l; follow = follows; choose = u.choose })))
   step_extends (Some e) r is l follows steps =
-      ending_extends e (subst (λ r. StepComes refused (StepsTo p.lines new (devices c (text_state s) most rules.choose []) u.state rest (turn p rules.limit u.state)) (devices d (text_state t) few rules.choose given) r) is (steps u.state rest u.represents u.choose follows (u.left_is ∙ l)))
+      ending_extends e (subst (λ r. StepComes refused (StepsTo p.lines new (devices c (text_state s) most rules.choose []) u.state rest (turn p rules.limit u.state)) (devices d (text_state t) few rules.choose given) r) is (steps u.state rest (record { represents = u.represents; lines = u.left_is ∙ l; follow = follows; choose = u.choose })))
 
 -- where a list can give no line, none is left
 pub none_follow : (s : LineList) → length s.lines - s.taken ≡ 0 → drop s.taken s.lines ≡ []

@@ -11,8 +11,9 @@ use Rattle.ptb_devices.specs.declared.screen.Screen as screens
 use Rattle.ptb_command.specs.declared.ending.Ending.{Ending}
 use Rattle.ptb_machine.specs.declared.fault.RunFault.{RunFault}
 use Rattle.ptb_machine.specs.declared.run_end.RunEnd.{RunEnd}
-use Rattle.ptb_machine.specs.RunDevices.{RunDevices, held, refusals, NoneMissed}
-use Rattle.ptb_machine.specs.Runs.{IsLineOf, IsRun, IsRunToEnd, Runs, UnlessRunMissed}
+use Rattle.ptb_command.specs.Stops.{ReportsMissed}
+use Rattle.ptb_machine.specs.RunDevices.{RunDevices, held, refusals}
+use Rattle.ptb_machine.specs.Runs.{IsLineOf, IsRun, IsRunToEnd, Runs, run_miss}
 
 module _ {C S L : Type 0} (chooser : choosers.Ghosts C) (screen : screens.Ghosts S) (source : sources.Ghosts L) (p : StoredProgram) (rules : Rules) (o n : RunDevices C S L) where
   -- a run that is over
@@ -24,7 +25,7 @@ module _ {C S L : Type 0} (chooser : choosers.Ghosts C) (screen : screens.Ghosts
       given = run.given;
       gives = run.gives;
       runs = subst (λ (x : Ending). Runs (refusals chooser screen source n) p rules (held chooser screen source rules o []) (held chooser screen source rules n run.given) (Ok x)) (sym e) run.runs;
-      missed = subst (λ (x : Ending). UnlessRunMissed (source.refused n.source) (NoneMissed chooser screen source rules o n) (Ok x)) (sym e) run.missed;
+      missed = subst (λ (x : Ending). ReportsMissed source rules.choose o.source n.source (run_miss (Ok x))) (sym e) run.missed;
     };
     line = line;
   }

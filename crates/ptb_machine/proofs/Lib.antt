@@ -15,3 +15,4 @@ pub mod Spending
 mod Stepping
 pub mod Steps
 pub mod Turns
+mod Underway

@@ -19,8 +19,10 @@ use Rattle.ptb_command.specs.declared.stop.Stop.TheVariants as stops
 use Rattle.ptb_command.specs.Act.{report_bytes}
 use Rattle.ptb_command.specs.Traces.{Trace}
 use Rattle.ptb_command.specs.Reports.{IsShown}
-use Rattle.ptb_command.specs.Stops.{UnlessStopMissed, UnlessMissed}
-use Rattle.ptb_machine.specs.Steps.{fault_of, reported, IsResultOf, UnlessEndingMissed, UnlessFaultMissed, UnlessStepMissed}
+use Rattle.ptb_command.specs.Stops.{UnlessMissed, stop_miss, miss_of}
+use Rattle.ptb_command.proofs.Missed.{miss_unmissed}
+use Rattle.ptb_machine.specs.CommandResults.{fault_of, reported, IsResultOf}
+use Rattle.ptb_machine.specs.Steps.{step_miss}
 
 -- nothing is shown where it was done, or stopped by s
 pub result_done : (o : Trace) (number : ℕ) (text : List ℕ) (done : Result (Unit {0}) Stop) (x : Unit {0}) → done ≡ Ok x → IsResultOf o o number text done (Ok None)
@@ -105,25 +107,21 @@ result_unspent o n number text done r is e =
 
 -- ---- lines that the source didn't give
 
-reported_unmissed : (refused : ReadFault → Type 0) (P : Type 0) → P → (kind : FaultKind) (shown : Result (Unit {0}) ScreenFault) → UnlessStepMissed refused P (reported kind shown)
-reported_unmissed refused P p kinds.What (Ok x) = p
-reported_unmissed refused P p kinds.How (Ok x) = p
-reported_unmissed refused P p kinds.Sorry (Ok x) = p
-reported_unmissed refused P p kind (Err screens.Memory) = inl p
-reported_unmissed refused P p kind (Err screens.Write) = p
+reported_unmissed : (refused : ReadFault → Type 0) (P : Type 0) → P → (kind : FaultKind) (shown : Result (Unit {0}) ScreenFault) → UnlessMissed refused P (step_miss (reported kind shown))
+reported_unmissed refused P p kind shown = miss_unmissed refused P p (step_miss (reported kind shown))
 
-error_missed : (refused : ReadFault → Type 0) (P : Type 0) (e : DeviceError) → UnlessStopMissed refused P (stops.Broke e) → UnlessFaultMissed refused P (fault_of e)
-error_missed refused P errors.Memory h = h
-error_missed refused P errors.Read h = tt
-error_missed refused P errors.Write h = h
+error_missed : (e : DeviceError) → step_miss (Err (fault_of e)) ≡ stop_miss (stops.Broke e)
+error_missed errors.Memory = refl
+error_missed errors.Read = refl
+error_missed errors.Write = refl
 
-pub result_missed : (refused : ReadFault → Type 0) (P : Type 0) (o n : Trace) (number : ℕ) (text : List ℕ) (done : Result (Unit {0}) Stop) (r : Result (Option Ending) RunFault) → IsResultOf o n number text done r → UnlessMissed refused P done → UnlessStepMissed refused P r
+pub result_missed : (refused : ReadFault → Type 0) (P : Type 0) (o n : Trace) (number : ℕ) (text : List ℕ) (done : Result (Unit {0}) Stop) (r : Result (Option Ending) RunFault) → IsResultOf o n number text done r → UnlessMissed refused P (miss_of done) → UnlessMissed refused P (step_miss r)
 result_missed refused P o n number text done r is h = by_result done is h
   where
-    is_so : (x : Result (Option Ending) RunFault) → r ≡ x → UnlessStepMissed refused P x → UnlessStepMissed refused P r
-    is_so x e u = subst (λ (y : Result (Option Ending) RunFault). UnlessStepMissed refused P y) (sym e) u
+    is_so : (x : Result (Option Ending) RunFault) → r ≡ x → UnlessMissed refused P (step_miss x) → UnlessMissed refused P (step_miss r)
+    is_so x e u = subst (λ (y : Result (Option Ending) RunFault). UnlessMissed refused P (step_miss y)) (sym e) u
 
-    by_result : (done : Result (Unit {0}) Stop) → IsResultOf o n number text done r → UnlessMissed refused P done → UnlessStepMissed refused P r
+    by_result : (done : Result (Unit {0}) Stop) → IsResultOf o n number text done r → UnlessMissed refused P (miss_of done) → UnlessMissed refused P (step_miss r)
     by_result (Ok x) is h = is_so _ is.is h
     by_result (Err (stops.Fault f)) is h = is_so _ is.is (reported_unmissed refused P h f.kind is.shown)
     by_result (Err stops.Ended) is h = is_so _ is.is h
@@ -131,29 +129,7 @@ result_missed refused P o n number text done r is h = by_result done is h
     by_result (Err (stops.Pause pauses.Ended)) is h = is_so _ is.is h
     by_result (Err (stops.Pause (pauses.OutOfRange k))) is h = is_so _ is.is h
     by_result (Err (stops.Pause pauses.Memory)) is h = is_so _ is.is (inl h)
-    by_result (Err (stops.Broke x)) is h = is_so _ is.is (error_missed refused P x h)
-
--- at the exits of a run
-pub fault_missed_from : (refused : ReadFault → Type 0) (P Q : Type 0) → (P → Q) → (e : RunFault) → UnlessFaultMissed refused P e → UnlessFaultMissed refused Q e
-fault_missed_from refused P Q follows faults.Memory h = elim h [ inl p ↦ inl (follows p) | inr r ↦ inr r ]
-fault_missed_from refused P Q follows faults.Read h = tt
-fault_missed_from refused P Q follows faults.Write h = follows h
-fault_missed_from refused P Q follows faults.Spent h = follows h
-
-pub ending_missed_from : (P Q : Type 0) → (P → Q) → (e : Ending) → UnlessEndingMissed P e → UnlessEndingMissed Q e
-ending_missed_from P Q follows endings.End h = follows h
-ending_missed_from P Q follows endings.Stop h = follows h
-ending_missed_from P Q follows endings.What h = follows h
-ending_missed_from P Q follows endings.How h = follows h
-ending_missed_from P Q follows endings.Sorry h = follows h
-ending_missed_from P Q follows endings.Limit h = follows h
-ending_missed_from P Q follows endings.NoInput h = tt
-ending_missed_from P Q follows endings.NoAnswer h = follows h
-ending_missed_from P Q follows endings.BadAnswer h = follows h
-
--- a step that gave this result
-pub step_missed_at : (refused : ReadFault → Type 0) (P : Type 0) (x y : Option Ending) → x ≡ y → UnlessStepMissed refused P (Ok x) → UnlessStepMissed refused P (Ok y)
-step_missed_at refused P x y e h = subst (λ (z : Option Ending). UnlessStepMissed refused P (Ok z)) e h
+    by_result (Err (stops.Broke x)) is h = is_so _ is.is (subst (UnlessMissed refused P) (sym (error_missed x)) h)
 
 -- ---- devices
 

@@ -8,7 +8,6 @@ use Rattle.ptb_text.specs.Statements.{StoredProgram}
 use Rattle.ptb_answers.specs.declared.pause.Pause.{Pause}
 use Rattle.ptb_answers.specs.declared.pause.Pause.TheVariants as pauses
 use Rattle.ptb_answers.specs.Outcome.{Answers, Outcome, Done, Asks, Out, go_on, map_outcome}
-use Rattle.ptb_answers.specs.Choices.{SaysOut}
 use Rattle.ptb_command.specs.declared.ending.Ending.{Ending}
 use Rattle.ptb_command.specs.declared.ending.Ending.TheVariants as endings
 use Rattle.ptb_machine.specs.declared.fault.RunFault.{RunFault}
@@ -21,16 +20,18 @@ use Rattle.ptb_machine.specs.Play.{Last, last_in, after_turn, turn, all_turns, l
 use Rattle.ptb_command.specs.Effects.{act_state, Begins, TakesLines}
 use Rattle.ptb_command.specs.Devices.{ScreenState, Devices, with_screen, Shows, Exchange, no_exchange, both_exchanges, Exchanges, MayFollow, Refusal, nothing_refused}
 use Rattle.ptb_command.specs.Traces.{Leaves}
-use Rattle.ptb_command.specs.Stops.{LacksLine, Waits, IsDry, Breaks}
+use Rattle.ptb_command.specs.Stops.{AsksNext, Continues, LacksLine, Waits, IsDry, Breaks}
 use Rattle.ptb_answers.specs.declared.rules.Rules.{Rules}
 use Rattle.ptb_command.specs.Configuration.{Configuration}
 use Rattle.ptb_command.specs.Representation.{PlacesAre, Represents}
-use Rattle.ptb_machine.specs.Steps.{StepsTo, goes, ends, StepComes, Steps, QuietTurns}
-use Rattle.ptb_machine.specs.Runs.{played_bytes, Plays, refused_answers, IsFinished, IsUnanswered, IsUnfinished, LacksInput, RunComes, Runs, StopsAt}
+use Rattle.ptb_machine.specs.PlayResults.{played_bytes, Plays, refused_answers, IsFinished, IsUnanswered, IsUnfinished, LacksInput, RunComes}
+use Rattle.ptb_machine.specs.Runs.{Runs, StopsAt}
+use Rattle.ptb_machine.specs.Steps.{IsBefore, Steps, QuietTurns}
+use Rattle.ptb_machine.specs.TurnResults.{StepsTo, goes, ends, StepComes}
 use Rattle.ptb_command.proofs.Effects.{begins_joined, takes_joined}
 use Rattle.ptb_command.proofs.Exchanges.{shows_then, exchanges_none, exchanges_then, no_lines, has_broken_from}
 use Rattle.ptb_command.proofs.PartRefinement.{leaves_itself, leaves_then, leaves_to, leaves_under, leaves_at}
-use Rattle.ptb_command.proofs.Stops.{out_before}
+use Rattle.ptb_command.proofs.Stops.{asks_before}
 use Rattle.ptb_machine.proofs.Turns.{all_by_turn, turn_goes, all_change}
 
 -- ---- a turn, and the turns after it
@@ -129,10 +130,10 @@ refusal_of bound T pauses.Ended = Asks bound T
 refusal_of bound T (pauses.OutOfRange k) = Out bound T
 refusal_of bound T pauses.Memory = Asks bound T
 
-refused_at : (g : Answers → Outcome Last State) (bound : ℤ) (T : State) (z : Pause) (later : Answers) → g [] ≡ Asks bound T → SaysOut g bound T z → g (refused_answers z later) ≡ refusal_of bound T z
-refused_at g bound T pauses.Ended later e out = e
-refused_at g bound T (pauses.OutOfRange k) later e out = out later
-refused_at g bound T pauses.Memory later e out = e
+refused_at : (g : Answers → Outcome Last State) (bound : ℤ) (T : State) (z : Pause) (later : Answers) → AsksNext g bound T z → g (refused_answers z later) ≡ refusal_of bound T z
+refused_at g bound T pauses.Ended later h = h.asks
+refused_at g bound T (pauses.OutOfRange k) later h = h.outside later
+refused_at g bound T pauses.Memory later h = h.asks
 
 refused_state : (bound : ℤ) (T : State) (z : Pause) → (last_state (refusal_of bound T z)).lines ≡ T.lines
 refused_state bound T pauses.Ended = refl
@@ -150,22 +151,23 @@ run_waits refused p rules m o d input rest z k w =
     let T = w.comes.leads.state in
     record {
       exchange = w.comes.exchange;
-      bound = w.bound;
       left = playing w.left T;
       plays = plays_to p rules m o d input rest w.left w.comes;
-      asks = ap told (w.asks T) ∙ ap (Asks w.bound) w.comes.leads.shown;
-      outside = subst (λ (s : List ℕ). SaysOut (playing w.left T) w.bound s z) w.comes.leads.shown
-          (out_before told (λ (S : State). S.shown) (λ k S. refl) (w.left T) w.bound T z (w.outside T));
+      bound = w.bound;
+      question = subst (λ (s : List ℕ). AsksNext (playing w.left T) w.bound s z) w.comes.leads.shown
+          (asks_before told (λ (S : State). S.shown) (λ k S. refl) (λ k S. refl) (w.left T) w.bound T z (w.question T));
       refuses = w.refuses;
-      lines = λ later. lines_are p rules m o d input rest w.left w.comes k (refused_answers z later) (ap (λ u. (last_state u).lines) (refused_at (w.left T) w.bound T z later (w.asks T) (w.outside T)) ∙ refused_state w.bound T z);
-      begins = λ a.
-          subst (Begins w.comes.exchange.bytes) (sym (played_shown (w.left T a)))
-          (subst (λ (s : List ℕ). Begins s (last_state (w.left T a)).shown) w.comes.leads.shown (w.begins T a));
-      more_lines = λ a.
-          let more = w.takes T a in (
-            more.0,
-            k ∙ ap (λ l. d.given ++ l) (sym w.comes.leads.lines ∙ more.1 ∙ ap (λ u. more.0 ++ (last_state u).lines) (sym (leaves_at w.comes.leads.leaves a))),
-          );
+      lines = λ later. lines_are p rules m o d input rest w.left w.comes k (refused_answers z later) (ap (λ u. (last_state u).lines) (refused_at (w.left T) w.bound T z later (w.question T)) ∙ refused_state w.bound T z);
+      continues = record {
+        begins = λ a.
+            subst (Begins w.comes.exchange.bytes) (sym (played_shown (w.left T a)))
+            (subst (λ (s : List ℕ). Begins s (last_state (w.left T a)).shown) w.comes.leads.shown (w.continues.begins T a));
+        more_lines = λ a.
+            let more = w.continues.takes T a in (
+              more.0,
+              k ∙ ap (λ l. d.given ++ l) (sym w.comes.leads.lines ∙ more.1 ∙ ap (λ u. more.0 ++ (last_state u).lines) (sym (leaves_at w.comes.leads.leaves a))),
+            );
+      };
     }
 
 -- the turns after a turn show more
@@ -182,6 +184,12 @@ more_taken p rules lines (Done (Over e S) rest) t = t
 more_taken p rules lines (Asks k S) t = t
 more_taken p rules lines (Out k S) t = t
 
+more_continues : (p : StoredProgram) (rules : Rules) (shown : State → List ℕ) (left : State → Answers → Outcome StepResult State) → Continues act_state shown left → Continues last_state shown (then_turns p rules.limit left)
+more_continues p rules shown left h = record {
+  begins = λ S a. more_shown p rules (shown S) (left S a) (h.begins S a);
+  takes = λ S a. more_taken p rules S.lines (left S a) (h.takes S a);
+}
+
 -- ---- steps, one after the other
 
 module _ (refused : Refusal → Type 0) (p : StoredProgram) (rules : Rules) (m n : Configuration) (o d e : Devices) (same : o.choose ≡ rules.choose) (falls : e.most + length e.given ≤ d.most) (h : HasRun p rules m o d) where
@@ -194,16 +202,20 @@ module _ (refused : Refusal → Type 0) (p : StoredProgram) (rules : Rules) (m n
   chosen : {input rest : List (List ℕ)} {g : State → Answers → Outcome Last State} (b : RunsTo p rules m o input rest d g) → b.leads.state.choose ≡ d.choose
   chosen b = b.leads.choose ∙ sym (b.exchanges.same_choose ∙ same)
 
+  -- so its state is one before the step
+  before_step : {input : List (List ℕ)} (rest : List (List ℕ)) (f : MayFollow e rest) (b : RunsTo p rules m o input (e.given ++ rest) d (all_turns p rules.limit)) → IsBefore p.lines m (record d { given = [] }) e b.leads.state rest
+  before_step rest f b = record { represents = b.leads.represents; lines = b.leads.lines; follow = f; choose = chosen b }
+
   -- the run goes on
   pub run_on : Steps refused p rules.limit m n (record d { given = [] }) e (Ok None) → HasRun p rules n o (onto d e)
   run_on s input rest f k =
       let b = before input rest f k in
-      run_then p rules m n o d e input (e.given ++ rest) rest goes b (s b.leads.state rest b.leads.represents (chosen b) f b.leads.lines)
+      run_then p rules m n o d e input (e.given ++ rest) rest goes b (s b.leads.state rest (before_step rest f b))
 
   pub run_falls : Steps refused p rules.limit m n (record d { given = [] }) e (Ok None) → rules.limit - n.steps < rules.limit - m.steps
   run_falls s =
       let b = before ((d.given ++ e.given) ++ []) [] (λ _. refl) refl in
-      let x = s b.leads.state [] b.leads.represents (chosen b) (λ _. refl) b.leads.lines in
+      let x = s b.leads.state [] (before_step [] (λ _. refl) b) in
       let goes_on = turn_goes p rules.limit b.leads.state x.leads.state (x.exchange.answers ++ []) [] (leaves_at x.leads.leaves []) in
       omega (arith, goes_on.0, goes_on.1, b.leads.represents.steps, x.leads.represents.steps)
 
@@ -229,11 +241,9 @@ module _ (refused : Refusal → Type 0) (p : StoredProgram) (rules : Rules) (m n
       left = then_turns p rules.limit w.left;
       bound = w.bound;
       comes = last e w.left w.comes;
-      asks = λ S. ap (λ u. go_on u (after_turn (all_turns p rules.limit))) (w.asks S);
-      begins = λ S a. more_shown p rules S.shown (w.left S a) (w.begins S a);
-      takes = λ S a. more_taken p rules S.lines (w.left S a) (w.takes S a);
-      outside = λ S. out_before (λ u. go_on u (after_turn (all_turns p rules.limit))) (λ (T : State). T) (λ k T. refl) (w.left S) w.bound S z (w.outside S);
-      refusal = w.refusal;
+      question = λ S. asks_before (λ u. go_on u (after_turn (all_turns p rules.limit))) (λ (T : State). T) (λ k T. refl) (λ k T. refl) (w.left S) w.bound S z (w.question S);
+      continues = more_continues p rules (λ S. S.shown) w.left w.continues;
+      pause = w.pause;
       refuses = w.refuses;
     })
 
@@ -273,40 +283,40 @@ module _ (refused : Refusal → Type 0) (p : StoredProgram) (rules : Rules) (m n
 
     -- where the input can't be read a line was wanted
     module _ (w : Breaks refused LastStep e act_state (Over endings.NoInput) errors.Read) where
-      abbrev run_so : RunsTo p rules n o whole rest (onto d (with_screen w.middle e)) (then_turns p rules.limit w.left)
-      run_so = last (with_screen w.middle e) w.left w.comes
+      abbrev run_so : RunsTo p rules n o whole rest (onto d (with_screen w.screen e)) (then_turns p rules.limit w.left)
+      run_so = last (with_screen w.screen e) w.left w.comes
 
       unread : LastStep e w.left
-      unread = up_to w.middle w.left (subst (λ (bytes : List ℕ). Shows w.middle e.screen bytes) w.wants.0 w.shows) w.broken.1 w.comes
+      unread = up_to w.screen w.left (subst (λ (bytes : List ℕ). Shows w.screen e.screen bytes) w.line.0 w.shows) w.broken.1 w.comes
 
       same_state : (last e w.left unread).leads.state ≡ run_so.leads.state
       unfolding last run_then unread up_to
       same_state = refl
 
-      shown_so : run_so.leads.state.shown ≡ run_so.exchange.bytes ++ w.part
-      shown_so = run_so.leads.shown ∙ sym (ap (λ l. run_so.exchange.bytes ++ l) w.wants.0 ∙ append-nil run_so.exchange.bytes)
+      shown_so : run_so.leads.state.shown ≡ run_so.exchange.bytes ++ w.bytes
+      shown_so = run_so.leads.shown ∙ sym (ap (λ l. run_so.exchange.bytes ++ l) w.line.0 ∙ append-nil run_so.exchange.bytes)
 
-      lacks : (choose : Option ℤ) → IfSome choose (λ n. pos 1 ≤ℤ n) → LacksLine choose (Over endings.NoInput) w.left run_so.leads.state → LacksInput refused p rules whole o (onto d e) choose (run_so.exchange.bytes ++ w.part) (playing (then_turns p rules.limit w.left) run_so.leads.state)
+      lacks : (choose : Option ℤ) → IfSome choose (λ n. pos 1 ≤ℤ n) → LacksLine choose (Over endings.NoInput) w.left run_so.leads.state → LacksInput refused p rules whole o (onto d e) choose (run_so.exchange.bytes ++ w.bytes) (playing (then_turns p rules.limit w.left) run_so.leads.state)
       lacks None high dry = ends_dry w.left unread (λ a. subst (λ (T : State). w.left T a ≡ Done (Over endings.NoInput T) a) (sym same_state) (dry a))
       lacks (Some k) high asks = ap (λ u. told (go_on u (after_turn (all_turns p rules.limit)))) (asks high) ∙ ap (λ (s : List ℕ). Asks k s) shown_so
 
-      unread_dry : rest ≡ [] → LacksInput refused p rules whole o (onto d e) rules.choose (run_so.exchange.bytes ++ w.part) (playing (then_turns p rules.limit w.left) run_so.leads.state)
+      unread_dry : rest ≡ [] → LacksInput refused p rules whole o (onto d e) rules.choose (run_so.exchange.bytes ++ w.bytes) (playing (then_turns p rules.limit w.left) run_so.leads.state)
       unread_dry none =
-          subst (λ (choose : Option ℤ). LacksInput refused p rules whole o (onto d e) choose (run_so.exchange.bytes ++ w.part) (playing (then_turns p rules.limit w.left) run_so.leads.state))
+          subst (λ (choose : Option ℤ). LacksInput refused p rules whole o (onto d e) choose (run_so.exchange.bytes ++ w.bytes) (playing (then_turns p rules.limit w.left) run_so.leads.state))
           run_so.leads.choose
-          (lacks run_so.leads.state.choose (subst (λ (choose : Option ℤ). IfSome choose (λ n. pos 1 ≤ℤ n)) (sym run_so.leads.choose) rules.in_range) (w.wants.1 run_so.leads.state (run_so.leads.lines ∙ none)))
+          (lacks run_so.leads.state.choose (subst (λ (choose : Option ℤ). IfSome choose (λ n. pos 1 ≤ℤ n)) (sym run_so.leads.choose) rules.in_range) (w.line.1 run_so.leads.state (run_so.leads.lines ∙ none)))
 
-    dry_by : (error : DeviceError) (w : Breaks refused LastStep e act_state (Over endings.NoInput) error) → error ≡ errors.Read → rest ≡ [] → LacksInput refused p rules whole o (onto d e) rules.choose ((last (with_screen w.middle e) w.left w.comes).exchange.bytes ++ w.part) (playing (then_turns p rules.limit w.left) (last (with_screen w.middle e) w.left w.comes).leads.state)
+    dry_by : (error : DeviceError) (w : Breaks refused LastStep e act_state (Over endings.NoInput) error) → error ≡ errors.Read → rest ≡ [] → LacksInput refused p rules whole o (onto d e) rules.choose ((last (with_screen w.screen e) w.left w.comes).exchange.bytes ++ w.bytes) (playing (then_turns p rules.limit w.left) (last (with_screen w.screen e) w.left w.comes).leads.state)
     dry_by errors.Read w is none = unread_dry w none
     dry_by errors.Memory w is none = absurd (let clash : errors.Memory ≡ errors.Read = is in cc)
     dry_by errors.Write w is none = absurd (let clash : errors.Write ≡ errors.Read = is in cc)
 
     broken : (error : DeviceError) → Breaks refused LastStep e act_state (Over endings.NoInput) error → IsUnfinished refused p rules whole o (onto d e) error
     broken error w =
-        let x = last (with_screen w.middle e) w.left w.comes in
-        let shows = shows_then o.screen w.middle e.screen x.exchange.bytes w.part x.exchanges.shows w.shows in
+        let x = last (with_screen w.screen e) w.left w.comes in
+        let shows = shows_then o.screen w.screen e.screen x.exchange.bytes w.bytes x.exchanges.shows w.shows in
         record {
-          exchange = record x.exchange { bytes = x.exchange.bytes ++ w.part };
+          exchange = record x.exchange { bytes = x.exchange.bytes ++ w.bytes };
           left = playing (then_turns p rules.limit w.left) x.leads.state;
           plays = record {
             exchanges = record {
@@ -317,19 +327,21 @@ module _ (refused : Refusal → Type 0) (p : StoredProgram) (rules : Rules) (m n
               falls = x.exchanges.falls;
               same_choose = x.exchanges.same_choose;
             };
-            leaves = (plays_to p rules n o (onto d (with_screen w.middle e)) whole rest (then_turns p rules.limit w.left) x).leaves;
+            leaves = (plays_to p rules n o (onto d (with_screen w.screen e)) whole rest (then_turns p rules.limit w.left) x).leaves;
           };
-          begins = λ a.
-              subst (Begins (x.exchange.bytes ++ w.part)) (sym (played_shown (then_turns p rules.limit w.left x.leads.state a)))
-              (more_shown p rules (x.exchange.bytes ++ w.part) (w.left x.leads.state a)
-              (subst (λ (s : List ℕ). Begins (s ++ w.part) (act_state (w.left x.leads.state a)).shown) x.leads.shown (w.begins x.leads.state a)));
-          broken = has_broken_from refused refused (λ r y. y) o.screen w.middle e.screen x.exchanges.unfailed x.exchanges.shows.same_memory error w.broken;
-          lines = λ a.
-              let T : State = x.leads.state in
-              let more = more_taken p rules T.lines (w.left T a) (w.takes T a) in (
-                more.0,
-                ap (λ l. (d.given ++ e.given) ++ l) (sym x.leads.lines ∙ more.1 ∙ ap (λ u. more.0 ++ (last_state u).lines) (sym (leaves_at x.leads.leaves a))),
-              );
+          broken = has_broken_from refused refused (λ r y. y) o.screen w.screen e.screen x.exchanges.unfailed x.exchanges.shows.same_memory error w.broken;
+          continues = record {
+            begins = λ a.
+                subst (Begins (x.exchange.bytes ++ w.bytes)) (sym (played_shown (then_turns p rules.limit w.left x.leads.state a)))
+                (more_shown p rules (x.exchange.bytes ++ w.bytes) (w.left x.leads.state a)
+                (subst (λ (s : List ℕ). Begins (s ++ w.bytes) (act_state (w.left x.leads.state a)).shown) x.leads.shown (w.continues.begins x.leads.state a)));
+            more_lines = λ a.
+                let T : State = x.leads.state in
+                let more = more_taken p rules T.lines (w.left T a) (w.continues.takes T a) in (
+                  more.0,
+                  ap (λ l. (d.given ++ e.given) ++ l) (sym x.leads.lines ∙ more.1 ∙ ap (λ u. more.0 ++ (last_state u).lines) (sym (leaves_at x.leads.leaves a))),
+                );
+          };
           dry = λ is all. dry_by error w is (append_cancel_left (d.given ++ e.given) rest [] (all ∙ sym (append-nil (d.given ++ e.given))));
         }
 
@@ -352,7 +364,7 @@ module _ (refused : Refusal → Type 0) (p : StoredProgram) (rules : Rules) (m n
 
   -- it is over
   pub run_over : (ending : Ending) → Steps refused p rules.limit m n (record d { given = [] }) e (Ok (Some ending)) → Runs refused p rules o (onto d e) (Ok ending)
-  run_over ending s rest f = comes_ended rest f ending (s (b rest f).leads.state rest (b rest f).leads.represents (chosen (b rest f)) f (b rest f).leads.lines)
+  run_over ending s rest f = comes_ended rest f ending (s (b rest f).leads.state rest (before_step rest f (b rest f)))
 
   -- at its limit, where this is the line of the machine's next command
   pub run_stops : (line : Option ℕ) → ((q : Option Place) → PlacesAre p.lines q n.place → line ≡ next_number p.lines q)
@@ -360,7 +372,7 @@ module _ (refused : Refusal → Type 0) (p : StoredProgram) (rules : Rules) (m n
       → (rest : List (List ℕ)) → MayFollow e rest → StopsAt p rules ((d.given ++ e.given) ++ rest) o (onto d e) line
   run_stops line is s rest f =
       let b = before ((d.given ++ e.given) ++ rest) rest f refl in
-      let x = run_then p rules m n o d e ((d.given ++ e.given) ++ rest) (e.given ++ rest) rest (ends endings.Limit) b (s b.leads.state rest b.leads.represents (chosen b) f b.leads.lines) in
+      let x = run_then p rules m n o d e ((d.given ++ e.given) ++ rest) (e.given ++ rest) rest (ends endings.Limit) b (s b.leads.state rest (before_step rest f b)) in
       record {
         exchange = x.exchange;
         left = playing (then_turns p rules.limit (ends endings.Limit)) x.leads.state;
@@ -369,7 +381,7 @@ module _ (refused : Refusal → Type 0) (p : StoredProgram) (rules : Rules) (m n
       }
 
   pub run_breaks : (fault : RunFault) → (fault ≡ faults.Spent → ⊥) → Steps refused p rules.limit m n (record d { given = [] }) e (Err fault) → Runs refused p rules o (onto d e) (Err fault)
-  run_breaks fault fresh s rest f = comes_broken rest f fault fresh (s (b rest f).leads.state rest (b rest f).leads.represents (chosen (b rest f)) f (b rest f).leads.lines)
+  run_breaks fault fresh s rest f = comes_broken rest f fault fresh (s (b rest f).leads.state rest (before_step rest f (b rest f)))
 
 -- ---- quiet turns
 
@@ -386,13 +398,6 @@ run_advanced p q rules n old new o d chosen program h turns =
     subst (λ (s : StoredProgram). HasRun s rules new o d) (sym program) (run_quietly p rules n old new o d chosen h turns)
 
 -- ---- at the exits of the loop
-
-pub steps_at : (refused : Refusal → Type 0) (p : StoredProgram) (rules : Rules) (m n : Configuration) (o d : Devices) (x y : Option Ending) → x ≡ y → Steps refused p rules.limit m n o d (Ok x) → Steps refused p rules.limit m n o d (Ok y)
-steps_at refused p rules m n o d x y e s = subst (λ (z : Option Ending). Steps refused p rules.limit m n o d (Ok z)) e s
-
--- what a player of a program runs
-pub runs_of : (refused : Refusal → Type 0) (p q : StoredProgram) (rules : Rules) (o n : Devices) (r : Result Ending RunFault) → q ≡ p → Runs refused q rules o n r → Runs refused p rules o n r
-runs_of refused p q rules o n r e x = subst (λ (z : StoredProgram). Runs refused z rules o n r) e x
 
 pub not_spent : (b : Bool) (fault : RunFault) → b ≡ false → (fault ≡ faults.Spent → b ≡ true) → fault ≡ faults.Spent → ⊥
 not_spent b fault e h k = false≢true (sym e ∙ h k)

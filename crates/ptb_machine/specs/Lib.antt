@@ -4,7 +4,10 @@ pub mod Questions
 pub mod Laws
 pub mod EndingLaws
 pub mod RunDevices
+pub mod TurnResults
 pub mod Steps
+pub mod CommandResults
+pub mod PlayResults
 pub mod Beginnings
 pub mod Runs
 pub mod RunEffects

@@ -2,7 +2,6 @@
 --     RunDevices C S L, run_devices    a chooser, a screen and a line source
 --     held ..                          what they hold, with the lines that the source gave
 --     refusals ..                      what holds after one of them refused something
---     NoneMissed ..                    no line was asked for without success
 use Rattle.std.specs.Prelude.{ℕ, List}
 use Rattle.ptb_answers.specs.declared.chooser.Chooser as choosers
 use Rattle.ptb_answers.specs.declared.rules.Rules.{Rules}
@@ -10,7 +9,6 @@ use Rattle.ptb_devices.specs.declared.screen.Screen as screens
 use Rattle.ptb_devices.specs.declared.lines.LineSource as sources
 use Rattle.ptb_command.specs.declared.io.Io.{Io}
 use Rattle.ptb_command.specs.Devices.{Devices, devices, screen_state, Refusal, refused_by}
-use Rattle.ptb_command.specs.Stops.{NotMissed}
 
 pub record RunDevices (C S L : Type 0) : Type 0 where
   pub chooser : C
@@ -31,6 +29,3 @@ module _ {C S L : Type 0} (chooser : choosers.Ghosts C) (screen : screens.Ghosts
 
   abbrev pub refusals : RunDevices C S L → Refusal → Type 0
   refusals d = refused_by (chooser.refused d.chooser) (source.refused d.source) (source.lines d.source)
-
-  abbrev pub NoneMissed : Rules → RunDevices C S L → RunDevices C S L → Type 0
-  NoneMissed rules o n = NotMissed rules.choose (source.missed o.source) (source.missed n.source) (source.most n.source)

@@ -33,7 +33,7 @@ impl From<AllocError> for RunFault {
 }
 
 impl From<ScreenFault> for RunFault {
-    ghost use Rattle.ptb_machine.specs.Steps.{fault_of_screen};
+    ghost use Rattle.ptb_machine.specs.CommandResults.{fault_of_screen};
 
     ghost from_gives = { λ fault r. r ≡ fault_of_screen fault };
 

@@ -3,7 +3,7 @@
 ghost use Rattle.std.specs.Prelude.{◌≡◌, ℕ, List, Some, slice_get};
 ghost use Rattle.ptb_expr.specs.Store.{Cells};
 ghost use Rattle.ptb_command.specs.Io.{io_trace, SameDevices};
-ghost use Rattle.ptb_machine.specs.Steps.{fault_of, IsResultOf};
+ghost use Rattle.ptb_machine.specs.CommandResults.{fault_of, IsResultOf};
 
 use crate::fault::RunFault;
 use crate::reports::{ending_of, report};

@@ -15,7 +15,7 @@ use Rattle.ptb_answers.specs.Choices.{Choices}
 use Rattle.ptb_answers.specs.Outcome.{Answers}
 use Rattle.ptb_command.specs.declared.ending.Ending.{Ending}
 use Rattle.ptb_command.specs.Devices.{devices, refused_by}
-use Rattle.ptb_command.specs.Stops.{NotMissed}
+use Rattle.ptb_command.specs.Stops.{NotMissed, UnlessMissed}
 use Rattle.ptb_devices.specs.declared.fault.ReadFault.{ReadFault}
 use Rattle.ptb_devices.specs.declared.reader_lines.ReaderLines.{ReaderLines}
 use Rattle.ptb_devices.specs.Inputs.{InputNow, InputState, ReadsOn, Refuses, asked, fault_at}
@@ -27,7 +27,7 @@ use Rattle.ptb_machine.specs.declared.fault.RunFault.{RunFault}
 use Rattle.ptb_machine.specs.declared.fault.RunFault.TheVariants as runs
 use Rattle.ptb_machine.specs.declared.run_end.RunEnd.{RunEnd}
 use Rattle.ptb_machine.specs.Play.{stopping_line}
-use Rattle.ptb_machine.specs.Runs.{IsLineOf, Runs, UnlessRunMissed}
+use Rattle.ptb_machine.specs.Runs.{IsLineOf, Runs, run_miss}
 use Rattle.ptb_plain.specs.Noted.{noted, noted_result}
 use Rattle.ptb_plain.specs.PlainRuns.{GoesBy, HasLine, IsUnreadable, PlaysWith, ReadsFor}
 use Rattle.ptb_plain.specs.PlainRuns.{ReadsLines, WantsMemory, input_limit, lines_taken}
@@ -67,7 +67,7 @@ module _ {R W : Type 0} (remaining : R → Option (List ℕ)) (counted failures 
       (writer : screen.now ≡ w) (writes : screen.ghost_name ≡ screen_later.ghost_name → v ≡ screen_later.now)
       (ran : Runs (refused_by (noted noticed refuses) (Refuses (line_input later).end) (known_lines (input_of remaining counted failures later))) p rules
       (devices c (state_of contents written screen) (most_lines (line_input source)) rules.choose []) (devices d (state_of contents written screen_later) (most_lines (line_input later)) rules.choose lines) ended)
-      (missed : UnlessRunMissed (Refuses (line_input later).end) (NotMissed rules.choose (asked (line_input source)) (asked (line_input later)) (most_lines (line_input later))) ended) where
+      (missed : UnlessMissed (Refuses (line_input later).end) (NotMissed rules.choose (asked (line_input source)) (asked (line_input later)) (most_lines (line_input later))) (run_miss ended)) where
     -- the input as the source leaves it
     abbrev now : InputNow
     now = input_of remaining counted failures later
@@ -124,10 +124,10 @@ module _ {R W : Type 0} (remaining : R → Option (List ℕ)) (counted failures 
         (Refuses (line_input later).end) (known_lines now) ended goes ran (none_known now) refl (fault_without_memory (line_input later).end) behind none
 
     -- and asked for one more at most where it says so
-    unmissed : UnlessRunMissed (Refuses (line_input later).end)
-        (NotMissed rules.choose 0 (asked (line_input later)) (most_lines (line_input later))) ended
+    unmissed : UnlessMissed (Refuses (line_input later).end)
+        (NotMissed rules.choose 0 (asked (line_input later)) (most_lines (line_input later))) (run_miss ended)
     unmissed =
-        subst (λ (s : InputState). UnlessRunMissed (Refuses (line_input later).end) (NotMissed rules.choose (asked s) (asked (line_input later)) (most_lines (line_input later))) ended)
+        subst (λ (s : InputState). UnlessMissed (Refuses (line_input later).end) (NotMissed rules.choose (asked s) (asked (line_input later)) (most_lines (line_input later))) (run_miss ended))
         state missed
 
     -- the source has come to no fault

@@ -28,8 +28,10 @@ use Rattle.ptb_devices.specs.Sources.{NoneLeft}
 use Rattle.ptb_command.specs.declared.stop.DeviceError.{DeviceError}
 use Rattle.ptb_command.specs.declared.stop.DeviceError.TheVariants as errors
 use Rattle.ptb_command.specs.Devices.{ScreenState, Devices, devices, with_failures, Exchange, Refusal, refused_by}
-use Rattle.ptb_machine.specs.Runs.{played_bytes, Plays, IsFinished, IsUnanswered, IsUnfinished}
-use Rattle.ptb_machine.specs.Runs.{LacksInput, RunComes, Runs, UnlessRunMissed, StopsAt, IsLineOf}
+use Rattle.ptb_command.specs.Stops.{UnlessMissed}
+use Rattle.ptb_machine.specs.PlayResults.{played_bytes, Plays, IsFinished, IsUnanswered}
+use Rattle.ptb_machine.specs.PlayResults.{IsUnfinished, LacksInput, RunComes}
+use Rattle.ptb_machine.specs.Runs.{run_miss, Runs, StopsAt, IsLineOf}
 use Rattle.ptb_machine.proofs.Endings.{HasRunEnding, play_ends}
 use Rattle.ptb_plain.specs.Noted.{ended_for, noted, noted_result}
 use Rattle.ptb_plain.specs.PlainRuns.{ShowsRun, ShowsQuestion, ShowsUnread, lines_taken, IsLed, GoesBy}
@@ -154,7 +156,7 @@ module _ (p : StoredProgram) (rules : Rules) (a : Answers) (refuses : Pause → 
   shown_before : {z : Pause} → IsUnanswered refused p rules lines before later z
       → TakesSome old.shown new.shown (plain p lines rules a).0
   shown_before h =
-      let begins = h.begins (left_by new.failures h.exchange h.left h.plays).rest in
+      let begins = h.continues.begins (left_by new.failures h.exchange h.left h.plays).rest in
       let all : (plain p lines rules a).0 ≡ played_bytes (h.left (left_by new.failures h.exchange h.left h.plays).rest) =
       plain_bytes (play p lines rules a) ∙ ap played_bytes (play_is new.failures h.exchange h.left h.plays) in
       takes_beginning old.shown new.shown h.exchange.bytes _ h.plays.exchanges.shows.shown (begins.0, all ∙ begins.1)
@@ -168,7 +170,7 @@ module _ (p : StoredProgram) (rules : Rules) (a : Answers) (refuses : Pause → 
     by_refusal false r =
         let none = (left_by new.failures h.exchange h.left h.plays).ended h.bound r in
         is_ok endings.NoAnswer h.plays
-        (shows_run h.exchange h.left endings.NoAnswer _ h.plays (ap h.left none ∙ h.asks) refl)
+        (shows_run h.exchange h.left endings.NoAnswer _ h.plays (ap h.left none ∙ h.question.asks) refl)
     by_refusal true r =
         let behind = left_by new.failures h.exchange h.left h.plays in
         record {
@@ -182,7 +184,7 @@ module _ (p : StoredProgram) (rules : Rules) (a : Answers) (refuses : Pause → 
               drawn = h.exchange.answers;
               rest = behind.rest;
               all_are = behind.whole;
-              shows = shows_question new.failures h.bound h.exchange h.left h.plays h.asks;
+              shows = shows_question new.failures h.bound h.exchange h.left h.plays h.question.asks;
             },
           );
           unfailed = λ _. h.plays.exchanges.unfailed;
@@ -194,13 +196,13 @@ module _ (p : StoredProgram) (rules : Rules) (a : Answers) (refuses : Pause → 
   out_of_range k h =
       let next = (left_by new.failures h.exchange h.left h.plays).outside k h.bound h.refuses in
       is_ok endings.BadAnswer h.plays
-      (shows_run h.exchange h.left endings.BadAnswer _ h.plays (ap h.left next.1 ∙ h.outside next.0) refl)
+      (shows_run h.exchange h.left endings.BadAnswer _ h.plays (ap h.left next.1 ∙ h.question.outside next.0) refl)
 
   -- where a device fails, what was shown is a beginning
   begun : {e : DeviceError} → IsUnfinished refused p rules lines before later e
       → TakesSome old.shown new.shown (plain p lines rules a).0
   begun h =
-      let begins = h.begins (left_by old.failures h.exchange h.left h.plays).rest in
+      let begins = h.continues.begins (left_by old.failures h.exchange h.left h.plays).rest in
       let all : (plain p lines rules a).0 ≡ played_bytes (h.left (left_by old.failures h.exchange h.left h.plays).rest) =
       plain_bytes (play p lines rules a) ∙ ap played_bytes (play_is old.failures h.exchange h.left h.plays) in
       takes_beginning old.shown new.shown h.exchange.bytes _ h.plays.exchanges.shows.shown (begins.0, all ∙ begins.1)
@@ -276,14 +278,14 @@ module _ (p : StoredProgram) (rules : Rules) (a : Answers) (refuses : Pause → 
       → length given ≤ lines_taken p lines rules a
   fits_unanswered z h =
       let behind = left_by new.failures h.exchange h.left h.plays in
-      let taken = h.more_lines behind.rest in
+      let taken = h.continues.more_lines behind.rest in
       fits h.exchange behind.rest taken.0 behind.whole taken.1
 
   fits_unfinished : (e : DeviceError) → IsUnfinished refused p rules lines before later e
       → length given ≤ lines_taken p lines rules a
   fits_unfinished e h =
       let behind = left_by old.failures h.exchange h.left h.plays in
-      let taken = h.lines behind.rest in
+      let taken = h.continues.more_lines behind.rest in
       fits h.exchange behind.rest taken.0 behind.whole taken.1
 
   fits_none : later ≡ before → length given ≤ lines_taken p lines rules a
@@ -350,7 +352,7 @@ module _ (p : StoredProgram) (rules : Rules) (a : Answers) (refuses : Pause → 
   }
 
   pub ends_dry : (P : Type 0) → (P → ⊥) → (unread reads.Memory → ⊥) → behind ≡ [] → (result : Result Ending RunFault)
-      → UnlessRunMissed unread P result
+      → UnlessMissed unread P (run_miss result)
       → RunComes refused p rules behind before later result → IsUnreadRun p rules lines a old new
   ends_dry P never no_memory none (Ok endings.End) m h = absurd (never m)
   ends_dry P never no_memory none (Ok endings.Stop) m h = absurd (never m)
@@ -406,7 +408,7 @@ module _ (p : StoredProgram) (rules : Rules) (answers : List (List ℕ) → Answ
       takes_given p rules (answers (given ++ behind)) refuses noticed c d old new could can given behind unread left
       (goes (given ++ behind)) no_room no_memory none result (h behind (λ e. none (over e)))
 
-  pub led_run_dry : (unread reads.Memory → ⊥) → (P : Type 0) → (P → ⊥) → UnlessRunMissed unread P result
+  pub led_run_dry : (unread reads.Memory → ⊥) → (P : Type 0) → (P → ⊥) → UnlessMissed unread P (run_miss result)
       → IsUnreadRun p rules (given ++ []) (answers (given ++ [])) old new
   led_run_dry no_memory P never missed =
       ends_dry p rules (answers (given ++ [])) refuses noticed c d old new could can given [] unread left

@@ -29,8 +29,9 @@ use Rattle.ptb_answers.specs.Outcome.{Answers}
 use Rattle.ptb_command.specs.Devices.{Devices, refused_by}
 use Rattle.ptb_machine.specs.declared.fault.RunFault.TheVariants as runs
 use Rattle.ptb_answers.specs.declared.rules.Rules.{Rules}
-use Rattle.ptb_command.specs.Stops.{NotMissed}
-use Rattle.ptb_machine.specs.Runs.{RunComes, UnlessRunMissed}
+use Rattle.ptb_command.specs.Stops.{NotMissed, UnlessMissed}
+use Rattle.ptb_machine.specs.PlayResults.{RunComes}
+use Rattle.ptb_machine.specs.Runs.{run_miss}
 use Rattle.ptb_command.specs.declared.ending.Ending.{Ending}
 use Rattle.ptb_command.specs.declared.ending.Ending.TheVariants as endings
 use Rattle.ptb_machine.specs.declared.fault.RunFault.{RunFault}
@@ -249,7 +250,7 @@ fault_asked a fault e h = by_end a.end a.is_given e h where
 
 -- by how the run has ended, where it missed no line
 missed_within : (a : InputState) (P : Type 0) → (P → asked a ≤ 0) → (result : Result Ending RunFault)
-    → UnlessRunMissed (Refuses a.end) P result → (k : ℕ) → k + asked a ≤ ending_wanted k result
+    → UnlessMissed (Refuses a.end) P (run_miss result) → (k : ℕ) → k + asked a ≤ ending_wanted k result
 missed_within a P few (Ok endings.End) m k = omega (arith, few m)
 missed_within a P few (Ok endings.Stop) m k = omega (arith, few m)
 missed_within a P few (Ok endings.What) m k = omega (arith, few m)
@@ -270,7 +271,7 @@ abbrev pub WantsWithin : Rules → Result Ending RunFault → ℕ → ℕ → Ty
 WantsWithin rules result wanted most = (given all k : ℕ) → given ≤ k → k ≤ all → (most ≡ 0 → all ≤ given) → given + wanted ≤ lines_wanted rules.choose all k result
 
 wanted_by_choose : (a : InputState) (most : ℕ) (choose : Option ℤ) (result : Result Ending RunFault)
-    → UnlessRunMissed (Refuses a.end) (NotMissed choose 0 (asked a) most) result
+    → UnlessMissed (Refuses a.end) (NotMissed choose 0 (asked a) most) (run_miss result)
     → (given all k : ℕ) → given ≤ k → k ≤ all → (most ≡ 0 → all ≤ given)
     → given + asked a ≤ lines_wanted choose all k result
 wanted_by_choose a most None result m given all k fits part over =
@@ -289,7 +290,7 @@ wanted_by_choose a most (Some n) result m given all k fits part over = by_all (k
   by_all false e = let within = missed_within a ((asked a ≤ 0) ⊎ (most ≡ 0)) (few e) result m k in omega (arith, fits, within)
 
 pub wanted_within : (a : InputState) (most : ℕ) (rules : Rules) (result : Result Ending RunFault)
-    → UnlessRunMissed (Refuses a.end) (NotMissed rules.choose 0 (asked a) most) result
+    → UnlessMissed (Refuses a.end) (NotMissed rules.choose 0 (asked a) most) (run_miss result)
     → WantsWithin rules result (asked a) most
 wanted_within a most rules result m = wanted_by_choose a most rules.choose result m
 
