@@ -1,26 +1,35 @@
 -- This file proves what asking for a line comes to, from what is known of each step.
 -- Main lemmas: `answering_done` and `answering_fails`.
-use Rattle.std.proofs.Common.{◌≡◌, ◌≤◌, ◌+◌, ℕ, Bool, true, false, List, [], ◌∷◌, ◌++◌, Option, Some, None, Result, Ok, Err, ℤ, IfErr, IfOk, IfNone, subst, Bor}
+use Rattle.std.proofs.Common.{◌≡◌, ◌≤◌, ◌+◌, ℕ, Bool, true, false, List, [], ◌∷◌, ◌++◌, Option, Some, None, Result, Ok, Err, ℤ, IfErr, IfOk, IfNone, subst, sym, Bor}
 use Rattle.std.specs.Prelude.{if◌then◌else◌}
 use Rattle.std.specs.Result.{IsErrAnd}
 use Rattle.ptb_devices.specs.declared.fault.ReadFault.{ReadFault}
 use Rattle.ptb_devices.specs.Sources.{NoneLeft}
 use Rattle.ptb_answers.specs.declared.pause.Pause.{Pause}
 use Rattle.ptb_expr.specs.declared.store.Target.{Target}
+use Rattle.ptb_expr.specs.Store.{Cells}
 use Rattle.ptb_expr.specs.Tree.{Tree}
 use Rattle.ptb_command.specs.declared.stop.Stop.{Stop}
 use Rattle.ptb_command.specs.declared.stop.Stop.TheVariants as stops
 use Rattle.ptb_command.specs.Act.{answer_instead, ask_for}
 use Rattle.ptb_command.specs.Actions.{Action, goes_on}
 use Rattle.ptb_command.specs.Act.{item_action}
-use Rattle.ptb_command.specs.Devices.{refused_answers, refused_by}
+use Rattle.ptb_command.specs.Devices.{Devices, nothing_refused, refused_answers, refused_by}
 use Rattle.ptb_command.specs.Stops.{stop_of_read, Stops, RefinesPartTo, Comes}
-use Rattle.ptb_command.specs.Traces.{Trace, with_due, still_due, RefinesPart}
+use Rattle.ptb_command.specs.Traces.{Trace, trace, with_due, still_due, RefinesPart}
+use Rattle.ptb_command.proofs.Actions.{refines_part_on, stops_unrefused}
 use Rattle.ptb_command.proofs.Due.{stops_none}
-use Rattle.ptb_command.proofs.Inputting.{with_most, with_given, line_left, line_asked, take_ask_stops, take_unread, take_dry, take_instead, answers_too}
+use Rattle.ptb_command.proofs.Inputting.{with_most, with_given, fewer_left, flush_stops, line_left, line_asked, take_ask_stops, take_unread, take_dry, take_instead, answers_too}
 use Rattle.ptb_command.proofs.Missed.{none_more}
 use Rattle.ptb_command.proofs.PartRefinement.{refines_part_then}
 use Rattle.ptb_command.proofs.Stops.{comes_err, comes_after, comes_more, stops_after, stops_more}
+
+-- The source has no line at hand, and can give so many; what is gathered is shown then.
+pub waiting : {A : Type 0} {o m : Trace} (f : Action A) (v : A) (most : ℕ) (d : Devices) (fresh : Bool) (cells : Cells) (due : List ℕ) → RefinesPart o m f (goes_on v) → most ≤ m.devices.most → RefinesPart (with_most most m) (trace d fresh cells) (goes_on (tt {0})) (goes_on (tt {0})) → due ≡ [] → RefinesPart o (with_due due (trace d fresh cells)) f (goes_on v)
+waiting {o = o} {m = m} f v most d fresh cells due a fewer b empty =
+    let shown : RefinesPart (with_most most m) (trace d fresh cells) (goes_on v) (goes_on v) = refines_part_on (λ u. goes_on v) b in
+    subst (λ (k : List ℕ). RefinesPart o (with_due k (trace d fresh cells)) f (goes_on v)) (sym empty)
+    (refines_part_then (refines_part_then a (fewer_left m most fewer (goes_on v))) shown)
 
 -- The lines that were given so far had no value in front, and the item is to be done.
 module _ (said : List ℕ) (x : Tree) (prompt : List ℕ) {i o : Trace} (was : RefinesPart i o (item_action said x prompt) (item_action said x prompt)) where
@@ -32,6 +41,14 @@ module _ (said : List ℕ) (x : Tree) (prompt : List ℕ) {i o : Trace} (was : R
       (stops_after (refused_by answers unread lines) end was e
       (take_ask_stops said x prompt (refused_by answers unread lines) o end e
       (stops_more (refused_answers answers) (refused_by answers unread lines) (answers_too answers unread lines) o end (ask_for said x prompt) e h)))
+
+  -- what is gathered before a line is waited for can't be shown
+  pub answering_unshown : {X : Type 0} (answers : Pause → ℤ → Type 0) (unread : ReadFault → Type 0) (lines : Option (List (List ℕ))) {m : Trace} (n : Trace) (at : Target) (ok : X → Action (Unit {0})) (r : Result X Stop) (e : Stop) → IsErrAnd r (λ y. y ≡ e) → RefinesPart o m (ask_for said x prompt) (goes_on at) → Stops nothing_refused (RefinesPartTo m (with_due (still_due n.due e) n) (goes_on (tt {0}))) n.devices e → Comes (refused_by answers unread lines) i n (item_action said x prompt) ok r
+  answering_unshown answers unread lines {m = m} n at ok r e is comes h =
+      let end = with_due (still_due n.due e) n in
+      comes_err (refused_by answers unread lines) i n (item_action said x prompt) ok r e is
+      (stops_after (refused_by answers unread lines) end was e
+      (flush_stops said x prompt (refused_by answers unread lines) end at e comes (stops_unrefused (refused_by answers unread lines) m end (goes_on (tt {0})) e h)))
 
   -- it has come to a target, and the source then holds so many lines at most
   module _ {m : Trace} (at : Target) (comes : RefinesPart o m (ask_for said x prompt) (goes_on at)) (most : ℕ) where

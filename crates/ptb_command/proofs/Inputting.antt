@@ -97,7 +97,7 @@ exchanges_most d most fewer = record {
   same_choose = refl;
 }
 
-fewer_left : {A : Type 0} (m : Trace) (most : ℕ) → most ≤ m.devices.most → (f : Action A) → RefinesPart m (with_most most m) f f
+pub fewer_left : {A : Type 0} (m : Trace) (most : ℕ) → most ≤ m.devices.most → (f : Action A) → RefinesPart m (with_most most m) f f
 fewer_left m most fewer f = record {
   exchange = no_exchange;
   exchanges = exchanges_most m.devices most fewer;
@@ -305,6 +305,10 @@ module _ (said : List ℕ) (x : Tree) (prompt : List ℕ) where
   -- what asks has come to a target, and wants a line
   wanted : {o n : Trace} (at : Target) → RefinesPart o n (ask_for said x prompt) (goes_on at) → RefinesPart o n (item_action said x prompt) (wants at)
   wanted {o = o} {n = n} at a = subst (λ (f : Action (Unit {0})). RefinesPart o n f (wants at)) (sym item_action_asks) (refines_part_on wants a)
+
+  -- what is gathered can't be shown before a line is waited for
+  pub flush_stops : (refused : Refusal → Type 0) {o m : Trace} (n : Trace) (at : Target) (e : Stop) → RefinesPart o m (ask_for said x prompt) (goes_on at) → Stops refused (RefinesPartTo m n (goes_on (tt {0}))) n.devices e → Stops refused (RefinesPartTo o n (item_action said x prompt)) n.devices e
+  flush_stops refused {m = m} n at e a h = stops_after refused n (wanted at a) e (stops_first refused m n (goes_on (tt {0})) (λ u. wants at) (λ u. wants_adds at) e h)
 
   -- it stops before
   pub take_ask_stops : (refused : Refusal → Type 0) (o n : Trace) (e : Stop) → Stops refused (RefinesPartTo o n (ask_for said x prompt)) n.devices e → Stops refused (RefinesPartTo o n (item_action said x prompt)) n.devices e

@@ -12,7 +12,7 @@ use Rattle.std.specs.Str.Lines.{strip_carriage_return}
 use Rattle.ptb_text.specs.Lines.{onto_first, pieces, tab_as_space, is_printable, line_limit, clean_line, input_lines}
 use Rattle.ptb_text.proofs.Edits.{both}
 use Rattle.ptb_text.proofs.Sound.{both_true}
-use Rattle.ptb_devices.specs.Cutting.{IsClean, begun_piece, cleaned_byte, with_byte, kept_bytes, whole_lines, last_piece, last_line, Cuts, AddsLines}
+use Rattle.ptb_devices.specs.Cutting.{IsClean, begun_piece, cleaned_byte, with_byte, kept_bytes, whole_lines, last_piece, last_line, Cuts, IsLine, AddsLines}
 use Rattle.ptb_devices.specs.CuttingLaws.{last_piece-append, whole_lines-append}
 
 -- ---- one byte more
@@ -117,6 +117,34 @@ pub CutsUpTo_end : (p q : Option (List ℕ)) (bytes : List ℕ) (i : ℕ) → i 
 CutsUpTo_end p q bytes i inside e before =
     subst (λ (l : List ℕ). Cuts p l (kept_bytes q ∷ []) None) (take-next bytes i inside)
     (Cuts_more p q None (take i bytes) (get_or bytes i 0 ∷ []) [] (kept_bytes q ∷ []) before.cut (Cuts_end q (get_or bytes i 0) e))
+
+-- ---- a line of which the cleaning keeps each byte
+
+-- the bytes before the index were taken, all of them are kept, and none ended a line
+pub record KeepsUpTo (bytes : List ℕ) (i : ℕ) : Type 0 where
+  pub piece : Option (List ℕ)
+  pub cut : CutsUpTo None bytes i piece
+  pub all : kept_bytes piece ≡ take i bytes
+  pub fits : i ≤ line_limit
+
+pub KeepsUpTo_none : (bytes : List ℕ) → KeepsUpTo bytes 0
+KeepsUpTo_none bytes = record { piece = None; cut = CutsUpTo_none None bytes; all = refl; fits = omega arith }
+
+pub KeepsUpTo_more : (bytes : List ℕ) (i : ℕ) → i < length bytes → (get_or bytes i 0 ≡ 10 → ⊥) → (i ≡ line_limit → ⊥) → cleaned_byte (get_or bytes i 0) ≡ get_or bytes i 0 ∷ []
+    → KeepsUpTo bytes i → KeepsUpTo bytes (i + 1)
+KeepsUpTo_more bytes i inside other room stays before =
+    let less : i < line_limit = omega (arith, before.fits, room) in
+    let long : length (take i bytes) < line_limit = omega (arith, length-take i bytes, less) in
+    record {
+      piece = Some (with_byte (kept_bytes before.piece) (get_or bytes i 0));
+      cut = CutsUpTo_more None before.piece bytes i inside other before.cut;
+      all = ap (λ k. with_byte k (get_or bytes i 0)) before.all ∙ with_byte-kept (take i bytes) (get_or bytes i 0) (get_or bytes i 0) long stays ∙ take-next bytes i inside;
+      fits = omega (arith, less);
+    }
+
+pub KeepsUpTo_end : (bytes : List ℕ) (i : ℕ) → i < length bytes → get_or bytes i 0 ≡ 10 → KeepsUpTo bytes i → IsLine (take i bytes) (take (i + 1) bytes)
+KeepsUpTo_end bytes i inside e before =
+    subst (λ (l : List ℕ). Cuts None (take (i + 1) bytes) (l ∷ []) None) before.all (CutsUpTo_end None before.piece bytes i inside e before.cut)
 
 -- ---- lines that are added while bytes are taken
 

@@ -1,15 +1,16 @@
 -- This file proves what the next line of an input comes to, from what came while it was asked for.
 -- Main lemmas: `last_given` and `none_given`.
 use Rattle.std.proofs.Common.{◌≡◌, ℕ, ◌≤◌, Bool, true, false, List, [], ◌∷◌, Option, Some, None, refl, sym, ap, subst, ◌∙◌, arith}
+use Rattle.std.specs.Borrow.{Bor}
 use Rattle.std.specs.Prelude.{IsSome}
 use Rattle.ptb_devices.specs.declared.line_buffer.InputEnd.{InputEnd}
 use Rattle.ptb_devices.specs.declared.line_buffer.InputEnd.TheVariants.{Open, Ended, Failed, Exceeded}
 use Rattle.ptb_devices.specs.declared.fault.ReadFault.{ReadFault}
 use Rattle.ptb_devices.specs.Cutting.{kept_bytes}
-use Rattle.ptb_devices.specs.Sources.{Loses, NoneLeft}
-use Rattle.ptb_devices.specs.Inputs.{InputState, InputNow, most_lines, known_lines, CutsLine, CutsAll, asked_at, asked, ReadsOn, fault_at}
+use Rattle.ptb_devices.specs.Sources.{Loses, NoneLeft, ready_lines}
+use Rattle.ptb_devices.specs.Inputs.{InputState, InputNow, open_piece, most_lines, known_lines, CutsLine, CutsAll, TakesLine, TakesWhole, asked_at, asked, ReadsOn, fault_at}
 use Rattle.ptb_devices.specs.InputLaws.{ReadsOn_then}
-use Rattle.ptb_devices.proofs.ReadingOn.{ReadsOn_line, ReadsOn_all, ReadsOn_last}
+use Rattle.ptb_devices.proofs.ReadingOn.{ReadsOn_forget, ReadsOn_line, ReadsOn_whole, ReadsOn_all, ReadsOn_last}
 
 -- where none is left behind no lines, none was left before
 pub none_left_before : (a b : Option (List (List ℕ))) → Loses a b [] → NoneLeft b → NoneLeft a
@@ -41,6 +42,26 @@ given_asked Exceeded Exceeded given e = omega arith
 
 pub cut_asked : (a b : InputState) (old : InputState) → CutsLine a b → fault_at a.end ≡ fault_at old.end → asked b ≤ asked old
 cut_asked a b old cuts same = subst (λ (s : InputState). asked s ≤ asked old) (sym cuts.rest) (given_asked a.end old.end old.is_given same)
+
+-- before the end, no line is asked for in vain
+open_unasked : (s : InputState) → s.end ≡ Open → asked s ≡ 0
+open_unasked s e = ap (λ end. asked_at end s.is_given) e
+
+-- a line that is at hand is given before the end
+pub taken_ready : (m : InputNow) (a b : InputState) (r : Option (Bor (List ℕ))) → m.state.end ≡ Open → a ≡ record m.state { piece = open_piece m.state; is_given = false } → TakesWhole a r b
+    → ReadsOn (asked b) m (ready_lines r) (record m { state = b }) × (asked b ≤ asked m.state)
+taken_ready m a b None goes is takes =
+    let same : b ≡ record m.state { piece = open_piece m.state; is_given = false } = takes ∙ is in
+    let none : asked b ≡ 0 = open_unasked b (ap (λ (s : InputState). s.end) same ∙ goes) in
+    (subst (λ (s : InputState). ReadsOn (asked b) m [] (record m { state = s })) (sym same) (ReadsOn_forget (asked b) m), omega (arith, none))
+taken_ready m a b (Some line) goes is takes =
+    let n : InputState = record m.state { piece = open_piece m.state; is_given = false } in
+    let whole : TakesLine n line.now b = subst (λ (s : InputState). TakesLine s line.now b) is takes in
+    let none : asked b ≡ 0 = open_unasked b (ap (λ (s : InputState). s.end) whole.rest ∙ goes) in (
+      ReadsOn_then 1 0 (asked b) m (record m { state = n }) (record m { state = b }) [] (line.now ∷ []) (ReadsOn_forget 1 m) (ReadsOn_whole 0 (record m { state = n }) line.now b refl whole)
+          (omega arith) (omega arith),
+      omega (arith, none),
+    )
 
 -- where all that has come is cut, nothing waits once the end has come
 pub drained : {wanted : ℕ} {given : List (List ℕ)} (m n : InputNow) → ReadsOn wanted m given n → m.state.waiting ≡ [] → n.state.end ≡ Ended → n.state.waiting ≡ []

@@ -14,7 +14,7 @@ use Rattle.ptb_devices.specs.declared.line_buffer.InputEnd.TheVariants.{Open, En
 use Rattle.ptb_devices.specs.Cutting.{kept_bytes, whole_lines, last_piece, last_line, Cuts}
 use Rattle.ptb_devices.specs.CuttingLaws.{whole_lines-append, last_piece-append}
 use Rattle.ptb_devices.specs.Sources.{Loses}
-use Rattle.ptb_devices.specs.Inputs.{InputState, InputNow, IsCounted, open_piece, cut_bytes, ends_within, lines_to_end, known_lines, CutsLine, CutsAll, asked_at, asked, ReadsOn}
+use Rattle.ptb_devices.specs.Inputs.{InputState, InputNow, IsCounted, open_piece, cut_bytes, ends_within, lines_to_end, known_lines, CutsLine, CutsAll, TakesLine, asked_at, asked, ReadsOn}
 use Rattle.ptb_devices.specs.InputLaws.{IsCounted_none, ReadsOn_none, take-split}
 use Rattle.ptb_devices.proofs.Cutting.{Cuts_more}
 
@@ -138,6 +138,16 @@ pub ReadsOn_line : (wanted : ℕ) (m : InputNow) (b : InputState) → m.state.is
 ReadsOn_line wanted m b kept cuts =
     subst (λ (s : InputState). ReadsOn wanted m (kept_bytes b.piece ∷ []) (record m { state = s })) (sym cuts.rest)
     (ReadsOn_cut wanted m true b.piece cuts.front b.waiting (kept_bytes b.piece ∷ []) kept cuts.whole cuts.cut (omega (arith, cuts.some)) (asked_one m.state.end m.state.is_given true))
+
+-- a line is given where it is, and not kept
+pub ReadsOn_whole : (wanted : ℕ) (m : InputNow) (line : List ℕ) (b : InputState) → m.state.is_given ≡ false → TakesLine m.state line b → ReadsOn wanted m (line ∷ []) (record m { state = b })
+ReadsOn_whole wanted m line b kept takes =
+    let same : record m.state { piece = None; is_given = false; waiting = b.waiting } ≡ b =
+    ap (λ p. record m.state { piece = p; is_given = false; waiting = b.waiting }) (sym takes.unbegun)
+    ∙ ap (λ t. record m.state { is_given = t; waiting = b.waiting }) (sym kept) ∙ sym takes.rest in
+    let cut : Cuts m.state.piece takes.front (line ∷ []) None = subst (λ p. Cuts p takes.front (line ∷ []) None) (sym takes.unbegun) takes.cut in
+    subst (λ (s : InputState). ReadsOn wanted m (line ∷ []) (record m { state = s })) same
+    (ReadsOn_cut wanted m false None takes.front b.waiting (line ∷ []) kept takes.whole cut (omega (arith, takes.some)) (asked_one m.state.end m.state.is_given false))
 
 -- where no line ends, a piece begins at most where there are bytes
 begun_by_bytes : (p q : Option (List ℕ)) (bytes : List ℕ) → Cuts p bytes [] q → length (last_line q) ≤ length bytes + length (last_line p)

@@ -8,6 +8,7 @@
 --     whole_lines p bytes          the lines that these bytes end, where the piece p has begun before them
 --     last_piece p bytes           the piece that has begun after these bytes
 --     last_line p                  the line that p is at the end of the bytes, if it is one
+--     IsLine line bytes            these bytes are the line and its end, and the cleaned line is the same
 --     Cuts p bytes given q         these bytes end the lines given, and then q has begun
 --     AddsLines p bytes old new q  the lines that these bytes end come after the old ones
 use Rattle.std.specs.Prelude.{◌≡◌, ℕ, ◌==◌, ◌≤◌, Bool, true, false, IsTrue, if◌then◌else◌, List, [], ◌∷◌, ◌++◌, length, filter, take, Option, Some, None}
@@ -48,6 +49,9 @@ last_line (Some kept) = kept ∷ []
 
 abbrev pub Cuts : Option (List ℕ) → List ℕ → List (List ℕ) → Option (List ℕ) → Type 0
 Cuts p bytes given q = (whole_lines p bytes ≡ given) × (last_piece p bytes ≡ q)
+
+abbrev pub IsLine : List ℕ → List ℕ → Type 0
+IsLine line bytes = Cuts None bytes (line ∷ []) None
 
 abbrev pub AddsLines : Option (List ℕ) → List ℕ → List (List ℕ) → List (List ℕ) → Option (List ℕ) → Type 0
 AddsLines p bytes old new q = (new ≡ old ++ whole_lines p bytes) × (last_piece p bytes ≡ q)

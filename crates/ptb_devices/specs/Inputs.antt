@@ -9,12 +9,15 @@
 --     InputNow                       what has come of an input, and its reader
 --     known_lines n                  the lines that are left, where the reader's bytes are known
 --     CutsLine a b, CutsAll a b      a line was cut from what has come; all of it was cut, and it ended no line
+--     TakesLine a line b             this line was taken from what has come, and is not kept
+--     TakesWhole a line b            the same for a line that may be there: without one, nothing was done
 --     IsCounted old new n            so many bytes were given, as a reader counts them
 --     IsReadAhead a taken most       these bytes were taken because fewer than so many lines were whole before the last read
 --     ReadsOn wanted m given n       the input went on from m to n, and gave these lines; so many more were asked for
 --     asked a                        how many lines were asked for that could not be given
 --     fault_at end, Refuses end f    the fault that is answered from there on
 use Rattle.std.specs.Prelude.{◌≡◌, ℕ, ◌+◌, ◌-◌, ◌<◌, ◌≤◌, ◌⊎◌, nat_lt, Bool, true, false, if◌then◌else◌, List, [], ◌∷◌, ◌++◌, length, take, Option, Some, None, option_map, IfSome}
+use Rattle.std.specs.Borrow.{Bor}
 use Rattle.std.specs.Io.KnownBytes.{Consumes}
 use Rattle.ptb_text.specs.Device.{GivesAtMost, GivesExactly, HasFailed}
 use Rattle.ptb_devices.specs.declared.line_buffer.InputEnd.{InputEnd}
@@ -22,7 +25,7 @@ use Rattle.ptb_devices.specs.declared.line_buffer.InputEnd.TheVariants.{Open, En
 use Rattle.ptb_devices.specs.declared.fault.ReadFault.{ReadFault}
 use Rattle.ptb_devices.specs.declared.fault.ReadFault.TheVariants.{Read, TooLong}
 use Rattle.ptb_devices.specs.declared.whole_input.TheConstants.{BUFFER_SIZE, INPUT_LIMIT}
-use Rattle.ptb_devices.specs.Cutting.{kept_bytes, whole_lines, last_piece, last_line, Cuts}
+use Rattle.ptb_devices.specs.Cutting.{kept_bytes, whole_lines, last_piece, last_line, Cuts, IsLine}
 use Rattle.ptb_devices.specs.Sources.{Loses}
 
 -- ---- what has come of an input
@@ -97,6 +100,19 @@ pub record CutsLine (a b : InputState) : Type 0 where
 pub record CutsAll (a b : InputState) : Type 0 where
   pub cut : Cuts a.piece a.waiting [] b.piece
   pub rest : b ≡ record a { piece = b.piece; is_given = false; waiting = [] }
+
+-- no piece had begun, and the line is all that the bytes in front of its end are
+pub record TakesLine (a : InputState) (line : List ℕ) (b : InputState) : Type 0 where
+  pub front : List ℕ
+  pub whole : a.waiting ≡ front ++ b.waiting
+  pub some : 0 < length front
+  pub unbegun : a.piece ≡ None
+  pub cut : IsLine line front
+  pub rest : b ≡ record a { waiting = b.waiting }
+
+abbrev pub TakesWhole : InputState → Option (Bor (List ℕ)) → InputState → Type 0
+TakesWhole a None b = b ≡ a
+TakesWhole a (Some line) b = TakesLine a line.now b
 
 -- ---- how it goes on
 

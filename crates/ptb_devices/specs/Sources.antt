@@ -2,10 +2,12 @@
 --     Loses old new given          known lines begin with those given, and lose them
 --     NoneLeft lines               no known line is left
 --     given_lines result           the line that a call gave, if it gave one
+--     ready_lines line             the line that was at hand, if one was
 --     LineList                     a list of lines, and how many of them were taken
 --     Gives old given new          between two states of such a list, these lines were taken
 use Rattle.std.specs.Prelude.{◌≡◌, ℕ, ◌+◌, List, [], ◌∷◌, ◌++◌, length, drop, ⊤, Option, Some, None, Result, Ok, Err}
 use Rattle.std.specs.Borrow.{Bor}
+use Rattle.ptb_devices.specs.declared.fault.ReadFault.{ReadFault}
 pub use Rattle.ptb_text.specs.Streams.{ConsumesAtMost}
 
 -- known lines begin with these, and lose them
@@ -24,6 +26,10 @@ abbrev pub given_lines : {E : Type 0} → Result (Option (Bor (List ℕ))) E →
 given_lines (Ok (Some line)) = line.now ∷ []
 given_lines (Ok None) = []
 given_lines (Err fault) = []
+
+-- the line that was at hand, if one was
+abbrev pub ready_lines : Option (Bor (List ℕ)) → List (List ℕ)
+ready_lines line = given_lines {E = ReadFault} (Ok line)
 
 -- a list of lines, of which the first ones were taken
 pub record LineList : Type 0 where

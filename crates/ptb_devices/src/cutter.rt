@@ -9,7 +9,7 @@ use arrayvec::ArrayVec;
 use std::marker::Model;
 
 /// How many bytes of an input line are kept.
-const LINE_LIMIT: usize = 255;
+pub(crate) const LINE_LIMIT: usize = 255;
 
 /// The piece of a line that has come so far, if one has begun: of its bytes it keeps what the
 /// cleaned line keeps, and no more.
@@ -111,4 +111,12 @@ fn cleaned_byte(byte: u8) -> Option<u8>
         b' '..=b'~' => Some(byte),
         _ => None,
     }
+}
+
+/// Whether the cleaning leaves a byte as it is.
+#[inline(always)]
+pub(crate) fn stays(byte: u8) -> bool
+    ensures { IsTrue result → cleaned_byte byte ≡ byte ∷ [] }
+{
+    matches!(byte, b' '..=b'~')
 }

@@ -1,13 +1,17 @@
 // This file holds what has come of an input whose lines are asked for one by one.
 
 ghost use Rattle.std.specs.Prelude.{◌≡◌, ◌↔◌, ◌+◌, ◌<◌, ◌≤◌, true, false, [], length};
-ghost use Rattle.std.specs.Prelude.{slice_range, IsSome, IsTrue, IfOk, IfErr, MatchBool};
+ghost use Rattle.std.specs.Prelude.{slice_range, take, IsSome, IsTrue, IfOk, IfErr, IfSome, MatchBool};
+ghost use Rattle.std.specs.Borrow.{sem};
+ghost use Rattle.std.specs.Io.BufRead.{Rests};
 ghost use Rattle.ptb_text.specs.Lines.{line_limit};
-ghost use Rattle.ptb_devices.specs.Cutting.{kept_bytes};
+ghost use Rattle.ptb_devices.specs.Cutting.{kept_bytes, IsLine};
+ghost use Rattle.ptb_devices.specs.contracts.line_buffer.LineBuffer.{the_row};
+ghost use Rattle.ptb_devices.specs.declared.line_buffer.InputEnd.TheVariants.{Open};
 ghost use Rattle.ptb_devices.specs.Inputs.{fresh_input, fault_at, open_piece, input_now};
-ghost use Rattle.ptb_devices.specs.Inputs.{CutsLine, CutsAll, ReadsOn, Refuses};
+ghost use Rattle.ptb_devices.specs.Inputs.{CutsLine, CutsAll, TakesWhole, ReadsOn, Refuses};
 
-use crate::cutter::LineCutter;
+use crate::cutter::{LINE_LIMIT, LineCutter, stays};
 use crate::fault::ReadFault;
 use crate::whole_input::{BUFFER_SIZE, INPUT_LIMIT};
 use ptb_text::{DeviceFault, Read};
@@ -92,6 +96,30 @@ impl LineBuffer {
             self.cutter.clear();
             self.is_given = false;
         }
+    }
+
+    /// Whether its reader may have more.
+    pub(crate) fn is_open(&self) -> bool
+        ensures { IsTrue result → self.now.end ≡ Open }
+    {
+        matches!(self.end, InputEnd::Open)
+    }
+
+    /// Takes the line in front of what has come, if it is whole there, no piece has begun, and the
+    /// cleaned line is the same. It is given where it is: nothing is copied.
+    #[inline(always)]
+    pub(crate) fn take_whole(&mut self) -> Option<&[u8]>
+        ensures* after { sem 𝓛 (Rests the_row self.entry (λ new.
+            TakesWhole self.old result new)) }
+        ensures short { IfSome result (λ bytes. length bytes.now ≤ line_limit) }
+    {
+        if self.cutter.has_begun() {
+            return None;
+        }
+        let from = self.from;
+        let count = line_count(between(&self.bytes, from, self.to))?;
+        self.from = from + count + 1;
+        Some(between(&self.bytes, from, from + count))
     }
 
     /// Cuts a line from what has come, and gives it. Whether there is one: else all is cut.
@@ -183,6 +211,24 @@ impl LineBuffer {
             InputEnd::Exceeded => Some(ReadFault::TooLong),
         }
     }
+}
+
+/// How many bytes the line in front of these bytes has, if its end is among them and the cleaned line
+/// is the same.
+fn line_count(bytes: &[u8]) -> Option<usize>
+    ensures line { IfSome result (λ n. IsLine (take n bytes.now) (take (n + 1) bytes.now)) }
+    ensures within { IfSome result (λ n. n < length bytes.now) }
+    ensures short { IfSome result (λ n. n ≤ line_limit) }
+{
+    for (count, byte) in bytes.iter().enumerate() {
+        if *byte == b'\n' {
+            return Some(count);
+        }
+        if count == LINE_LIMIT || !stays(*byte) {
+            return None;
+        }
+    }
+    None
 }
 
 /// The bytes between two places.

@@ -9,7 +9,7 @@ ghost use Rattle.std.specs.Io.BufRead.{Rests};
 ghost use Rattle.ptb_text.specs.Lines.{clean_line, line_limit};
 ghost use Rattle.ptb_devices.specs.Cutting.{IsClean};
 ghost use Rattle.ptb_devices.specs.declared.fault.ReadFault.{ReadFault};
-ghost use Rattle.ptb_devices.specs.Sources.{Loses, NoneLeft, given_lines, LineList, Gives};
+ghost use Rattle.ptb_devices.specs.Sources.{Loses, NoneLeft, given_lines, ready_lines, LineList, Gives};
 
 use crate::cutter::LineCutter;
 use crate::fault::ReadFault;
@@ -49,6 +49,13 @@ pub trait LineSource {
         ensures end { IfOk result (λ line. IfNone line (NoneLeft (lines self.old))) }
         ensures short { IfOk result (λ line. IfSome line (λ bytes.
             length bytes.now ≤ line_limit)) };
+
+    /// The next line, of at most 255 bytes, if it is at hand: nothing is waited for. That there is
+    /// none says nothing about the lines that are left.
+    fn take_ready(&mut self) -> Option<&[u8]>
+        ensures* after { sem 𝓛 (Rests Self.row self.entry (λ new.
+            gives self.old (ready_lines result) new × (missed new ≤ missed self.old))) }
+        ensures short { IfSome result (λ bytes. length bytes.now ≤ line_limit) };
 
     /// With no call it gives nothing.
     ghost gives_none: { (s : Self) → gives s [] s };
@@ -189,5 +196,14 @@ impl<'a> LineSource for Lines<'a> {
         let line = self.lines[self.taken].bytes();
         self.taken += 1;
         Ok(Some(line))
+    }
+
+    fn take_ready(&mut self) -> Option<&[u8]> {
+        if self.taken == self.lines.len() {
+            return None;
+        }
+        let line = self.lines[self.taken].bytes();
+        self.taken += 1;
+        Some(line)
     }
 }

@@ -78,4 +78,12 @@ impl<'a, R: Read> LineSource for ReaderLines<'a, R> {
         }
         Ok(Some(self.buffer.kept()))
     }
+
+    fn take_ready(&mut self) -> Option<&[u8]> {
+        if !self.buffer.is_open() {
+            return None;
+        }
+        self.buffer.forget_given();
+        self.buffer.take_whole()
+    }
 }

@@ -23,7 +23,7 @@ mod store;
 mod translation;
 mod waiting;
 
-pub use eval::{evaluate, target};
+pub use eval::{evaluate, evaluate_in, target};
 pub use fault::{Fault, FaultKind, Stop};
 pub use laws::{code_laws, mark_laws, spelling_laws, value_laws};
 pub use operator::Operator;

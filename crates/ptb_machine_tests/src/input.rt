@@ -122,15 +122,24 @@ fn answers_where_no_line_is_left(rt: HostRuntime) -> Result<(), Fail> {
 // Each INPUT with a writer that takes so many writes: how it was done, what was shown, and how many
 // writes are left.
 const WRITES: &[(&str, &[&[u8]], usize, Result<usize, Stop>, &[u8], usize)] = &[
-    ("10 IN.A", &[b"5"], 5, Ok(4), b"A:5\n", 3),
-    ("10 IN.'N'A,B", &[b"1", b"2"], 5, Ok(9), b"N:1\nB:2\n", 2),
-    ("10 IN.A", &[b")", b"5"], 5, Ok(4), b"A:)\nWHAT?\nA:5\n", 2),
+    ("10 IN.A", &[b"5"], 5, Ok(4), b"A:5\n", 4),
+    ("10 IN.'N'A,B", &[b"1", b"2"], 5, Ok(9), b"N:1\nB:2\n", 4),
+    ("10 IN.A", &[b")", b"5"], 5, Ok(4), b"A:)\nWHAT?\nA:5\n", 4),
     ("10 IN.'X'", &[], 5, Ok(6), b"X", 4),
     ("10 IN.A", &[], 5, Err(Stop::NoInput), b"A:", 4),
+    (
+        "10 IN.A",
+        &[b")"],
+        5,
+        Err(Stop::NoInput),
+        b"A:)\nWHAT?\nA:",
+        4,
+    ),
     ("10 IN.'N'@(0-1)", &[], 5, fault!(How, 12), b"N", 4),
-    ("10 IN.'X',A(", &[b"5"], 5, fault!(What, 8), b"XA:5\n", 3),
-    ("10 IN.A", &[b"5"], 1, UNWRITTEN, b"A:", 0),
+    ("10 IN.'X',A(", &[b"5"], 5, fault!(What, 8), b"XA:5\n", 4),
+    ("10 IN.A", &[b"5"], 1, Ok(4), b"A:5\n", 0),
     ("10 IN.A", &[b"5"], 0, UNWRITTEN, b"", 0),
+    ("10 IN.A", &[], 0, UNWRITTEN, b"", 0),
 ];
 
 // Does an INPUT with a writer that takes so many writes: the place after it, and how many writes

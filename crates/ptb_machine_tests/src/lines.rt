@@ -89,6 +89,10 @@ fn lines_in_memory(rt: HostRuntime) -> Result<(), Fail> {
     expect_all_taken(&rt, &all)?;
     let mut lines = Lines::new(&all);
     assert!(rt; all.len() == 3);
+    for want in [&b"one"[..], b"", b"three"] {
+        expect_same(&rt, "ready line", lines.take_ready(), Some(want));
+    }
+    expect_same(&rt, "ready line", lines.take_ready(), None);
     lines.go(2);
     expect_next(&rt, &mut lines, Some(b"three"));
     expect_next(&rt, &mut lines, None);

@@ -40,6 +40,68 @@ fn lines_of_an_input(rt: HostRuntime) {
     }
 }
 
+// Each input, how many of its lines are asked for before, and the lines that are at hand then: those
+// that came whole with the buffer, up to one that the cleaning changes.
+const READY: &[(&[u8], usize, &[&[u8]])] = &[
+    (b"5\n7\n", 0, &[]),
+    (b"5\n7\n", 1, &[b"7"]),
+    (b"5\n7\n\n 9 \n1", 1, &[b"7", b"", b" 9 "]),
+    (b"5\n7\t\n9\n", 1, &[]),
+    (b"5\n7\t\n9\n", 2, &[b"9"]),
+    (b"5\n7\r\n9\n", 1, &[]),
+    (b"5\n\x7f\n9\n", 1, &[]),
+    (b"5\n7", 2, &[]),
+    (b"5\n7", 3, &[]),
+];
+
+#[test]
+fn lines_at_hand(rt: HostRuntime) {
+    for &(bytes, asked, lines) in READY {
+        let mut reader = Device::new(scripted(bytes, 4096, false));
+        let mut source = ReaderLines::new(&mut reader);
+        for _ in 0..asked {
+            expect_same(&rt, "is read", source.next().is_ok(), true);
+        }
+        for &line in lines {
+            expect_same(
+                &rt,
+                "line",
+                (bytes, source.take_ready()),
+                (bytes, Some(line)),
+            );
+        }
+        for _ in 0..2 {
+            expect_same(&rt, "none", (bytes, source.take_ready()), (bytes, None));
+        }
+    }
+}
+
+// How many bytes a line has, and whether it is at hand.
+const LONG_LINES: &[(usize, bool)] = &[(0, true), (255, true), (256, false)];
+
+// A line at hand has at most 255 bytes. One that is longer is still given, cut.
+#[test]
+fn long_lines_at_hand(rt: HostRuntime) {
+    for &(length, is_ready) in LONG_LINES {
+        let mut bytes = [b'A'; 300];
+        bytes[0] = b'\n';
+        bytes[length + 1] = b'\n';
+        let mut reader = Device::new(scripted(&bytes, 4096, false));
+        let mut source = ReaderLines::new(&mut reader);
+        expect_same(&rt, "first", next_length(&mut source), Ok(Some(0)));
+        let found = source.take_ready().map(|line| line.len());
+        expect_same(
+            &rt,
+            "ready",
+            (length, found),
+            (length, is_ready.then_some(length)),
+        );
+        if !is_ready {
+            expect_same(&rt, "cut", next_length(&mut source), Ok(Some(255)));
+        }
+    }
+}
+
 // How long the next line is, if there is one.
 fn next_length<R: Read>(source: &mut ReaderLines<'_, R>) -> Result<Option<usize>, ReadFault> {
     Ok(source.next()?.map(|line| line.len()))

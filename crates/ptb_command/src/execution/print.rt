@@ -24,7 +24,7 @@ use crate::stop::{Stop, fault};
 use itoa::Buffer;
 use ptb_answers::Chooser;
 use ptb_devices::{LineSource, Screen};
-use ptb_expr::{FaultKind, Step, Store};
+use ptb_expr::{FaultKind, Step, Steps, Store};
 
 /// The width of the values at the start of each command.
 pub const FIRST_WIDTH: u8 = 6;
@@ -43,6 +43,8 @@ pub struct Output {
     pub gathering: Gathering,
     /// The width.
     pub width: u8,
+    /// A room for the steps of an input line.
+    pub(crate) room: Steps,
 }
 
 impl Output {
@@ -54,6 +56,7 @@ impl Output {
         Output {
             gathering: Gathering::new(),
             width: FIRST_WIDTH,
+            room: Steps::new(),
         }
     }
 

@@ -33,8 +33,8 @@ returns-in-Ok g c d said x prompt =
     line_stored said x prompt c.args.target c.args.line.now c.in-Ok.value _ (Ok (to_z w16 (of_z w16 c.in-Ok.value))) same (ap Ok same)
     (c.in_ok-show.ensures.comes d c.args.store.now)
     (c.in_ok-show-2.ensures.comes d c.args.store.now)
-    (line_values (g.C.Chooser.refused c.evaluate.new.chooser) c.args.line.now _ _ (with_screen (screen_state g.S.Screen c.show-2.new.screen) d) c.show-2.new.fresh c.show-2.new.self _ c.in-Ok.value _ same
-    (subst (λ (s : CursorState). WorkComes (g.C.Chooser.refused c.evaluate.new.chooser) (expression_value c.args.store.now s) (g.C.Chooser.choices c.args.chooser.now) (g.C.Chooser.choices c.evaluate.new.chooser) (Ok c.in-Ok.value))
+    (line_values (g.C.Chooser.refused c.evaluate_in.new.chooser) c.args.line.now _ _ (with_screen (screen_state g.S.Screen c.show-2.new.screen) d) c.show-2.new.fresh c.show-2.new.self _ c.in-Ok.value _ same
+    (subst (λ (s : CursorState). WorkComes (g.C.Chooser.refused c.evaluate_in.new.chooser) (expression_value c.args.store.now s) (g.C.Chooser.choices c.args.chooser.now) (g.C.Chooser.choices c.evaluate_in.new.chooser) (Ok c.in-Ok.value))
     c.new-cursor.ensures c.in-Ok.ensures.value.gives))
     (store_refines_part _ _ _ _ _ _ _ c.store_value.ensures)
 
@@ -47,10 +47,10 @@ returns-in_err-show-in-Err-Fault g c d said x prompt =
     (line_again_stops said x prompt _ _ c.args.target c.args.line.now c.in-Err-Fault.fault _ (Err c.in-Err-Fault.fault) _ (rw c.in-Err-Fault.field-0-is at c.fault_line.ensures) refl
     (c.in_ok-show.ensures.comes d c.args.store.now)
     (c.in_ok-show-2.ensures.comes d c.args.store.now)
-    (line_faults (g.C.Chooser.refused c.evaluate.new.chooser) c.args.line.now _ _ (with_screen (screen_state g.S.Screen c.show-2.new.screen) d) c.show-2.new.fresh c.show-2.new.self _ c.in-Err-Fault.field-0 _ c.in-Err-Fault.field-0-is
-    (subst (λ (s : CursorState). WorkComes (g.C.Chooser.refused c.evaluate.new.chooser) (expression_value c.args.store.now s) (g.C.Chooser.choices c.args.chooser.now) (g.C.Chooser.choices c.evaluate.new.chooser) (Err c.in-Err-Fault.field-0))
+    (line_faults (g.C.Chooser.refused c.evaluate_in.new.chooser) c.args.line.now _ _ (with_screen (screen_state g.S.Screen c.show-2.new.screen) d) c.show-2.new.fresh c.show-2.new.self _ c.in-Err-Fault.field-0 _ c.in-Err-Fault.field-0-is
+    (subst (λ (s : CursorState). WorkComes (g.C.Chooser.refused c.evaluate_in.new.chooser) (expression_value c.args.store.now s) (g.C.Chooser.choices c.args.chooser.now) (g.C.Chooser.choices c.evaluate_in.new.chooser) (Err c.in-Err-Fault.field-0))
     c.new-cursor.ensures c.in-Err-Fault.ensures.value.gives))
-    (stops_unrefused _ _ _ _ _ (c.in_err-show-in-Err-Fault.ensures.comes (with_choices (g.C.Chooser.choices c.evaluate.new.chooser) d) c.args.store.now)))
+    (stops_unrefused _ _ _ _ _ (c.in_err-show-in-Err-Fault.ensures.comes (with_choices (g.C.Chooser.choices c.evaluate_in.new.chooser) d) c.args.store.now)))
 
 pub returns-in_ok-show-in-Err-Fault : goal.returns-in_ok-show-in-Err-Fault
 returns-in_ok-show-in-Err-Fault g c d said x prompt =
@@ -58,10 +58,10 @@ returns-in_ok-show-in-Err-Fault g c d said x prompt =
     line_again said x prompt c.args.target c.args.line.now c.in-Err-Fault.fault _ (Err c.in-Err-Fault.fault) (rw c.in-Err-Fault.field-0-is at c.fault_line.ensures) refl
     (c.in_ok-show.ensures.comes d c.args.store.now)
     (c.in_ok-show-2.ensures.comes d c.args.store.now)
-    (line_faults (g.C.Chooser.refused c.evaluate.new.chooser) c.args.line.now _ _ (with_screen (screen_state g.S.Screen c.show-2.new.screen) d) c.show-2.new.fresh c.show-2.new.self _ c.in-Err-Fault.field-0 _ c.in-Err-Fault.field-0-is
-    (subst (λ (s : CursorState). WorkComes (g.C.Chooser.refused c.evaluate.new.chooser) (expression_value c.args.store.now s) (g.C.Chooser.choices c.args.chooser.now) (g.C.Chooser.choices c.evaluate.new.chooser) (Err c.in-Err-Fault.field-0))
+    (line_faults (g.C.Chooser.refused c.evaluate_in.new.chooser) c.args.line.now _ _ (with_screen (screen_state g.S.Screen c.show-2.new.screen) d) c.show-2.new.fresh c.show-2.new.self _ c.in-Err-Fault.field-0 _ c.in-Err-Fault.field-0-is
+    (subst (λ (s : CursorState). WorkComes (g.C.Chooser.refused c.evaluate_in.new.chooser) (expression_value c.args.store.now s) (g.C.Chooser.choices c.args.chooser.now) (g.C.Chooser.choices c.evaluate_in.new.chooser) (Err c.in-Err-Fault.field-0))
     c.new-cursor.ensures c.in-Err-Fault.ensures.value.gives))
-    (c.in_ok-show-in-Err-Fault.ensures.comes (with_choices (g.C.Chooser.choices c.evaluate.new.chooser) d) c.args.store.now)
+    (c.in_ok-show-in-Err-Fault.ensures.comes (with_choices (g.C.Chooser.choices c.evaluate_in.new.chooser) d) c.args.store.now)
 
 -- ---- its expression has no value yet
 
@@ -69,6 +69,6 @@ pub returns-in-Err-Pause : goal.returns-in-Err-Pause
 returns-in-Err-Pause g c d said x prompt =
     let d = with_choices (g.C.Chooser.choices c.args.chooser.now) d in
     line_worth_stops said x prompt _ _ c.args.target c.args.line.now _ (c.in_ok-show.ensures.comes d c.args.store.now) (c.in_ok-show-2.ensures.comes d c.args.store.now)
-    (line_pauses (g.C.Chooser.refused c.evaluate.new.chooser) c.args.line.now _ _ (with_screen (screen_state g.S.Screen c.show-2.new.screen) d) c.show-2.new.fresh c.show-2.new.self _ c.in-Err-Pause.field-0 _ c.in-Err-Pause.field-0-is
-    (subst (λ (s : CursorState). WorkComes (g.C.Chooser.refused c.evaluate.new.chooser) (expression_value c.args.store.now s) (g.C.Chooser.choices c.args.chooser.now) (g.C.Chooser.choices c.evaluate.new.chooser) (Err c.in-Err-Pause.field-0))
+    (line_pauses (g.C.Chooser.refused c.evaluate_in.new.chooser) c.args.line.now _ _ (with_screen (screen_state g.S.Screen c.show-2.new.screen) d) c.show-2.new.fresh c.show-2.new.self _ c.in-Err-Pause.field-0 _ c.in-Err-Pause.field-0-is
+    (subst (λ (s : CursorState). WorkComes (g.C.Chooser.refused c.evaluate_in.new.chooser) (expression_value c.args.store.now s) (g.C.Chooser.choices c.args.chooser.now) (g.C.Chooser.choices c.evaluate_in.new.chooser) (Err c.in-Err-Pause.field-0))
     c.new-cursor.ensures c.in-Err-Pause.ensures.value.gives) _ (rw c.in-Err-Pause.field-0-is at c.from.ensures))
