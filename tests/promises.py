@@ -74,10 +74,14 @@ class Sources:
 
 
 def rows_of(page):
-    """The cells of each row of the page's tables, without their heads."""
-    for line in page.splitlines():
-        if line.startswith("| ") and not line.startswith(("| Crate |", "| Promise |", "| Mistake |")):
-            yield [it.strip() for it in line.strip().strip("|").split(" | ")]
+    """The cells of each row of the page's tables, each with the first cell of its table's head."""
+    head = None
+    for line in filter(lambda it: it.startswith("| "), page.splitlines()):
+        cells = [it.strip() for it in line.strip().strip("|").split(" | ")]
+        if cells[0] in ("Crate", "Promise", "Mistake"):
+            head = cells[0]
+        else:
+            yield head, cells
 
 
 def public_functions():
@@ -103,17 +107,18 @@ class Page(unittest.TestCase):
         cls.sources = Sources()
         cls.page = PAGE.read_text()
         cls.crates, cls.mistakes, cls.promises, cls.malformed = [], [], [], []
-        for row in rows_of(cls.page):
-            cls.rows_like(row).append(row)
+        tables = {"Crate": cls.crates, "Promise": cls.promises, "Mistake": cls.mistakes}
+        for head, row in rows_of(cls.page):
+            (tables[head] if cls.kind_of(row) == head else cls.malformed).append(row)
 
-    @classmethod
-    def rows_like(cls, row):
-        """The rows of the kind of this one."""
+    @staticmethod
+    def kind_of(row):
+        """The head of the table in which a row belongs, if it has three cells."""
         if len(row) != 3:
-            return cls.malformed
-        if CODE.fullmatch(row[0]):
-            return cls.crates
-        return cls.mistakes if EDITS.search(row[1]) else cls.promises
+            return None
+        if re.match(r"`ptb_?[a-z_]*`(,|$)", row[0]):
+            return "Crate"
+        return "Mistake" if EDITS.search(row[1]) else "Promise"
 
     def holds(self, condition, complaint):
         """A check of its own, so that the others are made even if it fails."""
@@ -121,7 +126,7 @@ class Page(unittest.TestCase):
             self.assertTrue(condition)
 
     def test_tables(self):
-        """There are rows of each kind, and each has three cells."""
+        """There are rows of each kind, and each has three cells and is in a table of its kind."""
         self.assertTrue(self.crates and self.mistakes and self.promises)
         self.assertEqual(self.malformed, [])
 
@@ -134,7 +139,9 @@ class Page(unittest.TestCase):
             self.holds(name in named, f"no promise of {crate}::{name}")
 
     def test_crates(self):
-        """The functions and types of a crate's row are there."""
+        """There is a row for each crate, and the functions and types of the row are there."""
+        named = [name for crates, _, _ in self.crates for name in CODE.findall(crates)]
+        self.assertEqual(sorted(named), sorted(it.name for it in ROOT.glob("crates/*")))
         for crate, _, functions in self.crates:
             for name in CODE.findall(functions):
                 self.holds(self.sources.texts_of(name), f"no function or type {name} of {crate}")

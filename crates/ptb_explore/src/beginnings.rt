@@ -6,8 +6,8 @@ ghost use Rattle.ptb_answers.specs.Outcome.{Answers, bounds as bounds_of, is_ope
 ghost use Rattle.ptb_text.specs.Device.{HasFailed};
 ghost use Rattle.ptb_explore.specs.Beginnings.{beginning_line, split_play, stopped};
 ghost use Rattle.ptb_explore.specs.Beginnings.{FindsBeginning, MovesTo};
-ghost use Rattle.ptb_explore.specs.Copies.{Agrees, AreCopies};
-ghost use Rattle.ptb_explore.specs.Exploring.{AreCopiesAt, IsSameGame, game_of};
+ghost use Rattle.ptb_explore.specs.Copies.{Agrees, AreCopies, PlaysOn, kept_runs};
+ghost use Rattle.ptb_explore.specs.Exploring.{AreCopiesAt, IsSameGame, NextPlays, game_of};
 ghost use Rattle.ptb_explore.specs.Listing.{NextWrites, WritesRuns};
 ghost use Rattle.ptb_explore.specs.Plans.{EndsAt, IsFresh, IsPosition, front_at};
 ghost use Rattle.ptb_explore.specs.RunTree.{At, IsLast, Start, runs_left};
@@ -46,6 +46,8 @@ fn play_beginning(runner: &mut Runner, common: usize, most: usize) -> Result<(),
     ensures copies { OnOk result (AreCopies runner.old.player runner.old.lines.now runner.old.rules
         runner.new.report.answers.items runner.new.report.transcript.items
         runner.new.copies.kept.items) }
+    ensures played { OnOk result (PlaysOn common runner.old.copies.kept.items runner.old.played
+        runner.new.report.steps runner.new.played) }
 {
     run_laws();
     runner.trial.stop_after(most)?;
@@ -75,6 +77,9 @@ fn find_beginning(runner: &mut Runner, most: usize, position: Position) -> Resul
     ensures copies { IfOk result (λ found. IsTrue found → AreCopies runner.old.player
         runner.old.lines.now runner.old.rules runner.new.report.answers.items
         runner.new.report.transcript.items runner.new.copies.kept.items) }
+    ensures played { IfOk result (NextPlays
+        (kept_runs runner.old.report.answers.items runner.old.copies.kept.items) runner.old.played
+        runner.new.report runner.new.played) }
 {
     run_laws();
     let report = &runner.report;

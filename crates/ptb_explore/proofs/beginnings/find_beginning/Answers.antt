@@ -7,7 +7,7 @@ use Rattle.ptb_explore.specs.Beginnings.{stopped}
 use Rattle.ptb_explore.specs.Plans.{front_at, HasPlan, PlansNext}
 use Rattle.ptb_report.proofs.Reporting.{on_err_always}
 use Rattle.ptb_explore.proofs.Exits.{on_some_at}
-use Rattle.ptb_explore.proofs.GoingOn.{position_copies}
+use Rattle.ptb_explore.proofs.GoingOn.{next_played, position_copies}
 use Rattle.ptb_explore.proofs.Raising.{position_lengths, next_plan, last_plan, plan_ends}
 use Rattle.ptb_explore.proofs.Shares.{plan_left}
 use Rattle.ptb_explore.proofs.Stopped.{stopped_reads}
@@ -67,6 +67,14 @@ returns-in_ok-play_beginning-in-Some-clause-ended c = λ last.
     let next = next_plan (stopped c.args.most game) c.args.most (stopped_reads game c.args.most most reads) [] c.args.position report.answers.items plan report.bounds.items c.in-Some.common c.requires.position plans in
     plan_left (stopped c.args.most game) c.args.most (stopped_reads game c.args.most most reads) [] (front_at c.args.position report.answers.items) plan next last
 
+pub returns-in_ok-play_beginning-in-Some-clause-played : goal.returns-in_ok-play_beginning-in-Some-clause-played
+returns-in_ok-play_beginning-in-Some-clause-played c =
+    let report = c.args.runner.now.report in
+    let plan = c.plan_next.new.trial.answers.items in
+    let plans : PlansNext [] c.args.position report.answers.items report.bounds.items plan (Some c.in-Some.common) = rw (← c.deref.ensures.value, ← c.deref-2.ensures.value, ← c.in-Some.is) c.in_ok-plan_next.ensures.plan in
+    let run = c.in_ok-play_beginning-in-Some.ensures.ends in
+    next_played c.args.runner.now.player c.args.runner.now.lines.now c.args.runner.now.rules [] c.args.position report plan run.ones _ c.in-Some.common c.args.runner.now.copies.kept.items _ _ _ plans c.requires.copies run.answers_are c.in_ok-play_beginning-in-Some.ensures.played
+
 pub returns-in_ok-play_beginning-in-Some-clause-copies : goal.returns-in_ok-play_beginning-in-Some-clause-copies
 returns-in_ok-play_beginning-in-Some-clause-copies c = λ _. c.in_ok-play_beginning-in-Some.ensures.copies
 
@@ -85,6 +93,7 @@ returns-in_err-plan_next c = record {
       let next = next_plan (stopped c.args.most game) c.args.most (stopped_reads game c.args.most most reads) [] c.args.position report.answers.items has.0 report.bounds.items has.1 c.requires.position has.2 in
       plan_left (stopped c.args.most game) c.args.most (stopped_reads game c.args.most most reads) [] (front_at c.args.position report.answers.items) has.0 next last;
   copies = IfOk-from_err _ _ c.from_residual.ensures.0;
+  played = IfOk-from_err _ _ c.from_residual.ensures.0;
 }
 
 pub returns-in_err-play_beginning-in-Some : goal.returns-in_err-play_beginning-in-Some
@@ -103,4 +112,5 @@ returns-in_err-play_beginning-in-Some c = record {
       let next = next_plan (stopped c.args.most game) c.args.most (stopped_reads game c.args.most most reads) [] c.args.position report.answers.items plan report.bounds.items c.in-Some.common c.requires.position plans in
       plan_left (stopped c.args.most game) c.args.most (stopped_reads game c.args.most most reads) [] (front_at c.args.position report.answers.items) plan next last;
   copies = IfOk-from_err _ _ c.from_residual-in_err-play_beginning-in-Some.ensures.0;
+  played = IfOk-from_err _ _ c.from_residual-in_err-play_beginning-in-Some.ensures.0;
 }

@@ -54,6 +54,7 @@ returns-in_err-stop_after c = record {
   answers = on_err_always _ refl;
   bounds = on_err_always _ refl;
   copies = IfOk-from_err _ _ c.from_residual.ensures.0;
+  played = IfOk-from_err _ _ c.from_residual.ensures.0;
 }
 
 pub returns-in_err-play_plan : goal.returns-in_err-play_plan
@@ -63,6 +64,7 @@ returns-in_err-play_plan c = record {
   answers = on_err_always _ c.play_plan.ensures.answers;
   bounds = on_err_always _ c.play_plan.ensures.bounds;
   copies = IfOk-from_err _ _ c.from_residual-in_err-play_plan.ensures.0;
+  played = IfOk-from_err _ _ c.from_residual-in_err-play_plan.ensures.0;
 }
 
 pub returns-clause-same : goal.returns-clause-same
