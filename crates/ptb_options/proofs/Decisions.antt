@@ -65,12 +65,6 @@ rules_of o positive = record { limit = unwrap_or o.steps default_steps; choose =
 
 -- o are the options of the command line, and l is how the code has them
 module _ (o l : Options) (same : l ≡ o) where
-  pub sized : HasMemorySize o → (kept : Option ℕ) (memory : ℕ) → kept ≡ l.memory → memory ≡ unwrap_or kept 4096
-      → IsMemorySize memory
-  sized size kept memory given held =
-      let there : kept ≡ o.memory = given ∙ ap (λ (x : Options). x.memory) same in
-      size_of kept memory (subst (λ (k : Option ℕ). ForSome k IsMemorySize) (sym there) size) held
-
   -- what is known of the request, or of why there is none
   pub record IsDecided (result : Result Request UsageFault) : Type 0 where
     pub ok : IfOk result (Asks o)
