@@ -1,4 +1,4 @@
--- This file proves what is known of lines that were asked for in vain.
+-- This file proves what is known of lines that were asked for without success.
 -- Main lemmas: `missed_out` and `fewer_missed`.
 use Rattle.std.proofs.Common.{◌≡◌, true, ◌≤◌, ◌+◌, length, inl, inr, ℕ, List, Option, Some, None, ℤ, Result, Ok, Err, IfErr, IfOk, IfSome, IfNone, [], ◌∷◌, sym, ap, subst, ◌∙◌, arith, Bor}
 use Rattle.std.proofs.Math.Nat.{le_refl}
@@ -91,7 +91,7 @@ given_missed missed s t u line r e h k =
 -- ---- a source that has come from s to t
 
 module _ {L : Type 0} (refused : L → ReadFault → Type 0) (missed most : L → ℕ) (choose : Option ℤ) (s : L) where
-  -- no line more was asked for in vain
+  -- no line more was asked for without success
   pub fewer_missed : {X : Type 0} (t : L) → missed t ≤ missed s → (r : Result X Stop) → UnlessMissed (refused t) (NotMissed choose (missed s) (missed t) (most t)) (miss_of r)
   fewer_missed t h = unmissed (refused t) (NotMissed choose (missed s) (missed t) (most t)) (not_missed choose (missed s) (missed t) (most t) h)
 

@@ -10,9 +10,9 @@
 --     Waits, IsDry, Breaks                 it stops at a question, at an input line, at a device
 --     Stops refused R n e                  it stops for the reason e
 --     still_shows result                   once it comes to this, what is gathered is shown
---     Miss, stop_miss, miss_of             whether a result reports that a line was asked for in vain
+--     Miss, stop_miss, miss_of             whether a result reports that a line was asked for without success
 --     UnlessMissed refused P miss          P holds, unless that is reported
---     NotMissed choose old new most        no line was asked for in vain, unless an answer was asked for instead
+--     NotMissed choose old new most        no line was asked for without success, unless an answer was asked for instead
 --     ReportsMissed source choose old new miss    the same of a source, unless it is reported
 --     Comes refused o n f ok result        from trace o to trace n, f comes to the result
 use Rattle.std.specs.Prelude.{◌≡◌, ◌≤◌, ◌⊎◌, ℕ, Bool, true, false, List, [], ◌++◌, Option, Some, None, Result, Ok, Err, ℤ, pos, ◌≤ℤ◌}
@@ -158,12 +158,12 @@ abbrev pub miss_of : {X : Type 0} → Result X Stop → Miss
 miss_of (Ok x) = NoMiss
 miss_of (Err e) = stop_miss e
 
--- no line was asked for in vain; where answers are asked for instead, one may have been that the source can't give
+-- no line was asked for without success; where answers are asked for instead, one may have been that the source can't give
 abbrev pub NotMissed : Option ℤ → ℕ → ℕ → ℕ → Type 0
 NotMissed None old new most = new ≤ old
 NotMissed (Some n) old new most = (new ≤ old) ⊎ (most ≡ 0)
 
--- no line was asked for in vain between the old source and the new one, unless the result reports it
+-- no line was asked for without success between the old source and the new one, unless the result reports it
 abbrev pub ReportsMissed : {L : Type 0} → sources.Ghosts L → Option ℤ → L → L → Miss → Type 0
 ReportsMissed source choose old new miss =
     UnlessMissed (source.refused new) (NotMissed choose (source.missed old) (source.missed new) (source.most new)) miss

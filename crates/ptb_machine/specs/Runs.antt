@@ -3,7 +3,7 @@
 -- source gave. Where a device refused something, a prefix of that play was done.
 --     IsRun .. p rules o n r          all that a run promises: with devices o, then n, it has the result r
 --     Runs refused p rules o n r      the same, by what the devices hold
---     run_miss r                      whether the result reports that a line was asked for in vain
+--     run_miss r                      whether the result reports that a line was asked for without success
 --     IsRunToEnd .. p rules o n r     a run whose result has the line of its end
 --     IsLineOf p rules o n end        that line is the one at which the limit stopped the run
 --     StopsAt p rules input o n line  the play has stopped there
