@@ -19,7 +19,7 @@ cat >"$room/crates/parts/src/main.rt" <<'END'
 // This file works expressions out and loads a text, again and again, and tells what that takes.
 #![tactic(auto)]
 
-use ptb_expr::{Listed, Stop, Store, evaluate};
+use ptb_expr::{Listed, Steps, Stop, Store, evaluate_in};
 use ptb_text::{Cursor, Device, Letter, load};
 use std::io;
 use std::time::Instant;
@@ -32,15 +32,16 @@ const MIXED_LINES: u32 = 37_000;
 
 const DOTS: &[u8] = b"................................................";
 
-// The values of an expression, added up over all turns.
+// The values of an expression, added up over all turns. A room is lent, as INPUT has one.
 fn sum(text: &[u8], store: &Store) -> Result<i64, Stop> {
     if text.len() > 255 {
         return Ok(0);
     }
     let mut sum: i64 = 0;
+    let mut room = Steps::new();
     for _ in 0..TURNS {
         let mut cursor = Cursor::new(text, 0);
-        let value = evaluate(&mut cursor, store, &mut Listed::new(&[]))?;
+        let value = evaluate_in(&mut cursor, store, &mut Listed::new(&[]), &mut room)?;
         sum = sum.wrapping_add(i64::from(value));
     }
     Ok(sum)

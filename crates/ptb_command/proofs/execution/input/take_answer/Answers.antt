@@ -1,5 +1,5 @@
 -- This file answers what is left to prove of `take_answer`.
-use Rattle.std.proofs.Common.{◌≡◌, ◌≤◌, ◌∙◌, ◌++◌, [], ◌∷◌, ℕ, List, Ok, Some, None, ap, append_assoc, arith, refl, rules, sym, to_z, of_z, w16}
+use Rattle.std.proofs.Common.{◌≡◌, ◌∙◌, ◌++◌, [], ◌∷◌, Ok, Some, None, ap, append_assoc, arith, refl, rules, sym, to_z, of_z, w16}
 use Rattle.std.proofs.Math.Nat.{le_refl}
 use Rattle.ptb_command.specs.Act.{ask_for}
 use Rattle.ptb_command.specs.Actions.{goes_on}

@@ -1,5 +1,5 @@
 -- This file answers what is left to prove of `LineBuffer::take_whole`.
-use Rattle.std.proofs.Common.{◌≡◌, ℕ, ◌≤◌, ◌<◌, ◌+◌, ◌-◌, List, ◌++◌, length, take, drop, take-take, slice_range, Option, Some, None, refl, sym, ap, subst, ◌∙◌, arith, length-take, length-drop}
+use Rattle.std.proofs.Common.{◌≡◌, ℕ, ◌<◌, ◌+◌, ◌-◌, List, ◌++◌, length, take, drop, take-take, slice_range, Option, Some, None, refl, sym, ap, subst, ◌∙◌, arith, length-take, length-drop}
 use Rattle.std.specs.Prelude.{IsSome}
 use Rattle.ptb_devices.specs.Cutting.{IsLine}
 use Rattle.ptb_devices.specs.Inputs.{InputState}
