@@ -11,7 +11,6 @@ pub mod Effects
 pub mod Evaluating
 pub mod Due
 pub mod Gathered
-pub mod GatheredParts
 pub mod Exchanges
 pub mod Finding
 pub mod Finishing

@@ -23,6 +23,7 @@ pub mod Code
 pub mod Execution
 pub mod Showing
 pub mod Translation
+pub mod Values
 pub mod Plain
 pub mod ProgramCode
 pub mod Literals

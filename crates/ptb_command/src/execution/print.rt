@@ -1,7 +1,6 @@
 // This file shows what the operations of a command show.
 
-ghost use Rattle.std.specs.Prelude.{◌≡◌, ◌↔◌, ◌≤◌, ◌+◌, ◌++◌, ◌∷◌, [], ℕ, ℤ, Bool, List, length};
-ghost use Rattle.std.specs.Prelude.{IsOk, IsTrue, IsFalse};
+ghost use Rattle.std.specs.Prelude.{◌≡◌, ◌++◌, ◌∷◌, [], ℕ, ℤ, Bool, List, IsOk};
 ghost use Rattle.std.specs.Fmt.{signed_decimal};
 ghost use Rattle.ptb_expr.specs.Store.{Cells};
 ghost use Rattle.ptb_expr.specs.Translation.{HasNoValue};
@@ -16,8 +15,8 @@ ghost use Rattle.ptb_command.specs.Io.{due_trace, SameDevices};
 ghost use Rattle.ptb_command.specs.Stops.{Comes};
 ghost use Rattle.ptb_command.specs.Traces.{Trace, trace, with_due};
 
-use crate::execution::values::value;
-use crate::gathering::{GATHERING_LIMIT, Gathering};
+use crate::execution::values::short_value;
+use crate::gathering::Gathering;
 use crate::io::Io;
 use crate::operation::{Expression, Literal, Range};
 use crate::stop::{Stop, fault};
@@ -110,21 +109,8 @@ fn blanks_before(digits: &[u8], width: u8) -> &'static [u8]
     &BLANKS[..count]
 }
 
-/// Gathers a value with blanks before it up to the width, if there is room. Whether there was.
-#[inline(always)]
-pub fn gather_value(gathering: &mut Gathering, width: u8, value: i16) -> bool
-    ensures gathered { IsTrue result
-        → gathering.new ≡ gathering.old ++ padded_decimal width value }
-    ensures full { IsFalse result → gathering.new ≡ gathering.old }
-    ensures room { IsTrue result
-        ↔ (length gathering.old + length (padded_decimal width value) ≤ GATHERING_LIMIT) }
-{
-    let mut buffer = Buffer::new();
-    let digits = buffer.format(value).as_bytes();
-    gathering.takes_both(blanks_before(digits, width), digits)
-}
-
 // Shows a value with blanks before it up to the width.
+#[inline(always)]
 fn show_value<C: Chooser, S: Screen, L: LineSource>(
     io: &mut Io<'_, C, S, L>,
     gathering: &mut Gathering,
@@ -141,11 +127,17 @@ fn show_value<C: Chooser, S: Screen, L: LineSource>(
 {
     let mut buffer = Buffer::new();
     let digits = buffer.format(value).as_bytes();
-    io.show(gathering, blanks_before(digits, width))?;
-    io.show(gathering, digits)
+    let blanks = blanks_before(digits, width);
+    // most values find room with their blanks
+    if !gathering.takes_both(blanks, digits) {
+        io.show(gathering, blanks)?;
+        io.show(gathering, digits)?;
+    }
+    Ok(())
 }
 
 /// Shows the value of an expression.
+#[inline(always)]
 pub(crate) fn show_expression<C: Chooser, S: Screen, L: LineSource>(
     steps: &[Step],
     expression: Expression,
@@ -164,11 +156,12 @@ pub(crate) fn show_expression<C: Chooser, S: Screen, L: LineSource>(
         IsOk result → ⊥ }
     ensures same { SameDevices io.old io.new }
 {
-    let value = value(steps, expression, store, io.chooser)?;
+    let value = short_value(steps, expression, store, io.chooser)?;
     show_value(io, &mut output.gathering, output.width, value)
 }
 
 /// The value of an expression as a width; `mark` is the mark of a value that is no width.
+#[inline(always)]
 pub(crate) fn new_width<C: Chooser>(
     steps: &[Step],
     expression: Expression,
@@ -187,6 +180,6 @@ pub(crate) fn new_width<C: Chooser>(
     ensures valued { (x : Tree) → AreStepsAt steps.now expression x → HasNoValue x →
         IsOk result → ⊥ }
 {
-    let value = value(steps, expression, store, chooser)?;
+    let value = short_value(steps, expression, store, chooser)?;
     width_of(value, usize::from(mark))
 }
