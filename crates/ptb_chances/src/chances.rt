@@ -8,8 +8,7 @@ ghost use Rattle.ptb_machine.specs.Questions.{most_answers};
 ghost use Rattle.ptb_explore.specs.Chances.{chances};
 
 use crate::counting::count_runs;
-use crate::fault::ChancesFault;
-use ptb_machine::{Line, Rules, run_laws};
+use ptb_machine::{Line, Rules, ScreenFault, run_laws};
 use ptb_text::{Program, Write};
 use std::alloc::{AllocError, Global};
 
@@ -41,33 +40,33 @@ pub fn chances_text(
 ///
 /// # Errors
 ///
-/// [`ChancesFault::Memory`] where a growth was refused memory: nothing was written.
-/// [`ChancesFault::Write`] where the writer failed: a prefix of the table was written.
+/// [`ScreenFault::Memory`] where a growth was refused memory: nothing was written.
+/// [`ScreenFault::Write`] where the writer failed: a prefix of the table was written.
 pub fn write_chances<W: Write>(
     alloc: Global,
     program: &Program,
     lines: &[Line],
     rules: Rules,
     writer: &mut W,
-) -> Result<(), ChancesFault>
+) -> Result<(), ScreenFault>
     ensures written { OnOk result (Appends (W.contents writer.old) (W.contents writer.new)
         (chances (play program.now lines.now rules)
         (most_answers program.now lines.now rules.limit))) }
-    ensures memory { IsErrOf result ChancesFault.Memory → writer.new ≡ writer.old }
-    ensures prefix { IsErrOf result ChancesFault.Write
+    ensures memory { IsErrOf result ScreenFault.Memory → writer.new ≡ writer.old }
+    ensures prefix { IsErrOf result ScreenFault.Write
         → TakesSome (W.contents writer.old) (W.contents writer.new)
         (chances (play program.now lines.now rules)
         (most_answers program.now lines.now rules.limit)) }
-    ensures failed { IsErrOf result ChancesFault.Write
+    ensures failed { IsErrOf result ScreenFault.Write
         → HasFailed (W.failures writer.old) (W.failures writer.new) }
-    ensures unfailed { ¬ IsErrOf result ChancesFault.Write
+    ensures unfailed { ¬ IsErrOf result ScreenFault.Write
         → W.failures writer.new ≡ W.failures writer.old }
 {
     let Ok(text) = chances_text(alloc, program, lines, rules) else {
-        return Err(ChancesFault::Memory);
+        return Err(ScreenFault::Memory);
     };
     match writer.write_all(text.as_slice()) {
         Ok(()) => Ok(()),
-        Err(_) => Err(ChancesFault::Write),
+        Err(_) => Err(ScreenFault::Write),
     }
 }

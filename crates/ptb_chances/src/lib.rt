@@ -1,14 +1,13 @@
 //! The exact chance of each result of a program's runs.
 //!
 //! It stands on `ptb_explore` for the runs and for the definitions of results, chances and their
-//! table, on `ptb_numbers` for numbers of any size, on `ptb_machine`, `ptb_command`, `ptb_answers`,
-//! `ptb_text` and on `thiserror`. The crate above may rely on `chances_text` and `write_chances` (the
-//! text of the table) and on `table_laws`.
+//! table, on `ptb_numbers` for numbers of any size, on `ptb_machine`, `ptb_command`, `ptb_answers` and
+//! on `ptb_text`. The crate above may rely on `chances_text` and `write_chances` (the text of the
+//! table) and on `table_laws`.
 #![tactic(auto)]
 
 mod chances;
 mod counting;
-mod fault;
 mod last_line;
 mod laws;
 mod planned;
@@ -20,5 +19,4 @@ mod tally;
 mod work;
 
 pub use chances::{chances_text, write_chances};
-pub use fault::ChancesFault;
 pub use laws::table_laws;

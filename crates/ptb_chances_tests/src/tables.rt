@@ -1,7 +1,7 @@
 // This file tests tables of chances, also with writers that fail and where memory is refused.
 
-use ptb_chances::{ChancesFault, chances_text, write_chances};
-use ptb_machine::{Line, ReadFault, Rules, read_lines};
+use ptb_chances::{chances_text, write_chances};
+use ptb_machine::{Line, ReadFault, Rules, ScreenFault, read_lines};
 use ptb_text::{Device, LoadFault, Program, load};
 use std::alloc::Global;
 use std::fmt::Debug;
@@ -155,7 +155,7 @@ fn roll_in_two(
     program: &Program,
     lines: &[Line],
     room: &mut [u8],
-) -> Result<(), ChancesFault> {
+) -> Result<(), ScreenFault> {
     let rules = Rules {
         limit: 10000,
         choose: None,
@@ -172,7 +172,7 @@ fn expect_prefix(
     room: &mut [u8],
 ) {
     let due = if room.len() < ROLL_IN_TWO_TABLE.len() {
-        Err(ChancesFault::Write)
+        Err(ScreenFault::Write)
     } else {
         Ok(())
     };
@@ -205,10 +205,10 @@ fn refused_tables_write_nothing(rt: HostRuntime) -> Result<(), Fail> {
     let mut room = [b'.'; 63];
     match roll_in_two(rt.alloc(), &program, &lines, &mut room[..]) {
         Ok(()) => expect_same(&rt, "written", &room[..], ROLL_IN_TWO_TABLE.as_bytes()),
-        Err(ChancesFault::Memory) => {
+        Err(ScreenFault::Memory) => {
             expect_same(&rt, "nothing", room.iter().all(|b| *b == b'.'), true);
         }
-        Err(ChancesFault::Write) => return Err(Fail::from("not written")),
+        Err(ScreenFault::Write) => return Err(Fail::from("not written")),
     }
     Ok(())
 }

@@ -3,19 +3,13 @@
 use Rattle.std.proofs.Common.{◌≡◌, Option, Some, None, Result, Ok, Err, ap, subst}
 use Rattle.std.specs.Option.{OnSome}
 use Rattle.std.specs.Result.{IsErrAnd, OnOk}
-use Rattle.ptb_explore.specs.declared.fault.AfterFault.{AfterFault}
-use Rattle.ptb_explore.specs.declared.fault.AfterFault.TheVariants as after
-use Rattle.ptb_explore.specs.declared.fault.UnderFault.{UnderFault}
-use Rattle.ptb_explore.specs.declared.fault.UnderFault.TheVariants as under
+use Rattle.ptb_explore.specs.declared.fault.OpenFault.{OpenFault}
+use Rattle.ptb_explore.specs.declared.fault.OpenFault.TheVariants.{Memory, NoBeginning, NotARun}
 use Rattle.ptb_explore.specs.declared.mismatch.Mismatch.{Mismatch}
 
 -- a result is no fault
 pub ok_no_err : {T E P : Type 0} {x : T} {e : E} → ◌≡◌ {A = Result T E} (Ok x) (Err e) → P
 ok_no_err h = absurd cc
-
--- that answers are no run is no want of memory
-pub no_run_no_memory : {T P : Type 0} {m : Mismatch} → ◌≡◌ {A = Result T AfterFault} (Err (after.NotARun m)) (Err after.Memory) → P
-no_run_no_memory k = absurd cc
 
 -- a fault that is passed on is the fault
 pub passed_on : {T S E : Type 0} (r : Result T E) (e x : E) → IsErrAnd r (λ y. y ≡ e) → r ≡ Err x → ◌≡◌ {A = Result S E} (Err e) (Err x)
@@ -25,7 +19,7 @@ passed_on (Err y) e x h k =
     ap Err same
 
 -- the reason of a fault is the one that is found
-pub same_reason : {T : Type 0} (P : Mismatch → Type 0) (m n : Mismatch) → ◌≡◌ {A = Result T AfterFault} (Err (after.NotARun m)) (Err (after.NotARun n)) → P m → P n
+pub same_reason : {T : Type 0} (P : Mismatch → Type 0) (m n : Mismatch) → ◌≡◌ {A = Result T OpenFault} (Err (NotARun m)) (Err (NotARun n)) → P m → P n
 same_reason P m n h x =
     let same : m ≡ n = cc in
     subst P same x
@@ -47,15 +41,17 @@ some_no_none h k = absurd cc
 pub on_some_at : {T Q : Type 0} {o : Option T} {x : T} → o ≡ Some x → OnSome o Q → Q
 on_some_at {Q = Q} is h = subst (λ o. OnSome o Q) is h
 
--- the same of the fault that no run begins so
-pub memory_no_beginning : {T P : Type 0} (r : Result T UnderFault) (m : Mismatch) → IsErrAnd r (λ e. e ≡ under.Memory) → r ≡ Err (under.NoBeginning m) → P
+-- a refusal of memory is no fault of a list
+pub memory_no_beginning : {T P : Type 0} (r : Result T OpenFault) (m : Mismatch) → IsErrAnd r (λ e. e ≡ Memory) → r ≡ Err (NoBeginning m) → P
 memory_no_beginning (Ok x) m h k = absurd h
 memory_no_beginning (Err e) m h k = absurd cc
 
-pub no_beginning_no_memory : {T P : Type 0} {m : Mismatch} → ◌≡◌ {A = Result T UnderFault} (Err (under.NoBeginning m)) (Err under.Memory) → P
-no_beginning_no_memory k = absurd cc
+-- and of the other
+pub memory_no_run : {T P : Type 0} (r : Result T OpenFault) (m : Mismatch) → IsErrAnd r (λ e. e ≡ Memory) → r ≡ Err (NotARun m) → P
+memory_no_run (Ok x) m h k = absurd h
+memory_no_run (Err e) m h k = absurd cc
 
-pub same_misfit : {T : Type 0} (P : Mismatch → Type 0) (m n : Mismatch) → ◌≡◌ {A = Result T UnderFault} (Err (under.NoBeginning m)) (Err (under.NoBeginning n)) → P m → P n
+pub same_misfit : {T : Type 0} (P : Mismatch → Type 0) (m n : Mismatch) → ◌≡◌ {A = Result T OpenFault} (Err (NoBeginning m)) (Err (NoBeginning n)) → P m → P n
 same_misfit P m n h x =
     let same : m ≡ n = cc in
     subst P same x

@@ -6,8 +6,8 @@ use Rattle.ptb_answers.specs.declared.form.Form.{Form}
 use Rattle.ptb_answers.specs.Outcome.{Answers, Outcome, IsReader, bounds}
 use Rattle.ptb_machine.specs.Laws.{RunLaws}
 use Rattle.ptb_machine.specs.Questions.{most_answers}
-use Rattle.ptb_explore.specs.declared.fault.NextFault.{NextFault}
-use Rattle.ptb_explore.specs.declared.fault.NextFault.TheVariants as next
+use Rattle.ptb_devices.specs.declared.fault.ScreenFault.{ScreenFault}
+use Rattle.ptb_devices.specs.declared.fault.ScreenFault.TheVariants as next
 use Rattle.ptb_explore.specs.declared.plan.Position.{Position}
 use Rattle.ptb_explore.specs.declared.plan.Position.TheVariants.{AtStart, AtRun, AtEnd}
 use Rattle.ptb_explore.specs.Beginnings.{Splitting, beginning_line, split_play, stopped}
@@ -59,7 +59,7 @@ module _ (form : Form) (first s : Splitting) (same : s ≡ record first { front 
   same_search n h = h ∙ ap (λ (x : Splitting). record x { front = n.front }) same
 
   -- what is searched stays the same
-  of_first : (f : Front) (old new : Option (List ℕ)) (r : Result Bool NextFault) → NextWrites (game_of s) [] (beginning_line form (split_play s)) s.front f old new r → NextWrites (game_of first) [] (beginning_line form (split_play first)) s.front f old new r
+  of_first : (f : Front) (old new : Option (List ℕ)) (r : Result Bool ScreenFault) → NextWrites (game_of s) [] (beginning_line form (split_play s)) s.front f old new r → NextWrites (game_of first) [] (beginning_line form (split_play first)) s.front f old new r
   of_first f old new r h = subst (λ (x : Splitting). NextWrites (game_of x) [] (beginning_line form (split_play x)) s.front f old new r) same h
 
   module _ (reads : IsReader (game_of first) first.most) (list : List Answers) (old new : Option (List ℕ)) (n : ℕ) (progress : Progress (game_of first) first.most [] (beginning_line form (split_play first)) list first.front s.front None old new n) (f : Front) (new' : Option (List ℕ)) where
@@ -70,15 +70,15 @@ module _ (form : Form) (first s : Splitting) (same : s ≡ record first { front 
         rw (last.1, last.2) (progress_last (game_of first) first.most reads [] (beginning_line form (split_play first)) list first.front old s.front None new n progress last.0)
 
     -- it was refused memory
-    pub line_refused : (x : NextFault) → x ≡ next.Memory → NextWrites (game_of s) [] (beginning_line form (split_play s)) s.front f new new' (Err x) → WritesSome (game_of first) [] (beginning_line form (split_play first)) list first.front f old new' n
+    pub line_refused : (x : ScreenFault) → x ≡ next.Memory → NextWrites (game_of s) [] (beginning_line form (split_play s)) s.front f new new' (Err x) → WritesSome (game_of first) [] (beginning_line form (split_play first)) list first.front f old new' n
     line_refused x is h =
-        let refused = of_first f new new' (Err next.Memory) (subst (λ (y : NextFault). NextWrites (game_of s) [] (beginning_line form (split_play s)) s.front f new new' (Err y)) is h) in
+        let refused = of_first f new new' (Err next.Memory) (subst (λ (y : ScreenFault). NextWrites (game_of s) [] (beginning_line form (split_play s)) s.front f new new' (Err y)) is h) in
         rw (refused.1, refused.2) (progress_some (game_of first) first.most reads [] (beginning_line form (split_play first)) list first.front old s.front None new n progress unlimited refused.0)
 
     -- a part of its line was written
-    pub line_begun : (x : NextFault) → x ≡ next.Write → NextWrites (game_of s) [] (beginning_line form (split_play s)) s.front f new new' (Err x) → WritesInto (game_of first) [] (beginning_line form (split_play first)) list first.front f old new' n
+    pub line_begun : (x : ScreenFault) → x ≡ next.Write → NextWrites (game_of s) [] (beginning_line form (split_play s)) s.front f new new' (Err x) → WritesInto (game_of first) [] (beginning_line form (split_play first)) list first.front f old new' n
     line_begun x is h =
-        let part = of_first f new new' (Err next.Write) (subst (λ (y : NextFault). NextWrites (game_of s) [] (beginning_line form (split_play s)) s.front f new new' (Err y)) is h) in
+        let part = of_first f new new' (Err next.Write) (subst (λ (y : ScreenFault). NextWrites (game_of s) [] (beginning_line form (split_play s)) s.front f new new' (Err y)) is h) in
         rw part.2 (progress_into (game_of first) first.most reads [] (beginning_line form (split_play first)) list first.front old s.front None new new' n part.0 progress unlimited part.1 part.3)
 
     -- it was written

@@ -7,8 +7,8 @@ use Rattle.ptb_answers.specs.declared.form.Form.{Form}
 use Rattle.ptb_answers.specs.Outcome.{Answers, IsReader}
 use Rattle.ptb_explore.specs.declared.fault.ExploreFault.{ExploreFault}
 use Rattle.ptb_explore.specs.declared.fault.ExploreFault.TheVariants.{Memory, Write}
-use Rattle.ptb_explore.specs.declared.fault.NextFault.{NextFault}
-use Rattle.ptb_explore.specs.declared.fault.NextFault.TheVariants as next
+use Rattle.ptb_devices.specs.declared.fault.ScreenFault.{ScreenFault}
+use Rattle.ptb_devices.specs.declared.fault.ScreenFault.TheVariants as next
 use Rattle.ptb_explore.specs.Exploring.{Exploration, play_of, most_of}
 use Rattle.ptb_explore.specs.Listing.{less_one, NextWrites, WritesList, WritesSome, WritesInto}
 use Rattle.ptb_explore.specs.Report.{report}
@@ -16,7 +16,7 @@ use Rattle.ptb_explore.specs.RunTree.{Front, runs_after}
 use Rattle.ptb_explore.proofs.Progress.{Progress, progress_more, progress_whole, progress_last, progress_some, progress_into, fewer_left}
 
 -- a refusal of memory is no fault of the writer
-pub memory_no_write : {T P : Type 0} {x : NextFault} → x ≡ next.Memory → ◌≡◌ {A = Result T NextFault} (Err x) (Err next.Write) → P
+pub memory_no_write : {T P : Type 0} {x : ScreenFault} → x ≡ next.Memory → ◌≡◌ {A = Result T ScreenFault} (Err x) (Err next.Write) → P
 memory_no_write is h = absurd cc
 
 pub memory_told : {T P : Type 0} {n k : ℕ} → ◌≡◌ {A = Result T ExploreFault} (Err (Memory n)) (Err (Write k)) → P
@@ -28,7 +28,7 @@ module _ (form : Form) (first e : Exploration) (same : e ≡ record first { fron
   same_after n h = h ∙ ap (λ (x : Exploration). record x { front = n.front; kept = n.kept; played = n.played }) same
 
   -- what is played stays the same
-  of_first : (f : Front) (old new : Option (List ℕ)) (r : Result Bool NextFault) → NextWrites (play_of e) e.under (report form (play_of e)) e.front f old new r → NextWrites (play_of first) first.under (report form (play_of first)) e.front f old new r
+  of_first : (f : Front) (old new : Option (List ℕ)) (r : Result Bool ScreenFault) → NextWrites (play_of e) e.under (report form (play_of e)) e.front f old new r → NextWrites (play_of first) first.under (report form (play_of first)) e.front f old new r
   of_first f old new r h = subst (λ (x : Exploration). NextWrites (play_of x) x.under (report form (play_of x)) e.front f old new r) same h
 
   module _ (reads : IsReader (play_of first) (most_of first)) (list : List Answers) (remaining : Option ℕ) (old new : Option (List ℕ)) (n : ℕ) (progress : Progress (play_of first) (most_of first) first.under (report form (play_of first)) list first.front e.front remaining old new n) where
@@ -59,15 +59,15 @@ module _ (form : Form) (first e : Exploration) (same : e ≡ record first { fron
             absurd cc
 
         -- there was no memory for it
-        pub list_refused : (x : NextFault) → x ≡ next.Memory → NextWrites (play_of e) e.under (report form (play_of e)) e.front f new new' (Err x) → WritesSome (play_of first) first.under (report form (play_of first)) list first.front f old new' n
+        pub list_refused : (x : ScreenFault) → x ≡ next.Memory → NextWrites (play_of e) e.under (report form (play_of e)) e.front f new new' (Err x) → WritesSome (play_of first) first.under (report form (play_of first)) list first.front f old new' n
         list_refused x is h =
-            let stays = of_first f new new' (Err next.Memory) (subst (λ (y : NextFault). NextWrites (play_of e) e.under (report form (play_of e)) e.front f new new' (Err y)) is h) in
+            let stays = of_first f new new' (Err next.Memory) (subst (λ (y : ScreenFault). NextWrites (play_of e) e.under (report form (play_of e)) e.front f new new' (Err y)) is h) in
             rw (stays.1, stays.2) (progress_some (play_of first) (most_of first) reads first.under (report form (play_of first)) list first.front old e.front remaining new n progress unused stays.0)
 
         -- a prefix of it was written
-        pub part_written : (x : NextFault) → x ≡ next.Write → NextWrites (play_of e) e.under (report form (play_of e)) e.front f new new' (Err x) → WritesInto (play_of first) first.under (report form (play_of first)) list first.front f old new' n
+        pub part_written : (x : ScreenFault) → x ≡ next.Write → NextWrites (play_of e) e.under (report form (play_of e)) e.front f new new' (Err x) → WritesInto (play_of first) first.under (report form (play_of first)) list first.front f old new' n
         part_written x is h =
-            let part = of_first f new new' (Err next.Write) (subst (λ (y : NextFault). NextWrites (play_of e) e.under (report form (play_of e)) e.front f new new' (Err y)) is h) in
+            let part = of_first f new new' (Err next.Write) (subst (λ (y : ScreenFault). NextWrites (play_of e) e.under (report form (play_of e)) e.front f new new' (Err y)) is h) in
             rw part.2 (progress_into (play_of first) (most_of first) reads first.under (report form (play_of first)) list first.front old e.front remaining new new' n part.0 progress unused part.1 part.3)
 
         -- it was written

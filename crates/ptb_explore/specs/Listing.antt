@@ -11,8 +11,8 @@ use Rattle.ptb_text.specs.Device.{TakesSome}
 use Rattle.ptb_answers.specs.Outcome.{Answers, Outcome}
 use Rattle.ptb_explore.specs.declared.fault.ExploreFault.{ExploreFault}
 use Rattle.ptb_explore.specs.declared.fault.ExploreFault.TheVariants.{Memory, Write}
-use Rattle.ptb_explore.specs.declared.fault.NextFault.{NextFault}
-use Rattle.ptb_explore.specs.declared.fault.NextFault.TheVariants as next
+use Rattle.ptb_devices.specs.declared.fault.ScreenFault.{ScreenFault}
+use Rattle.ptb_devices.specs.declared.fault.ScreenFault.TheVariants as next
 use Rattle.ptb_explore.specs.RunTree.{Front, At, End, IsNextRun, IsLast}
 
 abbrev pub text : (Answers → List ℕ) → List Answers → List ℕ
@@ -33,7 +33,7 @@ count_of list = min (length list) (2 ^ 64 - 1)
 
 module _ {A W : Type 0} (play : Answers → Outcome A W) (under : Answers) (report : Answers → List ℕ) where
   -- its report was written, or no run is left, or one is left and nothing was written, or a prefix of its report was
-  abbrev pub NextWrites : Front → Front → Option (List ℕ) → Option (List ℕ) → Result Bool NextFault → Type 0
+  abbrev pub NextWrites : Front → Front → Option (List ℕ) → Option (List ℕ) → Result Bool ScreenFault → Type 0
   NextWrites f f' old new (Ok true) = (a : Answers) × IsNextRun play under f a × (f' ≡ At a) × Appends old new (report a)
   NextWrites f f' old new (Ok false) = IsLast play under f × (f' ≡ End) × (new ≡ old)
   NextWrites f f' old new (Err next.Memory) = (IsLast play under f → ⊥) × (f' ≡ f) × (new ≡ old)

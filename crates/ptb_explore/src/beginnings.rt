@@ -12,11 +12,11 @@ ghost use Rattle.ptb_explore.specs.Listing.{NextWrites, WritesRuns};
 ghost use Rattle.ptb_explore.specs.Plans.{EndsAt, IsFresh, IsPosition, front_at};
 ghost use Rattle.ptb_explore.specs.RunTree.{At, IsLast, Start, runs_left};
 
-use crate::fault::{ExploreFault, NextFault};
+use crate::fault::ExploreFault;
 use crate::plan::{Position, plan_next};
 use crate::runner::Runner;
 use ptb_answers::Form;
-use ptb_machine::{Line, Rules, run_laws};
+use ptb_machine::{Line, Rules, ScreenFault, run_laws};
 use ptb_report::write_list;
 use ptb_text::{Program, Write};
 use std::alloc::{AllocError, Global};
@@ -227,23 +227,23 @@ fn write_next_line<W: Write>(
     beginnings: &mut Beginnings,
     form: Form,
     writer: &mut W,
-) -> Result<bool, NextFault>
+) -> Result<bool, ScreenFault>
     ensures same { beginnings.new ≡ record beginnings.old { front = beginnings.new.front } }
     ensures writes { NextWrites (stopped beginnings.old.most (split_play beginnings.old)) []
         (beginning_line form (split_play beginnings.old)) beginnings.old.front beginnings.new.front
         (W.contents writer.old) (W.contents writer.new) result }
-    ensures failed { IsErrOf result NextFault.Write
+    ensures failed { IsErrOf result ScreenFault.Write
         → HasFailed (W.failures writer.old) (W.failures writer.new) }
-    ensures unfailed { ¬ IsErrOf result NextFault.Write
+    ensures unfailed { ¬ IsErrOf result ScreenFault.Write
         → W.failures writer.new ≡ W.failures writer.old }
 {
     match beginnings.next() {
-        Err(_) => Err(NextFault::Memory),
+        Err(_) => Err(ScreenFault::Memory),
         Ok(false) => Ok(false),
         Ok(true) => {
             match write_list(writer, form, beginnings.answers(), beginnings.bounds()) {
                 Ok(()) => Ok(true),
-                Err(_) => Err(NextFault::Write),
+                Err(_) => Err(ScreenFault::Write),
             }
         }
     }
@@ -281,8 +281,8 @@ pub fn write_beginnings<W: Write>(
         match write_next_line(beginnings, form, writer) {
             Ok(true) => {}
             Ok(false) => return Ok(written),
-            Err(NextFault::Memory) => return Err(ExploreFault::Memory(written)),
-            Err(NextFault::Write) => return Err(ExploreFault::Write(written)),
+            Err(ScreenFault::Memory) => return Err(ExploreFault::Memory(written)),
+            Err(ScreenFault::Write) => return Err(ExploreFault::Write(written)),
         }
         written = written.saturating_add(1);
     }

@@ -1,8 +1,7 @@
-// This file says why runs can't be listed, or a listing can't begin with a list of answers or after one.
+// This file says why not all reports were written, and why there is no explorer.
 
 ghost use Rattle.std.specs.Prelude.{◌≡◌};
-ghost use Rattle.ptb_explore.specs.declared.fault.AfterFault.TheVariants.{Memory};
-ghost use Rattle.ptb_explore.specs.declared.fault.UnderFault.TheVariants as under;
+ghost use Rattle.ptb_explore.specs.declared.fault.OpenFault.TheVariants.{Memory};
 
 use crate::mismatch::Mismatch;
 use std::alloc::AllocError;
@@ -21,10 +20,13 @@ pub enum ExploreFault {
     Write(u64),
 }
 
-/// Why a listing can't begin after a list of answers.
+/// Why there is no explorer of the runs that are asked for.
 #[derive(Clone, Copy, Debug, PartialEq, Eq, Error)]
-pub enum AfterFault {
-    /// The answers are no run of the listing, for this reason.
+pub enum OpenFault {
+    /// No run begins with the answers of a list, for this reason.
+    #[error("no run begins so")]
+    NoBeginning(Mismatch),
+    /// The answers of a list are no run of the listing, for this reason.
     #[error("not a run")]
     NotARun(Mismatch),
     /// A growth was refused memory.
@@ -32,38 +34,10 @@ pub enum AfterFault {
     Memory,
 }
 
-impl From<AllocError> for AfterFault {
+impl From<AllocError> for OpenFault {
     ghost from_gives = { λ _ fault. fault ≡ Memory };
 
-    fn from(_refusal: AllocError) -> AfterFault {
-        AfterFault::Memory
+    fn from(_refusal: AllocError) -> OpenFault {
+        OpenFault::Memory
     }
-}
-
-/// Why there is no listing of the runs that begin with a list of answers.
-#[derive(Clone, Copy, Debug, PartialEq, Eq, Error)]
-pub enum UnderFault {
-    /// No run begins with the answers, for this reason.
-    #[error("no run begins so")]
-    NoBeginning(Mismatch),
-    /// A growth was refused memory.
-    #[error("out of memory")]
-    Memory,
-}
-
-impl From<AllocError> for UnderFault {
-    ghost from_gives = { λ _ fault. fault ≡ under.Memory };
-
-    fn from(_refusal: AllocError) -> UnderFault {
-        UnderFault::Memory
-    }
-}
-
-/// Why the next report was not written.
-#[derive(Clone, Copy)]
-pub(crate) enum NextFault {
-    /// A growth was refused memory.
-    Memory,
-    /// The writer failed.
-    Write,
 }

@@ -28,7 +28,7 @@ mod sampling;
 
 pub use beginnings::{Beginnings, write_beginnings};
 pub use explorer::Explorer;
-pub use fault::{AfterFault, ExploreFault, UnderFault};
+pub use fault::{ExploreFault, OpenFault};
 pub use laws::{
     beginning_laws, chance_laws, listing_laws, program_laws, report_laws, sample_laws, share_laws,
     tree_laws,

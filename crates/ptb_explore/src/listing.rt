@@ -8,9 +8,9 @@ ghost use Rattle.ptb_explore.specs.Report.{report};
 ghost use Rattle.ptb_explore.specs.RunTree.{runs_left};
 
 use crate::explorer::Explorer;
-use crate::fault::{ExploreFault, NextFault};
+use crate::fault::ExploreFault;
 use ptb_answers::Form;
-use ptb_machine::run_laws;
+use ptb_machine::{ScreenFault, run_laws};
 use ptb_report::ReportWriter;
 use ptb_text::Write;
 
@@ -20,7 +20,7 @@ fn write_next<W: Write>(
     form: Form,
     reports: &mut ReportWriter,
     writer: &mut W,
-) -> Result<bool, NextFault>
+) -> Result<bool, ScreenFault>
     ensures same { explorer.new ≡ record explorer.old {
       front = explorer.new.front;
       kept = explorer.new.kept;
@@ -29,17 +29,17 @@ fn write_next<W: Write>(
     ensures writes { NextWrites (play_of explorer.old) explorer.old.under
         (report form (play_of explorer.old)) explorer.old.front explorer.new.front
         (W.contents writer.old) (W.contents writer.new) result }
-    ensures failed { IsErrOf result NextFault.Write
+    ensures failed { IsErrOf result ScreenFault.Write
         → HasFailed (W.failures writer.old) (W.failures writer.new) }
-    ensures unfailed { ¬ IsErrOf result NextFault.Write
+    ensures unfailed { ¬ IsErrOf result ScreenFault.Write
         → W.failures writer.new ≡ W.failures writer.old }
 {
     match explorer.next() {
-        Err(_) => Err(NextFault::Memory),
+        Err(_) => Err(ScreenFault::Memory),
         Ok(None) => Ok(false),
         Ok(Some(run)) => match run.write(form, reports, writer) {
             Ok(()) => Ok(true),
-            Err(_) => Err(NextFault::Write),
+            Err(_) => Err(ScreenFault::Write),
         },
     }
 }
@@ -93,8 +93,8 @@ pub fn write_all_runs<W: Write>(
         match write_next(explorer, form, &mut reports, writer) {
             Ok(true) => {}
             Ok(false) => return Ok(written),
-            Err(NextFault::Memory) => return Err(ExploreFault::Memory(written)),
-            Err(NextFault::Write) => return Err(ExploreFault::Write(written)),
+            Err(ScreenFault::Memory) => return Err(ExploreFault::Memory(written)),
+            Err(ScreenFault::Write) => return Err(ExploreFault::Write(written)),
         }
         written = written.saturating_add(1);
         remaining = one_less(remaining);

@@ -14,7 +14,7 @@ ghost use Rattle.ptb_explore.specs.Mismatch.{IsItemMismatch, IsRunMismatch};
 ghost use Rattle.ptb_explore.specs.RunTree.{At, IsNextRun, IsRun, Start, begins_with};
 
 use crate::explorer::Explorer;
-use crate::fault::{AfterFault, UnderFault};
+use crate::fault::OpenFault;
 use crate::form::{copied, items_begin_with, unmarked};
 use crate::mismatch::{Mismatch, item_mismatch, run_mismatch};
 use crate::plan::Position;
@@ -27,7 +27,7 @@ use std::alloc::{AllocError, Global};
 impl<'a> Runner<'a> {
     // Plays the answers of a list, and makes the report of their run, if they are a run and each bound
     // that is stated is that of its question.
-    fn check_run(&mut self, list: &[Marked]) -> Result<(), AfterFault>
+    fn check_run(&mut self, list: &[Marked]) -> Result<(), OpenFault>
         ensures same { IsSameGame self.old self.new }
         ensures run { OnOk result (IsMarkedRun (game_of self.old) list.now) }
         ensures answers { OnOk result (self.new.report.answers.items ≡ answers_of list.now) }
@@ -37,18 +37,19 @@ impl<'a> Runner<'a> {
             (answers_of list.now) self.new.report.transcript.items self.new.copies.kept.items) }
         ensures played { OnOk result (IsAdded (game_of self.old) (answers_of list.now)
             self.old.played self.new.played) }
-        ensures mismatch { (m : Mismatch) → IsErrOf result (AfterFault.NotARun m)
+        ensures mismatch { (m : Mismatch) → IsErrOf result (OpenFault.NotARun m)
             → IsRunMismatch (game_of self.old) [] list.now m }
+        ensures kind { (m : Mismatch) → ¬ IsErrOf result (OpenFault.NoBeginning m) }
 
         // Memory is refused to the play, before its steps are known, and never to the comparison.
-        ensures memory { IsErrOf result AfterFault.Memory → self.new.played ≡ self.old.played }
+        ensures memory { IsErrOf result OpenFault.Memory → self.new.played ≡ self.old.played }
     {
         run_laws();
         self.copies.clear();
         self.trial.replay(list)?;
         let ending = self.play_from_start()?;
         if let Some(mismatch) = run_mismatch(list, &self.trial, ending) {
-            return Err(AfterFault::NotARun(mismatch));
+            return Err(OpenFault::NotARun(mismatch));
         }
         self.trial
             .hand_over(&mut self.report.answers, &mut self.report.bounds);
@@ -57,7 +58,7 @@ impl<'a> Runner<'a> {
 
     // Plays the answers of a list and then ones, and looks whether all of the answers are taken and
     // each bound that is stated is that of the question: a run begins with the list then.
-    fn check_beginning(&mut self, list: &[Marked]) -> Result<(), UnderFault>
+    fn check_beginning(&mut self, list: &[Marked]) -> Result<(), OpenFault>
         requires none { self.old.copies.kept.items ≡ [] }
         ensures same { IsSameGame self.old self.new }
         ensures beginning { OnOk result (IsMarkedBeginning (game_of self.old) list.now) }
@@ -65,11 +66,12 @@ impl<'a> Runner<'a> {
         ensures played { OnOk result ((a : Answers)
             → IsNextRun (game_of self.old) (answers_of list.now) Start a
             → IsAdded (game_of self.old) a self.old.played self.new.played) }
-        ensures mismatch { (m : Mismatch) → IsErrOf result (UnderFault.NoBeginning m)
+        ensures mismatch { (m : Mismatch) → IsErrOf result (OpenFault.NoBeginning m)
             → IsItemMismatch (game_of self.old) list.now m }
+        ensures kind { (m : Mismatch) → ¬ IsErrOf result (OpenFault.NotARun m) }
 
         // Memory is refused before the steps are known, and never to the comparison.
-        ensures memory { IsErrOf result UnderFault.Memory → self.new.played ≡ self.old.played }
+        ensures memory { IsErrOf result OpenFault.Memory → self.new.played ≡ self.old.played }
     {
         run_laws();
         self.trial.replay(list)?;
@@ -77,7 +79,7 @@ impl<'a> Runner<'a> {
         self.copies.clear();
         match item_mismatch(list, &self.trial, ending) {
             None => Ok(()),
-            Some(mismatch) => Err(UnderFault::NoBeginning(mismatch)),
+            Some(mismatch) => Err(OpenFault::NoBeginning(mismatch)),
         }
     }
 }
@@ -115,15 +117,15 @@ impl<'a> Explorer<'a> {
     ///
     /// # Errors
     ///
-    /// [`UnderFault::NoBeginning`] with the reason where no run begins with the answers, or a bound that
-    /// is stated is not that of its question; [`UnderFault::Memory`] where a growth was refused memory.
+    /// [`OpenFault::NoBeginning`] with the reason where no run begins with the answers, or a bound that
+    /// is stated is not that of its question; [`OpenFault::Memory`] where a growth was refused memory.
     pub fn under(
         alloc: Global,
         program: &'a Program,
         lines: &'a [Line],
         rules: Rules,
         list: &[Marked],
-    ) -> Result<Explorer<'a>, UnderFault>
+    ) -> Result<Explorer<'a>, OpenFault>
         ensures under { IfOk result (λ e.
             e ≡ exploration program.now lines.now rules (answers_of list.now) Start [] e.played) }
         ensures beginning { OnOk result
@@ -131,10 +133,11 @@ impl<'a> Explorer<'a> {
         ensures played { IfOk result (λ e. (a : Answers)
             → IsNextRun (play program.now lines.now rules) (answers_of list.now) Start a
             → IsPlayed (play program.now lines.now rules) a e.played) }
-        ensures no_beginning { (m : Mismatch) → IsErrOf result (UnderFault.NoBeginning m)
+        ensures no_beginning { (m : Mismatch) → IsErrOf result (OpenFault.NoBeginning m)
             → IsMarkedBeginning (play program.now lines.now rules) list.now → ⊥ }
-        ensures mismatch { (m : Mismatch) → IsErrOf result (UnderFault.NoBeginning m)
+        ensures mismatch { (m : Mismatch) → IsErrOf result (OpenFault.NoBeginning m)
             → IsItemMismatch (play program.now lines.now rules) list.now m }
+        ensures kind { (m : Mismatch) → ¬ IsErrOf result (OpenFault.NotARun m) }
 
         // Laws of the definitions.
         ensures laws { TreeLaws (play program.now lines.now rules)
@@ -156,11 +159,11 @@ impl<'a> Explorer<'a> {
     ///
     /// # Errors
     ///
-    /// [`AfterFault::NotARun`] with the reason where the answers do not begin as each run of the
+    /// [`OpenFault::NotARun`] with the reason where the answers do not begin as each run of the
     /// listing does, or are no run, or a bound that is stated is not that of its question;
-    /// [`AfterFault::Memory`] where a growth was refused memory, never where the answers do not begin
+    /// [`OpenFault::Memory`] where a growth was refused memory, never where the answers do not begin
     /// so.
-    pub fn go_to(mut self, list: &[Marked]) -> Result<Explorer<'a>, AfterFault>
+    pub fn go_to(mut self, list: &[Marked]) -> Result<Explorer<'a>, OpenFault>
         ensures there { IfOk result (λ e. e ≡ record self.entry {
           front = At (answers_of list.now);
           kept = e.kept;
@@ -171,18 +174,19 @@ impl<'a> Explorer<'a> {
         ensures kept { IfOk result (λ e. AreBeginnings 0 (answers_of list.now) e.kept) }
         ensures played { IfOk result (λ e.
             IsAdded (play_of self.entry) (answers_of list.now) self.entry.played e.played) }
-        ensures not_a_run { (m : Mismatch) → IsErrOf result (AfterFault.NotARun m)
+        ensures not_a_run { (m : Mismatch) → IsErrOf result (OpenFault.NotARun m)
             → IsMarkedRun (play_of self.entry) list.now
             → begins_with (answers_of list.now) self.entry.under ≡ true → ⊥ }
         ensures mismatch { (under : List Marked) → answers_of under ≡ self.entry.under
-            → (m : Mismatch) → IsErrOf result (AfterFault.NotARun m)
+            → (m : Mismatch) → IsErrOf result (OpenFault.NotARun m)
             → IsRunMismatch (play_of self.entry) under list.now m }
-        ensures memory { IsErrOf result AfterFault.Memory
+        ensures kind { (m : Mismatch) → ¬ IsErrOf result (OpenFault.NoBeginning m) }
+        ensures memory { IsErrOf result OpenFault.Memory
             → begins_with (answers_of list.now) self.entry.under ≡ true }
     {
         run_laws();
         if !items_begin_with(list, &self.under) {
-            return Err(AfterFault::NotARun(Mismatch::NotUnder));
+            return Err(OpenFault::NotARun(Mismatch::NotUnder));
         }
         self.runner.check_run(list)?;
         self.position = Position::AtRun;
@@ -193,7 +197,7 @@ impl<'a> Explorer<'a> {
     ///
     /// # Errors
     ///
-    /// [`AfterFault::NotARun`] with the reason where the answers are no run, [`AfterFault::Memory`]
+    /// [`OpenFault::NotARun`] with the reason where the answers are no run, [`OpenFault::Memory`]
     /// where a growth was refused memory.
     pub fn after(
         alloc: Global,
@@ -201,17 +205,18 @@ impl<'a> Explorer<'a> {
         lines: &'a [Line],
         rules: Rules,
         answers: &[i16],
-    ) -> Result<Explorer<'a>, AfterFault>
+    ) -> Result<Explorer<'a>, OpenFault>
         ensures after { IfOk result (λ e.
             e ≡ exploration program.now lines.now rules [] (At answers.now) e.kept e.played) }
         ensures run { OnOk result (IsRun (play program.now lines.now rules) answers.now) }
         ensures kept { IfOk result (λ e. AreBeginnings 0 answers.now e.kept) }
         ensures played { IfOk result (λ e.
             IsPlayed (play program.now lines.now rules) answers.now e.played) }
-        ensures not_a_run { (m : Mismatch) → IsErrOf result (AfterFault.NotARun m)
+        ensures not_a_run { (m : Mismatch) → IsErrOf result (OpenFault.NotARun m)
             → IsRun (play program.now lines.now rules) answers.now → ⊥ }
-        ensures mismatch { (m : Mismatch) → IsErrOf result (AfterFault.NotARun m)
+        ensures mismatch { (m : Mismatch) → IsErrOf result (OpenFault.NotARun m)
             → IsRunMismatch (play program.now lines.now rules) [] (unmarked answers.now) m }
+        ensures kind { (m : Mismatch) → ¬ IsErrOf result (OpenFault.NoBeginning m) }
 
         // Laws of the definitions.
         ensures laws { TreeLaws (play program.now lines.now rules)
@@ -227,25 +232,26 @@ impl<'a> Explorer<'a> {
     ///
     /// # Errors
     ///
-    /// [`AfterFault::NotARun`] with the reason where the answers are no run, or a bound that is stated
-    /// is not that of its question; [`AfterFault::Memory`] where a growth was refused memory.
+    /// [`OpenFault::NotARun`] with the reason where the answers are no run, or a bound that is stated
+    /// is not that of its question; [`OpenFault::Memory`] where a growth was refused memory.
     pub fn after_marked(
         alloc: Global,
         program: &'a Program,
         lines: &'a [Line],
         rules: Rules,
         list: &[Marked],
-    ) -> Result<Explorer<'a>, AfterFault>
+    ) -> Result<Explorer<'a>, OpenFault>
         ensures after { IfOk result (λ e. e ≡ exploration program.now lines.now rules
             [] (At (answers_of list.now)) e.kept e.played) }
         ensures run { OnOk result (IsMarkedRun (play program.now lines.now rules) list.now) }
         ensures kept { IfOk result (λ e. AreBeginnings 0 (answers_of list.now) e.kept) }
         ensures played { IfOk result (λ e.
             IsPlayed (play program.now lines.now rules) (answers_of list.now) e.played) }
-        ensures not_a_run { (m : Mismatch) → IsErrOf result (AfterFault.NotARun m)
+        ensures not_a_run { (m : Mismatch) → IsErrOf result (OpenFault.NotARun m)
             → IsMarkedRun (play program.now lines.now rules) list.now → ⊥ }
-        ensures mismatch { (m : Mismatch) → IsErrOf result (AfterFault.NotARun m)
+        ensures mismatch { (m : Mismatch) → IsErrOf result (OpenFault.NotARun m)
             → IsRunMismatch (play program.now lines.now rules) [] list.now m }
+        ensures kind { (m : Mismatch) → ¬ IsErrOf result (OpenFault.NoBeginning m) }
 
         // Laws of the definitions.
         ensures laws { TreeLaws (play program.now lines.now rules)
@@ -261,9 +267,9 @@ impl<'a> Explorer<'a> {
     ///
     /// # Errors
     ///
-    /// [`AfterFault::NotARun`] with the reason where the answers of the second list do not begin with
+    /// [`OpenFault::NotARun`] with the reason where the answers of the second list do not begin with
     /// those of the first, or are no run, or a bound that is stated in the second list is not that of
-    /// its question; [`AfterFault::Memory`] where a growth was refused memory, never where the second
+    /// its question; [`OpenFault::Memory`] where a growth was refused memory, never where the second
     /// list does not begin with the first.
     pub fn after_under(
         alloc: Global,
@@ -272,7 +278,7 @@ impl<'a> Explorer<'a> {
         rules: Rules,
         under: &[Marked],
         list: &[Marked],
-    ) -> Result<Explorer<'a>, AfterFault>
+    ) -> Result<Explorer<'a>, OpenFault>
         ensures after { IfOk result (λ e. e ≡ exploration program.now lines.now rules
             (answers_of under.now) (At (answers_of list.now)) e.kept e.played) }
         ensures run { OnOk result (IsMarkedRun (play program.now lines.now rules) list.now) }
@@ -281,12 +287,13 @@ impl<'a> Explorer<'a> {
         ensures kept { IfOk result (λ e. AreBeginnings 0 (answers_of list.now) e.kept) }
         ensures played { IfOk result (λ e.
             IsPlayed (play program.now lines.now rules) (answers_of list.now) e.played) }
-        ensures not_a_run { (m : Mismatch) → IsErrOf result (AfterFault.NotARun m)
+        ensures not_a_run { (m : Mismatch) → IsErrOf result (OpenFault.NotARun m)
             → IsMarkedRun (play program.now lines.now rules) list.now
             → begins_with (answers_of list.now) (answers_of under.now) ≡ true → ⊥ }
-        ensures mismatch { (m : Mismatch) → IsErrOf result (AfterFault.NotARun m)
+        ensures mismatch { (m : Mismatch) → IsErrOf result (OpenFault.NotARun m)
             → IsRunMismatch (play program.now lines.now rules) under.now list.now m }
-        ensures memory { IsErrOf result AfterFault.Memory
+        ensures kind { (m : Mismatch) → ¬ IsErrOf result (OpenFault.NoBeginning m) }
+        ensures memory { IsErrOf result OpenFault.Memory
             → begins_with (answers_of list.now) (answers_of under.now) ≡ true }
 
         // Laws of the definitions.
@@ -295,7 +302,7 @@ impl<'a> Explorer<'a> {
     {
         run_laws();
         if !items_begin_with(list, under) {
-            return Err(AfterFault::NotARun(Mismatch::NotUnder));
+            return Err(OpenFault::NotARun(Mismatch::NotUnder));
         }
         let mut explorer = Explorer::after_marked(alloc, program, lines, rules, list)?;
         explorer.under = copied(alloc, under)?;

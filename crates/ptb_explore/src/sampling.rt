@@ -11,10 +11,12 @@ ghost use Rattle.ptb_machine.specs.Questions.{most_answers};
 ghost use Rattle.ptb_explore.specs.Report.{report};
 ghost use Rattle.ptb_explore.specs.Sampling.{PlaysDrawn, SampleLaws, WritesRun, WritesSample};
 
-use crate::fault::{ExploreFault, NextFault};
+use crate::fault::ExploreFault;
 use crate::report::word;
 use ptb_answers::{Form, Seeded};
-use ptb_machine::{Ending, Line, Lines, Machine, Player, Rules, RunFault, TextScreen, run_laws};
+use ptb_machine::{
+    Ending, Line, Lines, Machine, Player, Rules, RunFault, ScreenFault, TextScreen, run_laws,
+};
 use ptb_report::ReportWriter;
 use ptb_text::{Program, Write};
 use std::alloc::{AllocError, Global};
@@ -117,7 +119,7 @@ fn write_run<W: Write>(
     rules: Rules,
     form: Form,
     writer: &mut W,
-) -> Result<(), NextFault>
+) -> Result<(), ScreenFault>
     requires fresh { sampler.old.chooser.bounds ≡ [] }
     ensures program { sampler.new.player ≡ sampler.old.player }
     ensures writes { WritesRun (report form (play sampler.old.player lines.now rules))
@@ -130,14 +132,14 @@ fn write_run<W: Write>(
           sampler.old.chooser.first (play sampler.old.player lines.now rules)));
       bounds = [];
     }) }
-    ensures failed { IsErrOf result NextFault.Write
+    ensures failed { IsErrOf result ScreenFault.Write
         → HasFailed (W.failures writer.old) (W.failures writer.new) }
-    ensures unfailed { ¬ IsErrOf result NextFault.Write
+    ensures unfailed { ¬ IsErrOf result ScreenFault.Write
         → W.failures writer.new ≡ W.failures writer.old }
 {
     run_laws();
     let Ok(ending) = play_next(alloc, sampler, lines, rules) else {
-        return Err(NextFault::Memory);
+        return Err(ScreenFault::Memory);
     };
     let chooser = &sampler.chooser;
     match sampler.reports.write(
@@ -153,7 +155,7 @@ fn write_run<W: Write>(
             sampler.chooser.forget();
             Ok(())
         }
-        Err(_) => Err(NextFault::Write),
+        Err(_) => Err(ScreenFault::Write),
     }
 }
 
@@ -182,10 +184,10 @@ fn write_runs<W: Write>(
     while remaining > 0 {
         match write_run(alloc, sampler, lines, rules, form, writer) {
             Ok(()) => {}
-            Err(NextFault::Memory) => {
+            Err(ScreenFault::Memory) => {
                 return Err(ExploreFault::Memory(u64::from(runs - remaining)));
             }
-            Err(NextFault::Write) => return Err(ExploreFault::Write(u64::from(runs - remaining))),
+            Err(ScreenFault::Write) => return Err(ExploreFault::Write(u64::from(runs - remaining))),
         }
         remaining -= 1;
     }

@@ -1,14 +1,14 @@
 -- This file proves why a listing is begun, or isn't.
 -- Main lemma: `begun_both`.
-use Rattle.std.proofs.Common.{◌≡◌, ◌⊎◌, inl, inr, refl, ap, ap₂, List, [], Bool, true, false, Option, Some, None}
+use Rattle.std.proofs.Common.{◌≡◌, ◌⊎◌, inl, inr, refl, ap, ap₂, List, [], Bool, true, false}
+use Rattle.std.proofs.Common.{Option, Some, None, Result, Ok, Err, IfErr, IsErrOf}
 use Rattle.std.specs.Prelude.{ℕ, ◌&&◌}
+use Rattle.std.specs.Result.{OnOk}
 use Rattle.std.proofs.lemmas.Bool.{false_from_ne_true}
 use Rattle.ptb_answers.specs.Outcome.{Answers, Outcome}
 use Rattle.ptb_machine.specs.Play.{Finish}
-use Rattle.ptb_explore.specs.declared.fault.AfterFault.{AfterFault}
-use Rattle.ptb_explore.specs.declared.fault.AfterFault.TheVariants as afters
-use Rattle.ptb_explore.specs.declared.fault.UnderFault.{UnderFault}
-use Rattle.ptb_explore.specs.declared.fault.UnderFault.TheVariants as unders
+use Rattle.ptb_explore.specs.declared.fault.OpenFault.{OpenFault}
+use Rattle.ptb_explore.specs.declared.fault.OpenFault.TheVariants.{Memory, NoBeginning, NotARun}
 use Rattle.ptb_answers.specs.declared.form.Marked.{Marked}
 use Rattle.ptb_answers.specs.AnswerText.{answers_of}
 use Rattle.ptb_explore.specs.MarkedRuns.{IsMarkedBeginning, IsMarkedRun}
@@ -17,13 +17,18 @@ use Rattle.ptb_explore.specs.Mismatch.{IsItemMismatch, IsRunMismatch}
 use Rattle.ptb_explore.specs.RunTree.{begins_with}
 use Rattle.ptb_serve.specs.declared.note.Note.{Note}
 use Rattle.ptb_serve.specs.declared.note.Note.TheVariants as notes
-use Rattle.ptb_serve.specs.ListMismatches.{IsUnbegun, after_reason, items_of, under_reason}
+use Rattle.ptb_serve.specs.ListMismatches.{IsUnbegun, items_of}
 use Rattle.ptb_serve.specs.Replies.{answers_under, front_note, is_front, is_share, note_of}
 
 -- an option of items has their answers
 pub items_answers : (under : Option (List Marked)) → answers_of (items_of under) ≡ answers_under under
 items_answers None = refl
 items_answers (Some list) = refl
+
+-- two facts of a result give a third
+pub on_ok_both : {T E P Q R : Type 0} (r : Result T E) → (P → Q → R) → OnOk r P → OnOk r Q → OnOk r R
+on_ok_both (Ok x) f p q = f p q
+on_ok_both (Err e) f p q = tt
 
 -- ---- tests one after the other
 
@@ -93,18 +98,25 @@ module _ (game : Answers → Outcome Finish (List ℕ)) where
   no_share under after none = ap (λ t. note_of t (is_front game (answers_of under) after)) (share_false under none)
 
   -- where a run begins with the first list, the second is what is refused
-  pub unbegun_at : (under : Option (List Marked)) (list : List Marked) (fault : AfterFault) → is_share game under ≡ true
-      → ((m : Mismatch) → fault ≡ afters.NotARun m → IsMarkedRun game list → begins_with (answers_of list) (answers_under under) ≡ true → ⊥)
-      → ((m : Mismatch) → fault ≡ afters.NotARun m → IsRunMismatch game (items_of under) list m)
-      → IsUnbegun game under (Some list) (after_reason fault)
-  unbegun_at None list (afters.NotARun m) share none why = (no_front None list share (none m refl), why m refl)
-  unbegun_at (Some under) list (afters.NotARun m) share none why =
+  pub unbegun_at : {T : Type 0} (under : Option (List Marked)) (list : List Marked) (r : Result T OpenFault)
+      → is_share game under ≡ true
+      → ((m : Mismatch) → IsErrOf r (NotARun m) → IsMarkedRun game list → begins_with (answers_of list) (answers_under under) ≡ true → ⊥)
+      → ((m : Mismatch) → IsErrOf r (NotARun m) → IsRunMismatch game (items_of under) list m)
+      → ((m : Mismatch) → IsErrOf r (NoBeginning m) → ⊥)
+      → IfErr r (IsUnbegun game under (Some list))
+  unbegun_at under list (Ok x) share none why kind = tt
+  unbegun_at None list (Err (NotARun m)) share none why kind = (no_front None list share (none m refl), why m refl)
+  unbegun_at (Some under) list (Err (NotARun m)) share none why kind =
       (no_front (Some under) list share (none m refl), why m refl)
-  unbegun_at under list afters.Memory share none why = tt
+  unbegun_at under list (Err (NoBeginning m)) share none why kind = absurd (kind m refl)
+  unbegun_at under list (Err Memory) share none why kind = tt
 
-  pub unbegun_under : (under : List Marked) (fault : UnderFault)
-      → ((m : Mismatch) → fault ≡ unders.NoBeginning m → IsMarkedBeginning game under → ⊥)
-      → ((m : Mismatch) → fault ≡ unders.NoBeginning m → IsItemMismatch game under m) → (after : Option (List Marked))
-      → IsUnbegun game (Some under) after (under_reason fault)
-  unbegun_under under (unders.NoBeginning m) none why after = (no_share under after (none m refl), why m refl)
-  unbegun_under under unders.Memory none why after = tt
+  pub unbegun_under : {T : Type 0} (under : List Marked) (r : Result T OpenFault)
+      → ((m : Mismatch) → IsErrOf r (NoBeginning m) → IsMarkedBeginning game under → ⊥)
+      → ((m : Mismatch) → IsErrOf r (NoBeginning m) → IsItemMismatch game under m)
+      → ((m : Mismatch) → IsErrOf r (NotARun m) → ⊥)
+      → (after : Option (List Marked)) → IfErr r (IsUnbegun game (Some under) after)
+  unbegun_under under (Ok x) none why kind after = tt
+  unbegun_under under (Err (NoBeginning m)) none why kind after = (no_share under after (none m refl), why m refl)
+  unbegun_under under (Err (NotARun m)) none why kind after = absurd (kind m refl)
+  unbegun_under under (Err Memory) none why kind after = tt

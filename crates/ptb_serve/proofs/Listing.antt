@@ -23,8 +23,9 @@ use Rattle.ptb_options.specs.declared.request.Mode.TheVariants as modes
 use Rattle.ptb_options.specs.declared.request.Request.{Request}
 use Rattle.ptb_serve.specs.declared.note.Note.{Note}
 use Rattle.ptb_serve.specs.declared.note.Note.TheVariants as notes
-use Rattle.ptb_serve.specs.declared.list_mismatch.Unbegun.{Unbegun}
-use Rattle.ptb_serve.specs.declared.list_mismatch.Unbegun.TheVariants.{Memory, Refused}
+use Rattle.ptb_explore.specs.declared.fault.OpenFault.{OpenFault}
+use Rattle.ptb_explore.specs.declared.fault.OpenFault.TheVariants.{Memory, NoBeginning, NotARun}
+use Rattle.ptb_serve.specs.declared.list_mismatch.ListMismatch.TheVariants.{Under, After}
 use Rattle.ptb_serve.specs.ListMismatches.{IsUnbegun, mismatch_note, unbegun_attempt}
 use Rattle.ptb_serve.specs.Loaded.{ReadsInput, RefusesListIn, ServesProgram, TellsFailures}
 use Rattle.ptb_plain.specs.PlainRuns.{input_limit}
@@ -101,10 +102,11 @@ module _ (request : Request) (p : StoredProgram) (memory : p.memory ≡ request.
       };
     }
 
-    pub listing_unbegun : (held : Option (List ℕ)) (broke : ℕ) (why : Unbegun)
+    pub listing_unbegun : (held : Option (List ℕ)) (broke : ℕ) (why : OpenFault)
         → IsUnbegun (play p input request.rules) under after why
         → IsListedOn held held broke broke (unbegun_attempt why).served
-    listing_unbegun held broke (Refused m) x = unbegun_noted held broke (mismatch_note m) (inr x.0)
+    listing_unbegun held broke (NoBeginning m) x = unbegun_noted held broke (mismatch_note (Under m)) (inr x.0)
+    listing_unbegun held broke (NotARun m) x = unbegun_noted held broke (mismatch_note (After m)) (inr x.0)
     listing_unbegun held broke Memory x = unbegun_noted held broke notes.OutOfMemory (inl refl)
 
     -- an explorer went on from its front

@@ -10,19 +10,21 @@ use Rattle.ptb_answers.specs.declared.form.Marked.{Marked}
 use Rattle.ptb_machine.specs.Play.{play}
 use Rattle.ptb_explore.specs.declared.fault.ExploreFault.{ExploreFault}
 use Rattle.ptb_explore.specs.declared.fault.ExploreFault.TheVariants as explores
+use Rattle.ptb_explore.specs.declared.fault.OpenFault.{OpenFault}
+use Rattle.ptb_explore.specs.declared.fault.OpenFault.TheVariants.{Memory, NoBeginning, NotARun}
 use Rattle.ptb_options.specs.declared.request.Mode.{Mode}
 use Rattle.ptb_options.specs.declared.request.Mode.TheVariants as modes
 use Rattle.ptb_options.specs.declared.request.Request.{Request}
 use Rattle.ptb_serve.specs.declared.list_mismatch.ListMismatch.{ListMismatch}
-use Rattle.ptb_serve.specs.declared.list_mismatch.Unbegun.{Unbegun}
-use Rattle.ptb_serve.specs.declared.list_mismatch.Unbegun.TheVariants.{Memory, Refused}
+use Rattle.ptb_serve.specs.declared.list_mismatch.ListMismatch.TheVariants.{Under, After}
 use Rattle.ptb_serve.specs.declared.note.Note.{Note}
 use Rattle.ptb_serve.specs.declared.note.Note.TheVariants as notes
 use Rattle.ptb_command.specs.declared.ending.Ending.{Ending}
 use Rattle.ptb_machine.specs.declared.fault.RunFault.{RunFault}
 use Rattle.ptb_machine.specs.declared.fault.RunFault.TheVariants as faults
 use Rattle.ptb_serve.specs.Loaded.{IsRunStatus, RefusesListIn, TellsMismatch}
-use Rattle.ptb_serve.specs.ListMismatches.{IsMismatchIn, IsMismatchOf, IsUnbegun, mismatch_note, unbegun_attempt}
+use Rattle.ptb_serve.specs.ListMismatches.{IsMismatchIn, IsMismatchOf, IsRefused, IsUnbegun}
+use Rattle.ptb_serve.specs.ListMismatches.{mismatch_note, refused_attempt, unbegun_attempt}
 use Rattle.ptb_serve.specs.Replies.{program_of_text}
 use Rattle.ptb_serve.specs.Serving.{input_note, outcome_of, reports_note}
 use Rattle.ptb_devices.specs.declared.fault.ReadFault.{ReadFault}
@@ -76,15 +78,13 @@ pub if_mismatch : (P Q : ListMismatch → Type 0) (o : Option ListMismatch) → 
 if_mismatch P Q None f h = tt
 if_mismatch P Q (Some m) f h = f m h
 
--- where a listing is not begun, it is said why a list is refused
-pub unbegun_told : (request : Request) (p : StoredProgram) (known : Option (List ℕ)) (input : List (List ℕ))
+-- where a list is refused, it is said why
+refused_told : (request : Request) (p : StoredProgram) (known : Option (List ℕ)) (input : List (List ℕ))
     → IfSome known (λ c. input ≡ input_lines c)
-    → (under after : Option (List Marked)) (first : Option ℕ) (form : Form) (why : Unbegun)
-    → IsUnbegun (play p input request.rules) under after why
-    → TellsMismatch (modes.All under after first form) request p known (unbegun_attempt why).served (unbegun_attempt why).mismatch
-unbegun_told request p known input lines under after first form Memory x =
-    none_told (modes.All under after first form) request p known (Err notes.OutOfMemory) memory_refuses_none
-unbegun_told request p known input lines under after first form (Refused m) x = record {
+    → (under after : Option (List Marked)) (first : Option ℕ) (form : Form) (m : ListMismatch)
+    → IsRefused (play p input request.rules) under after m
+    → TellsMismatch (modes.All under after first form) request p known (refused_attempt m).served (refused_attempt m).mismatch
+refused_told request p known input lines under after first form m x = record {
   said = λ _. refl;
   noted = refl;
   fits =
@@ -92,10 +92,24 @@ unbegun_told request p known input lines under after first form (Refused m) x = 
       (at_known (λ d. input ≡ input_lines d) c is lines) x.1;
 }
 
+-- and so it is where a listing is not begun
+pub unbegun_told : (request : Request) (p : StoredProgram) (known : Option (List ℕ)) (input : List (List ℕ))
+    → IfSome known (λ c. input ≡ input_lines c)
+    → (under after : Option (List Marked)) (first : Option ℕ) (form : Form) (why : OpenFault)
+    → IsUnbegun (play p input request.rules) under after why
+    → TellsMismatch (modes.All under after first form) request p known (unbegun_attempt why).served (unbegun_attempt why).mismatch
+unbegun_told request p known input lines under after first form Memory x =
+    none_told (modes.All under after first form) request p known (Err notes.OutOfMemory) memory_refuses_none
+unbegun_told request p known input lines under after first form (NoBeginning m) x =
+    refused_told request p known input lines under after first form (Under m) x
+unbegun_told request p known input lines under after first form (NotARun m) x =
+    refused_told request p known input lines under after first form (After m) x
+
 -- and no line stopped it
-pub unbegun_line : (why : Unbegun) → (unbegun_attempt why).line ≡ None
+pub unbegun_line : (why : OpenFault) → (unbegun_attempt why).line ≡ None
 unbegun_line Memory = refl
-unbegun_line (Refused m) = refl
+unbegun_line (NoBeginning m) = refl
+unbegun_line (NotARun m) = refl
 
 -- ---- for a program that was loaded
 

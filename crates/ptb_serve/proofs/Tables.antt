@@ -15,8 +15,8 @@ use Rattle.ptb_machine.specs.Play.{play}
 use Rattle.ptb_machine.specs.Questions.{most_answers}
 use Rattle.ptb_machine.specs.declared.fault.RunFault.TheVariants as faults
 use Rattle.ptb_explore.specs.Chances.{chances}
-use Rattle.ptb_chances.specs.declared.fault.ChancesFault.{ChancesFault}
-use Rattle.ptb_chances.specs.declared.fault.ChancesFault.TheVariants as tables
+use Rattle.ptb_devices.specs.declared.fault.ScreenFault.{ScreenFault}
+use Rattle.ptb_devices.specs.declared.fault.ScreenFault.TheVariants as tables
 use Rattle.ptb_options.specs.declared.request.Mode.TheVariants as modes
 use Rattle.ptb_options.specs.declared.request.Request.{Request}
 use Rattle.ptb_plain.specs.PlainRuns.{input_limit}
@@ -147,7 +147,7 @@ module _ (request : Request) (p : StoredProgram) (memory : p.memory ≡ request.
       no_list = success_refuses_none 0;
     }
 
-    broken_by : {T : Type 0} (fault : ChancesFault) → (IsErrOf {T = T} (Err fault) tables.Memory → new ≡ old)
+    broken_by : {T : Type 0} (fault : ScreenFault) → (IsErrOf {T = T} (Err fault) tables.Memory → new ≡ old)
         → (IsErrOf {T = T} (Err fault) tables.Write → TakesSome old new (due input))
         → (IsErrOf {T = T} (Err fault) tables.Write → HasFailed broke breaks)
         → ((IsErrOf {T = T} (Err fault) tables.Write → ⊥) → breaks ≡ broke)
@@ -165,7 +165,7 @@ module _ (request : Request) (p : StoredProgram) (memory : p.memory ≡ request.
       no_list = run_refuses_none (Err faults.Write) (Err notes.Unwritten) refl;
     }
 
-    pub chances_broken : {T : Type 0} (result : Result ℕ Note) (fault : ChancesFault)
+    pub chances_broken : {T : Type 0} (result : Result ℕ Note) (fault : ScreenFault)
         → IsErrAnd result (λ m. m ≡ chances_note fault)
         → (IsErrOf {T = T} (Err fault) tables.Memory → new ≡ old)
         → (IsErrOf {T = T} (Err fault) tables.Write → TakesSome old new (due input))

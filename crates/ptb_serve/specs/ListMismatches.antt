@@ -3,27 +3,24 @@
 --     items_of list                        the items of a list; one that is not named has none
 --     IsMismatchIn game under after m      m says why one of these lists fits no run
 --     IsMismatchOf mode p input rules m    the same, of the lists of a request
---     under_reason e, after_reason e       why a listing is not begun with some answers, or after a run
+--     refused_attempt m                    the attempt of a listing of which a list fits no run
 --     unbegun_attempt why                  the attempt of a listing that is not begun
---     IsUnbegun game under after why       a list is refused by its note, and for what it does not fit; or memory was refused
+--     IsRefused game under after m         a list is refused by its note, and for what it does not fit
+--     IsUnbegun game under after why       a list is refused, or memory was
 use Rattle.std.specs.Prelude.{◌≡◌, ℕ, List, [], Option, Some, None, Err}
 use Rattle.ptb_text.specs.Statements.{StoredProgram}
 use Rattle.ptb_answers.specs.Outcome.{Answers, Outcome}
 use Rattle.ptb_answers.specs.declared.form.Marked.{Marked}
 use Rattle.ptb_answers.specs.declared.rules.Rules.{Rules}
 use Rattle.ptb_machine.specs.Play.{Finish, play}
-use Rattle.ptb_explore.specs.declared.fault.AfterFault.{AfterFault}
-use Rattle.ptb_explore.specs.declared.fault.AfterFault.TheVariants as afters
-use Rattle.ptb_explore.specs.declared.fault.UnderFault.{UnderFault}
-use Rattle.ptb_explore.specs.declared.fault.UnderFault.TheVariants as unders
+use Rattle.ptb_explore.specs.declared.fault.OpenFault.{OpenFault}
+use Rattle.ptb_explore.specs.declared.fault.OpenFault.TheVariants.{Memory, NoBeginning, NotARun}
 use Rattle.ptb_explore.specs.Mismatch.{IsItemMismatch, IsRunMismatch}
 use Rattle.ptb_options.specs.declared.request.Mode.{Mode}
 use Rattle.ptb_options.specs.declared.request.Mode.TheVariants as modes
 use Rattle.ptb_serve.specs.declared.attempt.Attempt.{Attempt}
 use Rattle.ptb_serve.specs.declared.list_mismatch.ListMismatch.{ListMismatch}
 use Rattle.ptb_serve.specs.declared.list_mismatch.ListMismatch.TheVariants.{Under, After}
-use Rattle.ptb_serve.specs.declared.list_mismatch.Unbegun.{Unbegun}
-use Rattle.ptb_serve.specs.declared.list_mismatch.Unbegun.TheVariants.{Refused, Memory}
 use Rattle.ptb_serve.specs.declared.note.Note.{Note}
 use Rattle.ptb_serve.specs.declared.note.Note.TheVariants as notes
 use Rattle.ptb_serve.specs.Replies.{front_note}
@@ -55,21 +52,21 @@ IsMismatchOf modes.Chances p input rules m = ⊥
 
 -- ---- a listing that is not begun
 
-abbrev pub under_reason : UnderFault → Unbegun
-under_reason (unders.NoBeginning m) = Refused (Under m)
-under_reason unders.Memory = Memory
-
-abbrev pub after_reason : AfterFault → Unbegun
-after_reason (afters.NotARun m) = Refused (After m)
-after_reason afters.Memory = Memory
-
 -- a list that fits no run is refused, and it is said why
-abbrev pub unbegun_attempt : Unbegun → Attempt
-unbegun_attempt (Refused m) = record { served = Err (mismatch_note m); mismatch = Some m; line = None }
+abbrev pub refused_attempt : ListMismatch → Attempt
+refused_attempt m = record { served = Err (mismatch_note m); mismatch = Some m; line = None }
+
+abbrev pub unbegun_attempt : OpenFault → Attempt
+unbegun_attempt (NoBeginning m) = refused_attempt (Under m)
+unbegun_attempt (NotARun m) = refused_attempt (After m)
 unbegun_attempt Memory = record { served = Err notes.OutOfMemory; mismatch = None; line = None }
 
-abbrev pub IsUnbegun : (Answers → Outcome Finish (List ℕ)) → Option (List Marked) → Option (List Marked) → Unbegun
+abbrev pub IsRefused : (Answers → Outcome Finish (List ℕ)) → Option (List Marked) → Option (List Marked) → ListMismatch
     → Type 0
-IsUnbegun game under after (Refused m) =
-    (front_note game under after ≡ Some (mismatch_note m)) × IsMismatchIn game under after m
+IsRefused game under after m = (front_note game under after ≡ Some (mismatch_note m)) × IsMismatchIn game under after m
+
+abbrev pub IsUnbegun : (Answers → Outcome Finish (List ℕ)) → Option (List Marked) → Option (List Marked) → OpenFault
+    → Type 0
+IsUnbegun game under after (NoBeginning m) = IsRefused game under after (Under m)
+IsUnbegun game under after (NotARun m) = IsRefused game under after (After m)
 IsUnbegun game under after Memory = Unit {0}

@@ -42,8 +42,8 @@ use Rattle.ptb_explore.specs.Listing.{text}
 use Rattle.ptb_explore.specs.Report.{report}
 use Rattle.ptb_explore.specs.declared.fault.ExploreFault.{ExploreFault}
 use Rattle.ptb_explore.specs.declared.fault.ExploreFault.TheVariants as explores
-use Rattle.ptb_chances.specs.declared.fault.ChancesFault.{ChancesFault}
-use Rattle.ptb_chances.specs.declared.fault.ChancesFault.TheVariants as tables
+use Rattle.ptb_devices.specs.declared.fault.ScreenFault.{ScreenFault}
+use Rattle.ptb_devices.specs.declared.fault.ScreenFault.TheVariants as tables
 use Rattle.ptb_serve.specs.declared.note.Note.{Note}
 use Rattle.ptb_serve.specs.declared.note.Note.TheVariants as notes
 use Rattle.ptb_options.specs.declared.request.Mode.{Mode}
@@ -81,7 +81,7 @@ abbrev pub reports_note : ExploreFault → Note
 reports_note (explores.Memory n) = notes.OutOfMemory
 reports_note (explores.Write n) = notes.Unwritten
 
-abbrev pub chances_note : ChancesFault → Note
+abbrev pub chances_note : ScreenFault → Note
 chances_note tables.Memory = notes.OutOfMemory
 chances_note tables.Write = notes.Unwritten
 

@@ -16,9 +16,8 @@ ghost use Rattle.ptb_serve.specs.Loaded.{ReadsInput, ServesProgram, TellsFailure
 ghost use Rattle.ptb_serve.specs.Replies.{answers_under, first_front, front_note, is_share};
 
 use crate::attempt::Attempt;
-use crate::list_mismatch::Unbegun;
 use crate::note::Note;
-use ptb_explore::{ExploreFault, Explorer, Form, write_all_runs};
+use ptb_explore::{ExploreFault, Explorer, Form, OpenFault, write_all_runs};
 use ptb_machine::{Line, Rules, read_lines};
 use ptb_options::{MarkedAnswers, Request};
 use ptb_text::{Program, Read, Write};
@@ -133,7 +132,7 @@ fn explorer_from<'a>(
     rules: Rules,
     under: &Option<MarkedAnswers>,
     after: &Option<MarkedAnswers>,
-) -> Result<Explorer<'a>, Unbegun>
+) -> Result<Explorer<'a>, OpenFault>
     ensures explorer { IfOk result (λ e. e ≡ exploration program.now lines.now rules
         (answers_under under.now) (first_front after.now) e.kept e.played) }
     ensures begun { OnOk result
@@ -144,7 +143,7 @@ fn explorer_from<'a>(
     let explorer = first_explorer(alloc, program, lines, rules, under)?;
     match after {
         None => Ok(explorer),
-        Some(list) => Ok(explorer.go_to(list.as_slice())?),
+        Some(list) => explorer.go_to(list.as_slice()),
     }
 }
 
@@ -155,7 +154,7 @@ fn first_explorer<'a>(
     lines: &'a [Line],
     rules: Rules,
     under: &Option<MarkedAnswers>,
-) -> Result<Explorer<'a>, Unbegun>
+) -> Result<Explorer<'a>, OpenFault>
     ensures explorer { IfOk result (λ e. e ≡ exploration program.now lines.now rules
         (answers_under under.now) Start e.kept e.played) }
     ensures begins { OnOk result
@@ -165,6 +164,6 @@ fn first_explorer<'a>(
 {
     match under {
         None => Ok(Explorer::start(alloc, program, lines, rules)?),
-        Some(list) => Ok(Explorer::under(alloc, program, lines, rules, list.as_slice())?),
+        Some(list) => Explorer::under(alloc, program, lines, rules, list.as_slice()),
     }
 }

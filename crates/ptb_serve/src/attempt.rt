@@ -1,10 +1,11 @@
 // This file has the result of serving a request for a program that was loaded.
 
 ghost use Rattle.std.specs.Prelude.{◌≡◌, None};
-ghost use Rattle.ptb_serve.specs.ListMismatches.{unbegun_attempt};
+ghost use Rattle.ptb_serve.specs.ListMismatches.{refused_attempt, unbegun_attempt};
 
-use crate::list_mismatch::{ListMismatch, Unbegun};
+use crate::list_mismatch::ListMismatch;
 use crate::note::Note;
+use ptb_explore::OpenFault;
 
 // The status, or the note that says why there is none; why a list fits no run, where that is known;
 // and the line at which the limit stopped a run.
@@ -27,18 +28,26 @@ impl Attempt {
         }
     }
 
+    // The attempt of a listing of which a list fits no run.
+    fn refused(mismatch: ListMismatch) -> Attempt
+        ensures { result ≡ refused_attempt mismatch }
+    {
+        Attempt {
+            served: Err(mismatch.note()),
+            mismatch: Some(mismatch),
+            line: None,
+        }
+    }
+
     // The attempt of a listing that is not begun. A list that fits no run is refused, and never for want
     // of memory.
-    pub(crate) fn unbegun(why: Unbegun) -> Attempt
+    pub(crate) fn unbegun(why: OpenFault) -> Attempt
         ensures { result ≡ unbegun_attempt why }
     {
         match why {
-            Unbegun::Refused(mismatch) => Attempt {
-                served: Err(mismatch.note()),
-                mismatch: Some(mismatch),
-                line: None,
-            },
-            Unbegun::Memory => Attempt::without_mismatch(Err(Note::OutOfMemory)),
+            OpenFault::NoBeginning(mismatch) => Attempt::refused(ListMismatch::Under(mismatch)),
+            OpenFault::NotARun(mismatch) => Attempt::refused(ListMismatch::After(mismatch)),
+            OpenFault::Memory => Attempt::without_mismatch(Err(Note::OutOfMemory)),
         }
     }
 }

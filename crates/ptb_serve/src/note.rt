@@ -6,9 +6,8 @@ ghost use Rattle.ptb_serve.specs.Messages.{note_line};
 ghost use Rattle.ptb_serve.specs.Serving.{chances_note, input_note, load_note, reports_note};
 ghost use Rattle.ptb_serve.specs.Statuses.{note_status};
 
-use ptb_chances::ChancesFault;
 use ptb_explore::ExploreFault;
-use ptb_machine::ReadFault;
+use ptb_machine::{ReadFault, ScreenFault};
 use ptb_text::{LoadFault, WriteFault};
 use std::alloc::AllocError;
 use std::fmt;
@@ -97,13 +96,13 @@ impl From<ExploreFault> for Note {
     }
 }
 
-impl From<ChancesFault> for Note {
+impl From<ScreenFault> for Note {
     ghost from_gives = { λ fault note. note ≡ chances_note fault };
 
-    fn from(fault: ChancesFault) -> Note {
+    fn from(fault: ScreenFault) -> Note {
         match fault {
-            ChancesFault::Memory => Note::OutOfMemory,
-            ChancesFault::Write => Note::Unwritten,
+            ScreenFault::Memory => Note::OutOfMemory,
+            ScreenFault::Write => Note::Unwritten,
         }
     }
 }

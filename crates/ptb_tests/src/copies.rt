@@ -1,7 +1,7 @@
 // This file tests an explorer's copies: how many are kept, and how many commands are played.
 
 use crate::shared::{ONE, OUT_OF_MEMORY, TWO_OF_2, expect_same, loaded, plain_rules};
-use ptb_explore::{AfterFault, Explorer, Report, UnderFault};
+use ptb_explore::{Explorer, OpenFault, Report};
 use ptb_machine::{Ending, Line, Rules};
 use ptb_text::Program;
 use std::alloc::{AllocError, Global};
@@ -359,7 +359,7 @@ fn behind_a_run(rt: HostRuntime) -> Result<(), Fail> {
 fn expect_played(rt: &impl Abort, alloc: Global, program: &Program, lines: &[Line]) {
     match Explorer::after_marked(alloc, program, lines, plain_rules(10000), &[TWO_OF_2, ONE]) {
         Ok(explorer) => expect_same(rt, "steps played", explorer.played(), 2),
-        Err(fault) => expect_same(rt, "fault", fault, AfterFault::Memory),
+        Err(fault) => expect_same(rt, "fault", fault, OpenFault::Memory),
     }
 }
 
@@ -377,7 +377,7 @@ fn refused_behind_a_run(rt: HostRuntime) {
 fn expect_share(rt: &impl Abort, alloc: Global, program: &Program, lines: &[Line]) {
     match Explorer::under(alloc, program, lines, plain_rules(10000), &[TWO_OF_2]) {
         Ok(explorer) => expect_counts(rt, &explorer, 0, 2),
-        Err(fault) => expect_same(rt, "fault", fault, UnderFault::Memory),
+        Err(fault) => expect_same(rt, "fault", fault, OpenFault::Memory),
     }
 }
 

@@ -6,9 +6,7 @@ use crate::shared::{
     FOUR_OF_3, FOUR_OF_4, ONE, ONE_OF_1, ONE_OF_2, ONE_OF_3, ONE_OF_4, THREE, TWO, TWO_OF_2,
     TWO_OF_3, ZERO, expect_same, loaded, plain_rules,
 };
-use ptb_explore::{
-    AfterFault, ExploreFault, Explorer, Form, Marked, Report, UnderFault, write_all_runs,
-};
+use ptb_explore::{ExploreFault, Explorer, Form, Marked, OpenFault, Report, write_all_runs};
 use ptb_machine::{Ending, Line, Rules};
 use ptb_text::{ByteSink, Device, LoadFault, Program, Write, load};
 use std::alloc::{AllocError, Global};
@@ -41,19 +39,12 @@ enum Runs<'a> {
     UnderBehind(&'a [Marked], &'a [Marked]),
 }
 
-// Why no listing begins behind a run.
-fn why_not_behind(fault: AfterFault) -> &'static str {
+// Why there is no explorer.
+fn why_not_opened(fault: OpenFault) -> &'static str {
     match fault {
-        AfterFault::NotARun(_) => "not a run",
-        AfterFault::Memory => "out of memory",
-    }
-}
-
-// Why there is no listing of the runs that begin so.
-fn why_not_under(fault: UnderFault) -> &'static str {
-    match fault {
-        UnderFault::NoBeginning(_) => "no beginning",
-        UnderFault::Memory => "out of memory",
+        OpenFault::NoBeginning(_) => "no beginning",
+        OpenFault::NotARun(_) => "not a run",
+        OpenFault::Memory => "out of memory",
     }
 }
 
@@ -68,16 +59,16 @@ fn explorer_of<'a>(
     match runs {
         Runs::All => Explorer::start(alloc, program, lines, rules).or(Err("out of memory")),
         Runs::Behind(run) => {
-            Explorer::after(alloc, program, lines, rules, run).map_err(why_not_behind)
+            Explorer::after(alloc, program, lines, rules, run).map_err(why_not_opened)
         }
         Runs::BehindMarked(run) => {
-            Explorer::after_marked(alloc, program, lines, rules, run).map_err(why_not_behind)
+            Explorer::after_marked(alloc, program, lines, rules, run).map_err(why_not_opened)
         }
         Runs::Under(list) => {
-            Explorer::under(alloc, program, lines, rules, list).map_err(why_not_under)
+            Explorer::under(alloc, program, lines, rules, list).map_err(why_not_opened)
         }
         Runs::UnderBehind(list, run) => {
-            Explorer::after_under(alloc, program, lines, rules, list, run).map_err(why_not_behind)
+            Explorer::after_under(alloc, program, lines, rules, list, run).map_err(why_not_opened)
         }
     }
 }

@@ -4,7 +4,7 @@ use crate::shared::{
     FOUR_OF_4, ONE, ONE_OF_2, ONE_OF_3, OUT_OF_MEMORY, THREE, THREE_OF_3, TWO, TWO_OF_2, TWO_OF_3,
     ZERO, expect_same, loaded, plain_rules,
 };
-use ptb_explore::{AfterFault, Explorer, Marked, Mismatch, UnderFault};
+use ptb_explore::{Explorer, Marked, Mismatch, OpenFault};
 use ptb_text::Program;
 use std::alloc::{AllocError, Global};
 use std::process::Abort;
@@ -50,8 +50,8 @@ fn beginning_mismatch(
 ) -> Result<Option<Mismatch>, AllocError> {
     match Explorer::under(alloc, program, &[], plain_rules(10000), list) {
         Ok(_) => Ok(None),
-        Err(UnderFault::NoBeginning(mismatch)) => Ok(Some(mismatch)),
-        Err(UnderFault::Memory) => Err(AllocError),
+        Err(OpenFault::NoBeginning(mismatch)) => Ok(Some(mismatch)),
+        Err(_) => Err(AllocError),
     }
 }
 
@@ -64,8 +64,8 @@ fn run_mismatch(
 ) -> Result<Option<Mismatch>, AllocError> {
     match Explorer::after_under(alloc, program, &[], plain_rules(10000), under, list) {
         Ok(_) => Ok(None),
-        Err(AfterFault::NotARun(mismatch)) => Ok(Some(mismatch)),
-        Err(AfterFault::Memory) => Err(AllocError),
+        Err(OpenFault::NotARun(mismatch)) => Ok(Some(mismatch)),
+        Err(_) => Err(AllocError),
     }
 }
 
@@ -77,8 +77,8 @@ fn answers_mismatch(
 ) -> Result<Option<Mismatch>, AllocError> {
     match Explorer::after(alloc, program, &[], plain_rules(10000), answers) {
         Ok(_) => Ok(None),
-        Err(AfterFault::NotARun(mismatch)) => Ok(Some(mismatch)),
-        Err(AfterFault::Memory) => Err(AllocError),
+        Err(OpenFault::NotARun(mismatch)) => Ok(Some(mismatch)),
+        Err(_) => Err(AllocError),
     }
 }
 

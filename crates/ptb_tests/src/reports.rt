@@ -1,7 +1,7 @@
 // This file tests the reports of runs: what they are of, their text in both forms, and writers that fail.
 
 use crate::shared::{ONE_OF_6, THREE, THREE_OF_3, ZERO, expect_same, loaded, plain_rules};
-use ptb_explore::{AfterFault, ExploreFault, Explorer, Form, Marked, Report, word, write_all_runs};
+use ptb_explore::{ExploreFault, Explorer, Form, Marked, OpenFault, Report, word, write_all_runs};
 use ptb_machine::{Ending, Line};
 use ptb_text::{Device, Program};
 use std::alloc::{AllocError, Global};
@@ -76,8 +76,9 @@ fn is_run_from(
 ) -> Result<bool, &'static str> {
     match Explorer::after_marked(alloc, program, lines, plain_rules(10000), list) {
         Ok(_) => Ok(true),
-        Err(AfterFault::NotARun(_)) => Ok(false),
-        Err(AfterFault::Memory) => Err("no memory"),
+        Err(OpenFault::NotARun(_)) => Ok(false),
+        Err(OpenFault::NoBeginning(_)) => Err("a fault of no list of this call"),
+        Err(OpenFault::Memory) => Err("no memory"),
     }
 }
 

@@ -5,7 +5,7 @@ use Rattle.ptb_answers.specs.Seeds.{SeededAnswers}
 use Rattle.ptb_machine.specs.Play.{play}
 use Rattle.ptb_machine.specs.Questions.{most_answers}
 use Rattle.ptb_explore.specs.Report.{report}
-use Rattle.ptb_explore.specs.declared.fault.NextFault.{NextFault}
+use Rattle.ptb_devices.specs.declared.fault.ScreenFault.{ScreenFault}
 use Rattle.ptb_explore.specs.Sampling.{WritesFirst, WritesRun}
 use Rattle.ptb_explore.proofs.DrawnRuns.{left_by, run_of}
 use Rattle.ptb_explore.proofs.Samples.{sampled_next, sampled_part, sampled_some}
@@ -39,7 +39,7 @@ returns-in-Err-Memory-clause-writes g c =
     let game = play p lines rules in
     let most = most_answers p lines rules.limit in
     let none : g.W.Write.contents c.write_run.new.writer ≡ g.W.Write.contents l.writer =
-    subst (λ (e : NextFault). WritesRun (report c.args.sample.form game) (answers_by most l.sampler.chooser.first game) (g.W.Write.contents l.writer) (g.W.Write.contents c.write_run.new.writer) (Err e)) c.in-Err-Memory.field-0-is
+    subst (λ (e : ScreenFault). WritesRun (report c.args.sample.form game) (answers_by most l.sampler.chooser.first game) (g.W.Write.contents l.writer) (g.W.Write.contents c.write_run.new.writer) (Err e)) c.in-Err-Memory.field-0-is
     (run_of lines rules l.sampler.player p l.sampler.chooser.first c.args.sample.form (g.W.Write.contents l.writer) (g.W.Write.contents c.write_run.new.writer) (Err c.in-Err-Memory.field-0) l.invariant.program c.in-Err-Memory.ensures.writes) in
     subst (λ (b : Option (List ℕ)). WritesFirst (report c.args.sample.form game) (sampled_runs most game c.args.sampler.now.chooser.first c.args.sample.runs) (g.W.Write.contents c.args.writer.now) b c.from.result) (sym none)
     (sampled_some game most (report c.args.sample.form game) c.args.sampler.now.chooser.first c.args.sample.runs _ l.sampler.chooser.first _ l.remaining _ c.loop-remaining-test.true l.invariant.sampled c.from.ensures)
@@ -53,7 +53,7 @@ returns-in-Err-Write-clause-writes g c =
     let game = play p lines rules in
     let most = most_answers p lines rules.limit in
     let part =
-    subst (λ (e : NextFault). WritesRun (report c.args.sample.form game) (answers_by most l.sampler.chooser.first game) (g.W.Write.contents l.writer) (g.W.Write.contents c.write_run.new.writer) (Err e)) c.in-Err-Write.field-0-is
+    subst (λ (e : ScreenFault). WritesRun (report c.args.sample.form game) (answers_by most l.sampler.chooser.first game) (g.W.Write.contents l.writer) (g.W.Write.contents c.write_run.new.writer) (Err e)) c.in-Err-Write.field-0-is
     (run_of lines rules l.sampler.player p l.sampler.chooser.first c.args.sample.form (g.W.Write.contents l.writer) (g.W.Write.contents c.write_run.new.writer) (Err c.in-Err-Write.field-0) l.invariant.program c.in-Err-Write.ensures.writes) in
     sampled_part game most (report c.args.sample.form game) c.args.sampler.now.chooser.first c.args.sample.runs _ l.sampler.chooser.first _ l.remaining _ _ c.loop-remaining-test.true l.invariant.sampled c.from-in-Err-Write.ensures part
 

@@ -24,3 +24,6 @@ returns-in_err-explorer-clause-mismatch c = λ m fault.
     alone_is_under (play c.args.program.now c.args.lines.now c.args.rules) (most_answers c.args.program.now c.args.lines.now c.args.rules.limit)
     (c.run_laws.ensures.reads c.args.program.now c.args.lines.now c.args.rules) c.args.under.now c.args.list.now m
     (sym c.items_begin_with.ensures ∙ c.if-not-items_begin_with.false) (c.in_err-explorer.ensures.mismatch m (passed_on _ _ _ c.from_residual.ensures.1 fault))
+
+pub returns-in_err-explorer-clause-kind : goal.returns-in_err-explorer-clause-kind
+returns-in_err-explorer-clause-kind c = λ m fault. c.in_err-explorer.ensures.kind m (passed_on _ _ _ c.from_residual.ensures.1 fault)

@@ -38,6 +38,7 @@ returns c =
       played = subst (λ (x : Exploration). IsAdded (play_of x) (answers_of c.args.list.now) x.played c.check_run.new.self.played) c.self.view_is ran.played;
       not_a_run = λ _ fault _ _. ok_no_err fault;
       mismatch = λ _ _ _ fault. ok_no_err fault;
+      kind = λ _ fault. ok_no_err fault;
       memory = ok_no_err;
     }
 
@@ -58,3 +59,6 @@ returns-in_err-check_run-clause-mismatch c = λ under is m fault.
     (λ same. alone_is_under (game_of r) (most_answers r.player r.lines.now r.rules.limit) (c.run_laws.ensures.reads r.player r.lines.now r.rules) under c.args.list.now m
     (ap (begins_with (answers_of c.args.list.now)) same ∙ begins)
     (c.in_err-check_run.ensures.mismatch m (passed_on _ _ _ c.from_residual.ensures.1 fault))) is
+
+pub returns-in_err-check_run-clause-kind : goal.returns-in_err-check_run-clause-kind
+returns-in_err-check_run-clause-kind c = λ m fault. c.in_err-check_run.ensures.kind m (passed_on _ _ _ c.from_residual.ensures.1 fault)

@@ -8,7 +8,7 @@ use Rattle.ptb_machine.specs.Questions.{most_answers}
 use Rattle.ptb_explore.specs.declared.runner.Runner.{Runner}
 use Rattle.ptb_explore.specs.MarkedRuns.{IsMarkedBeginning}
 use Rattle.ptb_explore.specs.Mismatch.{IsItemMismatch}
-use Rattle.ptb_explore.proofs.Exits.{memory_no_beginning, ok_no_err, passed_on}
+use Rattle.ptb_explore.proofs.Exits.{memory_no_beginning, memory_no_run, ok_no_err, passed_on}
 use Rattle.ptb_explore.proofs.Mismatches.{mismatch_closes}
 use Rattle.ptb_explore.proofs.Opened.{begun_first, opened_game, opened_played, opened_view}
 use Rattle.ptb_explore.proofs.RunPrefix.{program_laws}
@@ -21,6 +21,7 @@ returns-in_err-under c = record {
   played = IfOk-from_err _ _ c.from_residual.ensures.0;
   no_beginning = λ m fault _. memory_no_beginning _ m c.from_residual.ensures.1 fault;
   mismatch = λ m fault. memory_no_beginning _ m c.from_residual.ensures.1 fault;
+  kind = λ m fault. memory_no_run _ m c.from_residual.ensures.1 fault;
   laws = program_laws c.run_laws.ensures c.args.program.now c.args.lines.now c.args.rules;
 }
 
@@ -31,6 +32,7 @@ returns-in_err-runner c = record {
   played = IfOk-from_err _ _ c.from_residual-in_err-runner.ensures.0;
   no_beginning = λ m fault _. memory_no_beginning _ m c.from_residual-in_err-runner.ensures.1 fault;
   mismatch = λ m fault. memory_no_beginning _ m c.from_residual-in_err-runner.ensures.1 fault;
+  kind = λ m fault. memory_no_run _ m c.from_residual-in_err-runner.ensures.1 fault;
   laws = program_laws c.run_laws.ensures c.args.program.now c.args.lines.now c.args.rules;
 }
 
@@ -50,6 +52,7 @@ returns-in_err-check_beginning c =
           (c.in_err-check_beginning.ensures.mismatch m (passed_on _ _ _ c.from_residual-in_err-check_beginning.ensures.1 fault)));
       mismatch = λ m fault. subst (λ (g : Answers → Outcome Finish _). IsItemMismatch g c.args.list.now m) game
           (c.in_err-check_beginning.ensures.mismatch m (passed_on _ _ _ c.from_residual-in_err-check_beginning.ensures.1 fault));
+      kind = λ m fault. c.in_err-check_beginning.ensures.kind m (passed_on _ _ _ c.from_residual-in_err-check_beginning.ensures.1 fault);
       laws = program_laws c.run_laws.ensures p input rules;
     }
 
@@ -77,5 +80,6 @@ returns c =
       played = opened_played _ _ game (answers_of c.args.list.now) _ _ made.played c.in_ok-check_beginning.ensures.played;
       no_beginning = λ _ fault _. ok_no_err fault;
       mismatch = λ _ fault. ok_no_err fault;
+      kind = λ _ fault. ok_no_err fault;
       laws = program_laws c.run_laws.ensures p input rules;
     }

@@ -53,6 +53,7 @@ returns c =
           let same : _ ≡ f = result_is _ f [] [] (sym whole.3 ∙ ap game are ∙ over) in
           (c.in_ok-ending.ensures.played ∙ ap (λ (x : Finish). more_played old.played x.steps) same, subst (λ (x : Finish). x.steps < play_limit) same c.in_ok-ending.ensures.few);
       mismatch = λ _ fault. ok_no_err fault;
+      kind = λ _ fault. ok_no_err fault;
       memory = ok_no_err;
     }
 
