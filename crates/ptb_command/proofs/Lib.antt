@@ -55,3 +55,4 @@ pub mod Answering
 pub mod ShownParts
 pub mod Shortly
 pub mod Sameness
+pub mod KnownLoops
