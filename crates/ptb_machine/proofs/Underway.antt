@@ -1,5 +1,5 @@
--- This file proves how a run continues and ends that is played step by step. Its main lemmas begin with `underway`, after the
--- record that holds before each step.
+-- This file proves how a run continues and ends that is played step by step.
+-- Main lemmas: `underway_first` and `underway_advanced`, after the record that holds before each step.
 use Rattle.std.proofs.Common.{◌≡◌, ◌+◌, ◌-◌, ◌<◌, ◌≤◌, ℕ, List, [], ◌++◌, length, Option, Some, None, Result, Ok, Err, refl, sym, ap, subst, ◌∙◌, arith}
 use Rattle.ptb_text.specs.Statements.{StoredProgram}
 use Rattle.ptb_answers.specs.declared.chooser.Chooser as choosers
