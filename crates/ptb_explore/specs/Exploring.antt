@@ -88,10 +88,11 @@ NextReports play under f r false = IsLast play under f
 abbrev pub played_after : List KeptRun → ℕ → Report → ℕ
 played_after kept played r = more_played played (r.steps - kept_steps r.answers.items kept)
 
--- it is at the run whose report is lent
+-- it is at the run whose report is lent; the count doesn't fall
 pub record FoundNext (old : Exploration) (r : Report) (new : Exploration) : Type 0 where
   pub now : new ≡ record old { front = At r.answers.items; kept = new.kept; played = played_after old.kept old.played r }
   pub kept : AreBeginnings 0 r.answers.items new.kept
+  pub rises : old.played ≤ new.played
 
 -- no copy is kept; the count doesn't fall, and rises by less than one play can add
 pub record RefusedNext (old new : Exploration) : Type 0 where

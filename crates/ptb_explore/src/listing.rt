@@ -1,6 +1,6 @@
 // This file writes the reports of all runs.
 
-ghost use Rattle.std.specs.Prelude.{◌≡◌, ℕ, IsErrOf};
+ghost use Rattle.std.specs.Prelude.{◌≡◌, ◌≤◌, ℕ, IsErrOf};
 ghost use Rattle.ptb_text.specs.Device.{HasFailed};
 ghost use Rattle.ptb_explore.specs.Exploring.{play_of, most_of};
 ghost use Rattle.ptb_explore.specs.Listing.{less_one, NextWrites, WritesRuns};
@@ -26,6 +26,7 @@ fn write_next<W: Write>(
       kept = explorer.new.kept;
       played = explorer.new.played;
     } }
+    ensures rises { explorer.old.played ≤ explorer.new.played }
     ensures writes { NextWrites (play_of explorer.old) explorer.old.under
         (report form (play_of explorer.old)) explorer.old.front explorer.new.front
         (W.contents writer.old) (W.contents writer.new) result }
@@ -62,7 +63,8 @@ fn one_less(remaining: Option<u64>) -> Option<u64>
 /// [`ExploreFault::Memory`] where a growth was refused memory, [`ExploreFault::Write`] where the
 /// writer failed, each with the number of reports that were written. The explorer is then at
 /// the last run of them, or at the one whose report was begun. Both come only while a report was
-/// still to be written, never after the last of those asked for.
+/// still to be written, never after the last of those asked for. The commands that were played count
+/// in [`played`](Explorer::played).
 pub fn write_all_runs<W: Write>(
     explorer: &mut Explorer,
     first: Option<u64>,
@@ -74,6 +76,7 @@ pub fn write_all_runs<W: Write>(
       kept = explorer.new.kept;
       played = explorer.new.played;
     } }
+    ensures rises { explorer.old.played ≤ explorer.new.played }
     ensures writes { WritesRuns (play_of explorer.old) explorer.old.under
         (report form (play_of explorer.old))
         (runs_left (play_of explorer.old) (most_of explorer.old) explorer.old.under

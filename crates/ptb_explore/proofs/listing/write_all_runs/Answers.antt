@@ -1,5 +1,6 @@
 -- This file answers that the reports that are written are those of the runs that were left, in their order.
 use Rattle.std.proofs.Common.{rules, ◌∙◌, ap, refl, Err}
+use Rattle.std.proofs.Math.Nat.{le_trans}
 use Rattle.ptb_explore.proofs.Exits.{ok_no_err}
 use Rattle.ptb_report.proofs.Reporting.{failed_after}
 use Rattle.ptb_explore.proofs.Writing.{memory_no_write, memory_told, same_after, all_wanted, none_next, list_refused, part_written, one_fewer, one_more}
@@ -16,6 +17,7 @@ loop-form-smaller g c =
 pub loop-form-preserved : goal.loop-form-preserved
 loop-form-preserved g c = record {
   same = same_after c.args.form c.args.explorer.now c.loop-form.explorer c.loop-form.invariant.same _ c.in-Ok-true.ensures.same;
+  rises = le_trans c.loop-form.invariant.rises c.in-Ok-true.ensures.rises;
   unfailed = c.in-Ok-true.ensures.unfailed (λ fault. ok_no_err fault) ∙ c.loop-form.invariant.unfailed;
   progress = one_more c.args.form c.args.explorer.now c.loop-form.explorer c.loop-form.invariant.same (c.run_laws.ensures.reads c.args.explorer.now.program c.args.explorer.now.input c.args.explorer.now.rules) _ _ _ _ _ c.loop-form.invariant.progress
       c.write_next.new.explorer.front _ c.loop-form-test.ensures _ c.in-Ok-true.field-0-test c.in-Ok-true.ensures.writes
@@ -25,6 +27,7 @@ loop-form-preserved g c = record {
 pub returns-in-Ok-false : goal.returns-in-Ok-false
 returns-in-Ok-false g c = record {
   same = same_after c.args.form c.args.explorer.now c.loop-form.explorer c.loop-form.invariant.same _ c.in-Ok-false.ensures.same;
+  rises = le_trans c.loop-form.invariant.rises c.in-Ok-false.ensures.rises;
   writes = none_next c.args.form c.args.explorer.now c.loop-form.explorer c.loop-form.invariant.same (c.run_laws.ensures.reads c.args.explorer.now.program c.args.explorer.now.input c.args.explorer.now.rules) _ _ _ _ _ c.loop-form.invariant.progress
       c.write_next.new.explorer.front _ _ c.in-Ok-false.field-0-test c.in-Ok-false.ensures.writes;
   failed = λ n fault. ok_no_err fault;
@@ -34,6 +37,7 @@ returns-in-Ok-false g c = record {
 pub returns-in-Err-Memory : goal.returns-in-Err-Memory
 returns-in-Err-Memory g c = record {
   same = same_after c.args.form c.args.explorer.now c.loop-form.explorer c.loop-form.invariant.same _ c.in-Err-Memory.ensures.same;
+  rises = le_trans c.loop-form.invariant.rises c.in-Err-Memory.ensures.rises;
   writes = list_refused c.args.form c.args.explorer.now c.loop-form.explorer c.loop-form.invariant.same (c.run_laws.ensures.reads c.args.explorer.now.program c.args.explorer.now.input c.args.explorer.now.rules) _ _ _ _ _ c.loop-form.invariant.progress
       c.write_next.new.explorer.front _ c.loop-form-test.ensures _ c.in-Err-Memory.field-0-is c.in-Err-Memory.ensures.writes;
   failed = λ n fault. memory_told fault;
@@ -43,6 +47,7 @@ returns-in-Err-Memory g c = record {
 pub returns-in-Err-Write : goal.returns-in-Err-Write
 returns-in-Err-Write g c = record {
   same = same_after c.args.form c.args.explorer.now c.loop-form.explorer c.loop-form.invariant.same _ c.in-Err-Write.ensures.same;
+  rises = le_trans c.loop-form.invariant.rises c.in-Err-Write.ensures.rises;
   writes = part_written c.args.form c.args.explorer.now c.loop-form.explorer c.loop-form.invariant.same (c.run_laws.ensures.reads c.args.explorer.now.program c.args.explorer.now.input c.args.explorer.now.rules) _ _ _ _ _ c.loop-form.invariant.progress
       c.write_next.new.explorer.front _ c.loop-form-test.ensures _ c.in-Err-Write.field-0-is c.in-Err-Write.ensures.writes;
   failed = λ n fault. failed_after _ _ _ c.loop-form.invariant.unfailed (c.in-Err-Write.ensures.failed (ap Err c.in-Err-Write.field-0-is));
@@ -52,6 +57,7 @@ returns-in-Err-Write g c = record {
 pub returns : goal.returns
 returns g c = record {
   same = c.loop-form.invariant.same;
+  rises = c.loop-form.invariant.rises;
   writes = all_wanted c.args.form c.args.explorer.now c.loop-form.explorer c.loop-form.invariant.same (c.run_laws.ensures.reads c.args.explorer.now.program c.args.explorer.now.input c.args.explorer.now.rules) _ _ _ _ _ c.loop-form.invariant.progress c.loop-form-test.ensures;
   failed = λ n fault. ok_no_err fault;
   unfailed = λ _. c.loop-form.invariant.unfailed;

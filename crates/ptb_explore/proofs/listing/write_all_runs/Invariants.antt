@@ -1,5 +1,5 @@
 -- This file says what was written after some of the reports.
-use Rattle.std.proofs.Common.{◌≡◌, length}
+use Rattle.std.proofs.Common.{◌≡◌, ◌≤◌, length}
 use Rattle.ptb_explore.specs.RunTree.{runs_left, runs_after}
 use Rattle.ptb_explore.specs.Report.{report}
 use Rattle.ptb_explore.specs.Exploring.{play_of, most_of}
@@ -11,6 +11,7 @@ invariant-loop-form g l =
     let play = play_of l.fn.explorer in
     record {
       same : l.explorer ≡ record l.fn.explorer { front = l.explorer.front; kept = l.explorer.kept; played = l.explorer.played };
+      rises : l.fn.explorer.played ≤ l.explorer.played;
       unfailed : g.W.Write.failures l.writer ≡ g.W.Write.failures l.fn.writer;
       progress : Progress play (most_of l.fn.explorer) l.fn.explorer.under (report l.fn.form play) (runs_left play (most_of l.fn.explorer) l.fn.explorer.under l.fn.explorer.front l.fn.first) l.fn.explorer.front l.explorer.front l.remaining (g.W.Write.contents l.fn.writer) (g.W.Write.contents l.writer) l.written;
     }

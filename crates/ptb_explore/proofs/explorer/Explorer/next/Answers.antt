@@ -35,6 +35,7 @@ returns-in-Ok-true c =
     let found : FoundNext was r is = record {
       now = now;
       kept = kept_beginnings old.player old.lines.now old.rules r.answers.items r.transcript.items new.copies.kept.items (c.in-Ok-true.ensures.copies c.in-Ok-true.field-0-test);
+      rises = c.in-Ok-true.ensures.rises;
     } in
     ((refl, (λ _. tt), subst (λ (x : Exploration). FoundNext x r is) c.self.view_is found), search rules)
 
