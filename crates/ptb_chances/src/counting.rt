@@ -79,8 +79,7 @@ impl<'p, 'l> Counting<'p, 'l> {
                 Ok(())
             }
             Played::Goes => {
-                let spare = self.work.spare(alloc, &self.stage.player)?;
-                let place = std::mem::replace(&mut self.stage.before, spare);
+                let place = std::mem::replace(&mut self.stage.before, Place::new(alloc));
                 self.work.add(alloc, plan.at(place))?;
                 Ok(())
             }
@@ -106,7 +105,6 @@ pub(crate) fn count_runs(
     run_laws();
     let player = Player::new(alloc, program)?;
     let trial = player.machine(alloc)?;
-    let before = Place::first(alloc, &player)?;
     let work = Work::begin(alloc, &player)?;
     let console = Console {
         screen: TextScreen::new(alloc),
@@ -118,7 +116,7 @@ pub(crate) fn count_runs(
             rules,
             trial,
             console,
-            before,
+            before: Place::new(alloc),
         },
         work,
         tally: Tally::new(alloc),

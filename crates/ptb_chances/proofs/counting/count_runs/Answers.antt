@@ -20,7 +20,7 @@ plans-init c =
       player = same;
       lines = ap (λ (s : LineList). s.lines) c.new-3.ensures;
       rules = refl;
-      accounted = rw (c.new-4.ensures, x.1) first;
+      accounted = rw (c.new-5.ensures, x.1) first;
     }
 
 pub settle-requires : goal.settle-requires
