@@ -268,6 +268,11 @@ impl Work {
         Ok(())
     }
 
+    /// How many states wait.
+    pub(crate) fn waiting(&self) -> usize {
+        self.states.len().saturating_add(self.others.len())
+    }
+
     /// Puts in plays that stand at one place: together with those that stand at the same place, where
     /// these are found.
     ///
