@@ -1,5 +1,5 @@
 -- This file proves that values are the same where their parts are.
--- Main lemma: `same_registers`.
+-- Main lemma: `same_reverse`.
 use Rattle.std.proofs.Common.{◌≡◌, ◌∙◌, List, reverse, sym, ap}
 use Rattle.std.proofs.lemmas.List.{reverse-reverse}
 use Rattle.ptb_command.specs.declared.location.Location.{Location}
