@@ -99,7 +99,8 @@ impl Tally {
         let mut sum: u32 = 0;
         for (_, share) in self.shares.iter() {
             let part = share.chance.rounded_product(alloc, 1_000_000_000)?;
-            sum = sum.saturating_add(part.to_word().unwrap_or(0));
+            // No chance is greater than 1, so the part is a word: it is its own remainder.
+            sum = sum.saturating_add(part.remainder(u32::MAX));
         }
         Ok(sum)
     }
