@@ -407,6 +407,55 @@ def all_of(master):
     return shown
 
 
+# ---- progress
+
+LONG = "10 A=RND(10);B=RND(10);C=RND(10);D=RND(10);E=RND(10);F=RND(25)\n20 P.A\n"
+LONG_TABLE = "".join(f"CHANCE 1/10 250000 END 6\n{a:6}\n" for a in range(1, 11))
+SHORT = "10 P.RND(2)\n"
+SHORT_TABLE = "".join(f"CHANCE 1/2 1 END 6\n{a:6}\n" for a in (1, 2))
+ERASED = "\r\x1b[K"
+PROGRESS = re.escape(ERASED) + r"([0-9]+\.[0-9]{2})% done, ([0-9]+) states wait"
+
+
+class Progress(AtTerminal):
+    """The line that shows how far a table of chances is counted."""
+
+    def shown(self, program, files):
+        """What the terminal shows while the table of this program is counted, if all is well."""
+        path = self.file("program.bas", program)
+        terminal = Terminal([self.program, "--chances", path], {INPUT: os.devnull, **files})
+        terminal.resume()
+        self.assertEqual(terminal.end(), 0)
+        return terminal.shown.decode()
+
+    def test_line(self):
+        """The line is written again and again, and erased before the table."""
+        shown = self.shown(LONG, {})
+        lines = re.findall(PROGRESS, shown)
+        shares = [float(share) for share, _ in lines]
+        self.assertGreater(len(shares), 0)
+        self.assertEqual(shares, sorted(shares))
+        self.assertLess(shares[-1], 100)
+        self.assertEqual(re.sub(PROGRESS, "", shown), ERASED + on_screen(LONG_TABLE).decode())
+
+    def test_errors_elsewhere(self):
+        """Where standard error is a file, there is no line."""
+        errors = self.file("errors", "")
+        self.assertEqual(self.shown(LONG, {ERRORS: errors}), on_screen(LONG_TABLE).decode())
+        self.assertEqual(Path(errors).read_text(), "")
+
+    def test_table_elsewhere(self):
+        """Where the table goes to a file, the line is erased in the end."""
+        table = self.file("table", "")
+        shown = self.shown(LONG, {OUTPUT: table})
+        self.assertEqual(re.sub(PROGRESS, "", shown), ERASED)
+        self.assertEqual(Path(table).read_text(), LONG_TABLE)
+
+    def test_short(self):
+        """A table that takes less than half a second has no line."""
+        self.assertEqual(self.shown(SHORT, {}), on_screen(SHORT_TABLE).decode())
+
+
 # ---- other ways to start
 
 

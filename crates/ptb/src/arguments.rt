@@ -22,7 +22,7 @@ use ptb_options::{
     Mode, Request, UsageFault, WrongNumber, decide, misspelled_list, parse, refusal_status,
     wrong_number,
 };
-use ptb_serve::Note;
+use ptb_serve::{Note, Watch};
 use ptb_text::{Read, Write};
 use std::convert::AsStr;
 use std::io;
@@ -31,7 +31,13 @@ use std::time::{Duration, SystemTime, UNIX_EPOCH};
 
 /// Does what the arguments ask for, and gives the status to exit with. The first argument is the
 /// program's name. Where the arguments could not be read, nothing is read or written.
-pub fn run_arguments<R: Runtime + AllocGlobal, P: Read + Drop, O: Programs<P>, I: Read, W: Write>(
+pub fn run_arguments<
+    R: Runtime + AllocGlobal,
+    P: Read + Drop,
+    O: Programs<P>,
+    I: Read,
+    W: Write + Watch,
+>(
     console: &Console<'_, R>,
     words: io::Result<Vec<String>>,
     programs: &O,
@@ -61,7 +67,7 @@ fn run_words<
     P: Read + Drop,
     O: Programs<P>,
     I: Read,
-    W: Write,
+    W: Write + Watch,
 >(console: &Console<'_, R>, words: &'a [S], programs: &O, input: &mut I, out: &mut W) -> u8
     ensures { ExitsBy (O.opens programs.now) (reads_of P.remaining P.given P.failures)
         (reads_of I.remaining I.given I.failures input.old input.new)
@@ -139,7 +145,7 @@ fn give_up<R: Runtime>(console: &Console<'_, R>, note: Note) -> u8
 }
 
 // Does what the options ask for.
-fn run_matches<R: Runtime + AllocGlobal, P: Read + Drop, O: Programs<P>, I: Read, W: Write>(
+fn run_matches<R: Runtime + AllocGlobal, P: Read + Drop, O: Programs<P>, I: Read, W: Write + Watch>(
     console: &Console<'_, R>,
     matches: &ArgMatches<'_>,
     programs: &O,

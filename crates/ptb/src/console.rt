@@ -7,6 +7,7 @@ ghost use Rattle.std.specs.IoError.{error_kind};
 ghost use Rattle.ptb_text.specs.Device.{device_inner};
 ghost use Rattle.ptb.specs.Sources.{MayOpen, open_note, watched_inner};
 
+use crate::progress::{ProgressLine, Progressing, Shown};
 use crate::serving::Programs;
 use crate::terminal::{Keyboard, Screen, Terminals, Typed};
 use crate::watching::{Source, Watched};
@@ -25,6 +26,8 @@ pub struct Events {
     typed: Cell<Typed>,
     // Whether standard output is at the start of a line.
     fresh: Cell<bool>,
+    // What is shown of the progress.
+    progress: Cell<Shown>,
     // Why the program's text could not be read.
     program_failed: Cell<Option<io::Error>>,
     // Why the input could not be read.
@@ -37,6 +40,7 @@ impl Events {
         Events {
             typed: Cell::new(Typed::Unnoticed),
             fresh: Cell::new(true),
+            progress: Cell::new(Shown::nothing()),
             program_failed: Cell::new(None),
             input_failed: Cell::new(None),
         }
@@ -59,7 +63,7 @@ pub type InputLines<'a, R> = Device<Watched<'a, Keyboard<'a, <R as Input>::Reade
 pub type ProgramText<'a, R> = Device<Watched<'a, Source<<R as Files>::File, <R as Input>::Reader>>>;
 
 /// What a request writes to.
-pub type Output<'a, R> = Flushing<Screen<'a, Printer<'a, R>>>;
+pub type Output<'a, R> = Progressing<'a, R, Flushing<Screen<'a, Printer<'a, R>>>>;
 
 impl<'a, R: Runtime> Console<'a, R> {
     /// The console of a runtime.
@@ -101,9 +105,20 @@ impl<'a, R: Runtime> Console<'a, R> {
         }
     }
 
+    // The line that shows progress, where standard error is a terminal.
+    fn progress_line(&self) -> ProgressLine<'a, R> {
+        let shown = if self.terminals.errors {
+            Some(&self.events.progress)
+        } else {
+            None
+        };
+        ProgressLine::new(self.rt, shown)
+    }
+
     /// Standard output.
     pub fn output(&self) -> Output<'a, R> {
-        Flushing::new(Screen::new(io::writer(self.rt), self.typed(), &self.events.fresh))
+        let screen = Screen::new(io::writer(self.rt), self.typed(), &self.events.fresh);
+        Progressing::new(Flushing::new(screen), self.progress_line())
     }
 
     /// From now on leaves out the echo of typed lines, where standard input and output are
@@ -112,8 +127,10 @@ impl<'a, R: Runtime> Console<'a, R> {
         self.events.typed.set(Typed::Nothing);
     }
 
-    /// Prints a line to standard error. If that fails, the status is all that is left.
+    /// Prints a line to standard error, in place of one that shows progress. If that fails, the status
+    /// is all that is left.
     pub fn say<D: Display + Drop>(&self, line: D) {
+        self.progress_line().clear();
         let _ = self.rt.eprintln(line);
     }
 

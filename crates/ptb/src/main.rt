@@ -13,6 +13,7 @@ mod arguments;
 mod console;
 mod endings;
 mod no_lines;
+mod progress;
 mod reasons;
 mod serving;
 mod terminal;

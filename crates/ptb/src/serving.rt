@@ -12,7 +12,7 @@ use crate::endings::Shortage;
 use crate::no_lines::NoLines;
 use crate::reasons::Reason;
 use ptb_options::{Mode, Request};
-use ptb_serve::{ListMismatch, Note, Outcome, serve};
+use ptb_serve::{ListMismatch, Note, Outcome, Watch, serve};
 use ptb_text::{Read, Write};
 use std::alloc::Global;
 use std::rt::Runtime;
@@ -44,13 +44,13 @@ pub trait Programs<P> {
 
 /// Serves a task, and gives the status to exit with. The input has no lines where standard input is
 /// the program.
-pub fn serve_task<R: Runtime + AllocGlobal, P: Read + Drop, O: Programs<P>, I: Read, W: Write>(
-    console: &Console<'_, R>,
-    task: &Task<'_>,
-    programs: &O,
-    input: &mut I,
-    out: &mut W,
-) -> u8
+pub fn serve_task<
+    R: Runtime + AllocGlobal,
+    P: Read + Drop,
+    O: Programs<P>,
+    I: Read,
+    W: Write + Watch,
+>(console: &Console<'_, R>, task: &Task<'_>, programs: &O, input: &mut I, out: &mut W) -> u8
     ensures { ServesTask (O.opens programs.now) (reads_of P.remaining P.given P.failures)
         (option_copied task.now.path) task.now.request
         (reads_of I.remaining I.given I.failures input.old input.new)
@@ -82,7 +82,7 @@ fn announce<R: Runtime>(console: &Console<'_, R>, task: &Task<'_>) {
 }
 
 // Serves a request for a program that was opened, or says why it was not.
-fn serve_opened<P: Read + Drop, I: Read, W: Write>(
+fn serve_opened<P: Read + Drop, I: Read, W: Write + Watch>(
     alloc: Global,
     request: &Request,
     opened: Result<P, Note>,
@@ -100,7 +100,7 @@ fn serve_opened<P: Read + Drop, I: Read, W: Write>(
 }
 
 // Serves a request without input lines.
-fn serve_without_lines<P: Read + Drop, W: Write>(
+fn serve_without_lines<P: Read + Drop, W: Write + Watch>(
     alloc: Global,
     request: &Request,
     opened: Result<P, Note>,

@@ -103,19 +103,19 @@ module _ (plans : List Standing) (others : List Waiting) (es : List (ℕ × Wait
       })
 
 -- plays at the same place are joined
-pub joined_there : (v w u : Waiting) → v.place.machine.value ≡ w.place.machine.value → v.place.taken ≡ w.place.taken → v.place.shown.items ≡ w.place.shown.items
+pub joined_there : (v w u : Waiting) → v.place.machine ≡ w.place.machine → v.place.taken ≡ w.place.taken → v.place.shown.items ≡ w.place.shown.items
     → u.place ≡ v.place → Equals u.chance (plus v.chance w.chance) → 0 < u.chance.denominator → u.runs ≡ v.runs + w.runs → IsJoined (unplanned v) (unplanned w) (unplanned u)
 joined_there v w u machine taken shown place chance positive runs =
     let there : v.place ≡ u.place = sym place in
     record {
       first = record {
-        machine = ap (λ (x : Place). x.machine.value) there;
+        machine = ap (λ (x : Place). x.machine) there;
         taken = ap (λ (x : Place). x.taken) there;
         shown = ap (λ (x : Place). x.shown.items) there;
         plan = refl;
       };
       second = record {
-        machine = sym machine ∙ ap (λ (x : Place). x.machine.value) there;
+        machine = sym machine ∙ ap (λ (x : Place). x.machine) there;
         taken = sym taken ∙ ap (λ (x : Place). x.taken) there;
         shown = sym shown ∙ ap (λ (x : Place). x.shown.items) there;
         plan = refl;

@@ -43,7 +43,7 @@ pub record Standing : Type 0 where
 
 abbrev pub planned : Place → Plan → Standing
 planned place plan = record {
-  machine = place.machine.value;
+  machine = place.machine;
   taken = place.taken;
   shown = place.shown.items;
   plan = plan.answers.items;
@@ -53,7 +53,7 @@ planned place plan = record {
 
 abbrev pub unplanned : Waiting → Standing
 unplanned w = record {
-  machine = w.place.machine.value;
+  machine = w.place.machine;
   taken = w.place.taken;
   shown = w.place.shown.items;
   plan = [];

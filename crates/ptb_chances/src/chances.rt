@@ -8,6 +8,7 @@ ghost use Rattle.ptb_machine.specs.Questions.{most_answers};
 ghost use Rattle.ptb_explore.specs.Chances.{chances};
 
 use crate::counting::count_runs;
+use crate::watch::Watch;
 use ptb_machine::{Line, Rules, ScreenFault, run_laws};
 use ptb_text::{Program, Write};
 use std::alloc::{AllocError, Global};
@@ -16,33 +17,35 @@ use std::alloc::{AllocError, Global};
 /// a run has, with the sum of the chances of its runs and their number.
 ///
 /// Each answer of a question has the same chance. The result of a run is its ending and the last
-/// line that it showed. The chances of the table add up to 1.
+/// line that it showed. The chances of the table add up to 1. While the runs are counted, `watch` may
+/// show how far this is.
 ///
 /// # Errors
 ///
 /// Where a growth was refused memory.
-pub fn chances_text(
+pub fn chances_text<W: Watch>(
     alloc: Global,
     program: &Program,
     lines: &[Line],
     rules: Rules,
+    watch: &W,
 ) -> Result<Vec<u8>, AllocError>
     ensures { IfOk result (λ text. text.items ≡ chances (play program.now lines.now rules)
         (most_answers program.now lines.now rules.limit)) }
 {
     run_laws();
-    let tally = count_runs(alloc, program, lines, rules)?;
+    let tally = count_runs(alloc, program, lines, rules, watch)?;
     let text = tally.text(alloc)?;
     Ok(text)
 }
 
-/// Writes the table that [`chances_text`] gives.
+/// Writes the table that [`chances_text`] gives, while the writer watches.
 ///
 /// # Errors
 ///
 /// [`ScreenFault::Memory`] where a growth was refused memory: nothing was written.
 /// [`ScreenFault::Write`] where the writer failed: a prefix of the table was written.
-pub fn write_chances<W: Write>(
+pub fn write_chances<W: Write + Watch>(
     alloc: Global,
     program: &Program,
     lines: &[Line],
@@ -62,7 +65,7 @@ pub fn write_chances<W: Write>(
     ensures unfailed { ¬ IsErrOf result ScreenFault.Write
         → W.failures writer.new ≡ W.failures writer.old }
 {
-    let Ok(text) = chances_text(alloc, program, lines, rules) else {
+    let Ok(text) = chances_text(alloc, program, lines, rules, &*writer) else {
         return Err(ScreenFault::Memory);
     };
     match writer.write_all(text.as_slice()) {

@@ -16,6 +16,7 @@ use crate::playing::{Console, Played};
 use crate::result_key::ResultKey;
 use crate::stage::Stage;
 use crate::tally::Tally;
+use crate::watch::Watch;
 use crate::work::{Place, Plan, Work};
 use ptb_machine::{Ending, Line, Lines, Player, Rules, TextScreen, run_laws};
 use ptb_text::Program;
@@ -42,6 +43,9 @@ fn add_over(
     tally.add(alloc, key, &plan.chance, &plan.runs)?;
     Ok(())
 }
+
+// After so many plans, the one who watches is asked again whether progress is due.
+const PLANS: u32 = 256;
 
 // How far the runs of a program are counted.
 #[derive(Drop)]
@@ -79,11 +83,20 @@ impl<'p, 'l> Counting<'p, 'l> {
                 Ok(())
             }
             Played::Goes => {
-                let spare = self.work.spare(alloc, &self.stage.player)?;
-                let place = std::mem::replace(&mut self.stage.before, spare);
+                let place = std::mem::replace(&mut self.stage.before, Place::new(alloc));
                 self.work.add(alloc, plan.at(place))?;
                 Ok(())
             }
+        }
+    }
+
+    // Shows how far the runs are counted after so many plans, if it is due.
+    fn show<W: Watch>(&self, alloc: Global, played: u32, watch: &W) {
+        if played % PLANS != 0 || !watch.is_due() {
+            return;
+        }
+        if let Ok(billionths) = self.tally.billionths(alloc) {
+            watch.show(self.work.waiting(), billionths);
         }
     }
 }
@@ -93,11 +106,12 @@ impl<'p, 'l> Counting<'p, 'l> {
 /// # Errors
 ///
 /// Where a growth was refused memory.
-pub(crate) fn count_runs(
+pub(crate) fn count_runs<W: Watch>(
     alloc: Global,
     program: &Program,
     lines: &[Line],
     rules: Rules,
+    watch: &W,
 ) -> Result<Tally, AllocError>
     ensures { IfOk result (IsAccountOf (play program.now lines.now rules)
         (tree (play program.now lines.now rules)
@@ -106,7 +120,6 @@ pub(crate) fn count_runs(
     run_laws();
     let player = Player::new(alloc, program)?;
     let trial = player.machine(alloc)?;
-    let before = Place::first(alloc, &player)?;
     let work = Work::begin(alloc, &player)?;
     let console = Console {
         screen: TextScreen::new(alloc),
@@ -118,16 +131,19 @@ pub(crate) fn count_runs(
             rules,
             trial,
             console,
-            before,
+            before: Place::new(alloc),
         },
         work,
         tally: Tally::new(alloc),
     };
+    let mut played: u32 = 0;
     'plans: loop {
         let Some(plan) = counting.work.next(alloc) else {
             let Counting { tally, .. } = counting;
             return Ok(tally);
         };
         counting.settle(alloc, plan)?;
+        played = played.wrapping_add(1);
+        counting.show(alloc, played, watch);
     }
 }

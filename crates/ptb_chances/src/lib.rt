@@ -3,7 +3,7 @@
 //! It stands on `ptb_explore` for the runs and for the definitions of results, chances and their
 //! table, on `ptb_numbers` for numbers of any size, on `ptb_machine`, `ptb_command`, `ptb_answers` and
 //! on `ptb_text`. The crate above may rely on `chances_text` and `write_chances` (the text of the
-//! table) and on `table_laws`.
+//! table) and on `table_laws`. What watches how far a table is counted implements `Watch`.
 #![tactic(auto)]
 
 mod chances;
@@ -16,7 +16,9 @@ mod result_key;
 mod stage;
 mod table;
 mod tally;
+mod watch;
 mod work;
 
 pub use chances::{chances_text, write_chances};
 pub use laws::table_laws;
+pub use watch::{Unwatched, Watch};

@@ -21,7 +21,7 @@ use std::alloc::{AllocError, Global};
 pub(crate) struct Stage<'p, 'l> {
     pub(crate) player: Player<'p>,
     pub(crate) rules: Rules,
-    /// It plays each plan, from a copy of the machine of its place.
+    /// It plays each plan, from where the machine of its place stood.
     pub(crate) trial: Machine,
     pub(crate) console: Console<'l>,
     /// Where the run stood before the command that asks next.
@@ -31,17 +31,17 @@ pub(crate) struct Stage<'p, 'l> {
 impl<'p, 'l> Stage<'p, 'l> {
     // Plays a plan on from its place, up to the end of the command that takes its last answer.
     fn start(&mut self, alloc: Global, place: &Place, plan: &Plan) -> Result<Played, AllocError>
-        requires unspent { place.now.machine.value.spent ≡ false }
+        requires unspent { place.now.machine.spent ≡ false }
         requires within { place.now.taken ≤ length self.old.console.source.lines }
         requires opens { (S : State) × StandsAt self.old.player self.old.rules
-            place.now.machine.value (drop place.now.taken self.old.console.source.lines)
+            place.now.machine (drop place.now.taken self.old.console.source.lines)
             place.now.shown.items S
             × (is_open (run_from self.old.player self.old.rules S plan.now.answers.items) ≡ true) }
         ensures player { self.new.player ≡ self.old.player }
         ensures rules { self.new.rules ≡ self.old.rules }
         ensures same_lines { self.new.console.source.lines ≡ self.old.console.source.lines }
         ensures plays { IfOk result (λ played. (given : ℕ) × ((S : State) →
-            StandsAt self.old.player self.old.rules place.now.machine.value
+            StandsAt self.old.player self.old.rules place.now.machine
             (drop place.now.taken self.old.console.source.lines) place.now.shown.items S
             → PlaysTo self.old.player self.old.rules S (take given plan.now.answers.items)
             plan.now.answers.items self.new.trial
@@ -50,11 +50,11 @@ impl<'p, 'l> Stage<'p, 'l> {
         ensures goes { IfOk result (λ played. played ≡ Played.Goes →
             (self.new.trial.spent ≡ false)
             × (self.old.rules.limit - self.new.trial.steps
-            < self.old.rules.limit - place.now.machine.value.steps)) }
+            < self.old.rules.limit - place.now.machine.steps)) }
         ensures within { IfOk result (λ _.
             self.new.console.source.taken ≤ length self.old.console.source.lines) }
     {
-        self.trial.copy_from(alloc, &place.machine)?;
+        self.trial.restore(alloc, &place.machine)?;
         self.console.screen = TextScreen::from_vec(Vec::from_slice(alloc, &place.shown)?);
         self.console.source.go(place.taken);
         let mut chooser = PlanChooser::new(&plan.answers);
@@ -77,12 +77,12 @@ impl<'p, 'l> Stage<'p, 'l> {
         ensures turns { (n : ℕ) × ((self.new.trial.steps ≡ self.old.trial.steps + n)
             × QuietTurns self.old.player self.old.rules.limit n self.old.trial self.new.trial) }
         ensures spent { self.new.trial.spent ≡ self.old.trial.spent }
-        ensures machine { OnOk result (self.new.before.machine.value ≡ self.new.trial) }
+        ensures machine { OnOk result (self.new.before.machine ≡ self.new.trial) }
         ensures taken { OnOk result (self.new.before.taken ≡ self.old.console.source.taken) }
         ensures shown { OnOk result (SameEnd self.old.console.screen self.new.before.shown.items) }
     {
         self.player.advance(&mut self.trial, self.rules.limit);
-        self.before.machine.copy_from(alloc, &self.trial)?;
+        self.before.machine.save(&self.trial)?;
         self.before.taken = self.console.source.taken();
         self.before.shown = last_lines(alloc, self.console.screen.bytes())?;
         Ok(())
@@ -107,8 +107,8 @@ impl<'p, 'l> Stage<'p, 'l> {
             → GoesOn self.old.player self.old.rules S self.new.before
             self.old.console.source.lines self.new.console.screen over) }
         ensures waits { IfOk result (λ over. over ≡ None →
-            (self.new.before.machine.value.spent ≡ false)
-            × (self.old.rules.limit - self.new.before.machine.value.steps
+            (self.new.before.machine.spent ≡ false)
+            × (self.old.rules.limit - self.new.before.machine.steps
             ≤ self.old.rules.limit - self.old.trial.steps)
             × (self.new.before.taken ≤ length self.old.console.source.lines)) }
     {
@@ -143,24 +143,24 @@ impl<'p, 'l> Stage<'p, 'l> {
         place: &Place,
         plan: &Plan,
     ) -> Result<Played, AllocError>
-        requires unspent { place.now.machine.value.spent ≡ false }
+        requires unspent { place.now.machine.spent ≡ false }
         requires within { place.now.taken ≤ length self.old.console.source.lines }
         requires opens { (S : State) × StandsAt self.old.player self.old.rules
-            place.now.machine.value (drop place.now.taken self.old.console.source.lines)
+            place.now.machine (drop place.now.taken self.old.console.source.lines)
             place.now.shown.items S
             × (is_open (run_from self.old.player self.old.rules S plan.now.answers.items) ≡ true) }
         ensures player { self.new.player ≡ self.old.player }
         ensures rules { self.new.rules ≡ self.old.rules }
         ensures same_lines { self.new.console.source.lines ≡ self.old.console.source.lines }
         ensures plays { IfOk result (λ played. (given : ℕ) × ((S : State) →
-            StandsAt self.old.player self.old.rules place.now.machine.value
+            StandsAt self.old.player self.old.rules place.now.machine
             (drop place.now.taken self.old.console.source.lines) place.now.shown.items S
             → ComesTo self.old.player self.old.rules S given plan.now.answers.items
             self.new.before self.old.console.source.lines self.new.console.screen played)) }
         ensures goes { IfOk result (λ played. played ≡ Played.Goes →
-            (self.new.before.machine.value.spent ≡ false)
-            × (self.old.rules.limit - self.new.before.machine.value.steps
-            < self.old.rules.limit - place.now.machine.value.steps)
+            (self.new.before.machine.spent ≡ false)
+            × (self.old.rules.limit - self.new.before.machine.steps
+            < self.old.rules.limit - place.now.machine.steps)
             × (self.new.before.taken ≤ length self.old.console.source.lines)) }
     {
         run_laws();

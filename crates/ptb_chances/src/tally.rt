@@ -89,4 +89,19 @@ impl Tally {
         self.shares.insert(key, share)?;
         Ok(())
     }
+
+    /// How many billionths of the chance of all runs these runs have, each result rounded down.
+    ///
+    /// # Errors
+    ///
+    /// Where a growth was refused memory.
+    pub(crate) fn billionths(&self, alloc: Global) -> Result<u32, AllocError> {
+        let mut sum: u32 = 0;
+        for (_, share) in self.shares.iter() {
+            let part = share.chance.rounded_product(alloc, 1_000_000_000)?;
+            // No chance is greater than 1, so the part is a word: it is its own remainder.
+            sum = sum.saturating_add(part.remainder(u32::MAX));
+        }
+        Ok(sum)
+    }
 }

@@ -9,7 +9,7 @@ ghost use Rattle.ptb_numbers.specs.Fractions.{Equals, plus};
 ghost use Rattle.ptb_chances.specs.Waiting.{after_answer, first_standing, gone_to, planned, standings};
 ghost use Rattle.ptb_chances.specs.Waiting.{Puts, PutsAnswers, states_left, Takes, unplanned};
 
-use ptb_machine::{Machine, Player};
+use ptb_machine::{Player, SavedMachine};
 use ptb_numbers::{Fraction, Natural};
 use std::alloc::{AllocError, Global};
 use std::collections::BTreeMap;
@@ -17,7 +17,7 @@ use std::collections::BTreeMap;
 /// Where plays stand: a machine, how many lines were taken, and the end of what was shown.
 #[derive(Drop)]
 pub(crate) struct Place {
-    pub(crate) machine: Box<Machine>,
+    pub(crate) machine: SavedMachine,
     pub(crate) taken: usize,
     pub(crate) shown: Vec<u8>,
 }
@@ -48,21 +48,18 @@ pub(crate) struct Work {
     pub(crate) states: BTreeMap<u64, Waiting>,
     /// Those for which the key was taken by another place.
     pub(crate) others: Vec<Waiting>,
-    /// Places that were left, whose memory may serve again.
-    pub(crate) spares: Vec<Place>,
-}
-
-// A machine in memory of its own.
-fn boxed(alloc: Global, machine: Machine) -> Result<Box<Machine>, AllocError>
-    ensures { IfOk result (λ b. b.value ≡ machine) }
-{
-    match Box::new(alloc, machine) {
-        Ok(machine) => Ok(machine),
-        Err(_) => Err(AllocError),
-    }
 }
 
 impl Place {
+    /// A place where nobody stands.
+    pub(crate) fn new(alloc: Global) -> Place {
+        Place {
+            machine: SavedMachine::new(alloc),
+            taken: 0,
+            shown: Vec::new(alloc),
+        }
+    }
+
     /// The beginning of the player's program.
     ///
     /// # Errors
@@ -70,14 +67,17 @@ impl Place {
     /// Where there is no memory for it.
     pub(crate) fn first(alloc: Global, player: &Player) -> Result<Place, AllocError>
         ensures machine { IfOk result (λ place.
-            (place.machine.value.spent ≡ false)
+            (place.machine.spent ≡ false)
             × ((input : List (List ℕ)) (choose : Option ℤ) → Represents player.now.lines
-            place.machine.value (first_state player.now input choose))) }
+            place.machine (first_state player.now input choose))) }
         ensures taken { IfOk result (λ place. place.taken ≡ 0) }
         ensures shown { IfOk result (λ place. place.shown.items ≡ []) }
     {
+        let machine = player.machine(alloc)?;
+        let mut saved = SavedMachine::new(alloc);
+        saved.save(&machine)?;
         Ok(Place {
-            machine: boxed(alloc, player.machine(alloc)?)?,
+            machine: saved,
             taken: 0,
             shown: Vec::new(alloc),
         })
@@ -101,7 +101,7 @@ impl Place {
 
     // Whether another place is the same.
     fn is_same(&self, other: &Place) -> bool
-        ensures { IsTrue result → (self.now.machine.value ≡ other.now.machine.value)
+        ensures { IsTrue result → (self.now.machine ≡ other.now.machine)
             × (self.now.taken ≡ other.now.taken) × (self.now.shown.items ≡ other.now.shown.items) }
     {
         self.taken == other.taken
@@ -139,7 +139,7 @@ impl Plan {
 
     /// The same plays, which stand at a place after their last answer.
     pub(crate) fn at(self, place: Place) -> Waiting
-        ensures { unplanned result ≡ gone_to place.machine.value place.taken place.shown.items
+        ensures { unplanned result ≡ gone_to place.machine place.taken place.shown.items
             self.chance self.runs }
     {
         let Plan { chance, runs, .. } = self;
@@ -187,7 +187,6 @@ impl Work {
             plans,
             states: BTreeMap::new(alloc),
             others: Vec::new(alloc),
-            spares: Vec::new(alloc),
         })
     }
 
@@ -206,8 +205,7 @@ impl Work {
             chance,
             runs,
         } = self.next_state()?;
-        let left = std::mem::replace(&mut self.place, place);
-        let _ = self.spares.push(left);
+        self.place = place;
         Some(Plan {
             answers: Vec::new(alloc),
             chance,
@@ -270,18 +268,9 @@ impl Work {
         Ok(())
     }
 
-    /// A place for later use. Nobody stands there.
-    ///
-    /// # Errors
-    ///
-    /// Where there is no memory for it.
-    pub(crate) fn spare(&mut self, alloc: Global, player: &Player) -> Result<Place, AllocError>
-        ensures { self.new ≡ record self.old { spares = self.new.spares } }
-    {
-        match self.spares.pop() {
-            Some(place) => Ok(place),
-            None => Place::first(alloc, player),
-        }
+    /// How many states wait.
+    pub(crate) fn waiting(&self) -> usize {
+        self.states.len().saturating_add(self.others.len())
     }
 
     /// Puts in plays that stand at one place: together with those that stand at the same place, where
@@ -300,7 +289,6 @@ impl Work {
         };
         if other.place.is_same(&waiting.place) {
             other.join(alloc, &waiting)?;
-            let _ = self.spares.push(waiting.place);
             return Ok(());
         }
         self.others.push(waiting)?;

@@ -1,6 +1,6 @@
 // This file tests tables of chances, also with writers that fail and where memory is refused.
 
-use ptb_chances::{chances_text, write_chances};
+use ptb_chances::{Unwatched, chances_text, write_chances};
 use ptb_machine::{Line, ReadFault, Rules, ScreenFault, read_lines};
 use ptb_text::{Device, LoadFault, Program, load};
 use std::alloc::Global;
@@ -127,7 +127,7 @@ fn rules_of(row: &Row) -> Rules {
 // The bytes of a table; or why there are none.
 fn table_of(alloc: Global, row: &Row) -> Result<Vec<u8>, &'static str> {
     let (program, lines) = loaded(alloc, row.text, row.input)?;
-    match chances_text(alloc, &program, &lines, rules_of(row)) {
+    match chances_text(alloc, &program, &lines, rules_of(row), &Unwatched) {
         Ok(text) => Ok(text),
         Err(_) => Err(OUT_OF_MEMORY),
     }

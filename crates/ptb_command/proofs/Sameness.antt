@@ -1,9 +1,8 @@
 -- This file proves that values are the same where their parts are.
--- Main lemma: `same_registers`.
+-- Main lemma: `same_reverse`.
 use Rattle.std.proofs.Common.{◌≡◌, ◌∙◌, List, reverse, sym, ap}
 use Rattle.std.proofs.lemmas.List.{reverse-reverse}
 use Rattle.ptb_command.specs.declared.location.Location.{Location}
-use Rattle.ptb_command.specs.declared.registers.Registers.{Registers}
 use Rattle.ptb_command.specs.declared.stack.Open.{Open}
 use Rattle.ptb_command.specs.declared.stack.OpenLoop.{OpenLoop}
 
@@ -12,9 +11,6 @@ same_location x y statement at = λ i. record { statement = statement i; at = at
 
 pub same_loop : (x y : OpenLoop) → x.back ≡ y.back → x.letter ≡ y.letter → x.limit ≡ y.limit → x.step ≡ y.step → x ≡ y
 same_loop x y back letter limit step = λ i. record { back = back i; letter = letter i; limit = limit i; step = step i }
-
-pub same_registers : (x y : Registers) → x.place ≡ y.place → x.store ≡ y.store → x.stack ≡ y.stack → x ≡ y
-same_registers x y place store stack = λ i. record { place = place i; store = store i; stack = stack i }
 
 -- lists are the same where they are the same read from the end
 pub same_reverse : (xs ys : List Open) → reverse xs ≡ reverse ys → xs ≡ ys

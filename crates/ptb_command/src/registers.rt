@@ -2,7 +2,6 @@
 // and what is open.
 
 ghost use Rattle.std.specs.Prelude.{◌≡◌, ℕ, ℤ, List, true, false, Option, IfOk, IsOk, OnOk, OnErr};
-ghost use Rattle.std.specs.Prelude.{◌↔◌, IsTrue};
 ghost use Rattle.ptb_command.specs.Configuration.{configuration};
 ghost use Rattle.ptb_command.specs.Representation.{Represents};
 ghost use Rattle.ptb_command.specs.State.{first_state};
@@ -25,18 +24,6 @@ pub struct Registers {
     pub store: Store,
     /// The open loops and calls.
     pub stack: Stack,
-}
-
-// Whether two places are the same, if there are places.
-fn same_place(one: Option<Location>, other: Option<Location>) -> bool
-    ensures { IsTrue result ↔ (one ≡ other) }
-{
-    match (one, other) {
-        (None, None) => true,
-        (Some(one), Some(other)) => one.is_same(other),
-        (None, Some(_)) => false,
-        (Some(_), None) => false,
-    }
 }
 
 impl Registers {
@@ -90,29 +77,5 @@ impl Registers {
         self.stack.copy_from(&other.stack);
         self.place = other.place;
         Ok(())
-    }
-
-    /// Whether other registers hold the same.
-    #[tactic(auto, using(crate::proofs::Sameness::same_registers))]
-    pub fn is_same(&self, other: &Registers) -> bool
-        ensures { IsTrue result ↔ (self.now ≡ other.now) }
-    {
-        same_place(self.place, other.place)
-            && self.stack.is_same(&other.stack)
-            && self.store.is_same(&other.store)
-    }
-
-    /// A number that is the same for registers that hold the same. Others seldom have it, too.
-    pub fn hash(&self) -> u64 {
-        let place = match self.place {
-            Some(place) => place.hash().wrapping_add(1),
-            None => 0,
-        };
-        self.store
-            .hash()
-            .wrapping_mul(0x9E37_79B9_7F4A_7C15)
-            .wrapping_add(self.stack.hash())
-            .wrapping_mul(0x9E37_79B9_7F4A_7C15)
-            .wrapping_add(place)
     }
 }

@@ -55,7 +55,7 @@ impl Default for Open {
 #[derive(Drop)]
 pub struct Stack {
     // newest last
-    opens: ArrayVec<Open, NESTING_LIMIT>,
+    pub(crate) opens: ArrayVec<Open, NESTING_LIMIT>,
 }
 
 impl Model for Stack {
@@ -92,34 +92,6 @@ impl Stack {
     {
         self.opens.clear();
         let _ = self.opens.try_extend_from_slice(other.opens.as_slice());
-    }
-
-    /// Whether the same loops and calls are open in another stack.
-    pub fn is_same(&self, other: &Stack) -> bool
-        ensures { IsTrue result ↔ (self.now ≡ other.now) }
-    {
-        let opens = self.opens.as_slice();
-        let others = other.opens.as_slice();
-        same_opens(opens, others)
-    }
-
-    /// A number that is the same for stacks that hold the same. Others may have it, too.
-    pub fn hash(&self) -> u64 {
-        let mut sum = self.opens.len() as u64;
-        for open in self.opens.as_slice() {
-            let (back, letter, value) = match *open {
-                Open::Call(back) => (back, 0, 0),
-                Open::Loop(item) => (item.back, item.letter.index() as u64, item.limit),
-            };
-            sum = sum
-                .wrapping_mul(0x9E37_79B9_7F4A_7C15)
-                .wrapping_add(letter)
-                .wrapping_mul(0x9E37_79B9_7F4A_7C15)
-                .wrapping_add(u64::from(value.unsigned_abs()))
-                .wrapping_mul(0x9E37_79B9_7F4A_7C15)
-                .wrapping_add(back.hash());
-        }
-        sum
     }
 
     /// Whether nothing is open.
@@ -328,8 +300,27 @@ fn same_open(one: Open, other: Open) -> bool
     }
 }
 
+// A number that is the same for the same loops and calls. Others may have it, too.
+pub(crate) fn hash_of_opens(opens: &[Open]) -> u64 {
+    let mut sum = opens.len() as u64;
+    for open in opens {
+        let (back, letter, value) = match *open {
+            Open::Call(back) => (back, 0, 0),
+            Open::Loop(item) => (item.back, item.letter.index() as u64, item.limit),
+        };
+        sum = sum
+            .wrapping_mul(0x9E37_79B9_7F4A_7C15)
+            .wrapping_add(letter)
+            .wrapping_mul(0x9E37_79B9_7F4A_7C15)
+            .wrapping_add(u64::from(value.unsigned_abs()))
+            .wrapping_mul(0x9E37_79B9_7F4A_7C15)
+            .wrapping_add(back.hash());
+    }
+    sum
+}
+
 // Whether loops and calls are the same as others.
-fn same_opens(opens: &[Open], others: &[Open]) -> bool
+pub(crate) fn same_opens(opens: &[Open], others: &[Open]) -> bool
     ensures { IsTrue result ↔ (opens.now ≡ others.now) }
 {
     if opens.len() != others.len() {

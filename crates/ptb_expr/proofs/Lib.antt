@@ -8,6 +8,7 @@ pub mod Spelling
 pub mod Taking
 pub mod Uniqueness
 pub mod Zeros
+pub mod WithZeros
 pub mod ValueReads
 pub mod Stepping
 pub mod Written

@@ -1,7 +1,7 @@
 -- This file proves what a store of values that are 0 from some place on comes to.
 -- Main lemmas: `zeros_stored` and `zeros_copied`.
 use Rattle.std.specs.Prelude.{◌≡◌, ◌≤◌, ◌+◌, ◌-◌, ℕ, ℤ, List, pos, length, take, drop, replicate, ◌++◌, slice_set}
-use Rattle.std.proofs.Common.{◌∙◌, sym, ap, arith}
+use Rattle.std.proofs.Common.{arith}
 use Rattle.std.proofs.lemmas.List.{drop-drop, drop-replicate, drop-set-lt, take-append-drop, length-set}
 use Rattle.ptb_expr.specs.Store.{IsZeroFrom}
 
@@ -24,9 +24,3 @@ pub zeros_copied : (m n k : ℕ) (xs ys : List ℤ) → n ≤ m → k ≤ m → 
     → take m ys ++ drop m xs ≡ ys
 zeros_copied m n k xs ys a b zeros others same =
     rw (zeros_behind m n xs a zeros, same) (rw (zeros_behind m k ys b others) at (take-append-drop m ys))
-
--- values are the same where those in front are
-pub fronts_same : (m n k : ℕ) (xs ys : List ℤ) → n ≤ m → k ≤ m → IsZeroFrom n xs → IsZeroFrom k ys → length xs ≡ length ys
-    → take m xs ≡ take m ys → xs ≡ ys
-fronts_same m n k xs ys a b zeros others same front =
-    sym (take-append-drop m xs) ∙ ap (λ l. l ++ drop m xs) front ∙ zeros_copied m n k xs ys a b zeros others same

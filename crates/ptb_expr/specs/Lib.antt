@@ -15,3 +15,4 @@ pub use Rattle.ptb_words.specs.Finding
 pub mod Stepping
 pub mod Translation
 pub mod Short
+pub mod Saved

@@ -1,7 +1,7 @@
 // This file has the values of the variables A to Z and of the array @, and what names one of them.
 
 ghost use Rattle.std.specs.Prelude.{◌≡◌, ◌≤◌, ℕ, ℤ, pos, ◌≤ℤ◌, IfOk, IsOk, OnOk, OnErr};
-ghost use Rattle.std.specs.Prelude.{◌++◌, length, take, drop, IsTrue, ◌↔◌};
+ghost use Rattle.std.specs.Prelude.{◌++◌, length, take, drop};
 ghost use Rattle.ptb_expr.specs.Store.{value_at, with_value, index_of, element_of, with_element};
 ghost use Rattle.ptb_expr.specs.Store.{empty_cells};
 
@@ -22,11 +22,11 @@ pub enum Target {
 /// The values of the variables A to Z, and of the array `@` from index 0 to half of SIZE.
 #[derive(Drop)]
 pub struct Store {
-    size: i16,
-    values: [i16; 26],
-    elements: Vec<i16>,
+    pub(crate) size: i16,
+    pub(crate) values: [i16; 26],
+    pub(crate) elements: Vec<i16>,
     /// How many of the first elements a copy takes over: those behind them are 0.
-    used: usize,
+    pub(crate) used: usize,
 }
 
 // Takes over as many of the first values of others.
@@ -38,18 +38,8 @@ fn copy_front(values: &mut [i16], others: &[i16], count: usize)
     values[..count].copy_from_slice(&others[..count]);
 }
 
-// Whether as many of the first values are the same as those of others.
-fn is_same_front(values: &[i16], others: &[i16], count: usize) -> bool
-    requires within { count ≤ length values.now }
-    requires others { count ≤ length others.now }
-    ensures { IsTrue result ↔ (take count values.now ≡ take count others.now) }
-{
-    let (front, others) = (&values[..count], &others[..count]);
-    front == others
-}
-
 // Mixes values into a number. Zeros at the end change nothing.
-fn mixed(values: &[i16], start: u64) -> u64 {
+pub(crate) fn mixed(values: &[i16], start: u64) -> u64 {
     let mut sum = start;
     let mut factor = start | 1;
     for value in values {
@@ -130,23 +120,6 @@ impl Store {
         copy_front(&mut self.elements, &other.elements, used);
         self.used = other.used;
         Ok(())
-    }
-
-    /// Whether another store has the same SIZE and holds the same values.
-    pub fn is_same(&self, other: &Store) -> bool
-        ensures { IsTrue result ↔ (self.now ≡ other.now) }
-    {
-        if other.size != self.size {
-            return false;
-        }
-        let count = self.used.max(other.used);
-        self.values == other.values && is_same_front(&self.elements, &other.elements, count)
-    }
-
-    /// A number that is the same for stores that hold the same. Others seldom have it, too.
-    pub fn hash(&self) -> u64 {
-        let variables = mixed(&self.values, 1);
-        mixed(&self.elements[..self.used], variables)
     }
 
     /// SIZE.

@@ -5,8 +5,8 @@ ghost use Rattle.ptb_words.specs.Words.{is_letter};
 
 use crate::shared::{cursor_in_front, expect_same};
 use ptb_expr::{
-    Chooser, Fault, FaultKind, Listed, Operator, Pause, Seeded, ShortValue, Step, Steps, Stop,
-    Store, Target, answer_to, evaluate, plain_value, read_value, target,
+    Chooser, Fault, FaultKind, Listed, Operator, Pause, SavedStore, Seeded, ShortValue, Step,
+    Steps, Stop, Store, Target, answer_to, evaluate, plain_value, read_value, target,
 };
 use ptb_words::{Cursor, Letter};
 use rand_core::utils::NextWord;
@@ -417,16 +417,67 @@ fn stored(rt: &impl Abort, alloc: Global, size: u8, values: &[(u8, i16)]) -> Sto
     store
 }
 
-// Stores that hold the same have one hash. Of these, those that differ in a value have two.
+// What is saved of a store.
+fn saved(alloc: Global, store: &Store) -> Result<SavedStore, AllocError> {
+    let mut saved = SavedStore::new(alloc);
+    saved.save(store)?;
+    Ok(saved)
+}
+
+// Saved stores that hold the same have one hash. Of these, those that differ in a value have two.
 #[test]
 fn same_values(rt: HostRuntime) {
     for &((size, values), (other_size, others), same) in PAIRS {
         let store = stored(&rt, rt.alloc(), size, values);
         let other = stored(&rt, rt.alloc(), other_size, others);
-        expect_same(&rt, "same", store.is_same(&other), same);
+        let one = saved(rt.alloc(), &store).expect(&rt, "memory");
+        let other = saved(rt.alloc(), &other).expect(&rt, "memory");
+        let found = (one.is_same(&other), other.is_same(&one));
+        expect_same(&rt, "same", found, (same, same));
         if size == other_size {
-            expect_same(&rt, "hash", store.hash() == other.hash(), same);
+            expect_same(&rt, "hash", one.hash() == other.hash(), same);
         }
+    }
+}
+
+// A store has the values of another one.
+fn expect_values(rt: &impl Abort, store: &Store, other: &Store) {
+    expect_same(rt, "SIZE", store.size(), other.size());
+    expect_same(rt, "variables", store.variables(), other.variables());
+    for index in 0..6 {
+        expect_same(rt, "element", store.element(index), other.element(index));
+    }
+}
+
+// Whatever a store held, it takes over what was saved of another one.
+#[test]
+fn restored_values(rt: HostRuntime) {
+    for &((size, values), (other_size, others), _) in PAIRS {
+        let store = stored(&rt, rt.alloc(), size, values);
+        let mut other = stored(&rt, rt.alloc(), other_size, others);
+        let saved = saved(rt.alloc(), &store).expect(&rt, "memory");
+        let restored = other.restore(rt.alloc(), &saved);
+        expect_same(&rt, "restored", restored, Ok(()));
+        expect_values(&rt, &other, &store);
+    }
+}
+
+// Passes whichever of its allocations is refused: a store keeps its values then.
+#[test]
+fn refused_values(rt: HostRuntime) {
+    let Ok(mut store) = Store::new(rt.alloc(), 5) else {
+        return;
+    };
+    store.set_element(2, 12);
+    let Ok(saved) = saved(rt.alloc(), &store) else {
+        return;
+    };
+    if let Ok(mut other) = Store::new(rt.alloc(), 9) {
+        let wanted = match other.restore(rt.alloc(), &saved) {
+            Ok(()) => Ok((17, 7)),
+            Err(AllocError) => Ok((9, 7)),
+        };
+        expect_worth(&rt, &other, "@(2)+S.", &[], wanted, 0);
     }
 }
 

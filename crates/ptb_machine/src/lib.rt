@@ -5,7 +5,8 @@
 //! `specs/Play`: the state after it, what it shows, the lines and answers it takes), on `Player::step`
 //! (the same by the code of the program, without its text), on `Player::advance` (some turns that touch
 //! no device), on `run` (all turns), on `run_to_end` (the same, and the line at which a limit
-//! stopped it), on `run_laws` (answers are taken one by one, a limited number of them), and on the
+//! stopped it), on `SavedMachine` (where a machine stands, in little memory, to which it can be
+//! restored), on `run_laws` (answers are taken one by one, a limited number of them), and on the
 //! devices of the crate below, which it passes on.
 #![tactic(auto)]
 
@@ -16,6 +17,7 @@ mod player;
 mod reports;
 mod run_end;
 mod running;
+mod saved;
 mod stop_result;
 
 pub use fault::RunFault;
@@ -31,3 +33,4 @@ pub use ptb_devices::{
 pub use reports::report;
 pub use run_end::RunEnd;
 pub use running::{run, run_to_end};
+pub use saved::SavedMachine;

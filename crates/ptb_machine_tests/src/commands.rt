@@ -2,8 +2,8 @@
 
 use crate::shared::{MEMORY, execute_first, expect_same, fault, letter, plain_rules};
 use ptb_command::{
-    Io, Location, OpenLoop, Registers, Stack, Stop, beginning_of, first_place, is_zero, line_at,
-    next_command, place_after, put,
+    Io, Location, OpenLoop, Registers, SavedRegisters, Stack, Stop, beginning_of, first_place,
+    is_zero, line_at, next_command, place_after, put,
 };
 use ptb_devices::{Line, Lines, TextScreen};
 use ptb_expr::{Listed, Pause, Store};
@@ -328,31 +328,58 @@ fn same_places(rt: HostRuntime) {
     }
 }
 
-// Whether two registers hold the same, whichever is asked, and have one hash.
-fn expect_likeness(rt: &impl Abort, what: &str, one: &Registers, other: &Registers, same: bool) {
-    let found = (one.is_same(other), other.is_same(one));
-    expect_same(rt, what, found, (same, same));
-    expect_same(rt, what, one.hash() == other.hash(), same);
+// What is saved of registers.
+fn saved(alloc: Global, registers: &Registers) -> Result<SavedRegisters, AllocError> {
+    let mut saved = SavedRegisters::new(alloc);
+    saved.save(registers)?;
+    Ok(saved)
 }
 
-// Registers differ from a copy of which one part is changed, and are the same once it is put back.
-fn expect_differences(rt: &impl Abort, registers: &Registers, copy: &mut Registers) {
-    expect_likeness(rt, "copy", registers, copy, true);
+// Whether two registers hold the same, whichever is asked, and have one hash.
+fn expect_likeness(
+    rt: &impl Abort,
+    alloc: Global,
+    one: &Registers,
+    other: &Registers,
+    (what, same): (&str, bool),
+) -> Result<(), AllocError> {
+    let one = saved(alloc, one)?;
+    let other = saved(alloc, other)?;
+    let found = (one.is_same(&other), other.is_same(&one));
+    expect_same(rt, what, found, (same, same));
+    expect_same(rt, what, one.hash() == other.hash(), same);
+    Ok(())
+}
+
+// Registers differ from a copy of which one part is changed, and are the same once it is put back, or
+// once what was saved is restored.
+fn expect_differences(
+    rt: &impl Abort,
+    alloc: Global,
+    registers: &Registers,
+    copy: &mut Registers,
+) -> Result<(), AllocError> {
+    expect_likeness(rt, alloc, registers, copy, ("copy", true))?;
     copy.place = None;
-    expect_likeness(rt, "no place", registers, copy, false);
+    expect_likeness(rt, alloc, registers, copy, ("no place", false))?;
     copy.place = Some(Location {
         statement: 0,
         at: 1,
     });
-    expect_likeness(rt, "place", registers, copy, false);
+    expect_likeness(rt, alloc, registers, copy, ("place", false))?;
     copy.place = registers.place;
     copy.store.set(letter(b'A'), 8);
-    expect_likeness(rt, "store", registers, copy, false);
+    expect_likeness(rt, alloc, registers, copy, ("store", false))?;
     copy.store.set(letter(b'A'), 7);
     expect_same(rt, "loop", open(&mut copy.stack, b'A'), true);
-    expect_likeness(rt, "stack", registers, copy, false);
+    expect_likeness(rt, alloc, registers, copy, ("stack", false))?;
     copy.stack.close_newest();
-    expect_likeness(rt, "put back", registers, copy, true);
+    expect_likeness(rt, alloc, registers, copy, ("put back", true))?;
+    copy.place = None;
+    copy.store.set(letter(b'A'), 8);
+    copy.stack.close_newest();
+    copy.restore(alloc, &saved(alloc, registers)?)?;
+    expect_likeness(rt, alloc, registers, copy, ("restored", true))
 }
 
 // Passes whichever of its allocations is refused.
@@ -362,7 +389,7 @@ fn same_registers(rt: HostRuntime) {
         return;
     };
     if let Ok((registers, mut copy)) = copied(&rt, rt.alloc(), &program) {
-        expect_differences(&rt, &registers, &mut copy);
+        let _ = expect_differences(&rt, rt.alloc(), &registers, &mut copy);
     }
 }
 

@@ -6,10 +6,11 @@ ghost use Rattle.ptb_machine_tests.specs.Programs.{IsCounting, IsPrinting};
 use crate::shared::{expect_same, loaded, plain_rules};
 use ptb_expr::Listed;
 use ptb_machine::{
-    Ending, Lines, Machine, ReaderLines, Rules, RunEnd, RunFault, TextScreen, run, run_to_end,
+    Ending, Lines, Machine, ReaderLines, Rules, RunEnd, RunFault, SavedMachine, TextScreen, run,
+    run_to_end,
 };
 use ptb_text::{Device, Program};
-use std::alloc::Global;
+use std::alloc::{AllocError, Global};
 use std::process::Abort;
 use std::test::Fail;
 
@@ -447,31 +448,50 @@ const PAIRS: &[(&[u8], &[u8], bool)] = &[
     (b"10 P.11;GOTO 10", b"10 P.1,;GOTO 10", false),
 ];
 
+// What is saved of a machine.
+fn saved(alloc: Global, machine: &Machine) -> Result<SavedMachine, AllocError> {
+    let mut saved = SavedMachine::new(alloc);
+    saved.save(machine)?;
+    Ok(saved)
+}
+
 #[test]
 fn same_machines(rt: HostRuntime) -> Result<(), Fail> {
     for &(text, other, same) in PAIRS {
-        let machine = after_two(&rt, rt.alloc(), text)?;
-        let other = after_two(&rt, rt.alloc(), other)?;
+        let machine = saved(rt.alloc(), &after_two(&rt, rt.alloc(), text)?)?;
+        let other = saved(rt.alloc(), &after_two(&rt, rt.alloc(), other)?)?;
         let found = (machine.is_same(&other), other.is_same(&machine));
         expect_same(&rt, "same", found, (same, same));
         expect_same(&rt, "hash", machine.hash() == other.hash(), same);
+        expect_same(&rt, "steps", (machine.steps(), other.steps()), (2, 2));
     }
     Ok(())
 }
 
-// A machine differs from one that has done a command more, and from one that is over.
+// Whether two machines are saved as the same.
+fn is_same(alloc: Global, machine: &Machine, other: &Machine) -> Result<bool, AllocError> {
+    let machine = saved(alloc, machine)?;
+    let other = saved(alloc, other)?;
+    Ok(machine.is_same(&other))
+}
+
+// A machine differs from one that has done a command more, and from one that is over. It is restored
+// from what was saved.
 fn expect_differences(rt: &impl Abort, alloc: Global, program: &Program) -> Result<(), Fail> {
     let mut screen = TextScreen::new(alloc);
     let machine = Machine::new(alloc, program)?;
+    let saved = saved(alloc, &machine)?;
     let mut copy = machine.copy(alloc)?;
-    expect_same(rt, "copy", machine.is_same(&copy), true);
+    expect_same(rt, "copy", is_same(alloc, &machine, &copy)?, true);
     expect_step(rt, &mut copy, program, 9, &mut screen, (Ok(None), 1, b""));
-    expect_same(rt, "steps", machine.is_same(&copy), false);
+    expect_same(rt, "steps", is_same(alloc, &machine, &copy)?, false);
     copy.copy_from(alloc, &machine)?;
-    expect_same(rt, "copied", machine.is_same(&copy), true);
+    expect_same(rt, "copied", is_same(alloc, &machine, &copy)?, true);
     let over = Ok(Some(Ending::Limit));
     expect_step(rt, &mut copy, program, 0, &mut screen, (over, 0, b""));
-    expect_same(rt, "over", machine.is_same(&copy), false);
+    expect_same(rt, "over", is_same(alloc, &machine, &copy)?, false);
+    copy.restore(alloc, &saved)?;
+    expect_same(rt, "restored", is_same(alloc, &machine, &copy)?, true);
     Ok(())
 }
 

@@ -1,8 +1,9 @@
 // This file tests the control stack: what FOR, NEXT, GOSUB and RETURN leave open.
 
 use crate::shared::{expect_same, letter};
-use ptb_command::{Location, NESTING_LIMIT, OpenLoop, Stack};
+use ptb_command::{Location, NESTING_LIMIT, OpenLoop, SavedStack, Stack};
 use ptb_words::Letter;
+use std::alloc::Global;
 use std::process::Abort;
 
 // A loop of this variable.
@@ -177,9 +178,24 @@ fn changed(script: &str) -> Stack {
     stack
 }
 
+// What is saved of a stack.
+fn saved(rt: &impl Abort, alloc: Global, stack: &Stack) -> SavedStack {
+    let mut saved = SavedStack::new(alloc);
+    expect_same(rt, "saved", saved.save(stack), Ok(()));
+    saved
+}
+
 // Whether two stacks hold the same, whichever is asked, and have one hash.
-fn expect_likeness(rt: &impl Abort, what: &str, one: &Stack, other: &Stack, same: bool) {
-    let found = (one.is_same(other), other.is_same(one));
+fn expect_likeness(
+    rt: &impl Abort,
+    alloc: Global,
+    one: &Stack,
+    other: &Stack,
+    (what, same): (&str, bool),
+) {
+    let one = saved(rt, alloc, one);
+    let other = saved(rt, alloc, other);
+    let found = (one.is_same(&other), other.is_same(&one));
     expect_same(rt, what, found, (same, same));
     expect_same(rt, what, one.hash() == other.hash(), same);
 }
@@ -204,7 +220,18 @@ const PAIRS: &[(&str, &str, bool)] = &[
 #[test]
 fn same_stacks(rt: HostRuntime) {
     for &(script, other, same) in PAIRS {
-        expect_likeness(&rt, script, &changed(script), &changed(other), same);
+        let (one, other) = (changed(script), changed(other));
+        expect_likeness(&rt, rt.alloc(), &one, &other, (script, same));
+    }
+}
+
+// Whatever is open in a stack, it takes over what was saved of another one.
+#[test]
+fn restored_stacks(rt: HostRuntime) {
+    for &(script, other, _) in PAIRS {
+        let mut stack = changed(other);
+        stack.restore(&saved(&rt, rt.alloc(), &changed(script)));
+        expect_likeness(&rt, rt.alloc(), &stack, &changed(script), (script, true));
     }
 }
 
@@ -236,11 +263,13 @@ fn looping(rt: &impl Abort, place: (usize, usize), byte: u8, limit: i16, step: i
 fn same_loops(rt: HostRuntime) {
     for &(place, byte, limit, step, same) in LOOPS {
         let stack = looping(&rt, place, byte, limit, step);
-        expect_likeness(&rt, "loop", &changed("A"), &stack, same);
+        expect_likeness(&rt, rt.alloc(), &changed("A"), &stack, ("loop", same));
     }
     // the hash leaves the step out
     let stack = looping(&rt, (1, 2), b'A', 9, -1);
-    expect_same(&rt, "step", changed("A").is_same(&stack), false);
+    let one = saved(&rt, rt.alloc(), &changed("A"));
+    let other = saved(&rt, rt.alloc(), &stack);
+    expect_same(&rt, "step", one.is_same(&other), false);
 }
 
 // A place to which a call returns, and whether it is byte 4 of statement 3.
@@ -252,6 +281,6 @@ fn same_calls(rt: HostRuntime) {
         let mut stack = Stack::new();
         let opened = stack.open_call(Location { statement, at });
         expect_same(&rt, "opened", opened, true);
-        expect_likeness(&rt, "call", &changed("("), &stack, same);
+        expect_likeness(&rt, rt.alloc(), &changed("("), &stack, ("call", same));
     }
 }

@@ -1,6 +1,6 @@
 // This file tests fractions: sums of products of 1/bound, in lowest terms.
 
-use crate::shared::{decimals, expect_same};
+use crate::shared::{decimals, expect_number, expect_same};
 use ptb_numbers::Fraction;
 use std::alloc::{AllocError, Global};
 use std::process::Abort;
@@ -63,6 +63,37 @@ fn expect_sums(rt: &impl Abort, alloc: Global) -> Result<(), AllocError> {
 #[test]
 fn sums_in_lowest_terms(rt: HostRuntime) {
     expect_sums(&rt, rt.alloc()).expect(&rt, "memory");
+}
+
+// The bounds of a run, a word, and the product of the run's chance and the word, rounded down.
+const PRODUCTS: &[(&'static [u32], u32, &'static str)] = &[
+    (&[], 0, "0"),
+    (&[], 1_000_000_000, "1000000000"),
+    (&[3], 1_000_000_000, "333333333"),
+    (&[3, 7], 41, "1"),
+    (&[3, 7], 42, "2"),
+    (&[6, 6], 35, "0"),
+    (&[2; 31], 4_294_967_295, "1"),
+    (&[2; 64], 4_294_967_295, "0"),
+];
+
+fn expect_products(rt: &impl Abort, alloc: Global) -> Result<(), AllocError> {
+    for &(words, word, wanted) in PRODUCTS {
+        let product = chance(alloc, words)?.rounded_product(alloc, word)?;
+        expect_number(rt, alloc, "a product", &product, wanted)?;
+    }
+    Ok(())
+}
+
+#[test]
+fn products_are_rounded_down(rt: HostRuntime) {
+    expect_products(&rt, rt.alloc()).expect(&rt, "memory");
+}
+
+// Passes whichever of its allocations is refused.
+#[test]
+fn refused_products(rt: HostRuntime) {
+    let _ = expect_products(&rt, rt.alloc());
 }
 
 // Divides and adds, and once more where memory was refused: the fraction is then as it was.

@@ -6,7 +6,7 @@ ghost use Rattle.ptb_options.specs.declared.request.Mode.TheVariants.{Chances};
 ghost use Rattle.ptb_serve.specs.Loaded.{ReadsInput, RefusesListIn, ServesProgram, TellsFailures};
 
 use crate::note::Note;
-use ptb_chances::write_chances;
+use ptb_chances::{Watch, write_chances};
 use ptb_machine::{Line, read_lines};
 use ptb_options::Request;
 use ptb_text::{Program, Read, Write};
@@ -15,14 +15,15 @@ use std::alloc::Global;
 /// Writes the table of a program's runs: each result that a run has, with the sum of the chances of
 /// its runs in lowest terms, and their number. The status is 0.
 ///
-/// Nothing is written until the input was read to its end and the table is complete.
+/// Nothing is written until the input was read to its end and the table is complete. Until then, the
+/// writer may show how far it is.
 ///
 /// # Errors
 ///
 /// [`Note::InputUnread`] where the input could not be read or has more than 16,777,216 bytes, and
 /// [`Note::OutOfMemory`] where a growth was refused memory: nothing was written.
 /// [`Note::Unwritten`] where the writer failed: a prefix of the table was written.
-pub fn list_table<R: Read, W: Write>(
+pub fn list_table<R: Read, W: Write + Watch>(
     alloc: Global,
     request: &Request,
     program: &Program,
@@ -46,7 +47,7 @@ pub fn list_table<R: Read, W: Write>(
 }
 
 // Writes the table of a program's runs on the lines of an input that was read.
-fn table_on<W: Write>(
+fn table_on<W: Write + Watch>(
     alloc: Global,
     request: &Request,
     program: &Program,

@@ -21,6 +21,7 @@ use crate::list_mismatch::ListMismatch;
 use crate::note::Note;
 use crate::sampled::list_sample;
 use crate::splitting::list_shares;
+use ptb_chances::Watch;
 use ptb_explore::Sample;
 use ptb_machine::{Ending, RunEnd, RunFault};
 use ptb_options::{Mode, Request};
@@ -72,7 +73,8 @@ impl Outcome {
 /// Serves a request: the program is loaded from one reader, and is run on the lines of another, or
 /// all its runs or those of a sample are reported, or the lists that split its runs or the table of
 /// their chances are written, or it or the mistakes in its text are listed. What it shows, the reports,
-/// the lists, the table or the listing go to the writer.
+/// the lists, the table or the listing go to the writer. While a table is counted, the writer may show
+/// how far it is.
 ///
 /// The program is loaded before the input is read: a text that is refused or can't be read leaves the
 /// input alone. So does a listing of a program's text or of its mistakes. At most 1,048,577 bytes are
@@ -89,7 +91,7 @@ impl Outcome {
 /// what the run shows up to a question where it is a run by a seed. With [`Note::InputUnread`] what a
 /// run shows before it asks for the line that can't be read was written. With every other note nothing
 /// was written. A write that fails always gives [`Note::Unwritten`].
-pub fn serve<P: Read, R: Read, W: Write>(
+pub fn serve<P: Read, R: Read, W: Write + Watch>(
     alloc: Global,
     request: &Request,
     program: &mut P,
@@ -119,7 +121,7 @@ pub fn serve<P: Read, R: Read, W: Write>(
 }
 
 // Serves a request for a program that was loaded.
-fn serve_program<R: Read, W: Write>(
+fn serve_program<R: Read, W: Write + Watch>(
     alloc: Global,
     request: &Request,
     program: &Program,

@@ -9,7 +9,7 @@ use Rattle.ptb_chances.proofs.Tables.{table_is}
 use Rattle.ptb_chances.proofs.chances.chances_text.Goals as goal
 
 pub returns : goal.returns
-returns c =
+returns g c =
     let game = play c.args.program.now c.args.lines.now c.args.rules in
     let most = most_answers c.args.program.now c.args.lines.now c.args.rules.limit in
     c.in_ok-text.ensures.text

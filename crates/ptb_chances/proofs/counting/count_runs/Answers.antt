@@ -8,7 +8,7 @@ use Rattle.ptb_chances.proofs.Settling.{accounted_first, accounted_last, account
 use Rattle.ptb_chances.proofs.counting.count_runs.Goals as goal
 
 pub plans-init : goal.plans-init
-plans-init c =
+plans-init g c =
     let p = c.args.program.now in
     let input = c.args.lines.now in
     let by = c.args.rules in
@@ -20,11 +20,11 @@ plans-init c =
       player = same;
       lines = ap (λ (s : LineList). s.lines) c.new-3.ensures;
       rules = refl;
-      accounted = rw (c.new-4.ensures, x.1) first;
+      accounted = rw (c.new-5.ensures, x.1) first;
     }
 
 pub settle-requires : goal.settle-requires
-settle-requires c =
+settle-requires g c =
     let p = c.args.program.now in
     let input = c.args.lines.now in
     let by = c.args.rules in
@@ -34,14 +34,14 @@ settle-requires c =
     rw (i.player, i.lines, i.rules) (accounted_next p input by most l.counting.tally (standings l.counting.work) (standings c.next.new.self) (planned c.next.new.self.place c.in-Some.plan) c.in-Some.ensures.some i.accounted)
 
 pub plans-smaller : goal.plans-smaller
-plans-smaller c =
+plans-smaller g c =
     let l = c.plans in
     let i = l.invariant in
     less_there c.args.program.now l.counting.stage.player c.args.lines.now l.counting.stage.console.source.lines c.args.rules l.counting.stage.rules (standings l.counting.work) (standings c.next.new.self) (standings c.settle.new.self.work)
     (planned c.next.new.self.place c.in-Some.plan) i.player i.lines i.rules c.in-Some.ensures.some c.in_ok-settle.ensures.less
 
 pub plans-preserved : goal.plans-preserved
-plans-preserved c =
+plans-preserved g c =
     let l = c.plans in
     let i = l.invariant in
     record {
@@ -52,7 +52,7 @@ plans-preserved c =
     }
 
 pub returns-in_default : goal.returns-in_default
-returns-in_default c =
+returns-in_default g c =
     let p = c.args.program.now in
     let input = c.args.lines.now in
     let by = c.args.rules in

@@ -5,7 +5,7 @@ use Rattle.ptb_chances.specs.Waiting.{Accounted, load, standings}
 use Rattle.ptb_chances.proofs.counting.count_runs.Given as goal
 
 abbrev pub invariant-plans : goal.invariant-plans
-invariant-plans l = record {
+invariant-plans g l = record {
   player : l.counting.stage.player ≡ l.fn.program;
   lines : l.counting.stage.console.source.lines ≡ l.fn.lines;
   rules : l.counting.stage.rules ≡ l.fn.rules;
@@ -13,4 +13,4 @@ invariant-plans l = record {
 }
 
 abbrev pub decreases-plans : goal.decreases-plans
-decreases-plans l = load l.fn.rules.limit (most_answers l.fn.program l.fn.lines l.fn.rules.limit) (standings l.counting.work)
+decreases-plans g l = load l.fn.rules.limit (most_answers l.fn.program l.fn.lines l.fn.rules.limit) (standings l.counting.work)

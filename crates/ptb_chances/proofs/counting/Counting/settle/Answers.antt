@@ -1,8 +1,8 @@
 -- This file answers that all runs stay accounted for, and that less is left to be done.
-use Rattle.std.proofs.Common.{rules, List, ap, ◌≡◌, ◌<◌, subst, w16, FitsSigned, to_z-of_z}
+use Rattle.std.proofs.Common.{rules, ◌<◌, w16, FitsSigned, to_z-of_z}
 use Rattle.std.specs.Prelude.{unsigned_abs}
 use Rattle.ptb_machine.specs.Questions.{most_answers}
-use Rattle.ptb_chances.specs.Waiting.{Puts, Standing, gone_to, planned, standings}
+use Rattle.ptb_chances.specs.Waiting.{Puts, gone_to, planned, standings}
 use Rattle.ptb_chances.proofs.Loads.{load_asked, load_gone, load_some}
 use Rattle.ptb_chances.proofs.Settling.{asked_positive, one_opens, planned_less, settled_asked, settled_gone, settled_over}
 use Rattle.ptb_chances.proofs.counting.Counting.settle.Goals as goal
@@ -85,20 +85,16 @@ returns-in_ok-add-in-Goes-clause-counted c =
     let given = c.in_ok-played.ensures.plays.0 in
     let plays = rw c.in-Goes.is at c.in_ok-played.ensures.plays.1 in
     let goes = c.in_ok-played.ensures.goes c.in-Goes.is in
-    let same : standings c.spare.new.self ≡ standings s.work = ap standings c.spare.ensures in
     let before = c.play.new.self.before in
-    let put : Puts (standings s.work) (gone_to before.machine.value before.taken before.shown.items c.args.plan.chance c.args.plan.runs) (standings c.add.new.self) =
-    subst (λ (ws : List Standing). Puts ws (gone_to before.machine.value before.taken before.shown.items c.args.plan.chance c.args.plan.runs) (standings c.add.new.self)) same
-    (rw (c.at.ensures, c.replace-place.ensures.value) at c.in_ok-add-in-Goes.ensures) in
+    let put : Puts (standings s.work) (gone_to before.machine before.taken before.shown.items c.args.plan.chance c.args.plan.runs) (standings c.add.new.self) =
+    rw (c.at.ensures, c.replace-place.ensures.value) at c.in_ok-add-in-Goes.ensures in
     settled_gone p input by most w left s.tally c.requires _ _ _ _ plays goes.0 goes.2 put
 
 pub returns-in_ok-add-in-Goes-clause-less : goal.returns-in_ok-add-in-Goes-clause-less
 returns-in_ok-add-in-Goes-clause-less c =
     let s = c.args.self.now in
     let goes = c.in_ok-played.ensures.goes c.in-Goes.is in
-    let same : standings c.spare.new.self ≡ standings s.work = ap standings c.spare.ensures in
     let before = c.play.new.self.before in
-    let put : Puts (standings s.work) (gone_to before.machine.value before.taken before.shown.items c.args.plan.chance c.args.plan.runs) (standings c.add.new.self) =
-    subst (λ (ws : List Standing). Puts ws (gone_to before.machine.value before.taken before.shown.items c.args.plan.chance c.args.plan.runs) (standings c.add.new.self)) same
-    (rw (c.at.ensures, c.replace-place.ensures.value) at c.in_ok-add-in-Goes.ensures) in
+    let put : Puts (standings s.work) (gone_to before.machine before.taken before.shown.items c.args.plan.chance c.args.plan.runs) (standings c.add.new.self) =
+    rw (c.at.ensures, c.replace-place.ensures.value) at c.in_ok-add-in-Goes.ensures in
     load_gone s.stage.rules.limit (most_answers s.stage.player s.stage.console.source.lines s.stage.rules.limit) (standings s.work) _ (planned s.work.place c.args.plan) _ put goes.1

@@ -7,7 +7,7 @@ pub returns-clause-plays : goal.returns-clause-plays
 returns-clause-plays c = (
   c.play_plan.new.plan.given,
   λ S h.
-      let machine : c.args.place.now.machine.value ≡ c.copy_from.new.self = search rules in
+      let machine : c.args.place.now.machine ≡ c.restore.new.self = search rules in
       let taken : c.go.new.self.taken ≡ c.args.place.now.taken = search rules in
       let lines : c.go.new.self.lines ≡ c.args.self.now.console.source.lines = search rules in
       let shown : c.args.place.now.shown.items ≡ c.from_vec.result = search rules in

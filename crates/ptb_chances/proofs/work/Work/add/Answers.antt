@@ -19,7 +19,7 @@ returns-then-is_same c =
     let v = c.in-Some.other.now in
     let w = c.args.waiting in
     let joins = c.in_ok-join.ensures in
-    let same : (v.place.machine.value ≡ w.place.machine.value) × (v.place.taken ≡ w.place.taken) × (v.place.shown.items ≡ w.place.shown.items) =
+    let same : (v.place.machine ≡ w.place.machine) × (v.place.taken ≡ w.place.taken) × (v.place.shown.items ≡ w.place.shown.items) =
     c.if-is_same.ensures refl in
     put_with (map (planned self.place) self.plans.items) self.others.items self.states.entries c.key-key.result w v c.join.new.self _ (sym c.in-Some.ensures.value) ((c.get_mut.follows.holds c.join.new.self).0)
     (joined_there v w c.join.new.self same.0 same.1 same.2 joins.place joins.chance joins.positive joins.runs)
@@ -27,4 +27,4 @@ returns-then-is_same c =
 pub returns : goal.returns
 returns c =
     let self = c.args.self.now in
-    put_aside (map (planned self.place) self.plans.items) self.others.items self.states.entries c.key-key.result c.args.waiting c.in-Some.other.now c.push-2.new.self.items _ (sym c.in-Some.ensures.value) ((c.get_mut.follows.holds c.in-Some.other.now).0) c.in_ok-push.ensures.items
+    put_aside (map (planned self.place) self.plans.items) self.others.items self.states.entries c.key-key.result c.args.waiting c.in-Some.other.now c.push.new.self.items _ (sym c.in-Some.ensures.value) ((c.get_mut.follows.holds c.in-Some.other.now).0) c.in_ok-push.ensures.items

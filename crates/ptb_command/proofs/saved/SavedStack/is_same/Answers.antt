@@ -1,8 +1,8 @@
--- This file answers what is left to prove of stacks that are compared.
+-- This file answers what is left to prove of saved stacks that are compared.
 use Rattle.std.proofs.Common.{◌≡◌, ◌∙◌, List, reverse, sym, ap}
 use Rattle.ptb_command.specs.declared.stack.Open.{Open}
 use Rattle.ptb_command.proofs.Sameness.{same_reverse}
-use Rattle.ptb_command.proofs.stack.Stack.is_same.Goals as goal
+use Rattle.ptb_command.proofs.saved.SavedStack.is_same.Goals as goal
 
 pub returns : goal.returns
 returns c =
