@@ -1,4 +1,5 @@
 -- This file proves what values are that are saved without the zeros after them.
+-- Main lemmas: `same_saved` and `same_elements`.
 use Rattle.std.proofs.Common.{◌≡◌, ◌≤◌, ◌<◌, ◌+◌, ◌-◌, ◌∙◌, ◌++◌, ◌∷◌, [], ℕ, List, length, take, drop, replicate, zero, suc, refl, sym, ap, arith, append_assoc}
 use Rattle.std.specs.Prelude.{ℤ, pos, slice_set, unsigned_abs, ◌/◌}
 use Rattle.std.proofs.lemmas.List.{drop-append-le, length-append, length-drop, replicate-append-replicate, take-append-drop, take-append-le, take-replicate, take_at, drop_at}
