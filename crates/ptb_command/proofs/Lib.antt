@@ -54,3 +54,4 @@ pub mod Answering
 pub mod ShownParts
 pub mod Shortly
 pub mod Sameness
+pub mod KnownLoops

@@ -30,3 +30,4 @@ pub mod Literals
 pub mod Entries
 pub mod ShortForms
 pub mod Jumps
+pub mod KnownLoops

@@ -17,6 +17,7 @@ mod ending;
 mod execution;
 mod gathering;
 mod io;
+mod known_loop;
 mod laws;
 mod location;
 mod next;

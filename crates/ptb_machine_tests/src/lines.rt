@@ -83,16 +83,22 @@ fn expect_all_taken(rt: &impl Abort, all: &[Line]) -> Result<(), ReadFault> {
     Ok(())
 }
 
+// All lines are at hand.
+fn expect_all_ready(rt: &impl Abort, all: &[Line]) {
+    let mut lines = Lines::new(all);
+    for want in [&b"one"[..], b"", b"three"] {
+        expect_same(rt, "ready line", lines.take_ready(), Some(want));
+    }
+    expect_same(rt, "ready line", lines.take_ready(), None);
+}
+
 #[test]
 fn lines_in_memory(rt: HostRuntime) -> Result<(), Fail> {
     let all = three_lines(rt.alloc())?;
     expect_all_taken(&rt, &all)?;
+    expect_all_ready(&rt, &all);
     let mut lines = Lines::new(&all);
     assert!(rt; all.len() == 3);
-    for want in [&b"one"[..], b"", b"three"] {
-        expect_same(&rt, "ready line", lines.take_ready(), Some(want));
-    }
-    expect_same(&rt, "ready line", lines.take_ready(), None);
     lines.go(2);
     expect_next(&rt, &mut lines, Some(b"three"));
     expect_next(&rt, &mut lines, None);
