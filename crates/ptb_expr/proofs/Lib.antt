@@ -1,5 +1,6 @@
 -- This file names the files of lemmas.
 pub mod Evaluation
+pub mod Indices
 pub mod Marks
 pub mod OnlyNumber
 pub mod Parts

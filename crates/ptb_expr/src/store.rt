@@ -61,7 +61,7 @@ impl Model for Store {
 
     ghost invariant = { λ s. (length s.values ≡ 26) × (pos 0 ≤ℤ s.size)
         × (vec_len s.elements ≡ unsigned_abs s.size / 2 + 1)
-        × (s.used ≤ vec_len s.elements) × IsZeroFrom s.used s.elements.items };
+        × (s.used ≤ vec_len s.elements) × IsZeroFrom s.used s.elements.items × (s.size ≤ℤ pos 32767) };
 }
 
 impl Store {
@@ -170,14 +170,14 @@ impl Store {
     pub fn index(&self, index: i16) -> Result<i16, FaultKind>
         ensures { result ≡ index_of self.now.size index }
     {
+        // as an unsigned number, an index below 0 is past every array: one comparison is enough
+        if usize::from(index.cast_unsigned()) < self.elements.len() {
+            return Ok(index);
+        }
         if index < 0 {
             return Err(FaultKind::How);
         }
-        // the array has an element more than half of SIZE
-        if index as usize >= self.elements.len() {
-            return Err(FaultKind::Sorry);
-        }
-        Ok(index)
+        Err(FaultKind::Sorry)
     }
 
     /// The element at an index.
@@ -189,7 +189,7 @@ impl Store {
         ensures { result ≡ element_of self.now index }
     {
         let index = self.index(index)?;
-        Ok(self.elements[index as usize])
+        Ok(self.elements[usize::from(index.cast_unsigned())])
     }
 
     /// Stores an element at an index that the array has.
@@ -197,7 +197,7 @@ impl Store {
         requires { index_of self.old.size index ≡ Ok index }
         ensures { self.new ≡ with_element self.old index value }
     {
-        let at = index as usize;
+        let at = usize::from(index.cast_unsigned());
         self.elements[at] = value;
         if at < self.used {
             return;

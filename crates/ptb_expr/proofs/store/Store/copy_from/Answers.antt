@@ -31,6 +31,7 @@ invariant_of-self-2 c = (
   c.self.invariant.2,
   rw (same_length c) c.other.invariant.3,
   rw (taken_over c) c.other.invariant.4,
+  c.self.invariant.5,
 )
 
 pub returns-clause-ok : goal.returns-clause-ok
