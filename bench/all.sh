@@ -16,7 +16,7 @@ rows() {
 
 # the lines `title: N commands, ptb M ms, OTHER M ms (R), ..` of steps.sh as rows
 loops() {
-    "$bench/steps.sh" 5 | tee /dev/stderr | sed -E -e 's/^(.*): ([0-9]+) commands, ptb ([0-9]+) ms/| \1 | \2 | \3 |/' \
+    "$bench/steps.sh" 10 | tee /dev/stderr | sed -E -e 's/^(.*): ([0-9]+) commands, ptb ([0-9]+) ms/| \1 | \2 | \3 |/' \
         -e 's/, [a-z0-9.]+ ([0-9]+) ms \(([0-9.]+)\)/ \1 (\2) |/g' -e 's/\|\|/|/g'
 }
 
