@@ -55,3 +55,4 @@ pub mod ShownParts
 pub mod Shortly
 pub mod Sameness
 pub mod KnownLoops
+pub mod Positions

@@ -31,3 +31,4 @@ pub mod Entries
 pub mod ShortForms
 pub mod Jumps
 pub mod KnownLoops
+pub mod Positions
