@@ -25,6 +25,17 @@ pub(crate) struct KeptCopy {
     pub(crate) lines: usize,
 }
 
+/// How many answers the runs took that were played.
+#[derive(Clone, Copy)]
+enum RunLength {
+    /// No run took answers yet.
+    Unknown,
+    /// Each run took so many.
+    Same(usize),
+    /// Not all runs took as many.
+    Varies,
+}
+
 /// How far a run is.
 #[derive(Clone, Copy)]
 pub(crate) struct Progress {
@@ -107,6 +118,8 @@ pub(crate) struct Copies {
     pub(crate) kept: ArrayVec<KeptCopy, MOST_COPIES>,
     /// Machines that no copy needs.
     pub(crate) spare: ArrayVec<Option<Box<Machine>>, MOST_COPIES>,
+    /// How many answers the runs took.
+    length: RunLength,
 }
 
 impl Copies {
@@ -117,6 +130,7 @@ impl Copies {
         Copies {
             kept: ArrayVec::new(),
             spare: ArrayVec::new(),
+            length: RunLength::Unknown,
         }
     }
 
@@ -157,13 +171,26 @@ impl Copies {
         }
     }
 
+    /// How many answers the next run is expected to take: as many as each run before it, if all took
+    /// as many; otherwise 0.
+    pub(crate) fn expected(&self) -> usize {
+        match self.length {
+            RunLength::Same(length) => length,
+            _ => 0,
+        }
+    }
+
     /// Keeps a copy of a machine that took answers in its last step, if there is memory for it. The run
     /// is as far as `reached` says; `before` is the number of answers taken before that step.
+    ///
+    /// None is kept where as many were taken as the run is `expected` to take: no other run continues
+    /// from there, unless it does take more.
     pub(crate) fn keep(
         &mut self,
         alloc: Global,
         machine: &Machine,
         before: usize,
+        expected: usize,
         reached: Progress,
     )
         ensures { Adds before machine.now reached.taken reached.shown reached.lines
@@ -175,6 +202,9 @@ impl Copies {
             lines,
         } = reached;
         if taken <= before {
+            return;
+        }
+        if taken == expected {
             return;
         }
         let room = self.room();
@@ -217,10 +247,16 @@ impl Copies {
         }
     }
 
-    /// Takes the machine of a run that is over, for its room, if there are fewer than can be kept.
-    pub(crate) fn give_back(&mut self, machine: Box<Machine>)
+    /// Takes the machine of a run that is over, for its room, if there are fewer than can be kept, and
+    /// notes how many answers the run took.
+    pub(crate) fn give_back(&mut self, machine: Box<Machine>, taken: usize)
         ensures { self.new.kept ≡ self.old.kept }
     {
+        self.length = match self.length {
+            RunLength::Unknown => RunLength::Same(taken),
+            RunLength::Same(length) if length == taken => RunLength::Same(length),
+            _ => RunLength::Varies,
+        };
         if self.kept.len() + self.spare.len() < MOST_COPIES {
             let _ = self.spare.try_push(Some(machine));
         }

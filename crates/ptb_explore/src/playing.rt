@@ -48,6 +48,7 @@ impl<'a> Runner<'a> {
     {
         run_laws();
         let rules = self.rules;
+        let expected = self.copies.expected();
         loop {
             self.player.advance(machine, rules.limit);
             let before = self.trial.bounds.len();
@@ -71,7 +72,8 @@ impl<'a> Runner<'a> {
                 shown,
                 lines,
             };
-            self.copies.keep(self.alloc, machine, before, reached);
+            self.copies
+                .keep(self.alloc, machine, before, expected, reached);
         }
     }
 

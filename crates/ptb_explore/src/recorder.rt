@@ -167,6 +167,7 @@ impl Chooser for Recorder {
 
     ghost refused = { λ r. RefusedByPlan (choices_of r) r.refused_bound };
 
+    #[inline(always)]
     fn choose(&mut self, bound: i16) -> Result<i16, Pause> {
         let place = self.bounds.len();
         if place < self.answers.len() {

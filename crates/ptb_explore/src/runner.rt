@@ -163,7 +163,7 @@ impl<'a> Runner<'a> {
         let mut machine = machine?;
         let ending = self.play_counted(&mut machine, &mut screen, &mut source);
         let steps = machine.steps();
-        self.copies.give_back(machine);
+        self.copies.give_back(machine, self.trial.bounds.len());
         self.report.transcript = screen.into_vec();
         self.report.ending = ending?;
         self.report.steps = steps;

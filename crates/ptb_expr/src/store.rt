@@ -35,6 +35,9 @@ fn copy_front(values: &mut [i16], others: &[i16], count: usize)
     requires within { count ≤ length others.now }
     ensures { values.new ≡ take count others.now ++ drop count values.old }
 {
+    if count == 0 {
+        return;
+    }
     values[..count].copy_from_slice(&others[..count]);
 }
 

@@ -28,6 +28,9 @@ begins_shorter text s t h =
     let is : text ≡ s ++ (t ++ drop (length (s ++ t)) text) = sym (take-append-drop (length (s ++ t)) text) ∙ ap (λ z. z ++ drop (length (s ++ t)) text) h ∙ append_assoc s t (drop (length (s ++ t)) text) in
     ap (take (length s)) is ∙ begins_front s (t ++ drop (length (s ++ t)) text)
 
+pub begins_within : (text front : List ℕ) → BeginsWith text front → length front ≤ length text
+begins_within text front h = omega (arith, length-take (length front) text, ap length h)
+
 pub begins_same : (s t : List ℕ) → t ≡ s → BeginsWith t s
 begins_same s t is = ap (take (length s)) is ∙ take-length s
 

@@ -8,6 +8,7 @@
 
 mod report;
 mod report_writer;
+mod text;
 
 pub use report::write_list;
 pub use report_writer::ReportWriter;

@@ -4,20 +4,17 @@ ghost use Rattle.std.specs.Prelude.{◌≡◌, ◌==◌, ◌+◌, ◌<◌, ◌�
 ghost use Rattle.std.specs.Prelude.{OnOk, OnErr, IsTrue, IsFalse, if◌then◌else◌, ℤ, Option};
 ghost use Rattle.std.specs.Fmt.{signed_decimal};
 ghost use Rattle.std.specs.Io.KnownBytes.{Appends};
-ghost use Rattle.arrayvec.specs.ArrayVec.{array_vec_len};
 ghost use Rattle.ptb_text.specs.Device.{TakesSome, HasFailed};
 ghost use Rattle.ptb_answers.specs.AnswerText.{in_form, item_text, items_in};
 ghost use Rattle.ptb_report.specs.Report.{field, report_ending, report_text};
 ghost use Rattle.ptb_report.specs.Begun.{begun, item_of, items_of, AreEnds, BeginsWith, KeepsItem};
 
 use crate::report::write_in_pieces;
+use crate::text::{MOST_BYTES, Text};
 use arrayvec::ArrayVec;
 use itoa::Buffer;
 use ptb_answers::Form;
 use ptb_text::{DeviceFault, Write};
-
-// How many bytes of a report are gathered at most.
-const MOST_BYTES: usize = 4096;
 
 // How many items are kept at most.
 const MOST_ITEMS: usize = 256;
@@ -30,9 +27,6 @@ const ITEM_ROOM: usize = 14;
 
 // What comes after the answers has no more bytes than this, apart from its word and the transcript.
 const NUMBERS_ROOM: usize = 48;
-
-// The text of a report, on the stack, since a report takes no memory.
-type Text = ArrayVec<u8, 4096>;
 
 // The items that a text begins with.
 type Kept = ArrayVec<KeptItem, 256>;
@@ -107,25 +101,25 @@ fn end_of(kept: &[KeptItem], count: usize) -> usize
 // Cuts the items and their text, so that so many items are left.
 #[inline(always)]
 fn cut(kept: &mut Kept, text: &mut Text, count: usize)
-    requires begins { BeginsWith text.old.items (begun (items_of kept.old.items)) }
+    requires begins { BeginsWith text.old (begun (items_of kept.old.items)) }
     requires ends { AreEnds kept.old.items }
     requires within { count ≤ length kept.old.items }
     ensures items { items_of kept.new.items ≡ take count (items_of kept.old.items) }
     ensures ends { AreEnds kept.new.items }
-    ensures text { text.new.items ≡ begun (take count (items_of kept.old.items)) }
+    ensures text { text.new ≡ begun (take count (items_of kept.old.items)) }
 {
     let end = end_of(kept.as_slice(), count);
     kept.truncate(count);
-    text.truncate(end);
+    text.cut(end);
 }
 
 // Adds the text of a number of at most two digits.
 #[inline(always)]
 fn add_short(text: &mut Text, number: usize)
     requires short { number < 100 }
-    requires room { array_vec_len text.old + 2 ≤ 4096 }
-    ensures text { text.new.items ≡ text.old.items ++ decimal number }
-    ensures length { array_vec_len text.new ≤ array_vec_len text.old + 2 }
+    requires room { length text.old + 2 ≤ 4096 }
+    ensures text { text.new ≡ text.old ++ decimal number }
+    ensures length { length text.new ≤ length text.old + 2 }
 {
     if number < 10 {
         text.push(b'0' + number as u8);
@@ -138,37 +132,56 @@ fn add_short(text: &mut Text, number: usize)
 // Adds the text of a number.
 #[inline(always)]
 fn add_count(text: &mut Text, number: usize)
-    requires { array_vec_len text.old + 20 ≤ 4096 }
-    ensures text { text.new.items ≡ text.old.items ++ decimal number }
-    ensures length { array_vec_len text.new ≤ array_vec_len text.old + 20 }
+    requires { length text.old + 20 ≤ 4096 }
+    ensures text { text.new ≡ text.old ++ decimal number }
+    ensures length { length text.new ≤ length text.old + 20 }
 {
     if number < 100 {
         add_short(text, number)
     } else {
-        let _ = text.try_extend_from_slice(Buffer::new().format(number).as_bytes());
+        add_long_count(text, number)
     }
+}
+
+// Adds the text of a number that may have many digits.
+// Not inlined, since the room for the digits is cleared.
+#[inline(never)]
+fn add_long_count(text: &mut Text, number: usize)
+    requires { length text.old + 20 ≤ 4096 }
+    ensures text { text.new ≡ text.old ++ decimal number }
+    ensures length { length text.new ≤ length text.old + 20 }
+{
+    text.append(Buffer::new().format(number).as_bytes());
 }
 
 // Adds the text of an answer or a bound.
 #[inline(always)]
 fn add_number(text: &mut Text, number: i16)
-    requires { array_vec_len text.old + 6 ≤ 4096 }
-    ensures text { text.new.items ≡ text.old.items ++ signed_decimal number }
-    ensures length { array_vec_len text.new ≤ array_vec_len text.old + 6 }
+    requires { length text.old + 6 ≤ 4096 }
+    ensures text { text.new ≡ text.old ++ signed_decimal number }
+    ensures length { length text.new ≤ length text.old + 6 }
 {
     match usize::try_from(number) {
         Ok(short) if short < 100 => add_short(text, short),
-        _ => {
-            let _ = text.try_extend_from_slice(Buffer::new().format(number).as_bytes());
-        }
+        _ => add_long_number(text, number),
     }
+}
+
+// Adds the text of an answer or a bound of any length; not inlined for the same reason.
+#[inline(never)]
+fn add_long_number(text: &mut Text, number: i16)
+    requires { length text.old + 6 ≤ 4096 }
+    ensures text { text.new ≡ text.old ++ signed_decimal number }
+    ensures length { length text.new ≤ length text.old + 6 }
+{
+    text.append(Buffer::new().format(number).as_bytes());
 }
 
 // Adds the item at a place, after a comma if it isn't the first.
 #[inline(always)]
 fn add_item(text: &mut Text, place: usize, answer: i16, bound: Option<i16>)
-    requires { array_vec_len text.old + 14 ≤ 4096 }
-    ensures { text.new.items ≡ text.old.items ++ ((if place == 0 then [] else codes ",")
+    requires { length text.old + 14 ≤ 4096 }
+    ensures { text.new ≡ text.old ++ ((if place == 0 then [] else codes ",")
         ++ item_text (record { answer = answer; bound = bound })) }
 {
     if place != 0 {
@@ -196,14 +209,14 @@ fn add_items(
     requires within { first ≤ length answers.now }
     requires items { items_of kept.old.items ≡ take first (items_in form answers.now bounds.now) }
     requires ends { AreEnds kept.old.items }
-    requires text { text.old.items ≡ begun (take first (items_in form answers.now bounds.now)) }
-    ensures begins { BeginsWith text.new.items (begun (items_of kept.new.items)) }
+    requires text { text.old ≡ begun (take first (items_in form answers.now bounds.now)) }
+    ensures begins { BeginsWith text.new (begun (items_of kept.new.items)) }
     ensures ends { AreEnds kept.new.items }
     ensures all { IsTrue result
-        → text.new.items ≡ begun (items_in form answers.now bounds.now) }
+        → text.new ≡ begun (items_in form answers.now bounds.now) }
 {
     for k in first..answers.len() {
-        if text.remaining_capacity() < ITEM_ROOM {
+        if text.room() < ITEM_ROOM {
             return false;
         }
         let (answer, bound) = (answers[k], bound_in(form, bounds[k]));
@@ -228,7 +241,7 @@ fn keep_item(kept: &mut Kept, place: usize, answer: i16, bound: Option<i16>, end
 #[inline(always)]
 fn has_room(text: &Text, word: &[u8], transcript: &[u8]) -> bool
     ensures { IsTrue result
-        → array_vec_len text.now + 48 + length word.now + length transcript.now ≤ 4096 }
+        → length text.now + 48 + length word.now + length transcript.now ≤ 4096 }
 {
     word.len() <= MOST_BYTES
         && transcript.len() <= MOST_BYTES
@@ -238,15 +251,15 @@ fn has_room(text: &Text, word: &[u8], transcript: &[u8]) -> bool
 // Adds what comes after the answers. Says whether there was room for it.
 #[inline(always)]
 fn add_ending(text: &mut Text, word: &[u8], steps: u32, transcript: &[u8]) -> bool
-    ensures added { IsTrue result → text.new.items ≡ text.old.items
+    ensures added { IsTrue result → text.new ≡ text.old
         ++ report_ending word.now steps transcript.now }
-    ensures longer { BeginsWith text.new.items text.old.items }
+    ensures longer { BeginsWith text.new text.old }
 {
     if !has_room(text, word, transcript) {
         return false;
     }
     add_figures(text, word, steps, transcript.len());
-    let _ = text.try_extend_from_slice(transcript);
+    text.append(transcript);
     text.push(b'\n');
     true
 }
@@ -254,13 +267,13 @@ fn add_ending(text: &mut Text, word: &[u8], steps: u32, transcript: &[u8]) -> bo
 // Adds the word of an ending, the number of steps and the size of what was shown.
 #[inline(always)]
 fn add_figures(text: &mut Text, word: &[u8], steps: u32, size: usize)
-    requires { array_vec_len text.old + length word.now + 47 ≤ 4096 }
-    ensures text { text.new.items ≡ text.old.items
+    requires { length text.old + length word.now + 47 ≤ 4096 }
+    ensures text { text.new ≡ text.old
         ++ (field word.now ++ field (decimal steps) ++ field (decimal size) ++ codes "\n") }
-    ensures length { array_vec_len text.new ≤ array_vec_len text.old + length word.now + 47 }
+    ensures length { length text.new ≤ length text.old + length word.now + 47 }
 {
     text.push(b' ');
-    let _ = text.try_extend_from_slice(word);
+    text.append(word);
     text.push(b' ');
     add_count(text, steps as usize);
     text.push(b' ');
@@ -278,7 +291,7 @@ pub struct ReportWriter {
     kept: Kept,
     // The text of the report, or a prefix of it.
     text: Text,
-    ghost begins: { BeginsWith text.items (begun (items_of kept.items)) },
+    ghost begins: { BeginsWith text (begun (items_of kept.items)) },
     ghost ends: { AreEnds kept.items },
 }
 
@@ -286,7 +299,7 @@ impl ReportWriter {
     /// A writer that has written no report yet.
     pub fn new() -> ReportWriter {
         let mut text = Text::new();
-        let _ = text.try_extend_from_slice(START);
+        text.append(START);
         ReportWriter {
             kept: Kept::new(),
             text,
@@ -305,7 +318,7 @@ impl ReportWriter {
         transcript: &[u8],
     ) -> bool
         requires { length answers.now ≡ length bounds.now }
-        ensures { IsTrue result → self.new.text.items
+        ensures { IsTrue result → self.new.text
             ≡ report_text (items_in form answers.now bounds.now) word.now steps transcript.now }
     {
         if answers.is_empty() {

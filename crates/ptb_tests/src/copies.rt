@@ -96,13 +96,13 @@ const ONE_QUESTION_RUNS: &[ExpectedRun<'static>] = &[
     ExpectedRun {
         last: &[2],
         steps: 402,
-        kept: 1,
+        kept: 0,
         played: 804,
     },
     ExpectedRun {
         last: &[3],
         steps: 402,
-        kept: 1,
+        kept: 0,
         played: 1206,
     },
 ];
@@ -126,19 +126,19 @@ const MANY_QUESTIONS_RUNS: &[ExpectedRun<'static>] = &[
     ExpectedRun {
         last: &[1, 2],
         steps: 140,
-        kept: 64,
+        kept: 63,
         played: 142,
     },
     ExpectedRun {
         last: &[2, 1],
         steps: 140,
-        kept: 64,
+        kept: 63,
         played: 144,
     },
     ExpectedRun {
         last: &[2, 2],
         steps: 140,
-        kept: 64,
+        kept: 63,
         played: 146,
     },
 ];
@@ -161,19 +161,19 @@ const RUNS_WITHOUT_LINES: &[ExpectedRun<'static>] = &[
     ExpectedRun {
         last: &[1, 2],
         steps: 203,
-        kept: 2,
+        kept: 1,
         played: 204,
     },
     ExpectedRun {
         last: &[2, 1],
         steps: 203,
-        kept: 2,
+        kept: 1,
         played: 407,
     },
     ExpectedRun {
         last: &[2, 2],
         steps: 203,
-        kept: 2,
+        kept: 1,
         played: 408,
     },
 ];
@@ -188,6 +188,36 @@ fn answers_in_place_of_lines(rt: HostRuntime) -> Result<(), Fail> {
         choose: Some(2),
     };
     expect_runs_of(&rt, rt.alloc(), text, rules, RUNS_WITHOUT_LINES)
+}
+
+const RUNS_OF_DIFFERENT_LENGTHS: &[ExpectedRun<'static>] = &[
+    ExpectedRun {
+        last: &[1],
+        steps: 2,
+        kept: 1,
+        played: 2,
+    },
+    ExpectedRun {
+        last: &[2, 1],
+        steps: 3,
+        kept: 1,
+        played: 5,
+    },
+    ExpectedRun {
+        last: &[2, 2],
+        steps: 3,
+        kept: 2,
+        played: 8,
+    },
+];
+
+// A run that takes more answers than all before has no copy where these ended. The run after it keeps
+// one there again.
+#[test]
+fn runs_of_different_lengths(rt: HostRuntime) -> Result<(), Fail> {
+    let text = "10 A=RND(2);IF A=2 B=RND(2)";
+    let rules = plain_rules(10000);
+    expect_runs_of(&rt, rt.alloc(), text, rules, RUNS_OF_DIFFERENT_LENGTHS)
 }
 
 // A run comes to its end and shows this.

@@ -9,9 +9,9 @@ use Rattle.ptb_report.proofs.Begun.{begins_kept, ends_kept, is_in_form, items_ke
 use Rattle.ptb_report.proofs.ReportText.{item_at, length-items_in}
 use Rattle.ptb_report.proofs.report_writer.add_items.Goals as goal
 
-pub returns-then-remaining_capacity-lt-ITEM_ROOM-clause-begins : goal.returns-then-remaining_capacity-lt-ITEM_ROOM-clause-begins
-returns-then-remaining_capacity-lt-ITEM_ROOM-clause-begins c =
-    begins_kept (items_in c.args.form c.args.answers.now c.args.bounds.now) c.loop-k.k c.loop-k.text.items c.loop-k.kept.items c.loop-k.invariant.text c.loop-k.invariant.items c.loop-k.invariant.most
+pub returns-then-room-lt-ITEM_ROOM-clause-begins : goal.returns-then-room-lt-ITEM_ROOM-clause-begins
+returns-then-room-lt-ITEM_ROOM-clause-begins c =
+    begins_kept (items_in c.args.form c.args.answers.now c.args.bounds.now) c.loop-k.k c.loop-k.text c.loop-k.kept.items c.loop-k.invariant.text c.loop-k.invariant.items c.loop-k.invariant.most
 
 pub loop-k-preserved : goal.loop-k-preserved
 loop-k-preserved c =
@@ -25,8 +25,8 @@ loop-k-preserved c =
     let next : m ≡ get_or items k m = sym (item_at form answers bounds k (pos 0) (pos 0) m c.requires.same c.loop-k-test.true) in
     let same : item_of (record { answer = _; bound = c.bound_in-bound.result; end = c.len.result }) ≡ m =
     is_in_form form (get_or answers k (pos 0)) _ (get_or bounds k (pos 0)) _ c.bound_in-bound.result (search rules) (search rules) c.bound_in-bound.ensures in
-    let text = text_added items k m within next c.loop-k.text.items c.add_item.new.text.items c.loop-k.invariant.text
-    (c.add_item.ensures ∙ ap (λ (x : Marked). c.loop-k.text.items ++ ((if k == 0 then [] else codes ",") ++ item_text x)) same) in
+    let text = text_added items k m within next c.loop-k.text c.add_item.new.text c.loop-k.invariant.text
+    (c.add_item.ensures ∙ ap (λ (x : Marked). c.loop-k.text ++ ((if k == 0 then [] else codes ",") ++ item_text x)) same) in
     record {
       text = text;
       items = items_kept items k m within next c.loop-k.kept.items c.keep_item.new.kept.items _ c.keep_item.ensures same c.loop-k.invariant.items c.loop-k.invariant.most;
@@ -36,7 +36,7 @@ loop-k-preserved c =
 
 pub returns-clause-begins : goal.returns-clause-begins
 returns-clause-begins c =
-    begins_kept (items_in c.args.form c.args.answers.now c.args.bounds.now) c.loop-k.k c.loop-k.text.items c.loop-k.kept.items c.loop-k.invariant.text c.loop-k.invariant.items c.loop-k.invariant.most
+    begins_kept (items_in c.args.form c.args.answers.now c.args.bounds.now) c.loop-k.k c.loop-k.text c.loop-k.kept.items c.loop-k.invariant.text c.loop-k.invariant.items c.loop-k.invariant.most
 
 pub returns-clause-all : goal.returns-clause-all
 returns-clause-all c _ =

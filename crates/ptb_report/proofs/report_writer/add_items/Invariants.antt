@@ -6,7 +6,7 @@ use Rattle.ptb_report.proofs.report_writer.add_items.Given as goal
 
 abbrev pub invariant-loop-k : goal.invariant-loop-k
 invariant-loop-k l = record {
-  text : l.text.items ≡ begun (take l.k (items_in l.form l.answers l.bounds));
+  text : l.text ≡ begun (take l.k (items_in l.form l.answers l.bounds));
   items : items_of l.kept.items ≡ take (length l.kept.items) (items_in l.form l.answers l.bounds);
   most : length l.kept.items ≤ l.k;
   ends : AreEnds l.kept.items;

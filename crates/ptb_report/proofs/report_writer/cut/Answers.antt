@@ -1,8 +1,20 @@
 -- This file answers that what is left begins with the items that are left.
-use Rattle.std.proofs.Common.{◌≡◌, ◌∙◌, ap, sym, subst, take, length}
+use Rattle.std.proofs.Common.{arith, ◌≡◌, ◌∙◌, ◌≤◌, ℕ, List, ap, sym, subst, take, length}
+use Rattle.ptb_report.specs.declared.report_writer.KeptItem.{KeptItem}
 use Rattle.ptb_report.specs.Begun.{AreEnds, begun, items_of}
-use Rattle.ptb_report.proofs.Begun.{begins_with_first, ends_cut, items_cut}
+use Rattle.ptb_report.proofs.Begun.{begins_with_first, begins_within, ends_cut, items_cut}
 use Rattle.ptb_report.proofs.report_writer.cut.Goals as goal
+
+-- where the text of the items ends that are left
+end_is : (kept slice : List KeptItem) (count end : ℕ) → slice ≡ kept → (AreEnds slice → end ≡ length (begun (take count (items_of slice)))) → AreEnds kept → end ≡ length (begun (take count (items_of kept)))
+end_is kept slice count end is ends all = subst (λ z. AreEnds z → end ≡ length (begun (take count (items_of z)))) is ends all
+
+pub cut-requires : goal.cut-requires
+cut-requires c =
+    let kept = c.args.kept.now.items in
+    let end = end_is kept c.as_slice.result.now c.args.count c.end_of-end.result c.as_slice.ensures.value c.end_of-end.ensures.end c.requires.ends in
+    let within = begins_within c.args.text.now (begun (take c.args.count (items_of kept))) (begins_with_first c.args.text.now (items_of kept) c.args.count c.requires.begins) in
+    omega (arith, end, within)
 
 pub returns-clause-items : goal.returns-clause-items
 returns-clause-items c = ap items_of c.truncate.ensures.items ∙ items_cut c.args.kept.now.items c.args.count
@@ -13,6 +25,5 @@ returns-clause-ends c = subst AreEnds (sym c.truncate.ensures.items) (ends_cut c
 pub returns-clause-text : goal.returns-clause-text
 returns-clause-text c =
     let kept = c.args.kept.now.items in
-    let end : c.end_of-end.result ≡ length (begun (take c.args.count (items_of kept))) =
-    subst (λ z. AreEnds z → c.end_of-end.result ≡ length (begun (take c.args.count (items_of z)))) c.as_slice.ensures.value c.end_of-end.ensures.end c.requires.ends in
-    c.truncate-2.ensures.items ∙ ap (λ n. take n c.args.text.now.items) end ∙ begins_with_first c.args.text.now.items (items_of kept) c.args.count c.requires.begins
+    let end = end_is kept c.as_slice.result.now c.args.count c.end_of-end.result c.as_slice.ensures.value c.end_of-end.ensures.end c.requires.ends in
+    c.cut.ensures ∙ ap (λ n. take n c.args.text.now) end ∙ begins_with_first c.args.text.now (items_of kept) c.args.count c.requires.begins
