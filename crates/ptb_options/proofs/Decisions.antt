@@ -12,7 +12,6 @@ use Rattle.std.proofs.lemmas.Int.{ints}
 use Rattle.std.proofs.lemmas.Result.{err_from_is_err_and}
 use Rattle.ptb_text.specs.Statements.{IsMemorySize}
 use Rattle.ptb_answers.specs.declared.rules.Rules.{Rules}
-use Rattle.ptb_options.specs.declared.answers.ListFault.{ListFault}
 use Rattle.ptb_options.specs.declared.mistakes.MisspelledList.{MisspelledList}
 use Rattle.ptb_options.specs.declared.request.Mode.{Mode}
 use Rattle.ptb_options.specs.declared.request.Request.{Request}
@@ -20,7 +19,7 @@ use Rattle.ptb_options.specs.declared.usage.UsageFault.{UsageFault}
 use Rattle.ptb_options.specs.declared.usage.UsageFault.TheVariants.{BadList, Memory}
 use Rattle.ptb_options.specs.Options.{Asks, AsksMode, HasBound, HasMemorySize, IsFirstMisspelled}
 use Rattle.ptb_options.specs.Options.{Options, Refuses, WantsMemory, clash, clashes, first_fault}
-use Rattle.ptb_options.specs.Options.{IsRulesOf, default_memory, default_steps, usage_fault}
+use Rattle.ptb_options.specs.Options.{IsRulesOf, default_memory, default_steps}
 use Rattle.ptb_options.proofs.ListsKept.{first_misspelled}
 
 -- ---- options that clash
@@ -88,8 +87,8 @@ module _ (o l : Options) (same : l ≡ o) where
     decided_misspelled m h = refused BadList (unclashed, (m.option, first_misspelled l m h))
 
     -- memory is wanted for the items of a list
-    pub decided_list : HasMemorySize o → HasBound o → (result : Result Request UsageFault) (fault : ListFault)
-        → IsErrAnd result (λ y. y ≡ usage_fault fault) → WantsMemory l fault → IsDecided result
+    pub decided_list : HasMemorySize o → HasBound o → (result : Result Request UsageFault) (fault : UsageFault)
+        → IsErrAnd result (λ y. y ≡ fault) → WantsMemory l fault → IsDecided result
     decided_list size positive result fault is h =
         let e = err_from_is_err_and result is in
         let wanted : Refuses l Memory = (
@@ -98,7 +97,7 @@ module _ (o l : Options) (same : l ≡ o) where
           h.1.2,
         )
         in
-        subst IsDecided (sym (e.1 ∙ ap Err (e.2 ∙ ap usage_fault h.0))) (refused Memory wanted)
+        subst IsDecided (sym (e.1 ∙ ap Err (e.2 ∙ h.0))) (refused Memory wanted)
 
     -- nothing is
     pub asked : (kept : Option ℕ) (rules : Rules) (memory : ℕ) (mode : Mode) (size : IsMemorySize memory)

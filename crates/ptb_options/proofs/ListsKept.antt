@@ -10,8 +10,6 @@ use Rattle.std.proofs.lemmas.Result.{err_from_is_err_and}
 use Rattle.ptb_answers.specs.declared.form.Marked.{Marked}
 use Rattle.ptb_options.specs.AnswerLists.{HasNoAnswers, IsMisspelled}
 use Rattle.ptb_options.specs.ListMistakes.{IsListOf}
-use Rattle.ptb_options.specs.declared.answers.ListFault.{ListFault}
-use Rattle.ptb_options.specs.declared.answers.ListFault.TheVariants as lists
 use Rattle.ptb_options.specs.declared.mistakes.Bounds.{Bounds}
 use Rattle.ptb_options.specs.declared.mistakes.Bounds.TheVariants.{Allowed, Refused}
 use Rattle.ptb_options.specs.declared.mistakes.ListOption.{ListOption}
@@ -20,6 +18,8 @@ use Rattle.ptb_options.specs.declared.mistakes.Mistake.{Mistake}
 use Rattle.ptb_options.specs.declared.mistakes.MisspelledList.{MisspelledList}
 use Rattle.ptb_options.specs.declared.request.Mode.{Mode}
 use Rattle.ptb_options.specs.declared.request.Mode.TheVariants as modes
+use Rattle.ptb_options.specs.declared.usage.UsageFault.{UsageFault}
+use Rattle.ptb_options.specs.declared.usage.UsageFault.TheVariants.{BadList, Memory}
 use Rattle.ptb_options.specs.Options.{HasMistake, IsFirstMisspelled, IsMisspelledIn, IsSpelled}
 use Rattle.ptb_options.specs.Options.{Options, RunsIt, RefusesAnswers, RefusesIfGiven}
 use Rattle.ptb_options.specs.Options.{SpellsIfGiven, WantsMemory, bounds_in, form_of, text_of}
@@ -71,31 +71,34 @@ list_if_given None spelled = (None, tt)
 list_if_given (Some s) spelled = let list = spelled s refl in (Some list.0, list.1)
 
 -- o are the options, all of whose lists are spelled, and v is how the code has them; a list was refused
-module _ (o v : Options) (same : v ≡ o) (all_spelled : (x : ListOption) → IsSpelled o x) (result : Result Mode ListFault) (fault : ListFault) (is : IsErrAnd result (λ y. y ≡ fault)) (runs : RunsIt v) where
+module _ (o v : Options) (same : v ≡ o) (all_spelled : (x : ListOption) → IsSpelled o x) (result : Result Mode UsageFault) (fault : UsageFault) (is : IsErrAnd result (λ y. y ≡ fault)) (runs : RunsIt v) where
   spelled : (x : ListOption) → IsSpelled v x
   spelled x = subst (λ (z : Options). IsSpelled z x) (sym same) (all_spelled x)
 
   refused : WantsMemory v fault → IfErr result (WantsMemory o)
   refused h =
       let e = err_from_is_err_and result is in
-      subst (λ (r : Result Mode ListFault). IfErr r (WantsMemory o)) (sym (e.1 ∙ ap Err e.2))
+      subst (λ (r : Result Mode UsageFault). IfErr r (WantsMemory o)) (sym (e.1 ∙ ap Err e.2))
       (subst (λ (z : Options). WantsMemory z fault) same h)
 
-  wants_under : (f : ListFault) → v.all ≡ true → v.shares ≡ None → RefusesIfGiven v.under f → WantsMemory v f
-  wants_under lists.Bad all unsplit h = spelled_list v.under (spelled Under) h
-  wants_under lists.Memory all unsplit h =
+  wants_under : (f : UsageFault) → v.all ≡ true → v.shares ≡ None → RefusesIfGiven v.under f → WantsMemory v f
+  wants_under BadList all unsplit h = spelled_list v.under (spelled Under) h
+  wants_under Memory all unsplit h =
       let after = list_if_given v.after (spelled After) in
       (refl, (modes.All (Some h.0) after.0 v.first (form_of v.form), (runs, all, unsplit, h.1, after.1, refl, refl), inl h.2))
+  wants_under f all unsplit h = absurd h
 
-  wants_after : (f : ListFault) → v.all ≡ true → v.shares ≡ None → RefusesIfGiven v.after f → WantsMemory v f
-  wants_after lists.Bad all unsplit h = spelled_list v.after (spelled After) h
-  wants_after lists.Memory all unsplit h =
+  wants_after : (f : UsageFault) → v.all ≡ true → v.shares ≡ None → RefusesIfGiven v.after f → WantsMemory v f
+  wants_after BadList all unsplit h = spelled_list v.after (spelled After) h
+  wants_after Memory all unsplit h =
       let under = list_if_given v.under (spelled Under) in
       (refl, (modes.All under.0 (Some h.0) v.first (form_of v.form), (runs, all, unsplit, under.1, h.1, refl, refl), inr h.2))
+  wants_after f all unsplit h = absurd h
 
-  wants_answers : (f : ListFault) → v.all ≡ false → v.seed ≡ None → RefusesAnswers v.answers f → WantsMemory v f
-  wants_answers lists.Bad one unseeded h = spelled_answers v.answers (spelled Answers) h
-  wants_answers lists.Memory one unseeded h = (refl, (modes.Plain h.0, (runs, one, unseeded, h.1), h.2))
+  wants_answers : (f : UsageFault) → v.all ≡ false → v.seed ≡ None → RefusesAnswers v.answers f → WantsMemory v f
+  wants_answers BadList one unseeded h = spelled_answers v.answers (spelled Answers) h
+  wants_answers Memory one unseeded h = (refl, (modes.Plain h.0, (runs, one, unseeded, h.1), h.2))
+  wants_answers f one unseeded h = absurd h
 
   pub under_refused : v.all ≡ true → v.shares ≡ None → RefusesIfGiven v.under fault → IfErr result (WantsMemory o)
   under_refused all unsplit h = refused (wants_under fault all unsplit h)

@@ -7,11 +7,14 @@
 --     IsMisspelled s         the text s writes no list
 --     SpellsAnswers s a      the text s writes a list of these answers, without bounds
 --     HasNoAnswers s         the text s writes no list without bounds
+--     IsListFault fault      a list alone can have this fault
 use Rattle.std.specs.Prelude.{◌≡◌, ℕ, List, ℤ, pos, ◌≤ℤ◌, All}
 use Rattle.std.specs.Fmt.{signed_decimal}
 use Rattle.std.specs.Option.{ForSome}
 use Rattle.ptb_answers.specs.declared.form.Marked.{Marked}
 use Rattle.ptb_answers.specs.AnswerText.{item_text, spelling, unmarked}
+use Rattle.ptb_options.specs.declared.usage.UsageFault.{UsageFault}
+use Rattle.ptb_options.specs.declared.usage.UsageFault.TheVariants as usage
 
 -- an answer is from 1 to 32767, and so is a bound
 abbrev pub IsAnswer : ℤ → Type 0
@@ -41,3 +44,9 @@ SpellsAnswers s a = SpellsList s (unmarked a)
 
 abbrev pub HasNoAnswers : List ℕ → Type 0
 HasNoAnswers s = (a : List ℤ) → SpellsAnswers s a → ⊥
+
+-- it is misspelled, or memory is wanted for its items
+abbrev pub IsListFault : UsageFault → Type 0
+IsListFault usage.BadList = Unit {0}
+IsListFault usage.Memory = Unit {0}
+IsListFault _ = ⊥

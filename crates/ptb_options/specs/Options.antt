@@ -33,8 +33,6 @@ use Rattle.ptb_answers.specs.declared.form.Form.TheVariants.{One, Two}
 use Rattle.ptb_answers.specs.declared.form.Marked.{Marked}
 use Rattle.ptb_options.specs.AnswerLists.{SpellsList, SpellsAnswers, IsMisspelled, HasNoAnswers}
 use Rattle.ptb_options.specs.ListMistakes.{IsListOf, IsMistakeOf}
-use Rattle.ptb_options.specs.declared.answers.ListFault.{ListFault}
-use Rattle.ptb_options.specs.declared.answers.ListFault.TheVariants as lists
 use Rattle.ptb_options.specs.declared.mistakes.Bounds.{Bounds}
 use Rattle.ptb_options.specs.declared.mistakes.Bounds.TheVariants.{Allowed, Refused}
 use Rattle.ptb_options.specs.declared.mistakes.ListOption.{ListOption}
@@ -252,13 +250,15 @@ abbrev pub IsFirstMisspelled : Options → MisspelledList → Type 0
 IsFirstMisspelled o m = EarlierSpelled o m.option × HasMistake (bounds_in m.option) (text_of o m.option) m.mistake
 
 -- a list that may be left out is misspelled, or it has items and memory is wanted for them
-abbrev pub RefusesIfGiven : Option (List ℕ) → ListFault → Type 0
-RefusesIfGiven text lists.Bad = IsSomeAnd text IsMisspelled
-RefusesIfGiven text lists.Memory = (list : List Marked) × SpellsIfGiven text (Some list) × (list ≢ [])
+abbrev pub RefusesIfGiven : Option (List ℕ) → UsageFault → Type 0
+RefusesIfGiven text BadList = IsSomeAnd text IsMisspelled
+RefusesIfGiven text Memory = (list : List Marked) × SpellsIfGiven text (Some list) × (list ≢ [])
+RefusesIfGiven text fault = ⊥
 
-abbrev pub RefusesAnswers : Option (List ℕ) → ListFault → Type 0
-RefusesAnswers text lists.Bad = IsSomeAnd text HasNoAnswers
-RefusesAnswers text lists.Memory = (a : List ℤ) × SpellsAnswers (unwrap_or text (codes "none")) a × (a ≢ [])
+abbrev pub RefusesAnswers : Option (List ℕ) → UsageFault → Type 0
+RefusesAnswers text BadList = IsSomeAnd text HasNoAnswers
+RefusesAnswers text Memory = (a : List ℤ) × SpellsAnswers (unwrap_or text (codes "none")) a × (a ≢ [])
+RefusesAnswers text fault = ⊥
 
 -- memory is taken for the items of lists alone
 abbrev pub HasItems : Mode → Type 0
@@ -271,16 +271,11 @@ HasItems modes.List = ⊥
 HasItems modes.Check = ⊥
 HasItems modes.Chances = ⊥
 
-abbrev pub WantsMemory : Options → ListFault → Type 0
-WantsMemory o fault = (fault ≡ lists.Memory) × ((mode : Mode) × AsksMode o mode × HasItems mode)
+abbrev pub WantsMemory : Options → UsageFault → Type 0
+WantsMemory o fault = (fault ≡ Memory) × ((mode : Mode) × AsksMode o mode × HasItems mode)
 
 -- lists are looked at where nothing else is wrong, and kept where all are spelled
 abbrev pub Refuses : Options → UsageFault → Type 0
 Refuses o BadList = (clash o ≡ None) × ((x : ListOption) × IsMisspelledIn o x)
 Refuses o Memory = (r : Request) × Asks o r × HasItems r.mode
 Refuses o fault = clash o ≡ Some fault
-
--- a list's fault as one of the command line
-abbrev pub usage_fault : ListFault → UsageFault
-usage_fault lists.Bad = BadList
-usage_fault lists.Memory = Memory

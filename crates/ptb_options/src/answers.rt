@@ -1,17 +1,16 @@
 // This file has lists of answers, and reads them from the text of an option.
 
-ghost use Rattle.std.specs.Prelude.{◌≡◌, ◌≢◌, [], List, ℤ, IfOk, codes, map};
+ghost use Rattle.std.specs.Prelude.{◌≡◌, ◌≢◌, [], List, ℤ, IfErr, IfOk, codes, map};
 ghost use Rattle.ptb_answers.specs.declared.form.Marked.{Marked};
-ghost use Rattle.ptb_options.specs.AnswerLists.{HasNoAnswers, IsMisspelled, SpellsAnswers};
-ghost use Rattle.ptb_options.specs.AnswerLists.{SpellsList};
-ghost use Rattle.ptb_options.specs.declared.answers.ListFault.TheVariants.{Memory};
+ghost use Rattle.ptb_options.specs.AnswerLists.{HasNoAnswers, IsListFault, IsMisspelled};
+ghost use Rattle.ptb_options.specs.AnswerLists.{SpellsAnswers, SpellsList};
 
 use crate::items::ListItem;
 use crate::mistakes::{Bounds, list_mistake};
+use crate::usage::UsageFault;
 use ptb_answers::Marked;
-use std::alloc::{AllocFailed, Global};
+use std::alloc::Global;
 use std::marker::Model;
-use thiserror::Error;
 
 /// A list of answers to RND. A list that was read from a text has answers from 1 to 32767; the type
 /// holds any.
@@ -94,42 +93,24 @@ impl From<Vec<Marked>> for MarkedAnswers {
     }
 }
 
-/// Why a text gives no list of answers.
-#[derive(Clone, Copy, Debug, PartialEq, Eq, Error)]
-pub enum ListFault {
-    /// It doesn't spell one.
-    #[error("bad list")]
-    Bad,
-    /// A growth was refused memory.
-    #[error("out of memory")]
-    Memory,
-}
-
-impl<T: Drop> From<AllocFailed<T>> for ListFault {
-    ghost from_gives = { λ _ e. e ≡ Memory };
-
-    fn from(_refused: AllocFailed<T>) -> ListFault {
-        ListFault::Memory
-    }
-}
-
 /// The list that a text spells: `none`, or items with one comma between two of them and nothing
 /// else. An item is an answer in decimals; `/` and its bound in decimals may follow. Both are numbers
 /// from 1 to 32767, and their first digit is never 0.
 ///
 /// # Errors
 ///
-/// [`ListFault::Bad`] where the text spells no list; [`ListFault::Memory`] where a growth was
+/// [`UsageFault::BadList`] where the text spells no list; [`UsageFault::Memory`] where a growth was
 /// refused memory, and only for a list that has items.
-pub fn parse_list(alloc: Global, text: &str) -> Result<MarkedAnswers, ListFault>
+pub fn parse_list(alloc: Global, text: &str) -> Result<MarkedAnswers, UsageFault>
     ensures ok { IfOk result (SpellsList text.now) }
-    ensures bad { result ≡ Err ListFault.Bad → IsMisspelled text.now }
-    ensures memory { result ≡ Err ListFault.Memory
+    ensures bad { result ≡ Err UsageFault.BadList → IsMisspelled text.now }
+    ensures memory { result ≡ Err UsageFault.Memory
         → (list : List Marked) × SpellsList text.now list × (list ≢ []) }
+    ensures fault { IfErr result IsListFault }
     ensures one { (a b : List Marked) → SpellsList text.now a → SpellsList text.now b → a ≡ b }
 {
     if list_mistake(text, Bounds::Allowed).is_some() {
-        return Err(ListFault::Bad);
+        return Err(UsageFault::BadList);
     }
     Ok(parse_items::<Marked>(alloc, text)?.into())
 }
@@ -138,34 +119,36 @@ pub fn parse_list(alloc: Global, text: &str) -> Result<MarkedAnswers, ListFault>
 ///
 /// # Errors
 ///
-/// [`ListFault::Bad`] where the text spells no such list; [`ListFault::Memory`] where a growth was
-/// refused memory, and only for a list that has items.
-pub fn parse_answers(alloc: Global, text: &str) -> Result<Answers, ListFault>
+/// [`UsageFault::BadList`] where the text spells no such list; [`UsageFault::Memory`] where a growth
+/// was refused memory, and only for a list that has items.
+pub fn parse_answers(alloc: Global, text: &str) -> Result<Answers, UsageFault>
     ensures ok { IfOk result (SpellsAnswers text.now) }
-    ensures bad { result ≡ Err ListFault.Bad → HasNoAnswers text.now }
-    ensures memory { result ≡ Err ListFault.Memory
+    ensures bad { result ≡ Err UsageFault.BadList → HasNoAnswers text.now }
+    ensures memory { result ≡ Err UsageFault.Memory
         → (a : List ℤ) × SpellsAnswers text.now a × (a ≢ []) }
+    ensures fault { IfErr result IsListFault }
     ensures one { (a b : List ℤ) → SpellsAnswers text.now a → SpellsAnswers text.now b → a ≡ b }
 {
     if list_mistake(text, Bounds::Refused).is_some() {
-        return Err(ListFault::Bad);
+        return Err(UsageFault::BadList);
     }
     Ok(parse_items::<i16>(alloc, text)?.into())
 }
 
 // The items that a text spells. Memory is taken only for a text that isn't `none`.
-fn parse_items<T: ListItem>(alloc: Global, text: &str) -> Result<Vec<T>, ListFault>
+fn parse_items<T: ListItem>(alloc: Global, text: &str) -> Result<Vec<T>, UsageFault>
     ensures ok { IfOk result (λ items. SpellsList text.now (map T.marked items.items)) }
-    ensures bad { result ≡ Err ListFault.Bad
+    ensures bad { result ≡ Err UsageFault.BadList
         → (items : List T) → SpellsList text.now (map T.marked items) → ⊥ }
-    ensures memory { result ≡ Err ListFault.Memory → text.now ≢ codes "none" }
+    ensures memory { result ≡ Err UsageFault.Memory → text.now ≢ codes "none" }
+    ensures fault { IfErr result IsListFault }
 {
     let mut items = Vec::new(alloc);
     if text == "none" {
         return Ok(items);
     }
     for word in text.split(',') {
-        let item = T::parse(word).ok_or(ListFault::Bad)?;
+        let item = T::parse(word).ok_or(UsageFault::BadList)?;
         items.push(item)?;
     }
     Ok(items)

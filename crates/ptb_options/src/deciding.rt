@@ -11,7 +11,7 @@ ghost use Rattle.ptb_options.specs.Options.{RefusesIfGiven, SpellsIfGiven, Wants
 ghost use Rattle.ptb_options.specs.Options.{entries_of, first_fault, form_of, is_given, options_of};
 ghost use Rattle.ptb_options.specs.declared.mistakes.ListOption.{ListOption};
 
-use crate::answers::{Answers, ListFault, MarkedAnswers, parse_answers, parse_list};
+use crate::answers::{Answers, MarkedAnswers, parse_answers, parse_list};
 use crate::mistakes::{Bounds, ListOption, MisspelledList, Mistake, list_mistake};
 use crate::request::{DEFAULT_MEMORY, DEFAULT_STEPS, Mode, Request};
 use crate::usage::UsageFault;
@@ -210,7 +210,7 @@ impl<'a> GivenOptions<'a> {
     }
 
     // What options that don't clash, and whose lists are spelled, ask to be done with the program.
-    fn mode(&self, alloc: Global) -> Result<Mode, ListFault>
+    fn mode(&self, alloc: Global) -> Result<Mode, UsageFault>
         requires clash { clash self.now ≡ None }
         requires spelled { (x : ListOption) → IsSpelled self.now x }
         ensures ok { IfOk result (AsksMode self.now) }
@@ -282,7 +282,7 @@ fn mistake_in(text: Option<&str>, bounds: Bounds) -> Option<Mistake<'_>>
 }
 
 // The list that a text spells, if there is a text.
-fn list(alloc: Global, text: Option<&str>) -> Result<Option<MarkedAnswers>, ListFault>
+fn list(alloc: Global, text: Option<&str>) -> Result<Option<MarkedAnswers>, UsageFault>
     ensures ok { IfOk result (SpellsIfGiven (option_copied text.entry)) }
     ensures fault { IfErr result (RefusesIfGiven (option_copied text.entry)) }
 {
@@ -293,7 +293,7 @@ fn list(alloc: Global, text: Option<&str>) -> Result<Option<MarkedAnswers>, List
 }
 
 // The answers that a text spells; none where there is no text.
-fn answers(alloc: Global, text: Option<&str>) -> Result<Answers, ListFault>
+fn answers(alloc: Global, text: Option<&str>) -> Result<Answers, UsageFault>
     ensures ok { IfOk result (SpellsAnswers (unwrap_or (option_copied text.entry) (codes "none"))) }
     ensures fault { IfErr result (RefusesAnswers (option_copied text.entry)) }
 {

@@ -1,10 +1,10 @@
 // This file has the usage errors that clap does not find: options that don't go together, and lists.
 
 ghost use Rattle.std.specs.Prelude.{◌≡◌};
-ghost use Rattle.ptb_options.specs.Options.{usage_fault};
 ghost use Rattle.ptb_options.specs.Statuses.{usage_status};
+ghost use Rattle.ptb_options.specs.declared.usage.UsageFault.TheVariants.{Memory};
 
-use crate::answers::ListFault;
+use std::alloc::AllocFailed;
 use thiserror::Error;
 
 /// A usage error, or want of memory for a list.
@@ -72,13 +72,10 @@ impl UsageFault {
     }
 }
 
-impl From<ListFault> for UsageFault {
-    ghost from_gives = { λ fault usage. usage ≡ usage_fault fault };
+impl<T: Drop> From<AllocFailed<T>> for UsageFault {
+    ghost from_gives = { λ _ fault. fault ≡ Memory };
 
-    fn from(fault: ListFault) -> UsageFault {
-        match fault {
-            ListFault::Bad => UsageFault::BadList,
-            ListFault::Memory => UsageFault::Memory,
-        }
+    fn from(_refused: AllocFailed<T>) -> UsageFault {
+        UsageFault::Memory
     }
 }

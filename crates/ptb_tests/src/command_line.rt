@@ -4,9 +4,8 @@ use crate::shared::{ONE, ONE_OF_2, ONE_OF_3, TWO, TWO_OF_2, expect_same};
 use clap::error::ErrorKind;
 use ptb_explore::{Form, Marked};
 use ptb_options::{
-    Answers, Bounds, ItemFault, ListFault, MarkedAnswers, Mistake, Mode, Request, UsageFault,
-    decide, list_mistake, misspelled_list, parse, parse_answers, parse_list, refusal_status,
-    wrong_number,
+    Answers, Bounds, ItemFault, MarkedAnswers, Mistake, Mode, Request, UsageFault, decide,
+    list_mistake, misspelled_list, parse, parse_answers, parse_list, refusal_status, wrong_number,
 };
 use std::alloc::{AllocError, Global};
 use std::process::Abort;
@@ -306,7 +305,7 @@ fn lists_that_are_none(rt: HostRuntime) {
     for &text in NO_LISTS {
         let answers = parse_answers(rt.alloc(), text).err();
         let list = parse_list(rt.alloc(), text).err();
-        let bad = Some(ListFault::Bad);
+        let bad = Some(UsageFault::BadList);
         expect_same(&rt, text, (answers, list), (bad, bad));
     }
 }
@@ -425,24 +424,6 @@ fn spelled_lists(rt: HostRuntime) {
 fn an_empty_word(rt: HostRuntime) {
     let found = refusal(rt.alloc(), &["ptb", "--answers", ""]);
     expect_same(&rt, "an empty word", found, BAD_LIST);
-}
-
-// Whether the text of a fault is this one.
-fn has_text(alloc: Global, fault: ListFault, text: &str) -> bool {
-    match fault.to_string(alloc) {
-        Ok(found) => found.as_str() == text,
-        Err(_) => false,
-    }
-}
-
-#[test]
-fn texts_of_list_faults(rt: HostRuntime) {
-    for (fault, text) in [
-        (ListFault::Bad, "bad list"),
-        (ListFault::Memory, "out of memory"),
-    ] {
-        expect_same(&rt, text, has_text(rt.alloc(), fault, text), true);
-    }
 }
 
 const ANSWERS: &[(&str, &[i16])] = &[

@@ -7,9 +7,11 @@ use Rattle.std.proofs.lemmas.List.Elements.{All-push}
 use Rattle.std.proofs.lemmas.Iterator.Splits.{YieldsList-from_str_split}
 use Rattle.std.proofs.lemmas.Iterator.Consumers.{YieldsList-turn, YieldsList-end}
 use Rattle.ptb_options.specs.AnswerLists.{IsItem, SpellsItem}
+use Rattle.ptb_options.specs.declared.usage.UsageFault.TheVariants.{Memory}
 use Rattle.ptb_options.proofs.AnswerTexts.{list_of_words, word_of_items, more_words}
 use Rattle.ptb_options.proofs.ListReturns.{memory_is_bad, none_is_items, read_is_bad}
-use Rattle.ptb_options.proofs.ListReturns.{read_is_memory, refused_is_read, some_text}
+use Rattle.ptb_options.proofs.ListReturns.{read_is_memory, refused_as_list, refused_is_read, some_text}
+use Rattle.ptb_options.proofs.ListReturns.{word_refused_as_list}
 use Rattle.ptb_options.proofs.answers.parse_items.Goals as goal
 
 none_is_some : {T : Type 0} (x : T) → ◌≡◌ {A = Option T} None (Some x) → ⊥
@@ -20,6 +22,7 @@ returns-then-eq g c = record {
   ok = none_is_items g.T.ListItem.marked c.args.text.now c.eq.result c.new-items.result.items c.eq.ensures c.if-eq.true c.new-items.ensures.items;
   bad = read_is_bad c.new-items.result;
   memory = read_is_memory c.new-items.result;
+  fault = tt;
 }
 
 pub loop-word-preserved : goal.loop-word-preserved
@@ -50,6 +53,7 @@ returns-in_err-item g c = record {
       let read = c.parse.ensures.only spelled.0 spelled.1 in
       none_is_some spelled.0 (sym (c.ok_or.ensures.ok_part ∙ ap result_ok c.in_err-item.was) ∙ read);
   memory = λ refused. some_text c.args.text.now c.eq.result c.eq.ensures c.if-eq.false;
+  fault = word_refused_as_list c.parse.result c.ok_or.result c.from_residual.result _ c.ok_or.ensures.value c.in_err-item.was c.from_residual.ensures.1;
 }
 
 pub returns-in_err-push : goal.returns-in_err-push
@@ -57,6 +61,7 @@ returns-in_err-push g c = record {
   ok = refused_is_read _ c.from_residual-in_err-push.result _ c.from_residual-in_err-push.ensures.1;
   bad = memory_is_bad c.from_residual-in_err-push.result c.from_residual-in_err-push.ensures.1;
   memory = λ refused. some_text c.args.text.now c.eq.result c.eq.ensures c.if-eq.false;
+  fault = refused_as_list c.from_residual-in_err-push.result Memory c.from_residual-in_err-push.ensures.1 tt;
 }
 
 pub returns : goal.returns
@@ -71,4 +76,5 @@ returns g c = record {
       (sym all.0 ∙ c.loop-word.invariant.words);
   bad = read_is_bad c.loop-word.items;
   memory = read_is_memory c.loop-word.items;
+  fault = tt;
 }

@@ -1,6 +1,0 @@
--- This file proves goals of `from` by short searches, so that a planted bug is refused soon.
-use Rattle.std.proofs.Common.{rules}
-use Rattle.ptb_options.proofs.usage.UsageFaultFromListFault.from.Goals as goal
-
-pub returns-in-Bad : goal.returns-in-Bad
-returns-in-Bad c = search rules fits 50 depth 2
