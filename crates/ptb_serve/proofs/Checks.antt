@@ -1,7 +1,7 @@
 -- This file proves how the mistakes in a program's text are served, from what was written of them.
 -- Main lemmas: `check_written` and `check_broken`.
-use Rattle.std.proofs.Common.{◌≡◌, ◌∙◌, ℕ, ◌+◌, ◌≤◌, Bool, List, Option, Some, Result, Ok, Err}
-use Rattle.std.proofs.Common.{IsErrOf, ap, sym, subst, refl, arith, inl, inr}
+use Rattle.std.proofs.Common.{◌≡◌, ◌∙◌, ℕ, ◌≤◌, Bool, List, Option, Some, Result, Ok, Err}
+use Rattle.std.proofs.Common.{IsErrOf, ap, sym, subst, refl, arith}
 use Rattle.std.specs.Result.{IsErrAnd}
 use Rattle.std.proofs.lemmas.Result.{err_from_is_err_and}
 use Rattle.ptb_text.specs.Device.{HasFailed}
@@ -12,13 +12,12 @@ use Rattle.ptb_check.specs.Writing.{WritesMistakes}
 use Rattle.ptb_machine.specs.declared.fault.RunFault.TheVariants as faults
 use Rattle.ptb_options.specs.declared.request.Mode.TheVariants as modes
 use Rattle.ptb_options.specs.declared.request.Request.{Request}
-use Rattle.ptb_plain.specs.PlainRuns.{input_limit}
 use Rattle.ptb_serve.specs.declared.note.Note.{Note}
 use Rattle.ptb_serve.specs.declared.note.Note.TheVariants as notes
-use Rattle.ptb_serve.specs.Loaded.{ReadsInput, RefusesListIn, ServesProgram, TellsFailures}
+use Rattle.ptb_serve.specs.Loaded.{RefusesListIn, ServesProgram, TellsFailures}
 use Rattle.ptb_serve.specs.Replies.{check_reply, check_status}
 use Rattle.ptb_serve.proofs.Mismatching.{run_refuses_none, success_refuses_none}
-use Rattle.ptb_serve.proofs.Served.{consumes_nothing, nothing_told, serves_loaded}
+use Rattle.ptb_serve.proofs.Served.{nothing_told, serves_loaded}
 
 module _ (request : Request) (p : StoredProgram) (memory : p.memory ≡ request.memory) (old new known : Option (List ℕ)) where
   pub mistakes_served : (any : Bool) (n : ℕ) → n ≡ check_status any → WritesMistakes (mistakes p.lines) old new (Ok any)
@@ -83,20 +82,3 @@ module _ (p : StoredProgram) (old new : Option (List ℕ)) (broke breaks : ℕ) 
         failures = record { unwritten = λ _. has_failed; written = λ x. absurd (x refl) };
         no_list = run_refuses_none (Err faults.Write) (Err notes.Unwritten) refl;
       })
-
--- the input is left alone
-pub check_reads : (known : Option (List ℕ)) (result : Result ℕ Note) (failed gave : ℕ)
-    → (IsErrOf result notes.InputUnread → ⊥) → (RefusesListIn result → ⊥)
-    → ReadsInput modes.Check known known failed failed gave gave result
-check_reads known result failed gave fine no_list = record {
-  within = λ x. absurd x;
-  taken_within = λ x. absurd x;
-  no_beginning_within = λ x. absurd (no_list (inl x));
-  no_run_within = λ x. absurd (no_list (inr x));
-  bounded = consumes_nothing known (input_limit + 1);
-  given = (omega arith, omega arith);
-  unread = λ x. absurd (fine x);
-  failed_or_given = λ x. absurd (fine x);
-  read = λ _. refl;
-  unneeded = λ _. fine;
-}

@@ -7,6 +7,7 @@ pub mod Running
 pub mod Listed
 pub mod Mismatching
 pub mod Telling
+pub mod WholeInput
 pub mod Listing
 mod Lines
 pub mod Samples

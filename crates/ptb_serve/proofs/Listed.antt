@@ -1,5 +1,5 @@
 -- This file proves how a listing of all runs is served, from where it began and what was written.
--- Main lemmas: `all_listed` and `some_listed`.
+-- Main lemmas: `serves_reports` and `serves_some`.
 use Rattle.std.proofs.Common.{◌≡◌, ℕ, ◌+◌, ◌<◌, ◌≤◌, ◌⊎◌, inl, inr, List, [], ◌∷◌, ◌++◌, length}
 use Rattle.std.proofs.Common.{take, Option, Some, None, Result, Ok, Err, refl, ap, sym, ◌∙◌, subst}
 use Rattle.std.proofs.Common.{append_assoc, arith, IfOk, IfSome, IsErrOf, OnOk}
@@ -10,6 +10,7 @@ use Rattle.std.proofs.lemmas.List.{length-append}
 use Rattle.std.proofs.lemmas.List.Concat.{flat_map-append}
 use Rattle.ptb_text.specs.Device.{GivesAtMost, GivesExactly, HasFailed, TakesSome}
 use Rattle.ptb_text.specs.Lines.{input_lines}
+use Rattle.ptb_text.specs.Loading.{IsLoaded}
 use Rattle.ptb_text.specs.Statements.{StoredProgram}
 use Rattle.ptb_answers.specs.Outcome.{Answers, Outcome}
 use Rattle.ptb_devices.specs.declared.fault.ReadFault.{ReadFault}
@@ -32,16 +33,17 @@ use Rattle.ptb_serve.specs.declared.note.Note.TheVariants as notes
 use Rattle.ptb_options.specs.declared.request.Mode.{Mode}
 use Rattle.ptb_options.specs.declared.request.Mode.TheVariants as modes
 use Rattle.ptb_options.specs.declared.request.Request.{Request}
-use Rattle.ptb_serve.specs.Loaded.{ReadsInput, ServesProgram}
+use Rattle.ptb_serve.specs.Loaded.{ReadsInput, RefusesListIn, ServesProgram}
 use Rattle.ptb_plain.specs.PlainRuns.{IsUnreadable, input_limit}
 use Rattle.ptb_serve.specs.Replies.{Reply, refusal, success, answers_under, first_front, front_note}
 use Rattle.ptb_serve.specs.Replies.{is_front, is_share, listed_runs, listing_reply, runs_reply}
-use Rattle.ptb_serve.specs.Replies.{all_reply}
+use Rattle.ptb_serve.specs.Replies.{all_reply, reply_in_mode}
 use Rattle.ptb_serve.specs.Serving.{outcome_of, input_note, reports_note, IsPlainRun, IsUnloaded}
-use Rattle.ptb_serve.specs.Serving.{ListsFewerOf, NeedsInput, Serves, SilentBy}
+use Rattle.ptb_serve.specs.Serving.{IsCheck, IsInput, ListsFewerOf, NeedsInput, NeedsWholeInput, ReadsForRun}
+use Rattle.ptb_serve.specs.Serving.{Serves, ServesUnread, SilentBy, StopsForMemory}
 use Rattle.ptb_serve.proofs.Fronts.{note_is}
 use Rattle.ptb_plain.proofs.Playing.{takes_beginning}
-use Rattle.ptb_serve.proofs.Served.{at_known, consumes_nothing, lists_loaded, nothing_told}
+use Rattle.ptb_serve.proofs.Served.{consumes_nothing, nothing_told}
 use Rattle.ptb_serve.proofs.Served.{serves_loaded, takes_nothing, replies_refusal}
 
 -- ---- nothing was written but the front of what is due
@@ -139,13 +141,6 @@ reports_note-write (explores.Memory m) h n e = absurd cc
 reports_note-write (explores.Write m) h n e = h refl
 
 -- nothing was written where the input isn't read
-input_note-silent : (under after : Option (List Marked)) (first : Option ℕ) (form : Form) (held : Option (List ℕ))
-    (fault : ReadFault)
-    → SilentBy (modes.All under after first form) (Some (input_note fault)) held held
-input_note-silent under after first form held reads.Read = Appends-nil held
-input_note-silent under after first form held reads.TooLong = Appends-nil held
-input_note-silent under after first form held reads.Memory = tt
-
 pub input_note-written : (fault : ReadFault) → IsErrOf {T = ℕ} (Err (input_note fault)) notes.Unwritten → ⊥
 input_note-written reads.Read h = absurd cc
 input_note-written reads.TooLong h = absurd cc
@@ -154,12 +149,6 @@ input_note-written reads.Memory h = absurd cc
 pub reports_note-read : (fault : ExploreFault) → IsErrOf {T = ℕ} (Err (reports_note fault)) notes.InputUnread → ⊥
 reports_note-read (explores.Memory n) h = absurd cc
 reports_note-read (explores.Write n) h = absurd cc
-
-pub reports_note-silent : (under after : Option (List Marked)) (first : Option ℕ) (form : Form)
-    (old new : Option (List ℕ)) (fault : ExploreFault)
-    → SilentBy (modes.All under after first form) (Some (reports_note fault)) old new
-reports_note-silent under after first form old new (explores.Memory n) = tt
-reports_note-silent under after first form old new (explores.Write n) = tt
 
 -- ---- the replies
 
@@ -192,12 +181,6 @@ module _ (p : StoredProgram) (rules : Rules) (under after : Option (List Marked)
   -- ---- how it is served, where nothing was written
 
   module _ (held : Option (List ℕ)) where
-    serves_unread : (input : List (List ℕ)) (fault : ReadFault)
-        → Serves (reply input) held held (outcome_of (Err (input_note fault)))
-    serves_unread input reads.Read = takes_nothing held _
-    serves_unread input reads.TooLong = takes_nothing held _
-    serves_unread input reads.Memory = takes_nothing held _
-
     serves_refused : (input : List (List ℕ)) (note : Note) → (note ≡ notes.NoBeginning) ⊎ (note ≡ notes.NoRun)
         → Serves (refusal note) held held (outcome_of (Err note))
     serves_refused input note (inl e) =
@@ -216,10 +199,6 @@ module _ (p : StoredProgram) (rules : Rules) (under after : Option (List Marked)
 
     -- by the bytes of the input, of which the lines are those that were read
     module _ (c : List ℕ) where
-      pub serves_input : (fault : ReadFault)
-          → Serves (runs_due rules under after first form c p) held held (outcome_of (Err (input_note fault)))
-      serves_input fault = serves_unread (input_lines c) fault
-
       pub serves_front : (input : List (List ℕ)) → input ≡ input_lines c → (note : Note)
           → (note ≡ notes.OutOfMemory) ⊎ (front_note (game input) under after ≡ Some note)
           → Serves (runs_due rules under after first form c p) held held (outcome_of (Err note))
@@ -289,12 +268,12 @@ module _ (p : StoredProgram) (rules : Rules) (under after : Option (List Marked)
           (serves_written input f n h (written_from (Ok n) w))
 
       -- where memory is refused, some report is still to be written
-      pub lists_some : (fault : ExploreFault) → WritesFrom e (Err fault)
+      pub lists_fewer : (fault : ExploreFault) → WritesFrom e (Err fault)
           → IsErrOf {T = ℕ} (Err (reports_note fault)) notes.OutOfMemory
-          → Appends old new [] ⊎ ListsFewerOf p (input_lines c) rules under after first form old new
-      lists_some fault w refused =
-          subst (λ k. Appends old new [] ⊎ ListsFewerOf p k rules under after first form old new) is
-          (inr (writes_fewer input f fault (written_from (Err fault) w) refused))
+          → ListsFewerOf p (input_lines c) rules under after first form old new
+      lists_fewer fault w refused =
+          subst (λ k. ListsFewerOf p k rules under after first form old new) is
+          (writes_fewer input f fault (written_from (Err fault) w) refused)
 
       pub serves_some : (fault : ExploreFault) → WritesFrom e (Err fault)
           → Serves (runs_due rules under after first form c p) old new (outcome_of (Err (reports_note fault)))
@@ -313,6 +292,29 @@ zero_within (Err note) h = tt
 on_ok : (r : Result ℕ Note) (Q : Type 0) → Q → OnOk r Q
 on_ok (Ok n) Q q = q
 on_ok (Err note) Q q = tt
+
+-- a mode that says nothing of how much is read, and whose status is 0 or a note's
+module _ (mode : Mode) (no_check : IsCheck mode → ⊥) (request : Request) (p : StoredProgram) (i j old new : Option (List ℕ)) (result : Result ℕ Note) where
+  pub serves_mode :
+      ((b c : List ℕ) → IsLoaded request.memory b p.lines → IsInput mode i c
+      → Serves (reply_in_mode mode request b c) old new (outcome_of result))
+      → ((b : List ℕ) → IfSome i (λ c. ReadsForRun mode request b c j (outcome_of result)))
+      → ((b : List ℕ) → IsErrOf result notes.InputUnread → ServesUnread mode request i j b old new)
+      → ((b c : List ℕ) → IsLoaded request.memory b p.lines → IsInput mode i c
+      → IsErrOf result notes.OutOfMemory → StopsForMemory mode request b c old new)
+      → SilentBy mode (outcome_of result).note old new → OnOk result (result ≡ Ok 0)
+      → (IsUnloaded (outcome_of result).note → ⊥) → ServesProgram mode request p i j old new result
+  serves_mode served taken unread stopped quiet success loaded = record {
+    served = served;
+    taken = λ b _. taken b;
+    unread = λ b _. unread b;
+    silent = quiet;
+    stopped = stopped;
+    status = zero_within result success;
+    success = λ _ _. success;
+    checked = λ x. absurd (no_check x);
+    loaded = loaded;
+  }
 
 -- ---- an input that is read to its end
 
@@ -369,92 +371,6 @@ module _ (mode : Mode) (plain : IsPlainRun mode → ⊥) (needs : NeedsInput mod
       unneeded = λ x. absurd (x needs);
     }
 
--- ---- a listing of runs
-
-module _ (request : Request) (p : StoredProgram) (memory : p.memory ≡ request.memory) (under after : Option (List Marked)) (first : Option ℕ) (form : Form) (i j : Option (List ℕ)) where
-  abbrev listing : Mode
-  listing = modes.All under after first form
-
-  pub listing_serves : (old new : Option (List ℕ)) (result : Result ℕ Note)
-      → ((c : List ℕ) → i ≡ Some c → Serves (runs_due request.rules under after first form c p) old new (outcome_of result))
-      → SilentBy listing (outcome_of result).note old new
-      → ((c : List ℕ) → i ≡ Some c → IsErrOf result notes.OutOfMemory → Appends old new [] ⊎ ListsFewerOf p (input_lines c) request.rules under after first form old new)
-      → (IsErrOf result notes.InputUnread → Appends old new [])
-      → OnOk result (result ≡ Ok 0) → (IsUnloaded (outcome_of result).note → ⊥)
-      → ServesProgram listing request p i j old new result
-  listing_serves old new result served quiet stopped unread success loaded = record {
-    served =
-        λ b c l is. serves_loaded request.memory (Some b)
-        (runs_due request.rules under after first form c) p old new result l memory (served c is);
-    taken = λ b l. nothing_told i;
-    unread = λ b l. unread;
-    silent = quiet;
-    stopped = λ b c l is h. lists_loaded request b c p under after first form old new l memory (stopped c is h);
-    status = zero_within result success;
-    success = λ _ _. success;
-    checked = λ x. absurd x;
-    loaded = loaded;
-  }
-
-  module _ (failed fails gave gives : ℕ) where
-    -- once its lines were read
-    pub listing_reads : (result : Result ℕ Note) → IfSome i (λ c. length c ≤ input_limit)
-        → ConsumesAtMost i j (input_limit + 1) → GivesAtMost gave gives (input_limit + 1)
-        → fails ≡ failed → (IsErrOf result notes.InputUnread → ⊥)
-        → ReadsInput listing i j failed fails gave gives result
-    listing_reads result = whole_reads listing (λ x. x) tt i j failed fails gave gives result
-
-    -- where they are not
-    pub lines_unread : {T : Type 0} (fault : ReadFault)
-        (read : IsErrOf {T = T} (Err fault) reads.Read → HasFailed failed fails)
-        → (IsErrOf {T = T} (Err fault) reads.TooLong → IfSome i (λ c. input_limit < length c))
-        → (IsErrOf {T = T} (Err fault) reads.TooLong → GivesExactly gave gives (input_limit + 1))
-        → ((IsErrOf {T = T} (Err fault) reads.Read → ⊥) → fails ≡ failed)
-        → ConsumesAtMost i j (input_limit + 1) → GivesAtMost gave gives (input_limit + 1)
-        → ReadsInput listing i j failed fails gave gives (Err (input_note fault))
-    lines_unread {T = T} fault read = whole_unread listing (λ x. x) tt i j failed fails gave gives {T = T} fault read
-
-  -- by the writer, which got nothing
-  pub unread_listed : (held : Option (List ℕ)) (fault : ReadFault)
-      → ServesProgram listing request p i j held held (Err (input_note fault))
-  unread_listed held fault =
-      listing_serves held held (Err (input_note fault))
-      (λ c is. serves_input p request.rules under after first form held c fault)
-      (input_note-silent under after first form held fault)
-      (λ _ _ _. inl (Appends-nil held)) (λ _. Appends-nil held) tt (input_note-loaded fault)
-
-  module _ (input : List (List ℕ)) (lines : IfSome i (λ c. input ≡ input_lines c)) where
-    pub unbegun_listed : (held : Option (List ℕ)) (note : Note)
-        → (note ≡ notes.OutOfMemory) ⊎ (front_note (play p input request.rules) under after ≡ Some note)
-        → ServesProgram listing request p i j held held (Err note)
-    unbegun_listed held note one =
-        listing_serves held held (Err note) (λ c is. serves_front p request.rules under after first form held c input (at_known (λ d. input ≡ input_lines d) c is lines) note one)
-        (front_note-silent (play p input request.rules) under after first form held note one) (λ _ _ _. inl (Appends-nil held)) (λ _. Appends-nil held) tt (front_note-loaded (play p input request.rules) under after note one)
-
-    -- an explorer went on from its front
-    module _ (old new : Option (List ℕ)) (e : Exploration) (f : Front)
-        (same : e ≡ record { program = p; input = input; rules = request.rules; under = answers_under under; front = first_front after; kept = e.kept; played = e.played })
-        (h : front_note (play p input request.rules) under after ≡ None) where
-      abbrev WritesOn : Result ℕ ExploreFault → Type 0
-      WritesOn result =
-          WritesRuns (play_of e) e.under (report form (play_of e))
-          (runs_left (play_of e) (most_of e) e.under e.front first) e.front f old new result
-
-      pub all_listed : (n : ℕ) → WritesOn (Ok n) → ServesProgram listing request p i j old new (Ok 0)
-      all_listed n w =
-          listing_serves old new (Ok 0)
-          (λ c is. serves_reports p request.rules under after first form old new c input (at_known (λ d. input ≡ input_lines d) c is lines) e f same h n w)
-          tt (λ _ _ x. absurd cc) (λ x. absurd cc) refl (λ x. x)
-
-      pub some_listed : (fault : ExploreFault) → WritesOn (Err fault)
-          → ServesProgram listing request p i j old new (Err (reports_note fault))
-      some_listed fault w =
-          listing_serves old new (Err (reports_note fault))
-          (λ c is. serves_some p request.rules under after first form old new c input (at_known (λ d. input ≡ input_lines d) c is lines) e f same h fault w)
-          (reports_note-silent under after first form old new fault)
-          (λ c is. lists_some p request.rules under after first form old new c input (at_known (λ d. input ≡ input_lines d) c is lines) e f same h fault w)
-          (λ x. absurd (reports_note-read fault x)) tt (reports_note-loaded fault)
-
 -- ---- a listing of the program's text, which leaves the input alone
 
 module _ (request : Request) (p : StoredProgram) (memory : p.memory ≡ request.memory) (i : Option (List ℕ)) (result : Result ℕ Note) (fine : IsErrOf result notes.InputUnread → ⊥) where
@@ -462,29 +378,25 @@ module _ (request : Request) (p : StoredProgram) (memory : p.memory ≡ request.
       → SilentBy modes.List (outcome_of result).note old new
       → OnOk result (result ≡ Ok 0) → (IsUnloaded (outcome_of result).note → ⊥)
       → ServesProgram modes.List request p i i old new result
-  text_serves old new served quiet success loaded = record {
-    served = λ b c l is. serves_loaded request.memory (Some b) listing_reply p old new result l memory served;
-    taken = λ b l. nothing_told i;
-    unread = λ b l x. absurd (fine x);
-    silent = quiet;
-    stopped = λ b c _ _ _. tt;
-    status = zero_within result success;
-    success = λ _ _. success;
-    checked = λ x. absurd x;
-    loaded = loaded;
-  }
+  text_serves old new served quiet success loaded =
+      serves_mode modes.List (λ x. x) request p i i old new result
+      (λ b c l is. serves_loaded request.memory (Some b) listing_reply p old new result l memory served)
+      (λ b. nothing_told i) (λ b x. absurd (fine x)) (λ b c _ _ _. tt) quiet success loaded
 
-  pub text_reads : (failed gave : ℕ) → (IsErrOf result notes.NoBeginning → ⊥) → (IsErrOf result notes.NoRun → ⊥)
-      → ReadsInput modes.List i i failed failed gave gave result
-  text_reads failed gave begun run = record {
-    within = λ x. absurd x;
-    taken_within = λ x. absurd x;
-    no_beginning_within = λ x. absurd (begun x);
-    no_run_within = λ x. absurd (run x);
-    bounded = consumes_nothing i (input_limit + 1);
-    given = (omega arith, omega arith);
-    unread = λ x. absurd (fine x);
-    failed_or_given = λ x. absurd (fine x);
-    read = λ _. refl;
-    unneeded = λ _. fine;
-  }
+-- ---- an input that is left alone
+
+pub untouched_reads : (mode : Mode) → (NeedsWholeInput mode → ⊥) → (IsPlainRun mode → ⊥) → (i : Option (List ℕ)) (failed gave : ℕ)
+    (result : Result ℕ Note) → (IsErrOf result notes.InputUnread → ⊥) → (RefusesListIn result → ⊥)
+    → ReadsInput mode i i failed failed gave gave result
+untouched_reads mode part plain i failed gave result fine no_list = record {
+  within = λ x. absurd (part x);
+  taken_within = λ x. absurd (plain x);
+  no_beginning_within = λ x. absurd (no_list (inl x));
+  no_run_within = λ x. absurd (no_list (inr x));
+  bounded = consumes_nothing i (input_limit + 1);
+  given = (omega arith, omega arith);
+  unread = λ x. absurd (fine x);
+  failed_or_given = λ x. absurd (fine x);
+  read = λ _. refl;
+  unneeded = λ _. fine;
+}

@@ -1,24 +1,21 @@
 -- This file joins all that is known of a listing of runs, by whether it was begun and written to its end.
 -- Main lemmas: `listing_written` and `listing_broken`.
-use Rattle.std.proofs.Common.{◌≡◌, ◌⊎◌, ℕ, ◌+◌, ◌<◌, List, length, Option, None, Some, Result, Ok}
-use Rattle.std.proofs.Common.{Err, IfSome, IsErrOf, inl, inr, refl, ap, sym, subst, ◌∙◌}
+use Rattle.std.proofs.Common.{◌≡◌, ◌⊎◌, ℕ, List, Option, None, Some, Result, Ok}
+use Rattle.std.proofs.Common.{Err, IfSome, IsErrOf, inl, inr, refl}
 use Rattle.std.specs.Result.{IsErrAnd}
-use Rattle.std.proofs.lemmas.Result.{err_from_is_err_and}
-use Rattle.ptb_text.specs.Device.{GivesAtMost, GivesExactly, HasFailed}
+use Rattle.std.proofs.KnownBytes.{Appends-nil}
 use Rattle.ptb_text.specs.Lines.{input_lines}
 use Rattle.ptb_text.specs.Statements.{StoredProgram}
 use Rattle.ptb_devices.specs.declared.fault.ReadFault.{ReadFault}
-use Rattle.ptb_devices.specs.declared.fault.ReadFault.TheVariants as reads
-use Rattle.ptb_devices.specs.Sources.{ConsumesAtMost}
 use Rattle.ptb_machine.specs.Play.{play}
 use Rattle.ptb_answers.specs.declared.form.Form.{Form}
 use Rattle.ptb_answers.specs.declared.form.Marked.{Marked}
 use Rattle.ptb_explore.specs.declared.fault.ExploreFault.{ExploreFault}
-use Rattle.ptb_explore.specs.declared.fault.ExploreFault.TheVariants as explores
 use Rattle.ptb_explore.specs.Exploring.{Exploration, play_of, most_of}
 use Rattle.ptb_explore.specs.Listing.{WritesRuns}
 use Rattle.ptb_explore.specs.Report.{report}
 use Rattle.ptb_explore.specs.RunTree.{Front, runs_left}
+use Rattle.ptb_options.specs.declared.request.Mode.{Mode}
 use Rattle.ptb_options.specs.declared.request.Mode.TheVariants as modes
 use Rattle.ptb_options.specs.declared.request.Request.{Request}
 use Rattle.ptb_serve.specs.declared.note.Note.{Note}
@@ -27,56 +24,54 @@ use Rattle.ptb_explore.specs.declared.fault.OpenFault.{OpenFault}
 use Rattle.ptb_explore.specs.declared.fault.OpenFault.TheVariants.{Memory, NoBeginning, NotARun}
 use Rattle.ptb_serve.specs.declared.list_mismatch.ListMismatch.TheVariants.{Under, After}
 use Rattle.ptb_serve.specs.ListMismatches.{IsUnbegun, mismatch_note, unbegun_attempt}
-use Rattle.ptb_serve.specs.Loaded.{ReadsInput, RefusesListIn, ServesProgram, TellsFailures}
-use Rattle.ptb_plain.specs.PlainRuns.{input_limit}
+use Rattle.ptb_serve.specs.Loaded.{IsServedOn, ServesProgram, TellsFailures}
 use Rattle.ptb_serve.specs.Replies.{answers_under, first_front, front_note}
-use Rattle.ptb_serve.specs.Serving.{input_note, reports_note}
-use Rattle.ptb_serve.proofs.Listed.{all_listed, front_note-other, input_note-written, lines_unread}
-use Rattle.ptb_serve.proofs.Listed.{reports_note-failed, reports_note-read, reports_note-write}
-use Rattle.ptb_serve.proofs.Listed.{some_listed, unbegun_listed, unread_listed}
-
--- what a `?` gives back is the error
-pub gives_err : {T E : Type 0} (r : Result T E) (e : E) → IsErrAnd r (λ y. y ≡ e) → r ≡ Err e
-gives_err r e h =
-    let p = err_from_is_err_and r h in
-    p.1 ∙ ap Err p.2
-
--- and what is no error is none of a kind
-pub no_fault : {T E : Type 0} (t : T) (e : E) → IsErrOf (Ok t) e → ⊥
-no_fault t e is = cc
-
--- once reports are written, no list is refused
-pub reports_refuse_none : (fault : ExploreFault) → RefusesListIn (Err (reports_note fault)) → ⊥
-reports_refuse_none (explores.Memory n) (inl x) = cc
-reports_refuse_none (explores.Memory n) (inr x) = cc
-reports_refuse_none (explores.Write n) (inl x) = cc
-reports_refuse_none (explores.Write n) (inr x) = cc
+use Rattle.ptb_serve.specs.Serving.{ListsFewerOf, input_note, reports_note}
+use Rattle.ptb_serve.proofs.Listed.{front_note-loaded, front_note-other, front_note-silent, lists_fewer}
+use Rattle.ptb_serve.proofs.Listed.{runs_due, serves_front, serves_mode, serves_reports, serves_some}
+use Rattle.ptb_serve.proofs.Served.{at_known, lists_loaded, nothing_told, serves_loaded}
+use Rattle.ptb_serve.proofs.WholeInput.{IsDue, TellsWriter, all_due, all_written, cut_due}
+use Rattle.ptb_serve.proofs.WholeInput.{cut_silent, reports_cut, unread_due}
 
 module _ (request : Request) (p : StoredProgram) (memory : p.memory ≡ request.memory) (under after : Option (List Marked)) (first : Option ℕ) (form : Form) where
-  -- ---- the lines can't be read
+  abbrev listing : Mode
+  listing = modes.All under after first form
 
-  pub record IsListed (known left : Option (List ℕ)) (failed fails gave gives : ℕ) (old new : Option (List ℕ)) (broke breaks : ℕ) (result : Result ℕ Note) : Type 0 where
-    pub serves : ServesProgram (modes.All under after first form) request p known left old new result
-    pub reads : ReadsInput (modes.All under after first form) known left failed fails gave gives result
-    pub failures : TellsFailures broke breaks result
+  abbrev Fewer : Option (List ℕ) → Option (List ℕ) → List ℕ → Type 0
+  Fewer old new c = ListsFewerOf p (input_lines c) request.rules under after first form old new
 
-  pub listing_unread : {T : Type 0} (known left : Option (List ℕ)) (failed fails gave gives : ℕ)
-      (held : Option (List ℕ)) (broke : ℕ) (result : Result ℕ Note) (fault : ReadFault)
-      → IsErrAnd result (λ n. n ≡ input_note fault)
-      → (IsErrOf {T = T} (Err fault) reads.Read → HasFailed failed fails)
-      → (IsErrOf {T = T} (Err fault) reads.TooLong → IfSome known (λ c. input_limit < length c))
-      → (IsErrOf {T = T} (Err fault) reads.TooLong → GivesExactly gave gives (input_limit + 1))
-      → ((IsErrOf {T = T} (Err fault) reads.Read → ⊥) → fails ≡ failed)
-      → ConsumesAtMost known left (input_limit + 1) → GivesAtMost gave gives (input_limit + 1)
-      → IsListed known left failed fails gave gives held held broke broke result
-  listing_unread {T = T} known left failed fails gave gives held broke result fault is read long exactly unfailed bounded given =
-      subst (IsListed known left failed fails gave gives held held broke broke)
-      (sym (gives_err result (input_note fault) is))
-      (record {
-        serves = unread_listed request p memory under after first form known left held fault;
-        reads = lines_unread request p memory under after first form known left failed fails gave gives {T = T} fault read long exactly unfailed bounded given;
-        failures = record { unwritten = λ x. absurd (input_note-written fault x); written = λ _. refl };
-      })
+  module _ (i j : Option (List ℕ)) where
+    listing_serves : (old new : Option (List ℕ)) (result : Result ℕ Note)
+        → IsDue listing (λ c. runs_due request.rules under after first form c p) (Fewer old new) i old new result
+        → ServesProgram listing request p i j old new result
+    listing_serves old new result due =
+        serves_mode listing (λ x. x) request p i j old new result
+        (λ b c l is. serves_loaded request.memory (Some b) (runs_due request.rules under after first form c) p old new result l memory (due.served c is))
+        (λ b. nothing_told i) (λ b. due.unread)
+        (λ b c l is h. lists_loaded request b c p under after first form old new l memory (due.stopped c is h))
+        due.quiet due.success due.loaded
+
+    -- by the writer, which got nothing
+    pub unread_listed : (held : Option (List ℕ)) (fault : ReadFault)
+        → ServesProgram listing request p i j held held (Err (input_note fault))
+    unread_listed held fault =
+        listing_serves held held (Err (input_note fault))
+        (unread_due listing (λ c. runs_due request.rules under after first form c p) (Fewer held held) i held (Appends-nil held) tt fault)
+
+    module _ (input : List (List ℕ)) (lines : IfSome i (λ c. input ≡ input_lines c)) where
+      unbegun_listed : (held : Option (List ℕ)) (note : Note)
+          → (note ≡ notes.OutOfMemory) ⊎ (front_note (play p input request.rules) under after ≡ Some note)
+          → ServesProgram listing request p i j held held (Err note)
+      unbegun_listed held note one =
+          listing_serves held held (Err note)
+          (record {
+            served = λ c is. serves_front p request.rules under after first form held c input (at_known (λ d. input ≡ input_lines d) c is lines) note one;
+            quiet = front_note-silent (play p input request.rules) under after first form held note one;
+            stopped = λ _ _ _. inl (Appends-nil held);
+            unread = λ _. Appends-nil held;
+            success = tt;
+            loaded = front_note-loaded (play p input request.rules) under after note one;
+          })
 
   -- ---- they were read, and are `input`
 
@@ -92,7 +87,7 @@ module _ (request : Request) (p : StoredProgram) (memory : p.memory ≡ request.
         → (note ≡ notes.OutOfMemory) ⊎ (front_note (play p input request.rules) under after ≡ Some note)
         → IsListedOn held held broke broke (Err note)
     unbegun_noted held broke note unbegun = record {
-      serves = λ known left lines. unbegun_listed request p memory under after first form known left input lines held note unbegun;
+      serves = λ known left lines. unbegun_listed known left input lines held note unbegun;
       read =
           front_note-other (play p input request.rules) under after note notes.InputUnread unbegun (λ x. absurd cc)
           (λ x. absurd cc) (λ x. absurd cc);
@@ -121,24 +116,20 @@ module _ (request : Request) (p : StoredProgram) (memory : p.memory ≡ request.
       -- some reports are written
       pub listing_broken : {T : Type 0} (result : Result ℕ Note) (fault : ExploreFault)
           → IsErrAnd result (λ n. n ≡ reports_note fault) → Writes (Err fault)
-          → ((n : ℕ) → IsErrOf {T = T} (Err fault) (explores.Write n) → HasFailed broke breaks)
-          → (((n : ℕ) → IsErrOf {T = T} (Err fault) (explores.Write n) → ⊥) → breaks ≡ broke)
-          → IsListedOn old new broke breaks result
-      listing_broken {T = T} result fault is writes failed unfailed =
-          subst (IsListedOn old new broke breaks) (sym (gives_err result (reports_note fault) is))
-          (record {
-            serves = λ known left lines. some_listed request p memory under after first form known left input lines old new e f same begun fault writes;
-            read = reports_note-read fault;
-            failures = record {
-              unwritten = reports_note-failed {T = T} fault failed;
-              written = λ x. unfailed (reports_note-write {T = T} fault x);
-            };
-          })
+          → TellsWriter T fault broke breaks → IsServedOn listing request p input (record { before = old; after = new; failed = broke; fails = breaks }) result
+      listing_broken {T = T} result fault is writes =
+          reports_cut listing request p input (record { before = old; after = new; failed = broke; fails = breaks }) {T = T} result fault is
+          (λ i j lines. listing_serves i j old new (Err (reports_note fault))
+          (cut_due listing (λ c. runs_due request.rules under after first form c p) (Fewer old new) i old new fault
+          (λ c is. serves_some p request.rules under after first form old new c input (at_known (λ d. input ≡ input_lines d) c is lines) e f same begun fault writes)
+          (cut_silent listing old new tt tt fault)
+          (λ c is. lists_fewer p request.rules under after first form old new c input (at_known (λ d. input ≡ input_lines d) c is lines) e f same begun fault writes)))
 
       -- all are
-      pub listing_written : (n : ℕ) → Writes (Ok n) → breaks ≡ broke → IsListedOn old new broke breaks (Ok 0)
-      listing_written n writes unfailed = record {
-        serves = λ known left lines. all_listed request p memory under after first form known left input lines old new e f same begun n writes;
-        read = λ x. absurd cc;
-        failures = record { unwritten = λ x. absurd cc; written = λ _. unfailed };
-      }
+      pub listing_written : (n : ℕ) → Writes (Ok n) → breaks ≡ broke
+          → IsServedOn listing request p input (record { before = old; after = new; failed = broke; fails = breaks }) (Ok 0)
+      listing_written n writes =
+          all_written listing request p input (record { before = old; after = new; failed = broke; fails = breaks })
+          (λ i j lines. listing_serves i j old new (Ok 0)
+          (all_due listing (λ c. runs_due request.rules under after first form c p) (Fewer old new) i old new
+          (λ c is. serves_reports p request.rules under after first form old new c input (at_known (λ d. input ≡ input_lines d) c is lines) e f same begun n writes) tt))

@@ -22,13 +22,12 @@ use Rattle.ptb_machine.specs.Runs.{ending_alone}
 use Rattle.ptb_machine.specs.declared.run_end.RunEnd.{RunEnd}
 use Rattle.ptb_plain.specs.PlainRuns.{HasLine, WantsMemory}
 use Rattle.ptb_plain.specs.Streams.{Reads, Writes}
-use Rattle.ptb_serve.specs.Loaded.{IsRunStatus, ReadsInput, RefusesListIn, ServesProgram}
+use Rattle.ptb_serve.specs.Loaded.{IsServed, IsRunStatus, ReadsInput, RefusesListIn, ServesProgram}
 use Rattle.ptb_serve.specs.Loaded.{TellsFailures, TellsLine, TellsMismatch, line_of}
 use Rattle.ptb_plain.specs.SeededRuns.{seeded_answers}
 use Rattle.ptb_serve.specs.Serving.{NeedsInput}
-use Rattle.ptb_serve.proofs.Checks.{check_reads}
 use Rattle.ptb_serve.proofs.Lines.{none_stopped, run_line}
-use Rattle.ptb_serve.proofs.Listed.{text_reads, text_serves}
+use Rattle.ptb_serve.proofs.Listed.{text_serves, untouched_reads}
 use Rattle.ptb_serve.proofs.Served.{unread}
 use Rattle.ptb_serve.proofs.Mismatching.{none_told, run_refuses_none, success_refuses_none}
 use Rattle.ptb_serve.proofs.Running.{Ran, plain_reads, plain_serves, run_failures, seeded_reads, seeded_serves}
@@ -100,37 +99,24 @@ module _ (request : Request) (p : StoredProgram) where
 
     -- the lists that split its runs
     pub served_shares : (result : Result ℕ Note) (mode : Mode) (n : ℕ) (form : Form) → mode ≡ modes.Shares n form
-        → ServesProgram (modes.Shares n form) request p input.bytes input.left out.before out.after result
-        → ReadsInput (modes.Shares n form) input.bytes input.left input.failed input.fails input.gave input.gives result
-        → TellsFailures out.failed out.fails result
-        → (RefusesListIn result → ⊥)
-        → IsServedIn input out result None None mode
-    served_shares result mode n form is serves reads tells no_list =
+        → IsServed (modes.Shares n form) request p input out result → IsServedIn input out result None None mode
+    served_shares result mode n form is x =
         subst (IsServedIn input out result None None) (sym is)
-        (record { serves = serves; reads = reads; failures = tells; mismatch = none_told _ _ _ _ _ no_list; line = none_stopped _ _ _ _ _ (λ lines. refl); input_kept = λ x. absurd (x tt) })
+        (record { serves = x.serves; reads = x.reads; failures = x.failures; mismatch = none_told _ _ _ _ _ x.no_list; line = none_stopped _ _ _ _ _ (λ lines. refl); input_kept = λ y. absurd (y tt) })
 
     -- a sample of its runs
-    pub served_sample : (result : Result ℕ Note) (mode : Mode) (seed runs : ℕ) (form : Form)
-        → mode ≡ modes.Sample seed runs form
-        → ServesProgram (modes.Sample seed runs form) request p input.bytes input.left out.before out.after result
-        → ReadsInput (modes.Sample seed runs form) input.bytes input.left input.failed input.fails input.gave input.gives result
-        → TellsFailures out.failed out.fails result
-        → (RefusesListIn result → ⊥)
-        → IsServedIn input out result None None mode
-    served_sample result mode seed runs form is serves reads tells no_list =
+    pub served_sample : (result : Result ℕ Note) (mode : Mode) (seed runs : ℕ) (form : Form) → mode ≡ modes.Sample seed runs form
+        → IsServed (modes.Sample seed runs form) request p input out result → IsServedIn input out result None None mode
+    served_sample result mode seed runs form is x =
         subst (IsServedIn input out result None None) (sym is)
-        (record { serves = serves; reads = reads; failures = tells; mismatch = none_told _ _ _ _ _ no_list; line = none_stopped _ _ _ _ _ (λ lines. refl); input_kept = λ x. absurd (x tt) })
+        (record { serves = x.serves; reads = x.reads; failures = x.failures; mismatch = none_told _ _ _ _ _ x.no_list; line = none_stopped _ _ _ _ _ (λ lines. refl); input_kept = λ y. absurd (y tt) })
 
     -- the table of its chances
     pub served_chances : (result : Result ℕ Note) (mode : Mode) → mode ≡ modes.Chances
-        → ServesProgram modes.Chances request p input.bytes input.left out.before out.after result
-        → ReadsInput modes.Chances input.bytes input.left input.failed input.fails input.gave input.gives result
-        → TellsFailures out.failed out.fails result
-        → (RefusesListIn result → ⊥)
-        → IsServedIn input out result None None mode
-    served_chances result mode is serves reads tells no_list =
+        → IsServed modes.Chances request p input out result → IsServedIn input out result None None mode
+    served_chances result mode is x =
         subst (IsServedIn input out result None None) (sym is)
-        (record { serves = serves; reads = reads; failures = tells; mismatch = none_told _ _ _ _ _ no_list; line = none_stopped _ _ _ _ _ (λ lines. refl); input_kept = λ x. absurd (x tt) })
+        (record { serves = x.serves; reads = x.reads; failures = x.failures; mismatch = none_told _ _ _ _ _ x.no_list; line = none_stopped _ _ _ _ _ (λ lines. refl); input_kept = λ y. absurd (y tt) })
 
   -- a listing of its text, which leaves the input alone
   module _ {R : Type 0} (i : R) (known : Option (List ℕ)) (failed gave : ℕ) (out : Writes) (mode : Mode) (is : mode ≡ modes.List) (memory : p.memory ≡ request.memory) where
@@ -142,8 +128,7 @@ module _ (request : Request) (p : StoredProgram) where
           serves =
               text_serves request p memory known (Ok 0) (λ x. absurd cc) out.before out.after
               (record { bytes = all; status = refl; note = refl }) tt refl (λ x. x);
-          reads =
-              text_reads request p memory known (Ok 0) (λ x. absurd cc) failed gave (λ x. absurd cc) (λ x. absurd cc);
+          reads = untouched_reads modes.List (λ x. x) (λ x. x) known failed gave (Ok 0) (λ x. absurd cc) (success_refuses_none 0);
           failures = record { unwritten = λ x. absurd cc; written = λ _. unfailed };
           mismatch = none_told _ _ _ _ _ (success_refuses_none 0);
           line = none_stopped _ _ _ _ _ (λ lines. refl);
@@ -162,9 +147,8 @@ module _ (request : Request) (p : StoredProgram) where
           serves =
               text_serves request p memory known (Err notes.Unwritten) (λ x. absurd cc) out.before out.after some tt tt
               (λ x. x);
-          reads =
-              text_reads request p memory known (Err notes.Unwritten) (λ x. absurd cc) failed gave (λ x. absurd cc)
-              (λ x. absurd cc);
+          reads = untouched_reads modes.List (λ x. x) (λ x. x) known failed gave (Err notes.Unwritten) (λ x. absurd cc)
+              (run_refuses_none (Err faults.Write) (Err notes.Unwritten) refl);
           failures = record { unwritten = λ _. has_failed; written = λ x. absurd (x refl) };
           mismatch = none_told _ _ _ _ _ (run_refuses_none (Err faults.Write) (Err notes.Unwritten) refl);
           line = none_stopped _ _ _ _ _ (λ lines. refl);
@@ -179,4 +163,4 @@ module _ (request : Request) (p : StoredProgram) where
       → IsServedIn (unread i known gave failed) out result None None mode
   served_check i known failed gave out mode result is serves fine tells no_list =
       subst (IsServedIn (unread i known gave failed) out result None None) (sym is)
-      (record { serves = serves; reads = check_reads known result failed gave fine no_list; failures = tells; mismatch = none_told _ _ _ _ _ no_list; line = none_stopped _ _ _ _ _ (λ lines. refl); input_kept = λ _. refl })
+      (record { serves = serves; reads = untouched_reads modes.Check (λ x. x) (λ x. x) known failed gave result fine no_list; failures = tells; mismatch = none_told _ _ _ _ _ no_list; line = none_stopped _ _ _ _ _ (λ lines. refl); input_kept = λ _. refl })

@@ -278,26 +278,24 @@ load_note-length old new e exactly = by_fault e.1 exactly where
 -- ---- a program that is loaded
 
 -- of a text that was loaded no note is a refusal
+loaded_facts : (memory : ℕ) (known : Option (List ℕ)) (old new : ℕ) (note : Option Note) → (IsUnloaded note → ⊥)
+    → TellsRefusal memory known note × TellsLength old new note
+loaded_facts memory known old new None h = (tt, tt)
+loaded_facts memory known old new (Some (notes.Load line fault)) h = absurd (h tt)
+loaded_facts memory known old new (Some notes.ProgramUnread) h = (tt, tt)
+loaded_facts memory known old new (Some notes.InputUnread) h = (tt, tt)
+loaded_facts memory known old new (Some notes.NoBeginning) h = (tt, tt)
+loaded_facts memory known old new (Some notes.NoRun) h = (tt, tt)
+loaded_facts memory known old new (Some notes.OutOfMemory) h = (tt, tt)
+loaded_facts memory known old new (Some notes.Unwritten) h = (tt, tt)
+
 pub loaded_refusal : (memory : ℕ) (known : Option (List ℕ)) (note : Option Note) → (IsUnloaded note → ⊥)
     → TellsRefusal memory known note
-loaded_refusal memory known None h = tt
-loaded_refusal memory known (Some (notes.Load line fault)) h = absurd (h tt)
-loaded_refusal memory known (Some notes.ProgramUnread) h = tt
-loaded_refusal memory known (Some notes.InputUnread) h = tt
-loaded_refusal memory known (Some notes.NoBeginning) h = tt
-loaded_refusal memory known (Some notes.NoRun) h = tt
-loaded_refusal memory known (Some notes.OutOfMemory) h = tt
-loaded_refusal memory known (Some notes.Unwritten) h = tt
+loaded_refusal memory known note h = (loaded_facts memory known 0 0 note h).0
 
+-- nor does one say how long the text is
 pub loaded_length : (old new : ℕ) (note : Option Note) → (IsUnloaded note → ⊥) → TellsLength old new note
-loaded_length old new None h = tt
-loaded_length old new (Some (notes.Load line fault)) h = absurd (h tt)
-loaded_length old new (Some notes.ProgramUnread) h = tt
-loaded_length old new (Some notes.InputUnread) h = tt
-loaded_length old new (Some notes.NoBeginning) h = tt
-loaded_length old new (Some notes.NoRun) h = tt
-loaded_length old new (Some notes.OutOfMemory) h = tt
-loaded_length old new (Some notes.Unwritten) h = tt
+loaded_length old new note h = (loaded_facts 0 None old new note h).1
 
 -- a text that was loaded isn't refused
 pub loaded_unrefused : (memory : ℕ) (known : Option (List ℕ)) (p : Statements) (Q : ℕ × LoadFault → Type 0)

@@ -4,6 +4,8 @@
 --     ReadsInput mode ..          what is read of the input
 --     TellsFailures old new result    that the writer failed is noted, and is noted of no other
 --     RefusesListIn result        a list is refused
+--     IsServed mode ..            all of these of a mode that begins with no list
+--     IsServedOn mode ..          the same of lines that were read
 --     TellsMismatch mode ..       what is said of a list goes with its note, and is so; and it is said with each such note
 --     line_of ended               the line at which the limit stopped a run
 --     line_in_mode mode p lines rules     the same of the play on these lines
@@ -30,6 +32,7 @@ use Rattle.ptb_serve.specs.declared.note.Note.{Note}
 use Rattle.ptb_serve.specs.declared.note.Note.TheVariants as notes
 use Rattle.ptb_plain.specs.PlainRuns.{IsUnreadable, input_limit}
 use Rattle.ptb_plain.specs.SeededRuns.{seeded_answers}
+use Rattle.ptb_plain.specs.Streams.{Reads, Writes}
 use Rattle.ptb_serve.specs.ListMismatches.{IsMismatchOf, mismatch_note}
 use Rattle.ptb_serve.specs.Replies.{reply_in_mode}
 use Rattle.ptb_serve.specs.Serving.{IsCheck, IsInput, IsPlainRun, IsUnloaded, NeedsInput}
@@ -82,6 +85,21 @@ pub record TellsFailures (old new : ℕ) (result : Result ℕ Note) : Type 0 whe
 
 abbrev pub RefusesListIn : Result ℕ Note → Type 0
 RefusesListIn result = IsErrOf result notes.NoBeginning ⊎ IsErrOf result notes.NoRun
+
+-- all that is due of a mode that begins with no list
+pub record IsServed {R : Type 0} (mode : Mode) (request : Request) (p : StoredProgram) (input : Reads R) (output : Writes) (result : Result ℕ Note) : Type 0 where
+  pub serves : ServesProgram mode request p input.bytes input.left output.before output.after result
+  pub reads : ReadsInput mode input.bytes input.left input.failed input.fails input.gave input.gives result
+  pub failures : TellsFailures output.failed output.fails result
+  pub no_list : RefusesListIn result → ⊥
+
+-- the same of the lines of an input that was read
+pub record IsServedOn (mode : Mode) (request : Request) (p : StoredProgram) (lines : List (List ℕ)) (output : Writes) (result : Result ℕ Note) : Type 0 where
+  pub serves : (known left : Option (List ℕ)) → IfSome known (λ c. lines ≡ input_lines c)
+      → ServesProgram mode request p known left output.before output.after result
+  pub read : IsErrOf result notes.InputUnread → ⊥
+  pub failures : TellsFailures output.failed output.fails result
+  pub no_list : RefusesListIn result → ⊥
 
 pub record TellsMismatch (mode : Mode) (request : Request) (p : StoredProgram) (known : Option (List ℕ)) (result : Result ℕ Note) (mismatch : Option ListMismatch) : Type 0 where
   pub said : RefusesListIn result → IsSome mismatch

@@ -1,9 +1,9 @@
 // This file has the table of the chances of a program's runs.
 
-ghost use Rattle.std.specs.Prelude.{◌≡◌, ℕ, List, Option, IfSome, IsErrOf};
-ghost use Rattle.ptb_text.specs.Lines.{input_lines};
+ghost use Rattle.std.specs.Prelude.{◌≡◌};
 ghost use Rattle.ptb_options.specs.declared.request.Mode.TheVariants.{Chances};
-ghost use Rattle.ptb_serve.specs.Loaded.{ReadsInput, RefusesListIn, ServesProgram, TellsFailures};
+ghost use Rattle.ptb_plain.specs.Streams.{reads_of, writes_of};
+ghost use Rattle.ptb_serve.specs.Loaded.{IsServed, IsServedOn};
 
 use crate::note::Note;
 use ptb_chances::{Watch, write_chances};
@@ -31,14 +31,9 @@ pub fn list_table<R: Read, W: Write + Watch>(
     out: &mut W,
 ) -> Result<u8, Note>
     requires memory { program.now.memory ≡ request.now.memory }
-    ensures serves { ServesProgram Chances request.now program.now
-        (R.remaining input.old) (R.remaining input.new)
-        (W.contents out.old) (W.contents out.new) result }
-    ensures reads { ReadsInput Chances (R.remaining input.old) (R.remaining input.new)
-        (R.failures input.old) (R.failures input.new)
-        (R.given input.old) (R.given input.new) result }
-    ensures failures { TellsFailures (W.failures out.old) (W.failures out.new) result }
-    ensures no_list { ¬ RefusesListIn result }
+    ensures { IsServed Chances request.now program.now
+        (reads_of R.remaining R.given R.failures input.old input.new)
+        (writes_of W.contents W.failures out.old out.new) result }
 {
     match read_lines(alloc, input) {
         Ok(lines) => table_on(alloc, request, program, &lines, out),
@@ -55,12 +50,8 @@ fn table_on<W: Write + Watch>(
     out: &mut W,
 ) -> Result<u8, Note>
     requires memory { program.now.memory ≡ request.now.memory }
-    ensures serves { (known left : Option (List ℕ)) → IfSome known (λ c. lines.now ≡ input_lines c)
-        → ServesProgram Chances request.now program.now
-        known left (W.contents out.old) (W.contents out.new) result }
-    ensures read { ¬ IsErrOf result Note.InputUnread }
-    ensures failures { TellsFailures (W.failures out.old) (W.failures out.new) result }
-    ensures no_list { ¬ RefusesListIn result }
+    ensures { IsServedOn Chances request.now program.now lines.now
+        (writes_of W.contents W.failures out.old out.new) result }
 {
     write_chances(alloc, program, lines, request.rules, out)?;
     Ok(0)

@@ -1,9 +1,9 @@
 // This file has the sample of a program's runs, each with its report.
 
-ghost use Rattle.std.specs.Prelude.{◌≡◌, ℕ, List, Option, IfSome, IsErrOf};
-ghost use Rattle.ptb_text.specs.Lines.{input_lines};
+ghost use Rattle.std.specs.Prelude.{◌≡◌};
 ghost use Rattle.ptb_options.specs.declared.request.Mode.TheVariants as modes;
-ghost use Rattle.ptb_serve.specs.Loaded.{ReadsInput, RefusesListIn, ServesProgram, TellsFailures};
+ghost use Rattle.ptb_plain.specs.Streams.{reads_of, writes_of};
+ghost use Rattle.ptb_serve.specs.Loaded.{IsServed, IsServedOn};
 
 use crate::note::Note;
 use ptb_explore::{Sample, write_sample};
@@ -31,15 +31,9 @@ pub fn list_sample<R: Read, W: Write>(
     out: &mut W,
 ) -> Result<u8, Note>
     requires memory { program.now.memory ≡ request.now.memory }
-    ensures serves { ServesProgram (modes.Sample sample.seed sample.runs sample.form) request.now
-        program.now (R.remaining input.old) (R.remaining input.new)
-        (W.contents out.old) (W.contents out.new) result }
-    ensures reads { ReadsInput (modes.Sample sample.seed sample.runs sample.form)
-        (R.remaining input.old) (R.remaining input.new)
-        (R.failures input.old) (R.failures input.new)
-        (R.given input.old) (R.given input.new) result }
-    ensures failures { TellsFailures (W.failures out.old) (W.failures out.new) result }
-    ensures no_list { ¬ RefusesListIn result }
+    ensures { IsServed (modes.Sample sample.seed sample.runs sample.form) request.now program.now
+        (reads_of R.remaining R.given R.failures input.old input.new)
+        (writes_of W.contents W.failures out.old out.new) result }
 {
     match read_lines(alloc, input) {
         Ok(lines) => sample_lines(alloc, request, program, &lines, sample, out),
@@ -57,12 +51,8 @@ fn sample_lines<W: Write>(
     out: &mut W,
 ) -> Result<u8, Note>
     requires memory { program.now.memory ≡ request.now.memory }
-    ensures serves { (known left : Option (List ℕ)) → IfSome known (λ c. lines.now ≡ input_lines c)
-        → ServesProgram (modes.Sample sample.seed sample.runs sample.form) request.now program.now
-        known left (W.contents out.old) (W.contents out.new) result }
-    ensures read { ¬ IsErrOf result Note.InputUnread }
-    ensures failures { TellsFailures (W.failures out.old) (W.failures out.new) result }
-    ensures no_list { ¬ RefusesListIn result }
+    ensures { IsServedOn (modes.Sample sample.seed sample.runs sample.form) request.now program.now lines.now
+        (writes_of W.contents W.failures out.old out.new) result }
 {
     write_sample(alloc, program, lines, request.rules, sample, out)?;
     Ok(0)

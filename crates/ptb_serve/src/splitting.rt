@@ -1,13 +1,13 @@
 // This file has the lists of answers that split a program's runs.
 
-ghost use Rattle.std.specs.Prelude.{◌≡◌, ℕ, List, Option, [], None, IfSome, IsErrOf};
+ghost use Rattle.std.specs.Prelude.{◌≡◌, ℕ, [], None, IsErrOf};
 ghost use Rattle.ptb_text.specs.Device.{HasFailed};
-ghost use Rattle.ptb_text.specs.Lines.{input_lines};
 ghost use Rattle.ptb_explore.specs.Beginnings.{beginning_line, split_play, stopped};
 ghost use Rattle.ptb_explore.specs.Listing.{WritesRuns};
 ghost use Rattle.ptb_explore.specs.RunTree.{Front, runs_left};
 ghost use Rattle.ptb_options.specs.declared.request.Mode.TheVariants as modes;
-ghost use Rattle.ptb_serve.specs.Loaded.{ReadsInput, RefusesListIn, ServesProgram, TellsFailures};
+ghost use Rattle.ptb_plain.specs.Streams.{reads_of, writes_of};
+ghost use Rattle.ptb_serve.specs.Loaded.{IsServed, IsServedOn};
 
 use crate::note::Note;
 use ptb_explore::{Beginnings, ExploreFault, Form, write_beginnings};
@@ -37,15 +37,9 @@ pub fn list_shares<R: Read, W: Write>(
     out: &mut W,
 ) -> Result<u8, Note>
     requires memory { program.now.memory ≡ request.now.memory }
-    ensures serves { ServesProgram (modes.Shares answers form) request.now program.now
-        (R.remaining input.old) (R.remaining input.new)
-        (W.contents out.old) (W.contents out.new) result }
-    ensures reads { ReadsInput (modes.Shares answers form)
-        (R.remaining input.old) (R.remaining input.new)
-        (R.failures input.old) (R.failures input.new)
-        (R.given input.old) (R.given input.new) result }
-    ensures failures { TellsFailures (W.failures out.old) (W.failures out.new) result }
-    ensures no_list { ¬ RefusesListIn result }
+    ensures { IsServed (modes.Shares answers form) request.now program.now
+        (reads_of R.remaining R.given R.failures input.old input.new)
+        (writes_of W.contents W.failures out.old out.new) result }
 {
     match read_lines(alloc, input) {
         Ok(lines) => share_lines(alloc, request, program, &lines, answers, form, out),
@@ -64,12 +58,8 @@ fn share_lines<W: Write>(
     out: &mut W,
 ) -> Result<u8, Note>
     requires memory { program.now.memory ≡ request.now.memory }
-    ensures serves { (known left : Option (List ℕ)) → IfSome known (λ c. lines.now ≡ input_lines c)
-        → ServesProgram (modes.Shares answers form) request.now program.now
-        known left (W.contents out.old) (W.contents out.new) result }
-    ensures read { ¬ IsErrOf result Note.InputUnread }
-    ensures failures { TellsFailures (W.failures out.old) (W.failures out.new) result }
-    ensures no_list { ¬ RefusesListIn result }
+    ensures { IsServedOn (modes.Shares answers form) request.now program.now lines.now
+        (writes_of W.contents W.failures out.old out.new) result }
 {
     let most = usize::from(answers);
     let beginnings = Beginnings::start(alloc, program, lines, request.rules, most)?;

@@ -46,25 +46,28 @@ laid_from v ss part at pool memory = record {
   memory = memory;
 }
 
+-- the program with the new text has a size, which its memory has room for or has not
+module _ (f : Inside) (p : StoredProgram) (shows : stored_program f ≡ p) (n : ℕ) (t : List ℕ) (size : ℕ) (costs : cost (with_text p.lines n t) ≡ size) where
+  pub store_full : f.memory < size → Enters (if_room p.memory (with_text p.lines n t)) p p (Err Full)
+  store_full over = Enters-full (with_text p.lines n t) p (omega (arith, costs, over, memory_shown f p shows))
+
+  store_fits : size ≤ f.memory → cost (with_text p.lines n t) ≤ p.memory
+  store_fits room = omega (arith, costs, room, memory_shown f p shows)
+
+  -- it stays where a growth is refused
+  pub store_refused : size ≤ f.memory → (g : Inside) → g.statements.items ≡ f.statements.items → g.pool.items ≡ f.pool.items
+      → g.memory ≡ f.memory → Enters (if_room p.memory (with_text p.lines n t)) p (stored_program g) (Err Memory)
+  store_refused room g items pool memory =
+      Enters-memory (with_text p.lines n t) p (stored_program g) Memory refl
+      (same_shown f g items pool memory ∙ shows) (store_fits room)
+
 module _ (f : Inside) (p : StoredProgram) (shows : stored_program f ≡ p) (kept : IsKept f) where
   -- a new statement goes to its place
   module _ (n at : ℕ) (t : List ℕ) (gap : IsGapFor p.lines n at) (k : ℕ) (counted : k ≡ cost p.lines) where
-    new_size : cost (with_text p.lines n t) ≡ k + (length t + 3)
-    new_size = cost-with_text_gap p.lines n at t gap ∙ ap (λ m. m + (length t + 3)) (sym counted)
-
-    pub insert_full : f.memory < k + (length t + 3) → Enters (if_room p.memory (with_text p.lines n t)) p p (Err Full)
-    insert_full over = Enters-full (with_text p.lines n t) p (omega (arith, new_size, over, memory_shown f p shows))
+    pub insert_size : cost (with_text p.lines n t) ≡ k + (length t + 3)
+    insert_size = cost-with_text_gap p.lines n at t gap ∙ ap (λ m. m + (length t + 3)) (sym counted)
 
     module _ (room : k + (length t + 3) ≤ f.memory) where
-      new_fits : cost (with_text p.lines n t) ≤ p.memory
-      new_fits = omega (arith, new_size, room, memory_shown f p shows)
-
-      pub insert_refused : (g : Inside) → g.statements.items ≡ f.statements.items → g.pool.items ≡ f.pool.items
-          → g.memory ≡ f.memory → Enters (if_room p.memory (with_text p.lines n t)) p (stored_program g) (Err Memory)
-      insert_refused g items pool memory =
-          Enters-memory (with_text p.lines n t) p (stored_program g) Memory refl
-          (same_shown f g items pool memory ∙ shows) new_fits
-
       module _ (v : Vec Statement) (ss part : List Statement) (pool : Vec ℕ) (place : ℕ) (here : place ≡ texts_length (take at p.lines))
           (same : ss ≡ v.items) (count : length ss ≡ v.len) (laid : part ≡ laid_out place (take (length ss - at) (drop at ss)))
           (before : List Statement) (edit : v.items ≡ insert before at (record { number = n; place = place; length = length t })) (unchanged : before ≡ f.statements.items)
@@ -81,39 +84,27 @@ module _ (f : Inside) (p : StoredProgram) (shows : stored_program f ≡ p) (kept
         insert_kept is =
             IsKept-from_layout (laid_from v ss part at pool f.memory) (with_text p.lines n t) insert_layout
             (is_program-with_text p.lines n t (is_program_shown f p shows kept) is)
-            (omega (arith, new_size, room)) kept.sound.memory_size
+            (omega (arith, insert_size, room)) kept.sound.memory_size
 
         pub insert_enters : Enters (if_room p.memory (with_text p.lines n t)) p
             (stored_program (laid_from v ss part at pool f.memory)) (Ok tt)
         insert_enters =
             Enters-ok (with_text p.lines n t) p (stored_program (laid_from v ss part at pool f.memory))
             (lines_shown (laid_from v ss part at pool f.memory) (with_text p.lines n t) insert_layout)
-            (memory_shown f p shows) new_fits
+            (memory_shown f p shows) (store_fits f p shows n t (k + (length t + 3)) insert_size room)
 
   -- a text takes the place of another
   module _ (n at : ℕ) (t : List ℕ) (there : IsAt p.lines n at) (k : ℕ) (counted : k ≡ cost p.lines) (old : Statement) (read : old ≡ get_or f.statements.items at old) (len : ℕ) (long : len ≡ old.length) where
     replace_entry : IsEntry p.lines at old
     replace_entry = IsEntry-shown f p shows kept at old there.in_range read
 
-    set_size : cost (with_text p.lines n t) ≡ k - len + length t
-    set_size = omega (arith, replace_entry.length_is, one_cost-le-cost p.lines at there.in_range, cost-with_text_place p.lines n at t there, long, counted)
+    pub replace_size : cost (with_text p.lines n t) ≡ k - len + length t
+    replace_size = omega (arith, replace_entry.length_is, one_cost-le-cost p.lines at there.in_range, cost-with_text_place p.lines n at t there, long, counted)
 
     pub replace_cost : len ≤ k
     replace_cost = omega (arith, replace_entry.length_is, one_cost-le-cost p.lines at there.in_range, long, counted)
 
-    pub replace_full : f.memory < k - len + length t → Enters (if_room p.memory (with_text p.lines n t)) p p (Err Full)
-    replace_full over = Enters-full (with_text p.lines n t) p (omega (arith, set_size, over, memory_shown f p shows))
-
     module _ (room : k - len + length t ≤ f.memory) where
-      set_fits : cost (with_text p.lines n t) ≤ p.memory
-      set_fits = omega (arith, set_size, room, memory_shown f p shows)
-
-      pub replace_refused : (g : Inside) → g.statements.items ≡ f.statements.items → g.pool.items ≡ f.pool.items
-          → g.memory ≡ f.memory → Enters (if_room p.memory (with_text p.lines n t)) p (stored_program g) (Err Memory)
-      replace_refused g items pool memory =
-          Enters-memory (with_text p.lines n t) p (stored_program g) Memory refl
-          (same_shown f g items pool memory ∙ shows) set_fits
-
       module _ (ss part : List Statement) (pool : Vec ℕ)
           (same : ss ≡ (with_item f.statements at (record { number = n; place = old.place; length = length t })).items) (count : length ss ≡ (with_item f.statements at (record { number = n; place = old.place; length = length t })).len)
           (laid : part ≡ laid_out old.place (take (length ss - at) (drop at ss)))
@@ -134,11 +125,11 @@ module _ (f : Inside) (p : StoredProgram) (shows : stored_program f ≡ p) (kept
         replace_kept is =
             IsKept-from_layout _ (with_text p.lines n t) replace_layout
             (is_program-with_text p.lines n t (is_program_shown f p shows kept) is)
-            (omega (arith, set_size, room)) kept.sound.memory_size
+            (omega (arith, replace_size, room)) kept.sound.memory_size
 
         pub replace_enters : Enters (if_room p.memory (with_text p.lines n t)) p
             (stored_program (laid_from (with_item f.statements at (record { number = n; place = old.place; length = length t })) ss part at pool f.memory))
             (Ok tt)
         replace_enters =
             Enters-ok (with_text p.lines n t) p _ (lines_shown _ (with_text p.lines n t) replace_layout)
-            (memory_shown f p shows) set_fits
+            (memory_shown f p shows) (store_fits f p shows n t (k - len + length t) replace_size room)

@@ -14,13 +14,15 @@ use Rattle.std.proofs.lemmas.Option.{cond_some}
 use Rattle.ptb_words.specs.declared.cursor.TheConstants.{TOO_BIG}
 use Rattle.ptb_words.specs.declared.word.Table.{Table}
 use Rattle.ptb_words.specs.declared.word.Word.{Word}
+use Rattle.ptb_words.specs.declared.word.Number.{Number}
 use Rattle.ptb_words.specs.declared.word.Number.TheVariants.{Absent, Value, TooBig}
 use Rattle.ptb_words.specs.CursorState.{CursorState, bytes_left}
 use Rattle.ptb_words.specs.Digits.{is_digit, digits_value}
 use Rattle.ptb_words.specs.Words.{past_blanks, next_byte_at, words, first_word, word_at, is_letter}
-use Rattle.ptb_words.specs.Words.{letter_there, letter_at, small_number, number_at, is_quote}
+use Rattle.ptb_words.specs.Words.{letter_there, letter_at, small_number, number_at, is_number, is_quote}
 use Rattle.ptb_words.specs.Words.{quotation_at, QuotedText, OpenQuote}
 use Rattle.ptb_words.specs.Finding.{LiesAhead, past_byte}
+use Rattle.ptb_words.proofs.Finding.{number_ahead}
 
 -- what stands from a place on, as the code cuts it
 abbrev pub behind : List ℕ → ℕ → List ℕ
@@ -37,6 +39,11 @@ next_is e at = at ∙ ap (λ (s : CursorState). past_blanks s.text s.place) e
 -- what is found leaves fewer bytes
 pub ahead_left : (a b : CursorState) → a.text ≡ b.text → LiesAhead b.text b.place a.place → bytes_left a < bytes_left b
 ahead_left a b e h = omega (arith, ap length e, h.after, h.within)
+
+-- a number that is taken leaves fewer bytes
+pub number_left : (a b : CursorState) (n : Number) → a.text ≡ b.text → number_at b.text b.place ≡ (n, a.place)
+    → is_number n ≡ true → bytes_left a < bytes_left b
+number_left a b n same found some = ahead_left a b same (number_ahead b.text b.place n a.place found some)
 
 -- ---- a quotation
 

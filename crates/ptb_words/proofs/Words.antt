@@ -239,7 +239,7 @@ or_first None p x e = absurd cc
 or_first (Some y) p x e = e
 
 -- the second of two words is tried where the first isn't found
-pub finds_second : (v w : Entry) (t : List ℕ) (place : ℕ) (r s : Option (Word × ℕ)) → FindsWord (v ∷ []) t place r
+finds_second : (v w : Entry) (t : List ℕ) (place : ℕ) (r s : Option (Word × ℕ)) → FindsWord (v ∷ []) t place r
     → (r ≡ None → FindsWord (w ∷ []) t place s) → ((x : Word × ℕ) → r ≡ Some x → s ≡ Some x)
     → FindsWord (v ∷ w ∷ []) t place s
 finds_second v w t place None s one two same = record {
@@ -249,6 +249,15 @@ finds_second v w t place None s one two same = record {
 finds_second v w t place (Some x) s one two same =
     let found : FindsWord (v ∷ w ∷ []) t place (Some x) = record { first = or_first _ _ _ one.first; ahead = one.ahead } in
     subst (λ r. FindsWord (v ∷ w ∷ []) t place r) (sym (same x refl)) found
+
+-- where two words of a table begin with a byte, the second is tried where the first isn't found
+pub begins_either : (table : Table) (b : ℕ) (v w : Entry) (t : List ℕ) (place : ℕ) (r s : Option (Word × ℕ))
+    → filter (begins b) (words table) ≡ v ∷ w ∷ [] → place < length t → get_or t place 0 ≡ b → FindsWord (v ∷ []) t place r
+    → (r ≡ None → FindsWord (w ∷ []) t place s) → ((x : Word × ℕ) → r ≡ Some x → s ≡ Some x)
+    → FindsWord (words table) t place s
+begins_either table b v w t place r s are h e one two same =
+    finds_begins table b t place s h e
+    (subst (λ ws. FindsWord ws t place s) (sym are) (finds_second v w t place r s one two same))
 
 -- what holds of a word holds of what is found, if that is the word
 pub is_of : (P : Word → Type 0) (r : Option (Word × ℕ)) (w : Word) → IfSome r (λ found. found.0 ≡ w) → P w

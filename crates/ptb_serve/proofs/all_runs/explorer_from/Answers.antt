@@ -31,18 +31,17 @@ pub returns-in-Some-clause-begun : goal.returns-in-Some-clause-begun
 returns-in-Some-clause-begun c =
     let game = play c.args.program.now c.args.lines.now c.args.rules in
     let under = c.args.under.now in
-    let run = rw c.in_ok-explorer.ensures.explorer at c.go_to.ensures.run in
-    let begins = rw c.in_ok-explorer.ensures.explorer at c.go_to.ensures.begins in
     rw c.in-Some.is
     (subst (λ l. OnOk c.go_to.result (front_note game under (Some l) ≡ None)) c.as_slice.ensures
-    (on_ok_both c.go_to.result (λ r b. ap₂ note_of c.in_ok-explorer.ensures.begins (front_true game (answers_under under) c.as_slice.result.now r b)) run begins))
+    (on_ok_both c.go_to.result (λ r b. ap₂ note_of c.in_ok-explorer.ensures.begins (front_true game (answers_under under) c.as_slice.result.now r b))
+    (rw c.in_ok-explorer.ensures.explorer at c.go_to.ensures.run) (rw c.in_ok-explorer.ensures.explorer at c.go_to.ensures.begins)))
 
 pub returns-in-Some-clause-unbegun : goal.returns-in-Some-clause-unbegun
 returns-in-Some-clause-unbegun c =
     let game = play c.args.program.now c.args.lines.now c.args.rules in
     let under = c.args.under.now in
-    let none = rw c.in_ok-explorer.ensures.explorer at c.go_to.ensures.not_a_run in
     let why = rw c.in_ok-explorer.ensures.explorer at c.go_to.ensures.mismatch in
     rw c.in-Some.is
     (subst (λ l. IfErr c.go_to.result (IsUnbegun game under (Some l))) c.as_slice.ensures
-    (unbegun_at game under c.as_slice.result.now c.go_to.result c.in_ok-explorer.ensures.begins none (why (items_of under) (items_answers under)) c.go_to.ensures.kind))
+    (unbegun_at game under c.as_slice.result.now c.go_to.result c.in_ok-explorer.ensures.begins
+    (rw c.in_ok-explorer.ensures.explorer at c.go_to.ensures.not_a_run) (why (items_of under) (items_answers under)) c.go_to.ensures.kind))

@@ -3,9 +3,10 @@
 use Rattle.std.proofs.Common.{Err, refl, subst}
 use Rattle.ptb_serve.specs.declared.note.Note.{Note}
 use Rattle.ptb_serve.specs.Loaded.{RefusesListIn}
-use Rattle.ptb_serve.proofs.Listing.{listing_broken, listing_unbegun, listing_written, no_fault}
+use Rattle.ptb_serve.proofs.Listing.{listing_broken, listing_unbegun, listing_written}
 use Rattle.ptb_serve.proofs.Mismatching.{none_told, reports_refuse_none, success_refuses_none}
 use Rattle.ptb_serve.proofs.Mismatching.{unbegun_line, unbegun_told}
+use Rattle.ptb_serve.proofs.WholeInput.{no_fault}
 use Rattle.ptb_serve.proofs.all_runs.list_runs_on.Goals as goal
 
 -- all reports are written
@@ -29,7 +30,7 @@ returns-in-Err-write_reports g c =
     listing_broken c.args.request.now c.args.program.now c.requires.memory c.args.under.now c.args.after.now c.args.first c.args.form c.args.lines.now
     (g.W.Write.contents c.args.out.now) (g.W.Write.contents c.write_reports.new.out) (g.W.Write.failures c.args.out.now) (g.W.Write.failures c.write_reports.new.out)
     c.in-Ok.explorer writes.writes.0 c.in-Ok.ensures.explorer c.in-Ok.ensures.begun
-    (Err c.from.result) fault c.from.ensures writes.writes.1 writes.failed writes.unfailed
+    (Err c.from.result) fault c.from.ensures writes.writes.1 (writes.failed, writes.unfailed)
     in
     rw c.without_mismatch-in-Err-write_reports.ensures (record {
       serves = listed.serves;

@@ -1,26 +1,20 @@
 -- This file answers that a sample of runs on the lines of an input is written as is due.
-use Rattle.ptb_serve.proofs.Listing.{no_fault}
 use Rattle.ptb_serve.proofs.Samples.{sample_broken, sample_written}
+use Rattle.ptb_serve.proofs.WholeInput.{no_fault}
 use Rattle.ptb_serve.proofs.sampled.sample_lines.Goals as goal
 
 -- the reports of the first runs are written
 pub returns-in_err-write_sample : goal.returns-in_err-write_sample
 returns-in_err-write_sample g c =
     let writes = c.in_err-write_sample.ensures in
-    let told =
     sample_broken c.args.request.now c.args.program.now c.requires.memory c.args.sample.seed c.args.sample.runs c.args.sample.form c.args.lines.now
     (g.W.Write.contents c.args.out.now) (g.W.Write.contents c.write_sample.new.writer) (g.W.Write.failures c.args.out.now) (g.W.Write.failures c.write_sample.new.writer)
-    c.from_residual.result c.in_err-write_sample.field-0.0 c.from_residual.ensures.1 writes.writes writes.failed writes.unfailed
-    in
-    record { serves = told.serves; read = told.read; failures = told.failures; no_list = told.no_list }
+    c.from_residual.result c.in_err-write_sample.field-0.0 c.from_residual.ensures.1 writes.writes (writes.failed, writes.unfailed)
 
 -- all are
 pub returns : goal.returns
 returns g c =
     let writes = c.in_ok-write_sample.ensures in
-    let told =
     sample_written c.args.request.now c.args.program.now c.requires.memory c.args.sample.seed c.args.sample.runs c.args.sample.form c.args.lines.now
     (g.W.Write.contents c.args.out.now) (g.W.Write.contents c.write_sample.new.writer) (g.W.Write.failures c.args.out.now) (g.W.Write.failures c.write_sample.new.writer)
     writes.writes (writes.unfailed (λ n. no_fault _ _))
-    in
-    record { serves = told.serves; read = told.read; failures = told.failures; no_list = told.no_list }

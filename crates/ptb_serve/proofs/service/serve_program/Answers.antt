@@ -81,23 +81,13 @@ returns-in-All g c =
 -- the lists that split its runs
 pub returns-in-Shares : goal.returns-in-Shares
 returns-in-Shares g c =
-    let told =
-    served_shares c.args.request.now c.args.program.now
-    (reads_of g.R.Read.remaining g.R.Read.given g.R.Read.failures c.args.input.now c.list_shares-served.new.input)
-    (writes_of g.W.Write.contents g.W.Write.failures c.args.out.now c.list_shares-served.new.out)
-    c.list_shares-served.result c.args.request.now.mode _ _ c.in-Shares.is c.list_shares-served.ensures.serves c.list_shares-served.ensures.reads c.list_shares-served.ensures.failures c.list_shares-served.ensures.no_list
-    in
+    let told = served_shares c.args.request.now c.args.program.now _ _ c.list_shares-served.result c.args.request.now.mode _ _ c.in-Shares.is c.list_shares-served.ensures in
     rw c.without_mismatch.ensures (record { serves = told.serves; reads = told.reads; failures = told.failures; mismatch = told.mismatch; line = told.line; input_kept = told.input_kept })
 
 -- a sample of its runs
 pub returns-in-Sample : goal.returns-in-Sample
 returns-in-Sample g c =
-    let told =
-    served_sample c.args.request.now c.args.program.now
-    (reads_of g.R.Read.remaining g.R.Read.given g.R.Read.failures c.args.input.now c.list_sample-served.new.input)
-    (writes_of g.W.Write.contents g.W.Write.failures c.args.out.now c.list_sample-served.new.out)
-    c.list_sample-served.result c.args.request.now.mode _ _ _ c.in-Sample.is c.list_sample-served.ensures.serves c.list_sample-served.ensures.reads c.list_sample-served.ensures.failures c.list_sample-served.ensures.no_list
-    in
+    let told = served_sample c.args.request.now c.args.program.now _ _ c.list_sample-served.result c.args.request.now.mode _ _ _ c.in-Sample.is c.list_sample-served.ensures in
     rw c.without_mismatch-in-Sample.ensures (record { serves = told.serves; reads = told.reads; failures = told.failures; mismatch = told.mismatch; line = told.line; input_kept = told.input_kept })
 
 -- a listing of its text
@@ -124,12 +114,7 @@ returns-in-Ok g c =
 -- the table of its chances
 pub returns-in-Chances : goal.returns-in-Chances
 returns-in-Chances g c =
-    let told =
-    served_chances c.args.request.now c.args.program.now
-    (reads_of g.R.Read.remaining g.R.Read.given g.R.Read.failures c.args.input.now c.list_table.new.input)
-    (writes_of g.W.Write.contents g.W.Write.failures c.args.out.now c.list_table.new.out)
-    c.list_table.result c.args.request.now.mode c.in-Chances.is c.list_table.ensures.serves c.list_table.ensures.reads c.list_table.ensures.failures c.list_table.ensures.no_list
-    in
+    let told = served_chances c.args.request.now c.args.program.now _ _ c.list_table.result c.args.request.now.mode c.in-Chances.is c.list_table.ensures in
     rw c.without_mismatch-in-Chances.ensures (record { serves = told.serves; reads = told.reads; failures = told.failures; mismatch = told.mismatch; line = told.line; input_kept = told.input_kept })
 
 -- the mistakes in its text

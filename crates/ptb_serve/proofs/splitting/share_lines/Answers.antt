@@ -1,37 +1,28 @@
 -- This file answers that the lists that split the runs on the lines of an input are written as is due.
-use Rattle.ptb_serve.proofs.Listing.{no_fault}
 use Rattle.ptb_serve.proofs.Splits.{begun_with, shares_broken, shares_unbegun, shares_written}
+use Rattle.ptb_serve.proofs.WholeInput.{no_fault}
 use Rattle.ptb_serve.proofs.splitting.share_lines.Goals as goal
 
 -- the search can't begin
 pub returns-in_err-beginnings : goal.returns-in_err-beginnings
 returns-in_err-beginnings g c =
-    let told =
     shares_unbegun c.args.request.now c.args.program.now c.requires.memory c.args.answers c.args.form c.args.lines.now
     (g.W.Write.contents c.args.out.now) (g.W.Write.failures c.args.out.now) c.from_residual.result c.from_residual.ensures.1
-    in
-    record { serves = told.serves; read = told.read; failures = told.failures; no_list = told.no_list }
 
 -- the first lines are written
 pub returns-in_err-write_lists : goal.returns-in_err-write_lists
 returns-in_err-write_lists g c =
     let writes = c.in_err-write_lists.ensures in
-    let told =
     shares_broken c.args.request.now c.args.program.now c.requires.memory c.args.answers c.args.form c.args.lines.now
     c.in_ok-beginnings.beginnings writes.writes.0 (begun_with c.args.program.now c.args.lines.now c.args.request.now.rules c.args.answers c.from-most.result c.from-most.ensures c.in_ok-beginnings.beginnings c.in_ok-beginnings.ensures)
     (g.W.Write.contents c.args.out.now) (g.W.Write.contents c.write_lists.new.out) (g.W.Write.failures c.args.out.now) (g.W.Write.failures c.write_lists.new.out)
-    c.from_residual-in_err-write_lists.result c.in_err-write_lists.field-0.0 c.from_residual-in_err-write_lists.ensures.1 writes.writes.1 writes.failed writes.unfailed
-    in
-    record { serves = told.serves; read = told.read; failures = told.failures; no_list = told.no_list }
+    c.from_residual-in_err-write_lists.result c.in_err-write_lists.field-0.0 c.from_residual-in_err-write_lists.ensures.1 writes.writes.1 (writes.failed, writes.unfailed)
 
 -- all are
 pub returns : goal.returns
 returns g c =
     let writes = c.in_ok-write_lists.ensures in
-    let told =
     shares_written c.args.request.now c.args.program.now c.requires.memory c.args.answers c.args.form c.args.lines.now
     c.in_ok-beginnings.beginnings writes.writes.0 (begun_with c.args.program.now c.args.lines.now c.args.request.now.rules c.args.answers c.from-most.result c.from-most.ensures c.in_ok-beginnings.beginnings c.in_ok-beginnings.ensures)
     (g.W.Write.contents c.args.out.now) (g.W.Write.contents c.write_lists.new.out) (g.W.Write.failures c.args.out.now) (g.W.Write.failures c.write_lists.new.out)
     c.in_ok-write_lists.field-0 writes.writes.1 (writes.unfailed (λ n. no_fault _ _))
-    in
-    record { serves = told.serves; read = told.read; failures = told.failures; no_list = told.no_list }

@@ -17,17 +17,15 @@ returns-then-is_all_blank c =
 
 pub returns-in-TooBig : goal.returns-in-TooBig
 returns-in-TooBig c =
-    let line = c.args.line.now in
-    let here = found _ _ _ _ c.number_in_front-number.ensures.value c.in-TooBig.is in
-    after_too_big line (in_front line) (sym c.in_default.ensures.value) (in_front-trim_start line)
-    (some_in_front line (sym c.is_all_blank.ensures ∙ c.if-is_all_blank.false)) (number_too_big line _ here)
+    after_too_big c.args.line.now (in_front c.args.line.now) (sym c.in_default.ensures.value) (in_front-trim_start c.args.line.now)
+    (some_in_front c.args.line.now (sym c.is_all_blank.ensures ∙ c.if-is_all_blank.false))
+    (number_too_big c.args.line.now _ (found _ _ _ _ c.number_in_front-number.ensures.value c.in-TooBig.is))
 
 pub returns-in-Absent : goal.returns-in-Absent
 returns-in-Absent c =
-    let line = c.args.line.now in
-    let here = found _ _ _ _ c.number_in_front-number.ensures.value c.in-Absent.is in
-    after_no_number line (in_front line) (sym c.in_default.ensures.value) (in_front-trim_start line)
-    (some_in_front line (sym c.is_all_blank.ensures ∙ c.if-is_all_blank.false)) (number_absent line _ here)
+    after_no_number c.args.line.now (in_front c.args.line.now) (sym c.in_default.ensures.value) (in_front-trim_start c.args.line.now)
+    (some_in_front c.args.line.now (sym c.is_all_blank.ensures ∙ c.if-is_all_blank.false))
+    (number_absent c.args.line.now _ (found _ _ _ _ c.number_in_front-number.ensures.value c.in-Absent.is))
 
 pub returns-then-number-eq0 : goal.returns-then-number-eq0
 returns-then-number-eq0 c =

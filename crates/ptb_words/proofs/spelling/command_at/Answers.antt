@@ -1,15 +1,13 @@
 -- This file proves that the command words that the first byte leaves are the ones to try.
 use Rattle.ptb_words.specs.declared.word.Table.TheVariants.{Commands}
-use Rattle.std.proofs.Common.{◌≡◌, ℕ, [], ◌∷◌, get_or, Some, None, false, rules, arith, refl}
+use Rattle.std.proofs.Common.{◌≡◌, get_or, false, rules, arith, refl}
 use Rattle.std.specs.Prelude.{codes}
 use Rattle.std.proofs.Math.Nat.{le_of_lt}
 use Rattle.std.proofs.lemmas.Bool.{ltb-true}
 use Rattle.std.proofs.lemmas.Bool.Decides.{nat_tests}
-use Rattle.ptb_words.specs.declared.word.Word.{Word}
 use Rattle.ptb_words.specs.declared.word.Word.TheVariants.{InputKw, GosubKw, RemKw}
 use Rattle.ptb_words.specs.Words.{begins_word, IsCommand}
-use Rattle.ptb_words.specs.WordSearch.{FindsWord}
-use Rattle.ptb_words.proofs.Words.{is_of, finds_begins, finds_second, finds_none}
+use Rattle.ptb_words.proofs.Words.{is_of, finds_begins, begins_either, finds_none}
 use Rattle.ptb_words.proofs.spelling.command_at.Goals as goal
 
 pub spelled_word-requires : goal.spelled_word-requires
@@ -51,30 +49,18 @@ returns-in-76 c = record {
 
 pub returns-in-73-clause-value : goal.returns-in-73-clause-value
 returns-in-73-clause-value c =
-    let r = c.spelled_word-found_if.result in
-    let s = c.or_else.result in
-    let two : r ≡ None → FindsWord ((InputKw, codes "INPUT") ∷ []) c.args.text.now c.args.place s = search rules fits 50 depth 2 in
-    let same : (x : Word × ℕ) → r ≡ Some x → s ≡ Some x = search rules fits 50 depth 2 in
-    finds_begins Commands 73 _ _ _ c.requires c.in-73.is
-    (finds_second _ _ _ _ _ _ c.spelled_word-found_if.ensures.value two same)
+    begins_either Commands 73 _ (InputKw, codes "INPUT") _ _ _ _ refl c.requires c.in-73.is c.spelled_word-found_if.ensures.value
+    (search rules fits 50 depth 2) (search rules fits 50 depth 2)
 
 pub returns-in-71-clause-value : goal.returns-in-71-clause-value
 returns-in-71-clause-value c =
-    let r = c.spelled_word-found_goto.result in
-    let s = c.or_else-in-71.result in
-    let two : r ≡ None → FindsWord ((GosubKw, codes "GOSUB") ∷ []) c.args.text.now c.args.place s = search rules fits 50 depth 2 in
-    let same : (x : Word × ℕ) → r ≡ Some x → s ≡ Some x = search rules fits 50 depth 2 in
-    finds_begins Commands 71 _ _ _ c.requires c.in-71.is
-    (finds_second _ _ _ _ _ _ c.spelled_word-found_goto.ensures.value two same)
+    begins_either Commands 71 _ (GosubKw, codes "GOSUB") _ _ _ _ refl c.requires c.in-71.is c.spelled_word-found_goto.ensures.value
+    (search rules fits 50 depth 2) (search rules fits 50 depth 2)
 
 pub returns-in-82-clause-value : goal.returns-in-82-clause-value
 returns-in-82-clause-value c =
-    let r = c.spelled_word-found_return.result in
-    let s = c.or_else-in-82.result in
-    let two : r ≡ None → FindsWord ((RemKw, codes "REM") ∷ []) c.args.text.now c.args.place s = search rules fits 50 depth 2 in
-    let same : (x : Word × ℕ) → r ≡ Some x → s ≡ Some x = search rules fits 50 depth 2 in
-    finds_begins Commands 82 _ _ _ c.requires c.in-82.is
-    (finds_second _ _ _ _ _ _ c.spelled_word-found_return.ensures.value two same)
+    begins_either Commands 82 _ (RemKw, codes "REM") _ _ _ _ refl c.requires c.in-82.is c.spelled_word-found_return.ensures.value
+    (search rules fits 50 depth 2) (search rules fits 50 depth 2)
 
 pub returns-in-70 : goal.returns-in-70
 returns-in-70 c = record {

@@ -1,26 +1,27 @@
 -- This file answers what is left to prove of `Program::insert`.
 use Rattle.std.proofs.Common.{◌≡◌, ◌-◌, ◌≤◌, length, take, refl, sym, ap, subst, ◌∙◌, arith}
-use Rattle.std.proofs.lemmas.Grind.{common_steps}
 use Rattle.std.specs.List.{insert}
 use Rattle.std.proofs.lemmas.List.Sums.{sum_by-insert, sum_by-take-le}
 use Rattle.ptb_text.specs.declared.program.Statement.{Statement}
 use Rattle.ptb_text.specs.Program.{lengths, texts_length}
 use Rattle.ptb_text.specs.Statements.{StoredProgram}
 use Rattle.ptb_text.proofs.Pool.{lengths-part}
-use Rattle.ptb_text.proofs.Storing.{IsKept-same, insert_enters, insert_full, insert_kept}
-use Rattle.ptb_text.proofs.Storing.{insert_refused, short_text, small_cost}
+use Rattle.ptb_text.proofs.Storing.{IsKept-same, insert_enters, insert_kept, insert_size}
+use Rattle.ptb_text.proofs.Storing.{store_full, store_refused, short_text, small_cost}
 use Rattle.ptb_text.proofs.Stored.{HasSizes-from_kept, length_shown, memory_shown, same_shown}
 use Rattle.ptb_text.proofs.program.Program.insert.Goals as goal
 use Rattle.ptb_text.proofs.program.Program.insert.Goals.{After-place_of-place, After-unwrap}
 
 pub returns-then-cost-self : goal.returns-then-cost-self
 returns-then-cost-self c =
-    insert_full c.self.inside c.args.self.now c.self.view_is c.self.invariant c.args.number c.args.at c.args.text.now c.requires.place c.cost.result c.cost.ensures.value c.if-cost-self.true
+    store_full c.self.inside c.args.self.now c.self.view_is c.args.number c.args.text.now _
+    (insert_size c.self.inside c.args.self.now c.self.view_is c.self.invariant c.args.number c.args.at c.args.text.now c.requires.place c.cost.result c.cost.ensures.value) c.if-cost-self.true
 
 -- the program stays where a growth is refused
 pub returns-then-is_err : goal.returns-then-is_err
 returns-then-is_err c =
-    insert_refused c.self.inside c.args.self.now c.self.view_is c.self.invariant c.args.number c.args.at c.args.text.now c.requires.place c.cost.result c.cost.ensures.value c.if-cost-self.false
+    store_refused c.self.inside c.args.self.now c.self.view_is c.args.number c.args.text.now _
+    (insert_size c.self.inside c.args.self.now c.self.view_is c.self.invariant c.args.number c.args.at c.args.text.now c.requires.place c.cost.result c.cost.ensures.value) c.if-cost-self.false
     (record c.self.inside { pool = c.try_reserve.new.self }) refl c.try_reserve.ensures.items refl
 
 pub invariant_of-self : goal.invariant_of-self
@@ -30,7 +31,8 @@ invariant_of-self c =
 
 pub returns-then-is_err-2 : goal.returns-then-is_err-2
 returns-then-is_err-2 c =
-    insert_refused c.self.inside c.args.self.now c.self.view_is c.self.invariant c.args.number c.args.at c.args.text.now c.requires.place c.cost.result c.cost.ensures.value c.if-cost-self.false
+    store_refused c.self.inside c.args.self.now c.self.view_is c.args.number c.args.text.now _
+    (insert_size c.self.inside c.args.self.now c.self.view_is c.self.invariant c.args.number c.args.at c.args.text.now c.requires.place c.cost.result c.cost.ensures.value) c.if-cost-self.false
     (record c.self.inside { statements = c.try_reserve-2.new.self; pool = c.try_reserve.new.self }) c.try_reserve-2.ensures.items c.try_reserve.ensures.items refl
 
 pub invariant_of-self-then-is_err-2 : goal.invariant_of-self-then-is_err-2
@@ -97,12 +99,6 @@ pub offset_bounds-deref_mut-at : goal.offset_bounds-deref_mut-at
 offset_bounds-deref_mut-at c =
     let s = HasSizes-from_kept c.self.inside c.args.self.now c.self.view_is c.self.invariant in
     omega (arith, c.requires.place.in_range, s.cost_is, s.fits, s.small)
-
-pub slice_bounds-lay_out-count : goal.slice_bounds-lay_out-count
-slice_bounds-lay_out-count c = grind (arith, common_steps)
-
-pub slice_bounds-lay_out-start : goal.slice_bounds-lay_out-start
-slice_bounds-lay_out-start c = grind (arith, common_steps)
 
 pub overflow_add-cost : goal.overflow_add-cost
 overflow_add-cost c = omega (arith, short_text c.args.number c.args.text.now c.requires.statement)

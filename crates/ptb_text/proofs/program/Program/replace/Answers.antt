@@ -1,12 +1,11 @@
 -- This file answers what is left to prove of `Program::replace`.
 use Rattle.std.proofs.Common.{rules, ◌≡◌, ◌-◌, length, set, refl, ap, arith}
-use Rattle.std.proofs.lemmas.Grind.{common_steps}
 use Rattle.std.proofs.lemmas.List.Sums.{sum_by-set}
 use Rattle.ptb_text.specs.declared.program.Statement.{Statement}
 use Rattle.ptb_text.specs.Program.{lengths}
 use Rattle.ptb_text.proofs.Pool.{IsEntry, lengths-part}
-use Rattle.ptb_text.proofs.Storing.{IsKept-same, replace_cost, replace_enters, replace_full}
-use Rattle.ptb_text.proofs.Storing.{replace_kept, replace_refused, short_text, small_cost}
+use Rattle.ptb_text.proofs.Storing.{IsKept-same, replace_cost, replace_enters, replace_kept}
+use Rattle.ptb_text.proofs.Storing.{replace_size, store_full, store_refused, short_text, small_cost}
 use Rattle.ptb_text.proofs.Stored.{IsEntry-shown, HasSizes-from_kept, length_shown, memory_shown}
 use Rattle.ptb_text.proofs.program.Program.replace.Goals as goal
 use Rattle.ptb_text.proofs.program.Program.replace.Goals.{After-from}
@@ -21,12 +20,14 @@ overflow_sub-cost c =
 
 pub returns-then-cost-self : goal.returns-then-cost-self
 returns-then-cost-self c =
-    replace_full c.self.inside c.args.self.now c.self.view_is c.self.invariant c.args.number c.args.at c.args.text.now c.requires.place c.cost.result c.cost.ensures.value c.index.result.now c.index.ensures c.from.result c.from.ensures c.if-cost-self.true
+    store_full c.self.inside c.args.self.now c.self.view_is c.args.number c.args.text.now _
+    (replace_size c.self.inside c.args.self.now c.self.view_is c.self.invariant c.args.number c.args.at c.args.text.now c.requires.place c.cost.result c.cost.ensures.value c.index.result.now c.index.ensures c.from.result c.from.ensures) c.if-cost-self.true
 
 -- the program stays where the growth is refused
 pub returns-then-is_err : goal.returns-then-is_err
 returns-then-is_err c =
-    replace_refused c.self.inside c.args.self.now c.self.view_is c.self.invariant c.args.number c.args.at c.args.text.now c.requires.place c.cost.result c.cost.ensures.value c.index.result.now c.index.ensures c.from.result c.from.ensures c.if-cost-self.false
+    store_refused c.self.inside c.args.self.now c.self.view_is c.args.number c.args.text.now _
+    (replace_size c.self.inside c.args.self.now c.self.view_is c.self.invariant c.args.number c.args.at c.args.text.now c.requires.place c.cost.result c.cost.ensures.value c.index.result.now c.index.ensures c.from.result c.from.ensures) c.if-cost-self.false
     (record c.self.inside { pool = c.try_reserve.new.self }) refl c.try_reserve.ensures.items refl
 
 pub invariant_of-self : goal.invariant_of-self
@@ -77,12 +78,6 @@ pub offset_bounds-deref_mut-at : goal.offset_bounds-deref_mut-at
 offset_bounds-deref_mut-at c =
     let s = HasSizes-from_kept c.self.inside c.args.self.now c.self.view_is c.self.invariant in
     omega (arith, c.requires.place.in_range, s.cost_is, s.fits, s.small)
-
-pub slice_bounds-lay_out-count : goal.slice_bounds-lay_out-count
-slice_bounds-lay_out-count c = grind (arith, common_steps)
-
-pub slice_bounds-lay_out-start : goal.slice_bounds-lay_out-start
-slice_bounds-lay_out-start c = grind (arith, common_steps)
 
 pub overflow_cast-cost : goal.overflow_cast-cost
 overflow_cast-cost c = omega (arith, short_text c.args.number c.args.text.now c.requires.statement)

@@ -1,9 +1,7 @@
 -- This file proves what the digits that stand next write.
 use Rattle.std.proofs.Common.{refl}
-use Rattle.std.proofs.Math.Nat.{le_refl, le_of_lt}
-use Rattle.std.proofs.lemmas.Bool.{true≢false, false≢true}
-use Rattle.ptb_words.proofs.Finding.{number_ahead}
-use Rattle.ptb_words.proofs.Taking.{text_is, next_is, ahead_left, digits_within, fits_within}
+use Rattle.std.proofs.Math.Nat.{le_of_lt}
+use Rattle.ptb_words.proofs.Taking.{text_is, next_is, number_left, digits_within, fits_within}
 use Rattle.ptb_words.proofs.Taking.{number_absent, number_value, number_too_big}
 use Rattle.ptb_words.proofs.cursor.Cursor.number.Goals as goal
 
@@ -18,39 +16,29 @@ pass_to-requires c =
     rw (next_is c.pass_to.view_is c.pass_to.invariant.0)
     (digits_within _ _ _ _ _ (text_is c.self.view_is) (next_is c.self.view_is c.self.invariant.0) c.self.invariant.2 c.leading_digits-value.ensures.count)
 
-pub returns-then-count-eq0 : goal.returns-then-count-eq0
-returns-then-count-eq0 c = record {
-  value =
-      number_absent _ _ _ _ _ (text_is c.self.view_is)
-      (next_is c.self.view_is c.self.invariant.0) c.leading_digits-value.ensures.count c.if-count-eq0.true;
-  text = refl;
-  taken = λ h. absurd (false≢true h);
-  left = le_refl _;
-  absent = λ _. refl;
-}
+pub returns-then-count-eq0-clause-value : goal.returns-then-count-eq0-clause-value
+returns-then-count-eq0-clause-value c =
+    number_absent _ _ _ _ _ (text_is c.self.view_is)
+    (next_is c.self.view_is c.self.invariant.0) c.leading_digits-value.ensures.count c.if-count-eq0.true
 
-pub returns-in-Ok : goal.returns-in-Ok
-returns-in-Ok c =
+pub returns-in-Ok-clause-value : goal.returns-in-Ok-clause-value
+returns-in-Ok-clause-value c =
     let digits = c.leading_digits-value.ensures in
-    let found = number_value _ _ _ _ _ _ _ _ _ (text_is c.self.view_is) (next_is c.self.view_is c.self.invariant.0) (next_is c.pass_to.view_is c.pass_to.invariant.0) digits.count c.if-count-eq0.false digits.value c.in-Ok.ensures c.pass_to-2.ensures.place in
-    let less = ahead_left _ _ c.pass_to-2.ensures.text (number_ahead _ _ _ _ found refl) in
-    record {
-      value = found;
-      text = c.pass_to-2.ensures.text;
-      taken = λ _. less;
-      left = le_of_lt less;
-      absent = λ h. absurd (true≢false h);
-    }
+    number_value _ _ _ _ _ _ _ _ _ (text_is c.self.view_is) (next_is c.self.view_is c.self.invariant.0) (next_is c.pass_to.view_is c.pass_to.invariant.0) digits.count c.if-count-eq0.false digits.value c.in-Ok.ensures c.pass_to-2.ensures.place
 
-pub returns-in-Err : goal.returns-in-Err
-returns-in-Err c =
+pub returns-in-Ok-clause-taken : goal.returns-in-Ok-clause-taken
+returns-in-Ok-clause-taken c = λ _. number_left _ _ _ c.pass_to-2.ensures.text (returns-in-Ok-clause-value c) refl
+
+pub returns-in-Ok-clause-left : goal.returns-in-Ok-clause-left
+returns-in-Ok-clause-left c = le_of_lt (number_left _ _ _ c.pass_to-2.ensures.text (returns-in-Ok-clause-value c) refl)
+
+pub returns-in-Err-clause-value : goal.returns-in-Err-clause-value
+returns-in-Err-clause-value c =
     let digits = c.leading_digits-value.ensures in
-    let found = number_too_big _ _ _ _ _ _ _ _ (text_is c.self.view_is) (next_is c.self.view_is c.self.invariant.0) (next_is c.pass_to.view_is c.pass_to.invariant.0) digits.count c.if-count-eq0.false digits.value c.in-Err.ensures c.pass_to-2.ensures.place in
-    let less = ahead_left _ _ c.pass_to-2.ensures.text (number_ahead _ _ _ _ found refl) in
-    record {
-      value = found;
-      text = c.pass_to-2.ensures.text;
-      taken = λ _. less;
-      left = le_of_lt less;
-      absent = λ h. absurd (true≢false h);
-    }
+    number_too_big _ _ _ _ _ _ _ _ (text_is c.self.view_is) (next_is c.self.view_is c.self.invariant.0) (next_is c.pass_to.view_is c.pass_to.invariant.0) digits.count c.if-count-eq0.false digits.value c.in-Err.ensures c.pass_to-2.ensures.place
+
+pub returns-in-Err-clause-taken : goal.returns-in-Err-clause-taken
+returns-in-Err-clause-taken c = λ _. number_left _ _ _ c.pass_to-2.ensures.text (returns-in-Err-clause-value c) refl
+
+pub returns-in-Err-clause-left : goal.returns-in-Err-clause-left
+returns-in-Err-clause-left c = le_of_lt (number_left _ _ _ c.pass_to-2.ensures.text (returns-in-Err-clause-value c) refl)

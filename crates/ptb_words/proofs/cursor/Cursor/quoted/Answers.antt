@@ -1,36 +1,17 @@
 -- This file proves what stands between two quotes.
-use Rattle.std.proofs.Common.{◌≡◌, ℕ, true, sym, refl, rules, arith, inl, inr}
-use Rattle.std.proofs.Math.Nat.{le_refl, le_of_lt}
-use Rattle.std.proofs.lemmas.Bool.{false≢true}
+use Rattle.std.proofs.Common.{◌≡◌, ℕ, true, sym, refl, arith, inl, inr}
+use Rattle.std.proofs.Math.Nat.{le_of_lt}
 use Rattle.ptb_words.specs.Words.{is_quote}
 use Rattle.ptb_words.proofs.Finding.{quotation_ahead}
 use Rattle.ptb_words.proofs.Taking.{text_is, next_is, ahead_left, quotation_closed, quotation_open, quoted_piece}
 use Rattle.ptb_words.proofs.cursor.Cursor.quoted.Goals as goal
 
-pub returns-in_default : goal.returns-in_default
-returns-in_default c = record {
-  value = search rules fits 50 depth 2;
-  piece = tt;
-  text = refl;
-  taken = λ h. absurd (false≢true h);
-  left = le_refl _;
-  absent = λ _. refl;
-}
-
-pub returns-in_default-bytes_before : goal.returns-in_default-bytes_before
-returns-in_default-bytes_before c =
+pub returns-in_default-bytes_before-clause-value : goal.returns-in_default-bytes_before-clause-value
+returns-in_default-bytes_before-clause-value c =
     let quote : is_quote c.in-Some.byte ≡ true = elim c.if-byte-eq39.either [ inl e ↦ rw e refl | inr e ↦ rw e.1 refl ] in
-    record {
-      value =
-          quotation_open _ _ _ _ _ (text_is c.self.view_is)
-          (next_is c.self.view_is c.self.invariant.0) c.in-Some.ensures.byte quote
-          (sym c.in_default-bytes_before.ensures.value);
-      piece = tt;
-      text = refl;
-      taken = λ h. absurd (false≢true h);
-      left = le_refl _;
-      absent = λ _. refl;
-    }
+    quotation_open _ _ _ _ _ (text_is c.self.view_is)
+    (next_is c.self.view_is c.self.invariant.0) c.in-Some.ensures.byte quote
+    (sym c.in_default-bytes_before.ensures.value)
 
 pub returns-clause-value : goal.returns-clause-value
 returns-clause-value c =

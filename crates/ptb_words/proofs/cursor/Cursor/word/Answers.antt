@@ -1,31 +1,19 @@
 -- This file proves which word stands next.
-use Rattle.std.proofs.Common.{refl, rules}
 use Rattle.std.proofs.Math.Nat.{le_refl, le_of_lt}
-use Rattle.std.proofs.lemmas.Bool.{true≢false, false≢true}
+use Rattle.std.proofs.lemmas.Bool.{true≢false}
 use Rattle.ptb_words.proofs.Finding.{word_ahead}
 use Rattle.ptb_words.proofs.Words.{word_at_end}
 use Rattle.ptb_words.proofs.Taking.{text_is, next_is, ahead_left, word_none, word_taken}
 use Rattle.ptb_words.proofs.cursor.Cursor.word.Goals as goal
 
-pub returns-then-self : goal.returns-then-self
-returns-then-self c = record {
-  value = let end = rw (text_is c.self.view_is, next_is c.self.view_is c.self.invariant.0) at c.if-self.true in word_at_end _ _ _ (rw end (le_refl _));
-  word = tt;
-  text = refl;
-  taken = λ h. absurd (false≢true h);
-  left = le_refl _;
-  absent = λ _. refl;
-}
+pub returns-then-self-clause-value : goal.returns-then-self-clause-value
+returns-then-self-clause-value c =
+    let end = rw (text_is c.self.view_is, next_is c.self.view_is c.self.invariant.0) at c.if-self.true in
+    word_at_end _ _ _ (rw end (le_refl _))
 
-pub returns-in_err-word : goal.returns-in_err-word
-returns-in_err-word c = record {
-  value = rw c.from_residual.ensures (word_none _ _ _ _ _ (text_is c.self.view_is) (next_is c.self.view_is c.self.invariant.0) c.in_err-word.ensures.value.first);
-  word = search rules fits 50 depth 2;
-  text = refl;
-  taken = search rules fits 50 depth 2;
-  left = le_refl _;
-  absent = λ _. refl;
-}
+pub returns-in_err-word-clause-value : goal.returns-in_err-word-clause-value
+returns-in_err-word-clause-value c =
+    rw c.from_residual.ensures (word_none _ _ _ _ _ (text_is c.self.view_is) (next_is c.self.view_is c.self.invariant.0) c.in_err-word.ensures.value.first)
 
 pub returns : goal.returns
 returns c =
