@@ -10,7 +10,7 @@ use Rattle.std.specs.Prelude.{◌≡◌, ℕ, List, [], Option, Some, None, Resu
 use Rattle.ptb_options.specs.declared.request.Request.{Request}
 use Rattle.ptb_serve.specs.declared.note.Note.{Note}
 use Rattle.ptb_serve.specs.declared.service.Outcome.{Outcome}
-use Rattle.ptb_plain.specs.Streams.{Reads, Writes, reads_of}
+use Rattle.ptb_machine.specs.Streams.{Reads, Writes, reads_of}
 use Rattle.ptb_serve.specs.Promises.{FailsLoudly, ReadsOnlyWhatIsAsked, Served}
 use Rattle.ptb_serve.specs.Statuses.{note_status}
 use Rattle.ptb.specs.declared.no_lines.NoLines.{NoLines}

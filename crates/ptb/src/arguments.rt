@@ -12,7 +12,7 @@ ghost use Rattle.ptb_serve.specs.Statuses.{note_status};
 ghost use Rattle.ptb.specs.Exits.{AnswersOptions, AsksAt, ExitsBy, IsRefusedStatus};
 ghost use Rattle.ptb.specs.Exits.{IsUnreadStatus, by_seed, draws_seed, shown_status};
 ghost use Rattle.ptb.specs.Exits.{unread_status};
-ghost use Rattle.ptb_plain.specs.Streams.{reads_of, writes_of};
+ghost use Rattle.ptb_machine.specs.Streams.{reads_of, writes_of};
 
 use crate::console::Console;
 use crate::serving::{Programs, Task, serve_task};

@@ -3,7 +3,7 @@
 ghost use Rattle.std.specs.Prelude.{◌≡◌, ℕ, List, Option, Result, IfSome};
 ghost use Rattle.std.specs.Prelude.{option_copied};
 ghost use Rattle.ptb_serve.specs.declared.note.Note.{Note as NoteValue};
-ghost use Rattle.ptb_plain.specs.Streams.{reads_of, writes_of};
+ghost use Rattle.ptb_machine.specs.Streams.{reads_of, writes_of};
 ghost use Rattle.ptb.specs.Messages.{shortage_of};
 ghost use Rattle.ptb.specs.Opened.{ServesOpened, ServesTask, exit_status, no_lines};
 

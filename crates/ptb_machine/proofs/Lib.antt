@@ -16,3 +16,9 @@ mod Stepping
 pub mod Steps
 pub mod Turns
 mod Underway
+pub mod Playing
+pub mod Taking
+pub mod Drawing
+pub mod Drawn
+pub mod Answering
+pub mod LinesRun

@@ -11,3 +11,7 @@ pub mod PlayResults
 pub mod Beginnings
 pub mod Runs
 pub mod RunEffects
+pub mod Streams
+pub mod PlainRuns
+pub mod Noted
+pub mod SeededRuns

@@ -2,6 +2,7 @@
 
 ghost use Rattle.ptb_machine.specs.EndingLaws.{EndingLaws};
 ghost use Rattle.ptb_machine.specs.Laws.{EffectLaws, RunLaws};
+ghost use Rattle.ptb_machine.specs.SeededRuns.{SeededLaws};
 
 use ptb_expr::value_laws;
 
@@ -27,3 +28,13 @@ pub fn run_laws()
 pub fn ending_laws()
     ensures { EndingLaws }
 {}
+
+/// A seed gives one run of each program on each input, by any rules: each of its answers is drawn by
+/// the next word of the seed's generator for the bound of its question. No other list of answers is
+/// drawn so.
+#[tactic(auto, using(crate::proofs::Drawn::seeded_laws))]
+pub fn seeded_laws()
+    ensures { SeededLaws }
+{
+    run_laws();
+}

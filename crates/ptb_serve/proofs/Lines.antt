@@ -14,8 +14,8 @@ use Rattle.ptb_machine.specs.declared.fault.RunFault.TheVariants as faults
 use Rattle.ptb_machine.specs.declared.run_end.RunEnd.{RunEnd}
 use Rattle.ptb_options.specs.declared.request.Mode.{Mode}
 use Rattle.ptb_options.specs.declared.request.Request.{Request}
-use Rattle.ptb_plain.specs.PlainRuns.{HasLine}
-use Rattle.ptb_plain.specs.Streams.{Reads}
+use Rattle.ptb_machine.specs.PlainRuns.{HasLine}
+use Rattle.ptb_machine.specs.Streams.{Reads}
 use Rattle.ptb_serve.specs.declared.note.Note.{Note}
 use Rattle.ptb_serve.specs.declared.note.Note.TheVariants as notes
 use Rattle.ptb_serve.specs.Loaded.{IsRunStatus, TellsLine, line_in_mode, line_of}

@@ -34,7 +34,7 @@ use Rattle.ptb_options.specs.declared.request.Mode.{Mode}
 use Rattle.ptb_options.specs.declared.request.Mode.TheVariants as modes
 use Rattle.ptb_options.specs.declared.request.Request.{Request}
 use Rattle.ptb_serve.specs.Loaded.{ReadsInput, RefusesListIn, ServesProgram}
-use Rattle.ptb_plain.specs.PlainRuns.{IsUnreadable, input_limit}
+use Rattle.ptb_machine.specs.PlainRuns.{IsUnreadable, input_limit}
 use Rattle.ptb_serve.specs.Replies.{Reply, refusal, success, answers_under, first_front, front_note}
 use Rattle.ptb_serve.specs.Replies.{is_front, is_share, listed_runs, listing_reply, runs_reply}
 use Rattle.ptb_serve.specs.Replies.{all_reply, reply_in_mode}
@@ -42,7 +42,7 @@ use Rattle.ptb_serve.specs.Serving.{outcome_of, input_note, reports_note, IsPlai
 use Rattle.ptb_serve.specs.Serving.{IsCheck, IsInput, ListsFewerOf, NeedsInput, NeedsWholeInput, ReadsForRun}
 use Rattle.ptb_serve.specs.Serving.{Serves, ServesUnread, SilentBy, StopsForMemory}
 use Rattle.ptb_serve.proofs.Fronts.{note_is}
-use Rattle.ptb_plain.proofs.Playing.{takes_beginning}
+use Rattle.ptb_machine.proofs.Playing.{takes_beginning}
 use Rattle.ptb_serve.proofs.Served.{consumes_nothing, nothing_told}
 use Rattle.ptb_serve.proofs.Served.{serves_loaded, takes_nothing, replies_refusal}
 

@@ -20,11 +20,11 @@ use Rattle.ptb_serve.specs.declared.note.Note.{Note}
 use Rattle.ptb_serve.specs.declared.note.Note.TheVariants as notes
 use Rattle.ptb_machine.specs.Runs.{ending_alone}
 use Rattle.ptb_machine.specs.declared.run_end.RunEnd.{RunEnd}
-use Rattle.ptb_plain.specs.PlainRuns.{HasLine, WantsMemory}
-use Rattle.ptb_plain.specs.Streams.{Reads, Writes}
+use Rattle.ptb_machine.specs.PlainRuns.{HasLine, WantsMemory}
+use Rattle.ptb_machine.specs.Streams.{Reads, Writes}
 use Rattle.ptb_serve.specs.Loaded.{IsServed, IsRunStatus, ReadsInput, RefusesListIn, ServesProgram}
 use Rattle.ptb_serve.specs.Loaded.{TellsFailures, TellsLine, TellsMismatch, line_of}
-use Rattle.ptb_plain.specs.SeededRuns.{seeded_answers}
+use Rattle.ptb_machine.specs.SeededRuns.{seeded_answers}
 use Rattle.ptb_serve.specs.Serving.{NeedsInput}
 use Rattle.ptb_serve.proofs.Lines.{none_stopped, run_line}
 use Rattle.ptb_serve.proofs.Listed.{text_serves, untouched_reads}

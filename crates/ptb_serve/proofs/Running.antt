@@ -19,10 +19,10 @@ use Rattle.ptb_serve.specs.declared.note.Note.{Note}
 use Rattle.ptb_serve.specs.declared.note.Note.TheVariants as notes
 use Rattle.ptb_serve.specs.declared.service.Outcome.{Outcome}
 use Rattle.ptb_serve.specs.Loaded.{IsRunStatus, ReadsInput, ServesProgram, TellsFailures}
-use Rattle.ptb_plain.specs.PlainRuns.{PlaysWith, ReadsLines, WantsMemory, ending_wanted, lines_come, lines_taken}
-use Rattle.ptb_plain.specs.Streams.{Reads, Writes}
+use Rattle.ptb_machine.specs.PlainRuns.{PlaysWith, ReadsLines, WantsMemory, ending_wanted, lines_come, lines_taken}
+use Rattle.ptb_machine.specs.Streams.{Reads, Writes}
 use Rattle.ptb_serve.specs.Replies.{Reply, program_reply, program_reply_in_mode, run_reply}
-use Rattle.ptb_plain.specs.SeededRuns.{seeded_answers}
+use Rattle.ptb_machine.specs.SeededRuns.{seeded_answers}
 use Rattle.ptb_serve.specs.Serving.{AsksForMore, EndsUnread, IsInput, IsPlainRun, IsUnloaded}
 use Rattle.ptb_serve.specs.Serving.{NeedsInput, NeedsWholeInput, ReadsBy, ReadsForRun, Serves}
 use Rattle.ptb_serve.specs.Serving.{ServesUnread, SilentBy, StopsForMemory, outcome_of}

@@ -28,9 +28,9 @@ use Rattle.ptb_serve.specs.declared.note.Note.{Note}
 use Rattle.ptb_serve.specs.declared.note.Note.TheVariants as notes
 use Rattle.ptb_serve.specs.declared.service.Outcome.{Outcome}
 use Rattle.ptb_serve.specs.Statuses.{note_status}
-use Rattle.ptb_plain.specs.PlainRuns.{ShowsRun, lines_come, ShowsUnread, ending_wanted, lines_taken}
-use Rattle.ptb_plain.specs.PlainRuns.{lines_wanted, ReadsFor}
-use Rattle.ptb_plain.specs.Streams.{Reads, Writes}
+use Rattle.ptb_machine.specs.PlainRuns.{ShowsRun, lines_come, ShowsUnread, ending_wanted, lines_taken}
+use Rattle.ptb_machine.specs.PlainRuns.{lines_wanted, ReadsFor}
+use Rattle.ptb_machine.specs.Streams.{Reads, Writes}
 use Rattle.ptb_serve.specs.Replies.{Reply, refusal, run_reply, program_of_text, reply_or_refusal, program_reply}
 use Rattle.ptb_serve.specs.Serving.{outcome_of, EndsUnread, IsCheck, IsPlainRun, ReadsBy}
 use Rattle.ptb_serve.specs.Serving.{outcome_wanted, wanted_by, load_note, AsksForMore, IsUnloaded}

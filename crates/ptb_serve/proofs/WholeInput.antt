@@ -16,7 +16,7 @@ use Rattle.ptb_explore.specs.declared.fault.ExploreFault.{ExploreFault}
 use Rattle.ptb_explore.specs.declared.fault.ExploreFault.TheVariants as explores
 use Rattle.ptb_options.specs.declared.request.Mode.{Mode}
 use Rattle.ptb_options.specs.declared.request.Request.{Request}
-use Rattle.ptb_plain.specs.PlainRuns.{input_limit}
+use Rattle.ptb_machine.specs.PlainRuns.{input_limit}
 use Rattle.ptb_serve.specs.declared.note.Note.{Note}
 use Rattle.ptb_serve.specs.declared.note.Note.TheVariants as notes
 use Rattle.ptb_serve.specs.Loaded.{IsServed, IsServedOn, ReadsInput, ServesProgram}

@@ -30,9 +30,9 @@ use Rattle.ptb_options.specs.declared.request.Request.{Request}
 use Rattle.ptb_serve.specs.declared.list_mismatch.ListMismatch.{ListMismatch}
 use Rattle.ptb_serve.specs.declared.note.Note.{Note}
 use Rattle.ptb_serve.specs.declared.note.Note.TheVariants as notes
-use Rattle.ptb_plain.specs.PlainRuns.{IsUnreadable, input_limit}
-use Rattle.ptb_plain.specs.SeededRuns.{seeded_answers}
-use Rattle.ptb_plain.specs.Streams.{Reads, Writes}
+use Rattle.ptb_machine.specs.PlainRuns.{IsUnreadable, input_limit}
+use Rattle.ptb_machine.specs.SeededRuns.{seeded_answers}
+use Rattle.ptb_machine.specs.Streams.{Reads, Writes}
 use Rattle.ptb_serve.specs.ListMismatches.{IsMismatchOf, mismatch_note}
 use Rattle.ptb_serve.specs.Replies.{reply_in_mode}
 use Rattle.ptb_serve.specs.Serving.{IsCheck, IsInput, IsPlainRun, IsUnloaded, NeedsInput}

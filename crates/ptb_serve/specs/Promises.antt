@@ -7,8 +7,8 @@ use Rattle.ptb_text.specs.Device.{GivesAtMost, GivesExactly, HasFailed}
 use Rattle.ptb_text.specs.Lines.{input_lines}
 use Rattle.ptb_text.specs.Statements.{program_limit}
 use Rattle.ptb_devices.specs.Sources.{ConsumesAtMost}
-use Rattle.ptb_plain.specs.PlainRuns.{IsUnreadable, input_limit}
-use Rattle.ptb_plain.specs.Streams.{Reads, Writes}
+use Rattle.ptb_machine.specs.PlainRuns.{IsUnreadable, input_limit}
+use Rattle.ptb_machine.specs.Streams.{Reads, Writes}
 use Rattle.ptb_options.specs.declared.request.Request.{Request}
 use Rattle.ptb_serve.specs.declared.note.Note.TheVariants as notes
 use Rattle.ptb_serve.specs.declared.service.Outcome.{Outcome}

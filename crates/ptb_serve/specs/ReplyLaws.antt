@@ -40,7 +40,7 @@ use Rattle.ptb_options.specs.declared.request.Request.{Request}
 use Rattle.ptb_chances.specs.TableLaws.{TableLaws}
 use Rattle.ptb_check.specs.Laws.{CheckLaws}
 use Rattle.ptb_check.specs.Mistakes.{mistakes, mistakes_text}
-use Rattle.ptb_plain.specs.SeededRuns.{IsDrawn}
+use Rattle.ptb_machine.specs.SeededRuns.{IsDrawn}
 use Rattle.ptb_serve.specs.Replies.{Reply, refusal, success, run_reply, program_of_text, reply_to}
 
 -- All replies of a listing come from one list of runs, whatever number of them is asked for, and in whatever form.

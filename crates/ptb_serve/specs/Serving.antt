@@ -51,10 +51,10 @@ use Rattle.ptb_options.specs.declared.request.Mode.TheVariants as modes
 use Rattle.ptb_serve.specs.declared.service.Outcome.{Outcome}
 use Rattle.ptb_serve.specs.Statuses.{note_status}
 use Rattle.ptb_options.specs.declared.request.Request.{Request}
-use Rattle.ptb_plain.specs.PlainRuns.{ReadsFor, ShowsQuestion, lines_come, lines_taken}
+use Rattle.ptb_machine.specs.PlainRuns.{ReadsFor, ShowsQuestion, lines_come, lines_taken}
 use Rattle.ptb_serve.specs.Replies.{Reply, lines_reply, seeded_lines_reply, program_of_text}
 use Rattle.ptb_serve.specs.Replies.{program_reply, runs_drawn, runs_due}
-use Rattle.ptb_plain.specs.SeededRuns.{seeded_answers}
+use Rattle.ptb_machine.specs.SeededRuns.{seeded_answers}
 
 -- ---- outcomes
 

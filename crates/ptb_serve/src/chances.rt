@@ -2,7 +2,7 @@
 
 ghost use Rattle.std.specs.Prelude.{◌≡◌};
 ghost use Rattle.ptb_options.specs.declared.request.Mode.TheVariants.{Chances};
-ghost use Rattle.ptb_plain.specs.Streams.{reads_of, writes_of};
+ghost use Rattle.ptb_machine.specs.Streams.{reads_of, writes_of};
 ghost use Rattle.ptb_serve.specs.Loaded.{IsServed, IsServedOn};
 
 use crate::note::Note;

@@ -5,8 +5,7 @@ ghost use Rattle.ptb_serve.specs.ReplyLaws.{ReplyLaws};
 use ptb_chances::table_laws;
 use ptb_check::check_laws;
 use ptb_explore::program_laws;
-use ptb_machine::run_laws;
-use ptb_plain::seeded_laws;
+use ptb_machine::{run_laws, seeded_laws};
 
 /// What the reply to each request is, for every program text and every input. The reply to a text
 /// that is refused, as every text of more than 1,048,576 bytes is, is its refusal. For a text that is

@@ -25,5 +25,5 @@ pub use laws::reply_laws;
 pub use list_mismatch::ListMismatch;
 pub use note::Note;
 pub use ptb_chances::Watch;
-pub use ptb_plain::{run_plain, run_plain_to_end, run_seeded, run_seeded_to_end};
+pub use ptb_machine::{run_plain, run_plain_to_end, run_seeded, run_seeded_to_end};
 pub use service::{Outcome, serve};

@@ -5,7 +5,7 @@
 ghost use Rattle.std.specs.Prelude.{◌≡◌, IfSome, IsErrOf, None};
 ghost use Rattle.ptb_machine.specs.Play.{status};
 ghost use Rattle.ptb_machine.specs.Runs.{ending_alone};
-ghost use Rattle.ptb_plain.specs.Streams.{reads_of, writes_of};
+ghost use Rattle.ptb_machine.specs.Streams.{reads_of, writes_of};
 ghost use Rattle.ptb_serve.specs.Loaded.{IsRunStatus, ReadsInput, ServesProgram, TellsFailures};
 ghost use Rattle.ptb_serve.specs.Loaded.{TellsLine, TellsMismatch, line_of};
 ghost use Rattle.ptb_serve.specs.Promises.{FailsLoudly, ReadsOnlyWhatIsAsked, Served};
@@ -23,9 +23,8 @@ use crate::sampled::list_sample;
 use crate::splitting::list_shares;
 use ptb_chances::Watch;
 use ptb_explore::Sample;
-use ptb_machine::{Ending, RunEnd, RunFault};
+use ptb_machine::{Ending, RunEnd, RunFault, run_plain_to_end, run_seeded_to_end};
 use ptb_options::{Mode, Request};
-use ptb_plain::{run_plain_to_end, run_seeded_to_end};
 use ptb_text::{Program, Read, Write, list, load};
 use std::alloc::Global;
 

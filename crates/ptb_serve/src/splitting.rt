@@ -6,7 +6,7 @@ ghost use Rattle.ptb_explore.specs.Beginnings.{beginning_line, split_play, stopp
 ghost use Rattle.ptb_explore.specs.Listing.{WritesRuns};
 ghost use Rattle.ptb_explore.specs.RunTree.{Front, runs_left};
 ghost use Rattle.ptb_options.specs.declared.request.Mode.TheVariants as modes;
-ghost use Rattle.ptb_plain.specs.Streams.{reads_of, writes_of};
+ghost use Rattle.ptb_machine.specs.Streams.{reads_of, writes_of};
 ghost use Rattle.ptb_serve.specs.Loaded.{IsServed, IsServedOn};
 
 use crate::note::Note;

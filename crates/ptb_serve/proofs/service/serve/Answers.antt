@@ -1,7 +1,7 @@
 -- This file answers that a request is served as is promised: its program is loaded, and then its mode decides, or it
 -- isn't loaded.
 use Rattle.std.proofs.Common.{ap, ◌∙◌}
-use Rattle.ptb_plain.specs.Streams.{reads_of, writes_of}
+use Rattle.ptb_machine.specs.Streams.{reads_of, writes_of}
 use Rattle.ptb_serve.specs.declared.attempt.Attempt.{Attempt}
 use Rattle.ptb_serve.specs.Serving.{outcome_of}
 use Rattle.ptb_serve.proofs.Telling.{told_loaded, told_unloaded}

@@ -1,7 +1,7 @@
 -- This file answers how each mode serves a program that was loaded.
 use Rattle.std.proofs.Common.{Err}
-use Rattle.ptb_plain.specs.SeededRuns.{seeded_answers}
-use Rattle.ptb_plain.specs.Streams.{reads_of, writes_of}
+use Rattle.ptb_machine.specs.SeededRuns.{seeded_answers}
+use Rattle.ptb_machine.specs.Streams.{reads_of, writes_of}
 use Rattle.ptb_serve.proofs.Modes.{served_all, served_chances, served_check, served_plain}
 use Rattle.ptb_serve.proofs.Modes.{served_sample, served_seeded, served_shares, served_text}
 use Rattle.ptb_serve.proofs.Modes.{text_broken}

@@ -37,7 +37,7 @@ use Rattle.ptb_machine.specs.Play.{plain, play, stopping_line, unasked_lines}
 use Rattle.ptb_machine.specs.declared.fault.RunFault.{RunFault}
 use Rattle.ptb_machine.specs.declared.fault.RunFault.TheVariants as runs
 use Rattle.ptb_machine.specs.declared.run_end.RunEnd.{RunEnd}
-use Rattle.ptb_plain.specs.Streams.{Reads, Writes}
+use Rattle.ptb_machine.specs.Streams.{Reads, Writes}
 
 pub record ShowsRun (r : List ℕ × Ending) (old new : Option (List ℕ)) (e : Ending) : Type 0 where
   pub ending : e ≡ r.1

@@ -9,7 +9,7 @@ use Rattle.ptb_answers.proofs.Drawn.{answers_by-drawn, drawn_alone}
 use Rattle.ptb_machine.specs.Laws.{RunLaws}
 use Rattle.ptb_machine.specs.Play.{play}
 use Rattle.ptb_machine.specs.Questions.{most_answers}
-use Rattle.ptb_plain.specs.SeededRuns.{IsDrawn, SeededLaws}
+use Rattle.ptb_machine.specs.SeededRuns.{IsDrawn, SeededLaws}
 
 -- the list by which a run by a seed goes is drawn, and it is the only one
 one_is_drawn : {A W : Type 0} (seed most : ℕ) (f : Answers → Outcome A W) → IsReader f most

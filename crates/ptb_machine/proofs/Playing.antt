@@ -33,8 +33,8 @@ use Rattle.ptb_machine.specs.PlayResults.{played_bytes, Plays, IsFinished, IsUna
 use Rattle.ptb_machine.specs.PlayResults.{IsUnfinished, LacksInput, RunComes}
 use Rattle.ptb_machine.specs.Runs.{run_miss, Runs, StopsAt, IsLineOf}
 use Rattle.ptb_machine.proofs.Endings.{HasRunEnding, play_ends}
-use Rattle.ptb_plain.specs.Noted.{ended_for, noted, noted_result}
-use Rattle.ptb_plain.specs.PlainRuns.{ShowsRun, ShowsQuestion, ShowsUnread, lines_taken, IsLed, GoesBy}
+use Rattle.ptb_machine.specs.Noted.{ended_for, noted, noted_result}
+use Rattle.ptb_machine.specs.PlainRuns.{ShowsRun, ShowsQuestion, ShowsUnread, lines_taken, IsLed, GoesBy}
 
 -- ---- lists
 

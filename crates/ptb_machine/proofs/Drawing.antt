@@ -16,8 +16,8 @@ use Rattle.ptb_machine.specs.Laws.{RunLaws}
 use Rattle.ptb_answers.specs.declared.rules.Rules.{Rules}
 use Rattle.ptb_machine.specs.Play.{play}
 use Rattle.ptb_machine.specs.Questions.{most_answers}
-use Rattle.ptb_plain.specs.PlainRuns.{GoesBy, IsLed}
-use Rattle.ptb_plain.specs.SeededRuns.{IsDrawn, SeededLaws, seeded_answers}
+use Rattle.ptb_machine.specs.PlainRuns.{GoesBy, IsLed}
+use Rattle.ptb_machine.specs.SeededRuns.{IsDrawn, SeededLaws, seeded_answers}
 
 -- what is answered begins with what was taken, where that was drawn for its bounds
 pub drawn_first : {A W : Type 0} (most : ℕ) (g : Lcg) (f : Answers → Outcome A W) (ts : Answers) (bs : List ℤ)

@@ -36,11 +36,11 @@ use Rattle.ptb_command.specs.declared.ending.Ending.{Ending}
 use Rattle.ptb_command.specs.declared.ending.Ending.TheVariants as endings
 use Rattle.ptb_machine.specs.declared.fault.RunFault.{RunFault}
 use Rattle.ptb_machine.specs.Play.{plain}
-use Rattle.ptb_plain.specs.Noted.{noted_result}
-use Rattle.ptb_plain.specs.PlainRuns.{IsUnreadable, ShowsRun, ShowsQuestion, ShowsUnread, run_fault}
-use Rattle.ptb_plain.specs.PlainRuns.{lines_come, lines_taken, ending_wanted, lines_wanted}
-use Rattle.ptb_plain.specs.PlainRuns.{ReadsFor}
-use Rattle.ptb_plain.proofs.Playing.{IsRunBetween, IsUnreadBetween}
+use Rattle.ptb_machine.specs.Noted.{noted_result}
+use Rattle.ptb_machine.specs.PlainRuns.{IsUnreadable, ShowsRun, ShowsQuestion, ShowsUnread, run_fault}
+use Rattle.ptb_machine.specs.PlainRuns.{lines_come, lines_taken, ending_wanted, lines_wanted}
+use Rattle.ptb_machine.specs.PlainRuns.{ReadsFor}
+use Rattle.ptb_machine.proofs.Playing.{IsRunBetween, IsUnreadBetween}
 
 abbrev pub fresh : Option (List ℕ) → ℕ → ℕ → InputNow
 fresh known x f = record { state = fresh_input; bytes = known; given = x; failures = f }

@@ -1,7 +1,7 @@
 -- This file answers that a run by a seed is the same without the line of its end.
 use Rattle.std.proofs.Common.{Err, ap, ◌∙◌}
 use Rattle.std.proofs.lemmas.Result.{err_from_is_err_and}
-use Rattle.ptb_plain.proofs.plain.run_seeded.Goals as goal
+use Rattle.ptb_machine.proofs.plain.run_seeded.Goals as goal
 
 pub returns-in_err-end : goal.returns-in_err-end
 returns-in_err-end g c =

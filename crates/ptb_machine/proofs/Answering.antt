@@ -10,7 +10,7 @@ use Rattle.ptb_answers.specs.declared.pause.Pause.TheVariants as pauses
 use Rattle.ptb_answers.specs.Outcome.{Answers}
 use Rattle.ptb_answers.specs.Choices.{AnswerList, RefusedByList, choices_of, with_answers}
 use Rattle.ptb_answers.specs.declared.rules.Rules.{Rules}
-use Rattle.ptb_plain.specs.PlainRuns.{GoesBy}
+use Rattle.ptb_machine.specs.PlainRuns.{GoesBy}
 
 front_at : {A : Type 0} (xs : List A) (i : ℕ) (x : A) → slice_get xs i ≡ Some x → drop i xs ≡ x ∷ drop (suc i) xs
 front_at xs i x e =

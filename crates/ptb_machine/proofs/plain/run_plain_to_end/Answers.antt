@@ -1,7 +1,7 @@
 -- This file answers that a run with a list of answers is the plain run with this list.
 use Rattle.std.proofs.Common.{◌∙◌}
-use Rattle.ptb_plain.proofs.Answering.{goes_by_list, none_refused}
-use Rattle.ptb_plain.proofs.plain.run_plain_to_end.Goals as goal
+use Rattle.ptb_machine.proofs.Answering.{goes_by_list, none_refused}
+use Rattle.ptb_machine.proofs.plain.run_plain_to_end.Goals as goal
 
 pub returns : goal.returns
 returns g c =

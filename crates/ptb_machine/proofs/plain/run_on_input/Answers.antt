@@ -1,8 +1,8 @@
 -- This file answers what is known of a run on an input, by whether the source of its lines has come to a fault.
 use Rattle.std.proofs.Common.{sym, ◌∙◌}
 use Rattle.ptb_machine.specs.Runs.{ending_alone}
-use Rattle.ptb_plain.proofs.LinesRun.{concluded, has_line, ran_unread, ran_whole}
-use Rattle.ptb_plain.proofs.plain.run_on_input.Goals as goal
+use Rattle.ptb_machine.proofs.LinesRun.{concluded, has_line, ran_unread, ran_whole}
+use Rattle.ptb_machine.proofs.plain.run_on_input.Goals as goal
 
 -- it has come to one
 pub returns-in-Some : goal.returns-in-Some

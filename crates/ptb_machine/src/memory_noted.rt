@@ -2,10 +2,12 @@
 
 ghost use Rattle.std.specs.Prelude.{◌≡◌, IfOk, Ok, false};
 ghost use Rattle.ptb_machine.specs.Runs.{ending_alone};
-ghost use Rattle.ptb_plain.specs.Noted.{noted, noted_result};
+ghost use Rattle.ptb_machine.specs.Noted.{noted, noted_result};
 
+use crate::fault::RunFault;
+use crate::run_end::RunEnd;
 use ptb_answers::{Chooser, Pause};
-use ptb_machine::{Ending, RunEnd, RunFault};
+use ptb_command::Ending;
 
 /// Answers as another chooser does. Where that one is refused memory, no answer is left, and the
 /// refusal is noted.

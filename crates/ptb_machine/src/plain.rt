@@ -4,17 +4,19 @@ ghost use Rattle.std.specs.Prelude.{◌≡◌, ◌⊎◌, ℕ, ℤ, List, [], If
 ghost use Rattle.std.specs.Io.KnownBytes.{Appends};
 ghost use Rattle.ptb_machine.specs.Play.{play};
 ghost use Rattle.ptb_machine.specs.Runs.{ending_alone};
-ghost use Rattle.ptb_plain.specs.PlainRuns.{GoesBy, HasLine, PlaysWith, ReadsLines};
-ghost use Rattle.ptb_plain.specs.PlainRuns.{WantsMemory, run_fault};
-ghost use Rattle.ptb_plain.specs.SeededRuns.{IsDrawn, SeededLaws};
-ghost use Rattle.ptb_plain.specs.Streams.{reads_of, writes_of};
+ghost use Rattle.ptb_machine.specs.PlainRuns.{GoesBy, HasLine, PlaysWith, ReadsLines};
+ghost use Rattle.ptb_machine.specs.PlainRuns.{WantsMemory, run_fault};
+ghost use Rattle.ptb_machine.specs.SeededRuns.{IsDrawn, SeededLaws};
+ghost use Rattle.ptb_machine.specs.Streams.{reads_of, writes_of};
 
-use crate::laws::seeded_laws;
+use crate::fault::RunFault;
+use crate::laws::{run_laws, seeded_laws};
 use crate::memory_noted::MemoryNoted;
-use ptb_answers::{Chooser, Listed, Pause, Seeded};
-use ptb_machine::{
-    Ending, ReadFault, ReaderLines, Rules, RunEnd, RunFault, WriterScreen, run_laws, run_to_end,
-};
+use crate::run_end::RunEnd;
+use crate::running::run_to_end;
+use ptb_answers::{Chooser, Listed, Pause, Rules, Seeded};
+use ptb_command::Ending;
+use ptb_devices::{ReadFault, ReaderLines, WriterScreen};
 use ptb_text::{Program, Read, Write};
 use std::alloc::Global;
 

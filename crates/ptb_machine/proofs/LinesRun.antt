@@ -28,19 +28,19 @@ use Rattle.ptb_machine.specs.declared.fault.RunFault.TheVariants as runs
 use Rattle.ptb_machine.specs.declared.run_end.RunEnd.{RunEnd}
 use Rattle.ptb_machine.specs.Play.{stopping_line}
 use Rattle.ptb_machine.specs.Runs.{IsLineOf, Runs, run_miss}
-use Rattle.ptb_plain.specs.Noted.{noted, noted_result}
-use Rattle.ptb_plain.specs.PlainRuns.{GoesBy, HasLine, IsUnreadable, PlaysWith, ReadsFor}
-use Rattle.ptb_plain.specs.PlainRuns.{ReadsLines, WantsMemory, input_limit, lines_taken}
-use Rattle.ptb_plain.specs.PlainRuns.{lines_wanted, run_fault}
-use Rattle.ptb_plain.specs.Streams.{Reads, Writes, reads_of, writes_of}
-use Rattle.ptb_plain.proofs.Playing.{IsRunBetween, IsUnreadBetween, led_line, led_run, led_run_dry}
-use Rattle.ptb_plain.proofs.Playing.{led_run_takes, run_between, state_of, unread_between}
-use Rattle.ptb_plain.proofs.Taking.{begins_input, failed_or_given, fault_missed, fault_unread}
-use Rattle.ptb_plain.proofs.Taking.{fault_without_memory, fresh, given_at_most, is_unreadable}
-use Rattle.ptb_plain.proofs.Taking.{never_unread, noted_read, noted_within, of_input, reads_for}
-use Rattle.ptb_plain.proofs.Taking.{reads_unfailed, shows_come, shows_input, stops_input, taken_by}
-use Rattle.ptb_plain.proofs.Taking.{takes_at_most, takes_within, wanted_at_fault, wanted_within}
-use Rattle.ptb_plain.proofs.Taking.{where_err, where_ok}
+use Rattle.ptb_machine.specs.Noted.{noted, noted_result}
+use Rattle.ptb_machine.specs.PlainRuns.{GoesBy, HasLine, IsUnreadable, PlaysWith, ReadsFor}
+use Rattle.ptb_machine.specs.PlainRuns.{ReadsLines, WantsMemory, input_limit, lines_taken}
+use Rattle.ptb_machine.specs.PlainRuns.{lines_wanted, run_fault}
+use Rattle.ptb_machine.specs.Streams.{Reads, Writes, reads_of, writes_of}
+use Rattle.ptb_machine.proofs.Playing.{IsRunBetween, IsUnreadBetween, led_line, led_run, led_run_dry}
+use Rattle.ptb_machine.proofs.Playing.{led_run_takes, run_between, state_of, unread_between}
+use Rattle.ptb_machine.proofs.Taking.{begins_input, failed_or_given, fault_missed, fault_unread}
+use Rattle.ptb_machine.proofs.Taking.{fault_without_memory, fresh, given_at_most, is_unreadable}
+use Rattle.ptb_machine.proofs.Taking.{never_unread, noted_read, noted_within, of_input, reads_for}
+use Rattle.ptb_machine.proofs.Taking.{reads_unfailed, shows_come, shows_input, stops_input, taken_by}
+use Rattle.ptb_machine.proofs.Taking.{takes_at_most, takes_within, wanted_at_fault, wanted_within}
+use Rattle.ptb_machine.proofs.Taking.{where_err, where_ok}
 
 -- what is known of a run whose chooser refuses so and had these choices before and after
 pub record RanOn {R : Type 0} (p : StoredProgram) (rules : Rules) (refuses : Pause → ℤ → Type 0) (c d : Choices) (input : Reads R) (out : Writes) (result : Result Ending RunFault) : Type 0 where
