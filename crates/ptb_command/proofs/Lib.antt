@@ -5,6 +5,7 @@ pub mod Letting
 pub mod Comings
 pub mod Commas
 pub mod Actions
+pub mod DirectAnswers
 pub mod Dispatch
 pub mod Doing
 pub mod Effects

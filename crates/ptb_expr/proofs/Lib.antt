@@ -2,7 +2,6 @@
 pub mod Evaluation
 pub mod Indices
 pub mod Marks
-pub mod OnlyNumber
 pub mod Parts
 pub mod Reaching
 pub mod Spelling
@@ -17,5 +16,6 @@ pub mod PlainSteps
 pub mod Compiling
 pub mod Runs
 pub mod Coded
+pub mod DirectValues
 pub mod Translating
 pub mod ShortForms

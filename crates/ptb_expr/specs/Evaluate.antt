@@ -5,8 +5,11 @@
 --     IsWhole r j                                    what was read is whole, and j is the place after it
 --     IsTarget c v                                   a value can be stored there
 --     IsMarkedWithin t result                        a fault is marked inside the text
-use Rattle.std.specs.Prelude.{◌≡◌, ℕ, ◌≤◌, List, length, ℤ, Result, Ok, Err}
-use Rattle.ptb_words.specs.CursorState.{CursorState}
+--     IsEvaluated .. c a b old new result            the expression at a cursor, at a and then at b, comes to the result
+use Rattle.std.specs.Prelude.{◌≡◌, ℕ, ◌≤◌, List, length, ℤ, Result, Ok, Err, IfOk}
+use Rattle.ptb_words.specs.CursorState.{CursorState, bytes_left}
+use Rattle.ptb_words.specs.Finding.{LiesAhead}
+use Rattle.ptb_answers.specs.declared.chooser.Chooser as choosers
 use Rattle.ptb_expr.specs.declared.fault.Stop.{Stop}
 use Rattle.ptb_expr.specs.declared.fault.Stop.TheVariants as stops
 use Rattle.ptb_answers.specs.declared.pause.Pause.{Pause}
@@ -17,6 +20,7 @@ use Rattle.ptb_answers.specs.Choices.{Choices, Reaches, Pauses}
 use Rattle.ptb_expr.specs.Store.{Cells, index_of}
 use Rattle.ptb_expr.specs.Tree.{Tree}
 use Rattle.ptb_expr.specs.Value.{Work, value, target_of}
+use Rattle.ptb_expr.specs.Spells.{Spells, Expr}
 use Rattle.ptb_expr.specs.Reading.{Reading, Whole, item_of, expression, variable_tree}
 
 abbrev pub expression_there : CursorState → Reading Tree
@@ -52,3 +56,13 @@ abbrev pub IsMarkedWithin : {V : Type 0} → List ℕ → Result V Stop → Type
 IsMarkedWithin t (Ok v) = Unit {0}
 IsMarkedWithin t (Err (stops.Fault e)) = e.mark ≤ length t
 IsMarkedWithin t (Err (stops.Pause z)) = Unit {0}
+
+-- the cells are c, the cursor is at a and then at b, and the chooser is old and then new
+pub record IsEvaluated {C : Type 0} (chooser : choosers.Ghosts C) (c : Cells) (a b : CursorState) (old new : C) (result : Result ℤ Stop) : Type 0 where
+  pub text : b.text ≡ a.text
+  pub value : Evaluates (chooser.refused new) (expression_value c a) (chooser.choices old) (chooser.choices new) result
+  pub spelled : Spells a.text Expr a.place (expression_there a)
+  pub whole : IfOk result (λ _. IsWhole (expression_there a) b.place)
+  pub ahead : IfOk result (λ _. LiesAhead a.text a.place b.place)
+  pub left : bytes_left b ≤ bytes_left a
+  pub mark : a.place ≤ length a.text → IsMarkedWithin a.text result

@@ -13,6 +13,7 @@ pub use Rattle.ptb_words.specs.CursorState
 pub use Rattle.ptb_words.specs.Words
 pub use Rattle.ptb_words.specs.Finding
 pub mod Stepping
+pub mod Direct
 pub mod Translation
 pub mod Short
 pub mod Saved
