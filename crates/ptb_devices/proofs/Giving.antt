@@ -27,7 +27,7 @@ fault_reads m n fault e reads = subst (λ (k : ℕ). ReadsOn k m [] n) (sym (by_
   by_end Failed given e = refl
   by_end Exceeded given e = refl
 
--- a line that is given is not asked for in vain
+-- a line that is given was asked for with success
 pub given_asked : (end old : InputEnd) (given : Bool) → fault_at end ≡ fault_at old → asked_at end true ≤ asked_at old given
 given_asked Open old given e = omega arith
 given_asked Ended old given e = omega arith
@@ -43,7 +43,7 @@ given_asked Exceeded Exceeded given e = omega arith
 pub cut_asked : (a b : InputState) (old : InputState) → CutsLine a b → fault_at a.end ≡ fault_at old.end → asked b ≤ asked old
 cut_asked a b old cuts same = subst (λ (s : InputState). asked s ≤ asked old) (sym cuts.rest) (given_asked a.end old.end old.is_given same)
 
--- before the end, no line is asked for in vain
+-- before the end, no line is asked for without success
 open_unasked : (s : InputState) → s.end ≡ Open → asked s ≡ 0
 open_unasked s e = ap (λ end. asked_at end s.is_given) e
 
@@ -113,7 +113,7 @@ module _ (m n : InputNow) (reads : ReadsOn 1 m [] n) where
         subst (λ (s : InputState). ReadsOn (asked s) m (kept_bytes s.piece ∷ []) (record n { state = s })) (sym all)
         (last_at n.state.piece begun (subst (λ (s : InputState). ReadsOn 1 m [] (record n { state = s })) at_end-state reads))
 
-    -- and none is asked for in vain
+    -- and none is asked for without success
     pub last_asked : (b : InputState) (t : Bool) → b ≡ record n.state { is_given = t } → t ≡ true → (k : ℕ) → asked b ≤ k
     last_asked b t is true_is k = subst (λ (s : InputState). asked s ≤ k) (sym (is ∙ at_end-is t ∙ ap at_end true_is)) (omega arith)
 

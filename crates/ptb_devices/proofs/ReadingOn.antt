@@ -20,7 +20,7 @@ use Rattle.ptb_devices.proofs.Cutting.{Cuts_more}
 
 -- ---- lines that are asked for
 
--- at most one is asked for in vain, and more are not once a piece is given
+-- at most one is asked for without success, and no more once a piece is given
 asked_one : (end : InputEnd) (s t : Bool) → asked_at end s ≤ 1 + asked_at end t
 asked_one Open s t = omega arith
 asked_one Ended true t = omega arith

@@ -27,7 +27,7 @@ pub trait LineSource {
     /// What stands between two states of it, where the calls in between gave these lines.
     ghost gives: { Self → List (List ℕ) → Self → Type 0 };
 
-    /// How many lines were asked for in vain, of those that it can tell.
+    /// How many lines were asked for without success, of those that it can tell.
     ghost missed: { Self → ℕ };
 
     /// What stands after a fault.
