@@ -36,6 +36,18 @@ enum RunLength {
     Varies,
 }
 
+impl RunLength {
+    // The same with one more run, which took so many answers.
+    fn with(self, taken: usize) -> RunLength {
+        match self {
+            RunLength::Unknown if taken == 0 => RunLength::Unknown,
+            RunLength::Unknown => RunLength::Same(taken),
+            RunLength::Same(length) if length == taken => RunLength::Same(length),
+            _ => RunLength::Varies,
+        }
+    }
+}
+
 /// How far a run is.
 #[derive(Clone, Copy)]
 pub(crate) struct Progress {
@@ -219,7 +231,7 @@ impl Copies {
     }
 
     /// Drops the copies that took more answers than `most`, and gives a copy of the newest that is
-    /// left, from which a run can continue.
+    /// left, from which a run can continue. Notes that the run before took `last` answers.
     ///
     /// # Errors
     ///
@@ -228,9 +240,11 @@ impl Copies {
         &mut self,
         alloc: Global,
         most: usize,
+        last: usize,
     ) -> Result<Option<KeptCopy>, AllocError>
         ensures { IfOk result (GoesBackTo most self.old.kept.items self.new.kept.items) }
     {
+        self.length = self.length.with(last);
         loop {
             // So the one that is taken out can be put back.
             prove!(self.kept.len() <= MOST_COPIES);
@@ -247,16 +261,10 @@ impl Copies {
         }
     }
 
-    /// Takes the machine of a run that is over, for its room, if there are fewer than can be kept, and
-    /// notes how many answers the run took.
-    pub(crate) fn give_back(&mut self, machine: Box<Machine>, taken: usize)
+    /// Takes the machine of a run that is over, for its room, if there are fewer than can be kept.
+    pub(crate) fn give_back(&mut self, machine: Box<Machine>)
         ensures { self.new.kept ≡ self.old.kept }
     {
-        self.length = match self.length {
-            RunLength::Unknown => RunLength::Same(taken),
-            RunLength::Same(length) if length == taken => RunLength::Same(length),
-            _ => RunLength::Varies,
-        };
         if self.kept.len() + self.spare.len() < MOST_COPIES {
             let _ = self.spare.try_push(Some(machine));
         }

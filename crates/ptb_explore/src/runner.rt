@@ -109,7 +109,10 @@ impl<'a> Runner<'a> {
             (WentBack common self.old.copies.kept.items self.new.copies.kept.items) }
         ensures steps { IfOk result (λ b. b.value.steps ≡ last_steps self.new.copies.kept.items) }
     {
-        match self.copies.go_back(self.alloc, common)? {
+        match self
+            .copies
+            .go_back(self.alloc, common, self.report.answers.len())?
+        {
             None => {
                 screen.cut(0);
                 self.copies.begin(self.alloc, &self.player)
@@ -163,7 +166,7 @@ impl<'a> Runner<'a> {
         let mut machine = machine?;
         let ending = self.play_counted(&mut machine, &mut screen, &mut source);
         let steps = machine.steps();
-        self.copies.give_back(machine, self.trial.bounds.len());
+        self.copies.give_back(machine);
         self.report.transcript = screen.into_vec();
         self.report.ending = ending?;
         self.report.steps = steps;
