@@ -349,11 +349,12 @@ fn refused_copies(rt: HostRuntime) {
     expect_same(&rt, "has these runs", (one, many), (true, true));
 }
 
-// The third of many questions' runs, where only the second was played before.
+// The third of many questions' runs, where only the second was played before. It takes as many answers,
+// so that no copy is kept after its last one.
 const THIRD_RUN: ExpectedRun<'static> = ExpectedRun {
     last: &[2, 1],
     steps: 140,
-    kept: 64,
+    kept: 63,
     played: 142,
 };
 
