@@ -73,9 +73,6 @@ module _ (p : StoredProgram) (input : List (List ℕ)) (rules : Rules) (most : �
     nothing_below [] a = refl
     nothing_below (q ∷ qs) a = ap (λ zs. zs ++ below p input rules most qs) (done_leaves game most q (a.0).0 (a.0).1) ∙ ap (λ zs. q ∷ zs) (nothing_below qs a.1)
 
-    kept : Bool → List Answers → List Answers
-    kept b qs = cond b qs []
-
     one_kept : (b : Bool) (q : Answers) (qs : List Answers) → cond b (q ∷ cond b qs []) (cond b qs []) ≡ cond b (q ∷ qs) []
     one_kept true q qs = refl
     one_kept false q qs = refl

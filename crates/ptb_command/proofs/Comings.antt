@@ -14,11 +14,6 @@ use Rattle.ptb_command.specs.Stops.{Comes}
 use Rattle.ptb_command.proofs.Actions.{stops_unrefused}
 use Rattle.ptb_command.proofs.Parts.{say_refines_part, say_stops, show_refines_part, show_stops, refines_part_part, stops_part}
 
--- what holds, holds where something is done
-pub if_ok_always : {X E : Type 0} (P : Type 0) (r : Result X E) → P → IfOk r (λ x. P)
-if_ok_always P (Ok x) p = p
-if_ok_always P (Err e) p = tt
-
 -- nothing is done at the exit of a `?`
 pub if_ok_never : {X E : Type 0} (P : X → Type 0) (r : Result X E) (e : E) → IsErrAnd r (λ y. y ≡ e) → IfOk r P
 if_ok_never P (Ok x) e h = absurd h
@@ -38,5 +33,3 @@ module _ (refused : Refusal → Type 0) (o n : Trace) (rest : List Part) (w : �
   show_comes m x v u e k a (Err y) h =
       let l = with_due (still_due n.due y) n in
       stops_part rest w operands refused o l p _ e y (show_stops rest w operands refused l x v u k y a (stops_unrefused refused m l _ y h))
-
--- ---- a newline alone

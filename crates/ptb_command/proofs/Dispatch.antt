@@ -21,16 +21,7 @@ use Rattle.ptb_command.specs.Acts.{RefinesTo, Acts}
 use Rattle.ptb_command.specs.Representation.{NextIs}
 use Rattle.ptb_command.proofs.Stops.{stops_along}
 
--- ---- words
-
--- the word is known
-pub begun_with : (p : Statements) (q : Place) (n : ℕ) (t : List ℕ) (word v : Word) (i : ℕ) → word ≡ v → Begun p q n t word i → Begun p q n t v i
-begun_with p q n t word v i k b = subst (λ (x : Word). Begun p q n t x i) k b
-
 -- ---- refusals
-
-pub none_refused : (refused : Refusal → Type 0) (r : Refusal) → ⊥ → refused r
-none_refused refused r h = absurd h
 
 -- of the chooser alone
 pub answers_refused : (refused : Pause → ℤ → Type 0) (unread : ReadFault → Type 0) (lines : Option (List (List ℕ))) (r : Refusal) → refused_answers refused r → refused_by refused unread lines r

@@ -1,13 +1,11 @@
 -- This file proves what the items of PRINT are, by what stands there.
 -- Main lemmas: `round_open` and `round_closed`.
-use Rattle.std.proofs.Common.{◌≡◌, ℕ, Bool, true, false, List, [], ◌∷◌, Some, None, refl, ap, ◌∙◌}
-use Rattle.ptb_words.specs.Words.{token_at, NoQuote, QuotedText}
-use Rattle.ptb_expr.specs.Tree.{Tree}
-use Rattle.ptb_expr.specs.Reading.{Reading, Whole, Malformed, item_of, after, map_reading, expression}
+use Rattle.std.proofs.Common.{◌≡◌, ℕ, true, false, List, [], ◌∷◌, Some, None, refl, ap, ◌∙◌}
+use Rattle.ptb_words.specs.Words.{token_at, QuotedText}
+use Rattle.ptb_expr.specs.Reading.{Reading, Whole, Malformed, item_of, map_reading}
 use Rattle.ptb_expr.specs.Evaluate.{IsWhole}
-use Rattle.ptb_command.specs.Items.{Last, Onward, in_front, with_others, items}
-use Rattle.ptb_command.specs.Commands.{Part, Say, Width, Show, NewLine, at_end, end_check, string_at, string_or_value, width_or, print_item, next_item, after_item, item_round, print_parts_if, print_parts}
-use Rattle.ptb_command.proofs.Going.{item_in_front}
+use Rattle.ptb_command.specs.Items.{Last, Onward, in_front, items}
+use Rattle.ptb_command.specs.Commands.{Part, Say, NewLine, at_end, end_check, string_at, string_or_value, width_or, print_item, next_item, after_item, item_round, print_parts_if, print_parts}
 
 -- ---- an item
 
@@ -15,21 +13,10 @@ pub item_mapped : {A B : Type 0} (f : A → B) (r : Reading A) → item_of (map_
 item_mapped f (Whole x j) = refl
 item_mapped f (Malformed x) = refl
 
-width_after : ℕ → Reading Tree → Reading Part
-width_after j r = after r (λ x. Width x j) (λ x k. Whole (Width x k) k)
-
 module _ (t : List ℕ) (i : ℕ) where
-  item_hash : (j : ℕ) → token_at 35 t i ≡ Some j → print_item t i ≡ width_after j (expression t j)
-  unfolding print_item width_after
-  item_hash j e = ap (width_or t i) e
-
   pub item_text : (s : List ℕ) (j : ℕ) → token_at 35 t i ≡ None → string_at t i ≡ QuotedText s j → print_item t i ≡ Whole (Say s) j
   unfolding print_item
   item_text s j e k = ap (width_or t i) e ∙ ap (string_or_value t i) k
-
-  item_shown : token_at 35 t i ≡ None → string_at t i ≡ NoQuote → print_item t i ≡ map_reading Show (expression t i)
-  unfolding print_item
-  item_shown e k = ap (width_or t i) e ∙ ap (string_or_value t i) k
 
   -- ---- the item and what follows it
 
@@ -59,7 +46,3 @@ module _ (t : List ℕ) (i : ℕ) where
 
 abbrev pub BeginsWith : Part → Reading (List Part) → Type 0
 BeginsWith p r = (rest : List Part) × (item_of r ≡ p ∷ rest)
-
-next_first : (t : List ℕ) (others : ℕ → Reading (List Part)) (p : Part) (k : ℕ) (b : Bool) → BeginsWith p (with_others others (next_item t p k b))
-next_first t others p k true = ([], refl)
-next_first t others p k false = (_, item_in_front p (others k))

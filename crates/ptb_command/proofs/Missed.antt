@@ -1,6 +1,6 @@
 -- This file proves what is known of lines that were asked for without success.
 -- Main lemmas: `missed_out` and `fewer_missed`.
-use Rattle.std.proofs.Common.{◌≡◌, true, ◌≤◌, ◌+◌, length, inl, inr, ℕ, List, Option, Some, None, ℤ, Result, Ok, Err, IfErr, IfOk, IfSome, IfNone, [], ◌∷◌, sym, ap, subst, ◌∙◌, arith, Bor}
+use Rattle.std.proofs.Common.{◌≡◌, true, ◌≤◌, ◌+◌, length, inl, inr, ℕ, List, Option, Some, None, ℤ, Result, Ok, Err, IfOk, IfSome, IfNone, [], ◌∷◌, sym, ap, subst, ◌∙◌, arith, Bor}
 use Rattle.std.proofs.Math.Nat.{le_refl}
 use Rattle.std.specs.Result.{IsErrAnd}
 use Rattle.std.proofs.lemmas.Result.{err_from_is_err_and}
@@ -10,7 +10,7 @@ use Rattle.ptb_devices.specs.Sources.{given_lines}
 use Rattle.ptb_command.specs.declared.stop.DeviceError.TheVariants as errors
 use Rattle.ptb_command.specs.declared.stop.Stop.{Stop}
 use Rattle.ptb_command.specs.declared.stop.Stop.TheVariants as stops
-use Rattle.ptb_command.specs.Stops.{stop_of_read, still_shows, Miss, NoMiss, LineMiss, MemoryMiss, UnlessMissed, stop_miss, miss_of, NotMissed}
+use Rattle.ptb_command.specs.Stops.{still_shows, Miss, NoMiss, LineMiss, MemoryMiss, UnlessMissed, stop_miss, miss_of, NotMissed}
 
 module _ (refused : ReadFault → Type 0) (P : Type 0) where
   -- what holds in any case
@@ -40,12 +40,6 @@ module _ (refused : ReadFault → Type 0) (P : Type 0) where
       let p = err_from_is_err_and r k in
       subst (λ (x : Result X Stop). UnlessMissed refused P (miss_of x)) (sym (p.1 ∙ ap Err p.2)) h
 
-  -- where the source refuses a line
-  pub missed_read : (f : ReadFault) → refused f → UnlessMissed refused P (stop_miss (stop_of_read f))
-  missed_read reads.Read h = tt
-  missed_read reads.TooLong h = tt
-  missed_read reads.Memory h = inr h
-
   -- what follows from it
   module _ (Q : Type 0) (follows : P → Q) where
     pub missed_from : (m : Miss) → UnlessMissed refused P m → UnlessMissed refused Q m
@@ -65,10 +59,6 @@ not_missed_then None a b c m n fewer h k = omega (arith, h, k)
 not_missed_then (Some z) a b c m n fewer h (inr k) = inr k
 not_missed_then (Some z) a b c m n fewer (inl h) (inl k) = inl (omega (arith, h, k))
 not_missed_then (Some z) a b c m n fewer (inr h) (inl k) = inr (omega (arith, fewer, h))
-
-pub not_missed_instead : (choose : Option ℤ) (n : ℤ) (old new most : ℕ) → choose ≡ Some n → most ≡ 0 → NotMissed choose old new most
-not_missed_instead None n old new most e none = absurd (let clash : None ≡ Some n = e in cc)
-not_missed_instead (Some z) n old new most e none = inr none
 
 -- what a source gives, it can give no more
 pub fewer_lines : {L : Type 0} (gives : L → List (List ℕ) → L → Type 0) (most : L → ℕ) → ((s t : L) (xs : List (List ℕ)) → gives s xs t → most t + length xs ≤ most s) → (s t : L) (xs : List (List ℕ)) → gives s xs t → most t ≤ most s
@@ -94,11 +84,6 @@ module _ {L : Type 0} (refused : L → ReadFault → Type 0) (missed most : L �
   -- no line more was asked for without success
   pub fewer_missed : {X : Type 0} (t : L) → missed t ≤ missed s → (r : Result X Stop) → UnlessMissed (refused t) (NotMissed choose (missed s) (missed t) (most t)) (miss_of r)
   fewer_missed t h = unmissed (refused t) (NotMissed choose (missed s) (missed t) (most t)) (not_missed choose (missed s) (missed t) (most t) h)
-
-  -- the same by an answer that was asked for instead, once the source u said that it has no line
-  pub instead_missed : {X : Type 0} (b : Option ℤ) → b ≡ choose → (n : ℤ) → b ≡ Some n → (u t : L) → t ≡ u → most u ≡ 0 → (r : Result X Stop) → UnlessMissed (refused t) (NotMissed choose (missed s) (missed t) (most t)) (miss_of r)
-  instead_missed b is n e u t same none r =
-      unmissed (refused t) (NotMissed choose (missed s) (missed t) (most t)) (not_missed_instead choose n (missed s) (missed t) (most t) (sym is ∙ e) (ap most same ∙ none)) r
 
   -- what was gathered before r is still shown, and the source is the same
   pub shown_missed : {X Y : Type 0} (u t : L) → t ≡ u → (r : Result X Stop) → still_shows r ≡ true → UnlessMissed (refused u) (NotMissed choose (missed s) (missed u) (most u)) (miss_of r) → (q : Result Y Stop) → UnlessMissed (refused t) (NotMissed choose (missed s) (missed t) (most t)) (miss_of q)
@@ -126,8 +111,3 @@ alone_missed {L = L} refused missed most choose s t e r =
 -- what was missed stays
 pub missed_same : {L : Type 0} (missed : L → ℕ) (s u t : L) → t ≡ u → missed u ≤ missed s → missed t ≤ missed s
 missed_same missed s u t e h = omega (arith, ap missed e, h)
-
--- a source that refused a line
-pub refused_missed : {X Y : Type 0} (refused : ReadFault → Type 0) (P : Type 0) (f : ReadFault) (line : Result Y ReadFault) → line ≡ Err f → IfErr line refused → (r : Result X Stop) → IsErrAnd r (λ y. y ≡ stop_of_read f) → UnlessMissed refused P (miss_of r)
-refused_missed {Y = Y} refused P f line is h r out =
-    missed_err refused P r (stop_of_read f) out (missed_read refused P f (subst (λ (l : Result Y ReadFault). IfErr l refused) is h))

@@ -1,11 +1,11 @@
 -- This file proves which command is next.
 -- Main lemmas: `next_here` and `next_behind`.
-use Rattle.std.proofs.Common.{◌≡◌, ℕ, zero, suc, ◌<◌, true, false, List, [], ◌∷◌, length, length-drop, Option, Some, None, ℤ, refl, sym, ap, subst, ◌∙◌, arith}
+use Rattle.std.proofs.Common.{◌≡◌, ℕ, true, false, List, Option, Some, None, ℤ, refl, sym, ap, subst, ◌∙◌}
 use Rattle.std.specs.Prelude.{slice_get}
 use Rattle.ptb_text.specs.Statements.{Statements}
 use Rattle.ptb_words.specs.Words.{is_over}
 use Rattle.ptb_command.specs.declared.location.Location.{Location}
-use Rattle.ptb_command.specs.Commands.{Command, commands}
+use Rattle.ptb_command.specs.Commands.{commands}
 use Rattle.ptb_command.specs.State.{Place, place_after, text_of, command_there, placed_at, first_command, command_or_next, next_command}
 use Rattle.ptb_command.specs.Places.{At}
 use Rattle.ptb_command.specs.Laws.{CommandLaws}
@@ -71,33 +71,3 @@ module _ (laws : CommandLaws) (p : Statements) (q : Place) (s : Location) (a : P
         text = sym text;
         more = o;
       }
-
--- ---- one next command
-
-there_below : {X : Type 0} (xs : List X) (k : ℕ) (x : X) → slice_get xs k ≡ Some x → k < length xs
-there_below [] k x e = absurd cc
-there_below (y ∷ xs) zero x e = omega arith
-there_below (y ∷ xs) (suc k) x e = omega (arith, there_below xs k x e)
-
--- where a command stands, its byte place has one index
-at_same : CommandLaws → (t : List ℕ) (j k b : ℕ) → At t j b → At t k b → is_over t b ≡ false → j ≡ k
-at_same laws t j k b f g e =
-    let low = there_below (commands t) j _ (laws.at_there t j b f e) in
-    let high = there_below (commands t) k _ (laws.at_there t k b g e) in
-    let same = ap (λ (xs : List Command). length xs) (f.left ∙ sym g.left) in
-    omega (arith, low, high, same, length-drop j (commands t), length-drop k (commands t))
-
-same_place : (q r : Place) → q.number ≡ r.number → q.index ≡ r.index → q ≡ r
-same_place q r e k = ap (λ (n : ℕ). record q { number = n }) e ∙ ap (λ (n : ℕ). record r { index = n }) k
-
-same_number : (p : Statements) (i m n : ℕ) (t u : List ℕ) → slice_get p i ≡ Some (m, t) → slice_get p i ≡ Some (n, u) → m ≡ n
-same_number p i m n t u e k = ap (λ (o : Option (ℕ × List ℕ)). elim o [ Some x ↦ x.0 | None ↦ m ]) (sym e ∙ k)
-
--- in all states for which a machine stands the same command is next
-pub next_same : CommandLaws → (p : Statements) (q r : Option Place) (here : Location) (t : List ℕ) (a : NextIs p q here t) (b : NextIs p r here t) → b.place ≡ a.place
-next_same laws p q r here t a b =
-    let number = same_number p here.statement b.place.number a.place.number _ _ b.is.statement a.is.statement in
-    same_place b.place a.place number
-    (at_same laws t b.place.index a.place.index here.at
-    (subst (λ (x : List ℕ). At x b.place.index here.at) b.text b.is.at)
-    (subst (λ (x : List ℕ). At x a.place.index here.at) a.text a.is.at) a.more)

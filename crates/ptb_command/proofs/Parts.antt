@@ -1,11 +1,10 @@
 -- This file proves what the parts of a command come to, one at a time.
 -- Main lemma: `show_refines_part`.
-use Rattle.std.proofs.Common.{◌≡◌, ℕ, Bool, true, false, List, [], ◌∷◌, ◌++◌, ℤ, refl, sym, ap, subst, ◌∙◌}
+use Rattle.std.proofs.Common.{◌≡◌, ℕ, Bool, true, List, [], ◌∷◌, ◌++◌, ℤ, refl, sym, ap, subst, ◌∙◌}
 use Rattle.std.specs.Prelude.{if◌then◌else◌}
 use Rattle.ptb_expr.specs.declared.fault.FaultKind.{FaultKind}
-use Rattle.ptb_expr.specs.declared.fault.FaultKind.TheVariants.{What}
 use Rattle.ptb_expr.specs.Tree.{Tree}
-use Rattle.ptb_expr.specs.Reading.{Whole, Malformed, item_of}
+use Rattle.ptb_expr.specs.Reading.{Whole, item_of}
 use Rattle.ptb_expr.specs.Value.{fault, or_fault}
 use Rattle.ptb_command.specs.declared.stop.Stop.{Stop}
 use Rattle.ptb_command.specs.Commands.{Part, Say, Width, Show, NewLine, Letter, Operand, Defect, at_end, defect, end_check}
@@ -22,9 +21,6 @@ use Rattle.ptb_command.proofs.Actions.{show_adds, then_adds, work_action_adds, r
 
 pub refines_part_parts : {o n : Trace} {g : Action (List ℤ)} (w : ℕ) (operands : List ℤ) (ps qs : List Part) → ps ≡ qs → RefinesPart o n (parts_action qs w operands) g → RefinesPart o n (parts_action ps w operands) g
 refines_part_parts {o = o} {n = n} {g = g} w operands ps qs e m = subst (λ (x : List Part). RefinesPart o n (parts_action x w operands) g) (sym e) m
-
-pub stops_parts : (refused : Refusal → Type 0) (o n : Trace) (w : ℕ) (operands : List ℤ) (ps qs : List Part) → ps ≡ qs → (e : Stop) → Stops refused (RefinesPartTo o n (parts_action qs w operands)) n.devices e → Stops refused (RefinesPartTo o n (parts_action ps w operands)) n.devices e
-stops_parts refused o n w operands ps qs k e h = subst (λ (x : List Part). Stops refused (RefinesPartTo o n (parts_action x w operands)) n.devices e) (sym k) h
 
 no_parts : (w : ℕ) (operands : List ℤ) → parts_action [] w operands ≡ goes_on operands
 unfolding parts_action
@@ -147,9 +143,6 @@ module _ (rest : List Part) (w : ℕ) (operands : List ℤ) where
 
 pub end_there : (t : List ℕ) (i : ℕ) → at_end t i ≡ true → end_check t i ≡ Whole [] i
 end_there t i e = ap (λ (b : Bool). if b then Whole [] i else defect i) e
-
-pub no_end_there : (t : List ℕ) (i : ℕ) → at_end t i ≡ false → end_check t i ≡ Malformed (Defect What i ∷ [])
-no_end_there t i e = ap (λ (b : Bool). if b then Whole [] i else defect i) e
 
 pub end_refines_part : (o : Trace) (t : List ℕ) (i w : ℕ) (operands : List ℤ) → at_end t i ≡ true → RefinesPart o o (parts_action (item_of (end_check t i)) w operands) (goes_on operands)
 end_refines_part o t i w operands e =

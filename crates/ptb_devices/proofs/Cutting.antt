@@ -12,7 +12,7 @@ use Rattle.std.specs.Str.Lines.{strip_carriage_return}
 use Rattle.ptb_text.specs.Lines.{onto_first, pieces, tab_as_space, is_printable, line_limit, clean_line, input_lines}
 use Rattle.ptb_text.proofs.Edits.{both}
 use Rattle.ptb_text.proofs.Sound.{both_true}
-use Rattle.ptb_devices.specs.Cutting.{IsClean, begun_piece, cleaned_byte, with_byte, kept_bytes, whole_lines, last_piece, last_line, Cuts, IsLine, AddsLines}
+use Rattle.ptb_devices.specs.Cutting.{IsClean, cleaned_byte, with_byte, kept_bytes, whole_lines, last_piece, last_line, Cuts, IsLine, AddsLines}
 use Rattle.ptb_devices.specs.CuttingLaws.{last_piece-append, whole_lines-append}
 
 -- ---- one byte more
@@ -63,11 +63,6 @@ IsClean-with_byte kept b clean =
       omega (arith, length-take line_limit all),
       list_all-take is_printable line_limit all (list_all-append is_printable kept (cleaned_byte b) ∙ both _ _ clean.1 (cleaned_byte-printable b)),
     )
-
--- a piece that has not begun keeps nothing
-pub kept_bytes-begun : (begun : Bool) (kept : List ℕ) → (begun ≡ false → kept ≡ []) → kept_bytes (begun_piece begun kept) ≡ kept
-kept_bytes-begun false kept none = sym (none refl)
-kept_bytes-begun true kept none = refl
 
 -- ---- bytes after other bytes
 
@@ -153,9 +148,6 @@ pub record AddsUpTo (p : Option (List ℕ)) (bytes rest : List ℕ) (old new : L
   pub front : List ℕ
   pub whole : bytes ≡ front ++ rest
   pub adds : AddsLines p front old new q
-
-pub AddsUpTo_none : (p : Option (List ℕ)) (bytes : List ℕ) (old : List (List ℕ)) → AddsUpTo p bytes bytes old old p
-AddsUpTo_none p bytes old = record { front = []; whole = refl; adds = (sym (append-nil old), refl) }
 
 pub AddsLines_more : (p q r : Option (List ℕ)) (xs ys : List ℕ) (old mid given : List (List ℕ)) → AddsLines p xs old mid q → Cuts q ys given r
     → AddsLines p (xs ++ ys) old (mid ++ given) r

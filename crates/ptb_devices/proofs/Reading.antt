@@ -2,11 +2,11 @@
 -- Main lemmas: `IsReadUpTo_more` and `IsReadUpTo_end`.
 use Rattle.std.proofs.Common.{◌≡◌, ℕ, zero, suc, ◌+◌, ◌-◌, ◌<◌, ◌≤◌, List, take, [], ◌∷◌, ◌++◌, length, Option, None, Some, IfSome, refl, sym, ap, ◌∙◌, append-nil, arith, length-append}
 use Rattle.std.specs.Io.KnownBytes.{Consumes, Keeps, IsAtEnd}
-use Rattle.std.proofs.KnownBytes.{Consumes-nil, Consumes-trans, Consumes-kept, Consumes-whole}
+use Rattle.std.proofs.KnownBytes.{Consumes-trans, Consumes-kept, Consumes-whole}
 use Rattle.ptb_text.specs.Lines.{input_lines}
 use Rattle.ptb_devices.specs.Cutting.{last_line, whole_lines, Cuts, AddsLines}
 use Rattle.ptb_devices.specs.Sources.{ConsumesAtMost}
-use Rattle.ptb_devices.proofs.Cutting.{Cuts_none, Cuts_more, input_lines-cut}
+use Rattle.ptb_devices.proofs.Cutting.{Cuts_more, input_lines-cut}
 
 -- these lines were cut from the bytes that a reader gave, and so many bytes may still be taken
 pub record IsReadUpTo (old now : Option (List ℕ)) (lines : List (List ℕ)) (q : Option (List ℕ)) (room left : ℕ) : Type 0 where
@@ -14,9 +14,6 @@ pub record IsReadUpTo (old now : Option (List ℕ)) (lines : List (List ℕ)) (q
   pub taken : Consumes old now bytes
   pub size : length bytes + left ≡ room
   pub cut : Cuts None bytes lines q
-
-pub IsReadUpTo_none : (a : Option (List ℕ)) (room : ℕ) → IsReadUpTo a a [] None room room
-IsReadUpTo_none a room = record { bytes = []; taken = Consumes-nil a; size = omega arith; cut = Cuts_none None }
 
 pub IsReadUpTo_more : (a b c : Option (List ℕ)) (ls ms : List (List ℕ)) (q r : Option (List ℕ)) (room left : ℕ) (piece : List ℕ) → length piece ≤ left
     → IsReadUpTo a b ls q room left → Consumes b c piece → AddsLines q piece ls ms r → IsReadUpTo a c ms r room (left - length piece)

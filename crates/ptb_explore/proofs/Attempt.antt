@@ -3,13 +3,12 @@
 use Rattle.std.proofs.Common.{◌≡◌, ℕ, zero, suc, ◌-◌, ◌<◌, ◌≤◌, List, [], ◌∷◌, ◌++◌, length, take, drop, replicate, true, false, inl, inr, refl, ap, sym, ◌∙◌, arith, append_assoc, length-drop}
 use Rattle.std.specs.Prelude.{ℤ, pos}
 use Rattle.std.proofs.lemmas.Bool.{cases_lt}
-use Rattle.std.proofs.lemmas.List.{take-append-drop, length-take-le}
+use Rattle.std.proofs.lemmas.List.{take-append-drop}
 use Rattle.std.proofs.Math.Seq.{take-length}
-use Rattle.ptb_answers.specs.Outcome.{Answers, Outcome, Done, Asks, Out, IsReader, is_answer, is_open, is_whole, bounds}
+use Rattle.ptb_answers.specs.Outcome.{Answers, Outcome, Done, Asks, Out, IsReader, is_answer, is_open, bounds}
 use Rattle.ptb_answers.proofs.Readers.{whole_is}
 use Rattle.ptb_explore.specs.RunTree.{IsRun}
 use Rattle.ptb_explore.specs.Plans.{AllOnes, EndsAt}
-use Rattle.ptb_explore.proofs.Tree.{run_apart}
 
 pub all_ones : (n : ℕ) → AllOnes (replicate n (pos 1))
 all_ones zero = tt
@@ -69,20 +68,3 @@ module _ {A W : Type 0} (play : Answers → Outcome A W) (most : ℕ) (reads : I
         outcome = ap play (sym t) ∙ took.came;
         bounds_are = b ∙ ap (bounds play) t;
       }
-
-  -- a plan that was not taken completely, or that ones followed, is no run
-  pub not_whole : (count ≡ length plan → length answers ≡ length plan → ⊥) → IsRun play plan → ⊥
-  not_whole differ r = by_more (length answers - planned) refl
-    where
-      by_more : (k : ℕ) → length answers - planned ≡ k → ⊥
-      by_more zero z =
-          let t = all_taken (run_opens play most reads plan r) in
-          let n : count ≡ length answers = sym (length-take-le count answers took.count_within) ∙ ap length t in
-          let p : planned ≡ length plan = sym (length-take-le planned answers took.planned_within) ∙ ap length took.plan_is in
-          let u = took.planned_within in
-          differ (omega arith) (omega arith)
-      by_more (suc k) z =
-          let t = all_taken (run_opens play most reads plan r) in
-          let whole : IsRun play answers = ap is_whole (ap play (sym t) ∙ took.came) in
-          let s : answers ≡ plan ++ pos 1 ∷ replicate k (pos 1) = took.ones_behind ∙ ap (λ q. q ++ replicate (length answers - planned) (pos 1)) took.plan_is ∙ ap (λ m. plan ++ replicate m (pos 1)) z in
-          run_apart play most reads plan (replicate k (pos 1)) (pos 1) r (rw s at whole)

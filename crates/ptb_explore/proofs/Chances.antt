@@ -6,7 +6,7 @@ use Rattle.std.specs.List.{flat_map, range_with_len}
 use Rattle.std.proofs.Math.Nat.{eq_of_mul-eq-mul_right}
 use Rattle.std.proofs.lemmas.Nat.{mul-le}
 use Rattle.std.proofs.lemmas.Int.{ints}
-use Rattle.ptb_numbers.specs.Fractions.{Ratio, plus, total, Equals}
+use Rattle.ptb_numbers.specs.Fractions.{Ratio, plus, Equals}
 use Rattle.ptb_answers.specs.Outcome.{Answers, Outcome, Done, Asks, IsReader, is_open, is_answer, bound_of, bounds}
 use Rattle.ptb_answers.proofs.Readers.{open_is}
 use Rattle.ptb_explore.specs.RunTree.{answers_to, leaves, leaves_of, tree}
@@ -27,10 +27,6 @@ plus_assoc f g h = parts_same _ _ _ _
     (let left : (f.numerator * g.denominator + g.numerator * f.denominator) * h.denominator + h.numerator * (f.denominator * g.denominator)
     ≡ f.numerator * (g.denominator * h.denominator) + (g.numerator * h.denominator + h.numerator * g.denominator) * f.denominator = omega arith in left)
     (let right : f.denominator * g.denominator * h.denominator ≡ f.denominator * (g.denominator * h.denominator) = omega arith in right)
-
-total_append : (fs gs : List Ratio) → total (fs ++ gs) ≡ plus (total fs) (total gs)
-total_append [] gs = sym (plus_none (total gs))
-total_append (f ∷ fs) gs = ap (plus f) (total_append fs gs) ∙ sym (plus_assoc f (total fs) (total gs))
 
 equals_plus : (f g h k : Ratio) → Equals f g → Equals h k → Equals (plus f h) (plus g k)
 equals_plus f g h k first second = omega (arith, ap (λ n. n * (h.denominator * k.denominator)) first, ap (λ n. n * (f.denominator * g.denominator)) second)

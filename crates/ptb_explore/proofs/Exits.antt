@@ -1,6 +1,6 @@
 -- This file proves what is said where a function ends with a fault.
 -- Main lemma: `passed_on`.
-use Rattle.std.proofs.Common.{◌≡◌, Option, Some, None, Result, Ok, Err, ap, subst}
+use Rattle.std.proofs.Common.{◌≡◌, Option, Some, Result, Ok, Err, ap, subst}
 use Rattle.std.specs.Option.{OnSome}
 use Rattle.std.specs.Result.{IsErrAnd, OnOk}
 use Rattle.ptb_explore.specs.declared.fault.OpenFault.{OpenFault}
@@ -32,10 +32,6 @@ on_ok_always (Err e) q = tt
 -- a fault is no result
 pub err_no_ok : {T E P : Type 0} {x : T} {e : E} → ◌≡◌ {A = Result T E} (Err e) (Ok x) → P
 err_no_ok h = absurd cc
-
--- a result that holds something isn't one that holds nothing
-pub some_no_none : {T E P : Type 0} {o : Option T} {x : T} → o ≡ Some x → ◌≡◌ {A = Result (Option T) E} (Ok o) (Ok None) → P
-some_no_none h k = absurd cc
 
 -- what is said of a result that holds something
 pub on_some_at : {T Q : Type 0} {o : Option T} {x : T} → o ≡ Some x → OnSome o Q → Q

@@ -1,12 +1,11 @@
 -- This file proves laws of the order of lists, by the first place at which two of them differ.
--- Main lemmas: `before_then` and `compared`.
-use Rattle.std.proofs.Common.{◌≡◌, ◌++◌, [], ◌∷◌, true, ◌&&◌, false, length, take, ◌⊎◌, inl, inr, refl, ap, sym, ◌∙◌, arith}
+-- Main lemma: `before_then`.
+use Rattle.std.proofs.Common.{◌≡◌, ◌++◌, [], ◌∷◌, true, ◌&&◌, ◌⊎◌, inl, inr, refl, ap, ◌∙◌, arith}
 use Rattle.std.specs.Prelude.{ℤ, ◌<ℤ◌, int_lt}
 use Rattle.std.specs.Ordering.{int_eq}
-use Rattle.std.specs.Cmp.Lexicographic.{pointwise}
-use Rattle.std.proofs.lemmas.Bool.{cases_Bool, false_from_ne_true, or_cases, and_parts, and_from, or_left, or_right}
+use Rattle.std.proofs.lemmas.Bool.{or_cases, and_parts, and_from, or_left, or_right}
 use Rattle.std.proofs.lemmas.Bool.Decides.{Decides-int_eq}
-use Rattle.std.proofs.lemmas.Int.{ints, by_lt_z}
+use Rattle.std.proofs.lemmas.Int.{ints}
 use Rattle.ptb_answers.specs.Outcome.{Answers}
 use Rattle.ptb_explore.specs.RunTree.{is_before, Before, begins_with}
 
@@ -24,21 +23,7 @@ same_is x y h = (Decides-int_eq x y).0 h
 pub same_from : (x : ℤ) → int_eq x x ≡ true
 same_from x = (Decides-int_eq x x).1 refl
 
-pub cases_number : (x y : ℤ) → (x ≡ y) ⊎ (x <ℤ y) ⊎ (y <ℤ x)
-cases_number x y = by_lt_z x y (λ l. inr (inl l)) (λ l. by_lt_z y x (λ m. inr (inr m)) (λ m. inl (omega (arith, ints))))
-
 -- ---- one list before another
-
--- what both begin with, and the first difference
-pub record Differ (a b : Answers) : Type 0 where
-  pub front : Answers
-  pub low : ℤ
-  pub high : ℤ
-  pub below : low <ℤ high
-  pub rest_a : Answers
-  pub rest_b : Answers
-  pub a_is : a ≡ front ++ low ∷ rest_a
-  pub b_is : b ≡ front ++ high ∷ rest_b
 
 pub before_step : (x y : ℤ) (a b : Answers) → Before (x ∷ a) (y ∷ b) → (x <ℤ y) ⊎ ((x ≡ y) × Before a b)
 before_step x y a b h = elim (or_cases (int_lt x y) (int_eq x y && is_before a b) h) [
@@ -59,15 +44,6 @@ before_under (x ∷ q) a b h = before_from_same x (q ++ a) (q ++ b) (before_unde
 pub before_front : (q a b : Answers) → Before (q ++ a) (q ++ b) → Before a b
 before_front [] a b h = h
 before_front (x ∷ q) a b h = elim (before_step x x (q ++ a) (q ++ b) h) [ inl l ↦ absurd (omega (arith, ints)) | inr p ↦ before_front q a b p.1 ]
-
-pub differ : (a b : Answers) → Before a b → Differ a b
-differ [] b h = absurd cc
-differ (x ∷ a) [] h = absurd cc
-differ (x ∷ a) (y ∷ b) h = elim (before_step x y a b h) [
-  | inl l ↦ record { front = []; low = x; high = y; below = l; rest_a = a; rest_b = b; a_is = refl; b_is = refl }
-  | inr p ↦ let d = differ a b p.1 in let e = p.0 in
-      record { front = x ∷ d.front; low = d.low; high = d.high; below = d.below; rest_a = d.rest_a; rest_b = d.rest_b; a_is = ap (λ s. x ∷ s) d.a_is; b_is = ap (λ s. y ∷ s) d.b_is ∙ ap (λ z. z ∷ d.front ++ d.high ∷ d.rest_b) (sym e) }
-]
 
 pub before_from_differ : (front a b : Answers) (x y : ℤ) → x <ℤ y → Before (front ++ x ∷ a) (front ++ y ∷ b)
 before_from_differ front a b x y l = before_under front (x ∷ a) (y ∷ b) (before_from_less x y a b l)
@@ -94,31 +70,6 @@ before_then (x ∷ a) (y ∷ b) (z ∷ c) h k = elim (before_step x y a b h) [
 pub before_not_back : (a b : Answers) → Before a b → Before b a → ⊥
 before_not_back a b h k = before_self a (before_then a b a h k)
 
--- ---- any two lists
-
-pub data Compared (a b : Answers) : Type 0 where
-  Same : a ≡ b → Compared a b
-  Less : Before a b → Compared a b
-  More : Before b a → Compared a b
-  Begins : (x : ℤ) (c : Answers) → b ≡ a ++ x ∷ c → Compared a b
-  Extends : (x : ℤ) (c : Answers) → a ≡ b ++ x ∷ c → Compared a b
-
-compared_under : (x : ℤ) (a b : Answers) → Compared a b → Compared (x ∷ a) (x ∷ b)
-compared_under x a b (Same e) = Same (ap (λ s. x ∷ s) e)
-compared_under x a b (Less h) = Less (before_from_same x a b h)
-compared_under x a b (More h) = More (before_from_same x b a h)
-compared_under x a b (Begins y c e) = Begins y c (ap (λ s. x ∷ s) e)
-compared_under x a b (Extends y c e) = Extends y c (ap (λ s. x ∷ s) e)
-
-pub compared : (a b : Answers) → Compared a b
-compared [] [] = Same refl
-compared [] (y ∷ b) = Begins y b refl
-compared (x ∷ a) [] = Extends x a refl
-compared (x ∷ a) (y ∷ b) = elim (cases_number x y) [
-  | inl e ↦ rw (← e) (compared_under x a b (compared a b))
-  | inr o ↦ elim o [ inl l ↦ Less (before_from_less x y a b l) | inr l ↦ More (before_from_less y x b a l) ]
-]
-
 -- ---- beginnings
 
 pub begins_is : (a u : Answers) → begins_with a u ≡ true → (s : Answers) × (a ≡ u ++ s)
@@ -141,15 +92,3 @@ before_more (x ∷ u) (y ∷ v) s t h = elim (before_step x y u v h) [
   | inl l ↦ before_from_less x y (u ++ s) (v ++ t) l
   | inr p ↦ let e = p.0 in rw (← e) (before_from_same x (u ++ s) (v ++ t) (before_more u v s t p.1))
 ]
-
-same_back : (x y : ℤ) → int_eq x y ≡ int_eq y x
-same_back x y = elim (cases_Bool (int_eq y x)) [
-  | inl t ↦ let e : y ≡ x = same_is y x t in rw e refl
-  | inr f ↦ false_from_ne_true _ (λ t. let e : x ≡ y = same_is x y t in let g : int_eq y y ≡ false = rw e at f in let h = same_from y in cc) ∙ sym f
-]
-
--- a list begins with another where it does so number by number
-pub begins_by_each : (a u : Answers) → pointwise int_eq u (take (length u) a) ≡ begins_with a u
-begins_by_each a [] = refl
-begins_by_each [] (y ∷ u) = refl
-begins_by_each (x ∷ a) (y ∷ u) = ap (λ t. t && pointwise int_eq u (take (length u) a)) (same_back y x) ∙ ap (λ t. int_eq x y && t) (begins_by_each a u)

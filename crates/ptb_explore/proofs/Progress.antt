@@ -4,7 +4,7 @@ use Rattle.std.proofs.Common.{◌≡◌, ℕ, zero, suc, ◌+◌, ◌-◌, ◌^�
 use Rattle.std.proofs.lemmas.List.Concat.{flat_map-append}
 use Rattle.std.proofs.lemmas.List.{take-append-drop}
 use Rattle.std.specs.Io.KnownBytes.{Appends}
-use Rattle.std.proofs.KnownBytes.{Appends-nil, Appends-trans}
+use Rattle.std.proofs.KnownBytes.{Appends-trans}
 use Rattle.ptb_text.specs.Device.{TakesSome}
 use Rattle.ptb_answers.specs.Outcome.{Answers, Outcome, IsReader}
 use Rattle.ptb_explore.specs.RunTree.{Front, At, End, IsNextRun, IsLast, runs_after, runs_left}
@@ -55,9 +55,6 @@ module _ {A W : Type 0} (play : Answers → Outcome A W) (most : ℕ) (reads : I
   text_push done a = sym (flat_map-append report done (a ∷ []) ∙ ap (λ x. text report done ++ x) (append-nil (report a)))
 
   module _ (list : List Answers) (start : Front) (old : Option (List ℕ)) where
-    pub progress_none : (remaining : Option ℕ) → list ≡ runs_left play most under start remaining → Progress play most under report list start start remaining old old 0
-    progress_none remaining e = record { done = []; split = e; told = Appends-nil old; front_is = refl; count = refl }
-
     pub progress_more : (front f' : Front) (remaining : Option ℕ) (new new' : Option (List ℕ)) (n n' : ℕ) (a : Answers) → Progress play most under report list start front remaining old new n → (remaining ≡ Some 0 → ⊥) → IsNextRun play under front a → f' ≡ At a → Appends new new' (report a) → n' ≡ min (n + 1) (2 ^ 64 - 1) → Progress play most under report list start f' (less_one remaining) old new' n'
     progress_more front f' remaining new new' n n' a p h next e w c = record {
       done = p.done ++ a ∷ [];

@@ -79,9 +79,6 @@ pub record Sampled {A W : Type 0} (play : Answers → Outcome A W) (most : ℕ) 
   pub count : length done + remaining ≡ runs
 
 module _ {A W : Type 0} (play : Answers → Outcome A W) (most : ℕ) (report : Answers → List ℕ) (first : Lcg) (runs : ℕ) (old : Option (List ℕ)) where
-  pub sampled_none : Sampled play most report first runs first runs old old
-  sampled_none = record { done = []; split = refl; told = Appends-nil old; count = omega arith }
-
   text_push : (done : List Answers) (a : Answers) → text report done ++ report a ≡ text report (done ++ a ∷ [])
   text_push done a = sym (flat_map-append report done (a ∷ []) ∙ ap (λ x. text report done ++ x) (append-nil (report a)))
 
@@ -97,9 +94,6 @@ module _ {A W : Type 0} (play : Answers → Outcome A W) (most : ℕ) (report : 
       told = subst (Appends old new') (text_push p.done next_run) (Appends-trans old new new' (text report p.done) (report next_run) p.told w);
       count = let l = length-append p.done (next_run ∷ []) in let k = p.count in omega (arith, l, k);
     }
-
-    pub sampled_all : Sampled play most report first runs g 0 old new → Appends old new (text report (sampled_runs most play first runs))
-    sampled_all p = subst (λ (l : List Answers). Appends old new (text report l)) (sym (append-nil p.done) ∙ sym p.split) p.told
 
     some_left : (remaining : ℕ) → 0 < remaining → sampled_runs most play g remaining ≡ [] → ⊥
     some_left zero more none = absurd (omega (arith, more))

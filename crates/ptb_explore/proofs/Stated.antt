@@ -8,12 +8,11 @@ use Rattle.ptb_answers.specs.declared.form.Marked.{Marked}
 use Rattle.ptb_answers.specs.Outcome.{Answers, Outcome, bounds}
 use Rattle.ptb_answers.specs.AnswerText.{answers_of, unmarked}
 use Rattle.std.specs.Ordering.{int_eq}
-use Rattle.std.proofs.lemmas.Bool.{false_from_ne_true}
 use Rattle.std.proofs.Math.Bool.{and-false}
 use Rattle.ptb_explore.specs.MarkedRuns.{IsMarkedRun, is_bound, states_bounds}
 use Rattle.ptb_explore.specs.RunTree.{IsRun, begins_with}
 use Rattle.ptb_explore.proofs.Bounds.{length-bounds}
-use Rattle.ptb_explore.proofs.Order.{same_from, same_is}
+use Rattle.ptb_explore.proofs.Order.{same_from}
 
 -- bounds after those of the list are not looked at
 pub states_front : (list : List Marked) (bounds : List ℤ) (n : ℕ) → length list ≤ n → states_bounds list (take n bounds) ≡ states_bounds list bounds
@@ -44,11 +43,6 @@ module _ (list under : List Marked) (k : ℕ) (m : Marked) (lt : k < length unde
       let right : int_eq (get_or list k m).answer (get_or under k m).answer ≡ true = rw same (same_from (get_or under k m).answer) in
       ap (λ j. begins_with (answers_of (drop j list)) (answers_of (drop j under))) next
       ∙ sym (each_answer list under k m lt le ∙ ap (λ b. b && begins_with (answers_of (drop (suc k) list)) (answers_of (drop (suc k) under))) right)
-
-  pub other_answer : ((get_or list k m).answer ≡ (get_or under k m).answer → ⊥) → begins_with (answers_of (drop k list)) (answers_of (drop k under)) ≡ false
-  other_answer other =
-      let wrong : int_eq (get_or list k m).answer (get_or under k m).answer ≡ false = false_from_ne_true _ (λ t. other (same_is _ _ t)) in
-      each_answer list under k m lt le ∙ ap (λ b. b && begins_with (answers_of (drop (suc k) list)) (answers_of (drop (suc k) under))) wrong
 
 pub too_short : (list under : List Marked) → length list < length under → begins_with (answers_of list) (answers_of under) ≡ false
 too_short list [] l = absurd (omega arith)

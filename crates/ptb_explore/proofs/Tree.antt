@@ -1,16 +1,15 @@
 -- This file proves that the tree has the runs and nothing else, in rising order, and that none of its runs continues from another.
 -- Main lemma: `tree_laws`.
-use Rattle.std.proofs.Common.{◌≡◌, ℕ, zero, suc, ◌+◌, ◌≤◌, [], ◌∷◌, ◌++◌, length, true, false, ◌⊎◌, ◌↔◌, inl, inr, refl, ap, sym, ◌∙◌, arith, append_assoc, append-nil, length-append}
+use Rattle.std.proofs.Common.{◌≡◌, ℕ, zero, suc, ◌+◌, ◌≤◌, [], ◌∷◌, ◌++◌, length, true, false, ◌↔◌, inl, inr, refl, ap, sym, ◌∙◌, arith, append_assoc, append-nil, length-append}
 use Rattle.std.specs.Prelude.{ℤ}
 use Rattle.std.proofs.lemmas.Bool.{cases_Bool}
 use Rattle.std.specs.List.{flat_map}
 use Rattle.ptb_answers.specs.Outcome.{Answers, Outcome, Done, Asks, IsReader, is_open, is_answer}
 use Rattle.ptb_answers.proofs.Readers.{whole_is, open_is, closed_is}
-use Rattle.ptb_explore.specs.RunTree.{IsRun, IsRising, answers_to, leaves, leaves_of, tree, Before}
+use Rattle.ptb_explore.specs.RunTree.{IsRun, IsRising, answers_to, leaves, leaves_of, tree}
 use Rattle.ptb_explore.specs.Laws.{TreeLaws}
 use Rattle.ptb_explore.proofs.Lists.{IsIn, in_contained, contained_in, in_answers, answers_in, rising_answers}
-use Rattle.ptb_explore.proofs.Order.{Compared, compared, before_from_differ}
-use Rattle.ptb_explore.proofs.Order.Compared.{Same, Less, More, Begins, Extends}
+use Rattle.ptb_explore.proofs.Order.{before_from_differ}
 
 module _ {A W : Type 0} (play : Answers → Outcome A W) where
   leaves-done : (d : ℕ) (q rest : Answers) (x : A) → play q ≡ Done x rest → leaves play q d ≡ q ∷ []
@@ -118,14 +117,3 @@ module _ {A W : Type 0} (play : Answers → Outcome A W) (most : ℕ) (reads : I
     few = reads.few;
     apart = λ a later k. run_apart a later k;
   }
-
-  -- of two runs, one is before the other
-  pub runs_compare : (a b : Answers) → IsRun play a → IsRun play b → (a ≡ b) ⊎ Before a b ⊎ Before b a
-  runs_compare a b r t = by_cases (compared a b)
-    where
-      by_cases : Compared a b → (a ≡ b) ⊎ Before a b ⊎ Before b a
-      by_cases (Same e) = inl e
-      by_cases (Less h) = inr (inl h)
-      by_cases (More h) = inr (inr h)
-      by_cases (Begins x c e) = absurd (run_apart a c x r (rw e at t))
-      by_cases (Extends x c e) = absurd (run_apart b c x t (rw e at r))

@@ -15,7 +15,7 @@ use Rattle.ptb_machine.specs.Play.{Finish}
 use Rattle.ptb_explore.specs.Playing.{Holds, PlayEnds}
 use Rattle.ptb_explore.proofs.Bounds.{bounds-append, length-bounds}
 use Rattle.ptb_explore.proofs.Tree.{run_open}
-use Rattle.ptb_explore.proofs.Attempt.{Took, ends_at, not_whole}
+use Rattle.ptb_explore.proofs.Attempt.{Took, ends_at}
 
 take_twice : {X : Type 0} (m n : ℕ) (xs : List X) → m ≤ n → take m (take n xs) ≡ take m xs
 take_twice zero n xs l = refl
@@ -40,10 +40,6 @@ module _ {A W : Type 0} (play : Answers → Outcome A W) (r : Recorder) (result 
   -- a plan that is open was played to its end
   pub trial_ends : (most : ℕ) → IsReader play most → is_open (play (take r.planned r.answers.items)) ≡ true → EndsAt play (take r.planned r.answers.items) r.answers.items r.bounds.items result
   trial_ends most reads o = ends_at play most reads (take r.planned r.answers.items) r.answers.items r.planned (length r.bounds.items) result recorder_took r.bounds.items o taken_bounds
-
-  -- a plan that was not taken completely, or that ones followed, is no run
-  pub trial_not_whole : (most : ℕ) → IsReader play most → (length r.bounds.items ≡ length (take r.planned r.answers.items) → length r.answers.items ≡ length (take r.planned r.answers.items) → ⊥) → IsRun play (take r.planned r.answers.items) → ⊥
-  trial_not_whole most reads differ run = not_whole play most reads (take r.planned r.answers.items) r.answers.items r.planned (length r.bounds.items) result recorder_took differ run
 
 -- ---- by the ending
 
@@ -109,26 +105,6 @@ module _ (play : Answers → Outcome Finish (List ℕ)) (r : Recorder) (steps : 
     whole_plan endings.NoAnswer h = absurd h
     whole_plan endings.BadAnswer h = absurd (too_long h.next h.later (sym planned ∙ h.plan_is))
 
-  -- another is none
-  module _ (differs : length r.bounds.items ≡ length plan → length r.answers.items ≡ length plan → ⊥) (run : IsRun play plan) where
-    differs_so : (e : Ending) → Holds play (choices_of r) (λ later. Done (record { ending = e; steps = steps; shown = shown }) later) → ⊥
-    differs_so e h =
-        trial_not_whole play r (record { ending = e; steps = steps; shown = shown }) h most reads
-        (λ a b. differs (a ∙ ap length planned) (b ∙ ap length planned)) (rw planned run)
-
-    pub other_plan : (e : Ending) → PlayEnds play (choices_of r) r.refused_bound steps shown e → ⊥
-    other_plan endings.End h = differs_so endings.End h
-    other_plan endings.Stop h = differs_so endings.Stop h
-    other_plan endings.What h = differs_so endings.What h
-    other_plan endings.How h = differs_so endings.How h
-    other_plan endings.Sorry h = differs_so endings.Sorry h
-    other_plan endings.Limit h = differs_so endings.Limit h
-    other_plan endings.NoInput h = differs_so endings.NoInput h
-    other_plan endings.NoAnswer h = h
-    other_plan endings.BadAnswer h =
-        let none : is_whole (play plan) ≡ false = ap is_whole (ap play (sym planned) ∙ h.out) in
-        cc
-
   -- a plan of which all answers are taken is open, and the first of the bounds are its own
   module _ (all : length plan ≤ length r.bounds.items) where
     begun_plan : plan ≡ take (length plan) r.answers.items
@@ -163,9 +139,3 @@ module _ (play : Answers → Outcome Finish (List ℕ)) (r : Recorder) (steps : 
     begun_opens endings.BadAnswer h =
         let within : length r.bounds.items ≤ length r.answers.items = omega (arith, r.bounded, r.answers.ok.0, r.bounds.ok.0) in
         absurd (omega (arith, ap length (sym planned ∙ h.plan_is), length-append (take (length r.bounds.items) r.answers.items) (h.next ∷ h.later), length-take-le (length r.bounds.items) r.answers.items within, all))
-
-  -- of one that is open all answers are taken
-  pub open_begun : is_open (play plan) ≡ true → (e : Ending) → PlayEnds play (choices_of r) r.refused_bound steps shown e → length plan ≤ length r.bounds.items
-  open_begun opens e h =
-      let x = open_ends opens e h in
-      omega (arith, ap length x.bounds_are, length-bounds play [] r.answers.items, ap length x.answers_are, length-append plan x.ones)

@@ -1,7 +1,7 @@
 -- This file proves what values are that are saved without the zeros after them.
 -- Main lemmas: `same_saved` and `same_elements`.
-use Rattle.std.proofs.Common.{◌≡◌, ◌≤◌, ◌<◌, ◌+◌, ◌-◌, ◌∙◌, ◌++◌, ◌∷◌, [], ℕ, List, length, take, drop, replicate, zero, suc, refl, sym, ap, arith, append_assoc}
-use Rattle.std.specs.Prelude.{ℤ, pos, slice_set, unsigned_abs, ◌/◌}
+use Rattle.std.proofs.Common.{◌≡◌, ◌≤◌, ◌+◌, ◌-◌, ◌∙◌, ◌++◌, ℕ, List, length, take, drop, replicate, refl, sym, ap, arith, append_assoc}
+use Rattle.std.specs.Prelude.{ℤ, pos, unsigned_abs, ◌/◌}
 use Rattle.std.proofs.lemmas.List.{drop-append-le, length-append, length-drop, replicate-append-replicate, take-append-drop, take-append-le, take-replicate, take_at, drop_at}
 use Rattle.std.proofs.lemmas.Slice.{drop-append-drop}
 use Rattle.ptb_expr.specs.Saved.{with_zeros}
@@ -13,27 +13,12 @@ zeros n = replicate n (pos 0)
 
 -- ---- values that are put in front of zeros
 
-pub taken_set : (xs : List ℤ) (i : ℕ) (v : ℤ) → i < length xs → take (i + 1) (slice_set xs i v) ≡ take i xs ++ v ∷ []
-taken_set [] i v within = absurd (omega (arith, within))
-taken_set (x ∷ xs) zero v within = refl
-taken_set (x ∷ xs) (suc i) v within =
-    let rest : i < length xs = omega (arith, within) in
-    let step : suc i + 1 ≡ suc (i + 1) = omega arith in
-    rw step (ap (λ l. x ∷ l) (taken_set xs i v rest))
-
 pub front_put : (front xs : List ℤ) → length front ≤ length xs → length (front ++ drop (length front) xs) ≡ length xs
 front_put front xs fits = rw (length-append, length-drop) (omega (arith, fits))
 
 pub front_zeros : (front xs : List ℤ) (used end : ℕ) → used ≤ end → length front ≤ end → length front ≤ length xs → IsZeroFrom used xs → IsZeroFrom end (front ++ drop (length front) xs)
 front_zeros front xs used end a b fits behind =
     rw (front_put front xs fits, drop-append-drop (length front) xs front end b refl) (zeros_behind end used xs a behind)
-
-pub one_more : (front xs : List ℤ) (at : ℕ) → at < length xs → length front ≤ at → take at xs ≡ front ++ zeros (at - length front)
-    → take (at + 1) (slice_set xs at (pos 0)) ≡ front ++ zeros (at + 1 - length front)
-one_more front xs at within longer put =
-    let more : at - length front + 1 ≡ at + 1 - length front = omega (arith, longer) in
-    taken_set xs at (pos 0) within ∙ ap (λ l. l ++ pos 0 ∷ []) put ∙ append_assoc front (zeros (at - length front)) (zeros 1)
-    ∙ ap (λ l. front ++ l) (replicate-append-replicate (at - length front) 1 (pos 0) ∙ ap zeros more)
 
 pub all_put : (front xs : List ℤ) (end n : ℕ) → length front ≤ end → end ≤ n → length xs ≡ n → take end xs ≡ front ++ zeros (end - length front) → IsZeroFrom end xs → xs ≡ with_zeros n front
 all_put front xs end n longer within same put behind =

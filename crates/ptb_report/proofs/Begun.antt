@@ -31,9 +31,6 @@ begins_shorter text s t h =
 pub begins_within : (text front : List ℕ) → BeginsWith text front → length front ≤ length text
 begins_within text front h = omega (arith, length-take (length front) text, ap length h)
 
-pub begins_same : (s t : List ℕ) → t ≡ s → BeginsWith t s
-begins_same s t is = ap (take (length s)) is ∙ take-length s
-
 pub begins_longer : (new old s : List ℕ) → BeginsWith new old → BeginsWith old s → BeginsWith new s
 begins_longer new old s h g =
     let is : old ≡ s ++ drop (length s) old = sym (take-append-drop (length s) old) ∙ ap (λ z. z ++ drop (length s) old) g in
