@@ -3,5 +3,5 @@ pub mod Blanks
 pub mod Pairs
 pub mod Digits
 pub mod Words
-pub mod Finding
-pub mod Taking
+pub mod FoundParts
+pub mod TakenTokens

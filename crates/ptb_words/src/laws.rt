@@ -4,7 +4,7 @@ ghost use Rattle.ptb_words.specs.Finding.{FindingLaws};
 
 /// What is found lies ahead of the place and within the text, and the byte that stands next tells
 /// what it can be.
-#[tactic(auto, using(crate::proofs::Finding::finding_laws))]
+#[tactic(auto, using(crate::proofs::FoundParts::finding_laws))]
 pub fn finding_laws()
     ensures { FindingLaws }
 {}

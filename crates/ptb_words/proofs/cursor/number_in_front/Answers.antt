@@ -1,6 +1,6 @@
 -- This file answers what is left to prove of the number in front of a text.
 use Rattle.std.proofs.Common.{refl}
-use Rattle.ptb_words.proofs.Taking.{number_absent, number_value, number_too_big}
+use Rattle.ptb_words.proofs.TakenTokens.{number_absent, number_value, number_too_big}
 use Rattle.ptb_words.proofs.cursor.number_in_front.Goals as goal
 
 pub returns-then-count-eq0-clause-value : goal.returns-then-count-eq0-clause-value

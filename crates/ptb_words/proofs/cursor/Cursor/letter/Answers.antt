@@ -1,7 +1,7 @@
 -- This file proves whether a letter stands next.
 use Rattle.std.proofs.Math.Nat.{le_of_lt}
 use Rattle.std.proofs.lemmas.Bool.{true≢false}
-use Rattle.ptb_words.proofs.Taking.{letter_taken}
+use Rattle.ptb_words.proofs.TakenTokens.{letter_taken}
 use Rattle.ptb_words.proofs.cursor.Cursor.letter.Goals as goal
 
 pub returns : goal.returns

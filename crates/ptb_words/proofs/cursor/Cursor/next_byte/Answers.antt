@@ -2,7 +2,7 @@
 use Rattle.std.proofs.Common.{◌≡◌, arith}
 use Rattle.std.proofs.lemmas.Grind.{elements}
 use Rattle.ptb_words.specs.Words.{next_byte_at}
-use Rattle.ptb_words.proofs.Finding.{stands_next}
+use Rattle.ptb_words.proofs.FoundParts.{stands_next}
 use Rattle.ptb_words.proofs.cursor.Cursor.next_byte.Goals as goal
 
 pub returns : goal.returns

@@ -1,8 +1,8 @@
 -- This file proves what the digits that stand next write.
 use Rattle.std.proofs.Common.{refl}
 use Rattle.std.proofs.Math.Nat.{le_of_lt}
-use Rattle.ptb_words.proofs.Taking.{text_is, next_is, number_left, digits_within, fits_within}
-use Rattle.ptb_words.proofs.Taking.{number_absent, number_value, number_too_big}
+use Rattle.ptb_words.proofs.TakenTokens.{text_is, next_is, number_left, digits_within, fits_within}
+use Rattle.ptb_words.proofs.TakenTokens.{number_absent, number_value, number_too_big}
 use Rattle.ptb_words.proofs.cursor.Cursor.number.Goals as goal
 
 pub overflow_add-self : goal.overflow_add-self

@@ -2,8 +2,8 @@
 use Rattle.std.proofs.Common.{◌≡◌, ℕ, true, sym, refl, arith, inl, inr}
 use Rattle.std.proofs.Math.Nat.{le_of_lt}
 use Rattle.ptb_words.specs.Words.{is_quote}
-use Rattle.ptb_words.proofs.Finding.{quotation_ahead}
-use Rattle.ptb_words.proofs.Taking.{text_is, next_is, ahead_left, quotation_closed, quotation_open, quoted_piece}
+use Rattle.ptb_words.proofs.FoundParts.{quotation_ahead}
+use Rattle.ptb_words.proofs.TakenTokens.{text_is, next_is, ahead_left, quotation_closed, quotation_open, quoted_piece}
 use Rattle.ptb_words.proofs.cursor.Cursor.quoted.Goals as goal
 
 pub returns-in_default-bytes_before-clause-value : goal.returns-in_default-bytes_before-clause-value

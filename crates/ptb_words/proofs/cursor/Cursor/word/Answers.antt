@@ -1,9 +1,9 @@
 -- This file proves which word stands next.
 use Rattle.std.proofs.Math.Nat.{le_refl, le_of_lt}
 use Rattle.std.proofs.lemmas.Bool.{true≢false}
-use Rattle.ptb_words.proofs.Finding.{word_ahead}
+use Rattle.ptb_words.proofs.FoundParts.{word_ahead}
 use Rattle.ptb_words.proofs.Words.{word_at_end}
-use Rattle.ptb_words.proofs.Taking.{text_is, next_is, ahead_left, word_none, word_taken}
+use Rattle.ptb_words.proofs.TakenTokens.{text_is, next_is, ahead_left, word_none, word_taken}
 use Rattle.ptb_words.proofs.cursor.Cursor.word.Goals as goal
 
 pub returns-then-self-clause-value : goal.returns-then-self-clause-value

@@ -22,7 +22,7 @@ use Rattle.ptb_words.specs.Words.{past_blanks, next_byte_at, words, first_word, 
 use Rattle.ptb_words.specs.Words.{letter_there, letter_at, small_number, number_at, is_number, is_quote}
 use Rattle.ptb_words.specs.Words.{quotation_at, QuotedText, OpenQuote}
 use Rattle.ptb_words.specs.Finding.{LiesAhead, past_byte}
-use Rattle.ptb_words.proofs.Finding.{number_ahead}
+use Rattle.ptb_words.proofs.FoundParts.{number_ahead}
 
 -- what stands from a place on, as the code cuts it
 abbrev pub behind : List ℕ → ℕ → List ℕ
