@@ -9,7 +9,7 @@ use Rattle.std.proofs.lemmas.Result.{err_from_is_err_and}
 use Rattle.ptb_text.specs.Device.{GivesExactly, HasFailed, failure_limit, given_limit}
 use Rattle.ptb_text.specs.Lines.{input_lines}
 use Rattle.ptb_text.specs.Streams.{Reads, ReadsUpTo}
-use Rattle.ptb_text.proofs.Counting.{IsCountedUpTo, IsCountedUpTo_more}
+use Rattle.ptb_text.proofs.ByteCounts.{IsCountedUpTo, IsCountedUpTo_more}
 use Rattle.ptb_devices.specs.Cutting.{last_line}
 use Rattle.ptb_devices.specs.declared.fault.ReadFault.{ReadFault}
 use Rattle.ptb_devices.specs.declared.fault.ReadFault.TheVariants.{Read, TooLong, Memory}

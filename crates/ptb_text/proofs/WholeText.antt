@@ -12,7 +12,7 @@ use Rattle.ptb_text.specs.Device.{GivesExactly, HasFailed, failure_limit, given_
 use Rattle.ptb_text.specs.Loading.{ReadsProgram}
 use Rattle.ptb_text.specs.Statements.{program_limit}
 use Rattle.ptb_text.specs.Streams.{ConsumesAtMost, Reads}
-use Rattle.ptb_text.proofs.Counting.{IsCountedUpTo, IsCountedUpTo_more}
+use Rattle.ptb_text.proofs.ByteCounts.{IsCountedUpTo, IsCountedUpTo_more}
 
 -- a reader that gave more than the limit had more
 longer : (a b : Option (List ℕ)) (bs : List ℕ) (limit : ℕ) → limit < length bs → Consumes a b bs

@@ -13,7 +13,7 @@ mod fault;
 mod laws;
 mod line;
 mod listing;
-mod loading;
+mod loader;
 mod output_buffer;
 mod program;
 
@@ -22,7 +22,7 @@ pub use device::{Device, DeviceFault, Read, Write};
 pub use fault::LoadFault;
 pub use laws::statement_laws;
 pub use listing::{WriteFault, list};
-pub use loading::{load, split_line};
+pub use loader::{load, split_line};
 pub use output_buffer::OutputBuffer;
 pub use program::Program;
 pub use ptb_words::{Cursor, Letter, Number, Quoted, Table, Word, finding_laws};

@@ -3,7 +3,7 @@ use Rattle.std.proofs.Common.{◌≡◌, List, ℕ, subst, arith, rules, length,
 use Rattle.std.proofs.lemmas.List.{take-append-le, length-take-le}
 use Rattle.std.specs.Io.KnownBytes.{IsAtEnd}
 use Rattle.ptb_text.specs.Streams.{reads_of}
-use Rattle.ptb_text.proofs.Counting.{IsCountedUpTo, IsCountedUpTo_more}
+use Rattle.ptb_text.proofs.ByteCounts.{IsCountedUpTo, IsCountedUpTo_more}
 use Rattle.ptb_devices.specs.Cutting.{AddsLines}
 use Rattle.ptb_devices.proofs.Reading.{IsReadUpTo_more, no_piece}
 use Rattle.ptb_devices.proofs.WholeReading.{told_all, told_failed, told_long, told_wanting, too_many, wants_memory}

@@ -1,6 +1,6 @@
 -- This file says what the loops of `read_lines` keep.
 use Rattle.std.proofs.Common.{◌≡◌, ◌≤◌, ◌-◌}
-use Rattle.ptb_text.proofs.Counting.{IsCountedUpTo}
+use Rattle.ptb_text.proofs.ByteCounts.{IsCountedUpTo}
 use Rattle.ptb_devices.proofs.Reading.{IsReadUpTo}
 use Rattle.ptb_devices.proofs.whole_input.read_lines.Given as goal
 

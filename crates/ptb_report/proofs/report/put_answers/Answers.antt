@@ -10,7 +10,7 @@ use Rattle.ptb_answers.specs.Outcome.{Answers}
 use Rattle.ptb_answers.specs.declared.form.Form.{Form}
 use Rattle.ptb_answers.specs.declared.form.Marked.{Marked}
 use Rattle.ptb_answers.specs.AnswerText.{item_text, in_form, items_in, spelling}
-use Rattle.ptb_text.proofs.Gathering.{gathers_same, gathers_piece, some_piece}
+use Rattle.ptb_text.proofs.GatheredBytes.{gathers_same, gathers_piece, some_piece}
 use Rattle.ptb_report.proofs.ReportText.{pieces_of, whole_piece, piece_at, item_at, spelling_in_pieces, length-pieces_of, length-items_in}
 use Rattle.ptb_report.proofs.report.put_answers.Goals as goal
 

@@ -5,7 +5,7 @@ use Rattle.std.proofs.lemmas.Result.{on_ok_weaker, on_err_weaker}
 use Rattle.ptb_text.specs.Device.{TakesSome}
 use Rattle.ptb_answers.specs.declared.form.Marked.{Marked}
 use Rattle.ptb_answers.specs.AnswerText.{bound_text, item_text}
-use Rattle.ptb_text.proofs.Gathering.{gathers_same}
+use Rattle.ptb_text.proofs.GatheredBytes.{gathers_same}
 use Rattle.ptb_report.proofs.report.put_item.Goals as goal
 
 with_number : (p s a b : List ℕ) (m : Marked) (n : ℤ) → a ≡ signed_decimal m.answer → b ≡ signed_decimal n → m.bound ≡ Some n

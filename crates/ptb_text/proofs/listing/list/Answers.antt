@@ -4,8 +4,8 @@ use Rattle.std.proofs.lemmas.List.{drop_all}
 use Rattle.ptb_text.specs.Device.{HasFailed}
 use Rattle.ptb_text.specs.Statements.{listing}
 use Rattle.ptb_text.proofs.Listed.{GivesProgram-listing, listing-drop}
-use Rattle.ptb_text.proofs.Taking.{gathers_all, piece_taken, piece_fault, OnErr-error, OnErr-holds}
-use Rattle.ptb_text.proofs.Taking.{OnOk-error, OnOk-holds}
+use Rattle.ptb_text.proofs.TakenPieces.{gathers_all, piece_taken, piece_fault, OnErr-error, OnErr-holds}
+use Rattle.ptb_text.proofs.TakenPieces.{OnOk-error, OnOk-holds}
 use Rattle.ptb_text.proofs.listing.list.Goals as goal
 
 -- a write failed

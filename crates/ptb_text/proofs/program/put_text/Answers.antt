@@ -1,7 +1,7 @@
 -- This file answers what is left to prove of `put_text`, and goals that the prover finds late by itself.
 use Rattle.std.proofs.Common.{rules, arith}
 use Rattle.std.proofs.lemmas.Grind.{common_steps}
-use Rattle.ptb_text.proofs.Putting.{put_items}
+use Rattle.ptb_text.proofs.PoolEdits.{put_items}
 use Rattle.ptb_text.proofs.program.put_text.Goals as goal
 
 pub unwrap-requires : goal.unwrap-requires

@@ -1,8 +1,8 @@
 -- This file answers what is left to prove of `Write::write_all`.
 use Rattle.std.proofs.Common.{arith, rules, refl, subst}
 use Rattle.std.proofs.lemmas.Result.{err_from_is_err_and}
-use Rattle.ptb_text.proofs.Gathering.{gathers_none}
-use Rattle.ptb_text.proofs.Taking.{gathers_rest, gathers_all, gathers_fault, sure_all, sure_more, sure_written}
+use Rattle.ptb_text.proofs.GatheredBytes.{gathers_none}
+use Rattle.ptb_text.proofs.TakenPieces.{gathers_rest, gathers_all, gathers_fault, sure_all, sure_more, sure_written}
 use Rattle.ptb_text.proofs.device.Write.write_all.Goals as goal
 
 pub loop-rest-init : goal.loop-rest-init

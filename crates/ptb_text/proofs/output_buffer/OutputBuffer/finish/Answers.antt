@@ -1,6 +1,6 @@
 -- This file answers that what waits is written after the last pieces are added.
 use Rattle.std.proofs.lemmas.Result.{on_ok_weaker, on_err_weaker}
-use Rattle.ptb_text.proofs.Gathering.{all_after, some_rest}
+use Rattle.ptb_text.proofs.GatheredBytes.{all_after, some_rest}
 use Rattle.ptb_text.proofs.output_buffer.OutputBuffer.finish.Goals as goal
 
 pub returns-clause-ok : goal.returns-clause-ok

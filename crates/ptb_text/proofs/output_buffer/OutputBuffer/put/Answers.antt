@@ -3,7 +3,7 @@ use Rattle.std.proofs.Common.{◌∙◌, [], refl, subst, sym}
 use Rattle.std.proofs.lemmas.Result.{on_ok_weaker, on_err_weaker}
 use Rattle.std.specs.Io.KnownBytes.{Appends}
 use Rattle.ptb_text.specs.Device.{Gathers}
-use Rattle.ptb_text.proofs.Gathering.{gathers_written, gathers_more, some_after}
+use Rattle.ptb_text.proofs.GatheredBytes.{gathers_written, gathers_more, some_after}
 use Rattle.ptb_text.proofs.output_buffer.OutputBuffer.put.Goals as goal
 
 pub returns-clause-ok : goal.returns-clause-ok

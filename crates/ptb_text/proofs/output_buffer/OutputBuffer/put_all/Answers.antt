@@ -1,7 +1,7 @@
 -- This file answers that pieces are gathered one after the other.
 use Rattle.std.proofs.Common.{rules, refl}
 use Rattle.std.proofs.lemmas.Result.{err_from_is_err_and}
-use Rattle.ptb_text.proofs.Gathering.{gathers_piece, some_piece}
+use Rattle.ptb_text.proofs.GatheredBytes.{gathers_piece, some_piece}
 use Rattle.ptb_text.proofs.output_buffer.OutputBuffer.put_all.Goals as goal
 
 pub returns-in_err-put-clause-fault : goal.returns-in_err-put-clause-fault

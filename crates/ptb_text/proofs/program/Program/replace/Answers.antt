@@ -4,8 +4,8 @@ use Rattle.std.proofs.lemmas.List.Sums.{sum_by-set}
 use Rattle.ptb_text.specs.declared.program.Statement.{Statement}
 use Rattle.ptb_text.specs.Program.{lengths}
 use Rattle.ptb_text.proofs.Pool.{IsEntry, lengths-part}
-use Rattle.ptb_text.proofs.Storing.{IsKept-same, replace_cost, replace_enters, replace_kept}
-use Rattle.ptb_text.proofs.Storing.{replace_size, store_full, store_refused, short_text, small_cost}
+use Rattle.ptb_text.proofs.StoredTexts.{IsKept-same, replace_cost, replace_enters, replace_kept}
+use Rattle.ptb_text.proofs.StoredTexts.{replace_size, store_full, store_refused, short_text, small_cost}
 use Rattle.ptb_text.proofs.Stored.{IsEntry-shown, HasSizes-from_kept, length_shown, memory_shown}
 use Rattle.ptb_text.proofs.program.Program.replace.Goals as goal
 use Rattle.ptb_text.proofs.program.Program.replace.Goals.{After-from}

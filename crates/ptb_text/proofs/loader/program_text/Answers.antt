@@ -3,10 +3,10 @@ use Rattle.std.proofs.Common.{rules, ◌≡◌, length, refl, sym, subst, arith,
 use Rattle.std.proofs.lemmas.Grind.{common_steps}
 use Rattle.std.specs.Io.KnownBytes.{Consumes}
 use Rattle.std.proofs.KnownBytes.{Consumes-nil}
-use Rattle.ptb_text.proofs.Counting.{IsCountedUpTo, IsCountedUpTo_none}
+use Rattle.ptb_text.proofs.ByteCounts.{IsCountedUpTo, IsCountedUpTo_none}
 use Rattle.ptb_text.specs.Streams.{reads_of}
 use Rattle.ptb_text.proofs.WholeText.{ends_text, text_failed, text_too_long, text_unkept}
-use Rattle.ptb_text.proofs.loading.program_text.Goals as goal
+use Rattle.ptb_text.proofs.loader.program_text.Goals as goal
 
 -- nothing is read yet
 pub loop-piece-init : goal.loop-piece-init

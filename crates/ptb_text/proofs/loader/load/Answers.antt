@@ -4,8 +4,8 @@ use Rattle.std.proofs.lemmas.List.{take_at}
 use Rattle.ptb_text.specs.Lines.{tab_as_space}
 use Rattle.ptb_text.specs.Streams.{reads_of}
 use Rattle.ptb_text.proofs.Loaded.{loaded, loaded_reads, loaded_sure, unread_loads, unread_reads, unread_sure}
-use Rattle.ptb_text.proofs.loading.load.Goals as goal
-use Rattle.ptb_text.proofs.loading.load.Goals.{After-enter_lines}
+use Rattle.ptb_text.proofs.loader.load.Goals as goal
+use Rattle.ptb_text.proofs.loader.load.Goals.{After-enter_lines}
 
 -- the text could not be read
 pub returns-in_err-text : goal.returns-in_err-text

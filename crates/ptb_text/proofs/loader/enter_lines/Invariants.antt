@@ -2,7 +2,7 @@
 use Rattle.std.proofs.Common.{◌≡◌, ◌+◌, ◌≤◌, [], length, take, drop, Ok}
 use Rattle.ptb_text.specs.Lines.{lines}
 use Rattle.ptb_text.specs.Statements.{after_lines}
-use Rattle.ptb_text.proofs.loading.enter_lines.Given as goal
+use Rattle.ptb_text.proofs.loader.enter_lines.Given as goal
 
 -- the lines so far were accepted, and the rest has the others
 abbrev pub invariant-loop-rest : goal.invariant-loop-rest

@@ -3,7 +3,7 @@ use Rattle.std.proofs.Common.{◌≡◌, ◌+◌, ◌-◌, [], ◌∷◌, length
 use Rattle.std.proofs.lemmas.Slice.{between_to_end}
 use Rattle.ptb_text.specs.Lines.{lines}
 use Rattle.ptb_text.proofs.Pieces.{lines-cut, lines-whole}
-use Rattle.ptb_text.proofs.loading.split_line.Goals as goal
+use Rattle.ptb_text.proofs.loader.split_line.Goals as goal
 
 pub returns-in-Some-clause-lines : goal.returns-in-Some-clause-lines
 returns-in-Some-clause-lines c =

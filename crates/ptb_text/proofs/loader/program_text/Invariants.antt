@@ -1,8 +1,8 @@
 -- This file says what the loops of `program_text` keep.
 use Rattle.std.proofs.Common.{◌≡◌, ◌≤◌, ◌-◌, vec_len}
 use Rattle.std.specs.Io.KnownBytes.{Consumes}
-use Rattle.ptb_text.proofs.Counting.{IsCountedUpTo}
-use Rattle.ptb_text.proofs.loading.program_text.Given as goal
+use Rattle.ptb_text.proofs.ByteCounts.{IsCountedUpTo}
+use Rattle.ptb_text.proofs.loader.program_text.Given as goal
 
 -- the bytes that are kept are those that the reader gave
 abbrev pub invariant-loop-piece : goal.invariant-loop-piece

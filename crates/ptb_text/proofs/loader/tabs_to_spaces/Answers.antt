@@ -1,8 +1,8 @@
 -- This file answers what is left to prove of `tabs_to_spaces`.
 use Rattle.std.proofs.Common.{◌∙◌}
 use Rattle.ptb_text.proofs.Pieces.{spaces_more, spaces_same}
-use Rattle.ptb_text.proofs.loading.tabs_to_spaces.Goals as goal
-use Rattle.ptb_text.proofs.loading.tabs_to_spaces.Goals.{then-byte-eq9, else-byte-eq9}
+use Rattle.ptb_text.proofs.loader.tabs_to_spaces.Goals as goal
+use Rattle.ptb_text.proofs.loader.tabs_to_spaces.Goals.{then-byte-eq9, else-byte-eq9}
 
 pub loop-byte-preserved : goal.loop-byte-preserved
 loop-byte-preserved c =
