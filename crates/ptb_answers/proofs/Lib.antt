@@ -1,6 +1,6 @@
 -- This file names the files of lemmas.
 pub mod Seeds
-pub mod Drawing
+pub mod NextDrawn
 pub mod Drawn
-pub mod Refusing
+pub mod Refusals
 pub mod Readers

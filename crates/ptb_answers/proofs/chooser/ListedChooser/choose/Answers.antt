@@ -1,7 +1,7 @@
 -- This file proves goals of `choose` by short searches, so that a planted bug is refused soon.
 use Rattle.std.proofs.Common.{FitsSigned, arith, get_or, of_z, pos, refl, rules, to_z, w16}
 use Rattle.std.proofs.lemmas.Grind.{common_steps}
-use Rattle.ptb_answers.proofs.Refusing.{next_is, too_high, too_low}
+use Rattle.ptb_answers.proofs.Refusals.{next_is, too_high, too_low}
 use Rattle.ptb_answers.proofs.chooser.ListedChooser.choose.Goals as goal
 use Rattle.ptb_answers.proofs.chooser.ListedChooser.choose.Goals.{then-answer-lt1-via-then-answer-lt1}
 use Rattle.ptb_answers.proofs.chooser.ListedChooser.choose.Goals.{then-answer-lt1-via-else-answer-lt1+then-answer-bound}

@@ -1,7 +1,7 @@
 -- This file answers that an answer is the next that is drawn from the seed.
 use Rattle.std.proofs.Common.{◌∙◌, arith}
 use Rattle.std.proofs.lemmas.Grind.{common_steps}
-use Rattle.ptb_answers.proofs.Drawing.{drawn_is_answer, drawn_next, grown_by_next}
+use Rattle.ptb_answers.proofs.NextDrawn.{drawn_is_answer, drawn_next, grown_by_next}
 use Rattle.ptb_answers.proofs.seeded.SeededChooser.choose.Goals as goal
 
 pub invariant_of-self-2 : goal.invariant_of-self-2
