@@ -1,6 +1,6 @@
 -- This file names the files of lemmas.
-pub mod Cutting
-pub mod Reading
-pub mod ReadingOn
-pub mod WholeReading
-pub mod Giving
+pub mod CutLines
+pub mod ReadLines
+pub mod ContinuedReads
+pub mod WholeInputs
+pub mod GivenLines

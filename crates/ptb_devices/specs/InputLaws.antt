@@ -11,8 +11,8 @@ use Rattle.std.proofs.KnownBytes.{Consumes-nil, Consumes-trans}
 use Rattle.ptb_text.specs.Device.{HasFailed}
 use Rattle.ptb_devices.specs.declared.line_buffer.InputEnd.{InputEnd}
 use Rattle.ptb_devices.specs.declared.line_buffer.InputEnd.TheVariants.{Open, Ended, Failed, Exceeded}
-use Rattle.ptb_devices.specs.Cutting.{whole_lines, last_piece, last_line, Cuts}
-use Rattle.ptb_devices.specs.CuttingLaws.{whole_lines-append, last_piece-append}
+use Rattle.ptb_devices.specs.CutLines.{whole_lines, last_piece, last_line, Cuts}
+use Rattle.ptb_devices.specs.CutLineLaws.{whole_lines-append, last_piece-append}
 use Rattle.ptb_devices.specs.Sources.{Loses, NoneLeft}
 use Rattle.ptb_devices.specs.Inputs.{InputNow, IsCounted, open_piece, cut_at_end, ends_within, lines_to_end, most_to_come, most_lines, known_lines, IsReadAhead, ReadsOn, asked}
 

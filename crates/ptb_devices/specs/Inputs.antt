@@ -25,7 +25,7 @@ use Rattle.ptb_devices.specs.declared.line_buffer.InputEnd.TheVariants.{Open, En
 use Rattle.ptb_devices.specs.declared.fault.ReadFault.{ReadFault}
 use Rattle.ptb_devices.specs.declared.fault.ReadFault.TheVariants.{Read, TooLong}
 use Rattle.ptb_devices.specs.declared.whole_input.TheConstants.{BUFFER_SIZE, INPUT_LIMIT}
-use Rattle.ptb_devices.specs.Cutting.{kept_bytes, whole_lines, last_piece, last_line, Cuts, IsLine}
+use Rattle.ptb_devices.specs.CutLines.{kept_bytes, whole_lines, last_piece, last_line, Cuts, IsLine}
 use Rattle.ptb_devices.specs.Sources.{Loses}
 
 -- ---- what has come of an input

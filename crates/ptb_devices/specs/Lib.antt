@@ -1,8 +1,8 @@
 -- This file names the files of definitions.
 pub mod Screens
 pub mod Sources
-pub mod Cutting
-pub mod CuttingLaws
+pub mod CutLines
+pub mod CutLineLaws
 pub mod Inputs
 pub mod InputLaws
 pub mod Readers

@@ -3,7 +3,7 @@
 ghost use Rattle.std.specs.Prelude.{◌≡◌, ◌↔◌, ℕ, ◌<◌, ◌≤◌, List, [], ◌∷◌, ◌++◌, length, take};
 ghost use Rattle.std.specs.Prelude.{Option, Some, None, IfSome, IfNone, IsSome, IsTrue};
 ghost use Rattle.std.specs.Prelude.{MatchOption};
-ghost use Rattle.ptb_devices.specs.Cutting.{IsClean, cleaned_byte, with_byte, kept_bytes, Cuts};
+ghost use Rattle.ptb_devices.specs.CutLines.{IsClean, cleaned_byte, with_byte, kept_bytes, Cuts};
 
 use arrayvec::ArrayVec;
 use std::marker::Model;
@@ -21,7 +21,7 @@ pub(crate) struct LineCutter {
 
 impl Model for LineCutter {
     ghost use Rattle.std.specs.Prelude.{◌≡◌, false, List, ℕ, [], Option};
-    ghost use Rattle.ptb_devices.specs.Cutting.{IsClean, begun_piece};
+    ghost use Rattle.ptb_devices.specs.CutLines.{IsClean, begun_piece};
 
     ghost Value = { Option (List ℕ) };
 

@@ -5,7 +5,7 @@ ghost use Rattle.std.specs.Prelude.{slice_range, take, IsSome, IsTrue, IfOk, IfE
 ghost use Rattle.std.specs.Borrow.{sem};
 ghost use Rattle.std.specs.Io.BufRead.{Rests};
 ghost use Rattle.ptb_text.specs.Lines.{line_limit};
-ghost use Rattle.ptb_devices.specs.Cutting.{kept_bytes, IsLine};
+ghost use Rattle.ptb_devices.specs.CutLines.{kept_bytes, IsLine};
 ghost use Rattle.ptb_devices.specs.contracts.line_buffer.LineBuffer.{the_row};
 ghost use Rattle.ptb_devices.specs.declared.line_buffer.InputEnd.TheVariants.{Open};
 ghost use Rattle.ptb_devices.specs.Inputs.{fresh_input, fault_at, open_piece, input_now};

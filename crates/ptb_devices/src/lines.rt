@@ -7,7 +7,7 @@ ghost use Rattle.std.proofs.lemmas.Grind.{common_steps};
 ghost use Rattle.std.specs.Borrow.{sem};
 ghost use Rattle.std.specs.Io.BufRead.{Rests};
 ghost use Rattle.ptb_text.specs.Lines.{clean_line, line_limit};
-ghost use Rattle.ptb_devices.specs.Cutting.{IsClean};
+ghost use Rattle.ptb_devices.specs.CutLines.{IsClean};
 ghost use Rattle.ptb_devices.specs.declared.fault.ReadFault.{ReadFault};
 ghost use Rattle.ptb_devices.specs.Sources.{Loses, NoneLeft, given_lines, ready_lines, LineList, Gives};
 

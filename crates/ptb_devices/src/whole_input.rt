@@ -4,7 +4,7 @@ ghost use Rattle.std.specs.Prelude.{◌≡◌, ◌+◌, ℕ, List, ◌++◌, Opt
 ghost use Rattle.std.specs.Prelude.{IfOk, IfSome, IsErrOf, IsOk};
 ghost use Rattle.ptb_text.specs.Lines.{input_lines};
 ghost use Rattle.ptb_text.specs.Streams.{ReadsUpTo, reads_of};
-ghost use Rattle.ptb_devices.specs.Cutting.{last_line, Cuts, AddsLines};
+ghost use Rattle.ptb_devices.specs.CutLines.{last_line, Cuts, AddsLines};
 
 use crate::cutter::LineCutter;
 use crate::fault::ReadFault;

@@ -13,8 +13,8 @@ use Rattle.ptb_devices.specs.declared.fault.ReadFault.{ReadFault}
 use Rattle.ptb_devices.specs.declared.fault.ReadFault.TheVariants as reads
 use Rattle.ptb_devices.specs.declared.line_buffer.InputEnd.{InputEnd}
 use Rattle.ptb_devices.specs.declared.line_buffer.InputEnd.TheVariants.{Open, Ended, Failed, Exceeded}
-use Rattle.ptb_devices.specs.Cutting.{kept_bytes, whole_lines, last_piece, last_line}
-use Rattle.ptb_devices.specs.CuttingLaws.{whole_lines-append}
+use Rattle.ptb_devices.specs.CutLines.{kept_bytes, whole_lines, last_piece, last_line}
+use Rattle.ptb_devices.specs.CutLineLaws.{whole_lines-append}
 use Rattle.ptb_devices.specs.Inputs.{InputState, InputNow, fresh_input, open_piece, lines_left}
 use Rattle.ptb_devices.specs.Inputs.{lines_to_end, known_lines, most_to_come, most_lines, input_now}
 use Rattle.ptb_devices.specs.Inputs.{ReadsOn, Refuses, asked, fault_at, IsReadAhead, asked_at}
@@ -22,7 +22,7 @@ use Rattle.ptb_devices.specs.InputLaws.{take-split, none_known}
 use Rattle.ptb_devices.specs.declared.reader_lines.ReaderLines.{ReaderLines}
 use Rattle.ptb_devices.specs.Readers.{line_input, line_reader, input_of, GivesFrom}
 use Rattle.ptb_devices.specs.Sources.{Loses, NoneLeft, ConsumesAtMost}
-use Rattle.ptb_devices.proofs.Cutting.{input_lines-cut}
+use Rattle.ptb_devices.proofs.CutLines.{input_lines-cut}
 use Rattle.ptb_text.specs.Statements.{StoredProgram}
 use Rattle.ptb_answers.specs.declared.pause.Pause.{Pause}
 use Rattle.ptb_answers.specs.Outcome.{Answers}

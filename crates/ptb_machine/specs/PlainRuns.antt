@@ -27,7 +27,7 @@ use Rattle.ptb_answers.specs.Outcome.{Answers}
 use Rattle.ptb_answers.specs.Choices.{Asked, Choices, with_answers}
 use Rattle.ptb_command.specs.declared.ending.Ending.{Ending}
 use Rattle.ptb_command.specs.declared.ending.Ending.TheVariants as endings
-use Rattle.ptb_devices.specs.Cutting.{whole_lines}
+use Rattle.ptb_devices.specs.CutLines.{whole_lines}
 use Rattle.ptb_devices.specs.declared.fault.ReadFault.{ReadFault}
 use Rattle.ptb_devices.specs.declared.fault.ReadFault.TheVariants as reads
 use Rattle.ptb_devices.specs.declared.whole_input.TheConstants.{INPUT_LIMIT}

@@ -1,7 +1,7 @@
 -- This file answers what is left to prove of `keep`.
 use Rattle.std.proofs.Common.{◌<◌, ◌≤◌, length, sym, ◌∙◌, rules}
 use Rattle.std.proofs.lemmas.Bool.{eqb-true}
-use Rattle.ptb_devices.proofs.Cutting.{with_byte-full, with_byte-kept, with_byte-dropped}
+use Rattle.ptb_devices.proofs.CutLines.{with_byte-full, with_byte-kept, with_byte-dropped}
 use Rattle.ptb_devices.proofs.cutter.keep.Goals as goal
 
 pub returns-then-is_full : goal.returns-then-is_full

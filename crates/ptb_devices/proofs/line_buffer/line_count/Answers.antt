@@ -1,5 +1,5 @@
 -- This file answers what is left to prove of `line_count`.
-use Rattle.ptb_devices.proofs.Cutting.{KeepsUpTo_none, KeepsUpTo_more, KeepsUpTo_end}
+use Rattle.ptb_devices.proofs.CutLines.{KeepsUpTo_none, KeepsUpTo_more, KeepsUpTo_end}
 use Rattle.ptb_devices.proofs.line_buffer.line_count.Goals as goal
 
 pub loop-count-init : goal.loop-count-init

@@ -1,5 +1,5 @@
 -- This file says what the loop of `line_count` keeps.
-use Rattle.ptb_devices.proofs.Cutting.{KeepsUpTo}
+use Rattle.ptb_devices.proofs.CutLines.{KeepsUpTo}
 use Rattle.ptb_devices.proofs.line_buffer.line_count.Given as goal
 
 -- the bytes before the index are kept as they are

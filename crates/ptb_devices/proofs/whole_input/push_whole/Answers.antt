@@ -1,7 +1,7 @@
 -- This file answers what is left to prove of `push_whole`.
 use Rattle.std.proofs.Common.{◌≡◌, List, ℕ, [], ◌∷◌, ◌++◌, refl, ap, ◌∙◌}
-use Rattle.ptb_devices.specs.Cutting.{kept_bytes}
-use Rattle.ptb_devices.proofs.Cutting.{AddsUpTo_more, AddsUpTo_all}
+use Rattle.ptb_devices.specs.CutLines.{kept_bytes}
+use Rattle.ptb_devices.proofs.CutLines.{AddsUpTo_more, AddsUpTo_all}
 use Rattle.ptb_devices.proofs.whole_input.push_whole.Goals as goal
 
 pub loop-count-preserved : goal.loop-count-preserved

@@ -1,6 +1,6 @@
 -- This file says what the loops of `push_whole` keep.
 use Rattle.std.proofs.Common.{length}
-use Rattle.ptb_devices.proofs.Cutting.{AddsUpTo}
+use Rattle.ptb_devices.proofs.CutLines.{AddsUpTo}
 use Rattle.ptb_devices.proofs.whole_input.push_whole.Given as goal
 
 -- the lines of the bytes before the rest were added

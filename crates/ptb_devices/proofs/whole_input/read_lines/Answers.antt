@@ -4,9 +4,9 @@ use Rattle.std.proofs.lemmas.List.{take-append-le, length-take-le}
 use Rattle.std.specs.Io.KnownBytes.{IsAtEnd}
 use Rattle.ptb_text.specs.Streams.{reads_of}
 use Rattle.ptb_text.proofs.ByteCounts.{IsCountedUpTo, IsCountedUpTo_more}
-use Rattle.ptb_devices.specs.Cutting.{AddsLines}
-use Rattle.ptb_devices.proofs.Reading.{IsReadUpTo_more, no_piece}
-use Rattle.ptb_devices.proofs.WholeReading.{told_all, told_failed, told_long, told_wanting, too_many, wants_memory}
+use Rattle.ptb_devices.specs.CutLines.{AddsLines}
+use Rattle.ptb_devices.proofs.ReadLines.{IsReadUpTo_more, no_piece}
+use Rattle.ptb_devices.proofs.WholeInputs.{told_all, told_failed, told_long, told_wanting, too_many, wants_memory}
 use Rattle.ptb_devices.proofs.whole_input.read_lines.Goals as goal
 
 never_fails : false ≡ true → ⊥

@@ -1,7 +1,7 @@
 -- This file says what the loops of `read_lines` keep.
 use Rattle.std.proofs.Common.{◌≡◌, ◌≤◌, ◌-◌}
 use Rattle.ptb_text.proofs.ByteCounts.{IsCountedUpTo}
-use Rattle.ptb_devices.proofs.Reading.{IsReadUpTo}
+use Rattle.ptb_devices.proofs.ReadLines.{IsReadUpTo}
 use Rattle.ptb_devices.proofs.whole_input.read_lines.Given as goal
 
 -- no read failed, and the lines are those of the bytes that were taken

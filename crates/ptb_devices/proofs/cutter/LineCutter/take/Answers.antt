@@ -1,5 +1,5 @@
 -- This file answers what is left to prove of `LineCutter::take`.
-use Rattle.ptb_devices.proofs.Cutting.{IsClean-with_byte}
+use Rattle.ptb_devices.proofs.CutLines.{IsClean-with_byte}
 use Rattle.ptb_devices.proofs.cutter.LineCutter.take.Goals as goal
 
 pub invariant_of-self : goal.invariant_of-self

@@ -1,6 +1,6 @@
 -- This file answers what is left to prove of `LineCutter::take_line`.
 use Rattle.std.proofs.Common.{arith}
-use Rattle.ptb_devices.proofs.Cutting.{CutsUpTo_none, CutsUpTo_more, CutsUpTo_all, CutsUpTo_end}
+use Rattle.ptb_devices.proofs.CutLines.{CutsUpTo_none, CutsUpTo_more, CutsUpTo_all, CutsUpTo_end}
 use Rattle.ptb_devices.proofs.cutter.LineCutter.take_line.Goals as goal
 
 pub loop-i-init : goal.loop-i-init

@@ -1,5 +1,5 @@
 -- This file says what the loops of `LineCutter::take_line` keep.
-use Rattle.ptb_devices.proofs.Cutting.{CutsUpTo}
+use Rattle.ptb_devices.proofs.CutLines.{CutsUpTo}
 use Rattle.ptb_devices.proofs.cutter.LineCutter.take_line.Given as goal
 
 -- the bytes before the index were taken

@@ -1,8 +1,8 @@
 -- This file answers what is left to prove of `LineBuffer::cut_line`.
 use Rattle.std.proofs.Common.{◌≡◌, ◌≤◌, ◌+◌, ◌-◌, ◌∷◌, [], None, true, length, take, drop, slice_range, sym, ap, subst, ◌∙◌, arith, length-take, length-drop}
-use Rattle.ptb_devices.specs.Cutting.{kept_bytes, Cuts}
+use Rattle.ptb_devices.specs.CutLines.{kept_bytes, Cuts}
 use Rattle.ptb_devices.specs.Inputs.{InputState}
-use Rattle.ptb_devices.proofs.ReadingOn.{slice_range-front}
+use Rattle.ptb_devices.proofs.ContinuedReads.{slice_range-front}
 use Rattle.ptb_devices.proofs.line_buffer.LineBuffer.cut_line.Goals as goal
 
 pub returns-in-Some : goal.returns-in-Some

@@ -6,7 +6,7 @@ use Rattle.std.specs.Io.KnownBytes.{IsAtEnd}
 use Rattle.ptb_devices.specs.declared.line_buffer.InputEnd.TheVariants.{Open, Ended, Failed, Exceeded}
 use Rattle.ptb_devices.specs.Inputs.{IsCounted, fault_at}
 use Rattle.ptb_devices.specs.InputLaws.{ReadsOn_none}
-use Rattle.ptb_devices.proofs.ReadingOn.{state_at, state_open, slice_range-none, slice_range-read, Consumes_no_bytes, ReadsOn_at, ReadsOn_more_bytes, ReadsOn_end, ReadsOn_failed, ReadsOn_exceeded, IsCounted_read, IsCounted_fault}
+use Rattle.ptb_devices.proofs.ContinuedReads.{state_at, state_open, slice_range-none, slice_range-read, Consumes_no_bytes, ReadsOn_at, ReadsOn_more_bytes, ReadsOn_end, ReadsOn_failed, ReadsOn_exceeded, IsCounted_read, IsCounted_fault}
 use Rattle.ptb_devices.proofs.line_buffer.LineBuffer.fill.Goals as goal
 
 above_none : (n : ℕ) → n ≢ 0 → 0 < n

@@ -1,10 +1,10 @@
 -- This file answers what is left to prove of `LineBuffer::take_whole`.
 use Rattle.std.proofs.Common.{◌≡◌, ℕ, ◌<◌, ◌+◌, ◌-◌, List, ◌++◌, length, take, drop, take-take, slice_range, Option, Some, None, refl, sym, ap, subst, ◌∙◌, arith, length-take, length-drop}
 use Rattle.std.specs.Prelude.{IsSome}
-use Rattle.ptb_devices.specs.Cutting.{IsLine}
+use Rattle.ptb_devices.specs.CutLines.{IsLine}
 use Rattle.ptb_devices.specs.Inputs.{InputState}
-use Rattle.ptb_devices.proofs.Giving.{true_or_false}
-use Rattle.ptb_devices.proofs.ReadingOn.{slice_range-front}
+use Rattle.ptb_devices.proofs.GivenLines.{true_or_false}
+use Rattle.ptb_devices.proofs.ContinuedReads.{slice_range-front}
 use Rattle.ptb_devices.proofs.line_buffer.LineBuffer.take_whole.Goals as goal
 
 none_if : (p : Option (List ℕ)) → (IsSome p → ⊥) → p ≡ None

@@ -1,7 +1,7 @@
 -- This file answers what is left to prove of `Line::clean`.
 use Rattle.std.proofs.Common.{sym, ap, ◌∙◌, get_or}
-use Rattle.ptb_devices.specs.Cutting.{kept_bytes, with_byte}
-use Rattle.ptb_devices.proofs.Cutting.{clean_line-take}
+use Rattle.ptb_devices.specs.CutLines.{kept_bytes, with_byte}
+use Rattle.ptb_devices.proofs.CutLines.{clean_line-take}
 use Rattle.ptb_devices.proofs.lines.Line.clean.Goals as goal
 
 pub loop-byte-preserved : goal.loop-byte-preserved

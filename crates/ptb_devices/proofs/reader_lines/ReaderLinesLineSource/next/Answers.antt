@@ -3,8 +3,8 @@ use Rattle.std.proofs.Common.{◌∙◌, refl, ap}
 use Rattle.ptb_devices.specs.Inputs.{InputState, fault_at}
 use Rattle.ptb_devices.specs.Readers.{input_of, line_input}
 use Rattle.std.proofs.lemmas.Result.{err_from_is_err_and}
-use Rattle.ptb_devices.proofs.Giving.{cut_asked, last_asked, line_given, all_cut, read_on, last_given, none_given, none_more, none_left_before, fault_reads, drained, true_or_false}
-use Rattle.ptb_devices.proofs.ReadingOn.{ReadsOn_forget}
+use Rattle.ptb_devices.proofs.GivenLines.{cut_asked, last_asked, line_given, all_cut, read_on, last_given, none_given, none_more, none_left_before, fault_reads, drained, true_or_false}
+use Rattle.ptb_devices.proofs.ContinuedReads.{ReadsOn_forget}
 use Rattle.ptb_devices.proofs.reader_lines.ReaderLinesLineSource.next.Goals as goal
 
 pub loop-self-init : goal.loop-self-init

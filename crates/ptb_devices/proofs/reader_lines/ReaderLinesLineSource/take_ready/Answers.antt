@@ -2,7 +2,7 @@
 use Rattle.std.proofs.Common.{refl, arith}
 use Rattle.ptb_devices.specs.Readers.{input_of}
 use Rattle.ptb_devices.specs.InputLaws.{ReadsOn_none}
-use Rattle.ptb_devices.proofs.Giving.{taken_ready}
+use Rattle.ptb_devices.proofs.GivenLines.{taken_ready}
 use Rattle.ptb_devices.proofs.reader_lines.ReaderLinesLineSource.take_ready.Goals as goal
 
 pub returns-then-not-is_open : goal.returns-then-not-is_open

@@ -6,11 +6,11 @@ use Rattle.std.specs.Prelude.{IsSome}
 use Rattle.ptb_devices.specs.declared.line_buffer.InputEnd.{InputEnd}
 use Rattle.ptb_devices.specs.declared.line_buffer.InputEnd.TheVariants.{Open, Ended, Failed, Exceeded}
 use Rattle.ptb_devices.specs.declared.fault.ReadFault.{ReadFault}
-use Rattle.ptb_devices.specs.Cutting.{kept_bytes}
+use Rattle.ptb_devices.specs.CutLines.{kept_bytes}
 use Rattle.ptb_devices.specs.Sources.{Loses, NoneLeft, ready_lines}
 use Rattle.ptb_devices.specs.Inputs.{InputState, InputNow, open_piece, most_lines, known_lines, CutsLine, CutsAll, TakesLine, TakesWhole, asked_at, asked, ReadsOn, fault_at}
 use Rattle.ptb_devices.specs.InputLaws.{ReadsOn_then}
-use Rattle.ptb_devices.proofs.ReadingOn.{ReadsOn_forget, ReadsOn_line, ReadsOn_whole, ReadsOn_all, ReadsOn_last}
+use Rattle.ptb_devices.proofs.ContinuedReads.{ReadsOn_forget, ReadsOn_line, ReadsOn_whole, ReadsOn_all, ReadsOn_last}
 
 -- where none is left behind no lines, none was left before
 pub none_left_before : (a b : Option (List (List ℕ))) → Loses a b [] → NoneLeft b → NoneLeft a

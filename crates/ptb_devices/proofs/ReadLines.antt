@@ -4,9 +4,9 @@ use Rattle.std.proofs.Common.{◌≡◌, ℕ, zero, suc, ◌+◌, ◌-◌, ◌<�
 use Rattle.std.specs.Io.KnownBytes.{Consumes, Keeps, IsAtEnd}
 use Rattle.std.proofs.KnownBytes.{Consumes-trans, Consumes-kept, Consumes-whole}
 use Rattle.ptb_text.specs.Lines.{input_lines}
-use Rattle.ptb_devices.specs.Cutting.{last_line, whole_lines, Cuts, AddsLines}
+use Rattle.ptb_devices.specs.CutLines.{last_line, whole_lines, Cuts, AddsLines}
 use Rattle.ptb_devices.specs.Sources.{ConsumesAtMost}
-use Rattle.ptb_devices.proofs.Cutting.{Cuts_more, input_lines-cut}
+use Rattle.ptb_devices.proofs.CutLines.{Cuts_more, input_lines-cut}
 
 -- these lines were cut from the bytes that a reader gave, and so many bytes may still be taken
 pub record IsReadUpTo (old now : Option (List ℕ)) (lines : List (List ℕ)) (q : Option (List ℕ)) (room left : ℕ) : Type 0 where

@@ -11,12 +11,12 @@ use Rattle.std.proofs.KnownBytes.{Consumes-nil}
 use Rattle.ptb_text.specs.Device.{GivesExactly, failure_limit, given_limit}
 use Rattle.ptb_devices.specs.declared.line_buffer.InputEnd.{InputEnd}
 use Rattle.ptb_devices.specs.declared.line_buffer.InputEnd.TheVariants.{Open, Ended, Failed, Exceeded}
-use Rattle.ptb_devices.specs.Cutting.{kept_bytes, whole_lines, last_piece, last_line, Cuts}
-use Rattle.ptb_devices.specs.CuttingLaws.{whole_lines-append, last_piece-append}
+use Rattle.ptb_devices.specs.CutLines.{kept_bytes, whole_lines, last_piece, last_line, Cuts}
+use Rattle.ptb_devices.specs.CutLineLaws.{whole_lines-append, last_piece-append}
 use Rattle.ptb_devices.specs.Sources.{Loses}
 use Rattle.ptb_devices.specs.Inputs.{InputState, InputNow, IsCounted, open_piece, cut_bytes, ends_within, lines_to_end, known_lines, CutsLine, CutsAll, TakesLine, asked_at, asked, ReadsOn}
 use Rattle.ptb_devices.specs.InputLaws.{IsCounted_none, ReadsOn_none, take-split}
-use Rattle.ptb_devices.proofs.Cutting.{Cuts_more}
+use Rattle.ptb_devices.proofs.CutLines.{Cuts_more}
 
 -- ---- lines that are asked for
 

@@ -12,8 +12,8 @@ use Rattle.std.specs.Str.Lines.{strip_carriage_return}
 use Rattle.ptb_text.specs.Lines.{onto_first, pieces, tab_as_space, is_printable, line_limit, clean_line, input_lines}
 use Rattle.ptb_text.proofs.Edits.{both}
 use Rattle.ptb_text.proofs.Sound.{both_true}
-use Rattle.ptb_devices.specs.Cutting.{IsClean, cleaned_byte, with_byte, kept_bytes, whole_lines, last_piece, last_line, Cuts, IsLine, AddsLines}
-use Rattle.ptb_devices.specs.CuttingLaws.{last_piece-append, whole_lines-append}
+use Rattle.ptb_devices.specs.CutLines.{IsClean, cleaned_byte, with_byte, kept_bytes, whole_lines, last_piece, last_line, Cuts, IsLine, AddsLines}
+use Rattle.ptb_devices.specs.CutLineLaws.{last_piece-append, whole_lines-append}
 
 -- ---- one byte more
 

@@ -3,7 +3,7 @@
 --     whole_lines-append     the complete lines of bytes after other bytes
 use Rattle.std.proofs.Common.{◌≡◌, ℕ, Bool, true, false, List, [], ◌∷◌, ◌++◌, Option, Some, None, refl, ap}
 use Rattle.std.specs.Prelude.{◌==◌, if◌then◌else◌}
-use Rattle.ptb_devices.specs.Cutting.{with_byte, kept_bytes, whole_lines, last_piece}
+use Rattle.ptb_devices.specs.CutLines.{with_byte, kept_bytes, whole_lines, last_piece}
 
 last_piece-at : (t : Bool) (ys : List ℕ) (p q x y : Option (List ℕ)) → x ≡ last_piece p ys → y ≡ last_piece q ys
     → (if t then x else y) ≡ last_piece (if t then p else q) ys

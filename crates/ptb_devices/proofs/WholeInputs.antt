@@ -10,10 +10,10 @@ use Rattle.ptb_text.specs.Device.{GivesExactly, HasFailed, failure_limit, given_
 use Rattle.ptb_text.specs.Lines.{input_lines}
 use Rattle.ptb_text.specs.Streams.{Reads, ReadsUpTo}
 use Rattle.ptb_text.proofs.ByteCounts.{IsCountedUpTo, IsCountedUpTo_more}
-use Rattle.ptb_devices.specs.Cutting.{last_line}
+use Rattle.ptb_devices.specs.CutLines.{last_line}
 use Rattle.ptb_devices.specs.declared.fault.ReadFault.{ReadFault}
 use Rattle.ptb_devices.specs.declared.fault.ReadFault.TheVariants.{Read, TooLong, Memory}
-use Rattle.ptb_devices.proofs.Reading.{IsReadUpTo, IsReadUpTo_bounded, IsReadUpTo_end, IsReadUpTo_kept, IsReadUpTo_long}
+use Rattle.ptb_devices.proofs.ReadLines.{IsReadUpTo, IsReadUpTo_bounded, IsReadUpTo_end, IsReadUpTo_kept, IsReadUpTo_long}
 
 failed_once : (f h : ℕ) → f ≤ failure_limit → h ≡ min (f + 1) failure_limit → HasFailed f h
 failed_once f h within counted = elim (cases_lt f failure_limit) [
