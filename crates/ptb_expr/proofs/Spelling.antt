@@ -12,7 +12,7 @@ use Rattle.ptb_words.specs.Words.{token_at, pair_at, letter_at, word_at, number_
 use Rattle.ptb_words.specs.Finding.{LiesAhead, FindingLaws}
 use Rattle.ptb_expr.specs.declared.fault.FaultKind.TheVariants.{How}
 use Rattle.ptb_expr.specs.declared.operator.Operator.{Operator}
-use Rattle.ptb_expr.specs.declared.operator.Operator.TheVariants.{Plus, Minus, Times, Over, AtLeast, NotEqual, Above, Equals, AtMost, Below}
+use Rattle.ptb_expr.specs.declared.operator.Operator.TheVariants.{Plus, Minus, Multiply, Divide, GreaterEqual, NotEqual, Greater, Equals, LessEqual, Less}
 use Rattle.ptb_expr.specs.Operators.{of_byte, of_pair, product_operator, sum_operator, comparison}
 use Rattle.ptb_expr.specs.Tree.{Tree, Num, Var, Size, Elem, Rnd, Abs, Neg, Bin, Bad, Unclosed}
 use Rattle.ptb_expr.specs.Reading.{Reading, Whole, Malformed, if_there, if_number, if_function, after, itself, node_over, missing_part}
@@ -56,7 +56,7 @@ module _ (laws : FindingLaws) (t : List ℕ) where
 
   pub product_operator_ahead : (i : ℕ) → AllAhead i (product_operator t i)
   unfolding product_operator
-  product_operator_ahead i = or_ahead i _ _ (byte_ahead Times 42 i) (byte_ahead Over 47 i)
+  product_operator_ahead i = or_ahead i _ _ (byte_ahead Multiply 42 i) (byte_ahead Divide 47 i)
 
   pub sum_operator_ahead : (i : ℕ) → AllAhead i (sum_operator t i)
   unfolding sum_operator
@@ -65,8 +65,8 @@ module _ (laws : FindingLaws) (t : List ℕ) where
   pub comparison_ahead : (i : ℕ) → AllAhead i (comparison t i)
   unfolding comparison
   comparison_ahead i =
-      or_ahead i _ _ (pair_ahead AtLeast 62 61 i) (or_ahead i _ _ (byte_ahead NotEqual 35 i) (or_ahead i _ _ (byte_ahead Above 62 i)
-      (or_ahead i _ _ (byte_ahead Equals 61 i) (or_ahead i _ _ (pair_ahead AtMost 60 61 i) (byte_ahead Below 60 i)))))
+      or_ahead i _ _ (pair_ahead GreaterEqual 62 61 i) (or_ahead i _ _ (byte_ahead NotEqual 35 i) (or_ahead i _ _ (byte_ahead Greater 62 i)
+      (or_ahead i _ _ (byte_ahead Equals 61 i) (or_ahead i _ _ (pair_ahead LessEqual 60 61 i) (byte_ahead Less 60 i)))))
 
   -- the place after a whole reading lies ahead
   abbrev pub Ahead : ℕ → Reading Tree → Type 0

@@ -7,7 +7,7 @@ use Rattle.ptb_words.specs.declared.word.Table.TheVariants.{Functions}
 use Rattle.ptb_words.specs.Digits.{is_digit}
 use Rattle.ptb_words.specs.Words.{past_blanks, next_byte_at, letter_at, number_at, is_number, token_at, pair_at, word_at}
 use Rattle.ptb_words.specs.Finding.{StandsNext, FindingLaws, is_next, past_byte}
-use Rattle.ptb_expr.specs.declared.operator.Operator.TheVariants.{Plus, Minus, Times, Over, AtLeast, NotEqual, Above, Equals, AtMost, Below}
+use Rattle.ptb_expr.specs.declared.operator.Operator.TheVariants.{Plus, Minus, Multiply, Divide, GreaterEqual, NotEqual, Greater, Equals, LessEqual, Less}
 use Rattle.ptb_expr.specs.Operators.{product_operator, sum_operator, comparison}
 
 -- no byte stands next that is c
@@ -16,11 +16,11 @@ other_byte c b h = ne_eqb c b (λ e. h (sym e))
 
 -- ---- `*` and `/`
 
-pub times_next : (t : List ℕ) (i : ℕ) → StandsNext t i (Some 42) → product_operator t i ≡ Some (Times, past_byte t i)
+pub times_next : (t : List ℕ) (i : ℕ) → StandsNext t i (Some 42) → product_operator t i ≡ Some (Multiply, past_byte t i)
 unfolding product_operator
 times_next t i s = rw (s.token 42) refl
 
-pub over_next : (t : List ℕ) (i : ℕ) → StandsNext t i (Some 47) → product_operator t i ≡ Some (Over, past_byte t i)
+pub over_next : (t : List ℕ) (i : ℕ) → StandsNext t i (Some 47) → product_operator t i ≡ Some (Divide, past_byte t i)
 unfolding product_operator
 over_next t i s = rw (s.token 42, s.token 47) refl
 
@@ -52,11 +52,11 @@ no_sum_operator t i b s f g = rw (s.token 43, s.token 45, other_byte 43 b f, oth
 
 -- ---- comparisons
 
-pub at_least_next : (t : List ℕ) (i j : ℕ) → pair_at 62 61 t i ≡ Some j → comparison t i ≡ Some (AtLeast, j)
+pub at_least_next : (t : List ℕ) (i j : ℕ) → pair_at 62 61 t i ≡ Some j → comparison t i ≡ Some (GreaterEqual, j)
 unfolding comparison
 at_least_next t i j e = rw e refl
 
-pub at_most_next : (t : List ℕ) (i j : ℕ) → StandsNext t i (Some 60) → pair_at 60 61 t i ≡ Some j → comparison t i ≡ Some (AtMost, j)
+pub at_most_next : (t : List ℕ) (i j : ℕ) → StandsNext t i (Some 60) → pair_at 60 61 t i ≡ Some j → comparison t i ≡ Some (LessEqual, j)
 unfolding comparison
 at_most_next t i j s e = rw (s.pair 62 61 refl, s.token 35, s.token 62, s.token 61, e) refl
 
@@ -64,7 +64,7 @@ pub not_equal_next : (t : List ℕ) (i : ℕ) → StandsNext t i (Some 35) → c
 unfolding comparison
 not_equal_next t i s = rw (s.pair 62 61 refl, s.token 35) refl
 
-pub above_next : (t : List ℕ) (i : ℕ) → StandsNext t i (Some 62) → pair_at 62 61 t i ≡ None → comparison t i ≡ Some (Above, past_byte t i)
+pub above_next : (t : List ℕ) (i : ℕ) → StandsNext t i (Some 62) → pair_at 62 61 t i ≡ None → comparison t i ≡ Some (Greater, past_byte t i)
 unfolding comparison
 above_next t i s e = rw (e, s.token 35, s.token 62) refl
 
@@ -72,7 +72,7 @@ pub equals_next : (t : List ℕ) (i : ℕ) → StandsNext t i (Some 61) → comp
 unfolding comparison
 equals_next t i s = rw (s.pair 62 61 refl, s.token 35, s.token 62, s.token 61) refl
 
-pub below_next : (t : List ℕ) (i : ℕ) → StandsNext t i (Some 60) → pair_at 60 61 t i ≡ None → comparison t i ≡ Some (Below, past_byte t i)
+pub below_next : (t : List ℕ) (i : ℕ) → StandsNext t i (Some 60) → pair_at 60 61 t i ≡ None → comparison t i ≡ Some (Less, past_byte t i)
 unfolding comparison
 below_next t i s e = rw (s.pair 62 61 refl, s.token 35, s.token 62, s.token 61, e, s.token 60) refl
 

@@ -6,7 +6,7 @@
 use Rattle.std.specs.Prelude.{ℕ, Bool, not, ◌&&◌, ℤ, pos, ◌+ℤ◌, ◌-ℤ◌, ◌*ℤ◌, Result, Ok, Err, if◌then◌else◌, int_lt, int_le, int_div, unsigned_abs, neg_ℤ}
 use Rattle.std.specs.Ordering.{int_eq}
 use Rattle.ptb_expr.specs.declared.operator.Operator.{Operator}
-use Rattle.ptb_expr.specs.declared.operator.Operator.TheVariants.{Plus, Minus, Times, Over, AtLeast, NotEqual, Above, Equals, AtMost, Below}
+use Rattle.ptb_expr.specs.declared.operator.Operator.TheVariants.{Plus, Minus, Multiply, Divide, GreaterEqual, NotEqual, Greater, Equals, LessEqual, Less}
 use Rattle.ptb_expr.specs.declared.store.Target.{Target}
 use Rattle.ptb_expr.specs.declared.store.Target.TheVariants as targets
 use Rattle.ptb_expr.specs.declared.fault.Fault.{Fault}
@@ -42,14 +42,14 @@ truth b = Ok (if b then pos 1 else pos 0)
 abbrev pub operation : Operator → ℤ → ℤ → Result ℤ FaultKind
 operation Plus v w = in_range (neg_ℤ (pos 32768)) (v +ℤ w)
 operation Minus v w = in_range (neg_ℤ (pos 32768)) (v -ℤ w)
-operation Times v w = in_range (neg_ℤ (pos 32767)) (v *ℤ w)
-operation Over v w = if int_eq w (pos 0) then Err How else in_range (neg_ℤ (pos 32767)) (int_div v w)
-operation AtLeast v w = truth (int_le w v)
+operation Multiply v w = in_range (neg_ℤ (pos 32767)) (v *ℤ w)
+operation Divide v w = if int_eq w (pos 0) then Err How else in_range (neg_ℤ (pos 32767)) (int_div v w)
+operation GreaterEqual v w = truth (int_le w v)
 operation NotEqual v w = truth (not (int_eq v w))
-operation Above v w = truth (int_lt w v)
+operation Greater v w = truth (int_lt w v)
 operation Equals v w = truth (int_eq v w)
-operation AtMost v w = truth (int_le v w)
-operation Below v w = truth (int_lt v w)
+operation LessEqual v w = truth (int_le v w)
+operation Less v w = truth (int_lt v w)
 
 -- a leading minus
 abbrev pub negation : ℤ → Result ℤ FaultKind
