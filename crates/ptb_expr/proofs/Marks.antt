@@ -19,7 +19,7 @@ use Rattle.ptb_expr.specs.Reading.{Reading, Whole, Malformed, item_of, node_over
 use Rattle.ptb_expr.specs.Spells.{Part, Expr, Sum, First, MoreSum, Product, MoreProduct, Factor, Variable, Paren, Spells}
 use Rattle.ptb_expr.specs.Spells as spells
 use Rattle.ptb_expr.specs.Marks.{MarksWithin}
-use Rattle.ptb_expr.proofs.Spelling.{product_operator_ahead, sum_operator_ahead, comparison_ahead, ahead, expression_spelled, variable_tree_spelled}
+use Rattle.ptb_expr.proofs.SpelledTrees.{product_operator_ahead, sum_operator_ahead, comparison_ahead, ahead, expression_spelled, variable_tree_spelled}
 
 -- ---- faults
 

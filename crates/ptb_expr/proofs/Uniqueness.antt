@@ -13,7 +13,7 @@ use Rattle.ptb_expr.specs.Tree.{Tree, Num, Var, Size, Elem, Rnd, Abs, Neg, Bin, 
 use Rattle.ptb_expr.specs.Reading.{Reading, Whole, Malformed, node_over, missing_part, more, paren, variable_or, variable, plain, factor, product, first_product, sum, expr_with, expr}
 use Rattle.ptb_expr.specs.Spells.{Part, Expr, Sum, First, MoreSum, Product, MoreProduct, Factor, Variable, Paren, Spells}
 use Rattle.ptb_expr.specs.Spells as spells
-use Rattle.ptb_expr.proofs.Spelling.{rest, falls, product_operator_ahead, sum_operator_ahead, comparison_ahead, ahead}
+use Rattle.ptb_expr.proofs.SpelledTrees.{rest, falls, product_operator_ahead, sum_operator_ahead, comparison_ahead, ahead}
 
 -- ---- a list
 

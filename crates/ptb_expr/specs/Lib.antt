@@ -12,7 +12,7 @@ pub mod Laws
 pub use Rattle.ptb_words.specs.CursorState
 pub use Rattle.ptb_words.specs.Words
 pub use Rattle.ptb_words.specs.Finding
-pub mod Stepping
+pub mod TreeSteps
 pub mod Direct
 pub mod Translation
 pub mod Short

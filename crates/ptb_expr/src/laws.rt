@@ -28,7 +28,7 @@ pub fn value_laws()
 {}
 
 /// Running the steps of a tree evaluates the tree, with its questions and its fault.
-#[tactic(auto, using(crate::proofs::Stepping::code_laws))]
+#[tactic(auto, using(crate::proofs::TreeSteps::code_laws))]
 pub fn code_laws()
     ensures { CodeLaws }
 {}

@@ -9,7 +9,7 @@ use Rattle.ptb_expr.specs.Spells as spells
 use Rattle.ptb_expr.specs.Tree.{Num, Var, Neg, Bin}
 use Rattle.ptb_expr.proofs.DirectValues.{number_value, variable_value, negative_value, both_value, first_value, if_valued, next_value, all_value, unsigned_value}
 use Rattle.ptb_expr.proofs.Parts.{at_text, at_place}
-use Rattle.ptb_expr.proofs.Taking.{number_alone}
+use Rattle.ptb_expr.proofs.TakenOperators.{number_alone}
 use Rattle.ptb_expr.proofs.direct.+value_of_expr.Goals as goal
 
 -- ---- expr

@@ -2,7 +2,7 @@
 use Rattle.std.proofs.Common.{subst}
 use Rattle.ptb_expr.specs.Reading.{Whole, expr, expression}
 use Rattle.ptb_expr.specs.Spells.{Expr, Variable, Spells}
-use Rattle.ptb_expr.proofs.Spelling.{ahead, expr_spelled, expression_spelled, variable_tree_spelled}
+use Rattle.ptb_expr.proofs.SpelledTrees.{ahead, expr_spelled, expression_spelled, variable_tree_spelled}
 use Rattle.ptb_expr.proofs.Uniqueness.{unique}
 use Rattle.ptb_expr.proofs.laws.spelling_laws.Goals as goal
 
