@@ -6,7 +6,7 @@ ghost use Rattle.ptb_command.specs.Actions.{goes_on, show as show_action};
 ghost use Rattle.ptb_command.specs.Devices.{nothing_refused};
 ghost use Rattle.ptb_command.specs.Stops.{Comes};
 
-use crate::gathering::Gathering;
+use crate::pending_output::PendingOutput;
 use crate::stop::Stop;
 use ptb_answers::{Chooser, Rules};
 use ptb_devices::{LineSource, Screen};
@@ -58,26 +58,26 @@ impl<'a, C: Chooser, S: Screen, L: LineSource> Io<'a, C, S, L> {
 
     /// Shows bytes as a part of a command: later, with others, if there is room for them.
     #[inline(always)]
-    pub(crate) fn show(&mut self, gathering: &mut Gathering, bytes: &[u8]) -> Result<(), Stop>
+    pub(crate) fn show(&mut self, pending: &mut PendingOutput, bytes: &[u8]) -> Result<(), Stop>
         ensures comes { (given : List (List ℕ)) (cells : Cells) → Comes nothing_refused
-            (due_trace C.choices S.Screen L.most self.old given cells gathering.old)
-            (due_trace C.choices S.Screen L.most self.new given cells gathering.new)
+            (due_trace C.choices S.Screen L.most self.old given cells pending.old)
+            (due_trace C.choices S.Screen L.most self.new given cells pending.new)
             (show_action bytes.now) goes_on result }
         ensures same { SameDevices self.old self.new }
     {
-        gathering.show(self.screen, &mut self.fresh, bytes)
+        pending.show(self.screen, &mut self.fresh, bytes)
     }
 
     /// Shows what was gathered. Nothing is gathered then, also where the screen fails.
-    pub(crate) fn flush(&mut self, gathering: &mut Gathering) -> Result<(), Stop>
+    pub(crate) fn flush(&mut self, pending: &mut PendingOutput) -> Result<(), Stop>
         ensures comes { (given : List (List ℕ)) (cells : Cells) → Comes nothing_refused
-            (due_trace C.choices S.Screen L.most self.old given cells gathering.old)
+            (due_trace C.choices S.Screen L.most self.old given cells pending.old)
             (io_trace C.choices S.Screen L.most self.new given cells)
             (goes_on tt) goes_on result }
-        ensures empty { gathering.new ≡ [] }
+        ensures empty { pending.new ≡ [] }
         ensures chooser { self.new.chooser ≡ self.old.chooser }
         ensures same { SameDevices self.old self.new }
     {
-        gathering.flush(self.screen, &mut self.fresh)
+        pending.flush(self.screen, &mut self.fresh)
     }
 }

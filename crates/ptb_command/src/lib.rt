@@ -7,7 +7,7 @@
 //! `specs/Commands` reads), on `Registers::execute` (a command is done by its code as `specs/Act`
 //! says), on `ProgramCode` (the code of a program, which of it is next at a place, and commands
 //! that are done in a row), on `next_command` (which command is next at a place), on `Stack` (a
-//! list of loops and calls, newest first, of limited length), on `Gathering` (bytes that are to be
+//! list of loops and calls, newest first, of limited length), on `PendingOutput` (bytes that are to be
 //! shown), and on `command_laws` (how the parts of a command and the commands of a statement follow
 //! one another).
 #![tactic(auto)]
@@ -15,13 +15,13 @@
 mod command_code;
 mod ending;
 mod execution;
-mod gathering;
 mod io;
 mod known_loop;
 mod laws;
 mod location;
 mod next;
 mod operation;
+mod pending_output;
 mod program_code;
 mod reads;
 mod registers;
@@ -37,12 +37,12 @@ mod translation;
 pub use command_code::CommandCode;
 pub use ending::Ending;
 pub use execution::print::Output;
-pub use gathering::{GATHERING_LIMIT, Gathering};
 pub use io::Io;
 pub use laws::command_laws;
 pub use location::Location;
 pub use next::next_command;
 pub use operation::{Destination, Expression, Literal, Operation, Prompt, Range};
+pub use pending_output::{PENDING_LIMIT, PendingOutput};
 pub use program_code::{Advance, CommandEntry, NextCode, ProgramCode};
 pub use registers::Registers;
 pub use saved::{SavedRegisters, SavedStack};

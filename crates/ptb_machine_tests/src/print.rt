@@ -3,7 +3,7 @@
 use crate::shared::{
     Counted, UNWRITTEN, execute_with, expect_same, fault, next_place, plain_rules, with_line,
 };
-use ptb_command::{GATHERING_LIMIT, Gathering, Io, Output, Registers, Stop};
+use ptb_command::{Io, Output, PENDING_LIMIT, PendingOutput, Registers, Stop};
 use ptb_devices::{Lines, WriterScreen};
 use ptb_expr::{Listed, Pause};
 use ptb_text::{Device, Program};
@@ -153,11 +153,11 @@ const GATHERED: &[(usize, &[u8], bool, usize)] = &[
 #[test]
 fn bytes_that_are_gathered(rt: HostRuntime) {
     for &(before, bytes, room, count) in GATHERED {
-        let mut gathering = Gathering::new();
-        let filler = [b'#'; GATHERING_LIMIT];
-        let filled = gathering.takes(filler.get(..before).unwrap_or(b""));
-        let taken = gathering.takes(bytes);
-        let gathered = gathering.as_slice();
+        let mut pending = PendingOutput::new();
+        let filler = [b'#'; PENDING_LIMIT];
+        let filled = pending.takes(filler.get(..before).unwrap_or(b""));
+        let taken = pending.takes(bytes);
+        let gathered = pending.as_slice();
         let is_end = gathered.ends_with(bytes);
         let found = (filled, taken, gathered.len(), is_end);
         expect_same(&rt, "bytes", found, (true, room, count, room));

@@ -16,9 +16,9 @@ ghost use Rattle.ptb_command.specs.Stops.{Comes};
 ghost use Rattle.ptb_command.specs.Traces.{Trace, trace, with_due};
 
 use crate::execution::values::short_value;
-use crate::gathering::Gathering;
 use crate::io::Io;
 use crate::operation::{Expression, Literal, Range};
+use crate::pending_output::PendingOutput;
 use crate::stop::{Stop, fault};
 use itoa::Buffer;
 use ptb_answers::Chooser;
@@ -39,7 +39,7 @@ static BLANKS: [u8; WIDTH_LIMIT] = [b' '; WIDTH_LIMIT];
 #[derive(Drop)]
 pub struct Output {
     /// The bytes that are shown later.
-    pub gathering: Gathering,
+    pub pending: PendingOutput,
     /// The width.
     pub width: u8,
     /// A room for the steps of an input line.
@@ -49,11 +49,11 @@ pub struct Output {
 impl Output {
     /// Nothing is gathered, and the width is that of the start of a command.
     pub fn new() -> Output
-        ensures gathering { result.gathering ≡ [] }
+        ensures pending { result.pending ≡ [] }
         ensures width { result.width ≡ first_width }
     {
         Output {
-            gathering: Gathering::new(),
+            pending: PendingOutput::new(),
             width: FIRST_WIDTH,
             room: Steps::new(),
         }
@@ -62,10 +62,10 @@ impl Output {
     /// Begins again, for another command.
     #[inline(always)]
     pub(crate) fn begin(&mut self)
-        ensures gathering { self.new.gathering ≡ [] }
+        ensures pending { self.new.pending ≡ [] }
         ensures width { self.new.width ≡ first_width }
     {
-        self.gathering.clear();
+        self.pending.clear();
         self.width = FIRST_WIDTH;
     }
 }
@@ -113,15 +113,15 @@ fn blanks_before(digits: &[u8], width: u8) -> &'static [u8]
 #[inline(always)]
 fn show_value<C: Chooser, S: Screen, L: LineSource>(
     io: &mut Io<'_, C, S, L>,
-    gathering: &mut Gathering,
+    pending: &mut PendingOutput,
     width: u8,
     value: i16,
 ) -> Result<(), Stop>
     ensures comes { (given : List (List ℕ)) (cells : Cells) → Comes nothing_refused
         (due_trace C.choices S.Screen L.most io.old given cells
-        gathering.old)
+        pending.old)
         (due_trace C.choices S.Screen L.most io.new given cells
-        gathering.new)
+        pending.new)
         (show (padded_decimal width value)) goes_on result }
     ensures same { SameDevices io.old io.new }
 {
@@ -129,9 +129,9 @@ fn show_value<C: Chooser, S: Screen, L: LineSource>(
     let digits = buffer.format(value).as_bytes();
     let blanks = blanks_before(digits, width);
     // most values find room with their blanks
-    if !gathering.takes_both(blanks, digits) {
-        io.show(gathering, blanks)?;
-        io.show(gathering, digits)?;
+    if !pending.try_append_both(blanks, digits) {
+        io.show(pending, blanks)?;
+        io.show(pending, digits)?;
     }
     Ok(())
 }
@@ -148,8 +148,8 @@ pub(crate) fn show_expression<C: Chooser, S: Screen, L: LineSource>(
     ensures comes { (given : List (List ℕ)) (x : Tree) (rest : List Part) (operands : List ℤ) →
         AreStepsAt steps.now expression x →
         Comes (refused_answers (C.refused io.new.chooser.now))
-        (due_trace C.choices S.Screen L.most io.old given store.now output.old.gathering)
-        (due_trace C.choices S.Screen L.most io.new given store.now output.new.gathering)
+        (due_trace C.choices S.Screen L.most io.old given store.now output.old.pending)
+        (due_trace C.choices S.Screen L.most io.new given store.now output.new.pending)
         (parts_action (Show x ∷ rest) output.old.width operands)
         (λ _. parts_action rest output.new.width operands) result }
     ensures valued { (x : Tree) → AreStepsAt steps.now expression x → HasNoValue x →
@@ -157,7 +157,7 @@ pub(crate) fn show_expression<C: Chooser, S: Screen, L: LineSource>(
     ensures same { SameDevices io.old io.new }
 {
     let value = short_value(steps, expression, store, io.chooser)?;
-    show_value(io, &mut output.gathering, output.width, value)
+    show_value(io, &mut output.pending, output.width, value)
 }
 
 /// The value of an expression as a width; `mark` is the mark of a value that is no width.

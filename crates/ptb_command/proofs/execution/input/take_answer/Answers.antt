@@ -139,7 +139,7 @@ returns-in_err-line-clause-comes g c =
             answering_unread c.args.request.now.said.now x prompt (was.refines before x prompt is)
             c.in_ok-target.target
             (waiting (ask_for c.args.request.now.said.now x prompt) c.in_ok-target.target (g.L.LineSource.most c.take_ready.follows.lender-at-none)
-            (io_devices g.C.Chooser.choices g.S.Screen g.L.LineSource.most c.flush.new.self (before ++ was.given)) c.flush.new.self.fresh c.answers.store c.flush.new.gathering
+            (io_devices g.C.Chooser.choices g.S.Screen g.L.LineSource.most c.flush.new.self (before ++ was.given)) c.flush.new.self.fresh c.answers.store c.flush.new.pending
             (c.in_ok-target.ensures.comes (before ++ was.given) x prompt is) fewer (c.in_ok-flush.ensures.comes (before ++ was.given) c.answers.store) c.flush.ensures.empty)
             _ _ _ _ _ _ c.in_err-line.field-0.0 c.from_residual-in_err-line.ensures.1 c.flush.ensures.empty
             (fewer_lines g.L.LineSource.gives g.L.LineSource.most g.met.L.LineSource.falls _ _ _ c.next.follows.holds-at-none.0)
@@ -163,7 +163,7 @@ returns-in_default-choose-clause-comes g c =
             answering_ends c.args.request.now.said.now x prompt (was.refines before x prompt is)
             c.in_ok-target.target
             (waiting (ask_for c.args.request.now.said.now x prompt) c.in_ok-target.target (g.L.LineSource.most c.take_ready.follows.lender-at-none)
-            (io_devices g.C.Chooser.choices g.S.Screen g.L.LineSource.most c.flush.new.self (before ++ was.given)) c.flush.new.self.fresh c.answers.store c.flush.new.gathering
+            (io_devices g.C.Chooser.choices g.S.Screen g.L.LineSource.most c.flush.new.self (before ++ was.given)) c.flush.new.self.fresh c.answers.store c.flush.new.pending
             (c.in_ok-target.ensures.comes (before ++ was.given) x prompt is) fewer (c.in_ok-flush.ensures.comes (before ++ was.given) c.answers.store) c.flush.ensures.empty)
             _ c.next.result end c.next.follows.holds-at-none.4
             _ _ _ c.flush.ensures.empty c.in_default-choose.is c.next.follows.holds-at-none.2,
@@ -188,7 +188,7 @@ returns-in_default-2-clause-comes g c =
             answering_instead c.args.request.now.said.now x prompt (was.refines before x prompt is)
             c.in_ok-target.target
             (waiting (ask_for c.args.request.now.said.now x prompt) c.in_ok-target.target (g.L.LineSource.most c.take_ready.follows.lender-at-none)
-            (io_devices g.C.Chooser.choices g.S.Screen g.L.LineSource.most c.flush.new.self (before ++ was.given)) c.flush.new.self.fresh c.answers.store c.flush.new.gathering
+            (io_devices g.C.Chooser.choices g.S.Screen g.L.LineSource.most c.flush.new.self (before ++ was.given)) c.flush.new.self.fresh c.answers.store c.flush.new.pending
             (c.in_ok-target.ensures.comes (before ++ was.given) x prompt is) fewer (c.in_ok-flush.ensures.comes (before ++ was.given) c.answers.store) c.flush.ensures.empty)
             _ c.next.result end c.next.follows.holds-at-none.4
             (g.C.Chooser.refused c.answer_instead.new.io.chooser.now) (g.L.LineSource.refused source) (g.L.LineSource.lines source) _ (to_z w16 (of_z w16 c.in-Some-choose.bound)) (c.in-Some-choose.is ∙ ap Some (sym bound)) c.answer_instead.result
@@ -214,7 +214,7 @@ returns-in_err-store_answer-2-clause-comes g c =
             answering_fails c.args.request.now.said.now x prompt (was.refines before x prompt is)
             c.in_ok-target.target
             (waiting (ask_for c.args.request.now.said.now x prompt) c.in_ok-target.target (g.L.LineSource.most c.take_ready.follows.lender-at-none)
-            (io_devices g.C.Chooser.choices g.S.Screen g.L.LineSource.most c.flush.new.self (before ++ was.given)) c.flush.new.self.fresh c.answers.store c.flush.new.gathering
+            (io_devices g.C.Chooser.choices g.S.Screen g.L.LineSource.most c.flush.new.self (before ++ was.given)) c.flush.new.self.fresh c.answers.store c.flush.new.pending
             (c.in_ok-target.ensures.comes (before ++ was.given) x prompt is) fewer (c.in_ok-flush.ensures.comes (before ++ was.given) c.answers.store) c.flush.ensures.empty)
             (g.L.LineSource.most c.next.follows.lender-at-none) c.in-Some-2.line.now (before ++ given)
             (falls_one g.L.LineSource.gives g.L.LineSource.most g.met.L.LineSource.falls c.flush.new.self.source.now c.next.follows.lender-at-none c.next.result c.in-Some-2.line.now (ap given_lines some) c.next.follows.holds-at-none.0)
@@ -243,7 +243,7 @@ returns-then-branch-2-clause-comes g c =
             answering_done c.args.request.now.said.now x prompt (was.refines before x prompt is)
             c.in_ok-target.target
             (waiting (ask_for c.args.request.now.said.now x prompt) c.in_ok-target.target (g.L.LineSource.most c.take_ready.follows.lender-at-none)
-            (io_devices g.C.Chooser.choices g.S.Screen g.L.LineSource.most c.flush.new.self (before ++ was.given)) c.flush.new.self.fresh c.answers.store c.flush.new.gathering
+            (io_devices g.C.Chooser.choices g.S.Screen g.L.LineSource.most c.flush.new.self (before ++ was.given)) c.flush.new.self.fresh c.answers.store c.flush.new.pending
             (c.in_ok-target.ensures.comes (before ++ was.given) x prompt is) fewer (c.in_ok-flush.ensures.comes (before ++ was.given) c.answers.store) c.flush.ensures.empty)
             (g.L.LineSource.most c.next.follows.lender-at-none) c.in-Some-2.line.now (before ++ given)
             (falls_one g.L.LineSource.gives g.L.LineSource.most g.met.L.LineSource.falls c.flush.new.self.source.now c.next.follows.lender-at-none c.next.result c.in-Some-2.line.now (ap given_lines some) c.next.follows.holds-at-none.0)
@@ -276,7 +276,7 @@ answers-preserved g c =
           answering_again c.args.request.now.said.now x prompt (was.refines before x prompt is)
           c.in_ok-target.target
           (waiting (ask_for c.args.request.now.said.now x prompt) c.in_ok-target.target (g.L.LineSource.most c.take_ready.follows.lender-at-none)
-          (io_devices g.C.Chooser.choices g.S.Screen g.L.LineSource.most c.flush.new.self (before ++ was.given)) c.flush.new.self.fresh c.answers.store c.flush.new.gathering
+          (io_devices g.C.Chooser.choices g.S.Screen g.L.LineSource.most c.flush.new.self (before ++ was.given)) c.flush.new.self.fresh c.answers.store c.flush.new.pending
           (c.in_ok-target.ensures.comes (before ++ was.given) x prompt is) fewer (c.in_ok-flush.ensures.comes (before ++ was.given) c.answers.store) c.flush.ensures.empty)
           (g.L.LineSource.most c.next.follows.lender-at-none) c.in-Some-2.line.now (before ++ given)
           (falls_one g.L.LineSource.gives g.L.LineSource.most g.met.L.LineSource.falls c.flush.new.self.source.now c.next.follows.lender-at-none c.next.result c.in-Some-2.line.now (ap given_lines some) c.next.follows.holds-at-none.0)

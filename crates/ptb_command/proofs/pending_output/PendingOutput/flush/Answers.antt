@@ -1,7 +1,7 @@
--- This file answers what is left to prove of `Gathering::flush`.
+-- This file answers what is left to prove of `PendingOutput::flush`.
 use Rattle.ptb_command.proofs.Gathered.{flush_comes}
 use Rattle.ptb_command.proofs.Shown.{shown_as}
-use Rattle.ptb_command.proofs.gathering.Gathering.flush.Goals as goal
+use Rattle.ptb_command.proofs.pending_output.PendingOutput.flush.Goals as goal
 
 pub returns-clause-comes : goal.returns-clause-comes
 returns-clause-comes g c d cells =

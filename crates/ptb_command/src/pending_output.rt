@@ -14,16 +14,16 @@ use ptb_devices::Screen;
 use std::marker::Model;
 
 /// How many bytes are gathered at most. An item of PRINT shows no more than 255.
-pub const GATHERING_LIMIT: usize = 512;
+pub const PENDING_LIMIT: usize = 512;
 
 /// What a command is to show, and hasn't shown yet. It takes no memory. Contracts see its bytes.
 #[derive(Drop)]
-pub struct Gathering {
-    bytes: [u8; GATHERING_LIMIT],
+pub struct PendingOutput {
+    bytes: [u8; PENDING_LIMIT],
     count: usize,
 }
 
-impl Model for Gathering {
+impl Model for PendingOutput {
     ghost use Rattle.std.specs.Prelude.{◌≡◌, ◌≤◌, List, ℕ, take, length};
 
     ghost Value = { List ℕ };
@@ -33,13 +33,13 @@ impl Model for Gathering {
     ghost invariant = { λ g. (length g.bytes ≡ 512) × (g.count ≤ 512) };
 }
 
-impl Gathering {
+impl PendingOutput {
     /// Nothing is gathered yet.
     pub fn new() -> Self
         ensures { result ≡ [] }
     {
-        Gathering {
-            bytes: [0; GATHERING_LIMIT],
+        PendingOutput {
+            bytes: [0; PENDING_LIMIT],
             count: 0,
         }
     }
@@ -62,17 +62,17 @@ impl Gathering {
     // How many bytes there is still room for.
     #[inline(always)]
     fn room(&self) -> usize
-        ensures { length self.now + result ≡ GATHERING_LIMIT }
+        ensures { length self.now + result ≡ PENDING_LIMIT }
     {
-        GATHERING_LIMIT - self.count
+        PENDING_LIMIT - self.count
     }
 
     // Takes a byte, if there is room for it. Whether there was.
     #[inline(always)]
-    fn takes_byte(&mut self, byte: u8) -> bool
+    fn try_append_byte(&mut self, byte: u8) -> bool
         ensures taken { IsTrue result → self.new ≡ self.old ++ byte ∷ [] }
         ensures full { IsFalse result → self.new ≡ self.old }
-        ensures room { IsTrue result ↔ (length self.old + 1 ≤ GATHERING_LIMIT) }
+        ensures room { IsTrue result ↔ (length self.old + 1 ≤ PENDING_LIMIT) }
     {
         if self.room() == 0 {
             return false;
@@ -85,7 +85,7 @@ impl Gathering {
     // Takes bytes for all of which there is room.
     #[inline(always)]
     fn append(&mut self, bytes: &[u8])
-        requires { length self.old + length bytes.now ≤ GATHERING_LIMIT }
+        requires { length self.old + length bytes.now ≤ PENDING_LIMIT }
         ensures { self.new ≡ self.old ++ bytes.now }
     {
         let from = self.count;
@@ -97,16 +97,16 @@ impl Gathering {
 
     /// Takes bytes, if there is room for all of them. Whether there was.
     #[inline(always)]
-    pub fn takes(&mut self, bytes: &[u8]) -> bool
+    pub fn try_append(&mut self, bytes: &[u8]) -> bool
         ensures taken { IsTrue result → self.new ≡ self.old ++ bytes.now }
         ensures full { IsFalse result → self.new ≡ self.old }
-        ensures room { IsTrue result ↔ (length self.old + length bytes.now ≤ GATHERING_LIMIT) }
+        ensures room { IsTrue result ↔ (length self.old + length bytes.now ≤ PENDING_LIMIT) }
     {
         let room = self.room();
         match bytes {
             // no byte, or one, as most strings and prompts have, costs less than a call that copies it
             [] => true,
-            [byte] => self.takes_byte(*byte),
+            [byte] => self.try_append_byte(*byte),
             _ => {
                 if bytes.len() > room {
                     return false;
@@ -119,11 +119,11 @@ impl Gathering {
 
     /// Takes bytes and others after them, if there is room for all of them. Whether there was.
     #[inline(always)]
-    pub(crate) fn takes_both(&mut self, first: &[u8], second: &[u8]) -> bool
+    pub(crate) fn try_append_both(&mut self, first: &[u8], second: &[u8]) -> bool
         ensures taken { IsTrue result → self.new ≡ self.old ++ first.now ++ second.now }
         ensures full { IsFalse result → self.new ≡ self.old }
         ensures room { IsTrue result ↔
-            (length self.old + (length first.now + length second.now) ≤ GATHERING_LIMIT) }
+            (length self.old + (length first.now + length second.now) ≤ PENDING_LIMIT) }
     {
         let room = self.room();
         if first.len() > room || second.len() > room - first.len() {
@@ -143,7 +143,7 @@ impl Gathering {
         ensures full { IsFalse result → self.new ≡ self.old }
     {
         match name {
-            [letter] => self.takes(&[*letter, b':']),
+            [letter] => self.try_append(&[*letter, b':']),
             _ => false,
         }
     }
@@ -177,19 +177,19 @@ impl Gathering {
             (with_due self.new
             (trace (with_screen (screen_state S.Screen screen.new) d) fresh.new cells))
             (show_action bytes.now) goes_on result }
-        ensures gathered { length self.old + length bytes.now ≤ GATHERING_LIMIT
+        ensures gathered { length self.old + length bytes.now ≤ PENDING_LIMIT
             → self.new ≡ self.old ++ bytes.now }
     {
-        if self.takes(bytes) {
+        if self.try_append(bytes) {
             return Ok(());
         }
-        self.show_behind(screen, fresh, bytes)
+        self.flush_and_append(screen, fresh, bytes)
     }
 
     // Shows what was gathered, and behind it bytes for which there was no room: these later, if
     // there is room then.
     #[inline(never)]
-    fn show_behind<S: Screen>(
+    fn flush_and_append<S: Screen>(
         &mut self,
         screen: &mut S,
         fresh: &mut bool,
@@ -203,7 +203,7 @@ impl Gathering {
             (show_action bytes.now) goes_on result }
     {
         self.flush(screen, fresh)?;
-        if self.takes(bytes) {
+        if self.try_append(bytes) {
             return Ok(());
         }
         show(screen, fresh, bytes)
