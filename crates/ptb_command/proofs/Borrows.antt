@@ -1,10 +1,10 @@
 -- This file proves that borrows which stay the same stay so.
 -- Main lemma: `borrows_then`.
 use Rattle.std.proofs.Common.{◌∙◌, ap}
-use Rattle.ptb_command.specs.declared.io.Io.{Io}
-use Rattle.ptb_command.specs.Io.{SameBorrows, SameDevices}
+use Rattle.ptb_command.specs.declared.command_io.CommandIo.{CommandIo}
+use Rattle.ptb_command.specs.CommandIo.{SameBorrows, SameDevices}
 
-module _ {C S L : Type 0} {a b c : Io C S L} where
+module _ {C S L : Type 0} {a b c : CommandIo C S L} where
   pub devices_then : SameDevices a b → SameDevices b c → SameDevices a c
   devices_then h k = record {
     chooser = k.chooser ∙ h.chooser;
@@ -22,7 +22,7 @@ module _ {C S L : Type 0} {a b c : Io C S L} where
   }
 
   -- where a line was asked for since then, or a part was lent
-  pub borrows_lent : {d : Io C S L} → SameBorrows a b → SameDevices b c → SameBorrows c d → SameBorrows a d
+  pub borrows_lent : {d : CommandIo C S L} → SameBorrows a b → SameDevices b c → SameBorrows c d → SameBorrows a d
   borrows_lent h k l = record {
     chooser = l.chooser ∙ k.chooser ∙ h.chooser;
     screen = l.screen ∙ k.screen ∙ h.screen;

@@ -15,7 +15,7 @@ pub mod Configuration
 pub mod Representation
 pub mod Acts
 pub mod Reports
-pub mod Io
+pub mod CommandIo
 pub mod Executed
 pub mod Stacks
 pub mod Loops

@@ -13,9 +13,9 @@
 #![tactic(auto)]
 
 mod command_code;
+mod command_io;
 mod ending;
 mod execution;
-mod io;
 mod known_loop;
 mod laws;
 mod location;
@@ -35,9 +35,9 @@ mod stop;
 mod translation;
 
 pub use command_code::CommandCode;
+pub use command_io::CommandIo;
 pub use ending::Ending;
 pub use execution::print::Output;
-pub use io::Io;
 pub use laws::command_laws;
 pub use location::Location;
 pub use next::next_command;

@@ -7,7 +7,7 @@ use Rattle.ptb_answers.specs.declared.chooser.Chooser as choosers
 use Rattle.ptb_answers.specs.declared.rules.Rules.{Rules}
 use Rattle.ptb_devices.specs.declared.screen.Screen as screens
 use Rattle.ptb_devices.specs.declared.lines.LineSource as sources
-use Rattle.ptb_command.specs.declared.io.Io.{Io}
+use Rattle.ptb_command.specs.declared.command_io.CommandIo.{CommandIo}
 use Rattle.ptb_command.specs.Devices.{Devices, devices, screen_state, Refusal, refused_by}
 
 pub record RunDevices (C S L : Type 0) : Type 0 where
@@ -19,7 +19,7 @@ abbrev pub run_devices : {C S L : Type 0} → C → S → L → RunDevices C S L
 run_devices chooser screen source = record { chooser = chooser; screen = screen; source = source }
 
 -- those that are lent to a command
-abbrev pub lent : {C S L : Type 0} → Io C S L → RunDevices C S L
+abbrev pub lent : {C S L : Type 0} → CommandIo C S L → RunDevices C S L
 lent io = run_devices io.chooser.now io.screen.now io.source.now
 
 -- by what their own contracts say of them

@@ -2,13 +2,13 @@
 
 ghost use Rattle.std.specs.Prelude.{◌≡◌, ℕ, List, Some, slice_get};
 ghost use Rattle.ptb_expr.specs.Store.{Cells};
-ghost use Rattle.ptb_command.specs.Io.{io_trace, SameDevices};
+ghost use Rattle.ptb_command.specs.CommandIo.{io_trace, SameDevices};
 ghost use Rattle.ptb_machine.specs.CommandResults.{fault_of, IsResultOf};
 
 use crate::fault::RunFault;
 use crate::reports::{ending_of, report};
 use ptb_answers::{Chooser, Pause};
-use ptb_command::{DeviceError, Ending, Io, Stop, line_at};
+use ptb_command::{CommandIo, DeviceError, Ending, Stop, line_at};
 use ptb_devices::{LineSource, Screen};
 use ptb_text::Program;
 
@@ -28,7 +28,7 @@ pub(crate) fn result_of<C: Chooser, S: Screen, L: LineSource>(
     done: Result<(), Stop>,
     program: &Program,
     statement: usize,
-    io: &mut Io<'_, C, S, L>,
+    io: &mut CommandIo<'_, C, S, L>,
 ) -> Result<Option<Ending>, RunFault>
     ensures comes { (given : List (List ℕ)) (cells : Cells) (n : ℕ) (text : List ℕ) →
         slice_get program.now.lines statement ≡ Some (n, text) → IsResultOf

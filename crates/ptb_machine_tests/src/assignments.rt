@@ -3,7 +3,7 @@
 use crate::shared::{
     execute_first, expect_same, fault, letter, next_place, plain_rules, with_line,
 };
-use ptb_command::{Io, Registers, Stop};
+use ptb_command::{CommandIo, Registers, Stop};
 use ptb_devices::{Lines, TextScreen};
 use ptb_expr::Listed;
 use ptb_text::Program;
@@ -18,7 +18,7 @@ fn done(
     let mut chooser = Listed::new(&[]);
     let mut source = Lines::new(&[]);
     let rules = plain_rules(1);
-    let mut io = Io::new(&mut chooser, screen, &mut source, true, rules);
+    let mut io = CommandIo::new(&mut chooser, screen, &mut source, true, rules);
     let result = execute_first(program, registers, &mut io);
     next_place(result, registers)
 }

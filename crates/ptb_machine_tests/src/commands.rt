@@ -2,8 +2,8 @@
 
 use crate::shared::{MEMORY, execute_first, expect_same, fault, letter, plain_rules};
 use ptb_command::{
-    Io, Location, OpenLoop, Registers, SavedRegisters, Stack, Stop, beginning_of, first_place,
-    is_zero, line_at, next_command, place_after, put,
+    CommandIo, Location, OpenLoop, Registers, SavedRegisters, Stack, Stop, beginning_of,
+    first_place, is_zero, line_at, next_command, place_after, put,
 };
 use ptb_devices::{Line, Lines, TextScreen};
 use ptb_expr::{Listed, Pause, Store};
@@ -80,7 +80,7 @@ fn done(
 ) -> (Result<(), Stop>, bool) {
     let mut list = Listed::new(&[4]);
     let mut source = Lines::new(lines);
-    let mut io = Io::new(&mut list, screen, &mut source, true, plain_rules(1));
+    let mut io = CommandIo::new(&mut list, screen, &mut source, true, plain_rules(1));
     let result = execute_first(program, registers, &mut io);
     (result, io.fresh)
 }

@@ -4,7 +4,7 @@ use crate::shared::{
     Counted, UNWRITTEN, execute_first, expect_same, fault, letter, next_place, plain_rules,
     with_line,
 };
-use ptb_command::{Io, Registers, Stop};
+use ptb_command::{CommandIo, Registers, Stop};
 use ptb_devices::{Line, Lines, Screen, TextScreen, WriterScreen};
 use ptb_expr::{Listed, Pause};
 use ptb_machine::Rules;
@@ -33,7 +33,7 @@ fn done<S: Screen>(
 ) -> (Result<usize, Stop>, bool) {
     let mut source = Lines::new(lines);
     let mut chooser = Listed::new(answers);
-    let mut io = Io::new(&mut chooser, screen, &mut source, true, rules);
+    let mut io = CommandIo::new(&mut chooser, screen, &mut source, true, rules);
     let result = execute_first(program, registers, &mut io);
     let fresh = io.fresh;
     (next_place(result, registers), fresh)

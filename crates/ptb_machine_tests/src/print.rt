@@ -3,7 +3,7 @@
 use crate::shared::{
     Counted, UNWRITTEN, execute_with, expect_same, fault, next_place, plain_rules, with_line,
 };
-use ptb_command::{Io, Output, PENDING_LIMIT, PendingOutput, Registers, Stop};
+use ptb_command::{CommandIo, Output, PENDING_LIMIT, PendingOutput, Registers, Stop};
 use ptb_devices::{Lines, WriterScreen};
 use ptb_expr::{Listed, Pause};
 use ptb_text::{Device, Program};
@@ -75,7 +75,7 @@ fn written(
     let mut source = Lines::new(&[]);
     let mut chooser = Listed::new(answers);
     let rules = plain_rules(1);
-    let mut io = Io::new(&mut chooser, &mut screen, &mut source, true, rules);
+    let mut io = CommandIo::new(&mut chooser, &mut screen, &mut source, true, rules);
     let result = execute_with(program, registers, &mut io, output);
     drop(io);
     drop(screen);

@@ -5,7 +5,8 @@ ghost use Rattle.ptb_text.specs.Statements.{program};
 ghost use Rattle.ptb_words.specs.Words.{is_letter};
 
 use ptb_command::{
-    CommandCode, DeviceError, Io, Output, Registers, Stack, Stop, first_place, line_at, translate,
+    CommandCode, CommandIo, DeviceError, Output, Registers, Stack, Stop, first_place, line_at,
+    translate,
 };
 use ptb_devices::{LineSource, Screen};
 use ptb_expr::{Chooser, Store};
@@ -153,7 +154,7 @@ pub(crate) fn with_line(alloc: Global, line: &str) -> Result<(Program, Registers
 pub(crate) fn execute_first<C: Chooser, S: Screen, L: LineSource>(
     program: &Program,
     registers: &mut Registers,
-    io: &mut Io<'_, C, S, L>,
+    io: &mut CommandIo<'_, C, S, L>,
 ) -> Result<(), Stop> {
     execute_with(program, registers, io, &mut Output::new())
 }
@@ -162,7 +163,7 @@ pub(crate) fn execute_first<C: Chooser, S: Screen, L: LineSource>(
 pub(crate) fn execute_with<C: Chooser, S: Screen, L: LineSource>(
     program: &Program,
     registers: &mut Registers,
-    io: &mut Io<'_, C, S, L>,
+    io: &mut CommandIo<'_, C, S, L>,
     output: &mut Output,
 ) -> Result<(), Stop> {
     let (_, text) = line_at(program, 0);

@@ -11,12 +11,12 @@ ghost use Rattle.ptb_command.specs.Actions.{goes_on, show, work_action};
 ghost use Rattle.ptb_command.specs.Code.{AreStepsAt, IsIn, IsLiteralIn, bytes_in, literal_bytes};
 ghost use Rattle.ptb_command.specs.Commands.{Part, Show, Width};
 ghost use Rattle.ptb_command.specs.Devices.{Devices, nothing_refused, refused_answers, with_choices};
-ghost use Rattle.ptb_command.specs.Io.{due_trace, SameDevices};
+ghost use Rattle.ptb_command.specs.CommandIo.{due_trace, SameDevices};
 ghost use Rattle.ptb_command.specs.Stops.{Comes};
 ghost use Rattle.ptb_command.specs.Traces.{Trace, trace, with_due};
 
+use crate::command_io::CommandIo;
 use crate::execution::values::short_value;
-use crate::io::Io;
 use crate::operation::{Expression, Literal, Range};
 use crate::pending_output::PendingOutput;
 use crate::stop::{Stop, fault};
@@ -112,7 +112,7 @@ fn blanks_before(digits: &[u8], width: u8) -> &'static [u8]
 // Shows a value with blanks before it up to the width.
 #[inline(always)]
 fn show_value<C: Chooser, S: Screen, L: LineSource>(
-    io: &mut Io<'_, C, S, L>,
+    io: &mut CommandIo<'_, C, S, L>,
     pending: &mut PendingOutput,
     width: u8,
     value: i16,
@@ -142,7 +142,7 @@ pub(crate) fn show_expression<C: Chooser, S: Screen, L: LineSource>(
     steps: &[Step],
     expression: Expression,
     store: &Store,
-    io: &mut Io<'_, C, S, L>,
+    io: &mut CommandIo<'_, C, S, L>,
     output: &mut Output,
 ) -> Result<(), Stop>
     ensures comes { (given : List (List ℕ)) (x : Tree) (rest : List Part) (operands : List ℤ) →

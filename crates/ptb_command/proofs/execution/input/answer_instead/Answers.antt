@@ -6,7 +6,7 @@ use Rattle.ptb_expr.specs.Value.{chosen}
 use Rattle.ptb_command.specs.Devices.{refused_answers}
 use Rattle.ptb_command.specs.Act.{store}
 use Rattle.ptb_command.specs.Actions.{goes_on}
-use Rattle.ptb_command.specs.Io.{io_devices}
+use Rattle.ptb_command.specs.CommandIo.{io_devices}
 use Rattle.ptb_command.specs.Traces.{trace, with_due, RefinesPart}
 use Rattle.ptb_command.proofs.Actions.{stops_unrefused}
 use Rattle.ptb_command.proofs.Borrows.{devices_then}

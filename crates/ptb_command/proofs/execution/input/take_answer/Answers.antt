@@ -4,7 +4,7 @@ use Rattle.std.proofs.Math.Nat.{le_refl}
 use Rattle.ptb_command.specs.Act.{ask_for}
 use Rattle.ptb_command.specs.Actions.{goes_on}
 use Rattle.ptb_command.specs.Devices.{devices, screen_state}
-use Rattle.ptb_command.specs.Io.{io_devices, io_trace}
+use Rattle.ptb_command.specs.CommandIo.{io_devices, io_trace}
 use Rattle.ptb_devices.specs.Sources.{given_lines, ready_lines}
 use Rattle.ptb_command.proofs.Borrows.{borrows_lent}
 use Rattle.ptb_command.proofs.Due.{comes_emptied}

@@ -1,7 +1,7 @@
 -- This file answers what is left to prove of `show_expression`.
 use Rattle.std.proofs.Common.{◌≡◌, refl, rules, to_z, of_z, w16}
 use Rattle.ptb_command.specs.Commands.{Show}
-use Rattle.ptb_command.specs.Io.{io_devices}
+use Rattle.ptb_command.specs.CommandIo.{io_devices}
 use Rattle.ptb_command.proofs.Borrows.{devices_then}
 use Rattle.ptb_command.proofs.Comings.{show_comes}
 use Rattle.ptb_command.proofs.Parts.{show_value_stops}

@@ -1,7 +1,7 @@
 -- This file answers what is left to prove of `show_value`.
 use Rattle.std.proofs.Common.{◌≡◌, ◌∙◌, ◌++◌, ℕ, List, Ok, ap, append_assoc, refl, rules, to_z, of_z, w16}
 use Rattle.std.specs.Fmt.{signed_decimal}
-use Rattle.ptb_command.specs.Io.{io_trace}
+use Rattle.ptb_command.specs.CommandIo.{io_trace}
 use Rattle.ptb_command.proofs.Gathered.{gathered}
 use Rattle.ptb_command.proofs.Pieces.{both_move, first_stops, second_stops}
 use Rattle.ptb_command.proofs.Shown.{shown_as}

@@ -13,7 +13,7 @@ use ptb_devices::{LineSource, Screen};
 
 /// What a command asks, shows and reads.
 #[derive(Drop)]
-pub struct Io<'a, C, S, L> {
+pub struct CommandIo<'a, C, S, L> {
     /// Answers the questions of RND.
     pub chooser: &'a mut C,
     /// Where bytes are shown.
@@ -27,8 +27,8 @@ pub struct Io<'a, C, S, L> {
     pub rules: Rules,
 }
 
-impl<'a, C: Chooser, S: Screen, L: LineSource> Io<'a, C, S, L> {
-    ghost use Rattle.ptb_command.specs.Io.{io_trace, due_trace, SameDevices};
+impl<'a, C: Chooser, S: Screen, L: LineSource> CommandIo<'a, C, S, L> {
+    ghost use Rattle.ptb_command.specs.CommandIo.{io_trace, due_trace, SameDevices};
 
     /// These devices, taken together.
     pub fn new(
@@ -47,7 +47,7 @@ impl<'a, C: Chooser, S: Screen, L: LineSource> Io<'a, C, S, L> {
         ensures screen_now { result.screen.now ≡ screen.old }
         ensures source_now { result.source.now ≡ source.old }
     {
-        Io {
+        CommandIo {
             chooser,
             screen,
             source,
