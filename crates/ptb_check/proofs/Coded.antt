@@ -183,10 +183,10 @@ module _ (p : Statements) (t : List ℕ) (word : Word) (i : ℕ) (steps : List S
   code_tells left (operations.Done next ∷ rest) h tells = nothing_jumps p word left h.1 h.2
   code_tells left (operations.If e then_ ∷ rest) h tells =
       sym (ap (parts_mistake p word) h.3 ∙ ap (λ w. jump_mistake p then_ (jump_number w (Operand h.1 ∷ []))) h.0)
-  code_tells left (operations.GoTo e end ∷ rest) h tells =
+  code_tells left (operations.Goto e end ∷ rest) h tells =
       ap (jump_mistake p end) h.2.evaluate.number
       ∙ sym (ap (parts_mistake p word) h.3 ∙ ap (λ w. jump_mistake p end (jump_number w (Operand h.1 ∷ []))) h.0)
-  code_tells left (operations.GoSub e end next ∷ rest) h tells =
+  code_tells left (operations.Gosub e end next ∷ rest) h tells =
       ap (jump_mistake p end) h.2.evaluate.number
       ∙ sym (ap (parts_mistake p word) h.3 ∙ ap (λ w. jump_mistake p end (jump_number w (Operand h.1 ∷ []))) h.0)
   code_tells left (operations.Return end ∷ rest) h tells = nothing_jumps p word left end h.1

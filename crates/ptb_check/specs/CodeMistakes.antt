@@ -44,6 +44,6 @@ code_mistake p steps (operations.Input prompt d ∷ rest) =
     option_or (destination_fail steps d) (code_mistake p steps rest)
 code_mistake p steps (operations.Discard e ∷ rest) = option_or (expression_fail steps e) (code_mistake p steps rest)
 code_mistake p steps (operations.Fail kind mark ∷ rest) = Some (fault kind mark)
-code_mistake p steps (operations.GoTo e end ∷ rest) = jump_mistake p end (only_number (steps_at steps e))
-code_mistake p steps (operations.GoSub e end next ∷ rest) = jump_mistake p end (only_number (steps_at steps e))
+code_mistake p steps (operations.Goto e end ∷ rest) = jump_mistake p end (only_number (steps_at steps e))
+code_mistake p steps (operations.Gosub e end next ∷ rest) = jump_mistake p end (only_number (steps_at steps e))
 code_mistake p steps (_ ∷ rest) = None

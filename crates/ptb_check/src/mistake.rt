@@ -112,7 +112,7 @@ fn code_mistake(program: &Program, steps: &[Step], operations: &[Operation]) -> 
                 kind,
                 mark: usize::from(mark),
             }),
-            Operation::GoTo { number, end } | Operation::GoSub { number, end, .. } => {
+            Operation::Goto { number, end } | Operation::Gosub { number, end, .. } => {
                 return jump_mistake(program, only_number(steps_of(steps, number)), end);
             }
             Operation::Done { .. }

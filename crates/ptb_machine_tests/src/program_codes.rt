@@ -26,7 +26,7 @@ const FOUR_COMMANDS: &[&str] = &["10 A=1;GOTO 30", "20 STOP", "30 PRINT 7"];
 fn name(operation: Option<&Operation>) -> &'static str {
     match operation {
         Some(Operation::Set(_, _)) => "set",
-        Some(Operation::GoTo { .. }) => "goto",
+        Some(Operation::Goto { .. }) => "goto",
         Some(Operation::Stop) => "stop",
         Some(Operation::Show(_)) => "show",
         _ => "other",

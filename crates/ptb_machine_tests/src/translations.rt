@@ -2,7 +2,7 @@
 
 use crate::shared::{cursor_in_front, expect_same};
 use crate::translations::Shape::{
-    Ask, AskReturn, AskString, Discard, Done, EndTurn, Fail, For, GoSub, GoTo, If, NewLine, Remark,
+    Ask, AskReturn, AskString, Discard, Done, EndTurn, Fail, For, Gosub, Goto, If, NewLine, Remark,
     Return, ReturnByte, Set, SetElement, SetNothing, Show, Stop, Text, Width,
 };
 use ptb_command::{CommandCode, Destination, Literal, Operation, Prompt, translate};
@@ -27,8 +27,8 @@ enum Shape {
     Fail(FaultKind, u8),
     Done(u8),
     If(u8),
-    GoTo(u8),
-    GoSub(u8, u8),
+    Goto(u8),
+    Gosub(u8, u8),
     Return(u8),
     For(u8, u8),
     EndTurn(u8, u8),
@@ -71,8 +71,8 @@ fn shape_of(operation: Operation) -> Shape {
         Operation::Fail(kind, mark) => Fail(kind, mark),
         Operation::Done { next } => Done(next),
         Operation::If { then, .. } => If(then),
-        Operation::GoTo { end, .. } => GoTo(end),
-        Operation::GoSub { end, next, .. } => GoSub(end, next),
+        Operation::Goto { end, .. } => Goto(end),
+        Operation::Gosub { end, next, .. } => Gosub(end, next),
         Operation::Return { end } => Return(end),
         Operation::For { end, next, .. } => For(end, next),
         Operation::EndTurn { end, next, .. } => EndTurn(end, next),
@@ -110,11 +110,11 @@ const TRANSLATIONS: &[(&str, &[Shape], Option<(FaultKind, u8)>, Option<usize>)] 
     ("IF A=1 P.2", &[If(7)], None, Some(7)),
     ("IF A", &[If(4)], None, Some(4)),
     ("IF (", &[Discard], Some((What, 4)), None),
-    ("GOTO 20", &[GoTo(7)], None, None),
+    ("GOTO 20", &[Goto(7)], None, None),
     ("GOTO 20;P.1", &[Discard, Fail(What, 7)], None, None),
     ("GOTO", &[Discard], Some((What, 4)), None),
-    ("GOSUB 20 ;P.1", &[GoSub(9, 10)], None, Some(10)),
-    ("GOSUB 20", &[GoSub(8, 8)], None, None),
+    ("GOSUB 20 ;P.1", &[Gosub(9, 10)], None, Some(10)),
+    ("GOSUB 20", &[Gosub(8, 8)], None, None),
     ("GOSUB 20,", &[Discard, Fail(What, 8)], None, None),
     ("RETURN", &[Return(6)], None, None),
     ("RETURN;", &[Fail(What, 6)], None, None),
