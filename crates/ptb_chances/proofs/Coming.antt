@@ -19,7 +19,7 @@ use Rattle.ptb_machine.specs.Laws.{RunLaws}
 use Rattle.ptb_command.specs.Devices.{ScreenState, devices, Refusal, nothing_refused, refused_by}
 use Rattle.ptb_command.specs.Configuration.{Configuration}
 use Rattle.ptb_command.specs.Effects.{act_state}
-use Rattle.ptb_command.specs.Stops.{Waits, IsDry}
+use Rattle.ptb_command.specs.Stops.{AsksUnanswered, IsOutOfLines}
 use Rattle.ptb_devices.specs.Sources.{Gives, LineList}
 use Rattle.ptb_machine.specs.Steps.{FitsProgram, QuietTurns, Steps}
 use Rattle.ptb_machine.specs.TurnResults.{StepsTo, goes, ends, StepComes}
@@ -76,7 +76,7 @@ module _ (laws : RunLaws) (p : StoredProgram) (rules : Rules) where
     turn_over : (e : Ending) → Turned (ends e) → IsOver p rules S d.taken e t
     turn_over e x = record { finish = finish_in e x.leads.state; outcome = turned (ends e) x; ending_is = refl; line_is = line_same x.leads.state.shown t (same_end (ends e) x) }
 
-    turn_dry : (refuses : Pause → ℤ → Type 0) → IsDry (refused_by refuses (λ _. ⊥) (Some rest)) (StepsTo p.lines new (devices c (text_state s) most rules.choose []) u.state rest (turn p rules.limit u.state)) (devices d (text_state t) few rules.choose given) (Over endings.NoInput) → IsOver p rules S d.taken endings.NoInput t
+    turn_dry : (refuses : Pause → ℤ → Type 0) → IsOutOfLines (refused_by refuses (λ _. ⊥) (Some rest)) (StepsTo p.lines new (devices c (text_state s) most rules.choose []) u.state rest (turn p rules.limit u.state)) (devices d (text_state t) few rules.choose given) (Over endings.NoInput) → IsOver p rules S d.taken endings.NoInput t
     turn_dry refuses w =
         let x = w.comes in
         let T : State = x.leads.state in
@@ -90,7 +90,7 @@ module _ (laws : RunLaws) (p : StoredProgram) (rules : Rules) where
 
   module _ (S : State) (m new : Configuration) (c : Choices) (l : PlanAnswers) (s t : List ℕ) (given left rest : List (List ℕ)) (most few : ℕ) (u : Came p rules S c.taken m left s) where
     abbrev Paused : Pause → Type 0
-    Paused z = Waits (refused_by (RefusedByPlan l) (λ _. ⊥) (Some rest)) (StepsTo p.lines new (devices c (text_state s) most rules.choose []) u.state rest (turn p rules.limit u.state)) (devices (choices_of l) (text_state t) few rules.choose given) act_state z
+    Paused z = AsksUnanswered (refused_by (RefusedByPlan l) (λ _. ⊥) (Some rest)) (StepsTo p.lines new (devices c (text_state s) most rules.choose []) u.state rest (turn p rules.limit u.state)) (devices (choices_of l) (text_state t) few rules.choose given) act_state z
 
     turn_asks : Paused pauses.Ended → IsAsked p rules S l.answers l.refused_bound
     turn_asks w =

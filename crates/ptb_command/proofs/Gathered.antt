@@ -105,7 +105,7 @@ module _ {A X : Type 0} (refused : Refusal → Type 0) (o m : Trace) (f : Action
         pause = w.pause;
         refuses = w.refuses;
       }
-  finished d fresh cells a (Err (stops.Broke x)) k h = cc
+  finished d fresh cells a (Err (stops.DeviceFailed x)) k h = cc
 
   -- the screen breaks
   module _ (n : Trace) (adds : (x : X) → Adds (ok x)) (e : Stop) (s : Stops nothing_refused (RefinesPartTo m n idle) n.devices e) where
@@ -120,4 +120,4 @@ module _ {A X : Type 0} (refused : Refusal → Type 0) (o m : Trace) (f : Action
     finish_breaks (Err (stops.Pause z)) k h =
         let w = stop_there (stops.Pause z) k h in
         breaks_before w.left (record { at = λ S a. record { shown = w.continues.begins S a; lines = w.continues.takes S a } }) w.comes
-    finish_breaks (Err (stops.Broke x)) k h = cc
+    finish_breaks (Err (stops.DeviceFailed x)) k h = cc

@@ -359,7 +359,7 @@ module _ (said : List ℕ) (x : Tree) (prompt : List ℕ) where
   line_wanted at errors.Memory = tt
   line_wanted at errors.Write = tt
 
-  unread : (refused : Refusal → Type 0) {o m : Trace} (most : ℕ) (at : Target) (e : DeviceError) → most ≤ m.devices.most → RefinesPart o m (ask_for said x prompt) (goes_on at) → HasBroken refused m.devices.screen m.devices.screen e → Stops refused (RefinesPartTo o (with_most most m) (item_action said x prompt)) (with_most most m).devices (stops.Broke e)
+  unread : (refused : Refusal → Type 0) {o m : Trace} (most : ℕ) (at : Target) (e : DeviceError) → most ≤ m.devices.most → RefinesPart o m (ask_for said x prompt) (goes_on at) → HasBroken refused m.devices.screen m.devices.screen e → Stops refused (RefinesPartTo o (with_most most m) (item_action said x prompt)) (with_most most m).devices (stops.DeviceFailed e)
   unread refused {m = m} most at e fewer a h = record {
     left = wants at;
     screen = m.devices.screen;

@@ -32,7 +32,7 @@ module _ (refused : ReadFault → Type 0) (P : Type 0) where
   missed_none (Err stops.Ended) k h = h
   missed_none (Err stops.NoInput) k h = cc
   missed_none (Err (stops.Pause z)) k h = h
-  missed_none (Err (stops.Broke e)) k h = cc
+  missed_none (Err (stops.DeviceFailed e)) k h = cc
 
   -- at the exit of a `?`
   pub missed_err : {X : Type 0} (r : Result X Stop) (e : Stop) → IsErrAnd r (λ y. y ≡ e) → UnlessMissed refused P (stop_miss e) → UnlessMissed refused P (miss_of r)

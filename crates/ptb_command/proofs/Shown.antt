@@ -22,7 +22,7 @@ use Rattle.ptb_command.specs.Effects.{action_state}
 use Rattle.ptb_command.specs.Devices.{ScreenState, Devices, with_screen, bytes_alone, Shows, nothing_refused, HasBroken}
 use Rattle.ptb_command.specs.declared.stop.Stop.{Stop}
 use Rattle.ptb_command.specs.Traces.{Trace, trace, fresh_after, RefinesPart}
-use Rattle.ptb_command.specs.Stops.{stop_of_screen, WantsLine, Breaks, Stops, RefinesPartTo, Comes}
+use Rattle.ptb_command.specs.Stops.{stop_of_screen, WantsLine, DeviceFails, Stops, RefinesPartTo, Comes}
 use Rattle.ptb_command.proofs.Exchanges.{with_answers_nil}
 use Rattle.ptb_command.proofs.PartRefinement.{leaves_itself, leaves_to, refines_part_refl}
 
@@ -64,7 +64,7 @@ module _ (old new : ScreenState) (d : Devices) (fresh : Bool) (cells : Cells) (b
   }
 
   -- only a part was shown
-  part_shown : (n : ℕ) → Shows old new (take n bytes) → (e : DeviceError) → WantsLine e (Halts (Ends endings.NoInput)) (take n bytes) (show bytes) → HasBroken nothing_refused old new e → Breaks nothing_refused (RefinesPartTo (trace (with_screen old d) fresh cells) (trace (with_screen new d) fresh cells) (show bytes)) (with_screen new d) action_state (Halts (Ends endings.NoInput)) e
+  part_shown : (n : ℕ) → Shows old new (take n bytes) → (e : DeviceError) → WantsLine e (Halts (Ends endings.NoInput)) (take n bytes) (show bytes) → HasBroken nothing_refused old new e → DeviceFails nothing_refused (RefinesPartTo (trace (with_screen old d) fresh cells) (trace (with_screen new d) fresh cells) (show bytes)) (with_screen new d) action_state (Halts (Ends endings.NoInput)) e
   part_shown n s e wants broken = record {
     left = show bytes;
     screen = old;

@@ -115,7 +115,7 @@ module _ {A B : Type 0} (refused : Refusal → Type 0) (R : Devices → Action A
     pause = h.pause;
     refuses = h.refuses;
   }
-  stops_before (stops.Broke e) h = record {
+  stops_before (stops.DeviceFailed e) h = record {
     left = and_then h.left next;
     screen = h.screen;
     bytes = h.bytes;
@@ -141,7 +141,7 @@ module _ {A : Type 0} (refused others : Refusal → Type 0) (more : (r : Refusal
     pause = h.pause;
     refuses = more (Unanswered z h.bound) h.refuses;
   }
-  stops_along (stops.Broke e) h = record {
+  stops_along (stops.DeviceFailed e) h = record {
     left = h.left;
     screen = h.screen;
     bytes = h.bytes;

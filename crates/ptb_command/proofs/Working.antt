@@ -19,7 +19,7 @@ use Rattle.ptb_command.specs.Effects.{action_state}
 use Rattle.ptb_command.specs.Effects.{action_state}
 use Rattle.ptb_command.specs.Devices.{Devices, answers_alone, refused_answers, with_choices}
 use Rattle.ptb_command.specs.Traces.{trace, with_due, still_due, after, once_shown, Leaves, RefinesPart}
-use Rattle.ptb_command.specs.Stops.{stop_of, stop_of_pause, IsRefusal, Waits, Breaks, Stops, RefinesPartTo}
+use Rattle.ptb_command.specs.Stops.{stop_of, stop_of_pause, IsRefusal, AsksUnanswered, DeviceFails, Stops, RefinesPartTo}
 use Rattle.ptb_command.proofs.Effects.{attempt_state}
 use Rattle.ptb_command.proofs.Exchanges.{shows_nothing}
 use Rattle.ptb_command.proofs.PartRefinement.{leaves_under, leaves_to, once_nothing, freshens_nothing, refines_part_under}
@@ -44,7 +44,7 @@ module _ {A : Type 0} (f : Cells → Work A) (c e : Choices) (d : Devices) (fres
         (leaves_under (λ o. map_outcome (λ r. Goes r (once_shown due S)) (λ u. once_shown due S) o) (λ u. once_shown due S) (λ n v. refl) (record { asked = p.asked; rest = p.rest })));
   }
 
-  waits : (refused : Pause → ℤ → Type 0) (z : Pause) → IsRefusal z → Pauses refused (f cells) c e z → Waits (refused_answers refused) (RefinesPartTo (with_due due (trace (with_choices c d) fresh cells)) (with_due due (trace (with_choices e d) fresh cells)) (attempt f)) (with_choices e d) action_state z
+  waits : (refused : Pause → ℤ → Type 0) (z : Pause) → IsRefusal z → Pauses refused (f cells) c e z → AsksUnanswered (refused_answers refused) (RefinesPartTo (with_due due (trace (with_choices c d) fresh cells)) (with_due due (trace (with_choices e d) fresh cells)) (attempt f)) (with_choices e d) action_state z
   waits refused z r p = record {
     left = attempt (λ k. p.left);
     bound = p.bound;
@@ -59,7 +59,7 @@ module _ {A : Type 0} (f : Cells → Work A) (c e : Choices) (d : Devices) (fres
   }
 
   -- what was gathered isn't shown then
-  breaks : (refused : Pause → ℤ → Type 0) → Pauses refused (f cells) c e pauses.Memory → Breaks (refused_answers refused) (RefinesPartTo (with_due due (trace (with_choices c d) fresh cells)) (trace (with_choices e d) fresh cells) (attempt f)) (with_choices e d) action_state (Halts (Ends endings.NoInput)) errors.Memory
+  breaks : (refused : Pause → ℤ → Type 0) → Pauses refused (f cells) c e pauses.Memory → DeviceFails (refused_answers refused) (RefinesPartTo (with_due due (trace (with_choices c d) fresh cells)) (trace (with_choices e d) fresh cells) (attempt f)) (with_choices e d) action_state (Halts (Ends endings.NoInput)) errors.Memory
   breaks refused p = record {
     left = λ S. attempt (λ k. p.left) (once_shown due S);
     screen = d.screen;
@@ -82,7 +82,7 @@ module _ {A : Type 0} (f : Cells → Work A) (c e : Choices) (d : Devices) (fres
   pub has_paused : (refused : Pause → ℤ → Type 0) (z : Pause) → Pauses refused (f cells) c e z → Stops (refused_answers refused) (RefinesPartTo (with_due due (trace (with_choices c d) fresh cells)) (with_due (still_due due (stop_of_pause z)) (trace (with_choices e d) fresh cells)) (attempt f)) (with_choices e d) (stop_of_pause z)
   has_paused refused pauses.Ended p = stops_due _ _ _ _ (stops.Pause pauses.Ended) refl (waits refused pauses.Ended tt p)
   has_paused refused (pauses.OutOfRange k) p = stops_due _ _ _ _ (stops.Pause (pauses.OutOfRange k)) refl (waits refused (pauses.OutOfRange k) tt p)
-  has_paused refused pauses.Memory p = stops_dropped _ _ _ _ (stops.Broke errors.Memory) refl (breaks refused p)
+  has_paused refused pauses.Memory p = stops_dropped _ _ _ _ (stops.DeviceFailed errors.Memory) refl (breaks refused p)
 
   -- a value, which the code has as v
   pub has_value : (w v : A) → v ≡ w → Reaches (f cells) c e (success w) → RefinesPart (with_due due (trace (with_choices c d) fresh cells)) (with_due due (trace (with_choices e d) fresh cells)) (work_action f) (goes_on v)

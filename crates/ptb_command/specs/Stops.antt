@@ -7,7 +7,7 @@
 --     Continues state shown left           what is left takes back nothing
 --     LacksLine choose ends left S         without a line it ends, or asks for an answer
 --     WantsLine e ends bytes left          where the input can't be read, a line is wanted
---     Waits, IsDry, Breaks                 it stops at a question, at an input line, at a device
+--     AsksUnanswered, IsOutOfLines, DeviceFails                 it stops at a question, at an input line, at a device
 --     Stops refused R n e                  it stops for the reason e
 --     still_shows result                   once it comes to this, what is gathered is shown
 --     Miss, stop_miss, miss_of             whether a result reports that a line was asked for without success
@@ -39,19 +39,19 @@ use Rattle.ptb_command.specs.Devices.{ScreenState, Devices, with_screen, Shows, 
 use Rattle.ptb_command.specs.Traces.{Trace, with_due, still_due, RefinesPart}
 
 abbrev pub stop_of_screen : ScreenFault → Stop
-stop_of_screen screens.Write = stops.Broke errors.Write
-stop_of_screen screens.Memory = stops.Broke errors.Memory
+stop_of_screen screens.Write = stops.DeviceFailed errors.Write
+stop_of_screen screens.Memory = stops.DeviceFailed errors.Memory
 
 abbrev pub stop_of_read : ReadFault → Stop
-stop_of_read reads.Read = stops.Broke errors.Read
-stop_of_read reads.TooLong = stops.Broke errors.Read
-stop_of_read reads.Memory = stops.Broke errors.Memory
+stop_of_read reads.Read = stops.DeviceFailed errors.Read
+stop_of_read reads.TooLong = stops.DeviceFailed errors.Read
+stop_of_read reads.Memory = stops.DeviceFailed errors.Memory
 
 -- a chooser that has no memory left is a device that breaks
 abbrev pub stop_of_pause : Pause → Stop
 stop_of_pause pauses.Ended = stops.Pause pauses.Ended
 stop_of_pause (pauses.OutOfRange k) = stops.Pause (pauses.OutOfRange k)
-stop_of_pause pauses.Memory = stops.Broke errors.Memory
+stop_of_pause pauses.Memory = stops.DeviceFailed errors.Memory
 
 abbrev pub stop_of : NoValue → Stop
 stop_of (values.Fault f) = stops.Fault f
@@ -89,7 +89,7 @@ WantsLine errors.Write ends bytes left = Unit {0}
 -- R d g says that it has come to g, with devices that hold d; `refused` is what holds after a refusal
 module _ {A : Type 0} (refused : Refusal → Type 0) (R : Devices → (State → Answers → Outcome A State) → Type 0) (n : Devices) where
   -- the chooser has refused the question that is next
-  pub record Waits (state : Outcome A State → State) (z : Pause) : Type 0 where
+  pub record AsksUnanswered (state : Outcome A State → State) (z : Pause) : Type 0 where
     pub left : State → Answers → Outcome A State
     pub comes : R n left
     pub bound : ℤ
@@ -99,14 +99,14 @@ module _ {A : Type 0} (refused : Refusal → Type 0) (R : Devices → (State →
     pub refuses : refused (Unanswered z bound)
 
   -- a line is wanted next, and the source has none; it ends so without one
-  pub record IsDry (ends : State → A) : Type 0 where
+  pub record IsOutOfLines (ends : State → A) : Type 0 where
     pub left : State → Answers → Outcome A State
     pub comes : R n left
     pub dry : (S : State) (a : Answers) → S.lines ≡ [] → left S a ≡ Done (ends S) a
     pub refuses : refused NoLine
 
   -- a device has failed, or was refused memory
-  pub record Breaks (state : Outcome A State → State) (ends : State → A) (e : DeviceError) : Type 0 where
+  pub record DeviceFails (state : Outcome A State → State) (ends : State → A) (e : DeviceError) : Type 0 where
     pub left : State → Answers → Outcome A State
     -- the screen when it had come there, and the bytes that it has shown since then
     pub screen : ScreenState
@@ -120,9 +120,9 @@ module _ {A : Type 0} (refused : Refusal → Type 0) (R : Devices → (State →
 abbrev pub Stops : {A : Type 0} → (Refusal → Type 0) → (Devices → Action A → Type 0) → Devices → Stop → Type 0
 Stops refused R n (stops.Fault f) = R n (halt (Faults f))
 Stops refused R n stops.Ended = R n (halt (Ends endings.Stop))
-Stops refused R n stops.NoInput = IsDry refused R n (Halts (Ends endings.NoInput))
-Stops refused R n (stops.Pause z) = Waits refused R n action_state z
-Stops refused R n (stops.Broke e) = Breaks refused R n action_state (Halts (Ends endings.NoInput)) e
+Stops refused R n stops.NoInput = IsOutOfLines refused R n (Halts (Ends endings.NoInput))
+Stops refused R n (stops.Pause z) = AsksUnanswered refused R n action_state z
+Stops refused R n (stops.DeviceFailed e) = DeviceFails refused R n action_state (Halts (Ends endings.NoInput)) e
 
 -- what is gathered is shown unless a device broke, or no line was left, before which it was shown
 abbrev pub still_shows : {X : Type 0} → Result X Stop → Bool
@@ -131,7 +131,7 @@ still_shows (Err (stops.Fault f)) = true
 still_shows (Err stops.Ended) = true
 still_shows (Err stops.NoInput) = false
 still_shows (Err (stops.Pause z)) = true
-still_shows (Err (stops.Broke e)) = false
+still_shows (Err (stops.DeviceFailed e)) = false
 
 -- ---- lines that the source didn't give
 
@@ -150,8 +150,8 @@ UnlessMissed refused P MemoryMiss = P ⊎ refused reads.Memory
 
 abbrev pub stop_miss : Stop → Miss
 stop_miss stops.NoInput = LineMiss
-stop_miss (stops.Broke errors.Read) = LineMiss
-stop_miss (stops.Broke errors.Memory) = MemoryMiss
+stop_miss (stops.DeviceFailed errors.Read) = LineMiss
+stop_miss (stops.DeviceFailed errors.Memory) = MemoryMiss
 stop_miss _ = NoMiss
 
 abbrev pub miss_of : {X : Type 0} → Result X Stop → Miss

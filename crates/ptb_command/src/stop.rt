@@ -31,7 +31,7 @@ pub enum Stop {
     /// A question of it has no answer, though there is memory for one.
     Pause(Pause),
     /// A device failed, or was refused memory.
-    Broke(DeviceError),
+    DeviceFailed(DeviceError),
 }
 
 /// A fault that is marked at a place.
@@ -45,7 +45,7 @@ pub(crate) fn fault(kind: FaultKind, mark: usize) -> Stop
 pub(crate) fn still_shows<X: Copy>(done: Result<X, Stop>) -> bool
     ensures { result ≡ still_shows done }
 {
-    !matches!(done, Err(Stop::NoInput | Stop::Broke(_)))
+    !matches!(done, Err(Stop::NoInput | Stop::DeviceFailed(_)))
 }
 
 impl From<ScreenFault> for Stop {
@@ -55,8 +55,8 @@ impl From<ScreenFault> for Stop {
 
     fn from(fault: ScreenFault) -> Stop {
         match fault {
-            ScreenFault::Write => Stop::Broke(DeviceError::Write),
-            ScreenFault::Memory => Stop::Broke(DeviceError::Memory),
+            ScreenFault::Write => Stop::DeviceFailed(DeviceError::Write),
+            ScreenFault::Memory => Stop::DeviceFailed(DeviceError::Memory),
         }
     }
 }
@@ -68,8 +68,8 @@ impl From<ReadFault> for Stop {
 
     fn from(fault: ReadFault) -> Stop {
         match fault {
-            ReadFault::Read | ReadFault::TooLong => Stop::Broke(DeviceError::Read),
-            ReadFault::Memory => Stop::Broke(DeviceError::Memory),
+            ReadFault::Read | ReadFault::TooLong => Stop::DeviceFailed(DeviceError::Read),
+            ReadFault::Memory => Stop::DeviceFailed(DeviceError::Memory),
         }
     }
 }
@@ -82,7 +82,7 @@ impl From<ptb_expr::Stop> for Stop {
     fn from(stop: ptb_expr::Stop) -> Stop {
         match stop {
             ptb_expr::Stop::Fault(fault) => Stop::Fault(fault),
-            ptb_expr::Stop::Pause(Pause::Memory) => Stop::Broke(DeviceError::Memory),
+            ptb_expr::Stop::Pause(Pause::Memory) => Stop::DeviceFailed(DeviceError::Memory),
             ptb_expr::Stop::Pause(pause) => Stop::Pause(pause),
         }
     }

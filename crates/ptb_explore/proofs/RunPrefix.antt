@@ -20,7 +20,7 @@ use Rattle.ptb_command.specs.Devices.{ScreenState, devices, Refusal, nothing_ref
 use Rattle.ptb_command.specs.Configuration.{Configuration}
 use Rattle.ptb_command.specs.Effects.{act_state}
 use Rattle.ptb_command.specs.Representation.{Represents}
-use Rattle.ptb_command.specs.Stops.{Waits, IsDry}
+use Rattle.ptb_command.specs.Stops.{AsksUnanswered, IsOutOfLines}
 use Rattle.ptb_machine.specs.Steps.{QuietTurns, Steps}
 use Rattle.ptb_machine.specs.TurnResults.{StepsTo, goes, ends, StepComes}
 use Rattle.ptb_answers.specs.declared.rules.Rules.{Rules}
@@ -140,7 +140,7 @@ module _ (laws : RunLaws) (p : StoredProgram) (input : List (List ℕ)) (rules :
         (h.0, holds_to (play p input rules) d _ _ (over_is e x.leads.state x.leads.represents (shown_there m new c d s t given left rest most few u (ends e) x)) h.1)
 
     -- INPUT finds no line left
-    pub ends_dry : (refuses : Pause → ℤ → Type 0) → IsDry (refused_by refuses (λ _. ⊥) (Some rest)) (StepsTo p.lines new (devices c (text_state s) most rules.choose []) u.state rest (turn p rules.limit u.state)) (devices d (text_state t) few rules.choose given) (Over endings.NoInput) → (d.plan ≡ c.plan) × Ended endings.NoInput
+    pub ends_dry : (refuses : Pause → ℤ → Type 0) → IsOutOfLines (refused_by refuses (λ _. ⊥) (Some rest)) (StepsTo p.lines new (devices c (text_state s) most rules.choose []) u.state rest (turn p rules.limit u.state)) (devices d (text_state t) few rules.choose given) (Over endings.NoInput) → (d.plan ≡ c.plan) × Ended endings.NoInput
     ends_dry refuses w =
         let x = w.comes in
         let T : State = x.leads.state in
@@ -150,7 +150,7 @@ module _ (laws : RunLaws) (p : StoredProgram) (input : List (List ℕ)) (rules :
 
   module _ (m new : Configuration) (c d : Choices) (bound : ℤ) (s t : List ℕ) (given left rest : List (List ℕ)) (most few : ℕ) (u : IsRunPrefix p input rules c s left m) where
     -- the plan's next answer is outside its bound
-    ends_outside : (k : ℤ) → Waits (refused_by (RefusedByPlan d bound) (λ _. ⊥) (Some rest)) (StepsTo p.lines new (devices c (text_state s) most rules.choose []) u.state rest (turn p rules.limit u.state)) (devices d (text_state t) few rules.choose given) act_state (pauses.OutOfRange k) → (d.plan ≡ c.plan) × NextIsOutside (play p input rules) d bound
+    ends_outside : (k : ℤ) → AsksUnanswered (refused_by (RefusedByPlan d bound) (λ _. ⊥) (Some rest)) (StepsTo p.lines new (devices c (text_state s) most rules.choose []) u.state rest (turn p rules.limit u.state)) (devices d (text_state t) few rules.choose given) act_state (pauses.OutOfRange k) → (d.plan ≡ c.plan) × NextIsOutside (play p input rules) d bound
     ends_outside k w =
         let x = w.comes in
         let T : State = x.leads.state in

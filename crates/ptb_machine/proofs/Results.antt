@@ -62,7 +62,7 @@ result_over o n number text (Err stops.NoInput) r is = ap is_over is.is
 result_over o n number text (Err (stops.Pause pauses.Ended)) r is = ap is_over is.is
 result_over o n number text (Err (stops.Pause (pauses.OutOfRange k))) r is = ap is_over is.is
 result_over o n number text (Err (stops.Pause pauses.Memory)) r is = ap is_over is.is
-result_over o n number text (Err (stops.Broke x)) r is = ap is_over is.is
+result_over o n number text (Err (stops.DeviceFailed x)) r is = ap is_over is.is
 
 -- it goes on where the command was done
 pub result_goes : (o n : Trace) (number : ℕ) (text : List ℕ) (done : Result (Unit {0}) Stop) (r : Result (Option Ending) RunFault) → IsResultOf o n number text done r → (r ≡ Ok None ↔ is_err done ≡ false)
@@ -97,7 +97,7 @@ not_spent o n number text (Err stops.NoInput) r is = ap is_spent is.is
 not_spent o n number text (Err (stops.Pause pauses.Ended)) r is = ap is_spent is.is
 not_spent o n number text (Err (stops.Pause (pauses.OutOfRange k))) r is = ap is_spent is.is
 not_spent o n number text (Err (stops.Pause pauses.Memory)) r is = ap is_spent is.is
-not_spent o n number text (Err (stops.Broke x)) r is = ap is_spent is.is ∙ error_unspent x
+not_spent o n number text (Err (stops.DeviceFailed x)) r is = ap is_spent is.is ∙ error_unspent x
 
 -- it was not, where a command was done or stopped
 pub result_unspent : (o n : Trace) (number : ℕ) (text : List ℕ) (done : Result (Unit {0}) Stop) (r : Result (Option Ending) RunFault) → IsResultOf o n number text done r → r ≡ Err faults.Spent → ⊥
@@ -110,7 +110,7 @@ result_unspent o n number text done r is e =
 reported_unmissed : (refused : ReadFault → Type 0) (P : Type 0) → P → (kind : FaultKind) (shown : Result (Unit {0}) ScreenFault) → UnlessMissed refused P (step_miss (reported kind shown))
 reported_unmissed refused P p kind shown = miss_unmissed refused P p (step_miss (reported kind shown))
 
-error_missed : (e : DeviceError) → step_miss (Err (fault_of e)) ≡ stop_miss (stops.Broke e)
+error_missed : (e : DeviceError) → step_miss (Err (fault_of e)) ≡ stop_miss (stops.DeviceFailed e)
 error_missed errors.Memory = refl
 error_missed errors.Read = refl
 error_missed errors.Write = refl
@@ -129,7 +129,7 @@ result_missed refused P o n number text done r is h = by_result done is h
     by_result (Err (stops.Pause pauses.Ended)) is h = is_so _ is.is h
     by_result (Err (stops.Pause (pauses.OutOfRange k))) is h = is_so _ is.is h
     by_result (Err (stops.Pause pauses.Memory)) is h = is_so _ is.is (inl h)
-    by_result (Err (stops.Broke x)) is h = is_so _ is.is (subst (UnlessMissed refused P) (sym (error_missed x)) h)
+    by_result (Err (stops.DeviceFailed x)) is h = is_so _ is.is (subst (UnlessMissed refused P) (sym (error_missed x)) h)
 
 -- ---- devices
 

@@ -20,7 +20,7 @@ use Rattle.ptb_machine.specs.Play.{Last, last_in, after_turn, turn, all_turns, l
 use Rattle.ptb_command.specs.Effects.{act_state, Begins, TakesLines}
 use Rattle.ptb_command.specs.Devices.{ScreenState, Devices, with_screen, Shows, Exchange, no_exchange, both_exchanges, Exchanges, MayFollow, Refusal, nothing_refused}
 use Rattle.ptb_command.specs.Traces.{Leaves}
-use Rattle.ptb_command.specs.Stops.{AsksNext, Continues, LacksLine, Waits, IsDry, Breaks}
+use Rattle.ptb_command.specs.Stops.{AsksNext, Continues, LacksLine, AsksUnanswered, IsOutOfLines, DeviceFails}
 use Rattle.ptb_answers.specs.declared.rules.Rules.{Rules}
 use Rattle.ptb_command.specs.Configuration.{Configuration}
 use Rattle.ptb_command.specs.Representation.{PlacesAre, Represents}
@@ -146,7 +146,7 @@ played_shown (Asks k S) = refl
 played_shown (Out k S) = refl
 
 -- a question is refused
-run_waits : (refused : Refusal → Type 0) (p : StoredProgram) (rules : Rules) (m : Configuration) (o d : Devices) (input rest : List (List ℕ)) (z : Pause) → input ≡ d.given ++ rest → (w : Waits {A = Last} refused (RunsTo p rules m o input rest) d last_state z) → IsUnanswered refused p rules input o d z
+run_waits : (refused : Refusal → Type 0) (p : StoredProgram) (rules : Rules) (m : Configuration) (o d : Devices) (input rest : List (List ℕ)) (z : Pause) → input ≡ d.given ++ rest → (w : AsksUnanswered {A = Last} refused (RunsTo p rules m o input rest) d last_state z) → IsUnanswered refused p rules input o d z
 run_waits refused p rules m o d input rest z k w =
     let T = w.comes.leads.state in
     record {
@@ -236,7 +236,7 @@ module _ (refused : Refusal → Type 0) (p : StoredProgram) (rules : Rules) (m n
     ended : (ending : Ending) → LastStep e (ends ending) → IsFinished refused p rules whole o (onto d e) ending
     ended ending s = run_ends refused p rules n o (onto d e) whole rest ending (then_turns p rules.limit (ends ending)) (last e (ends ending) s) refl (λ a. refl)
 
-    waited : (z : Pause) → Waits refused LastStep e act_state z → IsUnanswered refused p rules whole o (onto d e) z
+    waited : (z : Pause) → AsksUnanswered refused LastStep e act_state z → IsUnanswered refused p rules whole o (onto d e) z
     waited z w = run_waits refused p rules n o (onto d e) whole rest z refl (record {
       left = then_turns p rules.limit w.left;
       bound = w.bound;
@@ -253,7 +253,7 @@ module _ (refused : Refusal → Type 0) (p : StoredProgram) (rules : Rules) (m n
         run_ends refused p rules n o (onto d e) whole rest endings.NoInput (then_turns p rules.limit left) (last e left x) refl
         (λ a. ap (λ u. go_on u (after_turn (all_turns p rules.limit))) (dry a))
 
-    drained : (w : IsDry refused LastStep e (Over endings.NoInput)) → rest ≡ [] → IsFinished refused p rules (d.given ++ e.given) o (onto d e) endings.NoInput
+    drained : (w : IsOutOfLines refused LastStep e (Over endings.NoInput)) → rest ≡ [] → IsFinished refused p rules (d.given ++ e.given) o (onto d e) endings.NoInput
     drained w none =
         subst (λ (input : List (List ℕ)). IsFinished refused p rules input o (onto d e) endings.NoInput)
         (ap (λ l. (d.given ++ e.given) ++ l) none ∙ append-nil (d.given ++ e.given))
@@ -282,7 +282,7 @@ module _ (refused : Refusal → Type 0) (p : StoredProgram) (rules : Rules) (m n
     }
 
     -- where the input can't be read a line was wanted
-    module _ (w : Breaks refused LastStep e act_state (Over endings.NoInput) errors.Read) where
+    module _ (w : DeviceFails refused LastStep e act_state (Over endings.NoInput) errors.Read) where
       abbrev run_so : RunsTo p rules n o whole rest (onto d (with_screen w.screen e)) (then_turns p rules.limit w.left)
       run_so = last (with_screen w.screen e) w.left w.comes
 
@@ -306,12 +306,12 @@ module _ (refused : Refusal → Type 0) (p : StoredProgram) (rules : Rules) (m n
           run_so.leads.choose
           (lacks run_so.leads.state.choose (subst (λ (choose : Option ℤ). IfSome choose (λ n. pos 1 ≤ℤ n)) (sym run_so.leads.choose) rules.in_range) (w.line.1 run_so.leads.state (run_so.leads.lines ∙ none)))
 
-    dry_by : (error : DeviceError) (w : Breaks refused LastStep e act_state (Over endings.NoInput) error) → error ≡ errors.Read → rest ≡ [] → LacksInput refused p rules whole o (onto d e) rules.choose ((last (with_screen w.screen e) w.left w.comes).exchange.bytes ++ w.bytes) (playing (then_turns p rules.limit w.left) (last (with_screen w.screen e) w.left w.comes).leads.state)
+    dry_by : (error : DeviceError) (w : DeviceFails refused LastStep e act_state (Over endings.NoInput) error) → error ≡ errors.Read → rest ≡ [] → LacksInput refused p rules whole o (onto d e) rules.choose ((last (with_screen w.screen e) w.left w.comes).exchange.bytes ++ w.bytes) (playing (then_turns p rules.limit w.left) (last (with_screen w.screen e) w.left w.comes).leads.state)
     dry_by errors.Read w is none = unread_dry w none
     dry_by errors.Memory w is none = absurd (let clash : errors.Memory ≡ errors.Read = is in cc)
     dry_by errors.Write w is none = absurd (let clash : errors.Write ≡ errors.Read = is in cc)
 
-    broken : (error : DeviceError) → Breaks refused LastStep e act_state (Over endings.NoInput) error → IsUnfinished refused p rules whole o (onto d e) error
+    broken : (error : DeviceError) → DeviceFails refused LastStep e act_state (Over endings.NoInput) error → IsUnfinished refused p rules whole o (onto d e) error
     broken error w =
         let x = last (with_screen w.screen e) w.left w.comes in
         let shows = shows_then o.screen w.screen e.screen x.exchange.bytes w.bytes x.exchanges.shows w.shows in

@@ -49,6 +49,6 @@ pub(crate) fn result_of<C: Chooser, S: Screen, L: LineSource>(
         Err(Stop::Pause(Pause::Ended)) => Ok(Some(Ending::NoAnswer)),
         Err(Stop::Pause(Pause::OutOfRange(_))) => Ok(Some(Ending::BadAnswer)),
         Err(Stop::Pause(Pause::Memory)) => Err(RunFault::Memory),
-        Err(Stop::Broke(error)) => Err(fault_of(error)),
+        Err(Stop::DeviceFailed(error)) => Err(fault_of(error)),
     }
 }

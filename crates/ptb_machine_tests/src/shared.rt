@@ -133,7 +133,7 @@ macro_rules! fault {
 pub(crate) use fault;
 
 // A command that was stopped by a write that failed.
-pub(crate) const UNWRITTEN: Result<usize, Stop> = Err(Stop::Broke(DeviceError::Write));
+pub(crate) const UNWRITTEN: Result<usize, Stop> = Err(Stop::DeviceFailed(DeviceError::Write));
 
 // The memory of the programs.
 pub(crate) const MEMORY: u16 = 4096;

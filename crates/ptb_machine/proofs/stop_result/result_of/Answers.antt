@@ -88,10 +88,10 @@ returns-in-Err-Pause-Memory g c = record {
   same = record { chooser = refl; screen = refl; source = refl; rules = refl };
 }
 
-pub returns-in-Err-Broke : goal.returns-in-Err-Broke
-returns-in-Err-Broke g c = record {
+pub returns-in-Err-DeviceFailed : goal.returns-in-Err-DeviceFailed
+returns-in-Err-DeviceFailed g c = record {
   comes = λ given cells n text at.
-      result_stopped _ _ _ _ (stops.Broke c.in-Err-Broke.error) _ (record { is = ap Err c.fault_of.ensures; same = refl }) (c.in-Err-Broke.is ∙ ap Err (rw c.in-Err-Broke.is at c.in-Err-Broke.field-0-is));
+      result_stopped _ _ _ _ (stops.DeviceFailed c.in-Err-DeviceFailed.error) _ (record { is = ap Err c.fault_of.ensures; same = refl }) (c.in-Err-DeviceFailed.is ∙ ap Err (rw c.in-Err-DeviceFailed.is at c.in-Err-DeviceFailed.field-0-is));
   chooser = refl;
   same = record { chooser = refl; screen = refl; source = refl; rules = refl };
 }
