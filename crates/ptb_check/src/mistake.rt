@@ -9,7 +9,7 @@ ghost use Rattle.ptb_check.specs.CodeMistakes.{code_mistake, destination_fail, p
 ghost use Rattle.ptb_check.specs.Mistakes.{command_mistake, jump_mistake};
 
 use crate::laws::code_mistake_laws;
-use ptb_command::{CommandCode, Destination, Expression, Operation, beginning_of};
+use ptb_command::{CommandCode, Destination, Expression, Operation, start_of};
 use ptb_expr::{Fault, FaultKind, Step};
 use ptb_text::Program;
 
@@ -54,7 +54,7 @@ fn only_number(steps: &[Step]) -> Option<i16>
 fn jump_mistake(program: &Program, number: Option<i16>, end: u8) -> Option<Fault>
     ensures { result ≡ jump_mistake program.now.lines end number }
 {
-    if beginning_of(program, number?).is_some() {
+    if start_of(program, number?).is_some() {
         return None;
     }
     Some(Fault {

@@ -21,7 +21,7 @@ use Rattle.ptb_expr.specs.Value.{fault, or_fault, in_range, random_number, value
 use Rattle.ptb_command.specs.declared.ending.Ending.{Ending}
 use Rattle.ptb_command.specs.declared.ending.Ending.TheVariants as endings
 use Rattle.ptb_command.specs.Commands.{Part, Assign, Say, Width, Show, NewLine, Take, Letter, Operand, Defect, Command}
-use Rattle.ptb_command.specs.State.{Place, Loop, Call, State, nesting, nesting_limit, beginning_of, place_after, next_index, text_of}
+use Rattle.ptb_command.specs.State.{Place, Loop, Call, State, nesting, nesting_limit, start_of, place_after, next_index, text_of}
 use Rattle.ptb_command.specs.Actions.{Faults, Ends, Progress, Goes, Halts, Action, and_then, goes_on, halt, change, show, attempt, work_action}
 
 -- ---- values
@@ -146,7 +146,7 @@ go_to q = change (λ S. record S { place = q })
 
 -- the beginning of the statement of a number, if there is one
 abbrev pub statement : Statements → ℤ → Option Place
-statement p (pos n) = if is_some (text_at p n) then Some (beginning_of n) else None
+statement p (pos n) = if is_some (text_at p n) then Some (start_of n) else None
 statement p (negsuc n) = None
 
 abbrev pub is_full : State → Bool

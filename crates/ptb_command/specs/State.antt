@@ -46,15 +46,15 @@ nesting_limit = 256
 
 -- ---- places
 
-abbrev pub beginning_of : ℕ → Place
-beginning_of n = record { number = n; index = 0 }
+abbrev pub start_of : ℕ → Place
+start_of n = record { number = n; index = 0 }
 
 abbrev pub first_place : Statements → Option Place
-first_place p = option_map beginning_of (first_number p)
+first_place p = option_map start_of (first_number p)
 
 -- the beginning of the statement after number n
 abbrev pub place_after : Statements → ℕ → Option Place
-place_after p n = option_map beginning_of (number_after p n)
+place_after p n = option_map start_of (number_after p n)
 
 abbrev pub next_index : Place → Place
 next_index q = record { number = q.number; index = q.index + 1 }

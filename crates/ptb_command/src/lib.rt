@@ -49,6 +49,6 @@ pub use saved::{SavedRegisters, SavedStack};
 pub use short::ShortCommand;
 pub use showing::put;
 pub use stack::{NESTING_LIMIT, Open, OpenLoop, Stack};
-pub use statements::{beginning_of, first_place, is_zero, line_at, place_after};
+pub use statements::{first_place, is_zero, line_at, place_after, start_of};
 pub use stop::{DeviceError, Stop};
 pub use translation::translate;

@@ -62,7 +62,7 @@ pub fn place_after(program: &Program, statement: usize) -> Option<Location>
 }
 
 /// The beginning of the statement of this number, if there is one.
-pub fn beginning_of(program: &Program, number: i16) -> Option<Location>
+pub fn start_of(program: &Program, number: i16) -> Option<Location>
     ensures { PlacesAre program.now.lines (statement program.now.lines number) result }
 {
     command_laws();

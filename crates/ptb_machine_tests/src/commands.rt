@@ -2,8 +2,8 @@
 
 use crate::shared::{MEMORY, execute_first, expect_same, fault, letter, plain_rules};
 use ptb_command::{
-    CommandIo, Location, OpenLoop, Registers, SavedRegisters, Stack, Stop, beginning_of,
-    first_place, is_zero, line_at, next_command, place_after, put,
+    CommandIo, Location, OpenLoop, Registers, SavedRegisters, Stack, Stop, first_place, is_zero,
+    line_at, next_command, place_after, put, start_of,
 };
 use ptb_devices::{Line, Lines, TextScreen};
 use ptb_expr::{Listed, Pause, Store};
@@ -431,7 +431,7 @@ fn places(rt: HostRuntime) -> Result<(), Fail> {
         );
     }
     for &(number, place) in BEGINNINGS {
-        expect_same(&rt, "line", numbers(beginning_of(&program, number)), place);
+        expect_same(&rt, "line", numbers(start_of(&program, number)), place);
     }
     Ok(())
 }
