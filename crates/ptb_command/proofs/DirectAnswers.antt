@@ -15,10 +15,10 @@ use Rattle.ptb_command.specs.Act.{ask_for, newline}
 use Rattle.ptb_command.specs.Actions.{goes_on}
 use Rattle.ptb_command.specs.Devices.{Devices, with_choices}
 use Rattle.ptb_command.specs.Traces.{Trace, trace, with_due, RefinesPart}
-use Rattle.ptb_command.proofs.Evaluating.{target_letter}
+use Rattle.ptb_command.proofs.Evaluations.{target_letter}
 use Rattle.ptb_command.proofs.Gathered.{gathered}
-use Rattle.ptb_command.proofs.Inputting.{ask_known_refines_part, line_left, line_stored, line_values}
-use Rattle.ptb_command.proofs.Letting.{store_refines_part}
+use Rattle.ptb_command.proofs.InputItems.{ask_known_refines_part, line_left, line_stored, line_values}
+use Rattle.ptb_command.proofs.Assignments.{store_refines_part}
 
 -- what is named has its prompt
 pub prompt_known : (prompt name : List ℕ) (Named : Type 0) → (prompt ≡ name ++ 58 ∷ []) ⊎ (Named → ⊥) → Named → prompt ≡ name ++ 58 ∷ []

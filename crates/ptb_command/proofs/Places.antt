@@ -10,7 +10,7 @@ use Rattle.ptb_command.specs.Items.{Round, Last, Onward, in_front, with_others, 
 use Rattle.ptb_command.specs.Commands.{Part, Command, command_at, next_begin, command_and, after_command, command_unless, command_round, commands_from, commands}
 use Rattle.ptb_command.specs.Places.{At, next_place, begin_of, commands_after}
 use Rattle.ptb_command.proofs.Sequences.{items_by_round}
-use Rattle.ptb_command.proofs.Ahead.{RoundOn, commands_on, commands_advance}
+use Rattle.ptb_command.proofs.CommandOrder.{RoundOn, commands_on, commands_advance}
 
 -- ---- indexes
 

@@ -21,7 +21,7 @@ pub mod Stacks
 pub mod Loops
 pub mod Code
 pub mod Execution
-pub mod Showing
+pub mod ScreenOperations
 pub mod Translation
 pub mod Values
 pub mod Plain

@@ -8,7 +8,7 @@ ghost use Rattle.ptb_command.specs.Devices.{Devices, screen_state, with_screen, 
 ghost use Rattle.ptb_command.specs.Traces.{trace, with_due};
 ghost use Rattle.ptb_command.specs.Stops.{Comes};
 
-use crate::showing::show;
+use crate::output::show;
 use crate::stop::Stop;
 use ptb_devices::Screen;
 use std::marker::Model;

@@ -20,7 +20,7 @@ use Rattle.ptb_command.specs.Act.{report_bytes}
 use Rattle.ptb_command.specs.Traces.{Trace}
 use Rattle.ptb_command.specs.Reports.{IsShown}
 use Rattle.ptb_command.specs.Stops.{UnlessMissed, stop_miss, miss_of}
-use Rattle.ptb_command.proofs.Missed.{miss_unmissed}
+use Rattle.ptb_command.proofs.MissedLines.{miss_unmissed}
 use Rattle.ptb_machine.specs.CommandResults.{fault_of, reported, IsResultOf}
 use Rattle.ptb_machine.specs.Steps.{step_miss}
 

@@ -1,7 +1,7 @@
 -- This file answers what is left to prove of `first_word`.
 use Rattle.std.proofs.Common.{refl}
 use Rattle.ptb_words.specs.declared.word.Table.TheVariants.{Commands}
-use Rattle.ptb_command.proofs.Finding.{command_word, no_command_word}
+use Rattle.ptb_command.proofs.FoundParts.{command_word, no_command_word}
 use Rattle.ptb_command.proofs.reads.first_word.Goals as goal
 
 pub returns-in-Some-clause-first : goal.returns-in-Some-clause-first

@@ -10,8 +10,8 @@ use Rattle.ptb_command.specs.CommandIo.{io_devices}
 use Rattle.ptb_command.specs.Traces.{trace, with_due, RefinesPart}
 use Rattle.ptb_command.proofs.Actions.{stops_unrefused}
 use Rattle.ptb_command.proofs.Borrows.{devices_then}
-use Rattle.ptb_command.proofs.Inputting.{chosen_value, chosen_stops, instead_value_stops, instead_digits_stops, instead_newline_stops, instead_stored}
-use Rattle.ptb_command.proofs.Letting.{store_refines_part}
+use Rattle.ptb_command.proofs.InputItems.{chosen_value, chosen_stops, instead_value_stops, instead_digits_stops, instead_newline_stops, instead_stored}
+use Rattle.ptb_command.proofs.Assignments.{store_refines_part}
 use Rattle.ptb_command.proofs.Stops.{comes_err}
 use Rattle.ptb_command.proofs.execution.input.answer_instead.Goals as goal
 

@@ -8,10 +8,10 @@ use Rattle.ptb_command.specs.CommandIo.{io_devices, io_trace}
 use Rattle.ptb_devices.specs.Sources.{given_lines, ready_lines}
 use Rattle.ptb_command.proofs.Borrows.{borrows_lent}
 use Rattle.ptb_command.proofs.Due.{comes_emptied}
-use Rattle.ptb_command.proofs.Inputting.{gives_same, gives_no_more, gives_one_more, none_given, fewer_left}
-use Rattle.ptb_command.proofs.Missed.{given_missed, fewer_lines, falls_one, missed_same}
+use Rattle.ptb_command.proofs.InputItems.{gives_same, gives_no_more, gives_one_more, none_given, fewer_left}
+use Rattle.ptb_command.proofs.MissedLines.{given_missed, fewer_lines, falls_one, missed_same}
 use Rattle.ptb_command.proofs.PartRefinement.{refines_part_then}
-use Rattle.ptb_command.proofs.Answering.{answering_stops, answering_unshown, answering_unread, answering_ends, answering_instead, answering_fails, answering_done, answering_again, waiting}
+use Rattle.ptb_command.proofs.LineAnswers.{answering_stops, answering_unshown, answering_unread, answering_ends, answering_instead, answering_fails, answering_done, answering_again, waiting}
 use Rattle.ptb_command.proofs.execution.input.take_answer.Goals as goal
 
 pub answers-init : goal.answers-init

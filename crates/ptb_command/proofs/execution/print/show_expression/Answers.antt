@@ -3,7 +3,7 @@ use Rattle.std.proofs.Common.{◌≡◌, refl, rules, to_z, of_z, w16}
 use Rattle.ptb_command.specs.Commands.{Show}
 use Rattle.ptb_command.specs.CommandIo.{io_devices}
 use Rattle.ptb_command.proofs.Borrows.{devices_then}
-use Rattle.ptb_command.proofs.Comings.{show_comes}
+use Rattle.ptb_command.proofs.PartResults.{show_comes}
 use Rattle.ptb_command.proofs.Parts.{show_value_stops}
 use Rattle.ptb_command.proofs.ShownParts.{ok_never}
 use Rattle.ptb_command.proofs.Stops.{comes_err}

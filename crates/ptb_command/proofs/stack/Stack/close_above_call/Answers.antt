@@ -4,7 +4,7 @@ use Rattle.ptb_command.specs.declared.stack.Open.{Open}
 use Rattle.ptb_command.specs.declared.stack.Open.TheVariants as opens
 use Rattle.ptb_command.specs.Stacks.{call_of}
 use Rattle.ptb_command.proofs.Nesting.{reverse_push}
-use Rattle.ptb_command.proofs.Newest.{call_brought}
+use Rattle.ptb_command.proofs.NewestOpens.{call_brought}
 use Rattle.ptb_command.proofs.stack.Stack.close_above_call.Goals as goal
 
 pub returns : goal.returns

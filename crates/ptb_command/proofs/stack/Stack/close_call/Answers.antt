@@ -1,5 +1,5 @@
 -- This file answers that the newest call is closed.
-use Rattle.ptb_command.proofs.Newest.{call_closed}
+use Rattle.ptb_command.proofs.NewestOpens.{call_closed}
 use Rattle.ptb_command.proofs.stack.Stack.close_call.Goals as goal
 
 pub returns : goal.returns

@@ -1,6 +1,6 @@
 -- This file answers which loop becomes the newest.
 use Rattle.std.proofs.Common.{refl}
-use Rattle.ptb_command.proofs.Newest.{newest_given}
+use Rattle.ptb_command.proofs.NewestOpens.{newest_given}
 use Rattle.ptb_command.proofs.stack.Stack.close_newer.Goals as goal
 
 pub returns-then-is_newest : goal.returns-then-is_newest

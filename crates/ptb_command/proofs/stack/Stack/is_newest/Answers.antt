@@ -1,7 +1,7 @@
 -- This file answers that the loop that was found is the newest.
 use Rattle.std.proofs.Common.{sym, ◌∙◌}
 use Rattle.std.proofs.lemmas.Bool.{eqb-true}
-use Rattle.ptb_command.proofs.Newest.{newest_stays}
+use Rattle.ptb_command.proofs.NewestOpens.{newest_stays}
 use Rattle.ptb_command.proofs.stack.Stack.is_newest.Goals as goal
 
 pub returns-in-Some : goal.returns-in-Some

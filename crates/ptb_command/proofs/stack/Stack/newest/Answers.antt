@@ -2,7 +2,7 @@
 use Rattle.std.proofs.Common.{List, [], ◌∷◌, ap, sym, ◌∙◌, reverse}
 use Rattle.ptb_command.specs.declared.stack.Open.{Open}
 use Rattle.ptb_command.specs.Stacks.{newest_loop}
-use Rattle.ptb_command.proofs.Newest.{newest_last}
+use Rattle.ptb_command.proofs.NewestOpens.{newest_last}
 use Rattle.ptb_command.proofs.stack.Stack.newest.Goals as goal
 
 pub returns-in-Loop : goal.returns-in-Loop

@@ -2,7 +2,7 @@
 use Rattle.std.proofs.Common.{List, [], ◌∷◌, ap, sym, ◌∙◌, reverse}
 use Rattle.ptb_command.specs.declared.stack.Open.{Open}
 use Rattle.ptb_command.specs.Stacks.{newest_return}
-use Rattle.ptb_command.proofs.Newest.{return_last}
+use Rattle.ptb_command.proofs.NewestOpens.{return_last}
 use Rattle.ptb_command.proofs.stack.Stack.newest_return.Goals as goal
 
 pub returns-in-Loop : goal.returns-in-Loop

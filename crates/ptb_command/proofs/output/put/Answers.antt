@@ -1,8 +1,8 @@
 -- This file answers what is left to prove of `put`.
 use Rattle.std.proofs.Common.{refl}
 use Rattle.ptb_command.proofs.Shown.{shown, not_shown}
-use Rattle.ptb_command.proofs.Reporting.{shown_err}
-use Rattle.ptb_command.proofs.showing.put.Goals as goal
+use Rattle.ptb_command.proofs.ShownPieces.{shown_err}
+use Rattle.ptb_command.proofs.output.put.Goals as goal
 
 pub returns-in_err-put : goal.returns-in_err-put
 returns-in_err-put g c d cells =

@@ -40,10 +40,10 @@ use Rattle.ptb_command.proofs.Exchanges.{shows_nothing, with_answers_nil}
 use Rattle.ptb_command.proofs.PartRefinement.{leaves_to, leaves_itself, after_nothing, once_nothing, freshens_nothing, refines_part_refl, refines_part_then}
 use Rattle.ptb_command.proofs.Stops.{GoesForward, forward_itself, Adds, parts_add, attempt_adds, stops_after}
 use Rattle.ptb_command.proofs.Actions.{goes_adds, show_adds, then_adds, work_action_adds, refines_part_on, stops_first}
-use Rattle.ptb_command.proofs.Letting.{store_adds}
+use Rattle.ptb_command.proofs.Assignments.{store_adds}
 use Rattle.ptb_command.proofs.Parts.{refines_part_part, stops_part}
 use Rattle.ptb_command.proofs.Pieces.{both_move, first_stops, second_stops}
-use Rattle.ptb_command.proofs.Working.{has_result, has_paused, has_value, has_no_value}
+use Rattle.ptb_command.proofs.WorkedParts.{has_result, has_paused, has_value, has_no_value}
 
 -- ---- a line is worth a value, or has a fault
 

@@ -19,8 +19,8 @@ use Rattle.ptb_command.specs.Stops.{stop_of_read, Stops, RefinesPartTo, Comes}
 use Rattle.ptb_command.specs.Traces.{Trace, trace, with_due, still_due, RefinesPart}
 use Rattle.ptb_command.proofs.Actions.{refines_part_on, stops_unrefused}
 use Rattle.ptb_command.proofs.Due.{stops_none}
-use Rattle.ptb_command.proofs.Inputting.{with_most, with_given, fewer_left, flush_stops, line_left, line_asked, take_ask_stops, take_unread, take_dry, take_instead, answers_too}
-use Rattle.ptb_command.proofs.Missed.{none_more}
+use Rattle.ptb_command.proofs.InputItems.{with_most, with_given, fewer_left, flush_stops, line_left, line_asked, take_ask_stops, take_unread, take_dry, take_instead, answers_too}
+use Rattle.ptb_command.proofs.MissedLines.{none_more}
 use Rattle.ptb_command.proofs.PartRefinement.{refines_part_then}
 use Rattle.ptb_command.proofs.Stops.{comes_err, comes_after, comes_more, stops_after, stops_more}
 
