@@ -28,7 +28,7 @@ use Rattle.ptb_command.specs.declared.stop.Stop.TheVariants as stops
 use Rattle.ptb_command.specs.Commands.{Part, Take}
 use Rattle.ptb_command.specs.State.{State}
 use Rattle.ptb_command.specs.Actions.{Ends, Progress, Goes, Halts, Action, on_progress, and_then, goes_on, halt, show, attempt, or_halt, work_action}
-use Rattle.ptb_command.specs.Act.{newline, word_of, target_action, store, take_line, ask_for, store_or_again, answer_instead, without_line, input_action, parts_action}
+use Rattle.ptb_command.specs.Act.{newline, fault_word, target_action, store, take_line, ask_for, store_or_again, answer_instead, without_line, input_action, parts_action}
 use Rattle.ptb_command.specs.Act.{item_action}
 use Rattle.ptb_command.specs.Effects.{action_state}
 use Rattle.ptb_devices.specs.Sources.{given_lines}
@@ -236,7 +236,7 @@ module _ (said : List ℕ) (x : Tree) (prompt : List ℕ) where
   answered_adds : (at : Target) (r : Result ℤ Fault) → Adds (answered at r)
   unfolding answered
   answered_adds at (Ok v) = store_adds at v
-  answered_adds at (Err f) = then_adds (show (word_of f.kind ++ newline)) (λ u. item_action said x prompt) (show_adds _) (λ u. item_action_adds)
+  answered_adds at (Err f) = then_adds (show (fault_word f.kind ++ newline)) (λ u. item_action said x prompt) (show_adds _) (λ u. item_action_adds)
 
   -- once a line is shown
   pub worth : Target → List ℕ → Action (Unit {0})
@@ -273,7 +273,7 @@ module _ (said : List ℕ) (x : Tree) (prompt : List ℕ) where
   again_same : (at : Target) (ls : List (List ℕ)) (S : State) → S.lines ≡ ls → (o : Outcome (Result ℤ Fault) (Unit {0})) → go_on (map_outcome (λ r. Goes r S) (λ u. S) o) (on_progress (store_or_again at (input_action said x prompt ls))) ≡ go_on (map_outcome (λ r. Goes r S) (λ u. S) o) (on_progress (answered at))
   unfolding answered
   again_same at ls S e (Done (Ok v) rest) = refl
-  again_same at ls S e (Done (Err f) rest) = ap (λ k. input_action said x prompt k (record S { shown = S.shown ++ (word_of f.kind ++ newline) }) rest) (sym e)
+  again_same at ls S e (Done (Err f) rest) = ap (λ k. input_action said x prompt k (record S { shown = S.shown ++ (fault_word f.kind ++ newline) }) rest) (sym e)
   again_same at ls S e (Asks n w) = refl
   again_same at ls S e (Out n w) = refl
 
@@ -424,16 +424,16 @@ module _ (said : List ℕ) (x : Tree) (prompt : List ℕ) where
   unfolding worth answered
   stored_refines_part {m = m} {n = n} at l v u k a b = refines_part_then (refines_part_on (answered at) a) (subst (λ (z : ℤ). RefinesPart m n (store at z) (goes_on tt)) k b)
 
-  again_refines_part : {o m n : Trace} (at : Target) (l : List ℕ) (f : Fault) (bytes : List ℕ) → bytes ≡ word_of f.kind ++ newline → RefinesPart o m (line_value l) (goes_on (Err f)) → RefinesPart m n (show bytes) (goes_on tt) → RefinesPart o n (worth at l) (item_action said x prompt)
+  again_refines_part : {o m n : Trace} (at : Target) (l : List ℕ) (f : Fault) (bytes : List ℕ) → bytes ≡ fault_word f.kind ++ newline → RefinesPart o m (line_value l) (goes_on (Err f)) → RefinesPart m n (show bytes) (goes_on tt) → RefinesPart o n (worth at l) (item_action said x prompt)
   unfolding worth answered
   again_refines_part {m = m} {n = n} at l f bytes k a b =
       refines_part_then (refines_part_on (answered at) a) (refines_part_on (λ u. item_action said x prompt) (subst (λ (s : List ℕ). RefinesPart m n (show s) (goes_on tt)) k b))
 
-  again_stops : (refused : Refusal → Type 0) {o m : Trace} (n : Trace) (at : Target) (l : List ℕ) (f : Fault) (bytes : List ℕ) → bytes ≡ word_of f.kind ++ newline → (e : Stop) → RefinesPart o m (line_value l) (goes_on (Err f)) → Stops refused (RefinesPartTo m n (show bytes)) n.devices e → Stops refused (RefinesPartTo o n (worth at l)) n.devices e
+  again_stops : (refused : Refusal → Type 0) {o m : Trace} (n : Trace) (at : Target) (l : List ℕ) (f : Fault) (bytes : List ℕ) → bytes ≡ fault_word f.kind ++ newline → (e : Stop) → RefinesPart o m (line_value l) (goes_on (Err f)) → Stops refused (RefinesPartTo m n (show bytes)) n.devices e → Stops refused (RefinesPartTo o n (worth at l)) n.devices e
   unfolding worth answered
   again_stops refused {m = m} n at l f bytes k e a h =
       stops_after refused n (refines_part_on (answered at) a) e
-      (stops_first refused m n (show (word_of f.kind ++ newline)) (λ u. item_action said x prompt) (λ u. item_action_adds) e
+      (stops_first refused m n (show (fault_word f.kind ++ newline)) (λ u. item_action said x prompt) (λ u. item_action_adds) e
       (subst (λ (s : List ℕ). Stops refused (RefinesPartTo m n (show s)) n.devices e) k h))
 
   -- ways out, once it is shown
@@ -447,13 +447,13 @@ module _ (said : List ℕ) (x : Tree) (prompt : List ℕ) where
       refines_part_then (line_refines_part at l a b)
       (stored_refines_part at l v u same (subst (λ (x : Result ℤ Fault). RefinesPart k j (line_value l) (goes_on x)) is c) d)
 
-  pub line_again : {o m k j n : Trace} (at : Target) (l : List ℕ) (f : Fault) (bytes : List ℕ) (r : Result ℤ Fault) → bytes ≡ word_of f.kind ++ newline → r ≡ Err f → RefinesPart o m (show l) (goes_on tt) → RefinesPart m k (show newline) (goes_on tt) → RefinesPart k j (line_value l) (goes_on r) → RefinesPart j n (show bytes) (goes_on tt) → RefinesPart o n (line_left at l) (item_action said x prompt)
+  pub line_again : {o m k j n : Trace} (at : Target) (l : List ℕ) (f : Fault) (bytes : List ℕ) (r : Result ℤ Fault) → bytes ≡ fault_word f.kind ++ newline → r ≡ Err f → RefinesPart o m (show l) (goes_on tt) → RefinesPart m k (show newline) (goes_on tt) → RefinesPart k j (line_value l) (goes_on r) → RefinesPart j n (show bytes) (goes_on tt) → RefinesPart o n (line_left at l) (item_action said x prompt)
   unfolding line_next worth answered
   line_again {k = k} {j = j} at l f bytes r same is a b c d =
       refines_part_then (line_refines_part at l a b)
       (again_refines_part at l f bytes same (subst (λ (x : Result ℤ Fault). RefinesPart k j (line_value l) (goes_on x)) is c) d)
 
-  pub line_again_stops : (refused : Refusal → Type 0) {o m k j : Trace} (n : Trace) (at : Target) (l : List ℕ) (f : Fault) (bytes : List ℕ) (r : Result ℤ Fault) (e : Stop) → bytes ≡ word_of f.kind ++ newline → r ≡ Err f → RefinesPart o m (show l) (goes_on tt) → RefinesPart m k (show newline) (goes_on tt) → RefinesPart k j (line_value l) (goes_on r) → Stops refused (RefinesPartTo j n (show bytes)) n.devices e → Stops refused (RefinesPartTo o n (line_left at l)) n.devices e
+  pub line_again_stops : (refused : Refusal → Type 0) {o m k j : Trace} (n : Trace) (at : Target) (l : List ℕ) (f : Fault) (bytes : List ℕ) (r : Result ℤ Fault) (e : Stop) → bytes ≡ fault_word f.kind ++ newline → r ≡ Err f → RefinesPart o m (show l) (goes_on tt) → RefinesPart m k (show newline) (goes_on tt) → RefinesPart k j (line_value l) (goes_on r) → Stops refused (RefinesPartTo j n (show bytes)) n.devices e → Stops refused (RefinesPartTo o n (line_left at l)) n.devices e
   unfolding line_next worth answered
   line_again_stops refused {k = k} {j = j} n at l f bytes r e same is a b c h =
       stops_after refused n (line_refines_part at l a b) e

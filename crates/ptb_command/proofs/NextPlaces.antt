@@ -12,7 +12,7 @@ use Rattle.ptb_command.specs.Commands.{Command, command_of, parts_of, next_begin
 use Rattle.ptb_command.specs.State.{Place, next_index}
 use Rattle.ptb_command.specs.Places.{At}
 use Rattle.ptb_command.specs.Laws.{CommandLaws}
-use Rattle.ptb_command.specs.Reads.{IsClosed, Follows}
+use Rattle.ptb_command.specs.Reads.{IsClosed, NextBegins}
 use Rattle.ptb_command.specs.Representation.{PlaceIs, Begun}
 
 -- the words of the commands behind which `;` begins the next one
@@ -69,7 +69,7 @@ module _ (laws : CommandLaws) (p : Statements) (q : Place) (k : ℕ) (t : List �
   over_there false b h k = absurd (false≢true (sym k ∙ h))
 
   -- the place behind a command that checks for its end
-  pub follows_there : (e j : ℕ) → ChecksEnd word → IsClosed t i (parts_of word t i) e → Follows t e j → PlaceIs p (next_index q) (record { statement = k; at = j })
+  pub follows_there : (e j : ℕ) → ChecksEnd word → IsClosed t i (parts_of word t i) e → NextBegins t e j → PlaceIs p (next_index q) (record { statement = k; at = j })
   follows_there e j checks closed (inl f) = next_there e j closed.whole (checks.next t e ∙ f)
   follows_there e j checks closed (inr f) =
       subst (λ (x : ℕ). PlaceIs p (next_index q) (record { statement = k; at = x })) (sym f.1)

@@ -8,7 +8,7 @@ use Rattle.ptb_expr.specs.declared.fault.Fault.{Fault}
 use Rattle.ptb_answers.specs.Outcome.{Answers}
 use Rattle.ptb_devices.specs.declared.fault.ScreenFault.{ScreenFault}
 use Rattle.ptb_command.specs.Actions.{and_then, goes_on, show}
-use Rattle.ptb_command.specs.Act.{newline, word_of, report_bytes}
+use Rattle.ptb_command.specs.Act.{newline, fault_word, report_bytes}
 use Rattle.ptb_command.specs.Devices.{nothing_refused}
 use Rattle.ptb_command.specs.Traces.{Trace, RefinesPart}
 use Rattle.ptb_command.specs.Stops.{stop_of_screen, Stops, RefinesPartTo}
@@ -56,7 +56,7 @@ abbrev pub statement_line : List ℕ → Fault → List ℕ
 statement_line t f = take f.mark t ++ codes "?" ++ drop f.mark t ++ newline
 
 abbrev pub first_piece : Bool → ℕ → Fault → List ℕ
-first_piece fresh n f = (if fresh then [] else newline) ++ word_of f.kind ++ newline ++ decimal n ++ codes " "
+first_piece fresh n f = (if fresh then [] else newline) ++ fault_word f.kind ++ newline ++ decimal n ++ codes " "
 
 pieces_joined : (a b c d e : List ℕ) → a ++ (b ++ c ++ d ++ e) ≡ a ++ b ++ c ++ d ++ e
 pieces_joined a b c d e =

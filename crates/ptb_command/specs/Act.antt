@@ -59,10 +59,10 @@ first_width = 6
 -- ---- INPUT
 
 -- the word of a fault
-abbrev pub word_of : FaultKind → List ℕ
-word_of kinds.What = codes "WHAT?"
-word_of kinds.How = codes "HOW?"
-word_of kinds.Sorry = codes "SORRY"
+abbrev pub fault_word : FaultKind → List ℕ
+fault_word kinds.What = codes "WHAT?"
+fault_word kinds.How = codes "HOW?"
+fault_word kinds.Sorry = codes "SORRY"
 
 -- a line is taken and shown
 abbrev pub take_line : List ℕ → List (List ℕ) → Action (Unit {0})
@@ -76,7 +76,7 @@ ask_for said x prompt =
 -- a value goes into the variable; for a fault its word is shown, and the item starts over
 abbrev pub store_or_again : Target → Action (Unit {0}) → Result ℤ Fault → Action (Unit {0})
 store_or_again at again (Ok v) = store at v
-store_or_again at again (Err f) = and_then (show (word_of f.kind ++ newline)) (λ _. again)
+store_or_again at again (Err f) = and_then (show (fault_word f.kind ++ newline)) (λ _. again)
 
 -- an answer is asked for as RND asks with this bound, which is at least 1; it is shown as a line, and stored
 abbrev pub answer_instead : ℤ → Target → Action (Unit {0})
@@ -252,7 +252,7 @@ is_fresh shown = length shown == 0 || slice_index shown (length shown - 1) == 10
 -- on a fresh line: the word, and the statement with `?` at the mark
 abbrev pub report_bytes : Bool → ℕ → List ℕ → Fault → List ℕ
 report_bytes fresh n text f =
-    (if fresh then [] else newline) ++ word_of f.kind ++ newline
+    (if fresh then [] else newline) ++ fault_word f.kind ++ newline
     ++ decimal n ++ codes " " ++ take f.mark text ++ codes "?" ++ drop f.mark text ++ newline
 
 abbrev pub ending_of : FaultKind → Ending

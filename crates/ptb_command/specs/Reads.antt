@@ -1,7 +1,7 @@
 -- This file defines what the readers of a statement give.
 --     IsRead t i r j       what was read at place i is whole, and j, which lies ahead, is the place after it
 --     IsClosed t i r j     the same of the parts of a command that ends at j
---     Follows t i j        behind a command that ends at i the next one begins at j
+--     NextBegins t i j        behind a command that ends at i the next one begins at j
 --     IsNext t i letter j           a letter stands at i, and the command ends behind it, with the next one at j
 --     IsFirstWord t i word j     the word with which a command begins, and the place after it
 use Rattle.std.specs.Prelude.{◌≡◌, ◌≤◌, ◌⊎◌, ℕ, true, List, length, Some, None, unwrap_or}
@@ -25,8 +25,8 @@ pub record IsClosed (t : List ℕ) (i : ℕ) (r : Reading (List Part)) (j : ℕ)
   pub ends : at_end t j ≡ true
 
 -- j is the place of the command behind one that ends at i: after `;`, or there
-abbrev pub Follows : List ℕ → ℕ → ℕ → Type 0
-Follows t i j = (token_at 59 t i ≡ Some j) ⊎ ((token_at 59 t i ≡ None) × (j ≡ i))
+abbrev pub NextBegins : List ℕ → ℕ → ℕ → Type 0
+NextBegins t i j = (token_at 59 t i ≡ Some j) ⊎ ((token_at 59 t i ≡ None) × (j ≡ i))
 
 -- without a word it is LET, and nothing is taken
 abbrev pub first_word_at : List ℕ → ℕ → Word × ℕ
@@ -45,4 +45,4 @@ pub record IsNext (t : List ℕ) (i letter next : ℕ) : Type 0 where
   pub from : i ≤ end
   pub within : end ≤ length t
   pub ends : at_end t end ≡ true
-  pub follows : Follows t end next
+  pub follows : NextBegins t end next

@@ -2,7 +2,7 @@
 
 ghost use Rattle.std.specs.Prelude.{◌≡◌, [], ◌++◌, if◌then◌else◌, take, drop, IfOk};
 ghost use Rattle.ptb_expr.specs.Store.{Cells};
-ghost use Rattle.ptb_command.specs.Act.{newline, word_of, ending_of, report_bytes};
+ghost use Rattle.ptb_command.specs.Act.{newline, fault_word, ending_of, report_bytes};
 ghost use Rattle.ptb_command.specs.Devices.{Devices, screen_state, with_screen};
 ghost use Rattle.ptb_command.specs.Traces.{trace};
 ghost use Rattle.ptb_command.specs.Reports.{IsShown};
@@ -30,7 +30,7 @@ pub(crate) fn ending_of(kind: FaultKind) -> Ending
 
 // The line that says what is wrong, behind a newline where the transcript isn't fresh.
 fn first_line(fresh: bool, kind: FaultKind) -> &'static [u8]
-    ensures { result.now ≡ (if fresh then [] else newline) ++ word_of kind ++ newline }
+    ensures { result.now ≡ (if fresh then [] else newline) ++ fault_word kind ++ newline }
 {
     match (fresh, kind) {
         (true, FaultKind::What) => b"WHAT?\n",

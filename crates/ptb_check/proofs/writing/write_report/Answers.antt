@@ -8,7 +8,7 @@ use Rattle.std.proofs.lemmas.Result.{on_ok_weaker, on_err_weaker}
 use Rattle.std.specs.Io.KnownBytes.{Appends}
 use Rattle.ptb_expr.specs.declared.fault.Fault.{Fault}
 use Rattle.ptb_text.specs.Device.{TakesSome}
-use Rattle.ptb_command.specs.Act.{newline, report_bytes, word_of}
+use Rattle.ptb_command.specs.Act.{newline, report_bytes, fault_word}
 use Rattle.ptb_check.proofs.writing.write_report.Goals as goal
 
 same_before : (k m : ℕ) (t : List ℕ) → m ≡ min k (length t) → take m t ≡ take k t
@@ -23,7 +23,7 @@ same_after k m t is = elim (cases_lt k (length t)) [
   | inr ge ↦ drop_all m t (omega arith) ∙ sym (drop_all k t ge)
 ]
 
-in_parts : (word digits before after text : List ℕ) (n m : ℕ) (f : Fault) → word ≡ word_of f.kind ++ newline
+in_parts : (word digits before after text : List ℕ) (n m : ℕ) (f : Fault) → word ≡ fault_word f.kind ++ newline
     → digits ≡ decimal n → before ≡ take m text → after ≡ drop m text → m ≡ min f.mark (length text)
     → word ++ digits ++ codes " " ++ before ++ codes "?" ++ after ++ newline ≡ report_bytes true n text f
 in_parts word digits before after text n m f is count front rest at =
