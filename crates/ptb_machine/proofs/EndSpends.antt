@@ -13,7 +13,7 @@ use Rattle.ptb_command.specs.State.{Place, Loop, Call, State}
 use Rattle.ptb_command.specs.Actions.{change}
 use Rattle.ptb_command.specs.Act.{fails, is_full, if_room, goto_action, with_call, gosub_action, return_action, without_loop, with_loop, for_action, loops_from, after_sum, is_past, loop_end, loop_turn, next_action, finish}
 use Rattle.ptb_machine.proofs.Budgets.{Budget, done_budget}
-use Rattle.ptb_machine.proofs.Spending.{left_for, Spends, halt_spends, after_spends, lines_cost, later, become_spends}
+use Rattle.ptb_machine.proofs.SpentAnswers.{left_for, Spends, halt_spends, after_spends, lines_cost, later, become_spends}
 
 module _ (again : ℕ) where
   if_room_spends : (e : ℕ) (f : State → State) → ((S : State) → (f S).lines ≡ S.lines) → Spends (later again) (if_room e f) 0

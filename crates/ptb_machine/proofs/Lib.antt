@@ -1,5 +1,5 @@
 -- This file names the files of lemmas.
-pub mod Beginning
+pub mod RunStart
 pub mod Budgets
 pub mod Endings
 mod Ends
@@ -11,8 +11,8 @@ pub mod ProgramQuestions
 mod QuietTurns
 pub mod Results
 pub mod Runs
-pub mod Spending
-mod Stepping
+pub mod SpentAnswers
+mod StepResults
 pub mod Steps
 pub mod Turns
 mod Underway

@@ -21,7 +21,7 @@ use Rattle.ptb_command.specs.Actions.{Progress, Goes, Halts, Action, on_progress
 use Rattle.ptb_command.specs.Act.{newline, width_of, value_action, target_action, store, ask_for, store_or_again, without_line, input_action, parts_action}
 use Rattle.ptb_machine.specs.Questions.{part_questions, line_questions}
 use Rattle.ptb_machine.proofs.Budgets.{Budget, wider_budget, with_more, done_budget, then_budget}
-use Rattle.ptb_machine.proofs.Spending.{left_for, Spends, wider_spends, change_spends, goes_spends, halt_spends, then_spends, after_spends, work_action_spends, attempt_then, lines_cost, lines_cost-cons, later}
+use Rattle.ptb_machine.proofs.SpentAnswers.{left_for, Spends, wider_spends, change_spends, goes_spends, halt_spends, then_spends, after_spends, work_action_spends, attempt_then, lines_cost, lines_cost-cons, later}
 
 or_fault_reader : {A : Type 0} (r : Result A FaultKind) (m : ℕ) → IsReader (or_fault r m) 0
 or_fault_reader (Ok v) m = success_reader v 0

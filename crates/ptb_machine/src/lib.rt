@@ -14,6 +14,7 @@
 //! devices of the crate below, which it passes on.
 #![tactic(auto)]
 
+mod complete_run;
 mod fault;
 mod laws;
 mod machine;
@@ -22,10 +23,10 @@ mod plain;
 mod player;
 mod reports;
 mod run_end;
-mod running;
 mod saved;
 mod stop_result;
 
+pub use complete_run::{run, run_to_end};
 pub use fault::RunFault;
 pub use laws::{effect_laws, ending_laws, run_laws, seeded_laws};
 pub use machine::Machine;
@@ -39,5 +40,4 @@ pub use ptb_devices::{
 };
 pub use reports::report;
 pub use run_end::RunEnd;
-pub use running::{run, run_to_end};
 pub use saved::SavedMachine;

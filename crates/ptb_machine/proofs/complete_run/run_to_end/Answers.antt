@@ -3,7 +3,7 @@ use Rattle.std.proofs.Common.{[], arith, inl, refl}
 use Rattle.ptb_command.proofs.MissedLines.{not_missed}
 use Rattle.ptb_machine.specs.RunDevices.{run_devices}
 use Rattle.ptb_machine.proofs.Ends.{end_broken}
-use Rattle.ptb_machine.proofs.running.run_to_end.Goals as goal
+use Rattle.ptb_machine.proofs.complete_run.run_to_end.Goals as goal
 
 pub returns-in_err-player : goal.returns-in_err-player
 returns-in_err-player g c =

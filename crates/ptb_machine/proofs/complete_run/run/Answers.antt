@@ -1,7 +1,7 @@
 -- This file answers that a run without the line of its end is one.
 use Rattle.ptb_machine.specs.RunDevices.{run_devices}
 use Rattle.ptb_machine.proofs.Ends.{run_broken}
-use Rattle.ptb_machine.proofs.running.run.Goals as goal
+use Rattle.ptb_machine.proofs.complete_run.run.Goals as goal
 
 pub returns-in_err-end : goal.returns-in_err-end
 returns-in_err-end g c =

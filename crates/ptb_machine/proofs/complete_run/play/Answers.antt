@@ -8,7 +8,7 @@ use Rattle.ptb_machine.specs.Play.{next_number}
 use Rattle.ptb_machine.proofs.Ends.{end_broken}
 use Rattle.ptb_machine.proofs.Runs.{not_spent}
 use Rattle.ptb_machine.proofs.Underway.{underway_first, underway_advanced, underway_as, underway_on, underway_falls, underway_broken, underway_ended, ended_as}
-use Rattle.ptb_machine.proofs.running.play.Goals as goal
+use Rattle.ptb_machine.proofs.complete_run.play.Goals as goal
 
 pub steps-init : goal.steps-init
 steps-init g c = (
