@@ -10,7 +10,7 @@ use Rattle.std.proofs.Math.Seq.{take-append-add}
 use Rattle.std.proofs.lemmas.List.{take-append-le}
 use Rattle.ptb_text.specs.declared.listing.WriteFault.{WriteFault}
 use Rattle.ptb_check.specs.Mistakes.{Mistake, mistake_text}
-use Rattle.ptb_check.specs.Writing.{WritesMistakes, has_any, texts}
+use Rattle.ptb_check.specs.WrittenMistakes.{WritesMistakes, has_any, texts}
 
 flat_map-append : {X Y : Type 0} (f : X → List Y) (xs ys : List X)
     → flat_map f (xs ++ ys) ≡ flat_map f xs ++ flat_map f ys

@@ -1,5 +1,5 @@
 -- This file names the files of definitions.
 pub mod Mistakes
 pub mod CodeMistakes
-pub mod Writing
+pub mod WrittenMistakes
 pub mod Laws

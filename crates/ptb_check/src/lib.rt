@@ -8,8 +8,8 @@
 
 mod laws;
 mod mistake;
-mod writing;
+mod writer;
 
 pub use laws::check_laws;
 pub use mistake::mistake_of;
-pub use writing::write_mistakes;
+pub use writer::write_mistakes;

@@ -8,7 +8,7 @@ use Rattle.ptb_text.specs.Device.{HasFailed}
 use Rattle.ptb_text.specs.Statements.{StoredProgram}
 use Rattle.ptb_text.specs.declared.listing.WriteFault.{WriteFault}
 use Rattle.ptb_check.specs.Mistakes.{mistakes}
-use Rattle.ptb_check.specs.Writing.{WritesMistakes}
+use Rattle.ptb_check.specs.WrittenMistakes.{WritesMistakes}
 use Rattle.ptb_machine.specs.declared.fault.RunFault.TheVariants as faults
 use Rattle.ptb_options.specs.declared.request.Mode.TheVariants as modes
 use Rattle.ptb_options.specs.declared.request.Request.{Request}

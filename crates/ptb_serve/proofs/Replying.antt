@@ -30,7 +30,7 @@ use Rattle.ptb_options.specs.declared.request.Request.{Request}
 use Rattle.ptb_chances.specs.TableLaws.{TableLaws}
 use Rattle.ptb_check.specs.Laws.{CheckLaws}
 use Rattle.ptb_check.specs.Mistakes.{Mistake, mistakes}
-use Rattle.ptb_check.specs.Writing.{has_any}
+use Rattle.ptb_check.specs.WrittenMistakes.{has_any}
 use Rattle.ptb_machine.specs.SeededRuns.{SeededLaws, seeded_answers}
 use Rattle.ptb_serve.specs.Replies.{Reply, refusal, plain_reply, seeded_reply, answers_under}
 use Rattle.ptb_serve.specs.Replies.{first_front, front_note, is_front, note_of, all_reply}

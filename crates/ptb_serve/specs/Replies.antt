@@ -28,7 +28,7 @@ use Rattle.ptb_options.specs.declared.request.Mode.{Mode}
 use Rattle.ptb_options.specs.declared.request.Mode.TheVariants as modes
 use Rattle.ptb_options.specs.declared.request.Request.{Request}
 use Rattle.ptb_check.specs.Mistakes.{mistakes, mistakes_text}
-use Rattle.ptb_check.specs.Writing.{has_any}
+use Rattle.ptb_check.specs.WrittenMistakes.{has_any}
 use Rattle.ptb_machine.specs.SeededRuns.{seeded_run}
 use Rattle.ptb_serve.specs.Statuses.{note_status}
 

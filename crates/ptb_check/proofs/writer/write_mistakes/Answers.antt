@@ -5,7 +5,7 @@ use Rattle.std.proofs.lemmas.Result.{err_from_is_err_and}
 use Rattle.ptb_check.specs.Mistakes.{statement_mistakes}
 use Rattle.ptb_check.proofs.Progress.{more_written, not_written}
 use Rattle.ptb_check.proofs.Rounds.{statement_left}
-use Rattle.ptb_check.proofs.writing.write_mistakes.Goals as goal
+use Rattle.ptb_check.proofs.writer.write_mistakes.Goals as goal
 
 -- a write failed
 pub returns-in_err-any-clause-writes : goal.returns-in_err-any-clause-writes

@@ -7,7 +7,7 @@ use Rattle.ptb_command.specs.Commands.{command_at, commands_from}
 use Rattle.ptb_command.specs.Translation.{IsTranslated}
 use Rattle.ptb_check.proofs.Progress.{all_written, more_written, not_written}
 use Rattle.ptb_check.proofs.Rounds.{mistakes_from, mistakes_left, no_command_left, others_left}
-use Rattle.ptb_check.proofs.writing.write_statement.Goals as goal
+use Rattle.ptb_check.proofs.writer.write_statement.Goals as goal
 
 -- a write failed
 pub returns-in_err-any-clause-writes : goal.returns-in_err-any-clause-writes

@@ -4,7 +4,7 @@ use Rattle.ptb_command.specs.Commands.{commands_from}
 use Rattle.ptb_check.specs.Mistakes.{statement_mistakes}
 use Rattle.ptb_check.proofs.Rounds.{mistakes_from}
 use Rattle.ptb_check.proofs.Progress.{IsWrittenUpTo}
-use Rattle.ptb_check.proofs.writing.write_statement.Given as goal
+use Rattle.ptb_check.proofs.writer.write_statement.Given as goal
 
 abbrev pub invariant-commands : goal.invariant-commands
 invariant-commands g l = record {

@@ -3,7 +3,7 @@ use Rattle.std.proofs.Common.{◌≡◌, drop}
 use Rattle.std.specs.Prelude.{flat_map}
 use Rattle.ptb_check.specs.Mistakes.{mistakes, statement_mistakes}
 use Rattle.ptb_check.proofs.Progress.{IsWrittenUpTo}
-use Rattle.ptb_check.proofs.writing.write_mistakes.Given as goal
+use Rattle.ptb_check.proofs.writer.write_mistakes.Given as goal
 
 abbrev pub invariant-loop-at : goal.invariant-loop-at
 invariant-loop-at g l = record {
