@@ -1,4 +1,4 @@
 -- This file names the files of lemmas.
-pub mod Begun
+pub mod HeaderPrefixes
 pub mod ReportText
-pub mod Reporting
+pub mod WrittenReports

@@ -5,7 +5,7 @@ use Rattle.ptb_machine.specs.Play.{play}
 use Rattle.ptb_machine.specs.Questions.{most_answers}
 use Rattle.ptb_explore.specs.Beginnings.{stopped}
 use Rattle.ptb_explore.specs.Plans.{front_at, HasPlan, PlansNext}
-use Rattle.ptb_report.proofs.Reporting.{on_err_always}
+use Rattle.ptb_report.proofs.WrittenReports.{on_err_always}
 use Rattle.ptb_explore.proofs.Exits.{on_some_at}
 use Rattle.ptb_explore.proofs.GoingOn.{next_played, position_copies}
 use Rattle.ptb_explore.proofs.Raising.{position_lengths, next_plan, last_plan, plan_ends}

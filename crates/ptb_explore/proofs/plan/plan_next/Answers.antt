@@ -3,7 +3,7 @@ use Rattle.std.proofs.Common.{rules, ◌≡◌, ◌++◌, ◌∷◌, [], take, a
 use Rattle.std.proofs.lemmas.Int.{ints}
 use Rattle.ptb_answers.specs.AnswerText.{answers_of}
 use Rattle.ptb_explore.specs.Plans.{AreAtBounds, HasPlan, IsLastBelow}
-use Rattle.ptb_report.proofs.Reporting.{on_err_always}
+use Rattle.ptb_report.proofs.WrittenReports.{on_err_always}
 use Rattle.ptb_explore.proofs.Mismatches.{answers_length}
 use Rattle.ptb_explore.proofs.plan.plan_next.Goals as goal
 

@@ -2,7 +2,7 @@
 use Rattle.std.proofs.Common.{◌∙◌}
 use Rattle.std.proofs.lemmas.Result.{IfOk-from_err, on_ok_weaker, on_err_weaker}
 use Rattle.ptb_answers.specs.AnswerText.{items_in}
-use Rattle.ptb_report.proofs.Reporting.{on_err_always, failed_after, first_fails, answers_fail, all_written, rest_fails}
+use Rattle.ptb_report.proofs.WrittenReports.{on_err_always, failed_after, first_fails, answers_fail, all_written, rest_fails}
 use Rattle.ptb_report.proofs.report.write_in_pieces.Goals as goal
 
 pub returns-in_err-put : goal.returns-in_err-put

@@ -2,7 +2,7 @@
 use Rattle.std.proofs.Common.{◌∙◌}
 use Rattle.std.proofs.lemmas.Result.{IfOk-from_err, on_ok_weaker, on_err_weaker}
 use Rattle.ptb_answers.specs.AnswerText.{items_in}
-use Rattle.ptb_report.proofs.Reporting.{on_err_always, failed_after, line_written, list_fails, line_fails}
+use Rattle.ptb_report.proofs.WrittenReports.{on_err_always, failed_after, line_written, list_fails, line_fails}
 use Rattle.ptb_report.proofs.report.write_list.Goals as goal
 
 pub returns-in_err-put_answers : goal.returns-in_err-put_answers

@@ -5,7 +5,7 @@ use Rattle.ptb_answers.specs.AnswerText.{in_form, item_text, items_in}
 use Rattle.std.specs.Prelude.{◌==◌, if◌then◌else◌, codes}
 use Rattle.ptb_answers.specs.declared.form.Marked.{Marked}
 use Rattle.ptb_report.specs.Begun.{begun, item_of}
-use Rattle.ptb_report.proofs.Begun.{begins_kept, ends_kept, is_in_form, items_kept, most_kept, text_added}
+use Rattle.ptb_report.proofs.HeaderPrefixes.{begins_kept, ends_kept, is_in_form, items_kept, most_kept, text_added}
 use Rattle.ptb_report.proofs.ReportText.{item_at, length-items_in}
 use Rattle.ptb_report.proofs.report_writer.add_items.Goals as goal
 

@@ -4,7 +4,7 @@ use Rattle.std.proofs.lemmas.List.{get_or-map, take_more}
 use Rattle.ptb_answers.specs.AnswerText.{in_form, items_in}
 use Rattle.ptb_answers.specs.declared.form.Marked.{Marked}
 use Rattle.ptb_report.specs.Begun.{item_of, items_of}
-use Rattle.ptb_report.proofs.Begun.{is_in_form, length-items_of}
+use Rattle.ptb_report.proofs.HeaderPrefixes.{is_in_form, length-items_of}
 use Rattle.ptb_report.proofs.ReportText.{item_at, length-items_in}
 use Rattle.ptb_report.proofs.report_writer.count_same.Goals as goal
 

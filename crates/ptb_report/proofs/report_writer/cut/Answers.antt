@@ -2,7 +2,7 @@
 use Rattle.std.proofs.Common.{arith, ◌≡◌, ◌∙◌, ◌≤◌, ℕ, List, ap, sym, subst, take, length}
 use Rattle.ptb_report.specs.declared.report_writer.KeptItem.{KeptItem}
 use Rattle.ptb_report.specs.Begun.{AreEnds, begun, items_of}
-use Rattle.ptb_report.proofs.Begun.{begins_with_first, begins_within, ends_cut, items_cut}
+use Rattle.ptb_report.proofs.HeaderPrefixes.{begins_with_first, begins_within, ends_cut, items_cut}
 use Rattle.ptb_report.proofs.report_writer.cut.Goals as goal
 
 -- where the text of the items ends that are left

@@ -3,7 +3,7 @@ use Rattle.std.proofs.Common.{arith, ◌∙◌, ◌<◌, ◌++◌, ap, length, r
 use Rattle.ptb_answers.specs.AnswerText.{items_in}
 use Rattle.ptb_report.specs.Begun.{begun, items_of}
 use Rattle.ptb_report.specs.Report.{report_ending}
-use Rattle.ptb_report.proofs.Begun.{begins_longer, report_from_begun}
+use Rattle.ptb_report.proofs.HeaderPrefixes.{begins_longer, report_from_begun}
 use Rattle.ptb_report.proofs.ReportText.{length-items_in}
 use Rattle.ptb_report.proofs.report_writer.ReportWriter.gather.Goals as goal
 
