@@ -24,7 +24,7 @@ use Rattle.ptb_devices.specs.Sources.{Gives, LineList}
 use Rattle.ptb_machine.specs.Steps.{FitsProgram, QuietTurns, Steps}
 use Rattle.ptb_machine.specs.TurnResults.{StepsTo, goes, ends, StepComes}
 use Rattle.ptb_explore.specs.Chances.{last_line}
-use Rattle.ptb_explore.specs.Playing.{run_from}
+use Rattle.ptb_explore.specs.PlannedPlays.{run_from}
 use Rattle.ptb_chances.specs.Planned.{PlanAnswers, choices_of, RefusedByPlan}
 use Rattle.ptb_chances.specs.Standing.{SameEnd, StandsAt, Came, IsOver, IsAsked, PlaysTo, played_of}
 use Rattle.ptb_chances.specs.declared.playing.Played.{Played}

@@ -9,7 +9,7 @@ use Rattle.ptb_command.specs.Configuration.{Configuration}
 use Rattle.ptb_command.specs.State.{State}
 use Rattle.ptb_machine.specs.Laws.{RunLaws}
 use Rattle.ptb_machine.specs.Steps.{QuietTurns}
-use Rattle.ptb_explore.specs.Playing.{run_from}
+use Rattle.ptb_explore.specs.PlannedPlays.{run_from}
 use Rattle.ptb_chances.specs.Standing.{Came, IsOver, SameEnd}
 use Rattle.ptb_chances.proofs.Coming.{advanced}
 use Rattle.ptb_chances.proofs.Picked.{whole}

@@ -15,7 +15,7 @@ use Rattle.ptb_command.specs.Representation.{Represents}
 use Rattle.ptb_command.specs.State.{State, first_state}
 use Rattle.ptb_machine.specs.Play.{Finish, play}
 use Rattle.ptb_explore.specs.Chances.{Row, RunResult, answer_count, bound_product, chance_of_all, last_line, result_of, result_order, runs_with}
-use Rattle.ptb_explore.specs.Playing.{run_from}
+use Rattle.ptb_explore.specs.PlannedPlays.{run_from}
 use Rattle.ptb_explore.specs.RunTree.{answers_to, leaves, tree}
 use Rattle.ptb_explore.proofs.Bounds.{bounds-append}
 use Rattle.ptb_explore.proofs.Lists.{is_answer_from}

@@ -18,7 +18,7 @@ use Rattle.ptb_command.specs.Representation.{Represents}
 use Rattle.ptb_command.specs.State.{State}
 use Rattle.ptb_machine.specs.Play.{Finish}
 use Rattle.ptb_explore.specs.Chances.{last_line}
-use Rattle.ptb_explore.specs.Playing.{run_from}
+use Rattle.ptb_explore.specs.PlannedPlays.{run_from}
 use Rattle.ptb_chances.specs.declared.playing.Played.{Played}
 use Rattle.ptb_chances.specs.declared.playing.Played.TheVariants as played
 

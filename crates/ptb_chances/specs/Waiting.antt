@@ -20,7 +20,7 @@ use Rattle.ptb_command.specs.Configuration.{Configuration}
 use Rattle.ptb_command.specs.State.{State}
 use Rattle.ptb_machine.specs.Play.{play}
 use Rattle.ptb_explore.specs.Chances.{Row, answer_count, bound_product, chance_of_all}
-use Rattle.ptb_explore.specs.Playing.{run_from}
+use Rattle.ptb_explore.specs.PlannedPlays.{run_from}
 use Rattle.ptb_explore.specs.RunTree.{leaves, tree}
 use Rattle.ptb_chances.specs.declared.work.Place.{Place}
 use Rattle.ptb_chances.specs.declared.work.Plan.{Plan}

@@ -4,7 +4,7 @@ ghost use Rattle.std.specs.Prelude.{◌≡◌, ◌+◌, ◌-◌, ◌<◌, ◌≤
 ghost use Rattle.std.specs.Prelude.{length, IfOk, OnOk};
 ghost use Rattle.ptb_answers.specs.Outcome.{is_open};
 ghost use Rattle.ptb_command.specs.State.{State};
-ghost use Rattle.ptb_explore.specs.Playing.{run_from};
+ghost use Rattle.ptb_explore.specs.PlannedPlays.{run_from};
 ghost use Rattle.ptb_chances.specs.Going.{ComesTo, GoesOn};
 ghost use Rattle.ptb_chances.specs.Standing.{PlaysTo, SameEnd, StandsAt};
 ghost use Rattle.ptb_machine.specs.Steps.{FitsProgram, QuietTurns};

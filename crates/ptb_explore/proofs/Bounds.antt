@@ -4,7 +4,7 @@ use Rattle.std.proofs.Common.{◌≡◌, List, [], ◌∷◌, ◌++◌, length, 
 use Rattle.std.specs.Prelude.{ℤ, Some}
 use Rattle.ptb_answers.specs.Outcome.{Answers, Outcome, bound_of, bounds, bounds_after}
 use Rattle.ptb_answers.specs.Choices.{Choices, with_bounds, Asked, Reaches}
-use Rattle.ptb_explore.specs.Playing.{Holds}
+use Rattle.ptb_explore.specs.PlannedPlays.{Holds}
 
 module _ {A W : Type 0} (play : Answers → Outcome A W) where
   pub length-bounds : (p a : Answers) → length (bounds_after play p a) ≡ length a

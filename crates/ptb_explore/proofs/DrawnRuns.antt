@@ -24,7 +24,7 @@ use Rattle.ptb_machine.specs.Questions.{most_answers}
 use Rattle.ptb_machine.specs.Steps.{Steps}
 use Rattle.ptb_machine.specs.TurnResults.{StepComes, StepsTo}
 use Rattle.ptb_report.specs.Report.{report_text}
-use Rattle.ptb_explore.specs.Playing.{Holds, IsRunPrefix}
+use Rattle.ptb_explore.specs.PlannedPlays.{Holds, IsRunPrefix}
 use Rattle.ptb_explore.specs.Report.{report, report_of, word_of}
 use Rattle.ptb_explore.specs.Sampling.{PlaysDrawn, WritesRun}
 use Rattle.ptb_devices.specs.declared.fault.ScreenFault.{ScreenFault}

@@ -15,7 +15,7 @@ use Rattle.ptb_command.specs.State.{Place, State, next_command}
 use Rattle.ptb_machine.specs.Laws.{RunLaws}
 use Rattle.ptb_machine.specs.Play.{Finish, act_unless, after_step_result, finish_in, play, turn, turn_by, turns}
 use Rattle.ptb_explore.specs.Copies.{AreTakenBy}
-use Rattle.ptb_explore.specs.Playing.{IsRunPrefix, limited, run_from}
+use Rattle.ptb_explore.specs.PlannedPlays.{IsRunPrefix, limited, run_from}
 
 -- ---- turns
 

@@ -10,7 +10,7 @@ use Rattle.ptb_machine.specs.Play.{Finish, play}
 use Rattle.ptb_explore.specs.declared.copies.KeptCopy.{KeptCopy}
 use Rattle.ptb_explore.specs.declared.runner.Runner.{Runner}
 use Rattle.ptb_explore.specs.Copies.{AreCopies, AreBeginnings, KeptRun, kept_runs}
-use Rattle.ptb_explore.specs.Exploring.{IsAdded, IsPlayed, IsSameGame, exploration, game_of}
+use Rattle.ptb_explore.specs.Explorations.{IsAdded, IsPlayed, IsSameGame, exploration, game_of}
 use Rattle.ptb_explore.specs.MarkedRuns.{IsMarkedRun}
 use Rattle.ptb_explore.specs.declared.plan.Position.{Position}
 use Rattle.ptb_explore.specs.declared.plan.Position.TheVariants.{AtRun}

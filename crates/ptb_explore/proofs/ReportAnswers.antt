@@ -20,7 +20,7 @@ use Rattle.ptb_report.specs.Report.{report_text, field}
 use Rattle.ptb_explore.specs.Report.{report, report_of, word_of}
 use Rattle.ptb_explore.specs.Laws.{AreNumbers, ReportLaws}
 use Rattle.ptb_explore.specs.RunTree.{IsRun, runs_after}
-use Rattle.ptb_explore.proofs.Behind.{listing_laws}
+use Rattle.ptb_explore.proofs.RunsAfter.{listing_laws}
 use Rattle.ptb_explore.proofs.Bounds.{length-bounds}
 use Rattle.ptb_explore.proofs.Next.{is_answer_is}
 use Rattle.ptb_explore.proofs.Shares.{share_laws}

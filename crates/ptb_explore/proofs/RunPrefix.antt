@@ -26,8 +26,8 @@ use Rattle.ptb_machine.specs.TurnResults.{StepsTo, goes, ends, StepComes}
 use Rattle.ptb_answers.specs.declared.rules.Rules.{Rules}
 use Rattle.ptb_machine.specs.Questions.{most_answers}
 use Rattle.ptb_explore.specs.Laws.{TreeLaws}
-use Rattle.ptb_explore.specs.Playing.{Holds, NextIsOutside, PlayEnds, limited, run_from, IsRunPrefix}
-use Rattle.ptb_explore.specs.Recording.{RefusedByPlan}
+use Rattle.ptb_explore.specs.PlannedPlays.{Holds, NextIsOutside, PlayEnds, limited, run_from, IsRunPrefix}
+use Rattle.ptb_explore.specs.Recorders.{RefusedByPlan}
 use Rattle.ptb_explore.proofs.Limits.{turn_below}
 use Rattle.ptb_explore.proofs.Tree.{tree_laws}
 use Rattle.ptb_explore.proofs.Bounds.{holds_on, holds_at_first}

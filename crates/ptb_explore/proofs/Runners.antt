@@ -11,7 +11,7 @@ use Rattle.ptb_explore.specs.declared.recorder.Recorder.{Recorder}
 use Rattle.ptb_explore.specs.declared.report.Report.{Report}
 use Rattle.ptb_explore.specs.declared.runner.Runner.{Runner}
 use Rattle.ptb_explore.specs.Copies.{AreCopies, more_played, play_limit}
-use Rattle.ptb_explore.specs.Exploring.{IsAdded, IsPlayed, IsSameGame}
+use Rattle.ptb_explore.specs.Explorations.{IsAdded, IsPlayed, IsSameGame}
 
 -- a step leaves all but the trial and the copies
 pub stepped : (r s : Runner) (player : StoredProgram) (t u : Recorder) (c d : Copies) → player ≡ r.player → r ≡ record s { trial = t; copies = c } → record r { player = player; trial = u; copies = d } ≡ record s { trial = u; copies = d }

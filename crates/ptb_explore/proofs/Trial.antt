@@ -8,11 +8,11 @@ use Rattle.ptb_answers.specs.Outcome.{Answers, Outcome, Done, IsReader, is_open,
 use Rattle.ptb_explore.specs.declared.recorder.Recorder.{Recorder}
 use Rattle.ptb_explore.specs.RunTree.{IsRun}
 use Rattle.ptb_explore.specs.Plans.{IsFresh, EndsAt}
-use Rattle.ptb_explore.specs.Recording.{choices_of}
+use Rattle.ptb_explore.specs.Recorders.{choices_of}
 use Rattle.ptb_command.specs.declared.ending.Ending.{Ending}
 use Rattle.ptb_command.specs.declared.ending.Ending.TheVariants as endings
 use Rattle.ptb_machine.specs.Play.{Finish}
-use Rattle.ptb_explore.specs.Playing.{Holds, PlayEnds}
+use Rattle.ptb_explore.specs.PlannedPlays.{Holds, PlayEnds}
 use Rattle.ptb_explore.proofs.Bounds.{bounds-append, length-bounds}
 use Rattle.ptb_explore.proofs.Tree.{run_open}
 use Rattle.ptb_explore.proofs.Attempt.{Took, ends_at}

@@ -7,7 +7,7 @@ ghost use Rattle.ptb_text.specs.Device.{HasFailed};
 ghost use Rattle.ptb_explore.specs.Beginnings.{beginning_line, split_play, stopped};
 ghost use Rattle.ptb_explore.specs.Beginnings.{FindsBeginning, MovesTo};
 ghost use Rattle.ptb_explore.specs.Copies.{Agrees, AreCopies, PlaysOn, kept_runs};
-ghost use Rattle.ptb_explore.specs.Exploring.{AreCopiesAt, IsSameGame, NextPlays, game_of};
+ghost use Rattle.ptb_explore.specs.Explorations.{AreCopiesAt, IsSameGame, NextPlays, game_of};
 ghost use Rattle.ptb_explore.specs.Listing.{NextWrites, WritesRuns};
 ghost use Rattle.ptb_explore.specs.Plans.{EndsAt, IsFresh, IsPosition, front_at};
 ghost use Rattle.ptb_explore.specs.RunTree.{At, IsLast, Start, runs_left};
@@ -120,7 +120,7 @@ impl<'a> Model for Beginnings<'a> {
     ghost use Rattle.std.specs.Coded.{codes};
     ghost use Rattle.ptb_answers.specs.contracts.rules.Rules as rules_type;
     ghost use Rattle.ptb_explore.specs.Beginnings.{Splitting, stopped};
-    ghost use Rattle.ptb_explore.specs.Exploring.{AreCopiesAt, game_of};
+    ghost use Rattle.ptb_explore.specs.Explorations.{AreCopiesAt, game_of};
     ghost use Rattle.ptb_explore.specs.Plans.{IsPosition, front_at};
 
     ghost Value = { Splitting };

@@ -2,7 +2,7 @@
 
 ghost use Rattle.std.specs.Prelude.{◌≡◌, ◌≤◌, Ok, None, length};
 ghost use Rattle.std.specs.Prelude.{IfOk, IfSome, IfNone};
-ghost use Rattle.ptb_explore.specs.Exploring.{play_of, most_of, Reports};
+ghost use Rattle.ptb_explore.specs.Explorations.{play_of, most_of, Reports};
 ghost use Rattle.ptb_explore.specs.RunTree.{IsNextRun, IsLast};
 
 use crate::plan::Position;
@@ -34,7 +34,7 @@ impl<'a> Model for Explorer<'a> {
     ghost use Rattle.ptb_answers.specs.AnswerText.{answers_of};
     ghost use Rattle.ptb_answers.specs.contracts.rules.Rules as rules_type;
     ghost use Rattle.ptb_explore.specs.Copies.{kept_runs};
-    ghost use Rattle.ptb_explore.specs.Exploring.{Exploration, AreCopiesAt, game_of};
+    ghost use Rattle.ptb_explore.specs.Explorations.{Exploration, AreCopiesAt, game_of};
     ghost use Rattle.ptb_explore.specs.Plans.{IsPosition, front_at};
 
     ghost Value = { Exploration };
@@ -60,9 +60,9 @@ impl<'a> Model for Explorer<'a> {
 
 impl<'a> Explorer<'a> {
     ghost use Rattle.std.specs.Borrow.{sem};
-    ghost use Rattle.ptb_explore.specs.Lending.{NextRests};
+    ghost use Rattle.ptb_explore.specs.LentReports.{NextRests};
     ghost use Rattle.ptb_explore.specs.Copies.{ArePlaces};
-    ghost use Rattle.ptb_explore.specs.Exploring.{AreKeptAt};
+    ghost use Rattle.ptb_explore.specs.Explorations.{AreKeptAt};
 
     /// Goes to the next run, and lends its report. `None` says that no run is left; so does every
     /// later call then.

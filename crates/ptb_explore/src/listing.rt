@@ -2,7 +2,7 @@
 
 ghost use Rattle.std.specs.Prelude.{◌≡◌, ◌≤◌, ℕ, IsErrOf};
 ghost use Rattle.ptb_text.specs.Device.{HasFailed};
-ghost use Rattle.ptb_explore.specs.Exploring.{play_of, most_of};
+ghost use Rattle.ptb_explore.specs.Explorations.{play_of, most_of};
 ghost use Rattle.ptb_explore.specs.Listing.{less_one, NextWrites, WritesRuns};
 ghost use Rattle.ptb_explore.specs.Report.{report};
 ghost use Rattle.ptb_explore.specs.RunTree.{runs_left};

@@ -7,8 +7,8 @@ ghost use Rattle.ptb_machine.specs.Play.{Finish};
 ghost use Rattle.ptb_explore.specs.MarkedRuns.{states_bounds};
 ghost use Rattle.ptb_explore.specs.Mismatch.{IsItemMismatch, IsRunMismatch, MismatchLaws, TakesItems};
 ghost use Rattle.ptb_explore.specs.Plans.{IsTaken, IsTakenAlone};
-ghost use Rattle.ptb_explore.specs.Playing.{PlayEnds};
-ghost use Rattle.ptb_explore.specs.Recording.{choices_of};
+ghost use Rattle.ptb_explore.specs.PlannedPlays.{PlayEnds};
+ghost use Rattle.ptb_explore.specs.Recorders.{choices_of};
 
 use crate::recorder::Recorder;
 use ptb_answers::Marked;

@@ -161,7 +161,7 @@ impl Recorder {
 }
 
 impl Chooser for Recorder {
-    ghost use Rattle.ptb_explore.specs.Recording.{choices_of, RefusedByPlan};
+    ghost use Rattle.ptb_explore.specs.Recorders.{choices_of, RefusedByPlan};
 
     ghost choices = { choices_of };
 

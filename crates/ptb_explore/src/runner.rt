@@ -7,11 +7,11 @@ ghost use Rattle.ptb_answers.specs.Outcome.{is_open};
 ghost use Rattle.ptb_machine.specs.Play.{play};
 ghost use Rattle.ptb_explore.specs.Copies.{Agrees, AreCopies, PlaysOn, WentBack};
 ghost use Rattle.ptb_explore.specs.Copies.{kept_runs, last_steps, play_limit};
-ghost use Rattle.ptb_explore.specs.Exploring.{game_of, finish_of, AreCopiesAt, IsSameGame};
-ghost use Rattle.ptb_explore.specs.Exploring.{NextPlays, NextReports};
-ghost use Rattle.ptb_explore.specs.Playing.{IsRunPrefix, PlayEnds};
+ghost use Rattle.ptb_explore.specs.Explorations.{game_of, finish_of, AreCopiesAt, IsSameGame};
+ghost use Rattle.ptb_explore.specs.Explorations.{NextPlays, NextReports};
+ghost use Rattle.ptb_explore.specs.PlannedPlays.{IsRunPrefix, PlayEnds};
 ghost use Rattle.ptb_explore.specs.Plans.{front_at, EndsAt, IsFresh, IsPosition};
-ghost use Rattle.ptb_explore.specs.Recording.{choices_of};
+ghost use Rattle.ptb_explore.specs.Recorders.{choices_of};
 ghost use Rattle.ptb_explore.specs.RunTree.{IsLast};
 
 use crate::copies::Copies;

@@ -11,7 +11,7 @@ use Rattle.ptb_machine.specs.Play.{play}
 use Rattle.ptb_answers.specs.declared.form.Form.{Form}
 use Rattle.ptb_answers.specs.declared.form.Marked.{Marked}
 use Rattle.ptb_explore.specs.declared.fault.ExploreFault.{ExploreFault}
-use Rattle.ptb_explore.specs.Exploring.{Exploration, play_of, most_of}
+use Rattle.ptb_explore.specs.Explorations.{Exploration, play_of, most_of}
 use Rattle.ptb_explore.specs.Listing.{WritesRuns}
 use Rattle.ptb_explore.specs.Report.{report}
 use Rattle.ptb_explore.specs.RunTree.{Front, runs_left}

@@ -6,7 +6,7 @@ ghost use Rattle.ptb_answers.specs.declared.form.Marked.{Marked};
 ghost use Rattle.ptb_text.specs.Device.{HasFailed};
 ghost use Rattle.ptb_text.specs.Lines.{input_lines};
 ghost use Rattle.ptb_machine.specs.Play.{play};
-ghost use Rattle.ptb_explore.specs.Exploring.{exploration, play_of, most_of};
+ghost use Rattle.ptb_explore.specs.Explorations.{exploration, play_of, most_of};
 ghost use Rattle.ptb_explore.specs.Listing.{WritesRuns};
 ghost use Rattle.ptb_explore.specs.Report.{report};
 ghost use Rattle.ptb_explore.specs.RunTree.{Front, Start, runs_left};

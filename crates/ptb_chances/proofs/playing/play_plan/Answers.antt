@@ -1,7 +1,7 @@
 -- This file answers that a plan is played step by step, and what comes of it.
 use Rattle.std.proofs.Common.{◌≡◌, take, drop, length, refl, rules, sym, ap, ◌∙◌, arith, true, Ok, Err, Some, None, FitsSigned, w16, to_z-of_z}
 use Rattle.ptb_answers.specs.Outcome.{is_open}
-use Rattle.ptb_explore.specs.Playing.{run_from}
+use Rattle.ptb_explore.specs.PlannedPlays.{run_from}
 use Rattle.ptb_chances.specs.Planned.{choices_of}
 use Rattle.ptb_chances.proofs.Coming.{advanced, came_by, none_follow, never_out, never_unread, never_unwritten, plays_by, step_came, step_plays, step_plan, taken_within}
 use Rattle.ptb_chances.proofs.Picked.{whole}

@@ -7,11 +7,11 @@ use Rattle.ptb_explore.specs.Beginnings.{stopped}
 use Rattle.ptb_explore.specs.Plans.{front_at, HasPlan, PlansNext}
 use Rattle.ptb_report.proofs.WrittenReports.{on_err_always}
 use Rattle.ptb_explore.proofs.Exits.{on_some_at}
-use Rattle.ptb_explore.proofs.GoingOn.{next_played, position_copies}
-use Rattle.ptb_explore.proofs.Raising.{position_lengths, next_plan, last_plan, plan_ends}
+use Rattle.ptb_explore.proofs.ContinuedCopies.{next_played, position_copies}
+use Rattle.ptb_explore.proofs.RaisedAnswers.{position_lengths, next_plan, last_plan, plan_ends}
 use Rattle.ptb_explore.proofs.Shares.{plan_left}
-use Rattle.ptb_explore.proofs.Stopped.{stopped_reads}
-use Rattle.ptb_explore.proofs.Stopping.{beginning_agrees, plan_fits}
+use Rattle.ptb_explore.proofs.StoppedPlays.{stopped_reads}
+use Rattle.ptb_explore.proofs.StoppedPlans.{beginning_agrees, plan_fits}
 use Rattle.ptb_explore.proofs.beginnings.find_beginning.Goals as goal
 
 pub plan_next-requires : goal.plan_next-requires

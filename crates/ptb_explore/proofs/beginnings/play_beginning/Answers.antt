@@ -3,11 +3,11 @@ use Rattle.std.proofs.Common.{◌≡◌, ◌∙◌, arith, ap, refl, take, lengt
 use Rattle.std.proofs.lemmas.Result.{IfOk-from_err}
 use Rattle.ptb_machine.specs.Play.{play}
 use Rattle.ptb_machine.specs.Questions.{most_answers}
-use Rattle.ptb_explore.specs.Recording.{choices_of}
+use Rattle.ptb_explore.specs.Recorders.{choices_of}
 use Rattle.ptb_report.proofs.WrittenReports.{on_err_always}
 use Rattle.ptb_explore.proofs.Keep.{kept_same}
 use Rattle.ptb_explore.proofs.Runners.{changed}
-use Rattle.ptb_explore.proofs.Stopping.{beginning_ends, stopping_agrees}
+use Rattle.ptb_explore.proofs.StoppedPlans.{beginning_ends, stopping_agrees}
 use Rattle.ptb_explore.proofs.beginnings.play_beginning.Goals as goal
 
 pub stop_after-requires : goal.stop_after-requires

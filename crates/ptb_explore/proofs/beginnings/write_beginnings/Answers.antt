@@ -2,8 +2,8 @@
 use Rattle.std.proofs.Common.{rules, ◌∙◌, ap, refl, Err}
 use Rattle.ptb_explore.proofs.Exits.{ok_no_err}
 use Rattle.ptb_report.proofs.WrittenReports.{failed_after}
-use Rattle.ptb_explore.proofs.LineWriting.{game_reads, line_begun, line_refused, no_line, one_line_fewer, one_line_more, same_search}
-use Rattle.ptb_explore.proofs.Writing.{memory_no_write, memory_told}
+use Rattle.ptb_explore.proofs.WrittenLines.{game_reads, line_begun, line_refused, no_line, one_line_fewer, one_line_more, same_search}
+use Rattle.ptb_explore.proofs.WrittenReports.{memory_no_write, memory_told}
 use Rattle.ptb_explore.proofs.beginnings.write_beginnings.Goals as goal
 
 pub loop-written-init : goal.loop-written-init

@@ -2,7 +2,7 @@
 use Rattle.std.proofs.Common.{◌∙◌, ap, true}
 use Rattle.ptb_answers.specs.Outcome.{bounds}
 use Rattle.ptb_explore.specs.Beginnings.{MovesTo, Splitting, split_play}
-use Rattle.ptb_explore.proofs.LineWriting.{game_of, same_length}
+use Rattle.ptb_explore.proofs.WrittenLines.{game_of, same_length}
 use Rattle.ptb_explore.proofs.beginnings.write_next_line.Goals as goal
 
 pub write_list-requires : goal.write_list-requires

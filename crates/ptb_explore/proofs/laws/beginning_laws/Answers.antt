@@ -1,5 +1,5 @@
 -- This file answers that the lists that split the runs of every reader have their laws.
-use Rattle.ptb_explore.proofs.Stopped.{beginning_laws}
+use Rattle.ptb_explore.proofs.StoppedPlays.{beginning_laws}
 use Rattle.ptb_explore.proofs.laws.beginning_laws.Goals as goal
 
 pub returns : goal.returns

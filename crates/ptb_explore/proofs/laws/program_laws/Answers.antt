@@ -2,11 +2,11 @@
 -- samples.
 use Rattle.ptb_machine.specs.Play.{play}
 use Rattle.ptb_machine.specs.Questions.{most_answers}
-use Rattle.ptb_explore.proofs.Behind.{listing_laws}
+use Rattle.ptb_explore.proofs.RunsAfter.{listing_laws}
 use Rattle.ptb_explore.proofs.ReportAnswers.{report_laws}
 use Rattle.ptb_explore.proofs.Samples.{sample_laws}
 use Rattle.ptb_explore.proofs.Shares.{share_laws}
-use Rattle.ptb_explore.proofs.Stopped.{beginning_laws}
+use Rattle.ptb_explore.proofs.StoppedPlays.{beginning_laws}
 use Rattle.ptb_explore.proofs.Tree.{tree_laws}
 use Rattle.ptb_explore.proofs.laws.program_laws.Goals as goal
 

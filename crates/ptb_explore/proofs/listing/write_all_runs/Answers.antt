@@ -3,7 +3,7 @@ use Rattle.std.proofs.Common.{rules, ◌∙◌, ap, refl, Err}
 use Rattle.std.proofs.Math.Nat.{le_trans}
 use Rattle.ptb_explore.proofs.Exits.{ok_no_err}
 use Rattle.ptb_report.proofs.WrittenReports.{failed_after}
-use Rattle.ptb_explore.proofs.Writing.{memory_no_write, memory_told, same_after, all_wanted, none_next, list_refused, part_written, one_fewer, one_more}
+use Rattle.ptb_explore.proofs.WrittenReports.{memory_no_write, memory_told, same_after, all_wanted, none_next, list_refused, part_written, one_fewer, one_more}
 use Rattle.ptb_explore.proofs.listing.write_all_runs.Goals as goal
 
 pub loop-form-init : goal.loop-form-init

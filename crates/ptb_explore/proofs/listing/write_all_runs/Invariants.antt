@@ -2,7 +2,7 @@
 use Rattle.std.proofs.Common.{◌≡◌, ◌≤◌, length}
 use Rattle.ptb_explore.specs.RunTree.{runs_left, runs_after}
 use Rattle.ptb_explore.specs.Report.{report}
-use Rattle.ptb_explore.specs.Exploring.{play_of, most_of}
+use Rattle.ptb_explore.specs.Explorations.{play_of, most_of}
 use Rattle.ptb_explore.proofs.Progress.{Progress}
 use Rattle.ptb_explore.proofs.listing.write_all_runs.Given as goal
 

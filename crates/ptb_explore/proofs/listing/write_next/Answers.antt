@@ -2,7 +2,7 @@
 use Rattle.std.proofs.Common.{rules, ◌≡◌, ◌∙◌, ap, sym, length, []}
 use Rattle.ptb_answers.specs.Outcome.{bounds}
 use Rattle.ptb_explore.proofs.Bounds.{length-bounds}
-use Rattle.ptb_explore.specs.Exploring.{Reports, play_of}
+use Rattle.ptb_explore.specs.Explorations.{Reports, play_of}
 use Rattle.ptb_explore.proofs.listing.write_next.Goals as goal
 
 pub write-requires : goal.write-requires

@@ -5,10 +5,10 @@ use Rattle.ptb_answers.specs.declared.form.Marked.{Marked}
 use Rattle.ptb_answers.specs.AnswerText.{without_bound}
 use Rattle.ptb_command.specs.declared.ending.Ending.TheVariants as endings
 use Rattle.ptb_explore.specs.MarkedRuns.{states_bounds}
-use Rattle.ptb_explore.specs.Playing.{PlayEnds}
-use Rattle.ptb_explore.specs.Recording.{choices_of}
+use Rattle.ptb_explore.specs.PlannedPlays.{PlayEnds}
+use Rattle.ptb_explore.specs.Recorders.{choices_of}
 use Rattle.ptb_explore.proofs.Mismatches.{if_none_at, none_is}
-use Rattle.ptb_explore.proofs.Taken.{stops_outside, stops_over, takes_items}
+use Rattle.ptb_explore.proofs.TakenItems.{stops_outside, stops_over, takes_items}
 use Rattle.ptb_explore.proofs.mismatch.item_mismatch.Goals as goal
 
 abbrev none : Marked

@@ -3,7 +3,7 @@ use Rattle.std.proofs.Common.{rules, ◌≡◌, [], ℤ, ap, arith, length, refl
 use Rattle.std.proofs.Math.Seq.{take-length}
 use Rattle.ptb_explore.specs.MarkedRuns.{states_bounds}
 use Rattle.ptb_explore.proofs.Mismatches.{all_fit, if_none_at, if_some_more, item_is_run, missing_item, none_is}
-use Rattle.ptb_explore.proofs.Taken.{has_all, takes_all}
+use Rattle.ptb_explore.proofs.TakenItems.{has_all, takes_all}
 use Rattle.ptb_explore.proofs.mismatch.run_mismatch.Goals as goal
 
 pub returns-then-is_some-clause-mismatch : goal.returns-then-is_some-clause-mismatch

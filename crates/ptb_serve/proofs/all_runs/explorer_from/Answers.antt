@@ -4,7 +4,7 @@ use Rattle.std.specs.Result.{OnOk}
 use Rattle.std.proofs.lemmas.Result.{IfOk-weaker, err_from_is_err_and}
 use Rattle.ptb_answers.specs.AnswerText.{answers_of}
 use Rattle.ptb_machine.specs.Play.{play}
-use Rattle.ptb_explore.specs.Exploring.{Exploration, exploration}
+use Rattle.ptb_explore.specs.Explorations.{Exploration, exploration}
 use Rattle.ptb_explore.specs.RunTree.{At}
 use Rattle.ptb_serve.specs.ListMismatches.{IsUnbegun, items_of}
 use Rattle.ptb_serve.specs.Replies.{answers_under, front_note, note_of}

@@ -1,6 +1,6 @@
 -- This file answers that a search has the bounds of the answers at which it is.
 use Rattle.std.proofs.Common.{◌∙◌, refl}
-use Rattle.ptb_explore.proofs.LineWriting.{bounds_of_search}
+use Rattle.ptb_explore.proofs.WrittenLines.{bounds_of_search}
 use Rattle.ptb_explore.proofs.beginnings.Beginnings.bounds.Goals as goal
 
 pub returns : goal.returns

@@ -1,8 +1,8 @@
 -- This file answers that a search may begin before the first list.
 use Rattle.std.proofs.Common.{refl}
 use Rattle.ptb_machine.specs.Questions.{most_answers}
-use Rattle.ptb_explore.specs.Exploring.{game_of}
-use Rattle.ptb_explore.proofs.Stopped.{stopped_reads}
+use Rattle.ptb_explore.specs.Explorations.{game_of}
+use Rattle.ptb_explore.proofs.StoppedPlays.{stopped_reads}
 use Rattle.ptb_explore.proofs.beginnings.Beginnings.start.Goals as goal
 
 pub invariant_of-result : goal.invariant_of-result

@@ -2,7 +2,7 @@
 use Rattle.std.proofs.Common.{◌≡◌, ◌∙◌, [], ap, sym, subst, refl, true}
 use Rattle.ptb_answers.specs.AnswerText.{answers_of}
 use Rattle.ptb_machine.specs.Questions.{most_answers}
-use Rattle.ptb_explore.specs.Exploring.{Exploration, IsAdded, exploration, game_of, play_of}
+use Rattle.ptb_explore.specs.Explorations.{Exploration, IsAdded, exploration, game_of, play_of}
 use Rattle.ptb_explore.specs.Copies.{kept_runs}
 use Rattle.ptb_explore.specs.Plans.{front_at}
 use Rattle.ptb_explore.specs.MarkedRuns.{IsMarkedRun}

@@ -2,8 +2,8 @@
 use Rattle.std.proofs.Common.{arith, subst}
 use Rattle.std.proofs.lemmas.Grind.{common_steps}
 use Rattle.ptb_explore.specs.Copies.{ArePlaces}
-use Rattle.ptb_explore.specs.Exploring.{Exploration, AreKeptAt}
-use Rattle.ptb_explore.proofs.GoingOn.{kept_at, places_at}
+use Rattle.ptb_explore.specs.Explorations.{Exploration, AreKeptAt}
+use Rattle.ptb_explore.proofs.ContinuedCopies.{kept_at, places_at}
 use Rattle.ptb_explore.proofs.explorer.Explorer.kept.Goals as goal
 
 pub returns-clause-front : goal.returns-clause-front

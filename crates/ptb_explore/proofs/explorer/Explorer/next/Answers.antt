@@ -4,11 +4,11 @@ use Rattle.ptb_answers.specs.AnswerText.{answers_of}
 use Rattle.ptb_answers.specs.Outcome.{Answers}
 use Rattle.ptb_explore.specs.declared.runner.Runner.{Runner}
 use Rattle.ptb_explore.specs.Copies.{KeptRun, kept_runs}
-use Rattle.ptb_explore.specs.Exploring.{Exploration, FoundNext, NextPlays, RefusedNext, exploration, game_of, play_of, played_after}
+use Rattle.ptb_explore.specs.Explorations.{Exploration, FoundNext, NextPlays, RefusedNext, exploration, game_of, play_of, played_after}
 use Rattle.ptb_explore.specs.Plans.{front_at}
 use Rattle.ptb_explore.specs.RunTree.{At, Front, IsLast}
 use Rattle.ptb_explore.proofs.Exits.{err_no_ok}
-use Rattle.ptb_explore.proofs.GoingOn.{none_at}
+use Rattle.ptb_explore.proofs.ContinuedCopies.{none_at}
 use Rattle.ptb_explore.proofs.Keep.{kept_beginnings}
 use Rattle.ptb_explore.proofs.Opened.{stays}
 use Rattle.ptb_explore.proofs.explorer.Explorer.next.Goals as goal

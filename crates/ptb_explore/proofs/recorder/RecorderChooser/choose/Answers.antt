@@ -2,7 +2,7 @@
 use Rattle.std.proofs.Common.{rules, ◌≡◌, ◌-◌, ◌<◌, [], ◌∷◌, ◌++◌, length, get_or, take, replicate, vec_len, arith, ap, sym, ◌∙◌, inl, inr, pos, FitsSigned, w16, to_z-of_z}
 use Rattle.std.proofs.lemmas.Grind.{common_steps}
 use Rattle.std.proofs.lemmas.Bool.{cases_lt}
-use Rattle.ptb_explore.proofs.Recording.{next_planned, ones_push}
+use Rattle.ptb_explore.proofs.RecorderPlans.{next_planned, ones_push}
 use Rattle.ptb_explore.proofs.recorder.RecorderChooser.choose.Goals as goal
 
 -- the plan has this answer next, since it isn't one of the ones after it: as many were given as there are answers once there are ones

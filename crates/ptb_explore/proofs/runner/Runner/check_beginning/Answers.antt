@@ -4,14 +4,14 @@ use Rattle.ptb_answers.specs.Outcome.{Answers}
 use Rattle.ptb_machine.specs.Play.{Finish}
 use Rattle.ptb_machine.specs.Questions.{most_answers}
 use Rattle.ptb_explore.specs.Copies.{more_played, play_limit}
-use Rattle.ptb_explore.specs.Exploring.{game_of}
+use Rattle.ptb_explore.specs.Explorations.{game_of}
 use Rattle.ptb_explore.specs.Mismatch.{IsItemMismatch}
 use Rattle.ptb_explore.specs.RunTree.{Start, IsNextRun}
-use Rattle.ptb_explore.proofs.Begun.{list_opens, begun_stated}
+use Rattle.ptb_explore.proofs.BegunRuns.{list_opens, begun_stated}
 use Rattle.ptb_explore.proofs.Exits.{same_misfit}
 use Rattle.ptb_explore.proofs.Mismatches.{answers_length, if_none_at, if_some_at}
 use Rattle.ptb_explore.proofs.Next.{next_same}
-use Rattle.ptb_explore.proofs.Raising.{plan_ends, start_plan}
+use Rattle.ptb_explore.proofs.RaisedAnswers.{plan_ends, start_plan}
 use Rattle.ptb_explore.proofs.Trial.{begun_opens, open_ends, result_is}
 use Rattle.ptb_explore.proofs.runner.Runner.check_beginning.Goals as goal
 

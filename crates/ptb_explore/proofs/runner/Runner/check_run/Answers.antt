@@ -5,10 +5,10 @@ use Rattle.ptb_answers.specs.Outcome.{bounds}
 use Rattle.ptb_machine.specs.Play.{Finish}
 use Rattle.ptb_machine.specs.Questions.{most_answers}
 use Rattle.ptb_explore.specs.Copies.{more_played, play_limit}
-use Rattle.ptb_explore.specs.Exploring.{game_of}
+use Rattle.ptb_explore.specs.Explorations.{game_of}
 use Rattle.ptb_explore.specs.MarkedRuns.{states_bounds}
 use Rattle.ptb_explore.specs.Mismatch.{IsRunMismatch}
-use Rattle.ptb_explore.specs.Recording.{choices_of}
+use Rattle.ptb_explore.specs.Recorders.{choices_of}
 use Rattle.ptb_explore.specs.RunTree.{IsRun}
 use Rattle.ptb_explore.proofs.Exits.{ok_no_err, same_reason}
 use Rattle.ptb_explore.proofs.Keep.{kept_same}

@@ -7,10 +7,10 @@ use Rattle.std.proofs.lemmas.Result.{IfOk-from_err}
 use Rattle.ptb_command.specs.Configuration.{Configuration}
 use Rattle.ptb_devices.specs.Sources.{LineList}
 use Rattle.ptb_explore.specs.Copies.{GoesBackTo, machine_of, steps_or_none}
-use Rattle.ptb_explore.proofs.GoingOn.{on_copies, on_len, on_prefix}
+use Rattle.ptb_explore.proofs.ContinuedCopies.{on_copies, on_len, on_prefix}
 use Rattle.ptb_explore.proofs.Keep.{goes_on, kept_none, stands_machine}
 use Rattle.ptb_explore.proofs.Exits.{on_ok_always}
-use Rattle.ptb_explore.proofs.GoingBack.{same_plan, none_taken, no_copies, begun_prefix, begun_steps, copy_left}
+use Rattle.ptb_explore.proofs.RestoredCopies.{same_plan, none_taken, no_copies, begun_prefix, begun_steps, copy_left}
 use Rattle.ptb_explore.proofs.Trial.{fresh_plan}
 use Rattle.ptb_explore.proofs.runner.Runner.go_back.Goals as goal
 

@@ -4,8 +4,8 @@ use Rattle.std.specs.Prelude.{ℤ}
 use Rattle.ptb_devices.specs.Sources.{LineList}
 use Rattle.ptb_machine.specs.Play.{play}
 use Rattle.ptb_explore.specs.Copies.{AreCopies}
-use Rattle.ptb_explore.specs.Playing.{PlayEnds}
-use Rattle.ptb_explore.specs.Recording.{choices_of}
+use Rattle.ptb_explore.specs.PlannedPlays.{PlayEnds}
+use Rattle.ptb_explore.specs.Recorders.{choices_of}
 use Rattle.ptb_explore.proofs.RunPrefix.{run_prefix_at_first}
 use Rattle.ptb_explore.proofs.Runners.{reported}
 use Rattle.ptb_explore.proofs.Trial.{fresh_plan}

@@ -4,7 +4,7 @@ use Rattle.std.proofs.lemmas.List.{length-take-le}
 use Rattle.ptb_machine.specs.Play.{play}
 use Rattle.ptb_answers.specs.Outcome.{Answers}
 use Rattle.ptb_explore.specs.Copies.{AreTakenBy, StandsAt, taken_choices}
-use Rattle.ptb_explore.specs.Recording.{RefusedByPlan, choices_of}
+use Rattle.ptb_explore.specs.Recorders.{RefusedByPlan, choices_of}
 use Rattle.ptb_explore.specs.declared.recorder.Recorder.{Recorder}
 use Rattle.ptb_explore.proofs.Limits.{taken_by}
 use Rattle.ptb_explore.proofs.Keep.{kept_longer, kept_more, kept_same}

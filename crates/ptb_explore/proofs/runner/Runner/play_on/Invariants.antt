@@ -2,8 +2,8 @@
 use Rattle.std.proofs.Common.{◌≡◌, ◌≤◌, ◌-◌, length, drop, false}
 use Rattle.ptb_machine.specs.Steps.{FitsProgram}
 use Rattle.ptb_explore.specs.Copies.{AreCopies}
-use Rattle.ptb_explore.specs.Playing.{IsRunPrefix}
-use Rattle.ptb_explore.specs.Recording.{choices_of}
+use Rattle.ptb_explore.specs.PlannedPlays.{IsRunPrefix}
+use Rattle.ptb_explore.specs.Recorders.{choices_of}
 use Rattle.ptb_explore.proofs.runner.Runner.play_on.Given as goal
 
 abbrev pub invariant-loop-ending : goal.invariant-loop-ending

@@ -7,9 +7,9 @@ use Rattle.ptb_devices.specs.Sources.{LineList}
 use Rattle.ptb_machine.specs.Play.{Finish}
 use Rattle.ptb_explore.specs.declared.runner.Runner.{Runner}
 use Rattle.ptb_explore.specs.Copies.{last_steps, more_played, play_limit}
-use Rattle.ptb_explore.specs.Playing.{PlayEnds}
-use Rattle.ptb_explore.specs.Recording.{choices_of}
-use Rattle.ptb_explore.proofs.GoingBack.{agrees_same, prefix_of_same}
+use Rattle.ptb_explore.specs.PlannedPlays.{PlayEnds}
+use Rattle.ptb_explore.specs.Recorders.{choices_of}
+use Rattle.ptb_explore.proofs.RestoredCopies.{agrees_same, prefix_of_same}
 use Rattle.ptb_explore.proofs.Keep.{kept_same}
 use Rattle.ptb_explore.proofs.Runners.{copies_stay, counted, game_is, still_same}
 use Rattle.ptb_explore.proofs.runner.Runner.play_plan.Goals as goal

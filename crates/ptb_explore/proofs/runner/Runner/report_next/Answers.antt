@@ -7,8 +7,8 @@ use Rattle.ptb_machine.specs.Questions.{most_answers}
 use Rattle.ptb_explore.specs.Plans.{front_at, HasPlan, PlansNext}
 use Rattle.ptb_report.proofs.WrittenReports.{on_err_always}
 use Rattle.ptb_explore.proofs.Exits.{on_some_at}
-use Rattle.ptb_explore.proofs.GoingOn.{next_agrees, next_played, position_copies}
-use Rattle.ptb_explore.proofs.Raising.{position_lengths, next_plan, last_plan, plan_ends}
+use Rattle.ptb_explore.proofs.ContinuedCopies.{next_agrees, next_played, position_copies}
+use Rattle.ptb_explore.proofs.RaisedAnswers.{position_lengths, next_plan, last_plan, plan_ends}
 use Rattle.ptb_explore.proofs.Shares.{plan_left}
 use Rattle.ptb_explore.proofs.runner.Runner.report_next.Goals as goal
 

@@ -16,8 +16,8 @@ use Rattle.ptb_answers.specs.Outcome.{Answers}
 use Rattle.ptb_machine.specs.Play.{play}
 use Rattle.ptb_explore.specs.Copies.{Agrees, GoesBack, GoesBackTo, WentBack, last_steps}
 use Rattle.ptb_explore.specs.Plans.{IsFresh}
-use Rattle.ptb_explore.specs.Playing.{IsRunPrefix}
-use Rattle.ptb_explore.specs.Recording.{choices_of}
+use Rattle.ptb_explore.specs.PlannedPlays.{IsRunPrefix}
+use Rattle.ptb_explore.specs.Recorders.{choices_of}
 use Rattle.ptb_explore.proofs.RunPrefix.{run_prefix_at_first}
 use Rattle.ptb_explore.proofs.Trial.{fresh_plan}
 

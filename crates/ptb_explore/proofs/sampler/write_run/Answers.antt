@@ -6,7 +6,7 @@ use Rattle.ptb_machine.specs.Play.{play}
 use Rattle.ptb_machine.specs.Questions.{most_answers}
 use Rattle.ptb_answers.proofs.Seeds.{length-drawn}
 use Rattle.ptb_explore.proofs.DrawnRuns.{words_left, written_is}
-use Rattle.ptb_explore.proofs.sampling.write_run.Goals as goal
+use Rattle.ptb_explore.proofs.sampler.write_run.Goals as goal
 
 pub write-requires : goal.write-requires
 write-requires g c =

@@ -6,7 +6,7 @@ use Rattle.ptb_devices.specs.Sources.{LineList}
 use Rattle.ptb_machine.specs.Play.{play}
 use Rattle.ptb_explore.proofs.RunPrefix.{advanced, step_goes, run_prefix_at_first, none_follow, never_unread, never_unwritten}
 use Rattle.ptb_explore.proofs.DrawnRuns.{drawn_ends, plays_drawn}
-use Rattle.ptb_explore.proofs.sampling.play_drawn.Goals as goal
+use Rattle.ptb_explore.proofs.sampler.play_drawn.Goals as goal
 
 pub steps-init : goal.steps-init
 steps-init c =

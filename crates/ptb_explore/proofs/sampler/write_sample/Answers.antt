@@ -4,7 +4,7 @@ use Rattle.ptb_machine.specs.Play.{play}
 use Rattle.ptb_machine.specs.Questions.{most_answers}
 use Rattle.ptb_explore.specs.Report.{report}
 use Rattle.ptb_explore.proofs.Samples.{refused_at_first, sample_laws}
-use Rattle.ptb_explore.proofs.sampling.write_sample.Goals as goal
+use Rattle.ptb_explore.proofs.sampler.write_sample.Goals as goal
 
 pub returns-then-runs-eq0-clause-laws : goal.returns-then-runs-eq0-clause-laws
 returns-then-runs-eq0-clause-laws g c =

@@ -7,7 +7,7 @@ use Rattle.std.specs.Io.BufRead.{Rests}
 use mir.Syntax.{named}
 use Rattle.ptb_explore.specs.declared.report.Report.{Report}
 use Rattle.ptb_explore.specs.contracts.explorer.Explorer.{the_row}
-use Rattle.ptb_explore.specs.Exploring.{Exploration, NextLeaves}
+use Rattle.ptb_explore.specs.Explorations.{Exploration, NextLeaves}
 
 abbrev pub NextRests : MutBor Exploration → Result (Option (Bor Report)) AllocError → Fml
 NextRests e result = Rests (the_row (record { mir = named 0; lft = [] })) e (λ new. NextLeaves e.now result new)

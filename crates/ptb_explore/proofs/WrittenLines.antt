@@ -16,7 +16,7 @@ use Rattle.ptb_explore.specs.Plans.{IsPosition, front_at}
 use Rattle.ptb_explore.specs.RunTree.{At, Front, runs_after}
 use Rattle.ptb_explore.proofs.Bounds.{length-bounds}
 use Rattle.ptb_explore.proofs.Progress.{Progress, fewer_left, progress_into, progress_last, progress_more, progress_some}
-use Rattle.ptb_explore.proofs.Stopped.{bounds_within, run_within, stopped_reads}
+use Rattle.ptb_explore.proofs.StoppedPlays.{bounds_within, run_within, stopped_reads}
 
 -- ---- the bounds of a list
 

@@ -4,7 +4,7 @@ use Rattle.ptb_machine.specs.Play.{play}
 use Rattle.ptb_machine.specs.Questions.{most_answers}
 use Rattle.ptb_explore.specs.Report.{report}
 use Rattle.ptb_explore.proofs.Samples.{Sampled}
-use Rattle.ptb_explore.proofs.sampling.write_runs.Given as goal
+use Rattle.ptb_explore.proofs.sampler.write_runs.Given as goal
 
 abbrev pub invariant-loop-remaining : goal.invariant-loop-remaining
 invariant-loop-remaining g l =

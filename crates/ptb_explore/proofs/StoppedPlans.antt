@@ -15,12 +15,12 @@ use Rattle.ptb_explore.specs.declared.recorder.Recorder.{Recorder}
 use Rattle.ptb_explore.specs.Beginnings.{stopped}
 use Rattle.ptb_explore.specs.Copies.{Agrees}
 use Rattle.ptb_explore.specs.Plans.{EndsAt, IsPosition, PlansNext, stopping_plan}
-use Rattle.ptb_explore.specs.Playing.{Holds, NextIsOutside, PlayEnds}
-use Rattle.ptb_explore.specs.Recording.{choices_of}
+use Rattle.ptb_explore.specs.PlannedPlays.{Holds, NextIsOutside, PlayEnds}
+use Rattle.ptb_explore.specs.Recorders.{choices_of}
 use Rattle.ptb_explore.specs.RunTree.{IsRun}
 use Rattle.ptb_explore.proofs.Attempt.{all_ones, out_closes, run_closes}
-use Rattle.ptb_explore.proofs.Raising.{plan_begins}
-use Rattle.ptb_explore.proofs.Stopped.{asking_run, bounds_within, open_within, run_within, whole_run}
+use Rattle.ptb_explore.proofs.RaisedAnswers.{plan_begins}
+use Rattle.ptb_explore.proofs.StoppedPlays.{asking_run, bounds_within, open_within, run_within, whole_run}
 use Rattle.ptb_explore.proofs.Tree.{run_asks}
 
 -- ---- the first answers of a plan that stops

@@ -2,8 +2,8 @@
 use Rattle.std.proofs.Common.{◌≡◌, ◌-◌, drop, false}
 use Rattle.ptb_answers.specs.Seeds.{seeded_choices}
 use Rattle.ptb_machine.specs.Steps.{FitsProgram}
-use Rattle.ptb_explore.specs.Playing.{IsRunPrefix}
-use Rattle.ptb_explore.proofs.sampling.play_drawn.Given as goal
+use Rattle.ptb_explore.specs.PlannedPlays.{IsRunPrefix}
+use Rattle.ptb_explore.proofs.sampler.play_drawn.Given as goal
 
 abbrev pub invariant-steps : goal.invariant-steps
 invariant-steps l = record {

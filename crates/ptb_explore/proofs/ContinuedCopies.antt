@@ -15,11 +15,11 @@ use Rattle.ptb_explore.specs.declared.plan.Position.{Position}
 use Rattle.ptb_explore.specs.declared.plan.Position.TheVariants.{AtStart, AtRun, AtEnd}
 use Rattle.ptb_explore.specs.declared.report.Report.{Report}
 use Rattle.ptb_explore.specs.Copies.{machine_of, taken_choices, AreCopies, ArePlaces, Agrees, kept_runs, kept_steps, WentBack, last_steps, PlaysOn, more_played}
-use Rattle.ptb_explore.specs.Exploring.{AreCopiesAt, AreKeptAt}
-use Rattle.ptb_explore.specs.Playing.{IsRunPrefix}
+use Rattle.ptb_explore.specs.Explorations.{AreCopiesAt, AreKeptAt}
+use Rattle.ptb_explore.specs.PlannedPlays.{IsRunPrefix}
 use Rattle.ptb_explore.specs.Plans.{IsPosition, PlansNext, front_at}
 use Rattle.ptb_explore.proofs.Keep.{GoesOn, agreed_bounds, agreed_len, agreed_taken, kept_beginnings, kept_none, kept_places, kept_same, stands_machine, steps_behind}
-use Rattle.ptb_explore.proofs.Raising.{plan_begins}
+use Rattle.ptb_explore.proofs.RaisedAnswers.{plan_begins}
 use Rattle.ptb_explore.proofs.RunPrefix.{prefix_to}
 
 -- the plan begins as the run does at which the listing is

@@ -13,8 +13,8 @@ use Rattle.ptb_machine.specs.Play.{Finish}
 use Rattle.ptb_explore.specs.declared.recorder.Recorder.{Recorder}
 use Rattle.ptb_explore.specs.Mismatch.{IsOutOfRange, IsOver, TakesItems}
 use Rattle.ptb_explore.specs.MarkedRuns.{states_bounds}
-use Rattle.ptb_explore.specs.Playing.{Holds, PlayEnds, NextIsOutside}
-use Rattle.ptb_explore.specs.Recording.{choices_of}
+use Rattle.ptb_explore.specs.PlannedPlays.{Holds, PlayEnds, NextIsOutside}
+use Rattle.ptb_explore.specs.Recorders.{choices_of}
 use Rattle.ptb_explore.proofs.Mismatches.{HasBounds, answers_length, answers_split, answers_take, no_question, out_of_range, split_there, take_twice}
 use Rattle.ptb_explore.proofs.Trial.{begun_opens, open_ends}
 

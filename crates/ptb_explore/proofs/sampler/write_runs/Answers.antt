@@ -9,7 +9,7 @@ use Rattle.ptb_devices.specs.declared.fault.ScreenFault.{ScreenFault}
 use Rattle.ptb_explore.specs.Sampling.{WritesFirst, WritesRun}
 use Rattle.ptb_explore.proofs.DrawnRuns.{left_by, run_of}
 use Rattle.ptb_explore.proofs.Samples.{sampled_next, sampled_part, sampled_some}
-use Rattle.ptb_explore.proofs.sampling.write_runs.Goals as goal
+use Rattle.ptb_explore.proofs.sampler.write_runs.Goals as goal
 
 pub loop-remaining-preserved : goal.loop-remaining-preserved
 loop-remaining-preserved g c =

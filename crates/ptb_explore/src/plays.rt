@@ -3,10 +3,10 @@
 ghost use Rattle.std.specs.Prelude.{◌≡◌, ◌-◌, ◌<◌, ◌+◌, ◌≤◌, false, [], length, drop, IfOk, OnOk, OnErr};
 ghost use Rattle.ptb_machine.specs.Play.{play};
 ghost use Rattle.ptb_explore.specs.Copies.{AreCopies, more_played, play_limit};
-ghost use Rattle.ptb_explore.specs.Exploring.{game_of, IsSameGame};
+ghost use Rattle.ptb_explore.specs.Explorations.{game_of, IsSameGame};
 ghost use Rattle.ptb_explore.specs.Plans.{IsFresh};
-ghost use Rattle.ptb_explore.specs.Playing.{PlayEnds, IsRunPrefix};
-ghost use Rattle.ptb_explore.specs.Recording.{choices_of};
+ghost use Rattle.ptb_explore.specs.PlannedPlays.{PlayEnds, IsRunPrefix};
+ghost use Rattle.ptb_explore.specs.Recorders.{choices_of};
 
 use crate::copies::Progress;
 use crate::runner::Runner;
