@@ -7,7 +7,7 @@
 use Rattle.std.specs.Prelude.{◌≡◌, ℕ, ◌+◌, ◌<◌, List, map, Option, None, Some, ◌++◌, codes, length}
 use Rattle.ptb_numbers.specs.Fractions.{Ratio, Equals, plus}
 use Rattle.ptb_explore.specs.Chances.{RunResult, Row, ratio_text}
-use Rattle.ptb_explore.specs.Report.{word_of}
+use Rattle.ptb_explore.specs.Report.{ending_word}
 use Rattle.ptb_report.specs.Report.{field}
 use Rattle.ptb_numbers.specs.Decimals.{decimals}
 use Rattle.ptb_chances.specs.declared.result_key.ResultKey.{ResultKey}
@@ -35,4 +35,4 @@ share_text chance runs = codes "CHANCE " ++ ratio_text chance ++ field (decimals
 
 -- the rest of its first line, and its second
 abbrev pub result_text : RunResult → List ℕ
-result_text r = field (word_of r.ending) ++ field (decimals (length r.line)) ++ codes "\n" ++ r.line ++ codes "\n"
+result_text r = field (ending_word r.ending) ++ field (decimals (length r.line)) ++ codes "\n" ++ r.line ++ codes "\n"

@@ -8,7 +8,7 @@ use Rattle.std.proofs.Math.Seq.{take-length}
 use Rattle.ptb_answers.specs.Outcome.{Answers, Outcome, Done, Asks, Out, IsReader, is_answer, is_open, bounds}
 use Rattle.ptb_answers.proofs.Readers.{whole_is}
 use Rattle.ptb_explore.specs.RunTree.{IsRun}
-use Rattle.ptb_explore.specs.Plans.{AllOnes, EndsAt}
+use Rattle.ptb_explore.specs.Plans.{AllOnes, PlanEndsWith}
 
 pub all_ones : (n : ℕ) → AllOnes (replicate n (pos 1))
 all_ones zero = tt
@@ -58,7 +58,7 @@ module _ {A W : Type 0} (play : Answers → Outcome A W) (most : ℕ) (reads : I
         absurd (run_closes play most reads (take count answers) r.1 r.0 result took.came (rw (← r.2, ← same) o))
   ]
 
-  pub ends_at : (bounded : List ℤ) → is_open (play plan) ≡ true → bounded ≡ bounds play (take count answers) → EndsAt play plan answers bounded result
+  pub ends_at : (bounded : List ℤ) → is_open (play plan) ≡ true → bounded ≡ bounds play (take count answers) → PlanEndsWith play plan answers bounded result
   ends_at bounded o b =
       let t = all_taken o in
       record {

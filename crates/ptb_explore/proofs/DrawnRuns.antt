@@ -25,7 +25,7 @@ use Rattle.ptb_machine.specs.Steps.{Steps}
 use Rattle.ptb_machine.specs.TurnResults.{StepComes, StepsTo}
 use Rattle.ptb_report.specs.Report.{report_text}
 use Rattle.ptb_explore.specs.PlannedPlays.{Holds, IsRunPrefix}
-use Rattle.ptb_explore.specs.Report.{report, report_of, word_of}
+use Rattle.ptb_explore.specs.Report.{report, report_of, ending_word}
 use Rattle.ptb_explore.specs.Sampling.{PlaysDrawn, WritesRun}
 use Rattle.ptb_devices.specs.declared.fault.ScreenFault.{ScreenFault}
 use Rattle.ptb_explore.proofs.RunPrefix.{ends_dry, ends_so, text_state}
@@ -74,15 +74,15 @@ module _ (play : Answers → Outcome Finish (List ℕ)) (most : ℕ) (reads : Is
   pub run_is : drawn_from first s.bounds ≡ answers_by most first play
   run_is = drawn_alone most first play (drawn_from first s.bounds) reads (record { run = ap is_whole h.outcome; drawn = ap (drawn_from first) h.bounds_are })
 
-  report_drawn : (form : Form) → report form play (drawn_from first s.bounds) ≡ report_text (items_in form (drawn_from first s.bounds) s.bounds) (word_of f.ending) f.steps f.shown
+  report_drawn : (form : Form) → report form play (drawn_from first s.bounds) ≡ report_text (items_in form (drawn_from first s.bounds) s.bounds) (ending_word f.ending) f.steps f.shown
   report_drawn form =
       ap (λ (o : Outcome Finish (List ℕ)). report_of (items_in form (drawn_from first s.bounds) (bounds play (drawn_from first s.bounds))) o) h.outcome
-      ∙ ap (λ (bs : List ℤ). report_text (items_in form (drawn_from first s.bounds) bs) (word_of f.ending) f.steps f.shown) (sym h.bounds_are)
+      ∙ ap (λ (bs : List ℤ). report_text (items_in form (drawn_from first s.bounds) bs) (ending_word f.ending) f.steps f.shown) (sym h.bounds_are)
 
   -- its report has the answers of the chooser, and their bounds
-  pub report_is : (form : Form) → report_text (items_in form (drawn_from s.first s.bounds) s.bounds) (word_of f.ending) f.steps f.shown ≡ report form play (answers_by most first play)
+  pub report_is : (form : Form) → report_text (items_in form (drawn_from s.first s.bounds) s.bounds) (ending_word f.ending) f.steps f.shown ≡ report form play (answers_by most first play)
   report_is form =
-      ap (λ (g : Lcg). report_text (items_in form (drawn_from g s.bounds) s.bounds) (word_of f.ending) f.steps f.shown) h.first_is
+      ap (λ (g : Lcg). report_text (items_in form (drawn_from g s.bounds) s.bounds) (ending_word f.ending) f.steps f.shown) h.first_is
       ∙ sym (report_drawn form) ∙ ap (report form play) run_is
 
   -- once its answers are forgotten, the words that follow them are left
@@ -92,14 +92,14 @@ module _ (play : Answers → Outcome Finish (List ℕ)) (most : ℕ) (reads : Is
       ∙ ap (λ (n : ℕ). chooser_at (generator_after first n)) (sym (length-drawn first s.bounds) ∙ ap length run_is)
 
   -- what is written of it, in the forms that the code has
-  pub written_is : (form : Form) (answers bounds : List ℤ) (word : List ℕ) (steps : ℕ) (bytes : List ℕ) → answers ≡ drawn_from s.first s.bounds → bounds ≡ s.bounds → word ≡ word_of f.ending → steps ≡ f.steps → bytes ≡ f.shown
+  pub written_is : (form : Form) (answers bounds : List ℤ) (word : List ℕ) (steps : ℕ) (bytes : List ℕ) → answers ≡ drawn_from s.first s.bounds → bounds ≡ s.bounds → word ≡ ending_word f.ending → steps ≡ f.steps → bytes ≡ f.shown
       → report_text (items_in form answers bounds) word steps bytes ≡ report form play (answers_by most first play)
   written_is form answers bounds word steps bytes a b w n t =
       ap (λ (l : List ℤ). report_text (items_in form l bounds) word steps bytes) a
       ∙ ap (λ (l : List ℤ). report_text (items_in form (drawn_from s.first s.bounds) l) word steps bytes) b
       ∙ ap (λ (l : List ℕ). report_text (items_in form (drawn_from s.first s.bounds) s.bounds) l steps bytes) w
-      ∙ ap (λ (k : ℕ). report_text (items_in form (drawn_from s.first s.bounds) s.bounds) (word_of f.ending) k bytes) n
-      ∙ ap (λ (l : List ℕ). report_text (items_in form (drawn_from s.first s.bounds) s.bounds) (word_of f.ending) f.steps l) t
+      ∙ ap (λ (k : ℕ). report_text (items_in form (drawn_from s.first s.bounds) s.bounds) (ending_word f.ending) k bytes) n
+      ∙ ap (λ (l : List ℕ). report_text (items_in form (drawn_from s.first s.bounds) s.bounds) (ending_word f.ending) f.steps l) t
       ∙ report_is form
 
 -- ---- the next run of a sample, whose program is p by another name

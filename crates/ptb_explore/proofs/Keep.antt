@@ -12,7 +12,7 @@ use Rattle.ptb_text.specs.Statements.{StoredProgram}
 use Rattle.ptb_answers.specs.Outcome.{Answers, Outcome, bound_of, bounds, bounds_after}
 use Rattle.ptb_command.specs.Configuration.{Configuration}
 use Rattle.ptb_explore.specs.declared.copies.KeptCopy.{KeptCopy}
-use Rattle.ptb_explore.specs.Copies.{machine_of, steps_of, steps_or_none, IsCopyOf, IsSameCopy, Adds, with_room, GoesBackTo, StandsAt, KeptFrom, AreCopies, Agrees, kept_runs, newest_steps, kept_steps, WentBack, last_steps_of, last_steps, AreBeginnings, AreTakenBy, ArePlaces}
+use Rattle.ptb_explore.specs.Copies.{machine_of, steps_of, steps_or_none, IsCopyOf, IsSameCopy, KeepsCopy, with_room, GoesBackTo, StandsAt, KeptFrom, AreCopies, Agrees, kept_runs, newest_steps, kept_steps, WentBack, last_steps_of, last_steps, AreBeginnings, AreTakenBy, ArePlaces}
 use Rattle.ptb_explore.specs.RunTree.{begins_with}
 use Rattle.std.proofs.lemmas.Bool.{false_from_ne_true, and_parts, and_from}
 use Rattle.ptb_explore.proofs.Bounds.{length-bounds}
@@ -84,7 +84,7 @@ module _ (p : StoredProgram) (input : List (List ℕ)) (rules : Rules) where
 
   -- one more copy may be kept, and the oldest dropped
   pub kept_more : (t u : Answers) (w v : List ℕ) (before taken shown lines : ℕ) (m : Configuration) (old new : List KeptCopy) → AreCopies p input rules t w old → before ≡ length t → taken ≡ length (t ++ u) → shown ≡ length (w ++ v)
-      → ((k : KeptCopy) → before < taken → IsCopyOf m taken shown lines k → StandsAt p input rules k (t ++ u) (w ++ v)) → Adds before m taken shown lines old new → AreCopies p input rules (t ++ u) (w ++ v) new
+      → ((k : KeptCopy) → before < taken → IsCopyOf m taken shown lines k → StandsAt p input rules k (t ++ u) (w ++ v)) → KeepsCopy before m taken shown lines old new → AreCopies p input rules (t ++ u) (w ++ v) new
   kept_more t u w v before taken shown lines m old new h b e f stands (inl same) = rw same (kept_longer t u w v 0 0 old h)
   kept_more t u w v before taken shown lines m old new h b e f stands (inr (inl same)) =
       rw same (kept_longer t u w v 0 0 (with_room old) (kept_drop t w (length old + 1 - 64) old h))

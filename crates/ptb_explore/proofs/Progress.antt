@@ -8,10 +8,10 @@ use Rattle.std.proofs.KnownBytes.{Appends-trans}
 use Rattle.ptb_text.specs.Device.{TakesSome}
 use Rattle.ptb_answers.specs.Outcome.{Answers, Outcome, IsReader}
 use Rattle.ptb_explore.specs.RunTree.{Front, At, End, IsNextRun, IsLast, runs_after, runs_left}
-use Rattle.ptb_explore.specs.Listing.{less_one, text, behind, count_of, WritesList, WritesSome, WritesInto}
+use Rattle.ptb_explore.specs.Listing.{less_one, text, front_after, count_of, WritesList, WritesSome, WritesInto}
 use Rattle.ptb_explore.proofs.Next.{left_next, left_none, none_left}
 
-behind_push : (f : Front) (done : List Answers) (a : Answers) → behind f (done ++ a ∷ []) ≡ At a
+behind_push : (f : Front) (done : List Answers) (a : Answers) → front_after f (done ++ a ∷ []) ≡ At a
 behind_push f [] a = refl
 behind_push f (b ∷ done) a = behind_push (At b) done a
 
@@ -47,7 +47,7 @@ pub record Progress {A W : Type 0} (play : Answers → Outcome A W) (most : ℕ)
   pub done : List Answers
   pub split : list ≡ done ++ runs_left play most under front remaining
   pub told : Appends old new (text report done)
-  pub front_is : front ≡ behind start done
+  pub front_is : front ≡ front_after start done
   pub count : n ≡ count_of done
 
 module _ {A W : Type 0} (play : Answers → Outcome A W) (most : ℕ) (reads : IsReader play most) (under : Answers) (report : Answers → List ℕ) where
@@ -67,12 +67,12 @@ module _ {A W : Type 0} (play : Answers → Outcome A W) (most : ℕ) (reads : I
     pub progress_whole : (front : Front) (new : Option (List ℕ)) (n : ℕ) → Progress play most under report list start front (Some 0) old new n → WritesList play under report list start front old new n
     progress_whole front new n p =
         let e : list ≡ p.done = p.split ∙ append-nil p.done in
-        record { bytes = subst (λ x. Appends old new (text report x)) (sym e) p.told; count = p.count ∙ ap count_of (sym e); front = inl (p.front_is ∙ ap (behind start) (sym e)) }
+        record { bytes = subst (λ x. Appends old new (text report x)) (sym e) p.told; count = p.count ∙ ap count_of (sym e); front = inl (p.front_is ∙ ap (front_after start) (sym e)) }
 
     pub progress_last : (front : Front) (remaining : Option ℕ) (new : Option (List ℕ)) (n : ℕ) → Progress play most under report list start front remaining old new n → IsLast play under front → WritesList play under report list start End old new n
     progress_last front remaining new n p last =
         let e : list ≡ p.done = p.split ∙ ap (λ x. p.done ++ x) (left_last play most reads under front remaining last) ∙ append-nil p.done in
-        let s : front ≡ behind start list = p.front_is ∙ ap (behind start) (sym e) in
+        let s : front ≡ front_after start list = p.front_is ∙ ap (front_after start) (sym e) in
         record { bytes = subst (λ x. Appends old new (text report x)) (sym e) p.told; count = p.count ∙ ap count_of (sym e); front = inr (refl, rw s at last) }
 
     pub progress_some : (front : Front) (remaining : Option ℕ) (new : Option (List ℕ)) (n : ℕ) → Progress play most under report list start front remaining old new n → (remaining ≡ Some 0 → ⊥) → (IsLast play under front → ⊥)

@@ -10,7 +10,7 @@ use Rattle.ptb_answers.specs.Outcome.{Answers, Outcome, Asks, IsReader, is_open,
 use Rattle.ptb_explore.specs.RunTree.{Front, Start, At, End, IsRun, IsNextRun, IsLast, Before, begins_with}
 use Rattle.ptb_explore.specs.declared.plan.Position.{Position}
 use Rattle.ptb_explore.specs.declared.plan.Position.TheVariants.{AtStart, AtRun, AtEnd}
-use Rattle.ptb_explore.specs.Plans.{IsPlan, IsLastBelow, PlansNext, IsPosition, front_at, EndsAt}
+use Rattle.ptb_explore.specs.Plans.{IsPlan, IsLastBelow, PlansNext, IsPosition, front_at, PlanEndsWith}
 use Rattle.ptb_explore.proofs.Bounds.{length-bounds}
 use Rattle.ptb_explore.proofs.Order.{before_from_differ, before_front, begins_from, begins_is}
 use Rattle.ptb_explore.proofs.Tree.{run_asks}
@@ -137,7 +137,7 @@ module _ {A W : Type 0} (play : Answers → Outcome A W) (most : ℕ) (reads : I
   last_plan under AtEnd answers plan bounded s p = λ b r h. let n = left_after under End b h in absurd cc
 
   -- a plan that was played to its end is the next run
-  pub plan_ends : (under : Answers) (front : Front) (plan answers : Answers) (bounded : List ℤ) (result : A) → IsPlan play under front plan → EndsAt play plan answers bounded result → IsNextRun play under front answers
+  pub plan_ends : (under : Answers) (front : Front) (plan answers : Answers) (bounded : List ℤ) (result : A) → IsPlan play under front plan → PlanEndsWith play plan answers bounded result → IsNextRun play under front answers
   plan_ends under front plan answers bounded result p e =
       let run : IsRun play (plan ++ e.ones) = rw (← e.answers_are, e.outcome) refl in
       rw e.answers_are (p.next e.ones e.all_ones run)

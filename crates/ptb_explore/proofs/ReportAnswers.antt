@@ -17,7 +17,7 @@ use Rattle.ptb_answers.specs.declared.form.Marked.{Marked}
 use Rattle.ptb_answers.proofs.Readers.{whole_is}
 use Rattle.ptb_machine.specs.Play.{Finish}
 use Rattle.ptb_report.specs.Report.{report_text, field}
-use Rattle.ptb_explore.specs.Report.{report, report_of, word_of}
+use Rattle.ptb_explore.specs.Report.{report, report_of, ending_word}
 use Rattle.ptb_explore.specs.Laws.{AreNumbers, ReportLaws}
 use Rattle.ptb_explore.specs.RunTree.{IsRun, runs_after}
 use Rattle.ptb_explore.proofs.RunsAfter.{listing_laws}
@@ -219,8 +219,8 @@ module _ (play : Answers → Outcome Finish (List ℕ)) (most : ℕ) (reads : Is
       let j = items_in form b (bounds play b) in
       let ia : answers_of i ≡ a = answers_of_items form a (bounds play a) (sym (length-bounds play [] a)) in
       let jb : answers_of j ≡ b = answers_of_items form b (bounds play b) (sym (length-bounds play [] b)) in
-      let left = ap (report_of i) x.1 ∙ report_bytes i (word_of x.0.ending) x.0.steps x.0.shown in
-      let right = ap (report_of j) y.1 ∙ report_bytes j (word_of y.0.ending) y.0.steps y.0.shown in
+      let left = ap (report_of i) x.1 ∙ report_bytes i (ending_word x.0.ending) x.0.steps x.0.shown in
+      let right = ap (report_of j) y.1 ∙ report_bytes j (ending_word y.0.ending) y.0.steps y.0.shown in
       let rest = after_run _ _ (sym left ∙ e ∙ right) in
       let short_a = subst AllShort (sym ia) (short_from [] a r h) in
       let short_b = subst AllShort (sym jb) (short_from [] b s k) in

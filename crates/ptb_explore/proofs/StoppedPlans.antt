@@ -14,7 +14,7 @@ use Rattle.ptb_explore.specs.declared.plan.Position.TheVariants.{AtStart, AtRun,
 use Rattle.ptb_explore.specs.declared.recorder.Recorder.{Recorder}
 use Rattle.ptb_explore.specs.Beginnings.{stopped}
 use Rattle.ptb_explore.specs.Copies.{Agrees}
-use Rattle.ptb_explore.specs.Plans.{EndsAt, IsPosition, PlansNext, stopping_plan}
+use Rattle.ptb_explore.specs.Plans.{PlanEndsWith, IsPosition, PlansNext, stopping_plan}
 use Rattle.ptb_explore.specs.PlannedPlays.{Holds, NextIsOutside, PlayEnds}
 use Rattle.ptb_explore.specs.Recorders.{choices_of}
 use Rattle.ptb_explore.specs.RunTree.{IsRun}
@@ -115,7 +115,7 @@ module _ (play : Answers → Outcome Finish (List ℕ)) (most : ℕ) (reads : Is
       r.later_one ∙ ap (λ p. p ++ later) planned ∙ append_assoc (plan ++ replicate ones (pos 1)) (pos 0 ∷ []) later in
       cut_taken plan ones taken (drop (length r.bounds.items) r.answers.items) later (sym all ∙ sym (take-append-drop (length r.bounds.items) r.answers.items))
 
-  ends_with : (j : ℕ) → j ≤ ones → taken ≡ plan ++ replicate j (pos 1) → IsRun (stopped n play) taken → r.bounds.items ≡ bounds play taken → EndsAt (stopped n play) plan taken r.bounds.items tt
+  ends_with : (j : ℕ) → j ≤ ones → taken ≡ plan ++ replicate j (pos 1) → IsRun (stopped n play) taken → r.bounds.items ≡ bounds play taken → PlanEndsWith (stopped n play) plan taken r.bounds.items tt
   ends_with j l e run b = record {
     ones = replicate j (pos 1);
     all_ones = all_ones j;
@@ -125,13 +125,13 @@ module _ (play : Answers → Outcome Finish (List ℕ)) (most : ℕ) (reads : Is
   }
 
   -- it came to an end
-  ended : (result : Finish) → Holds play (choices_of r) (λ later. Done result later) → EndsAt (stopped n play) plan taken r.bounds.items tt
+  ended : (result : Finish) → Holds play (choices_of r) (λ later. Done result later) → PlanEndsWith (stopped n play) plan taken r.bounds.items tt
   ended result h = by_cut cut
     where
       done : play taken ≡ Done result []
       done = ap play (sym (append-nil taken)) ∙ h.rest []
 
-      by_cut : Cut plan ones taken → EndsAt (stopped n play) plan taken r.bounds.items tt
+      by_cut : Cut plan ones taken → PlanEndsWith (stopped n play) plan taken r.bounds.items tt
       by_cut (Short x s e) = absurd (run_closes play most reads taken s x result done (subst (λ a. is_open (play a) ≡ true) e open_plan))
       by_cut (Ones j l e) =
           let few : length taken ≤ n = omega (arith, ap length e, length-append plan (replicate j (pos 1)), length-replicate j (pos 1), l, fits) in
@@ -143,10 +143,10 @@ module _ (play : Answers → Outcome Finish (List ℕ)) (most : ℕ) (reads : Is
           absurd cc
 
   -- it was stopped
-  stopped_there : NextIsOutside play (choices_of r) r.refused_bound → EndsAt (stopped n play) plan taken r.bounds.items tt
+  stopped_there : NextIsOutside play (choices_of r) r.refused_bound → PlanEndsWith (stopped n play) plan taken r.bounds.items tt
   stopped_there h = by_next (next_is plan ones taken h.later h.next (sym planned ∙ h.plan_is))
     where
-      by_next : Next plan ones taken h.next → EndsAt (stopped n play) plan taken r.bounds.items tt
+      by_next : Next plan ones taken h.next → PlanEndsWith (stopped n play) plan taken r.bounds.items tt
       by_next (InPlan s e) = absurd (out_closes play most reads plan taken s h.next r.refused_bound h.beside e h.asks h.outside open_plan)
       by_next (IsOne e) =
           let least = reads.positive taken r.refused_bound h.beside h.asks in
@@ -158,7 +158,7 @@ module _ (play : Answers → Outcome Finish (List ℕ)) (most : ℕ) (reads : Is
           let theirs : r.bounds.items ≡ bounds play taken = (let k = h.bounds_are in cc) in
           ends_with ones (omega arith) e (asking_run play n most reads taken r.refused_bound h.beside all h.asks) theirs
 
-  pub beginning_ends : (steps : ℕ) (shown : List ℕ) (e : Ending) → PlayEnds play (choices_of r) r.refused_bound steps shown e → EndsAt (stopped n play) plan taken r.bounds.items tt
+  pub beginning_ends : (steps : ℕ) (shown : List ℕ) (e : Ending) → PlayEnds play (choices_of r) r.refused_bound steps shown e → PlanEndsWith (stopped n play) plan taken r.bounds.items tt
   beginning_ends steps shown endings.End h = ended _ h
   beginning_ends steps shown endings.Stop h = ended _ h
   beginning_ends steps shown endings.What h = ended _ h

@@ -7,7 +7,7 @@ use Rattle.std.specs.Prelude.{ℤ, pos}
 use Rattle.ptb_answers.specs.Outcome.{Answers, Outcome, Done, IsReader, is_open, is_whole, bounds, bounds_after}
 use Rattle.ptb_explore.specs.declared.recorder.Recorder.{Recorder}
 use Rattle.ptb_explore.specs.RunTree.{IsRun}
-use Rattle.ptb_explore.specs.Plans.{IsFresh, EndsAt}
+use Rattle.ptb_explore.specs.Plans.{IsFresh, PlanEndsWith}
 use Rattle.ptb_explore.specs.Recorders.{choices_of}
 use Rattle.ptb_command.specs.declared.ending.Ending.{Ending}
 use Rattle.ptb_command.specs.declared.ending.Ending.TheVariants as endings
@@ -38,7 +38,7 @@ module _ {A W : Type 0} (play : Answers → Outcome A W) (r : Recorder) (result 
   }
 
   -- a plan that is open was played to its end
-  pub trial_ends : (most : ℕ) → IsReader play most → is_open (play (take r.planned r.answers.items)) ≡ true → EndsAt play (take r.planned r.answers.items) r.answers.items r.bounds.items result
+  pub trial_ends : (most : ℕ) → IsReader play most → is_open (play (take r.planned r.answers.items)) ≡ true → PlanEndsWith play (take r.planned r.answers.items) r.answers.items r.bounds.items result
   trial_ends most reads o = ends_at play most reads (take r.planned r.answers.items) r.answers.items r.planned (length r.bounds.items) result recorder_took r.bounds.items o taken_bounds
 
 -- ---- by the ending
@@ -56,11 +56,11 @@ all_given play r e = ap (λ n. take n r.answers.items) (ap length e ∙ length-b
 
 module _ (play : Answers → Outcome Finish (List ℕ)) (r : Recorder) (steps : ℕ) (shown : List ℕ) (most : ℕ) (reads : IsReader play most) (plan : Answers) (planned : take r.planned r.answers.items ≡ plan) where
   module _ (opens : is_open (play plan) ≡ true) where
-    ended_so : (e : Ending) → Holds play (choices_of r) (λ later. Done (record { ending = e; steps = steps; shown = shown }) later) → EndsAt play plan r.answers.items r.bounds.items (record { ending = e; steps = steps; shown = shown })
+    ended_so : (e : Ending) → Holds play (choices_of r) (λ later. Done (record { ending = e; steps = steps; shown = shown }) later) → PlanEndsWith play plan r.answers.items r.bounds.items (record { ending = e; steps = steps; shown = shown })
     ended_so e h = rw (← planned) (trial_ends play r (record { ending = e; steps = steps; shown = shown }) h most reads (rw planned opens))
 
     -- a plan that is open is played to an end
-    pub open_ends : (e : Ending) → PlayEnds play (choices_of r) r.refused_bound steps shown e → EndsAt play plan r.answers.items r.bounds.items (record { ending = e; steps = steps; shown = shown })
+    pub open_ends : (e : Ending) → PlayEnds play (choices_of r) r.refused_bound steps shown e → PlanEndsWith play plan r.answers.items r.bounds.items (record { ending = e; steps = steps; shown = shown })
     open_ends endings.End h = ended_so endings.End h
     open_ends endings.Stop h = ended_so endings.Stop h
     open_ends endings.What h = ended_so endings.What h

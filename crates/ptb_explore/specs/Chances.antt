@@ -21,7 +21,7 @@ use Rattle.ptb_command.specs.declared.ending.Ending.TheVariants as endings
 use Rattle.ptb_machine.specs.Play.{Finish}
 use Rattle.ptb_report.specs.Report.{field}
 use Rattle.ptb_explore.specs.RunTree.{tree}
-use Rattle.ptb_explore.specs.Report.{word_of}
+use Rattle.ptb_explore.specs.Report.{ending_word}
 
 -- ---- what a run results in
 
@@ -115,7 +115,7 @@ ratio_text f = decimals f.numerator ++ codes "/" ++ decimals f.denominator
 
 abbrev pub row_text : Row → List ℕ
 row_text row =
-    codes "CHANCE " ++ ratio_text row.chance ++ field (decimals row.runs) ++ field (word_of row.result.ending) ++ field (decimals (length row.result.line)) ++ codes "\n"
+    codes "CHANCE " ++ ratio_text row.chance ++ field (decimals row.runs) ++ field (ending_word row.result.ending) ++ field (decimals (length row.result.line)) ++ codes "\n"
     ++ row.result.line ++ codes "\n"
 
 abbrev pub table_text : List Row → List ℕ

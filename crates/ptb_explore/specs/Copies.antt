@@ -3,7 +3,7 @@
 --     IsCopyOf m taken shown lines k         a copy of this machine, which had come so far
 --     IsSameCopy k j                         j is a copy as k is
 --     with_room ks                           what is left of the copies where there is room for one more
---     Adds before m taken shown lines old new    what keeping one more leaves of the copies
+--     KeepsCopy before m taken shown lines old new    what keeping one more leaves of the copies
 --     GoesBack most old new                  those that took more answers than this are dropped
 --     AreTakenBy p input rules a n           by the n-th command, and no earlier one, all of the answers a are taken
 --     AreCopies p input rules t w ks         the copies, the oldest first, are of a run with the answers t that showed w
@@ -57,8 +57,8 @@ abbrev pub with_room : List KeptCopy → List KeptCopy
 with_room ks = drop (length ks + 1 - 64) ks
 
 -- the new one is kept only where more answers were taken than before, and where it isn't refused memory
-abbrev pub Adds : ℕ → Configuration → ℕ → ℕ → ℕ → List KeptCopy → List KeptCopy → Type 0
-Adds before m taken shown lines old new =
+abbrev pub KeepsCopy : ℕ → Configuration → ℕ → ℕ → ℕ → List KeptCopy → List KeptCopy → Type 0
+KeepsCopy before m taken shown lines old new =
     (new ≡ old) ⊎ (new ≡ with_room old) ⊎ ((k : KeptCopy) × (before < taken) × IsCopyOf m taken shown lines k × (new ≡ with_room old ++ k ∷ []))
 
 -- those that are dropped had taken more answers, and the newest that is left had not

@@ -1,6 +1,6 @@
 -- This file defines what a listing of the runs that begin with `under` leaves. `report` gives the text of the report of a run.
 --     text report list                  the reports of a list of runs, one after the other
---     behind f list                     where a listing is after a list of runs
+--     front_after f list                     where a listing is after a list of runs
 --     less_one n                        how many may still be written after one more
 --     NextWrites ..                     what the writing of the next report leaves
 --     WritesRuns ..                     what the writing of a list of reports leaves
@@ -18,9 +18,9 @@ use Rattle.ptb_explore.specs.RunTree.{Front, At, End, IsNextRun, IsLast}
 abbrev pub text : (Answers → List ℕ) → List Answers → List ℕ
 text report list = flat_map report list
 
-abbrev pub behind : Front → List Answers → Front
-behind f [] = f
-behind f (a ∷ list) = behind (At a) list
+abbrev pub front_after : Front → List Answers → Front
+front_after f [] = f
+front_after f (a ∷ list) = front_after (At a) list
 
 -- how many may still be written after one more
 abbrev pub less_one : Option ℕ → Option ℕ
@@ -43,7 +43,7 @@ module _ {A W : Type 0} (play : Answers → Outcome A W) (under : Answers) (repo
   pub record WritesList (list : List Answers) (f f' : Front) (old new : Option (List ℕ)) (n : ℕ) : Type 0 where
     pub bytes : Appends old new (text report list)
     pub count : n ≡ count_of list
-    pub front : (f' ≡ behind f list) ⊎ ((f' ≡ End) × IsLast play under (behind f list))
+    pub front : (f' ≡ front_after f list) ⊎ ((f' ≡ End) × IsLast play under (front_after f list))
 
   -- the reports of a beginning of the list were written, and not the complete list; it is after them
   pub record WritesSome (list : List Answers) (f f' : Front) (old new : Option (List ℕ)) (n : ℕ) : Type 0 where
@@ -53,7 +53,7 @@ module _ {A W : Type 0} (play : Answers → Outcome A W) (under : Answers) (repo
     pub some_left : rest ≡ [] → ⊥
     pub bytes : Appends old new (text report beginning)
     pub count : n ≡ count_of beginning
-    pub front : f' ≡ behind f beginning
+    pub front : f' ≡ front_after f beginning
 
   -- the reports of a beginning of the list were written, and a prefix of the next; it is at that one
   pub record WritesInto (list : List Answers) (f f' : Front) (old new : Option (List ℕ)) (n : ℕ) : Type 0 where

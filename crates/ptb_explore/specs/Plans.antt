@@ -8,7 +8,7 @@
 --     IsFresh recorder                            all that a recorder holds is a plan
 --     IsTakenAlone planned stated recorder        all answers of a plan were taken and no more, with the bounds that are stated
 --     IsTaken planned stated recorder             the same, and more may have been taken
---     EndsAt play plan answers bounds result      the plan and then ones are a run, with these bounds and this result
+--     PlanEndsWith play plan answers bounds result      the plan and then ones are a run, with these bounds and this result
 use Rattle.std.specs.Prelude.{◌≡◌, ℕ, ◌-◌, ◌<◌, ◌≤◌, List, [], ◌∷◌, ◌++◌, length, take, replicate, true, Option, Some, None, ℤ, pos, ◌+ℤ◌, ◌<ℤ◌, ◌≤ℤ◌, slice_index_or, vec_len}
 use Rattle.std.specs.List.{AllByRecursion}
 use Rattle.ptb_answers.specs.Outcome.{Answers, Outcome, Done, is_open, bounds}
@@ -86,7 +86,7 @@ pub record IsTaken (planned : ℕ) (stated : List Marked) (r : Recorder) : Type 
   pub taken : planned ≤ length r.bounds.items
   pub states : states_bounds stated r.bounds.items ≡ true
 
-pub record EndsAt {A W : Type 0} (play : Answers → Outcome A W) (plan answers : Answers) (their_bounds : List ℤ) (result : A) : Type 0 where
+pub record PlanEndsWith {A W : Type 0} (play : Answers → Outcome A W) (plan answers : Answers) (their_bounds : List ℤ) (result : A) : Type 0 where
   pub ones : Answers
   pub all_ones : AllOnes ones
   pub answers_are : answers ≡ plan ++ ones

@@ -1,5 +1,5 @@
 -- This file defines the reports of runs.
---     word_of ending                          the word of an ending
+--     ending_word ending                          the word of an ending
 --     report form play answers                the report of the run of these answers, in a form
 use Rattle.std.specs.Prelude.{ℕ, List, [], codes}
 use Rattle.ptb_answers.specs.Outcome.{Answers, Outcome, Done, Asks, Out, bounds}
@@ -12,20 +12,20 @@ use Rattle.ptb_answers.specs.AnswerText.{items_in}
 use Rattle.ptb_report.specs.Report.{report_text}
 
 -- a run whose answers are all taken never ends for want of one, nor with one outside its bound
-abbrev pub word_of : Ending → List ℕ
-word_of endings.End = codes "END"
-word_of endings.Stop = codes "STOP"
-word_of endings.What = codes "WHAT"
-word_of endings.How = codes "HOW"
-word_of endings.Sorry = codes "SORRY"
-word_of endings.Limit = codes "LIMIT"
-word_of endings.NoInput = codes "NOINPUT"
-word_of endings.NoAnswer = []
-word_of endings.BadAnswer = []
+abbrev pub ending_word : Ending → List ℕ
+ending_word endings.End = codes "END"
+ending_word endings.Stop = codes "STOP"
+ending_word endings.What = codes "WHAT"
+ending_word endings.How = codes "HOW"
+ending_word endings.Sorry = codes "SORRY"
+ending_word endings.Limit = codes "LIMIT"
+ending_word endings.NoInput = codes "NOINPUT"
+ending_word endings.NoAnswer = []
+ending_word endings.BadAnswer = []
 
 -- what is no run has none
 abbrev pub report_of : List Marked → Outcome Finish (List ℕ) → List ℕ
-report_of items (Done f rest) = report_text items (word_of f.ending) f.steps f.shown
+report_of items (Done f rest) = report_text items (ending_word f.ending) f.steps f.shown
 report_of items (Asks n shown) = []
 report_of items (Out n shown) = []
 

@@ -9,7 +9,7 @@ ghost use Rattle.ptb_explore.specs.Beginnings.{FindsBeginning, MovesTo};
 ghost use Rattle.ptb_explore.specs.Copies.{Agrees, AreCopies, PlaysOn, kept_runs};
 ghost use Rattle.ptb_explore.specs.Explorations.{AreCopiesAt, IsSameGame, NextPlays, game_of};
 ghost use Rattle.ptb_explore.specs.Listing.{NextWrites, WritesRuns};
-ghost use Rattle.ptb_explore.specs.Plans.{EndsAt, IsFresh, IsPosition, front_at};
+ghost use Rattle.ptb_explore.specs.Plans.{PlanEndsWith, IsFresh, IsPosition, front_at};
 ghost use Rattle.ptb_explore.specs.RunTree.{At, IsLast, Start, runs_left};
 
 use crate::fault::ExploreFault;
@@ -37,7 +37,7 @@ fn play_beginning(runner: &mut Runner, common: usize, most: usize) -> Result<(),
         runner.old.report.answers.items runner.old.report.transcript.items
         runner.old.copies.kept.items }
     ensures same { IsSameGame runner.old runner.new }
-    ensures ends { OnOk result (EndsAt (stopped most (game_of runner.old))
+    ensures ends { OnOk result (PlanEndsWith (stopped most (game_of runner.old))
         runner.old.trial.answers.items runner.new.report.answers.items
         runner.new.report.bounds.items tt) }
     ensures answers { OnErr result

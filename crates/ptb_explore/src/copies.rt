@@ -3,7 +3,7 @@
 ghost use Rattle.std.specs.Prelude.{◌≡◌, ℕ, ℤ, List, Option, [], false, IfOk};
 ghost use Rattle.ptb_command.specs.Representation.{Represents};
 ghost use Rattle.ptb_command.specs.State.{first_state};
-ghost use Rattle.ptb_explore.specs.Copies.{Adds, GoesBackTo, IsSameCopy, with_room};
+ghost use Rattle.ptb_explore.specs.Copies.{KeepsCopy, GoesBackTo, IsSameCopy, with_room};
 
 use arrayvec::ArrayVec;
 use ptb_machine::{Machine, Player};
@@ -205,7 +205,7 @@ impl Copies {
         expected: usize,
         reached: Progress,
     )
-        ensures { Adds before machine.now reached.taken reached.shown reached.lines
+        ensures { KeepsCopy before machine.now reached.taken reached.shown reached.lines
             self.old.kept.items self.new.kept.items }
     {
         let Progress {

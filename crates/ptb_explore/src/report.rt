@@ -5,7 +5,7 @@ ghost use Rattle.std.specs.Io.KnownBytes.{Appends};
 ghost use Rattle.ptb_text.specs.Device.{TakesSome, HasFailed};
 ghost use Rattle.ptb_answers.specs.AnswerText.{items_in};
 ghost use Rattle.ptb_report.specs.Report.{report_text};
-ghost use Rattle.ptb_explore.specs.Report.{word_of};
+ghost use Rattle.ptb_explore.specs.Report.{ending_word};
 
 use ptb_answers::Form;
 use ptb_machine::Ending;
@@ -56,10 +56,10 @@ impl Report {
         requires { length self.now.answers.items ≡ length self.now.bounds.items }
         ensures ok { OnOk result (Appends (W.contents writer.old) (W.contents writer.new)
             (report_text (items_in form self.now.answers.items self.now.bounds.items)
-            (word_of self.now.ending) self.now.steps self.now.transcript.items)) }
+            (ending_word self.now.ending) self.now.steps self.now.transcript.items)) }
         ensures fault { OnErr result (TakesSome (W.contents writer.old) (W.contents writer.new)
             (report_text (items_in form self.now.answers.items self.now.bounds.items)
-            (word_of self.now.ending) self.now.steps self.now.transcript.items)) }
+            (ending_word self.now.ending) self.now.steps self.now.transcript.items)) }
         ensures failed { OnErr result (HasFailed (W.failures writer.old) (W.failures writer.new)) }
         ensures unfailed { OnOk result (W.failures writer.new ≡ W.failures writer.old) }
     {
@@ -77,7 +77,7 @@ impl Report {
 
 /// The word of an ending. The two that no report has are empty.
 pub fn word(ending: Ending) -> &'static [u8]
-    ensures { result.now ≡ word_of ending }
+    ensures { result.now ≡ ending_word ending }
 {
     match ending {
         Ending::End => b"END",

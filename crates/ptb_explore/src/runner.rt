@@ -10,7 +10,7 @@ ghost use Rattle.ptb_explore.specs.Copies.{kept_runs, last_steps, play_limit};
 ghost use Rattle.ptb_explore.specs.Explorations.{game_of, finish_of, AreCopiesAt, IsSameGame};
 ghost use Rattle.ptb_explore.specs.Explorations.{NextPlays, NextReports};
 ghost use Rattle.ptb_explore.specs.PlannedPlays.{IsRunPrefix, PlayEnds};
-ghost use Rattle.ptb_explore.specs.Plans.{front_at, EndsAt, IsFresh, IsPosition};
+ghost use Rattle.ptb_explore.specs.Plans.{front_at, PlanEndsWith, IsFresh, IsPosition};
 ghost use Rattle.ptb_explore.specs.Recorders.{choices_of};
 ghost use Rattle.ptb_explore.specs.RunTree.{IsLast};
 
@@ -183,7 +183,7 @@ impl<'a> Runner<'a> {
             self.old.report.answers.items self.old.report.transcript.items
             self.old.copies.kept.items }
         ensures same { IsSameGame self.old self.new }
-        ensures ends { OnOk result (EndsAt (game_of self.old) self.old.trial.answers.items
+        ensures ends { OnOk result (PlanEndsWith (game_of self.old) self.old.trial.answers.items
             self.new.report.answers.items self.new.report.bounds.items (finish_of self.new.report)) }
         ensures answers { OnErr result
             (self.new.report.answers.items ≡ self.old.report.answers.items) }

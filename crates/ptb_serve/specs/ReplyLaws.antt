@@ -30,7 +30,7 @@ use Rattle.ptb_explore.specs.Laws.{ReportLaws, TreeLaws}
 use Rattle.ptb_explore.specs.Listing.{text}
 use Rattle.ptb_explore.specs.MarkedRuns.{IsMarkedBeginning, IsMarkedRun}
 use Rattle.ptb_report.specs.Report.{report_text}
-use Rattle.ptb_explore.specs.Report.{report, word_of}
+use Rattle.ptb_explore.specs.Report.{report, ending_word}
 use Rattle.ptb_explore.specs.Sampling.{concatenated}
 use Rattle.ptb_explore.specs.RunTree.{IsRun, Before, IsRising, answers_to, begins_with, tree}
 use Rattle.ptb_serve.specs.declared.note.Note.TheVariants as notes
@@ -165,7 +165,7 @@ pub record RunReplies (play : Answers → Outcome Finish (List ℕ)) (most : ℕ
   -- the report of a run has its answers, in form 2 with their bounds, and the ending, the steps and the transcript of
   -- its play
   pub run_report : (form : Form) (a : Answers) (f : Finish) → play a ≡ Done f []
-      → report form play a ≡ report_text (items_in form a (bounds play a)) (word_of f.ending) f.steps f.shown
+      → report form play a ≡ report_text (items_in form a (bounds play a)) (ending_word f.ending) f.steps f.shown
   -- a plain run writes what play shows, and has the status of its ending, also where an answer is missing or outside
   -- its bound
   pub plain_run : (a : Answers) → reply (modes.Plain a) ≡ run_reply (plain_of (play a))
