@@ -1,9 +1,9 @@
 -- This file names the files of lemmas.
 pub mod Accounts
-pub mod Coming
-pub mod Going
+pub mod PlaySteps
+pub mod Continuations
 pub mod Joined
-pub mod Covering
+pub mod Coverage
 pub mod LastLines
 pub mod Leaves
 pub mod Loads
@@ -11,7 +11,7 @@ pub mod Lowest
 pub mod Orders
 pub mod Picked
 pub mod Positive
-pub mod Settling
+pub mod SettledPlays
 pub mod Sums
 pub mod Tables
 pub mod Tallies

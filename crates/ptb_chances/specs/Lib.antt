@@ -1,7 +1,7 @@
 -- This file names the files of definitions.
 pub mod Accounts
 pub mod Counted
-pub mod Going
+pub mod Continuations
 pub mod Keys
 pub mod Order
 pub mod TableLaws

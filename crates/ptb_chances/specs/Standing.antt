@@ -19,8 +19,8 @@ use Rattle.ptb_command.specs.State.{State}
 use Rattle.ptb_machine.specs.Play.{Finish}
 use Rattle.ptb_explore.specs.Chances.{last_line}
 use Rattle.ptb_explore.specs.PlannedPlays.{run_from}
-use Rattle.ptb_chances.specs.declared.playing.Played.{Played}
-use Rattle.ptb_chances.specs.declared.playing.Played.TheVariants as played
+use Rattle.ptb_chances.specs.declared.plays.Played.{Played}
+use Rattle.ptb_chances.specs.declared.plays.Played.TheVariants as played
 
 abbrev pub SameEnd : List ℕ → List ℕ → Type 0
 SameEnd s t = (more : List ℕ) → last_line (lines (s ++ more)) ≡ last_line (lines (t ++ more))

@@ -7,7 +7,7 @@ ghost use Rattle.ptb_machine.specs.Play.{play};
 ghost use Rattle.ptb_machine.specs.Questions.{most_answers};
 ghost use Rattle.ptb_explore.specs.Chances.{chances};
 
-use crate::counting::count_runs;
+use crate::count::count_runs;
 use crate::watch::Watch;
 use ptb_machine::{Line, Rules, ScreenFault, run_laws};
 use ptb_text::{Program, Write};

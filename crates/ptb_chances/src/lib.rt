@@ -7,11 +7,11 @@
 #![tactic(auto)]
 
 mod chances;
-mod counting;
+mod count;
 mod last_line;
 mod laws;
 mod planned;
-mod playing;
+mod plays;
 mod result_key;
 mod stage;
 mod table;

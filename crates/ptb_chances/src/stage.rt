@@ -5,13 +5,13 @@ ghost use Rattle.std.specs.Prelude.{length, IfOk, OnOk};
 ghost use Rattle.ptb_answers.specs.Outcome.{is_open};
 ghost use Rattle.ptb_command.specs.State.{State};
 ghost use Rattle.ptb_explore.specs.PlannedPlays.{run_from};
-ghost use Rattle.ptb_chances.specs.Going.{ComesTo, GoesOn};
+ghost use Rattle.ptb_chances.specs.Continuations.{ComesTo, GoesOn};
 ghost use Rattle.ptb_chances.specs.Standing.{PlaysTo, SameEnd, StandsAt};
 ghost use Rattle.ptb_machine.specs.Steps.{FitsProgram, QuietTurns};
 
 use crate::last_line::last_lines;
 use crate::planned::PlanChooser;
-use crate::playing::{Console, Played, play_plan};
+use crate::plays::{Console, Played, play_plan};
 use crate::work::{Place, Plan};
 use ptb_machine::{Ending, Machine, Player, Rules, TextScreen, run_laws};
 use std::alloc::{AllocError, Global};

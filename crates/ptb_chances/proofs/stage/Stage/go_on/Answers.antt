@@ -1,9 +1,9 @@
 -- This file answers that a run goes on command by command.
 use Rattle.std.proofs.Common.{◌≡◌, List, ℕ, [], rules, refl, sym, ap, subst, ◌∙◌, arith, drop}
 use Rattle.ptb_chances.specs.Standing.{SameEnd}
-use Rattle.ptb_chances.specs.declared.playing.Console.{Console}
-use Rattle.ptb_chances.proofs.Coming.{came_first, fits_there}
-use Rattle.ptb_chances.proofs.Going.{gone, gone_on, gone_opens, gone_over, gone_waits, turns_named}
+use Rattle.ptb_chances.specs.declared.plays.Console.{Console}
+use Rattle.ptb_chances.proofs.PlaySteps.{came_first, fits_there}
+use Rattle.ptb_chances.proofs.Continuations.{gone, gone_on, gone_opens, gone_over, gone_waits, turns_named}
 use Rattle.ptb_chances.proofs.stage.Stage.go_on.Goals as goal
 
 pub commands-init : goal.commands-init

@@ -1,6 +1,6 @@
 -- This file answers that a plan is played up to the command that asks next.
 use Rattle.std.proofs.Common.{rules, ap, drop, length, FitsSigned, w16, to_z-of_z}
-use Rattle.ptb_chances.proofs.Going.{named, plan_opens, plan_over, plan_waits}
+use Rattle.ptb_chances.proofs.Continuations.{named, plan_opens, plan_over, plan_waits}
 use Rattle.ptb_chances.proofs.stage.Stage.play.Goals as goal
 
 pub go_on-requires-clause-opens : goal.go_on-requires-clause-opens

@@ -1,6 +1,6 @@
 -- This file answers that a plan is played from its place.
 use Rattle.std.proofs.Common.{◌≡◌, rules, drop, refl}
-use Rattle.ptb_chances.proofs.Coming.{stands_by}
+use Rattle.ptb_chances.proofs.PlaySteps.{stands_by}
 use Rattle.ptb_chances.proofs.stage.Stage.start.Goals as goal
 
 pub returns-clause-plays : goal.returns-clause-plays

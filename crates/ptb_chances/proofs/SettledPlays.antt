@@ -23,7 +23,7 @@ use Rattle.ptb_chances.specs.Accounts.{AddsRow, AreSame, IsAccountOf, IsPositive
 use Rattle.ptb_chances.specs.Standing.{StandsAt, Came, IsOver, IsAsked}
 use Rattle.ptb_chances.specs.Waiting.{Standing, Waits, StandsFor, below, Covers, Accounted, Takes, Puts, PutsAnswers, after_answer, first_standing, gone_to}
 use Rattle.ptb_chances.proofs.Accounts.{alike_back, alike_self, chance_is, runs_are, same_alike as same_alike_of, same_from_alike, same_then}
-use Rattle.ptb_chances.proofs.Covering.{Alike, account_joined, both_alike, covers_alike, middle_turned, front_turned, put_in, puts, same_alike, swapped, taken_out, then_alike}
+use Rattle.ptb_chances.proofs.Coverage.{Alike, account_joined, both_alike, covers_alike, middle_turned, front_turned, put_in, puts, same_alike, swapped, taken_out, then_alike}
 use Rattle.ptb_chances.proofs.Joined.{same_joined}
 use Rattle.ptb_chances.proofs.Leaves.{done_leaves, asked_leaves, all_answers, roomy}
 use Rattle.ptb_chances.proofs.Picked.{above_none, range_split}

@@ -4,8 +4,8 @@ use Rattle.std.specs.Prelude.{unsigned_abs}
 use Rattle.ptb_machine.specs.Questions.{most_answers}
 use Rattle.ptb_chances.specs.Waiting.{Puts, gone_to, planned, standings}
 use Rattle.ptb_chances.proofs.Loads.{load_asked, load_gone, load_some}
-use Rattle.ptb_chances.proofs.Settling.{asked_positive, one_opens, planned_less, settled_asked, settled_gone, settled_over}
-use Rattle.ptb_chances.proofs.counting.Counting.settle.Goals as goal
+use Rattle.ptb_chances.proofs.SettledPlays.{asked_positive, one_opens, planned_less, settled_asked, settled_gone, settled_over}
+use Rattle.ptb_chances.proofs.count.Count.settle.Goals as goal
 
 pub play-requires-clause-opens : goal.play-requires-clause-opens
 play-requires-clause-opens c =

@@ -3,9 +3,9 @@ use Rattle.std.proofs.Common.{◌≡◌, take, drop, length, refl, rules, sym, a
 use Rattle.ptb_answers.specs.Outcome.{is_open}
 use Rattle.ptb_explore.specs.PlannedPlays.{run_from}
 use Rattle.ptb_chances.specs.Planned.{choices_of}
-use Rattle.ptb_chances.proofs.Coming.{advanced, came_by, none_follow, never_out, never_unread, never_unwritten, plays_by, step_came, step_plays, step_plan, taken_within}
+use Rattle.ptb_chances.proofs.PlaySteps.{advanced, came_by, none_follow, never_out, never_unread, never_unwritten, plays_by, step_came, step_plays, step_plan, taken_within}
 use Rattle.ptb_chances.proofs.Picked.{whole}
-use Rattle.ptb_chances.proofs.playing.play_plan.Goals as goal
+use Rattle.ptb_chances.proofs.plays.play_plan.Goals as goal
 
 pub commands-preserved : goal.commands-preserved
 commands-preserved c =

@@ -2,7 +2,7 @@
 use Rattle.std.proofs.Common.{◌≡◌}
 use Rattle.ptb_machine.specs.Questions.{most_answers}
 use Rattle.ptb_chances.specs.Waiting.{Accounted, load, standings}
-use Rattle.ptb_chances.proofs.counting.count_runs.Given as goal
+use Rattle.ptb_chances.proofs.count.count_runs.Given as goal
 
 abbrev pub invariant-plans : goal.invariant-plans
 invariant-plans g l = record {

@@ -27,7 +27,7 @@ use Rattle.ptb_explore.specs.Chances.{last_line}
 use Rattle.ptb_explore.specs.PlannedPlays.{run_from}
 use Rattle.ptb_chances.specs.Planned.{PlanAnswers, choices_of, RefusedByPlan}
 use Rattle.ptb_chances.specs.Standing.{SameEnd, StandsAt, Came, IsOver, IsAsked, PlaysTo, played_of}
-use Rattle.ptb_chances.specs.declared.playing.Played.{Played}
+use Rattle.ptb_chances.specs.declared.plays.Played.{Played}
 use Rattle.ptb_chances.proofs.Picked.{all_taken, next_taken}
 
 -- what a screen in memory holds

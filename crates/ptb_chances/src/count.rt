@@ -12,7 +12,7 @@ ghost use Rattle.ptb_chances.specs.Counted.{IsCounted, load_left};
 ghost use Rattle.ptb_chances.specs.Waiting.{planned, standings};
 
 use crate::last_line::last_line;
-use crate::playing::{Console, Played};
+use crate::plays::{Console, Played};
 use crate::result_key::ResultKey;
 use crate::stage::Stage;
 use crate::tally::Tally;
@@ -49,13 +49,13 @@ const PLANS: u32 = 256;
 
 // How far the runs of a program are counted.
 #[derive(Drop)]
-struct Counting<'p, 'l> {
+struct Count<'p, 'l> {
     stage: Stage<'p, 'l>,
     work: Work,
     tally: Tally,
 }
 
-impl<'p, 'l> Counting<'p, 'l> {
+impl<'p, 'l> Count<'p, 'l> {
     // Plays a plan that was taken out of the work, and counts what is over, or puts in what is not.
     fn settle(&mut self, alloc: Global, plan: Plan) -> Result<(), AllocError>
         requires { IsCounted self.old.stage self.old.tally
@@ -125,7 +125,7 @@ pub(crate) fn count_runs<W: Watch>(
         screen: TextScreen::new(alloc),
         source: Lines::new(lines),
     };
-    let mut counting = Counting {
+    let mut counting = Count {
         stage: Stage {
             player,
             rules,
@@ -139,7 +139,7 @@ pub(crate) fn count_runs<W: Watch>(
     let mut played: u32 = 0;
     'plans: loop {
         let Some(plan) = counting.work.next(alloc) else {
-            let Counting { tally, .. } = counting;
+            let Count { tally, .. } = counting;
             return Ok(tally);
         };
         counting.settle(alloc, plan)?;

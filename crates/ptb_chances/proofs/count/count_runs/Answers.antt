@@ -4,8 +4,8 @@ use Rattle.ptb_devices.specs.Sources.{LineList}
 use Rattle.ptb_machine.specs.Questions.{most_answers}
 use Rattle.ptb_chances.specs.Waiting.{Standing, Accounted, first_standing, planned, standings}
 use Rattle.ptb_chances.proofs.Loads.{less_there}
-use Rattle.ptb_chances.proofs.Settling.{accounted_first, accounted_last, accounted_next}
-use Rattle.ptb_chances.proofs.counting.count_runs.Goals as goal
+use Rattle.ptb_chances.proofs.SettledPlays.{accounted_first, accounted_last, accounted_next}
+use Rattle.ptb_chances.proofs.count.count_runs.Goals as goal
 
 pub plans-init : goal.plans-init
 plans-init g c =

@@ -3,7 +3,7 @@
 use Rattle.std.proofs.Common.{◌≡◌, ◌≤◌, ◌-◌, false, length, take, drop}
 use Rattle.ptb_command.specs.State.{State}
 use Rattle.ptb_chances.specs.Standing.{Came, StandsAt}
-use Rattle.ptb_chances.proofs.playing.play_plan.Given as goal
+use Rattle.ptb_chances.proofs.plays.play_plan.Given as goal
 
 abbrev pub invariant-commands : goal.invariant-commands
 invariant-commands l = record {

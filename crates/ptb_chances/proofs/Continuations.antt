@@ -11,7 +11,7 @@ use Rattle.ptb_machine.specs.Laws.{RunLaws}
 use Rattle.ptb_machine.specs.Steps.{QuietTurns}
 use Rattle.ptb_explore.specs.PlannedPlays.{run_from}
 use Rattle.ptb_chances.specs.Standing.{Came, IsOver, SameEnd}
-use Rattle.ptb_chances.proofs.Coming.{advanced}
+use Rattle.ptb_chances.proofs.PlaySteps.{advanced}
 use Rattle.ptb_chances.proofs.Picked.{whole}
 
 none_taken : (n : ℕ) (b : Answers) → b ≡ [] → take n b ≡ []
