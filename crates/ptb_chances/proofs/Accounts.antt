@@ -5,7 +5,7 @@ use Rattle.ptb_numbers.specs.Fractions.{Ratio, plus, Equals}
 use Rattle.ptb_answers.specs.Outcome.{Answers, Outcome, bounds}
 use Rattle.ptb_machine.specs.Play.{Finish}
 use Rattle.ptb_explore.specs.Chances.{RunResult, Row, chance, chance_of_all, result_of, result_order, runs_with}
-use Rattle.ptb_chances.specs.Accounts.{has_result, rows_with, chance_of_rows, runs_of_rows, chance_in, runs_in, AreAlike, AreSame, IsPositive, ArePositive, account, row_of_run}
+use Rattle.ptb_chances.specs.Accounts.{has_result, rows_with, chance_of_rows, runs_of_rows, chance_in, runs_in, AreAlike, AreSame, HasChance, ArePositive, account, row_of_run}
 use Rattle.std.specs.Ordering.{is_eq}
 use Rattle.ptb_chances.proofs.Sums.{plus_assoc, plus_turn, equals_plus, equals_then, plus_positive}
 
@@ -64,7 +64,7 @@ total_positive : (ws : List Row) → ArePositive ws → 0 < (chance_of_rows ws).
 total_positive [] p = omega arith
 total_positive (w ∷ ws) p = let one : 0 < w.chance.denominator = (p.0).denominator in plus_positive w.chance (chance_of_rows ws) one (total_positive ws p.1)
 
-maybe_positive : (b : Bool) (w : Row) (ws : List Row) → IsPositive w → ArePositive ws → ArePositive (maybe b w ws)
+maybe_positive : (b : Bool) (w : Row) (ws : List Row) → HasChance w → ArePositive ws → ArePositive (maybe b w ws)
 maybe_positive true w ws one p = (one, p)
 maybe_positive false w ws one p = p
 

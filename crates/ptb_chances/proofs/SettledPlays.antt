@@ -19,7 +19,7 @@ use Rattle.ptb_explore.specs.PlannedPlays.{run_from}
 use Rattle.ptb_explore.specs.RunTree.{answers_to, leaves, tree}
 use Rattle.ptb_explore.proofs.Bounds.{bounds-append}
 use Rattle.ptb_explore.proofs.Lists.{is_answer_from}
-use Rattle.ptb_chances.specs.Accounts.{AddsRow, AreSame, IsAccountOf, IsPositive, account, chance_in, chance_of_rows, runs_of_rows}
+use Rattle.ptb_chances.specs.Accounts.{AddsRow, AreSame, IsAccountOf, HasChance, account, chance_in, chance_of_rows, runs_of_rows}
 use Rattle.ptb_chances.specs.Standing.{StandsAt, Came, IsOver, IsAsked}
 use Rattle.ptb_chances.specs.Waiting.{Standing, Waits, StandsFor, below, Covers, Accounted, Takes, Puts, PutsAnswers, after_answer, first_standing, gone_to}
 use Rattle.ptb_chances.proofs.Accounts.{alike_back, alike_self, chance_is, runs_are, same_alike as same_alike_of, same_from_alike, same_then}
@@ -108,7 +108,7 @@ module _ (p : StoredProgram) (input : List (List ℕ)) (rules : Rules) (most : �
         → IsAccountOf game done old → AddsRow old row new → Covers p input rules most (below p input rules most qs ++ done) ws → Accounted p input rules most new ws
     over_accounted qs done old new ws s over is adds c =
         let ends = all_end qs s.all over in
-        let one : IsPositive row = record { denominator = s.positive; runs = s.some } in
+        let one : HasChance row = record { denominator = s.positive; runs = s.some } in
         let rows : AreSame (row ∷ old) (account game qs ++ account game done) = same_joined (row ∷ []) (account game qs) old (account game done) (one_row qs s ends) is.same in
         let all = same_then new (row ∷ old) (account game qs ++ account game done) (one, is.positive) adds.same rows in
         record {

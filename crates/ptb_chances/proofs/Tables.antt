@@ -14,7 +14,7 @@ use Rattle.ptb_numbers.specs.Fractions.{Ratio, lowest, Equals}
 use Rattle.ptb_answers.specs.Outcome.{Answers, Outcome}
 use Rattle.ptb_machine.specs.Play.{Finish}
 use Rattle.ptb_explore.specs.Chances.{RunResult, Row, chance_of_all, result_of, result_order, results, row_of, runs_with, table}
-use Rattle.ptb_chances.specs.Accounts.{has_result, rows_with, chance_of_rows, runs_of_rows, chance_in, runs_in, IsPositive, ArePositive, account, IsAccountOf, reduced, IsRising}
+use Rattle.ptb_chances.specs.Accounts.{has_result, rows_with, chance_of_rows, runs_of_rows, chance_in, runs_in, HasChance, ArePositive, account, IsAccountOf, reduced, ResultsRise}
 use Rattle.ptb_chances.proofs.Accounts.{maybe, chance_is, runs_are, chance_positive}
 use Rattle.ptb_chances.proofs.Lowest.{lowest_same}
 use Rattle.ptb_chances.proofs.Orders.{result_exact, equal_back, less_apart, has, has_results, results_rise}
@@ -60,7 +60,7 @@ none_below r (w ∷ ws) h =
     let apart : has_result r w ≡ false = equal_back w.result r ∙ less_apart r w.result h.0 in
     ap (λ b. maybe b w (rows_with r ws)) apart ∙ none_below r ws h.1
 
-alone : (ws : List Row) → IsRising ws → AllByRecursion (λ w. rows_with w.result ws ≡ w ∷ []) ws
+alone : (ws : List Row) → ResultsRise ws → AllByRecursion (λ w. rows_with w.result ws ≡ w ∷ []) ws
 alone [] up = tt
 alone (w ∷ ws) up = (first, all_two (λ v. rows_with v.result ws ≡ v ∷ []) (λ v. result_order w.result v.result ≡ Less) (λ v. rows_with v.result (w ∷ ws) ≡ v ∷ []) later ws (alone ws (sorted_tail result_order w.result (results_of ws) up)) less)
   where
@@ -82,7 +82,7 @@ module _ (play : Answers → Outcome Finish (List ℕ)) (runs : List Answers) (p
   row_same : (r s : RunResult) (c d : Ratio) (n m : ℕ) → r ≡ s → c ≡ d → n ≡ m → ◌≡◌ {A = Row} (record { result = r; chance = c; runs = n }) (record { result = s; chance = d; runs = m })
   row_same r s c d n m one two three = rw (one, two, three) refl
 
-  one_row : (w : Row) → IsPositive w → rows_with w.result ws ≡ w ∷ [] → reduced w ≡ row_for w.result
+  one_row : (w : Row) → HasChance w → rows_with w.result ws ≡ w ∷ [] → reduced w ≡ row_for w.result
   unfolding row_for
   one_row w some one = row_same w.result w.result (lowest w.chance) (lowest (chance_of_all play (runs_with play w.result runs))) w.runs (length (runs_with play w.result runs))
       refl (lowest_same w.chance (chance_of_all play (runs_with play w.result runs)) some.denominator all equal) counted
@@ -109,10 +109,10 @@ module _ (play : Answers → Outcome Finish (List ℕ)) (runs : List Answers) (p
   account_results [] = refl
   account_results (a ∷ list) = ap (λ rs. result_of (play a) ∷ rs) (account_results list)
 
-  pub table_is : IsRising ws → map reduced ws ≡ table play runs
+  pub table_is : ResultsRise ws → map reduced ws ≡ table play runs
   unfolding row_for
   table_is up =
-      let each = all_two (λ w. IsPositive w) (λ w. rows_with w.result ws ≡ w ∷ []) (λ w. reduced w ≡ row_for w.result) one_row ws is.positive (alone ws up) in
+      let each = all_two (λ w. HasChance w) (λ w. rows_with w.result ws ≡ w ∷ []) (λ w. reduced w ≡ row_for w.result) one_row ws is.positive (alone ws up) in
       all_rows ws each ∙ ap (map row_for) keys
     where
       same : (q : RunResult) → has q (results_of ws) ≡ has q (results (map (λ a. result_of (play a)) runs))

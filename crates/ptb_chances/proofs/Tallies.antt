@@ -10,7 +10,7 @@ use Rattle.ptb_numbers.specs.Fractions.{Ratio}
 use Rattle.ptb_explore.specs.Chances.{Row, result_order}
 use Rattle.ptb_chances.specs.declared.result_key.ResultKey.{ResultKey}
 use Rattle.ptb_chances.specs.declared.tally.Share.{Share}
-use Rattle.ptb_chances.specs.Accounts.{AreAlike, AddsRow, AreSame, IsPositive, ArePositive}
+use Rattle.ptb_chances.specs.Accounts.{AreAlike, AddsRow, AreSame, HasChance, ArePositive}
 use Rattle.ptb_chances.specs.Keys.{Joins, key_result, row_of_share, rows_of}
 use Rattle.ptb_chances.proofs.Accounts.{alike_self, alike_then, alike_back, alike_more, alike_turned, same_from_alike, same_alike, alike_same, joined}
 use Rattle.ptb_chances.proofs.Orders.{result_exact}
@@ -72,7 +72,7 @@ module _ (key : ResultKey) where
 
   -- ---- rows that are positive
 
-  insert_positive : (v : Share) (es : List (ResultKey × Share)) → IsPositive (row_of_share (key, v)) → ArePositive (rows_of es) → lookup (is_at (order key)) es ≡ None → ArePositive (rows_of (insert_entry order es key v))
+  insert_positive : (v : Share) (es : List (ResultKey × Share)) → HasChance (row_of_share (key, v)) → ArePositive (rows_of es) → lookup (is_at (order key)) es ≡ None → ArePositive (rows_of (insert_entry order es key v))
   insert_positive v [] one all none = (one, tt)
   insert_positive v (e ∷ es) one all none = by_order (insert_positive v es one all.1) (order key e.0) none
     where
@@ -93,7 +93,7 @@ module _ (key : ResultKey) where
   -- ---- what was added
 
   module _ (chance : Ratio) (runs : ℕ) (share : Share) (es : List (ResultKey × Share)) where
-    share_positive : (old : Option Share) → Joins old chance runs share → IsPositive (row key chance runs) → IsPositive (row_of_share (key, share))
+    share_positive : (old : Option Share) → Joins old chance runs share → HasChance (row key chance runs) → HasChance (row_of_share (key, share))
     share_positive None j one = record { denominator = rw j.0 (one.denominator); runs = rw j.1 (one.runs) }
     share_positive (Some v) j one = record { denominator = j.1; runs = omega (arith, j.2, one.runs) }
 

@@ -10,7 +10,7 @@
 --     IsAccountOf play runs ws an account has what these runs have
 --     AddsRow old w new        one row was added to an account
 --     reduced w                a row with its chance in lowest terms
---     IsRising ws              the results rise
+--     ResultsRise ws              the results rise
 use Rattle.std.specs.Prelude.{◌≡◌, ℕ, ◌+◌, ◌<◌, Bool, List, [], ◌∷◌, map}
 use Rattle.std.specs.List.{filter, AllByRecursion}
 use Rattle.std.specs.List.Sorted.{IsStrictlySortedBy}
@@ -52,12 +52,12 @@ pub record AreSame (ws vs : List Row) : Type 0 where
   pub chances : (r : RunResult) → Equals (chance_in r ws) (chance_in r vs)
   pub runs : (r : RunResult) → runs_in r ws ≡ runs_in r vs
 
-pub record IsPositive (w : Row) : Type 0 where
+pub record HasChance (w : Row) : Type 0 where
   pub denominator : 0 < w.chance.denominator
   pub runs : 0 < w.runs
 
 abbrev pub ArePositive : List Row → Type 0
-ArePositive ws = AllByRecursion IsPositive ws
+ArePositive ws = AllByRecursion HasChance ws
 
 -- ---- the account of some runs
 
@@ -74,12 +74,12 @@ pub record IsAccountOf (play : Answers → Outcome Finish (List ℕ)) (runs : Li
 -- a row that is positive was added
 pub record AddsRow (old : List Row) (w : Row) (new : List Row) : Type 0 where
   pub same : AreSame new (w ∷ old)
-  pub positive : IsPositive w → ArePositive old → ArePositive new
+  pub positive : HasChance w → ArePositive old → ArePositive new
 
 -- ---- the table
 
 abbrev pub reduced : Row → Row
 reduced w = record { result = w.result; chance = lowest w.chance; runs = w.runs }
 
-abbrev pub IsRising : List Row → Type 0
-IsRising ws = IsStrictlySortedBy result_order (map (λ w. w.result) ws)
+abbrev pub ResultsRise : List Row → Type 0
+ResultsRise ws = IsStrictlySortedBy result_order (map (λ w. w.result) ws)

@@ -6,11 +6,11 @@ use Rattle.ptb_answers.specs.Outcome.{Answers, Outcome}
 use Rattle.ptb_machine.specs.Play.{Finish}
 use Rattle.ptb_explore.specs.Chances.{table}
 use Rattle.ptb_explore.specs.RunTree.{tree}
-use Rattle.ptb_chances.specs.Accounts.{IsRising, chance_of_rows, runs_of_rows}
+use Rattle.ptb_chances.specs.Accounts.{ResultsRise, chance_of_rows, runs_of_rows}
 
 pub record TableLaws (play : Answers → Outcome Finish (List ℕ)) (most : ℕ) : Type 0 where
   -- the results rise, so none is there twice
-  pub rising : IsRising (table play (tree play most))
+  pub rising : ResultsRise (table play (tree play most))
   -- their chances add up to 1, and are fractions
   pub sum : Equals (chance_of_rows (table play (tree play most))) (record { numerator = 1; denominator = 1 })
   pub positive : 0 < (chance_of_rows (table play (tree play most))).denominator

@@ -6,7 +6,7 @@ ghost use Rattle.ptb_numbers.specs.Decimals.{decimals};
 ghost use Rattle.ptb_numbers.specs.Lowest.{ratio_of};
 ghost use Rattle.ptb_report.specs.Report.{field};
 ghost use Rattle.ptb_explore.specs.Chances.{ratio_text, row_text, table_text};
-ghost use Rattle.ptb_chances.specs.Accounts.{IsRising, reduced};
+ghost use Rattle.ptb_chances.specs.Accounts.{ResultsRise, reduced};
 ghost use Rattle.ptb_chances.specs.Keys.{key_result, result_text, row_of_share, share_text};
 
 use crate::result_key::ResultKey;
@@ -90,7 +90,7 @@ impl Tally {
     /// Where a growth was refused memory.
     pub(crate) fn text(&self, alloc: Global) -> Result<Vec<u8>, AllocError>
         ensures text { IfOk result (λ text. text.items ≡ table_text (map reduced self.now)) }
-        ensures rising { IsRising self.now }
+        ensures rising { ResultsRise self.now }
     {
         let mut text = Vec::new(alloc);
         for (key, share) in self.shares.iter() {
