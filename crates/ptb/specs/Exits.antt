@@ -21,7 +21,7 @@ use Rattle.ptb_options.specs.declared.request.Mode.{Mode}
 use Rattle.ptb_options.specs.declared.request.Mode.TheVariants as modes
 use Rattle.ptb_options.specs.declared.request.Request.{Request}
 use Rattle.ptb_options.specs.declared.usage.UsageFault.{UsageFault}
-use Rattle.ptb_options.specs.Options.{Options, Asks, Refuses, options_of}
+use Rattle.ptb_options.specs.Options.{Options, Asks, RefusesOptions, options_of}
 use Rattle.ptb_options.specs.Statuses.{refusal_status, usage_status}
 use Rattle.ptb_machine.specs.Streams.{Reads, Writes}
 use Rattle.ptb_serve.specs.declared.note.Note.{Note}
@@ -82,7 +82,7 @@ module _ {R : Type 0} (input : Reads R) (out : Writes) where
   -- the options ask for nothing
   pub record IsUsageStatus (options : Options) (n : ℕ) : Type 0 where
     pub fault : UsageFault
-    pub refuses : Refuses options fault
+    pub refuses : RefusesOptions options fault
     pub status : n ≡ usage_status fault
     pub untouched : IsUntouched input out
 

@@ -5,7 +5,7 @@ ghost use Rattle.std.specs.Prelude.{◌≡◌, ◌≤◌, IfErr, IfOk, IfSome, c
 ghost use Rattle.std.specs.Prelude.{is_ok, is_some, option_copied, string_bytes};
 ghost use Rattle.std.specs.IoError.{error_kind};
 ghost use Rattle.clap.specs.Words.{first_of, kind_of};
-ghost use Rattle.ptb_options.specs.Options.{HasBound, HasMemorySize, Refuses, entries_of};
+ghost use Rattle.ptb_options.specs.Options.{HasBound, HasMemorySize, RefusesOptions, entries_of};
 ghost use Rattle.ptb_options.specs.Options.{options_of};
 ghost use Rattle.ptb_options.specs.Statuses.{usage_status};
 ghost use Rattle.ptb_serve.specs.Statuses.{note_status};
@@ -194,7 +194,7 @@ fn task<'a, R: Runtime + AllocGlobal>(
         (options_of (entries_of matches.now)) t.drawn t.request) }
     ensures path { IfOk result (λ t.
         option_copied t.path ≡ first_of (codes "program") (entries_of matches.now)) }
-    ensures fault { IfErr result (Refuses (options_of (entries_of matches.now))) }
+    ensures fault { IfErr result (RefusesOptions (options_of (entries_of matches.now))) }
 {
     let request = decide(console.runtime().alloc(), matches)?;
     let drawn = draw_seed(console, matches, &request.mode);

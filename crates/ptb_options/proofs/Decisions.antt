@@ -18,7 +18,7 @@ use Rattle.ptb_options.specs.declared.request.Request.{Request}
 use Rattle.ptb_options.specs.declared.usage.UsageFault.{UsageFault}
 use Rattle.ptb_options.specs.declared.usage.UsageFault.TheVariants.{BadList, Memory}
 use Rattle.ptb_options.specs.Options.{Asks, AsksMode, HasBound, HasMemorySize, IsFirstMisspelled}
-use Rattle.ptb_options.specs.Options.{Options, Refuses, WantsMemory, clash, clashes, first_fault}
+use Rattle.ptb_options.specs.Options.{Options, RefusesOptions, WantsMemory, clash, clashes, first_fault}
 use Rattle.ptb_options.specs.Options.{IsRulesOf, default_memory, default_steps}
 use Rattle.ptb_options.proofs.ListsKept.{first_misspelled}
 
@@ -41,10 +41,10 @@ in_table ((false, kept) ∷ rows) fault each found =
     let first = and_parts (is_clash kept) _ each in
     in_table rows fault first.1 found
 
-Refuses-clash : (o : Options) (fault : UsageFault) → clash o ≡ Some fault → Refuses o fault
-Refuses-clash o BadList e = absurd (false≢true (in_table (clashes o) BadList refl e))
-Refuses-clash o Memory e = absurd (false≢true (in_table (clashes o) Memory refl e))
-Refuses-clash o fault e = e
+RefusesOptions-clash : (o : Options) (fault : UsageFault) → clash o ≡ Some fault → RefusesOptions o fault
+RefusesOptions-clash o BadList e = absurd (false≢true (in_table (clashes o) BadList refl e))
+RefusesOptions-clash o Memory e = absurd (false≢true (in_table (clashes o) Memory refl e))
+RefusesOptions-clash o fault e = e
 
 -- the size that is given, or the default
 pub size_of : (kept : Option ℕ) (memory : ℕ) → ForSome kept IsMemorySize → memory ≡ unwrap_or kept 4096
@@ -67,15 +67,15 @@ module _ (o l : Options) (same : l ≡ o) where
   -- what is known of the request, or of why there is none
   pub record IsDecided (result : Result Request UsageFault) : Type 0 where
     pub ok : IfOk result (Asks o)
-    pub fault : IfErr result (Refuses o)
+    pub fault : IfErr result (RefusesOptions o)
 
-  refused : (fault : UsageFault) → Refuses l fault → IsDecided (Err fault)
-  refused fault h = record { ok = tt; fault = subst (λ (x : Options). Refuses x fault) same h }
+  refused : (fault : UsageFault) → RefusesOptions l fault → IsDecided (Err fault)
+  refused fault h = record { ok = tt; fault = subst (λ (x : Options). RefusesOptions x fault) same h }
 
   -- they clash
   pub decided_clash : (found : Option UsageFault) (fault : UsageFault) → found ≡ clash l → found ≡ Some fault
       → IsDecided (Err fault)
-  decided_clash found fault told is = refused fault (Refuses-clash l fault (sym told ∙ is))
+  decided_clash found fault told is = refused fault (RefusesOptions-clash l fault (sym told ∙ is))
 
   -- they don't
   module _ (found : Option UsageFault) (told : found ≡ clash l) (none : found ≡ None) where
@@ -91,7 +91,7 @@ module _ (o l : Options) (same : l ≡ o) where
         → IsErrAnd result (λ y. y ≡ fault) → WantsMemory l fault → IsDecided result
     decided_list size positive result fault is h =
         let e = err_from_is_err_and result is in
-        let wanted : Refuses l Memory = (
+        let wanted : RefusesOptions l Memory = (
           record { rules = rules_of l (subst HasBound (sym same) positive); memory = unwrap_or l.memory default_memory; mode = h.1.0; in_range = size_of l.memory _ (subst HasMemorySize (sym same) size) refl },
           record { clash = unclashed; rules = record { limit = refl; choose = refl }; memory = refl; mode = h.1.1 },
           h.1.2,

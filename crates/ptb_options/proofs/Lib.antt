@@ -1,6 +1,6 @@
 -- This file names the files of lemmas.
 pub mod AnswerTexts
-pub mod ItemReading
+pub mod ReadItems
 pub mod ListFaults
 pub mod ListReturns
 pub mod ListsKept

@@ -11,7 +11,7 @@ use Rattle.std.specs.Borrow.{Bor}
 use Rattle.ptb_answers.specs.declared.form.Marked.{Marked}
 use Rattle.ptb_answers.specs.AnswerText.{item_text, unmarked, without_bound}
 use Rattle.ptb_options.specs.AnswerLists.{IsItem, SpellsItem, SpellsList}
-use Rattle.ptb_options.specs.ListMistakes.{IsFault, IsItemOf, IsListOf, IsMistakeOf, pieces}
+use Rattle.ptb_options.specs.ListMistakes.{IsFault, IsItemOf, IsListOf, IsListMistake, pieces}
 use Rattle.ptb_options.specs.declared.mistakes.Bounds.{Bounds}
 use Rattle.ptb_options.specs.declared.mistakes.Bounds.TheVariants.{Allowed, Refused}
 use Rattle.ptb_options.specs.declared.mistakes.Mistake.{Mistake}
@@ -109,7 +109,7 @@ pub mistake_at : (bounds : Bounds) (s : List ℕ) (ys : List (Bor (List ℕ))) (
     → map (λ v. v.now) ys ≡ take (length ys) (pieces s) → length ys < length (pieces s)
     → w.now ≡ get_or (pieces s) (length ys) w.now
     → All (IsItemOf bounds) (map (λ v. v.now) ys) → n ≡ length ys → IsFault bounds w.now fault
-    → IsMistakeOf bounds s (record { item = n + 1; text = w; fault = fault })
+    → IsListMistake bounds s (record { item = n + 1; text = w; fault = fault })
 mistake_at bounds s ys w n fault some so_far within at each counted faulty = record {
   not_list = no_list bounds s (length ys) w.now some within at faulty.refused;
   before = map (λ v. v.now) ys;
@@ -126,6 +126,6 @@ none_found None b told is = refl
 none_found (Some m) b told is = absurd (false≢true (sym is ∙ told))
 
 pub found_is_none : (bounds : Bounds) (s : List ℕ) (found : Option Mistake) (b : Bool) → b ≡ is_some found → b ≡ true
-    → IfSome found (IsMistakeOf bounds s) → IsListOf bounds s → ⊥
+    → IfSome found (IsListMistake bounds s) → IsListOf bounds s → ⊥
 found_is_none bounds s None b told is h = absurd (false≢true (sym told ∙ is))
 found_is_none bounds s (Some m) b told is h = h.not_list

@@ -3,7 +3,7 @@
 --     IsItemOf bounds w         the text w spells an item of a list with bounds, or without
 --     IsListOf bounds s         the text s spells such a list
 --     IsFault bounds w f        the text w spells no such item, and why
---     IsMistakeOf bounds s m    the text s spells no such list, and m is its first faulty item
+--     IsListMistake bounds s m    the text s spells no such list, and m is its first faulty item
 use Rattle.std.specs.Prelude.{◌≡◌, ℕ, ◌+◌, ◌==◌, List, ◌∷◌, ◌++◌, length, ℤ, All, IsSome}
 use Rattle.std.specs.List.{slice_split}
 use Rattle.ptb_answers.specs.declared.form.Marked.{Marked}
@@ -36,7 +36,7 @@ pub record IsFault (bounds : Bounds) (w : List ℕ) (fault : ItemFault) : Type 0
   pub why : HasFault w fault
 
 -- the items before it are right, and items are counted from 1
-pub record IsMistakeOf (bounds : Bounds) (s : List ℕ) (m : Mistake) : Type 0 where
+pub record IsListMistake (bounds : Bounds) (s : List ℕ) (m : Mistake) : Type 0 where
   pub not_list : IsListOf bounds s → ⊥
   pub before : List (List ℕ)
   pub after : List (List ℕ)

@@ -9,12 +9,12 @@
 --     clash o                    the fault of the first of them
 --     default_steps, default_memory     the numbers of a request that gives none
 --     Asks o r                   the options ask for the request r
---     text_of o x                the list of an option, as text
+--     list_text o x                the list of an option, as text
 --     IsSpelled o x              it is a list, or is left out
 --     IsMisspelledIn o x         it is no list
 --     IsFirstMisspelled o m      m is what is wrong with the first of them that is no list
 --     HasItems mode              a list of the mode has items
---     Refuses o fault            why the options ask for no request
+--     RefusesOptions o fault            why the options ask for no request
 use Rattle.std.specs.Prelude.{◌≡◌, ◌≢◌, ◌≤◌, pos, ℤ, [], ◌∷◌, option_map, ℕ, ◌^◌, nat_lt, Bool}
 use Rattle.std.specs.Prelude.{true, false, not, ◌&&◌, ◌||◌, ◌⊎◌, ◌==◌, if◌then◌else◌, List, length}
 use Rattle.std.specs.Prelude.{Option, Some, None, is_some, unwrap_or, option_and_then, find}
@@ -32,7 +32,7 @@ use Rattle.ptb_answers.specs.declared.form.Form.{Form}
 use Rattle.ptb_answers.specs.declared.form.Form.TheVariants.{One, Two}
 use Rattle.ptb_answers.specs.declared.form.Marked.{Marked}
 use Rattle.ptb_options.specs.AnswerLists.{SpellsList, SpellsAnswers, IsMisspelled, HasNoAnswers}
-use Rattle.ptb_options.specs.ListMistakes.{IsListOf, IsMistakeOf}
+use Rattle.ptb_options.specs.ListMistakes.{IsListOf, IsListMistake}
 use Rattle.ptb_options.specs.declared.mistakes.Bounds.{Bounds}
 use Rattle.ptb_options.specs.declared.mistakes.Bounds.TheVariants.{Allowed, Refused}
 use Rattle.ptb_options.specs.declared.mistakes.ListOption.{ListOption}
@@ -220,10 +220,10 @@ pub record Asks (o : Options) (r : Request) : Type 0 where
 
 -- ---- why they ask for nothing
 
-abbrev pub text_of : Options → ListOption → Option (List ℕ)
-text_of o Under = o.under
-text_of o After = o.after
-text_of o Answers = o.answers
+abbrev pub list_text : Options → ListOption → Option (List ℕ)
+list_text o Under = o.under
+list_text o After = o.after
+list_text o Answers = o.answers
 
 -- a run is played by numbers alone, and named with their bounds or without
 abbrev pub bounds_in : ListOption → Bounds
@@ -231,14 +231,14 @@ bounds_in Answers = Refused
 bounds_in _ = Allowed
 
 abbrev pub IsSpelled : Options → ListOption → Type 0
-IsSpelled o x = ForSome (text_of o x) (IsListOf (bounds_in x))
+IsSpelled o x = ForSome (list_text o x) (IsListOf (bounds_in x))
 
 abbrev pub IsMisspelledIn : Options → ListOption → Type 0
-IsMisspelledIn o x = IsSomeAnd (text_of o x) (λ s. IsListOf (bounds_in x) s → ⊥)
+IsMisspelledIn o x = IsSomeAnd (list_text o x) (λ s. IsListOf (bounds_in x) s → ⊥)
 
 -- what is wrong with a list that may be left out
 abbrev pub HasMistake : Bounds → Option (List ℕ) → Mistake → Type 0
-HasMistake bounds text m = IsSomeAnd text (λ s. IsMistakeOf bounds s m)
+HasMistake bounds text m = IsSomeAnd text (λ s. IsListMistake bounds s m)
 
 -- the lists are looked at in this order
 abbrev pub EarlierSpelled : Options → ListOption → Type 0
@@ -247,7 +247,7 @@ EarlierSpelled o After = IsSpelled o Under
 EarlierSpelled o Answers = IsSpelled o Under × IsSpelled o After
 
 abbrev pub IsFirstMisspelled : Options → MisspelledList → Type 0
-IsFirstMisspelled o m = EarlierSpelled o m.option × HasMistake (bounds_in m.option) (text_of o m.option) m.mistake
+IsFirstMisspelled o m = EarlierSpelled o m.option × HasMistake (bounds_in m.option) (list_text o m.option) m.mistake
 
 -- a list that may be left out is misspelled, or it has items and memory is wanted for them
 abbrev pub RefusesIfGiven : Option (List ℕ) → UsageFault → Type 0
@@ -275,7 +275,7 @@ abbrev pub WantsMemory : Options → UsageFault → Type 0
 WantsMemory o fault = (fault ≡ Memory) × ((mode : Mode) × AsksMode o mode × HasItems mode)
 
 -- lists are looked at where nothing else is wrong, and kept where all are spelled
-abbrev pub Refuses : Options → UsageFault → Type 0
-Refuses o BadList = (clash o ≡ None) × ((x : ListOption) × IsMisspelledIn o x)
-Refuses o Memory = (r : Request) × Asks o r × HasItems r.mode
-Refuses o fault = clash o ≡ Some fault
+abbrev pub RefusesOptions : Options → UsageFault → Type 0
+RefusesOptions o BadList = (clash o ≡ None) × ((x : ListOption) × IsMisspelledIn o x)
+RefusesOptions o Memory = (r : Request) × Asks o r × HasItems r.mode
+RefusesOptions o fault = clash o ≡ Some fault

@@ -8,7 +8,7 @@
 
 mod answers;
 mod command_line;
-mod deciding;
+mod decision;
 mod help;
 mod items;
 mod mistakes;
@@ -18,7 +18,7 @@ mod wrong_numbers;
 
 pub use answers::{Answers, MarkedAnswers, parse_answers, parse_list};
 pub use command_line::{command, parse, refusal_status};
-pub use deciding::{decide, misspelled_list};
+pub use decision::{decide, misspelled_list};
 pub use mistakes::{Bounds, ItemFault, ListOption, MisspelledList, Mistake, list_mistake};
 pub use request::{DEFAULT_MEMORY, DEFAULT_STEPS, Mode, Request};
 pub use usage::UsageFault;

@@ -1,7 +1,7 @@
 // This file finds what is wrong with a text that should spell a list of answers.
 
 ghost use Rattle.std.specs.Prelude.{◌≡◌, IfSome, Some, None};
-ghost use Rattle.ptb_options.specs.ListMistakes.{IsFault, IsItemOf, IsListOf, IsMistakeOf};
+ghost use Rattle.ptb_options.specs.ListMistakes.{IsFault, IsItemOf, IsListOf, IsListMistake};
 ghost use Rattle.ptb_options.specs.Messages.{option_text};
 
 use crate::items::parse_item;
@@ -80,7 +80,7 @@ pub struct MisspelledList<'a> {
 /// texts between commas.
 pub fn list_mistake(text: &str, bounds: Bounds) -> Option<Mistake<'_>>
     ensures none { result ≡ None → IsListOf bounds text.entry.now }
-    ensures some { IfSome result (IsMistakeOf bounds text.entry.now) }
+    ensures some { IfSome result (IsListMistake bounds text.entry.now) }
 {
     if text == "none" {
         return None;

@@ -1,5 +1,5 @@
 -- This file answers that a word is cut at its `/`, if it has one.
-use Rattle.ptb_options.proofs.ItemReading.{both, both_only, no_answer, no_bound, no_number, number_alone, number_only}
+use Rattle.ptb_options.proofs.ReadItems.{both, both_only, no_answer, no_bound, no_number, number_alone, number_only}
 use Rattle.ptb_options.proofs.items.parse_item.Goals as goal
 
 pub returns-in_err-parse_number-clause-only : goal.returns-in_err-parse_number-clause-only

@@ -3,7 +3,7 @@ use Rattle.std.proofs.Common.{refl}
 use Rattle.std.specs.Prelude.{codes}
 use Rattle.std.specs.Str.Parse.{ExplainsUnsignedError, HasUnsignedDigitsIfOk, ParsesUnsigned}
 use Rattle.ptb_options.proofs.OptionReads.{number_of-get_one, first_of-get_str}
-use Rattle.ptb_options.proofs.deciding.GivenOptions.of.Goals as goal
+use Rattle.ptb_options.proofs.decision.GivenOptions.of.Goals as goal
 
 pub returns : goal.returns
 returns c =

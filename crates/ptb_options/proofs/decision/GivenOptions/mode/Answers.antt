@@ -2,7 +2,7 @@
 -- so that a planted bug is refused soon.
 use Rattle.std.proofs.Common.{rules}
 use Rattle.ptb_options.proofs.ListsKept.{after_refused, answers_refused, under_refused}
-use Rattle.ptb_options.proofs.deciding.GivenOptions.mode.Goals as goal
+use Rattle.ptb_options.proofs.decision.GivenOptions.mode.Goals as goal
 
 pub returns-then-self-4-clause-ok : goal.returns-then-self-4-clause-ok
 returns-then-self-4-clause-ok c = search rules fits 50 depth 2

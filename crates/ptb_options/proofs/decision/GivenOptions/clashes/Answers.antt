@@ -4,7 +4,7 @@ use Rattle.std.specs.Prelude.{is_some}
 use Rattle.std.specs.Borrow.{Bor}
 use Rattle.std.specs.Option.{option_copied}
 use Rattle.ptb_options.specs.Options.{Options}
-use Rattle.ptb_options.proofs.deciding.GivenOptions.clashes.Goals as goal
+use Rattle.ptb_options.proofs.decision.GivenOptions.clashes.Goals as goal
 
 -- whether there is a text, by how the code has it
 given : (held : Option (Bor (List ℕ))) (text : Option (List ℕ)) (b : Bool) → b ≡ is_some held

@@ -2,7 +2,7 @@
 use Rattle.std.proofs.Common.{◌∙◌, ap, sym, arith, Some}
 use Rattle.ptb_options.specs.Options.{is_command_line}
 use Rattle.ptb_options.proofs.OptionReads.{is_given-value_source}
-use Rattle.ptb_options.proofs.deciding.is_given.Goals as goal
+use Rattle.ptb_options.proofs.decision.is_given.Goals as goal
 
 pub returns-in-Some-CommandLine : goal.returns-in-Some-CommandLine
 returns-in-Some-CommandLine c =

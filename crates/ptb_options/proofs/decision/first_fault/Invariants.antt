@@ -1,7 +1,7 @@
 -- This file says what the loop of `first_fault` keeps.
 use Rattle.std.proofs.Common.{◌≡◌, length}
 use Rattle.ptb_options.specs.Options.{first_fault}
-use Rattle.ptb_options.proofs.deciding.first_fault.Given as goal
+use Rattle.ptb_options.proofs.decision.first_fault.Given as goal
 
 abbrev pub invariant-loop-holds : goal.invariant-loop-holds
 invariant-loop-holds l = record {

@@ -2,7 +2,7 @@
 -- planted bug is refused soon.
 use Rattle.std.proofs.Common.{rules}
 use Rattle.ptb_options.proofs.ListsKept.{after_is_first, answers_are_first}
-use Rattle.ptb_options.proofs.deciding.GivenOptions.misspelled.Goals as goal
+use Rattle.ptb_options.proofs.decision.GivenOptions.misspelled.Goals as goal
 
 pub returns-in-Some-clause-some : goal.returns-in-Some-clause-some
 returns-in-Some-clause-some c = search rules fits 50 depth 2

@@ -6,7 +6,7 @@ ghost use Rattle.std.specs.Option.{ForSome, option_copied};
 ghost use Rattle.ptb_options.specs.AnswerLists.{SpellsAnswers};
 ghost use Rattle.ptb_options.specs.ListMistakes.{IsListOf};
 ghost use Rattle.ptb_options.specs.Options.{Asks, AsksMode, HasBound, HasMemorySize, HasMistake, IsRulesOf};
-ghost use Rattle.ptb_options.specs.Options.{IsFirstMisspelled, IsSpelled, Refuses, RefusesAnswers};
+ghost use Rattle.ptb_options.specs.Options.{IsFirstMisspelled, IsSpelled, RefusesOptions, RefusesAnswers};
 ghost use Rattle.ptb_options.specs.Options.{RefusesIfGiven, SpellsIfGiven, WantsMemory, clash, clashes};
 ghost use Rattle.ptb_options.specs.Options.{entries_of, first_fault, form_of, is_given, options_of};
 ghost use Rattle.ptb_options.specs.declared.mistakes.ListOption.{ListOption};
@@ -38,7 +38,7 @@ pub fn decide(alloc: Global, matches: &ArgMatches<'_>) -> Result<Request, UsageF
     requires memory { HasMemorySize (options_of (entries_of matches.now)) }
     requires bound { HasBound (options_of (entries_of matches.now)) }
     ensures ok { IfOk result (Asks (options_of (entries_of matches.now))) }
-    ensures fault { IfErr result (Refuses (options_of (entries_of matches.now))) }
+    ensures fault { IfErr result (RefusesOptions (options_of (entries_of matches.now))) }
 {
     let line = GivenOptions::of(matches);
     if let Some(fault) = line.clash() {
