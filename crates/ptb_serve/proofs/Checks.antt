@@ -16,7 +16,7 @@ use Rattle.ptb_serve.specs.declared.note.Note.{Note}
 use Rattle.ptb_serve.specs.declared.note.Note.TheVariants as notes
 use Rattle.ptb_serve.specs.Loaded.{RefusesListIn, ServesProgram, TellsFailures}
 use Rattle.ptb_serve.specs.Replies.{check_reply, check_status}
-use Rattle.ptb_serve.proofs.Mismatching.{run_refuses_none, success_refuses_none}
+use Rattle.ptb_serve.proofs.Mismatches.{run_refuses_none, success_refuses_none}
 use Rattle.ptb_serve.proofs.Served.{nothing_told, serves_loaded}
 
 module _ (request : Request) (p : StoredProgram) (memory : p.memory ≡ request.memory) (old new known : Option (List ℕ)) where

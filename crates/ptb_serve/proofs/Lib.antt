@@ -1,12 +1,12 @@
 -- This file names the files of lemmas.
-pub mod Replying
-pub mod Sharing
+pub mod ReplyLaws
+pub mod Shares
 pub mod Fronts
 pub mod Served
-pub mod Running
+pub mod PlainRuns
 pub mod Listed
-pub mod Mismatching
-pub mod Telling
+pub mod Mismatches
+pub mod Promises
 pub mod WholeInput
 pub mod Listing
 mod Lines

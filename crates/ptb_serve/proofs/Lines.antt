@@ -20,7 +20,7 @@ use Rattle.ptb_serve.specs.declared.note.Note.{Note}
 use Rattle.ptb_serve.specs.declared.note.Note.TheVariants as notes
 use Rattle.ptb_serve.specs.Loaded.{IsRunStatus, TellsLine, line_in_mode, line_of}
 use Rattle.ptb_serve.specs.Replies.{program_of_text}
-use Rattle.ptb_serve.specs.Serving.{IsInput, outcome_of}
+use Rattle.ptb_serve.specs.ServedRequests.{IsInput, outcome_of}
 use Rattle.ptb_serve.specs.Statuses.{note_status}
 use Rattle.ptb_serve.proofs.Served.{at_known, program_of_text-ok}
 

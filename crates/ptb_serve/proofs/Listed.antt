@@ -38,9 +38,9 @@ use Rattle.ptb_machine.specs.PlainRuns.{IsUnreadable, input_limit}
 use Rattle.ptb_serve.specs.Replies.{Reply, refusal, success, answers_under, first_front, front_note}
 use Rattle.ptb_serve.specs.Replies.{is_front, is_share, listed_runs, listing_reply, runs_reply}
 use Rattle.ptb_serve.specs.Replies.{all_reply, reply_in_mode}
-use Rattle.ptb_serve.specs.Serving.{outcome_of, input_note, reports_note, IsPlainRun, IsUnloaded}
-use Rattle.ptb_serve.specs.Serving.{IsCheck, IsInput, ListsFewerOf, NeedsInput, NeedsWholeInput, ReadsForRun}
-use Rattle.ptb_serve.specs.Serving.{Serves, ServesUnread, SilentBy, StopsForMemory}
+use Rattle.ptb_serve.specs.ServedRequests.{outcome_of, input_note, reports_note, IsPlainRun, IsUnloaded}
+use Rattle.ptb_serve.specs.ServedRequests.{IsCheck, IsInput, ListsFewerOf, NeedsInput, NeedsWholeInput, ReadsForRun}
+use Rattle.ptb_serve.specs.ServedRequests.{Serves, ServesUnread, SilentBy, StopsForMemory}
 use Rattle.ptb_serve.proofs.Fronts.{note_is}
 use Rattle.ptb_machine.proofs.Playing.{takes_beginning}
 use Rattle.ptb_serve.proofs.Served.{consumes_nothing, nothing_told}

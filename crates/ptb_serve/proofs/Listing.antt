@@ -26,7 +26,7 @@ use Rattle.ptb_serve.specs.declared.list_mismatch.ListMismatch.TheVariants.{Unde
 use Rattle.ptb_serve.specs.ListMismatches.{IsUnbegun, mismatch_note, unbegun_attempt}
 use Rattle.ptb_serve.specs.Loaded.{IsServedOn, ServesProgram, TellsFailures}
 use Rattle.ptb_serve.specs.Replies.{answers_under, first_front, front_note}
-use Rattle.ptb_serve.specs.Serving.{ListsFewerOf, input_note, reports_note}
+use Rattle.ptb_serve.specs.ServedRequests.{ListsFewerOf, input_note, reports_note}
 use Rattle.ptb_serve.proofs.Listed.{front_note-loaded, front_note-other, front_note-silent, lists_fewer}
 use Rattle.ptb_serve.proofs.Listed.{runs_due, serves_front, serves_mode, serves_reports, serves_some}
 use Rattle.ptb_serve.proofs.Served.{at_known, lists_loaded, nothing_told, serves_loaded}

@@ -25,12 +25,12 @@ use Rattle.ptb_machine.specs.Streams.{Reads, Writes}
 use Rattle.ptb_serve.specs.Loaded.{IsServed, IsRunStatus, ReadsInput, RefusesListIn, ServesProgram}
 use Rattle.ptb_serve.specs.Loaded.{TellsFailures, TellsLine, TellsMismatch, line_of}
 use Rattle.ptb_machine.specs.SeededRuns.{seeded_answers}
-use Rattle.ptb_serve.specs.Serving.{NeedsInput}
+use Rattle.ptb_serve.specs.ServedRequests.{NeedsInput}
 use Rattle.ptb_serve.proofs.Lines.{none_stopped, run_line}
 use Rattle.ptb_serve.proofs.Listed.{text_serves, untouched_reads}
 use Rattle.ptb_serve.proofs.Served.{unread}
-use Rattle.ptb_serve.proofs.Mismatching.{none_told, run_refuses_none, success_refuses_none}
-use Rattle.ptb_serve.proofs.Running.{Ran, plain_reads, plain_serves, run_failures, seeded_reads, seeded_serves}
+use Rattle.ptb_serve.proofs.Mismatches.{none_told, run_refuses_none, success_refuses_none}
+use Rattle.ptb_serve.proofs.PlainRuns.{Ran, plain_reads, plain_serves, run_failures, seeded_reads, seeded_serves}
 
 module _ (request : Request) (p : StoredProgram) where
   pub record IsServedIn {R : Type 0} (input : Reads R) (out : Writes) (result : Result ℕ Note) (found : Option ListMismatch) (reached : Option ℕ) (mode : Mode) : Type 0 where

@@ -26,7 +26,7 @@ use Rattle.ptb_serve.specs.declared.note.Note.{Note}
 use Rattle.ptb_serve.specs.declared.note.Note.TheVariants as notes
 use Rattle.ptb_serve.specs.Loaded.{IsServedOn, ServesProgram}
 use Rattle.ptb_serve.specs.Replies.{Reply, runs_drawn, sample_reply}
-use Rattle.ptb_serve.specs.Serving.{SamplesFewerOf, Serves, input_note, outcome_of, reports_note}
+use Rattle.ptb_serve.specs.ServedRequests.{SamplesFewerOf, Serves, input_note, outcome_of, reports_note}
 use Rattle.ptb_serve.proofs.Listed.{below_both, serves_mode, text-beginning, text-into}
 use Rattle.ptb_serve.proofs.Served.{nothing_told, samples_loaded, serves_loaded}
 use Rattle.ptb_serve.proofs.WholeInput.{IsDue, TellsWriter, all_due, all_written, at_lines, cut_due, cut_silent}

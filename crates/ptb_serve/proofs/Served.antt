@@ -32,11 +32,11 @@ use Rattle.ptb_machine.specs.PlainRuns.{ShowsRun, lines_come, ShowsUnread, endin
 use Rattle.ptb_machine.specs.PlainRuns.{lines_wanted, ReadsFor}
 use Rattle.ptb_machine.specs.Streams.{Reads, Writes}
 use Rattle.ptb_serve.specs.Replies.{Reply, refusal, run_reply, program_of_text, reply_or_refusal, program_reply}
-use Rattle.ptb_serve.specs.Serving.{outcome_of, EndsUnread, IsCheck, IsPlainRun, ReadsBy}
-use Rattle.ptb_serve.specs.Serving.{outcome_wanted, wanted_by, load_note, AsksForMore, IsUnloaded}
-use Rattle.ptb_serve.specs.Serving.{ListsFewerOf, ReadsForRun, Replies, SamplesFewerOf, Serves}
-use Rattle.ptb_serve.specs.Serving.{SilentBy, SilentWithoutMemory, SplitsFewerOf, StopsForMemory}
-use Rattle.ptb_serve.specs.Serving.{TellsLength, TellsRefusal, load_fault_note, seeded_taken}
+use Rattle.ptb_serve.specs.ServedRequests.{outcome_of, EndsUnread, IsCheck, IsPlainRun, ReadsBy}
+use Rattle.ptb_serve.specs.ServedRequests.{outcome_wanted, wanted_by, load_note, AsksForMore, IsUnloaded}
+use Rattle.ptb_serve.specs.ServedRequests.{ListsFewerOf, ReadsForRun, Replies, SamplesFewerOf, Serves}
+use Rattle.ptb_serve.specs.ServedRequests.{SilentBy, SilentWithoutMemory, SplitsFewerOf, StopsForMemory}
+use Rattle.ptb_serve.specs.ServedRequests.{TellsLength, TellsRefusal, load_fault_note, seeded_taken}
 
 -- ---- the program of a text
 

@@ -29,9 +29,9 @@ use Rattle.ptb_serve.specs.declared.note.Note.{Note}
 use Rattle.ptb_serve.specs.declared.note.Note.TheVariants as notes
 use Rattle.ptb_serve.specs.Loaded.{IsServedOn, ServesProgram}
 use Rattle.ptb_serve.specs.Replies.{Reply, shares_reply}
-use Rattle.ptb_serve.specs.Serving.{SplitsFewerOf, Serves, input_note, outcome_of, reports_note}
+use Rattle.ptb_serve.specs.ServedRequests.{SplitsFewerOf, Serves, input_note, outcome_of, reports_note}
 use Rattle.ptb_serve.proofs.Listed.{below_both, serves_mode, text-beginning, text-into}
-use Rattle.ptb_serve.proofs.Mismatching.{run_refuses_none}
+use Rattle.ptb_serve.proofs.Mismatches.{run_refuses_none}
 use Rattle.ptb_serve.proofs.Served.{nothing_told, splits_loaded, serves_loaded, takes_nothing}
 use Rattle.ptb_serve.proofs.WholeInput.{IsDue, TellsWriter, all_due, all_written, at_lines, cut_due, cut_silent}
 use Rattle.ptb_serve.proofs.WholeInput.{gives_err, reports_cut, unread_due}

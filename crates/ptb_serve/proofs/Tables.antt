@@ -21,9 +21,9 @@ use Rattle.ptb_serve.specs.declared.note.Note.{Note}
 use Rattle.ptb_serve.specs.declared.note.Note.TheVariants as notes
 use Rattle.ptb_serve.specs.Loaded.{IsServedOn, ServesProgram}
 use Rattle.ptb_serve.specs.Replies.{Reply, chances_reply}
-use Rattle.ptb_serve.specs.Serving.{IsUnloaded, Serves, SilentBy, chances_note, input_note, outcome_of}
+use Rattle.ptb_serve.specs.ServedRequests.{IsUnloaded, Serves, SilentBy, chances_note, input_note, outcome_of}
 use Rattle.ptb_serve.proofs.Listed.{serves_mode}
-use Rattle.ptb_serve.proofs.Mismatching.{run_refuses_none}
+use Rattle.ptb_serve.proofs.Mismatches.{run_refuses_none}
 use Rattle.ptb_serve.proofs.Served.{nothing_told, serves_loaded, takes_nothing}
 use Rattle.ptb_serve.proofs.WholeInput.{IsDue, all_due, all_written, at_lines, gives_err, unread_due}
 

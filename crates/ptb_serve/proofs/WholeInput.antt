@@ -21,12 +21,12 @@ use Rattle.ptb_serve.specs.declared.note.Note.{Note}
 use Rattle.ptb_serve.specs.declared.note.Note.TheVariants as notes
 use Rattle.ptb_serve.specs.Loaded.{IsServed, IsServedOn, ReadsInput, ServesProgram}
 use Rattle.ptb_serve.specs.Replies.{Reply}
-use Rattle.ptb_serve.specs.Serving.{IsPlainRun, IsUnloaded, NeedsInput, Serves, SilentBy}
-use Rattle.ptb_serve.specs.Serving.{input_note, outcome_of, reports_note}
+use Rattle.ptb_serve.specs.ServedRequests.{IsPlainRun, IsUnloaded, NeedsInput, Serves, SilentBy}
+use Rattle.ptb_serve.specs.ServedRequests.{input_note, outcome_of, reports_note}
 use Rattle.ptb_serve.proofs.Listed.{input_note-loaded, input_note-written, reports_note-failed}
 use Rattle.ptb_serve.proofs.Listed.{reports_note-loaded, reports_note-read, reports_note-write}
 use Rattle.ptb_serve.proofs.Listed.{whole_reads, whole_unread}
-use Rattle.ptb_serve.proofs.Mismatching.{reports_refuse_none, success_refuses_none, unread_refuses_none}
+use Rattle.ptb_serve.proofs.Mismatches.{reports_refuse_none, success_refuses_none, unread_refuses_none}
 use Rattle.ptb_serve.proofs.Served.{at_known, takes_nothing}
 
 -- what a `?` gives back is the error

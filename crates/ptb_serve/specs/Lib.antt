@@ -5,6 +5,6 @@ pub mod Replies
 pub mod ReplyLaws
 pub mod Flushed
 pub mod ListMismatches
-pub mod Serving
+pub mod ServedRequests
 pub mod Loaded
 pub mod Promises

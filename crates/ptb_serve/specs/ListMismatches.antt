@@ -5,7 +5,7 @@
 --     IsMismatchOf mode p input rules m    the same, of the lists of a request
 --     refused_attempt m                    the attempt of a listing of which a list fits no run
 --     unbegun_attempt why                  the attempt of a listing that is not begun
---     IsRefused game under after m         a list is refused by its note, and for what it does not fit
+--     IsListRefused game under after m         a list is refused by its note, and for what it does not fit
 --     IsUnbegun game under after why       a list is refused, or memory was
 use Rattle.std.specs.Prelude.{◌≡◌, ℕ, List, [], Option, Some, None, Err}
 use Rattle.ptb_text.specs.Statements.{StoredProgram}
@@ -61,12 +61,12 @@ unbegun_attempt (NoBeginning m) = refused_attempt (Under m)
 unbegun_attempt (NotARun m) = refused_attempt (After m)
 unbegun_attempt Memory = record { served = Err notes.OutOfMemory; mismatch = None; line = None }
 
-abbrev pub IsRefused : (Answers → Outcome Finish (List ℕ)) → Option (List Marked) → Option (List Marked) → ListMismatch
+abbrev pub IsListRefused : (Answers → Outcome Finish (List ℕ)) → Option (List Marked) → Option (List Marked) → ListMismatch
     → Type 0
-IsRefused game under after m = (front_note game under after ≡ Some (mismatch_note m)) × IsMismatchIn game under after m
+IsListRefused game under after m = (front_note game under after ≡ Some (mismatch_note m)) × IsMismatchIn game under after m
 
 abbrev pub IsUnbegun : (Answers → Outcome Finish (List ℕ)) → Option (List Marked) → Option (List Marked) → OpenFault
     → Type 0
-IsUnbegun game under after (NoBeginning m) = IsRefused game under after (Under m)
-IsUnbegun game under after (NotARun m) = IsRefused game under after (After m)
+IsUnbegun game under after (NoBeginning m) = IsListRefused game under after (Under m)
+IsUnbegun game under after (NotARun m) = IsListRefused game under after (After m)
 IsUnbegun game under after Memory = Unit {0}

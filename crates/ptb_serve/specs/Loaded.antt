@@ -35,9 +35,9 @@ use Rattle.ptb_machine.specs.SeededRuns.{seeded_answers}
 use Rattle.ptb_machine.specs.Streams.{Reads, Writes}
 use Rattle.ptb_serve.specs.ListMismatches.{IsMismatchOf, mismatch_note}
 use Rattle.ptb_serve.specs.Replies.{reply_in_mode}
-use Rattle.ptb_serve.specs.Serving.{IsCheck, IsInput, IsPlainRun, IsUnloaded, NeedsInput}
-use Rattle.ptb_serve.specs.Serving.{NeedsWholeInput, ReadsForRun, Serves, ServesUnread, SilentBy}
-use Rattle.ptb_serve.specs.Serving.{StopsForMemory, outcome_of}
+use Rattle.ptb_serve.specs.ServedRequests.{IsCheck, IsInput, IsPlainRun, IsUnloaded, NeedsInput}
+use Rattle.ptb_serve.specs.ServedRequests.{NeedsWholeInput, ReadsForRun, Serves, ServesUnread, SilentBy}
+use Rattle.ptb_serve.specs.ServedRequests.{StopsForMemory, outcome_of}
 
 -- a run that is begun isn't spent
 abbrev pub IsRunStatus : Result Ending RunFault → Result ℕ Note → Type 0

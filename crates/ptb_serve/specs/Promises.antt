@@ -15,9 +15,9 @@ use Rattle.ptb_serve.specs.declared.service.Outcome.{Outcome}
 use Rattle.ptb_serve.specs.ListMismatches.{IsMismatchOf, mismatch_note}
 use Rattle.ptb_serve.specs.Loaded.{line_in_mode}
 use Rattle.ptb_serve.specs.Replies.{program_of_text, refusal, reply_to}
-use Rattle.ptb_serve.specs.Serving.{IsCheck, IsInput, IsPlainRun, IsUnloaded, NeedsInput}
-use Rattle.ptb_serve.specs.Serving.{NeedsWholeInput, ReadsForRun, Serves, ServesUnread, SilentBy}
-use Rattle.ptb_serve.specs.Serving.{StopsForMemory, TellsLength, TellsRefusal}
+use Rattle.ptb_serve.specs.ServedRequests.{IsCheck, IsInput, IsPlainRun, IsUnloaded, NeedsInput}
+use Rattle.ptb_serve.specs.ServedRequests.{NeedsWholeInput, ReadsForRun, Serves, ServesUnread, SilentBy}
+use Rattle.ptb_serve.specs.ServedRequests.{StopsForMemory, TellsLength, TellsRefusal}
 use Rattle.ptb_serve.specs.Statuses.{note_status}
 
 module _ {P R : Type 0} (request : Request) (text : Reads P) (input : Reads R) where

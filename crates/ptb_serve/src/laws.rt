@@ -16,7 +16,7 @@ use ptb_machine::{run_laws, seeded_laws};
 /// the runs are, one after the other, the reports of all runs. The chances of the results of all runs
 /// add up to 1. Where a run ends with a fault, the command at its place is
 /// well formed, or its mistake is among those that a check lists.
-#[tactic(auto, using(crate::proofs::Replying::reply_laws))]
+#[tactic(auto, using(crate::proofs::ReplyLaws::reply_laws))]
 pub fn reply_laws()
     ensures { ReplyLaws }
 {

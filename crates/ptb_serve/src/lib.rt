@@ -11,14 +11,14 @@
 mod all_runs;
 mod attempt;
 mod chances;
-mod checking;
 mod flushing;
 mod laws;
 mod list_mismatch;
+mod mistakes;
 mod note;
-mod sampled;
+mod sample;
 mod service;
-mod splitting;
+mod shares;
 
 pub use flushing::Flushing;
 pub use laws::reply_laws;

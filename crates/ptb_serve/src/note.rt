@@ -3,7 +3,7 @@
 ghost use Rattle.std.specs.Prelude.{◌≡◌};
 ghost use Rattle.ptb_serve.specs.declared.note.Note.TheVariants.{OutOfMemory, Unwritten};
 ghost use Rattle.ptb_serve.specs.Messages.{note_line};
-ghost use Rattle.ptb_serve.specs.Serving.{chances_note, input_note, load_note, reports_note};
+ghost use Rattle.ptb_serve.specs.ServedRequests.{chances_note, input_note, load_note, reports_note};
 ghost use Rattle.ptb_serve.specs.Statuses.{note_status};
 
 use ptb_explore::ExploreFault;

@@ -10,17 +10,17 @@ ghost use Rattle.ptb_serve.specs.Loaded.{IsRunStatus, ReadsInput, ServesProgram,
 ghost use Rattle.ptb_serve.specs.Loaded.{TellsLine, TellsMismatch, line_of};
 ghost use Rattle.ptb_serve.specs.Promises.{FailsLoudly, ReadsOnlyWhatIsAsked, Served};
 ghost use Rattle.ptb_serve.specs.ReplyLaws.{ReplyLaws};
-ghost use Rattle.ptb_serve.specs.Serving.{NeedsInput, outcome_of};
+ghost use Rattle.ptb_serve.specs.ServedRequests.{NeedsInput, outcome_of};
 
 use crate::all_runs::list_runs;
 use crate::attempt::Attempt;
 use crate::chances::list_table;
-use crate::checking::list_mistakes;
 use crate::laws::reply_laws;
 use crate::list_mismatch::ListMismatch;
+use crate::mistakes::list_mistakes;
 use crate::note::Note;
-use crate::sampled::list_sample;
-use crate::splitting::list_shares;
+use crate::sample::list_sample;
+use crate::shares::list_shares;
 use ptb_chances::Watch;
 use ptb_explore::Sample;
 use ptb_machine::{Ending, RunEnd, RunFault, run_plain_to_end, run_seeded_to_end};

@@ -13,7 +13,7 @@ use Rattle.ptb_text.specs.declared.fault.LoadFault.{LoadFault}
 use Rattle.ptb_text.specs.declared.fault.LoadFault.TheVariants.{Memory, Read, TooLong}
 use Rattle.ptb_text.specs.Entry.{IsLineFault}
 use Rattle.ptb_text.specs.Lines.{lines, program_lines, tab_as_space}
-use Rattle.ptb_text.specs.Loading.{AcceptsLines, HasFault, HasTextAt, IsLoaded, IsRefusedAt, Loads}
+use Rattle.ptb_text.specs.Loading.{AcceptsLines, FailsToLoad, HasTextAt, IsLoaded, IsRefusedAt, Loads}
 use Rattle.ptb_text.specs.Loading.{ReadsProgram, StoresTextAt}
 use Rattle.ptb_text.specs.Statements.{HasText, Statements, StoredProgram, after_line, after_lines, program_limit}
 use Rattle.ptb_text.specs.Streams.{Reads}
@@ -206,10 +206,10 @@ module _ {R : Type 0} (input : Reads R) where
       subst (ReadsProgram {T = U} input) (sym (p.1 ∙ ap Err p.2)) reads
 
 pub unread_sure : {U : Type 0} (e : ℕ × LoadFault) (r : Result U (ℕ × LoadFault)) → IsErrAnd r (λ y. y ≡ e)
-    → ¬ (e.1 ≡ Read) → ¬ HasFault r Read
+    → ¬ (e.1 ≡ Read) → ¬ FailsToLoad r Read
 unread_sure {U} e r is none =
     let p = err_from_is_err_and r is in
-    subst (λ (r : Result U (ℕ × LoadFault)). ¬ HasFault r Read) (sym (p.1 ∙ ap Err p.2)) none
+    subst (λ (r : Result U (ℕ × LoadFault)). ¬ FailsToLoad r Read) (sym (p.1 ∙ ap Err p.2)) none
 
 -- the text was read, and its lines were entered
 module _ (known : Option (List ℕ)) (memory : ℕ) (text spaced : List ℕ) (is : IfSome known (λ b. b ≡ text)) (written_over : spaced ≡ map tab_as_space text) (short : length text ≤ program_limit) (room : ℕ) (same : room ≡ memory) where
@@ -262,6 +262,6 @@ module _ {R T U : Type 0} (input : Reads R) (text : T) (whole : ReadsProgram inp
 
 -- a reader was at no fault while lines were entered
 pub loaded_sure : {U : Type 0} (P : ℕ × LoadFault → Type 0) (result : Result U (ℕ × LoadFault))
-    → IfErr result (λ e. ¬ IsLineFault e.1 → (e.1 ≡ Memory) × P e) → ¬ HasFault result Read
+    → IfErr result (λ e. ¬ IsLineFault e.1 → (e.1 ≡ Memory) × P e) → ¬ FailsToLoad result Read
 loaded_sure P (Ok p) other = λ h. h
 loaded_sure P (Err e) other = λ h. not_read (only_memory e (λ h. (other h).0) Read h (λ l. l))

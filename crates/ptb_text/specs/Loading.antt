@@ -6,7 +6,7 @@
 --     HasTextAt lines k             there is a line k, counted from 1, and it has a text to store
 --     StoresTextAt text k           the text isn't too long, and its line k has a text to store
 --     Loads memory text result      what a text is loaded as, or why it is not
---     HasFault result fault         it is not, for this fault
+--     FailsToLoad result fault         it is not, for this fault
 --     ReadsProgram input result     what is read of the text
 use Rattle.std.specs.Prelude.{◌≡◌, ℕ, ◌-◌, ◌<◌, ◌≤◌, List, [], length, take, slice_index_or, Option}
 use Rattle.std.specs.Prelude.{Result, Ok, Err, IsOk, IfErr, IfOk, IfSome, IsErrAnd}
@@ -51,8 +51,8 @@ pub record Loads (memory : ℕ) (text : Option (List ℕ)) (result : Result Stor
   pub memory_last : IfErr result (λ e. e.1 ≡ Memory → IfSome text (λ b. AcceptsLines memory b e.0))
   pub memory_line : IfErr result (λ e. e.1 ≡ Memory → 0 < e.0 → IfSome text (λ b. StoresTextAt b e.0))
 
-abbrev pub HasFault : {T : Type 0} → Result T (ℕ × LoadFault) → LoadFault → Type 0
-HasFault result fault = IsErrAnd result (λ e. e.1 ≡ fault)
+abbrev pub FailsToLoad : {T : Type 0} → Result T (ℕ × LoadFault) → LoadFault → Type 0
+FailsToLoad result fault = IsErrAnd result (λ e. e.1 ≡ fault)
 
 -- the text is loaded, or one of its lines is at fault
 abbrev pub IsReadToEnd : {T : Type 0} → Result T (ℕ × LoadFault) → Type 0
@@ -61,4 +61,4 @@ IsReadToEnd (Err e) = 0 < e.0
 
 abbrev pub ReadsProgram : {R T : Type 0} → Reads R → Result T (ℕ × LoadFault) → Type 0
 ReadsProgram input result =
-    ReadsUpTo program_limit input (IsReadToEnd result) (HasFault result TooLong) (HasFault result Read)
+    ReadsUpTo program_limit input (IsReadToEnd result) (FailsToLoad result TooLong) (FailsToLoad result Read)

@@ -5,7 +5,7 @@ ghost use Rattle.std.specs.Prelude.{IfErr, IfOk, IfSome, IsOk, position, take, v
 ghost use Rattle.std.specs.Str.Lines.{strip_carriage_return};
 ghost use Rattle.ptb_text.specs.Entry.{IsLineFault};
 ghost use Rattle.ptb_text.specs.Lines.{lines, tab_as_space};
-ghost use Rattle.ptb_text.specs.Loading.{HasFault, HasTextAt, Loads, ReadsProgram};
+ghost use Rattle.ptb_text.specs.Loading.{FailsToLoad, HasTextAt, Loads, ReadsProgram};
 ghost use Rattle.ptb_text.specs.Statements.{IsMemorySize, after_lines, program_limit};
 ghost use Rattle.ptb_text.specs.Streams.{reads_of};
 
@@ -39,7 +39,7 @@ pub fn load<R: Read>(
     ensures loads { Loads memory (R.remaining reader.old) result }
     ensures reads { ReadsProgram
         (reads_of R.remaining R.given R.failures reader.old reader.new) result }
-    ensures sure { R.reliable reader.old → ¬ HasFault result LoadFault.Read }
+    ensures sure { R.reliable reader.old → ¬ FailsToLoad result LoadFault.Read }
 {
     let mut text = program_text(alloc, reader)?;
     tabs_to_spaces(&mut text);
@@ -53,7 +53,7 @@ fn program_text<R: Read>(alloc: Global, reader: &mut R) -> Result<Vec<u8>, (u32,
     ensures whole { IfErr result (λ e. (e.0 ≡ 0) × ¬ IsLineFault e.1) }
     ensures reads { ReadsProgram
         (reads_of R.remaining R.given R.failures reader.old reader.new) result }
-    ensures sure { R.reliable reader.old → ¬ HasFault result LoadFault.Read }
+    ensures sure { R.reliable reader.old → ¬ FailsToLoad result LoadFault.Read }
 {
     let mut text = Vec::new(alloc);
     let mut piece = [0; PIECE];

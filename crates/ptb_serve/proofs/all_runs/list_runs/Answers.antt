@@ -2,7 +2,7 @@
 use Rattle.std.proofs.Common.{refl}
 use Rattle.ptb_options.specs.declared.request.Mode.TheVariants as modes
 use Rattle.ptb_serve.proofs.Listing.{unread_listed}
-use Rattle.ptb_serve.proofs.Mismatching.{none_told, unread_refuses_none}
+use Rattle.ptb_serve.proofs.Mismatches.{none_told, unread_refuses_none}
 use Rattle.ptb_serve.proofs.WholeInput.{lines_read, no_fault, unread_served}
 use Rattle.ptb_serve.proofs.all_runs.list_runs.Goals as goal
 

@@ -3,8 +3,8 @@
 use Rattle.std.proofs.Common.{ap, ◌∙◌}
 use Rattle.ptb_machine.specs.Streams.{reads_of, writes_of}
 use Rattle.ptb_serve.specs.declared.attempt.Attempt.{Attempt}
-use Rattle.ptb_serve.specs.Serving.{outcome_of}
-use Rattle.ptb_serve.proofs.Telling.{told_loaded, told_unloaded}
+use Rattle.ptb_serve.specs.ServedRequests.{outcome_of}
+use Rattle.ptb_serve.proofs.Promises.{told_loaded, told_unloaded}
 use Rattle.ptb_serve.proofs.service.serve.Goals as goal
 
 -- the program is loaded

@@ -23,10 +23,10 @@ use Rattle.ptb_machine.specs.PlainRuns.{PlaysWith, ReadsLines, WantsMemory, endi
 use Rattle.ptb_machine.specs.Streams.{Reads, Writes}
 use Rattle.ptb_serve.specs.Replies.{Reply, program_reply, program_reply_in_mode, run_reply}
 use Rattle.ptb_machine.specs.SeededRuns.{seeded_answers}
-use Rattle.ptb_serve.specs.Serving.{AsksForMore, EndsUnread, IsInput, IsPlainRun, IsUnloaded}
-use Rattle.ptb_serve.specs.Serving.{NeedsInput, NeedsWholeInput, ReadsBy, ReadsForRun, Serves}
-use Rattle.ptb_serve.specs.Serving.{ServesUnread, SilentBy, StopsForMemory, outcome_of}
-use Rattle.ptb_serve.specs.Serving.{outcome_wanted}
+use Rattle.ptb_serve.specs.ServedRequests.{AsksForMore, EndsUnread, IsInput, IsPlainRun, IsUnloaded}
+use Rattle.ptb_serve.specs.ServedRequests.{NeedsInput, NeedsWholeInput, ReadsBy, ReadsForRun, Serves}
+use Rattle.ptb_serve.specs.ServedRequests.{ServesUnread, SilentBy, StopsForMemory, outcome_of}
+use Rattle.ptb_serve.specs.ServedRequests.{outcome_wanted}
 use Rattle.ptb_serve.proofs.Served.{asks_loaded, at_known, each_known, reads_loaded, run_no_check}
 use Rattle.ptb_serve.proofs.Served.{serves_ended, serves_loaded, status_within, unread_loaded}
 use Rattle.ptb_serve.proofs.Served.{wanted_ended}

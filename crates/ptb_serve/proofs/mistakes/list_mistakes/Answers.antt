@@ -2,7 +2,7 @@
 use Rattle.std.proofs.Common.{ap, arith, sym}
 use Rattle.ptb_serve.specs.Replies.{check_status}
 use Rattle.ptb_serve.proofs.Checks.{check_broken, check_written}
-use Rattle.ptb_serve.proofs.checking.list_mistakes.Goals as goal
+use Rattle.ptb_serve.proofs.mistakes.list_mistakes.Goals as goal
 
 pub returns-in_err-any : goal.returns-in_err-any
 returns-in_err-any g c =

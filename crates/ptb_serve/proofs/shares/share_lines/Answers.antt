@@ -1,7 +1,7 @@
 -- This file answers that the lists that split the runs on the lines of an input are written as is due.
 use Rattle.ptb_serve.proofs.Splits.{begun_with, shares_broken, shares_unbegun, shares_written}
 use Rattle.ptb_serve.proofs.WholeInput.{no_fault}
-use Rattle.ptb_serve.proofs.splitting.share_lines.Goals as goal
+use Rattle.ptb_serve.proofs.shares.share_lines.Goals as goal
 
 -- the search can't begin
 pub returns-in_err-beginnings : goal.returns-in_err-beginnings

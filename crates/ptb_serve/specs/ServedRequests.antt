@@ -170,7 +170,7 @@ StopsForMemory modes.Check request b c old new = Unit {0}
 StopsForMemory modes.Chances request b c old new = Unit {0}
 
 -- its bytes were written, and its status is that of a run which ends for want of a line
-pub record LacksLine (reply : Reply) (old new : Option (List ℕ)) : Type 0 where
+pub record LacksInputLine (reply : Reply) (old new : Option (List ℕ)) : Type 0 where
   pub bytes : Appends old new reply.bytes
   pub status : reply.status ≡ status endings.NoInput
 
@@ -183,7 +183,7 @@ pub record AsksUnread (reply : Reply) (others : Answers → Reply) (old new : Op
 
 -- without a line a run ends so, or asks for an answer; `others` are the replies to runs with other answers
 abbrev pub EndsUnread : Option ℤ → Reply → (Answers → Reply) → Option (List ℕ) → Option (List ℕ) → Type 0
-EndsUnread None reply others old new = LacksLine reply old new
+EndsUnread None reply others old new = LacksInputLine reply old new
 EndsUnread (Some n) reply others old new = AsksUnread reply others old new
 
 -- the reply to a run of the text b, on the lines that came complete in the bytes that were taken of the input

@@ -23,10 +23,10 @@ use Rattle.ptb_command.specs.declared.ending.Ending.{Ending}
 use Rattle.ptb_machine.specs.declared.fault.RunFault.{RunFault}
 use Rattle.ptb_machine.specs.declared.fault.RunFault.TheVariants as faults
 use Rattle.ptb_serve.specs.Loaded.{IsRunStatus, RefusesListIn, TellsMismatch}
-use Rattle.ptb_serve.specs.ListMismatches.{IsMismatchIn, IsMismatchOf, IsRefused, IsUnbegun}
+use Rattle.ptb_serve.specs.ListMismatches.{IsMismatchIn, IsMismatchOf, IsListRefused, IsUnbegun}
 use Rattle.ptb_serve.specs.ListMismatches.{mismatch_note, refused_attempt, unbegun_attempt}
 use Rattle.ptb_serve.specs.Replies.{program_of_text}
-use Rattle.ptb_serve.specs.Serving.{input_note, outcome_of, reports_note}
+use Rattle.ptb_serve.specs.ServedRequests.{input_note, outcome_of, reports_note}
 use Rattle.ptb_devices.specs.declared.fault.ReadFault.{ReadFault}
 use Rattle.ptb_serve.proofs.Listed.{input_note-beginning, input_note-start}
 use Rattle.ptb_serve.proofs.Served.{at_known, outcome_of-err, outcome_of-note, program_of_text-ok}
@@ -82,7 +82,7 @@ if_mismatch P Q (Some m) f h = f m h
 refused_told : (request : Request) (p : StoredProgram) (known : Option (List ℕ)) (input : List (List ℕ))
     → IfSome known (λ c. input ≡ input_lines c)
     → (under after : Option (List Marked)) (first : Option ℕ) (form : Form) (m : ListMismatch)
-    → IsRefused (play p input request.rules) under after m
+    → IsListRefused (play p input request.rules) under after m
     → TellsMismatch (modes.All under after first form) request p known (refused_attempt m).served (refused_attempt m).mismatch
 refused_told request p known input lines under after first form m x = record {
   said = λ _. refl;

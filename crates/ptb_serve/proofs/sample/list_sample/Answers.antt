@@ -3,7 +3,7 @@ use Rattle.std.proofs.Common.{refl}
 use Rattle.ptb_options.specs.declared.request.Mode.TheVariants as modes
 use Rattle.ptb_serve.proofs.Samples.{unread_sampled}
 use Rattle.ptb_serve.proofs.WholeInput.{lines_served, no_fault, unread_served}
-use Rattle.ptb_serve.proofs.sampled.list_sample.Goals as goal
+use Rattle.ptb_serve.proofs.sample.list_sample.Goals as goal
 
 -- the lines can't be read
 pub returns-in-Err : goal.returns-in-Err

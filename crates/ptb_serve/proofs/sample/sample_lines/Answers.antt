@@ -1,7 +1,7 @@
 -- This file answers that a sample of runs on the lines of an input is written as is due.
 use Rattle.ptb_serve.proofs.Samples.{sample_broken, sample_written}
 use Rattle.ptb_serve.proofs.WholeInput.{no_fault}
-use Rattle.ptb_serve.proofs.sampled.sample_lines.Goals as goal
+use Rattle.ptb_serve.proofs.sample.sample_lines.Goals as goal
 
 -- the reports of the first runs are written
 pub returns-in_err-write_sample : goal.returns-in_err-write_sample

@@ -20,10 +20,10 @@ use Rattle.ptb_serve.specs.Loaded.{ServesProgram, ReadsInput, TellsFailures, Tel
 use Rattle.ptb_serve.specs.ListMismatches.{IsMismatchOf}
 use Rattle.ptb_serve.specs.Promises.{Served, ReadsOnlyWhatIsAsked, FailsLoudly}
 use Rattle.ptb_serve.specs.Replies.{listing_reply, program_of_text, program_reply_in_mode, reply_in_mode}
-use Rattle.ptb_serve.specs.Serving.{IsUnloaded, NeedsInput, ReadsForRun, Serves, ServesUnread}
-use Rattle.ptb_serve.specs.Serving.{StopsForMemory, load_note, outcome_of}
+use Rattle.ptb_serve.specs.ServedRequests.{IsUnloaded, NeedsInput, ReadsForRun, Serves, ServesUnread}
+use Rattle.ptb_serve.specs.ServedRequests.{StopsForMemory, load_note, outcome_of}
 use Rattle.ptb_serve.proofs.Lines.{line_loaded, note_beyond, served_at_limit, status_at_limit}
-use Rattle.ptb_serve.proofs.Mismatching.{mismatch_loaded, noted_outcome, said_outcome}
+use Rattle.ptb_serve.proofs.Mismatches.{mismatch_loaded, noted_outcome, said_outcome}
 use Rattle.ptb_serve.proofs.Served.{consumes_nothing, each_known, load_note-length, load_note-other}
 use Rattle.ptb_serve.proofs.Served.{load_note-read, load_note-refusal, load_note-silent}
 use Rattle.ptb_serve.proofs.Served.{load_note-unread, loaded_length, loaded_refusal}
