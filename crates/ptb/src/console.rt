@@ -11,7 +11,7 @@ use crate::progress::{ProgressLine, Progressing, Shown};
 use crate::serving::Programs;
 use crate::terminal::{Keyboard, Screen, Terminals, Typed};
 use crate::watching::{Source, Watched};
-use ptb_serve::{Flushing, Note};
+use ptb_serve::{FlushingWriter, Note};
 use ptb_text::Device;
 use std::cell::Cell;
 use std::fmt::Display;
@@ -63,7 +63,7 @@ pub type InputLines<'a, R> = Device<Watched<'a, Keyboard<'a, <R as Input>::Reade
 pub type ProgramText<'a, R> = Device<Watched<'a, Source<<R as Files>::File, <R as Input>::Reader>>>;
 
 /// What a request writes to.
-pub type Output<'a, R> = Progressing<'a, R, Flushing<Screen<'a, Printer<'a, R>>>>;
+pub type Output<'a, R> = Progressing<'a, R, FlushingWriter<Screen<'a, Printer<'a, R>>>>;
 
 impl<'a, R: Runtime> Console<'a, R> {
     /// The console of a runtime.
@@ -118,7 +118,7 @@ impl<'a, R: Runtime> Console<'a, R> {
     /// Standard output.
     pub fn output(&self) -> Output<'a, R> {
         let screen = Screen::new(io::writer(self.rt), self.typed(), &self.events.fresh);
-        Progressing::new(Flushing::new(screen), self.progress_line())
+        Progressing::new(FlushingWriter::new(screen), self.progress_line())
     }
 
     /// From now on leaves out the echo of typed lines, where standard input and output are

@@ -4,14 +4,14 @@
 //! It stands on `ptb_options`, `ptb_chances`, `ptb_explore`, `ptb_check`, `ptb_machine`, on definitions
 //! of the two crates below that, on `ptb_answers` and `ptb_text`. The crate above may rely on `serve`
 //! (bytes, status and note are those of `specs/Replies`, or the note says what failed:
-//! `specs/Promises`), on `Flushing` (a writer whose bytes are those of its inner writer, which it
+//! `specs/Promises`), on `FlushingWriter` (a writer whose bytes are those of its inner writer, which it
 //! flushes) and on `reply_laws`.
 #![tactic(auto)]
 
 mod all_runs;
 mod attempt;
 mod chances;
-mod flushing;
+mod flushing_writer;
 mod laws;
 mod list_mismatch;
 mod mistakes;
@@ -20,7 +20,7 @@ mod sample;
 mod service;
 mod shares;
 
-pub use flushing::Flushing;
+pub use flushing_writer::FlushingWriter;
 pub use laws::reply_laws;
 pub use list_mismatch::ListMismatch;
 pub use note::Note;

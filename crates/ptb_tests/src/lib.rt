@@ -12,7 +12,7 @@ mod command_line;
 #[cfg(test)]
 mod copies;
 #[cfg(test)]
-mod flushing;
+mod flushing_writer;
 #[cfg(test)]
 mod listing;
 #[cfg(test)]

@@ -11,23 +11,23 @@ use ptb_text::{ByteSink, Device, DeviceFault, Write};
 /// A write whose flush fails has failed, though its bytes may have been taken. That it flushes at
 /// all is tested: no contract on bytes can tell it.
 #[derive(Drop)]
-pub struct Flushing<W> {
+pub struct FlushingWriter<W> {
     device: Device<W>,
 }
 
-impl<W> Flushing<W> {
+impl<W> FlushingWriter<W> {
     /// A writer that flushes `inner` after each write.
     pub fn new(inner: W) -> Self
         ensures inner { device_inner (flushed_device result) ≡ inner }
         ensures unfailed { failure_count (flushed_device result) ≡ 0 }
     {
-        Flushing {
+        FlushingWriter {
             device: Device::new(inner),
         }
     }
 }
 
-impl<W: ByteSink> Write for Flushing<W> {
+impl<W: ByteSink> Write for FlushingWriter<W> {
     ghost contents = { λ f. W.contents (device_inner (flushed_device f)) };
 
     ghost failures = { λ f. failure_count (flushed_device f) };

@@ -1,7 +1,7 @@
 // This file tests the writer that flushes, over one whose flush fails at a call.
 
 use crate::shared::expect_same;
-use ptb_serve::Flushing;
+use ptb_serve::FlushingWriter;
 use ptb_text::{ByteSink, DeviceFault, Write};
 use std::io;
 use std::io::ErrorKind;
@@ -34,7 +34,7 @@ fn each_write_is_flushed(rt: HostRuntime) {
         taken: Vec::new(rt.alloc()),
         flushes_left: 2,
     };
-    let mut out = Flushing::new(&mut tank);
+    let mut out = FlushingWriter::new(&mut tank);
     let found = (
         out.write_all(b"one"),
         out.write_all(b"two"),
