@@ -8,9 +8,9 @@ use Rattle.std.specs.declared.io.ErrorKind.{ErrorKind}
 use Rattle.std.specs.declared.io.ErrorKind.TheVariants as kinds
 use Rattle.ptb_serve.specs.declared.note.Note.{Note}
 use Rattle.ptb_serve.specs.declared.note.Note.TheVariants as notes
-use Rattle.ptb.specs.declared.watching.Source.{Source}
-use Rattle.ptb.specs.declared.watching.Source.TheVariants.{File, Input}
-use Rattle.ptb.specs.declared.watching.Watched.{Watched}
+use Rattle.ptb.specs.declared.readers.Source.{Source}
+use Rattle.ptb.specs.declared.readers.Source.TheVariants.{File, Input}
+use Rattle.ptb.specs.declared.readers.Watched.{Watched}
 
 abbrev pub open_note : ErrorKind → Note
 open_note kinds.OutOfMemory = notes.OutOfMemory

@@ -15,7 +15,7 @@ ghost use Rattle.ptb.specs.Exits.{unread_status};
 ghost use Rattle.ptb_machine.specs.Streams.{reads_of, writes_of};
 
 use crate::console::Console;
-use crate::serving::{Programs, Task, serve_task};
+use crate::task::{Programs, Task, serve_task};
 use clap::ArgMatches;
 use clap::error::ErrorKind;
 use ptb_options::{

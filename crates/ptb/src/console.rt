@@ -8,9 +8,9 @@ ghost use Rattle.ptb_text.specs.Device.{device_inner};
 ghost use Rattle.ptb.specs.Sources.{MayOpen, open_note, watched_inner};
 
 use crate::progress::{ProgressLine, Progressing, Shown};
-use crate::serving::Programs;
+use crate::readers::{Source, Watched};
+use crate::task::Programs;
 use crate::terminal::{Keyboard, Screen, Terminals, Typed};
-use crate::watching::{Source, Watched};
 use ptb_serve::{FlushingWriter, Note};
 use ptb_text::Device;
 use std::cell::Cell;

@@ -15,10 +15,10 @@ mod console;
 mod endings;
 mod no_lines;
 mod progress;
+mod readers;
 mod reasons;
-mod serving;
+mod task;
 mod terminal;
-mod watching;
 
 use crate::arguments::run_arguments;
 use crate::console::{Console, Events};
