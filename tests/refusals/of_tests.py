@@ -23,7 +23,7 @@ TESTS = [
     ("ptb_machine_tests", "program_codes::next_code_of_a_program", set()),
     ("ptb_machine_tests", "players::refused_players", set()),
     ("ptb_tests", "copies::refused_copies", set()),
-    ("ptb_tests", "copies::refused_behind_a_run", set()),
+    ("ptb_tests", "copies::refused_after_a_run", set()),
     ("ptb_tests", "copies::refused_shares", set()),
     ("ptb_tests", "mismatches::refused_mismatches", set()),
     ("ptb_tests", "plain_runs::refused_seeded_runs", set()),

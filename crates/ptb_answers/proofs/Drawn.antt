@@ -18,9 +18,9 @@ use Rattle.ptb_answers.proofs.Readers.{open_is, whole_is}
 abbrev pub Few : {A W : Type 0} → (Answers → Outcome A W) → ℕ → Type 0
 Few {W = W} f most = (q : Answers) (n : ℤ) (w : W) → f q ≡ Asks n w → length q < most
 
-pub few_behind : {A W : Type 0} (f : Answers → Outcome A W) (most : ℕ) (k : ℤ) → Few f (suc most)
+pub few_after : {A W : Type 0} (f : Answers → Outcome A W) (most : ℕ) (k : ℤ) → Few f (suc most)
     → Few (λ a. f (k ∷ a)) most
-few_behind f most k few = λ q n w e. let l = few (k ∷ q) n w e in omega (arith, l)
+few_after f most k few = λ q n w e. let l = few (k ∷ q) n w e in omega (arith, l)
 
 -- ---- the answers of a run
 
@@ -47,22 +47,22 @@ module _ {A W : Type 0} (f : Answers → Outcome A W) (most : ℕ) (reads : IsRe
   ]
 
 -- what an answer leaves takes answers as before, one fewer
-reader_behind : {A W : Type 0} (f : Answers → Outcome A W) (most : ℕ) (n k : ℤ) (w : W) → IsReader f (suc most)
+reader_after : {A W : Type 0} (f : Answers → Outcome A W) (most : ℕ) (n k : ℤ) (w : W) → IsReader f (suc most)
     → f [] ≡ Asks n w → is_answer n k ≡ true → IsReader (λ a. f (k ∷ a)) most
-reader_behind f most n k w reads e i = record {
+reader_after f most n k w reads e i = record {
   begins = reads.inside [] n k w e i;
   done = λ q b. reads.done (k ∷ q) b;
   out = λ q b. reads.out (k ∷ q) b;
   inside = λ q. reads.inside (k ∷ q);
   outside = λ q. reads.outside (k ∷ q);
   positive = λ q. reads.positive (k ∷ q);
-  few = few_behind f most k reads.few;
+  few = few_after f most k reads.few;
   spends = λ q rest x h. let l = reads.spends (k ∷ q) rest x h in omega (arith, l);
 }
 
-bounds_behind : {A W : Type 0} (f : Answers → Outcome A W) (n k : ℤ) (w : W) (a : Answers) → f [] ≡ Asks n w
+bounds_later : {A W : Type 0} (f : Answers → Outcome A W) (n k : ℤ) (w : W) (a : Answers) → f [] ≡ Asks n w
     → bounds f (k ∷ a) ≡ n ∷ bounds (λ later. f (k ∷ later)) a
-bounds_behind f n k w a e =
+bounds_later f n k w a e =
     ap (λ o. bound_of o ∷ bounds_after f (k ∷ []) a) e ∙ ap (λ l. n ∷ l) (bounds_from f (k ∷ []) [] a)
 
 drawn_inside : (word : ℕ) (n : ℤ) → pos 1 ≤ℤ n → is_answer n (drawn_answer word n) ≡ true
@@ -90,11 +90,11 @@ answers_by-drawn most g f reads = by_first most g f reads (open_is (f []) reads.
   by_first zero g f reads (inr q) = let l = reads.few [] q.0 q.1 q.2 in absurd (omega (arith, l))
   by_first (suc most) g f reads (inr q) =
       let k = drawn_answer (pcg32 g).0 q.0 in
-      let others = reader_behind f most q.0 k q.1 reads q.2 (drawn_inside (pcg32 g).0 q.0 (reads.positive [] q.0 q.1 q.2)) in
+      let others = reader_after f most q.0 k q.1 reads q.2 (drawn_inside (pcg32 g).0 q.0 (reads.positive [] q.0 q.1 q.2)) in
       let behind = by_first most (pcg32 g).1 (λ a. f (k ∷ a)) others (open_is (f (k ∷ [])) others.begins) in
       let a = answers_by most (pcg32 g).1 (λ a. f (k ∷ a)) in
       subst (IsDrawnFrom g f) (sym (answers_by-asks most g f q.0 q.1 q.2))
-      (record { run = behind.run; drawn = ap (λ l. k ∷ l) behind.drawn ∙ ap (drawn_from g) (sym (bounds_behind f q.0 k q.1 a q.2)) })
+      (record { run = behind.run; drawn = ap (λ l. k ∷ l) behind.drawn ∙ ap (drawn_from g) (sym (bounds_later f q.0 k q.1 a q.2)) })
 
 -- no other list is
 pub drawn_alone : {A W : Type 0} (most : ℕ) (g : Lcg) (f : Answers → Outcome A W) (b : Answers) → IsReader f most
@@ -105,9 +105,9 @@ drawn_alone zero g f (k ∷ b) reads h =
     let l = reads.few [] q.0 q.1 q.2 in absurd (omega (arith, l))
 drawn_alone (suc most) g f (k ∷ b) reads h =
     let q = run_asks f (suc most) reads k b h.run in
-    let drawn : k ∷ b ≡ drawn_answer (pcg32 g).0 q.0 ∷ drawn_from (pcg32 g).1 (bounds (λ a. f (k ∷ a)) b) = h.drawn ∙ ap (drawn_from g) (bounds_behind f q.0 k q.1 b q.2) in
+    let drawn : k ∷ b ≡ drawn_answer (pcg32 g).0 q.0 ∷ drawn_from (pcg32 g).1 (bounds (λ a. f (k ∷ a)) b) = h.drawn ∙ ap (drawn_from g) (bounds_later f q.0 k q.1 b q.2) in
     let first : k ≡ drawn_answer (pcg32 g).0 q.0 = cc in
     let rest : b ≡ drawn_from (pcg32 g).1 (bounds (λ a. f (k ∷ a)) b) = cc in
-    let behind = drawn_alone most (pcg32 g).1 (λ a. f (k ∷ a)) b (reader_behind f most q.0 k q.1 reads q.2 q.3) (record { run = h.run; drawn = rest }) in
+    let behind = drawn_alone most (pcg32 g).1 (λ a. f (k ∷ a)) b (reader_after f most q.0 k q.1 reads q.2 q.3) (record { run = h.run; drawn = rest }) in
     ap (λ l. k ∷ l) behind ∙ ap (λ x. x ∷ answers_by most (pcg32 g).1 (λ a. f (x ∷ a))) first
     ∙ sym (answers_by-asks most g f q.0 q.1 q.2)

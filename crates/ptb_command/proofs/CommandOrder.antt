@@ -52,16 +52,16 @@ module _ (t : List ℕ) where
   behind i j (Whole x k) a b = further i j k a b
   behind i j (Malformed x) a b = tt
 
-  on_behind : {A : Type 0} (i j : ℕ) (r : Reading A) → LiesOn t i j → EndsOn j r → EndsOn i r
-  on_behind i j (Whole x k) a b = on_on i j k a b
-  on_behind i j (Malformed x) a b = tt
+  on_after : {A : Type 0} (i j : ℕ) (r : Reading A) → LiesOn t i j → EndsOn j r → EndsOn i r
+  on_after i j (Whole x k) a b = on_on i j k a b
+  on_after i j (Malformed x) a b = tt
 
   after_ahead : {A B : Type 0} (i : ℕ) (r : Reading A) (wrap : A → B) (next : A → ℕ → Reading B) → EndsAhead i r → ((x : A) (j : ℕ) → LiesAhead t i j → EndsAhead i (next x j)) → EndsAhead i (after r wrap next)
   after_ahead i (Whole x j) wrap next a each = each x j a
   after_ahead i (Malformed x) wrap next a each = tt
 
   after_on : {A B : Type 0} (i : ℕ) (r : Reading A) (wrap : A → B) (next : A → ℕ → Reading B) → EndsOn i r → ((x : A) (j : ℕ) → EndsOn j (next x j)) → EndsOn i (after r wrap next)
-  after_on i (Whole x j) wrap next a each = on_behind i j (next x j) a (each x j)
+  after_on i (Whole x j) wrap next a each = on_after i j (next x j) a (each x j)
   after_on i (Malformed x) wrap next a each = tt
 
   map_ahead : {A B : Type 0} (f : A → B) (i : ℕ) (r : Reading A) → EndsAhead i r → EndsAhead i (map_reading f r)
@@ -89,7 +89,7 @@ module _ (t : List ℕ) where
     where
       go : (r : Round _) → RoundOn i r → ((j : ℕ) → EndsOn j (items_within n round j)) → EndsOn i (with_others (items_within n round) r)
       go (Last r) a more = a
-      go (Onward x j) a more = in_front_on x i (items_within n round j) (on_behind i j (items_within n round j) (on_ahead i j a) (more j))
+      go (Onward x j) a more = in_front_on x i (items_within n round j) (on_after i j (items_within n round j) (on_ahead i j a) (more j))
 
   pub items_on : {X : Type 0} (round : ℕ → Round X) → ((i : ℕ) → RoundOn i (round i)) → (i : ℕ) → EndsOn i (items t round i)
   unfolding items
@@ -110,11 +110,11 @@ module _ (finding : FindingLaws) (spelling : SpellingLaws) (t : List ℕ) where
       by_reading (Whole x j) e = spelling.variable_ahead t i j x e
       by_reading (Malformed x) e = tt
 
-  expression_behind : (i j : ℕ) → LiesAhead t i j → EndsAhead t i (expression t j)
-  expression_behind i j a = behind t i j (expression t j) a (expression_ends j)
+  expression_after : (i j : ℕ) → LiesAhead t i j → EndsAhead t i (expression t j)
+  expression_after i j a = behind t i j (expression t j) a (expression_ends j)
 
-  variable_behind : (i j : ℕ) → LiesAhead t i j → EndsAhead t i (variable_tree t j)
-  variable_behind i j a = behind t i j (variable_tree t j) a (variable_ends j)
+  variable_later : (i j : ℕ) → LiesAhead t i j → EndsAhead t i (variable_tree t j)
+  variable_later i j a = behind t i j (variable_tree t j) a (variable_ends j)
 
   -- ---- ends
 
@@ -141,14 +141,14 @@ module _ (finding : FindingLaws) (spelling : SpellingLaws) (t : List ℕ) where
     where
       by_comma : (o : Option ℕ) → token_at 44 t j ≡ o → RoundOn t i (after_part t part j o)
       by_comma (Some k) e = further t i j k a (finding.token 44 t j k e)
-      by_comma None e = in_front_on t part i (end_check t j) (on_behind t i j (end_check t j) (on_ahead t i j a) (end_on j))
+      by_comma None e = in_front_on t part i (end_check t j) (on_after t i j (end_check t j) (on_ahead t i j a) (end_on j))
 
   assignment_ends : (i : ℕ) → EndsAhead t i (assignment t i)
   unfolding assignment
   assignment_ends i = after_ahead t i (variable_tree t i) _ _ (variable_ends i) (λ x j a. by_equals x j a (token_at 61 t j) refl)
     where
       by_equals : (x : Tree) (j : ℕ) → LiesAhead t i j → (o : Option ℕ) → token_at 61 t j ≡ o → EndsAhead t i (value_part t x j o)
-      by_equals x j a (Some k) e = map_ahead t (Assign x) i (expression t k) (expression_behind i k (further t i j k a (finding.token 61 t j k e)))
+      by_equals x j a (Some k) e = map_ahead t (Assign x) i (expression t k) (expression_after i k (further t i j k a (finding.token 61 t j k e)))
       by_equals x j a None e = tt
 
   pub let_advances : Advances t (λ j. comma_round t (assignment t j))
@@ -178,7 +178,7 @@ module _ (finding : FindingLaws) (spelling : SpellingLaws) (t : List ℕ) where
   input_item_ends i = by_string (string_at t i) (string_ends i)
     where
       by_said : (s : List ℕ) (j : ℕ) (b : Bool) → LiesAhead t i j → EndsAhead t i (string_item t s j b)
-      by_said s j true a = map_ahead t _ i (variable_tree t j) (variable_behind i j a)
+      by_said s j true a = map_ahead t _ i (variable_tree t j) (variable_later i j a)
       by_said s j false a = a
 
       by_variable : (b : Bool) → EndsAhead t i (variable_item t i b)
@@ -205,7 +205,7 @@ module _ (finding : FindingLaws) (spelling : SpellingLaws) (t : List ℕ) where
       by_string NoQuote a = map_ahead t Show i (expression t i) (expression_ends i)
 
       by_width : (o : Option ℕ) → token_at 35 t i ≡ o → EndsAhead t i (width_or t i o)
-      by_width (Some j) e = after_ahead t i (expression t j) _ _ (expression_behind i j (finding.token 35 t i j e)) (λ x k a. a)
+      by_width (Some j) e = after_ahead t i (expression t j) _ _ (expression_after i j (finding.token 35 t i j e)) (λ x k a. a)
       by_width None e = by_string (string_at t i) (string_ends i)
 
   item_on : (i : ℕ) (r : Reading Part) → EndsAhead t i r → RoundOn t i (item_round t r)
@@ -218,7 +218,7 @@ module _ (finding : FindingLaws) (spelling : SpellingLaws) (t : List ℕ) where
 
       by_comma : (o : Option ℕ) → token_at 44 t j ≡ o → RoundOn t i (after_item t part j o)
       by_comma (Some k) e = by_next k _ (further t i j k a (finding.token 44 t j k e))
-      by_comma None e = in_front_on t part i _ (in_front_on t NewLine i (end_check t j) (on_behind t i j (end_check t j) (on_ahead t i j a) (end_on j)))
+      by_comma None e = in_front_on t part i _ (in_front_on t NewLine i (end_check t j) (on_after t i j (end_check t j) (on_ahead t i j a) (end_on j)))
 
   pub print_advances : Advances t (λ j. item_round t (print_item t j))
   print_advances = advances t _ (λ i. item_on i (print_item t i) (print_item_ends i))
@@ -229,7 +229,7 @@ module _ (finding : FindingLaws) (spelling : SpellingLaws) (t : List ℕ) where
   part_and_on node i r next a each = after_on t i r _ _ a (λ x j. in_front_on t (node x) j (next j) (each j))
 
   expression_on : (i j : ℕ) → LiesOn t i j → EndsOn t i (expression t j)
-  expression_on i j a = on_behind t i j (expression t j) a (ends_on t j (expression t j) (expression_ends j))
+  expression_on i j a = on_after t i j (expression t j) a (ends_on t j (expression t j) (expression_ends j))
 
   step_on : (i : ℕ) → EndsOn t i (step_parts t i)
   unfolding step_parts
@@ -261,7 +261,7 @@ module _ (finding : FindingLaws) (spelling : SpellingLaws) (t : List ℕ) where
       by_letter : (o : Option (ℕ × ℕ)) → letter_at t i ≡ o → EndsOn t i (for_by t i o)
       by_letter (Some x) e =
           let r = first_parts t x.0 x.1 (token_at 61 t x.1) in
-          in_front_on t (Letter x.0) i r (on_behind t i x.1 r (on_ahead t i x.1 (finding.letter t i x.0 x.1 e)) (first_on x.0 x.1))
+          in_front_on t (Letter x.0) i r (on_after t i x.1 r (on_ahead t i x.1 (finding.letter t i x.0 x.1 e)) (first_on x.0 x.1))
       by_letter None e = tt
 
   next_on : (i : ℕ) → EndsOn t i (next_parts t i)
@@ -269,7 +269,7 @@ module _ (finding : FindingLaws) (spelling : SpellingLaws) (t : List ℕ) where
   next_on i = by_letter (letter_at t i) refl
     where
       by_letter : (o : Option (ℕ × ℕ)) → letter_at t i ≡ o → EndsOn t i (next_by t i o)
-      by_letter (Some x) e = in_front_on t (Letter x.0) i (end_check t x.1) (on_behind t i x.1 (end_check t x.1) (on_ahead t i x.1 (finding.letter t i x.0 x.1 e)) (end_on x.1))
+      by_letter (Some x) e = in_front_on t (Letter x.0) i (end_check t x.1) (on_after t i x.1 (end_check t x.1) (on_ahead t i x.1 (finding.letter t i x.0 x.1 e)) (end_on x.1))
       by_letter None e = tt
 
   print_on : (i : ℕ) → EndsOn t i (print_parts t i)
@@ -326,7 +326,7 @@ module _ (finding : FindingLaws) (spelling : SpellingLaws) (t : List ℕ) where
       by_word : (o : Option (Word × ℕ)) → word_at Commands t i ≡ o → RoundOn t i (after_command t (command_by t i o) (command_by t i o).parts)
       by_word (Some w) e =
           let a = finding.word Commands t i w.0 w.1 e in
-          after_command_on (command_of w.0 (parts_of w.0 t w.1)) i (parts_of w.0 t w.1) (on_behind t i w.1 (parts_of w.0 t w.1) (on_ahead t i w.1 a) (parts_on w.0 w.1))
+          after_command_on (command_of w.0 (parts_of w.0 t w.1)) i (parts_of w.0 t w.1) (on_after t i w.1 (parts_of w.0 t w.1) (on_ahead t i w.1 a) (parts_on w.0 w.1))
           (λ parts e j h n. next_ahead w.0 i e j (on_from t i w.1 e a (ends w.0 w.1 parts e h)) n)
       by_word None e =
           after_command_on (command_of LetKw (parts_of LetKw t i)) i (parts_of LetKw t i) (parts_on LetKw i)

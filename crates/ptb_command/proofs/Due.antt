@@ -10,9 +10,9 @@ use Rattle.ptb_command.specs.Devices.{Refusal}
 use Rattle.ptb_command.specs.Traces.{Trace, with_due, still_due, behind, once_shown, RefinesPart}
 use Rattle.ptb_command.specs.Stops.{Stops, RefinesPartTo, Comes, still_shows}
 
-pub behind_is : (shown due : List ℕ) → behind shown due ≡ shown ++ due
-behind_is shown [] = sym (append-nil shown)
-behind_is shown (b ∷ due) = refl
+pub after_is : (shown due : List ℕ) → behind shown due ≡ shown ++ due
+after_is shown [] = sym (append-nil shown)
+after_is shown (b ∷ due) = refl
 
 abbrev is_shown_at : Stop → Bool
 is_shown_at e = still_shows {X = Unit {0}} (Err e)

@@ -11,7 +11,7 @@ use Rattle.ptb_command.specs.Devices.{Devices, Refusal, no_exchange, nothing_ref
 use Rattle.ptb_command.specs.Traces.{Trace, trace, with_due, still_due, behind, once_shown, after, Leaves, RefinesPart}
 use Rattle.ptb_command.specs.Stops.{Stops, RefinesPartTo, Comes, still_shows}
 use Rattle.ptb_command.proofs.Actions.{show_adds, halt_adds, refines_part_on, stops_first, stops_unrefused}
-use Rattle.ptb_command.proofs.Due.{behind_is, due_stays, due_goes}
+use Rattle.ptb_command.proofs.Due.{after_is, due_stays, due_goes}
 use Rattle.ptb_command.proofs.Exchanges.{exchanges_none}
 use Rattle.ptb_command.proofs.PartRefinement.{leaves_to, leaves_itself, after_nothing, freshens_nothing, refines_part_then}
 use Rattle.ptb_command.proofs.Stops.{Adds, stops_along, stops_after, comes_after}
@@ -22,8 +22,8 @@ idle = goes_on tt
 
 -- ---- more is gathered
 
-behind_more : (shown due bytes : List ℕ) → behind shown due ++ bytes ≡ behind shown (due ++ bytes)
-behind_more shown due bytes = ap (λ s. s ++ bytes) (behind_is shown due) ∙ append_assoc shown due bytes ∙ sym (behind_is shown (due ++ bytes))
+after_more : (shown due bytes : List ℕ) → behind shown due ++ bytes ≡ behind shown (due ++ bytes)
+after_more shown due bytes = ap (λ s. s ++ bytes) (after_is shown due) ∙ append_assoc shown due bytes ∙ sym (after_is shown (due ++ bytes))
 
 gathered_more : (o : Trace) (due bytes : List ℕ) → RefinesPart (with_due due o) (with_due (due ++ bytes) o) (show bytes) idle
 gathered_more o due bytes = record {
@@ -32,7 +32,7 @@ gathered_more o due bytes = record {
   fresh = freshens_nothing o.fresh;
   leaves = λ S rest _ w.
       leaves_to (idle (once_shown (due ++ bytes) (after o [] rest S)))
-      (ap (λ (s : List ℕ). idle (record S { shown = s })) (behind_more S.shown due bytes)
+      (ap (λ (s : List ℕ). idle (record S { shown = s })) (after_more S.shown due bytes)
       ∙ ap (λ (T : State). idle (once_shown (due ++ bytes) T)) (after_nothing (with_due due o) rest S w))
       (leaves_itself (show bytes (once_shown due S)));
 }
@@ -50,7 +50,7 @@ module _ (d : Devices) (fresh : Bool) (cells : Cells) (due : List ℕ) where
     fresh = m.fresh;
     leaves = λ S rest f w.
         subst (λ (s : List ℕ). Leaves (idle (record S { shown = s })) m.exchange.answers m.exchange.bounds (g (once_shown n.due (after n m.exchange.bytes rest S))))
-        (sym (behind_is S.shown due)) (m.leaves S rest f (record { fresh = w.fresh; cells = w.cells; lines = w.lines; choose = w.choose }));
+        (sym (after_is S.shown due)) (m.leaves S rest f (record { fresh = w.fresh; cells = w.cells; lines = w.lines; choose = w.choose }));
   }
 
   pub flush_comes : (n : Trace) (r : Result (Unit {0}) Stop) → Comes nothing_refused (trace d fresh cells) n (show due) goes_on r → Comes nothing_refused (with_due due (trace d fresh cells)) n idle goes_on r

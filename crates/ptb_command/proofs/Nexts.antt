@@ -1,5 +1,5 @@
 -- This file proves which command is next.
--- Main lemmas: `next_here` and `next_behind`.
+-- Main lemmas: `next_here` and `next_later`.
 use Rattle.std.proofs.Common.{◌≡◌, ℕ, true, false, List, Option, Some, None, ℤ, refl, sym, ap, subst, ◌∙◌}
 use Rattle.std.specs.Prelude.{slice_get}
 use Rattle.ptb_text.specs.Statements.{Statements}
@@ -59,8 +59,8 @@ module _ (laws : CommandLaws) (p : Statements) (q : Place) (s : Location) (a : P
       (ap (λ (y : List ℕ). slice_get (commands y) r.place.index) (sym text) ∙ laws.at_none u r.place.index b.at (subst (λ (y : List ℕ). At y r.place.index b.at) (sym text) r.is.at) o)
 
   -- its first command is next
-  pub next_behind : (b : Location) (z : ℤ) (u : List ℕ) → is_over t s.at ≡ true → PlacesAre p (place_after p q.number) (Some b) → IsLineAt p b.statement z u → is_over u b.at ≡ false → NextIs p (Some q) b u
-  next_behind b z u e a x o =
+  pub next_later : (b : Location) (z : ℤ) (u : List ℕ) → is_over t s.at ≡ true → PlacesAre p (place_after p q.number) (Some b) → IsLineAt p b.statement z u → is_over u b.at ≡ false → NextIs p (Some q) b u
+  next_later b z u e a x o =
       let r = is_placed p (place_after p q.number) b a in
       let text = text_there p r.place b z u r.is x in
       record {

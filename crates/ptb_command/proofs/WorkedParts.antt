@@ -23,7 +23,7 @@ use Rattle.ptb_command.specs.Stops.{stop_of, stop_of_pause, IsRefusal, AsksUnans
 use Rattle.ptb_command.proofs.Effects.{attempt_state}
 use Rattle.ptb_command.proofs.Exchanges.{shows_nothing}
 use Rattle.ptb_command.proofs.PartRefinement.{leaves_under, leaves_to, once_nothing, freshens_nothing, refines_part_under}
-use Rattle.ptb_command.proofs.Due.{behind_is, refines_part_dropped, stops_due, stops_dropped}
+use Rattle.ptb_command.proofs.Due.{after_is, refines_part_dropped, stops_due, stops_dropped}
 use Rattle.ptb_command.specs.declared.stop.Stop.TheVariants as stops
 use Rattle.ptb_command.proofs.Stops.{asks_before, attempt_adds, or_halt_adds, stops_under}
 
@@ -67,7 +67,7 @@ module _ {A : Type 0} (f : Cells → Work A) (c e : Choices) (d : Devices) (fres
     comes = refines_part_dropped (attempted p.left p.reaches);
     shows = shows_nothing d.screen;
     continues = record {
-      begins = λ S a. (due, ap (λ (T : State). T.shown) (attempt_state (λ k. p.left) (once_shown due S) a) ∙ behind_is S.shown due ∙ ap (λ s. s ++ due) (sym (append-nil S.shown)));
+      begins = λ S a. (due, ap (λ (T : State). T.shown) (attempt_state (λ k. p.left) (once_shown due S) a) ∙ after_is S.shown due ∙ ap (λ s. s ++ due) (sym (append-nil S.shown)));
       takes = λ S a. ([], sym (ap (λ (T : State). T.lines) (attempt_state (λ k. p.left) (once_shown due S) a)));
     };
     line = tt;

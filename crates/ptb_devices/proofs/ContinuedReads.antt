@@ -97,9 +97,9 @@ loses_cut a given q front rest ls (Some bytes) kept whole c =
     ∙ lines_to_end-cut ends a.piece (left_open given q) front (rest ++ coming) ls c
 
 -- of two lists that are none together, the second is none
-none_behind : (front rest : List ℕ) → front ++ rest ≡ [] → rest ≡ []
-none_behind [] rest e = e
-none_behind (b ∷ front) rest e = absurd (let clash = ap length e in omega arith)
+none_after : (front rest : List ℕ) → front ++ rest ≡ [] → rest ≡ []
+none_after [] rest e = e
+none_after (b ∷ front) rest e = absurd (let clash = ap length e in omega arith)
 
 ReadsOn_cut : (wanted : ℕ) (m : InputNow) (given : Bool) (q : Option (List ℕ)) (front rest : List ℕ) (ls : List (List ℕ))
     → m.state.is_given ≡ false → m.state.waiting ≡ front ++ rest → Cuts m.state.piece front ls (left_open given q)
@@ -115,7 +115,7 @@ ReadsOn_cut wanted m given q front rest ls kept whole c fewer asks = record {
   room = omega arith;
   ahead = inl refl;
   stays = λ _. (refl, refl);
-  drained = λ d closed. none_behind front rest (sym whole ∙ d closed);
+  drained = λ d closed. none_after front rest (sym whole ∙ d closed);
   asks = asks;
   cut = λ _.
       let both : Cuts m.state.piece (front ++ rest) (ls ++ whole_lines (left_open given q) rest) (last_piece (left_open given q) rest) =

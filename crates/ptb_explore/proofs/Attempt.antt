@@ -42,7 +42,7 @@ pub record Took {A W : Type 0} (play : Answers → Outcome A W) (plan answers : 
   pub planned_within : planned ≤ length answers
   pub count_within : count ≤ length answers
   pub all_with_ones : planned < length answers → count ≡ length answers
-  pub ones_behind : answers ≡ take planned answers ++ replicate (length answers - planned) (pos 1)
+  pub ones_after : answers ≡ take planned answers ++ replicate (length answers - planned) (pos 1)
   pub came : play (take count answers) ≡ Done result []
 
 module _ {A W : Type 0} (play : Answers → Outcome A W) (most : ℕ) (reads : IsReader play most) (plan answers : Answers) (planned count : ℕ) (result : A) (took : Took play plan answers planned count result) where
@@ -64,7 +64,7 @@ module _ {A W : Type 0} (play : Answers → Outcome A W) (most : ℕ) (reads : I
       record {
         ones = replicate (length answers - planned) (pos 1);
         all_ones = all_ones (length answers - planned);
-        answers_are = took.ones_behind ∙ ap (λ p. p ++ replicate (length answers - planned) (pos 1)) took.plan_is;
+        answers_are = took.ones_after ∙ ap (λ p. p ++ replicate (length answers - planned) (pos 1)) took.plan_is;
         outcome = ap play (sym t) ∙ took.came;
         bounds_are = b ∙ ap (bounds play) t;
       }

@@ -18,7 +18,7 @@ use Rattle.ptb_explore.specs.Copies.{machine_of, taken_choices, AreCopies, ArePl
 use Rattle.ptb_explore.specs.Explorations.{AreCopiesAt, AreKeptAt}
 use Rattle.ptb_explore.specs.PlannedPlays.{IsRunPrefix}
 use Rattle.ptb_explore.specs.Plans.{IsPosition, PlansNext, front_at}
-use Rattle.ptb_explore.proofs.Keep.{GoesOn, agreed_bounds, agreed_len, agreed_taken, kept_beginnings, kept_none, kept_places, kept_same, stands_machine, steps_behind}
+use Rattle.ptb_explore.proofs.Keep.{GoesOn, agreed_bounds, agreed_len, agreed_taken, kept_beginnings, kept_none, kept_places, kept_same, stands_machine, steps_after}
 use Rattle.ptb_explore.proofs.RaisedAnswers.{plan_begins}
 use Rattle.ptb_explore.proofs.RunPrefix.{prefix_to}
 
@@ -64,7 +64,7 @@ module _ (p : StoredProgram) (input : List (List ℕ)) (rules : Rules) where
       let a = r.answers.items in
       let y = slice_index_or a i (pos 0) +ℤ pos 1 in
       let is : answers ≡ take i a ++ y ∷ ones = e ∙ ap (λ s. s ++ ones) n.1 ∙ append_assoc (take i a) (y ∷ []) ones in
-      rw is (steps_behind p input rules i a ones y n.0.within (omega (arith, ints)) r.transcript.items old left h back)
+      rw is (steps_after p input rules i a ones y n.0.within (omega (arith, ints)) r.transcript.items old left h back)
   next_steps under AtEnd r plan ones answers i old left n h e back = absurd n
 
   -- so many steps are played

@@ -1,5 +1,5 @@
 -- This file proves that copies that are kept stay sound, and which of them a run continues from.
--- Main lemmas: `kept_more` and `steps_behind`.
+-- Main lemmas: `kept_more` and `steps_after`.
 use Rattle.std.proofs.Common.{◌≡◌, ℕ, zero, suc, ◌+◌, ◌-◌, ◌<◌, ◌≤◌, List, [], ◌∷◌, ◌++◌, length, take, drop, true, false, Some, inl, inr, refl, ap, sym, subst, ◌∙◌, arith, length-append, length-take}
 use Rattle.std.specs.Prelude.{ℤ, pos, ◌<ℤ◌, slice_index_or, if◌then◌else◌}
 use Rattle.std.specs.Ordering.{int_eq}
@@ -175,19 +175,19 @@ module _ (p : StoredProgram) (input : List (List ℕ)) (rules : Rules) (i : ℕ)
       let no : begins_with next (take k.taken a) ≡ false = false_from_ne_true _ (begins_false i k.taken a rest y all.0 b.0 below) in
       ap (λ b. newest_steps (if b then steps_of k else c) next (kept_runs a dropped)) no ∙ steps_dropped w k.taken k.shown c dropped all.1 h.3
 
-  kept_behind : (w : List ℕ) (m n : ℕ) (front dropped : List KeptCopy) → KeptFrom p input rules a w m n (front ++ dropped) → (j : ℕ) × (q : ℕ) × KeptFrom p input rules a w j q dropped
-  kept_behind w m n [] dropped h = (m, n, h)
-  kept_behind w m n (k ∷ front) dropped h = kept_behind w k.taken k.shown front dropped h.3
+  kept_after : (w : List ℕ) (m n : ℕ) (front dropped : List KeptCopy) → KeptFrom p input rules a w m n (front ++ dropped) → (j : ℕ) × (q : ℕ) × KeptFrom p input rules a w j q dropped
+  kept_after w m n [] dropped h = (m, n, h)
+  kept_after w m n (k ∷ front) dropped h = kept_after w k.taken k.shown front dropped h.3
 
   -- where a run with the answer at i raised continues from what is left, that is the newest copy that its answers begin with
-  pub steps_behind : (w : List ℕ) (old left : List KeptCopy) → AreCopies p input rules a w old → WentBack i old left → kept_steps next (kept_runs a old) ≡ last_steps left
-  steps_behind w old left h (back, inl none) =
+  pub steps_after : (w : List ℕ) (old left : List KeptCopy) → AreCopies p input rules a w old → WentBack i old left → kept_steps next (kept_runs a old) ≡ last_steps left
+  steps_after w old left h (back, inl none) =
       let split : old ≡ back.dropped = back.split ∙ ap (λ s. s ++ back.dropped) none in
       rw (none, split) (steps_dropped w 0 0 0 back.dropped back.beyond (subst (AreCopies p input rules a w) split h))
-  steps_behind w old left h (back, inr (front, k, is, l)) =
+  steps_after w old left h (back, inr (front, k, is, l)) =
       let split : old ≡ (front ++ k ∷ []) ++ back.dropped = back.split ∙ ap (λ s. s ++ back.dropped) is in
       let all = subst (AreCopies p input rules a w) split h in
-      let b = kept_behind w 0 0 (front ++ k ∷ []) back.dropped all in
+      let b = kept_after w 0 0 (front ++ k ∷ []) back.dropped all in
       ap (λ ks. kept_steps next (kept_runs a ks)) split
       ∙ steps_left w 0 0 0 front back.dropped k l all
       ∙ steps_dropped w b.0 b.1 (steps_of k) back.dropped back.beyond b.2

@@ -11,9 +11,9 @@ use Rattle.ptb_explore.specs.RunTree.{Front, At, End, IsNextRun, IsLast, runs_af
 use Rattle.ptb_explore.specs.Listing.{less_one, text, front_after, count_of, WritesList, WritesSome, WritesInto}
 use Rattle.ptb_explore.proofs.Next.{left_next, left_none, none_left}
 
-behind_push : (f : Front) (done : List Answers) (a : Answers) → front_after f (done ++ a ∷ []) ≡ At a
-behind_push f [] a = refl
-behind_push f (b ∷ done) a = behind_push (At b) done a
+after_push : (f : Front) (done : List Answers) (a : Answers) → front_after f (done ++ a ∷ []) ≡ At a
+after_push f [] a = refl
+after_push f (b ∷ done) a = after_push (At b) done a
 
 take_one : (n : ℕ) (a : Answers) (xs : List Answers) → (n ≡ 0 → ⊥) → take n (a ∷ xs) ≡ a ∷ take (n - 1) xs
 take_one zero a xs h = absurd (h refl)
@@ -60,7 +60,7 @@ module _ {A W : Type 0} (play : Answers → Outcome A W) (most : ℕ) (reads : I
       done = p.done ++ a ∷ [];
       split = p.split ∙ ap (λ x. p.done ++ x) (left_more play most reads under front remaining a h next) ∙ sym (append_assoc p.done (a ∷ []) (runs_left play most under (At a) (less_one remaining))) ∙ ap (λ x. (p.done ++ a ∷ []) ++ runs_left play most under x (less_one remaining)) (sym e);
       told = subst (Appends old new') (text_push p.done a) (Appends-trans old new new' (text report p.done) (report a) p.told w);
-      front_is = e ∙ sym (behind_push start p.done a);
+      front_is = e ∙ sym (after_push start p.done a);
       count = let l = length-append p.done (a ∷ []) in let k = p.count in omega (arith, l, k, c);
     }
 

@@ -20,8 +20,8 @@ use Rattle.ptb_explore.proofs.Tree.{run_apart, run_asks, run_open, tree_rises, t
 -- ---- rising lists with the same members
 
 -- after the same first member
-behind_first : (x y : Answers) (xs ys : List Answers) → x ≡ y → AllByRecursion (Before x) xs → ((a : Answers) → IsIn a (x ∷ xs) → IsIn a (y ∷ ys)) → (a : Answers) → IsIn a xs → IsIn a ys
-behind_first x y xs ys e up f a i = elim (f a (inr i)) [
+after_first : (x y : Answers) (xs ys : List Answers) → x ≡ y → AllByRecursion (Before x) xs → ((a : Answers) → IsIn a (x ∷ xs) → IsIn a (y ∷ ys)) → (a : Answers) → IsIn a xs → IsIn a ys
+after_first x y xs ys e up f a i = elim (f a (inr i)) [
   | inl d ↦ absurd (before_self x (subst (Before x) (d ∙ sym e) (all_at (Before x) xs a up i)))
   | inr j ↦ j
 ]
@@ -37,7 +37,7 @@ same_rising [] (y ∷ ys) up down f g = absurd (g y (inl refl))
 same_rising (x ∷ xs) [] up down f g = absurd (f x (inl refl))
 same_rising (x ∷ xs) (y ∷ ys) up down f g =
     let e : x ≡ y = same_first x y xs ys up.0 down.0 (f x (inl refl)) (g y (inl refl)) in
-    let rest : xs ≡ ys = same_rising xs ys up.1 down.1 (behind_first x y xs ys e up.0 f) (behind_first y x ys xs (sym e) down.0 g) in
+    let rest : xs ≡ ys = same_rising xs ys up.1 down.1 (after_first x y xs ys e up.0 f) (after_first y x ys xs (sym e) down.0 g) in
     ap (λ z. z ∷ xs) e ∙ ap (λ s. y ∷ s) rest
 
 pub text_each : (report : Answers → List ℕ) (f : ℤ → List Answers) (ks : List ℤ) → text report (flat_map f ks) ≡ flat_map (λ k. text report (f k)) ks

@@ -33,7 +33,7 @@ module _ {A W : Type 0} (play : Answers → Outcome A W) (r : Recorder) (result 
     planned_within = omega (arith, r.within, r.answers.ok.0);
     count_within = omega (arith, r.bounded, r.answers.ok.0, r.bounds.ok.0);
     all_with_ones = λ l. omega (arith, r.at_end, r.answers.ok.0, r.bounds.ok.0);
-    ones_behind = r.later_one ∙ ap (λ n. take r.planned r.answers.items ++ replicate (n - r.planned) (pos 1)) r.answers.ok.0;
+    ones_after = r.later_one ∙ ap (λ n. take r.planned r.answers.items ++ replicate (n - r.planned) (pos 1)) r.answers.ok.0;
     came = ap play (sym (append-nil (take (length r.bounds.items) r.answers.items))) ∙ h.rest [];
   }
 

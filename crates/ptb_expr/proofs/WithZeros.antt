@@ -6,7 +6,7 @@ use Rattle.std.proofs.lemmas.List.{drop-append-le, length-append, length-drop, r
 use Rattle.std.proofs.lemmas.Slice.{drop-append-drop}
 use Rattle.ptb_expr.specs.Saved.{with_zeros}
 use Rattle.ptb_expr.specs.Store.{Cells, IsZeroFrom}
-use Rattle.ptb_expr.proofs.Zeros.{zeros_behind}
+use Rattle.ptb_expr.proofs.Zeros.{zeros_after}
 
 abbrev zeros : ℕ → List ℤ
 zeros n = replicate n (pos 0)
@@ -18,7 +18,7 @@ front_put front xs fits = rw (length-append, length-drop) (omega (arith, fits))
 
 pub front_zeros : (front xs : List ℤ) (used end : ℕ) → used ≤ end → length front ≤ end → length front ≤ length xs → IsZeroFrom used xs → IsZeroFrom end (front ++ drop (length front) xs)
 front_zeros front xs used end a b fits behind =
-    rw (front_put front xs fits, drop-append-drop (length front) xs front end b refl) (zeros_behind end used xs a behind)
+    rw (front_put front xs fits, drop-append-drop (length front) xs front end b refl) (zeros_after end used xs a behind)
 
 pub all_put : (front xs : List ℤ) (end n : ℕ) → length front ≤ end → end ≤ n → length xs ≡ n → take end xs ≡ front ++ zeros (end - length front) → IsZeroFrom end xs → xs ≡ with_zeros n front
 all_put front xs end n longer within same put behind =

@@ -6,8 +6,8 @@ use Rattle.std.proofs.lemmas.List.{drop-drop, drop-replicate, drop-set-lt, take-
 use Rattle.ptb_expr.specs.Store.{IsZeroFrom}
 
 -- they are 0 from each later place on, too
-pub zeros_behind : (m n : ℕ) (xs : List ℤ) → n ≤ m → IsZeroFrom n xs → drop m xs ≡ replicate (length xs - m) (pos 0)
-zeros_behind m n xs within zeros =
+pub zeros_after : (m n : ℕ) (xs : List ℤ) → n ≤ m → IsZeroFrom n xs → drop m xs ≡ replicate (length xs - m) (pos 0)
+zeros_after m n xs within zeros =
     let at : n + (m - n) ≡ m = omega (arith, within) in
     let left : length xs - n - (m - n) ≡ length xs - m = omega (arith, within) in
     let behind : drop (m - n) (drop n xs) ≡ replicate (length xs - n - (m - n)) (pos 0) =
@@ -17,10 +17,10 @@ zeros_behind m n xs within zeros =
 -- a value that is stored in front of a place leaves what is behind it
 pub zeros_stored : (m n i : ℕ) (v : ℤ) (xs : List ℤ) → n ≤ m → i + 1 ≤ m → IsZeroFrom n xs → IsZeroFrom m (slice_set xs i v)
 zeros_stored m n i v xs within before zeros =
-    rw (drop-set-lt m xs i v (omega (arith, before)), length-set xs i v) (zeros_behind m n xs within zeros)
+    rw (drop-set-lt m xs i v (omega (arith, before)), length-set xs i v) (zeros_after m n xs within zeros)
 
 -- what is in front is all that must be taken over
 pub zeros_copied : (m n k : ℕ) (xs ys : List ℤ) → n ≤ m → k ≤ m → IsZeroFrom n xs → IsZeroFrom k ys → length xs ≡ length ys
     → take m ys ++ drop m xs ≡ ys
 zeros_copied m n k xs ys a b zeros others same =
-    rw (zeros_behind m n xs a zeros, same) (rw (zeros_behind m k ys b others) at (take-append-drop m ys))
+    rw (zeros_after m n xs a zeros, same) (rw (zeros_after m k ys b others) at (take-append-drop m ys))

@@ -30,9 +30,9 @@ run_rows = record {
   smaller = refl;
   greater = refl;
   numbers = refl;
-  ten_behind_nine = refl;
+  ten_after_nine = refl;
   beginning_before = refl;
-  beginning_behind = refl;
+  beginning_after = refl;
 }
 
 pub report_rows : ReportRows

@@ -10,7 +10,7 @@ use Rattle.ptb_answers.specs.Choices.{Asked, with_answers}
 use Rattle.ptb_answers.specs.Seeds.{SeededAnswers, RefusedForMemory, drawn_answer, drawn_from}
 use Rattle.ptb_answers.specs.Seeds.{generator_of, seeded_choices}
 use Rattle.ptb_answers.specs.Drawn.{answers_by, to_question}
-use Rattle.ptb_answers.proofs.Drawn.{Few, few_behind}
+use Rattle.ptb_answers.proofs.Drawn.{Few, few_after}
 use Rattle.ptb_answers.proofs.Seeds.{same_generator}
 use Rattle.ptb_machine.specs.Laws.{RunLaws}
 use Rattle.ptb_answers.specs.declared.rules.Rules.{Rules}
@@ -30,7 +30,7 @@ drawn_first zero g f (k ∷ ts) (n ∷ bs) few asked e = let l = few [] n asked.
 drawn_first (suc most) g f (k ∷ ts) (n ∷ bs) few asked e =
     let first : k ≡ drawn_answer (pcg32 g).0 n = cc in
     let others : ts ≡ drawn_from (pcg32 g).1 bs = cc in
-    let behind = drawn_first most (pcg32 g).1 (λ a. f (k ∷ a)) ts bs (few_behind f most k few) asked.1 others in
+    let behind = drawn_first most (pcg32 g).1 (λ a. f (k ∷ a)) ts bs (few_after f most k few) asked.1 others in
     let answered : answers_by (suc most) g f ≡ drawn_answer (pcg32 g).0 n ∷ answers_by most (pcg32 g).1 (λ a. f (drawn_answer (pcg32 g).0 n ∷ a)) =
     ap (to_question (λ n. drawn_answer (pcg32 g).0 n ∷ answers_by most (pcg32 g).1 (λ a. f (drawn_answer (pcg32 g).0 n ∷ a)))) asked.0.1 in (
       behind.0,

@@ -139,7 +139,7 @@ module _ {R W : Type 0} (remaining : R → Option (List ℕ)) (counted failures 
         let same = sym left_by in
         record {
           plays = λ answers goes.
-              let none_behind = between answers goes [] (λ _. refl) in
+              let none_after = between answers goes [] (λ _. refl) in
               record {
                 ended =
                     shows_input contents written p rules answers refuses w v result (asked (line_input later))
@@ -153,9 +153,9 @@ module _ {R W : Type 0} (remaining : R → Option (List ℕ)) (counted failures 
                       (takes answers goes) result
                       (noted_within noticed rules ended (asked (line_input later)) (most_lines (line_input later)) (wanted_within (line_input later) (most_lines (line_input later)) rules ended unmissed)) (remaining i) on,
                 );
-                failed = none_behind.failed;
-                unfailed = none_behind.unfailed;
-                unspent = none_behind.unspent;
+                failed = none_after.failed;
+                unfailed = none_after.unfailed;
+                unspent = none_after.unspent;
               };
           refused = λ answers goes is.
               elim ((between answers goes [] (λ _. refl)).memory is) [ inl nothing ↦ inl nothing | inr asks ↦ inr asks.0 ];

@@ -146,8 +146,8 @@ module _ (wanted : ℕ) (c : List ℕ) (x f : ℕ) (n : InputNow) (given : List 
   by_length true e = short (ltb-true (length c) 16777217 e)
   by_length false e = long (ltb-false (length c) 16777217 e)
 
-  pub lines_behind : IsBehind c given n
-  lines_behind = by_length (nat_lt (length c) 16777217) refl
+  pub lines_after : IsBehind c given n
+  lines_after = by_length (nat_lt (length c) 16777217) refl
 
 -- ---- faults
 
@@ -333,7 +333,7 @@ module _ (p : StoredProgram) (rules : Rules) (a : List (List ℕ) → Answers) (
   reads_for None on = tt
   reads_for (Some c) on = by_ahead on.ahead where
     b : IsBehind c given n
-    b = lines_behind wanted c x f n given on
+    b = lines_after wanted c x f n given on
 
     few : length given ≤ lines_taken p (input_lines c) rules (a (input_lines c))
     few = subst (λ i. length given ≤ lines_taken p i rules (a i)) (sym b.whole) (takes b.rest b.none)
@@ -381,7 +381,7 @@ module _ {W : Type 0} (contents : W → Option (List ℕ)) (written : W → ℕ)
     nothing (Ok e) = tt
     nothing (Err fault) = tt
   shows_input (Some c) on =
-      let b = lines_behind wanted c x f n given on in
+      let b = lines_after wanted c x f n given on in
       subst (λ i. IfOk ended (ShowsRun (plain p i rules (a i)) (contents w) (contents v))) (sym b.whole)
       (between b.rest b.none).ok
 
@@ -389,7 +389,7 @@ module _ {W : Type 0} (contents : W → Option (List ℕ)) (written : W → ℕ)
       → IfSome known (λ c. TakesSome (contents w) (contents v) (plain p (input_lines c) rules (a (input_lines c))).0)
   begins_input None on = tt
   begins_input (Some c) on =
-      let b = lines_behind wanted c x f n given on in
+      let b = lines_after wanted c x f n given on in
       subst (λ i. TakesSome (contents w) (contents v) (plain p i rules (a i)).0) (sym b.whole)
       (between b.rest b.none).beginning
 
@@ -397,7 +397,7 @@ module _ {W : Type 0} (contents : W → Option (List ℕ)) (written : W → ℕ)
       → Appends (contents w) (contents v) [] ⊎ IfSome known (λ c. ShowsQuestion (plain p (input_lines c) rules) (a (input_lines c)) (contents w) (contents v))
   stops_input is None on = inr tt
   stops_input is (Some c) on =
-      let b = lines_behind wanted c x f n given on in
+      let b = lines_after wanted c x f n given on in
       subst
       (λ i. Appends (contents w) (contents v) [] ⊎ ShowsQuestion (plain p i rules) (a i) (contents w) (contents v))
       (sym b.whole)
@@ -409,7 +409,7 @@ pub of_input : (P : List (List ℕ) → Type 0) (wanted x f : ℕ) (n : InputNow
     → (known : Option (List ℕ)) → ReadsOn wanted (fresh known x f) given n → IfSome known (λ c. P (input_lines c))
 of_input P wanted x f n given each None on = tt
 of_input P wanted x f n given each (Some c) on =
-    let b = lines_behind wanted c x f n given on in
+    let b = lines_after wanted c x f n given on in
     subst P (sym b.whole) (each b.rest b.none)
 
 -- on the lines that came complete, where a fault has come, it ends for want of a line, or would ask for an answer

@@ -50,7 +50,7 @@ fn text_before(text: &[u8], mark: usize) -> &[u8]
 }
 
 // The text behind a mark.
-fn text_behind(text: &[u8], mark: usize) -> &[u8]
+fn text_after(text: &[u8], mark: usize) -> &[u8]
     ensures { result.now ≡ drop mark text.now }
 {
     &text[mark.min(text.len())..]
@@ -115,7 +115,7 @@ pub fn report<S: Screen>(
     let mut buffer = Buffer::new();
     let digits = buffer.format(number).as_bytes();
     let before = text_before(text, fault.mark);
-    let behind = text_behind(text, fault.mark);
+    let behind = text_after(text, fault.mark);
     put_joined(screen, fresh, first_line(*fresh, fault.kind), digits, b" ")?;
     put_joined(screen, fresh, before, b"?", behind)?;
     put(screen, fresh, b"\n")

@@ -97,9 +97,9 @@ no_comma m h =
     (none_of 44 (signed_decimal m.answer) (number_lacks 44 (omega arith) m.answer h.0)) (no_comma_in_bound m.bound h.1)
 
 -- what comes after `/`
-abbrev number_behind : Option ℤ → List ℕ
-number_behind None = []
-number_behind (Some n) = signed_decimal n
+abbrev number_after : Option ℤ → List ℕ
+number_after None = []
+number_after (Some n) = signed_decimal n
 
 item_front : (m : Marked) → IsItem m → before_first (λ b. b == 47) (item_text m) ≡ signed_decimal m.answer
 item_front m h = go m.bound
@@ -112,10 +112,10 @@ item_front m h = go m.bound
     go (Some n) =
         before_first-at 47 (signed_decimal m.answer) (signed_decimal n) (number_lacks 47 (omega arith) m.answer h.0)
 
-item_behind : (m : Marked) → IsItem m → after_first (λ b. b == 47) (item_text m) ≡ number_behind m.bound
-item_behind m h = go m.bound
+item_after : (m : Marked) → IsItem m → after_first (λ b. b == 47) (item_text m) ≡ number_after m.bound
+item_after m h = go m.bound
   where
-    go : (o : Option ℤ) → after_first (λ b. b == 47) (signed_decimal m.answer ++ bound_text o) ≡ number_behind o
+    go : (o : Option ℤ) → after_first (λ b. b == 47) (signed_decimal m.answer ++ bound_text o) ≡ number_after o
     go None =
         ap (after_first (λ b. b == 47)) (append-nil (signed_decimal m.answer))
         ∙ after_first-Lacks 47 (signed_decimal m.answer) (number_lacks 47 (omega arith) m.answer h.0)
@@ -129,7 +129,7 @@ not_empty : (n : ℤ) → IsAnswer n → signed_decimal n ≡ [] → ⊥
 not_empty n h e = let first = SpellsNumber-first (signed_decimal n) n (h, refl) in omega (arith, first.0, ap length e)
 
 same_bound : (o p : Option ℤ) → ((n : ℤ) → o ≡ Some n → IsAnswer n) → ((n : ℤ) → p ≡ Some n → IsAnswer n)
-    → number_behind o ≡ number_behind p → o ≡ p
+    → number_after o ≡ number_after p → o ≡ p
 same_bound None None h g e = refl
 same_bound None (Some n) h g e = absurd (not_empty n (g n refl) (sym e))
 same_bound (Some n) None h g e = absurd (not_empty n (h n refl) e)
@@ -139,7 +139,7 @@ same_bound (Some n) (Some k) h g e = ap Some (same_number n k (h n refl) (g k re
 pub one_item : (m j : Marked) → IsItem m → IsItem j → item_text m ≡ item_text j → m ≡ j
 one_item m j h g e =
     let answer = same_number m.answer j.answer h.0 g.0 (sym (item_front m h) ∙ ap (before_first (λ b. b == 47)) e ∙ item_front j g) in
-    let bound = same_bound m.bound j.bound h.1 g.1 (sym (item_behind m h) ∙ ap (after_first (λ b. b == 47)) e ∙ item_behind j g) in
+    let bound = same_bound m.bound j.bound h.1 g.1 (sym (item_after m h) ∙ ap (after_first (λ b. b == 47)) e ∙ item_after j g) in
     ap₂ (λ (k : ℤ) (o : Option ℤ). record { answer = k; bound = o }) answer bound
 
 -- the first byte of an item is that of its answer
@@ -200,7 +200,7 @@ item_is_numbers s a b m parts lacks h = go m.bound refl
     go (Some n) e = (
       n,
       (h.0.0, answer),
-      (h.0.1 n e, ap number_behind (sym e) ∙ sym (item_behind m h.0) ∙ ap (after_first (λ b. b == 47)) h.1 ∙ behind),
+      (h.0.1 n e, ap number_after (sym e) ∙ sym (item_after m h.0) ∙ ap (after_first (λ b. b == 47)) h.1 ∙ behind),
       ap (λ (p : Option ℤ). record { answer = m.answer; bound = p }) e,
     )
 

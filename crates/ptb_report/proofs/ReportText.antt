@@ -13,13 +13,13 @@ use Rattle.ptb_answers.specs.AnswerText.{spelling, item_text, in_form, items_in}
 use Rattle.ptb_report.specs.Report.{report_text}
 
 -- what stands behind the answers, in the order in which it is written
-abbrev pub behind_answers : (word steps size shown : List ℕ) → List ℕ
-behind_answers word steps size shown = codes " " ++ (word ++ (codes " " ++ (steps ++ (codes " " ++ (size ++ (codes "\n" ++ (shown ++ (codes "\n" ++ []))))))))
+abbrev pub after_answers : (word steps size shown : List ℕ) → List ℕ
+after_answers word steps size shown = codes " " ++ (word ++ (codes " " ++ (steps ++ (codes " " ++ (size ++ (codes "\n" ++ (shown ++ (codes "\n" ++ []))))))))
 
 joined : (r a w b s c z n t m : List ℕ) → r ++ (a ++ (w ++ (b ++ (s ++ (c ++ (z ++ (n ++ (t ++ (m ++ []))))))))) ≡ r ++ (a ++ w) ++ (b ++ s) ++ (c ++ z) ++ n ++ t ++ m
 joined r a w b s c z n t m = simp (append_assoc, append-nil)
 
-pub report_in_pieces : (items : List Marked) (word : List ℕ) (steps : ℕ) (shown : List ℕ) → (codes "RUN " ++ spelling items) ++ behind_answers word (decimal steps) (decimal (length shown)) shown ≡ report_text items word steps shown
+pub report_in_pieces : (items : List Marked) (word : List ℕ) (steps : ℕ) (shown : List ℕ) → (codes "RUN " ++ spelling items) ++ after_answers word (decimal steps) (decimal (length shown)) shown ≡ report_text items word steps shown
 report_in_pieces items word steps shown =
     joined (codes "RUN " ++ spelling items) (codes " ") word (codes " ") (decimal steps) (codes " ") (decimal (length shown)) (codes "\n") shown (codes "\n")
 
@@ -36,13 +36,13 @@ pieces_of (m ∷ list) = item_text m ∷ map comma_and list
 abbrev pub whole_piece : List ℕ → List ℕ
 whole_piece p = p
 
-pieces_behind : (list : List Marked) → flat_map whole_piece (map comma_and list) ≡ flat_map comma_and list
-pieces_behind [] = refl
-pieces_behind (m ∷ list) = ap (λ x. comma_and m ++ x) (pieces_behind list)
+pieces_after : (list : List Marked) → flat_map whole_piece (map comma_and list) ≡ flat_map comma_and list
+pieces_after [] = refl
+pieces_after (m ∷ list) = ap (λ x. comma_and m ++ x) (pieces_after list)
 
 pub spelling_in_pieces : (list : List Marked) → 0 < length list → flat_map whole_piece (pieces_of list) ≡ spelling list
 spelling_in_pieces [] h = absurd (omega arith)
-spelling_in_pieces (m ∷ list) h = ap (λ x. item_text m ++ x) (pieces_behind list)
+spelling_in_pieces (m ∷ list) h = ap (λ x. item_text m ++ x) (pieces_after list)
 
 pub length-pieces_of : (list : List Marked) → length (pieces_of list) ≡ length list
 length-pieces_of [] = refl

@@ -9,7 +9,7 @@ use Rattle.ptb_text.proofs.GatheredBytes.{all_more, gathers_more, gathers_same, 
 use Rattle.ptb_answers.specs.AnswerText.{spelling}
 use Rattle.ptb_answers.specs.declared.form.Marked.{Marked}
 use Rattle.ptb_report.specs.Report.{list_line, report_text}
-use Rattle.ptb_report.proofs.ReportText.{behind_answers, report_in_pieces}
+use Rattle.ptb_report.proofs.ReportText.{after_answers, report_in_pieces}
 
 -- what holds anyway holds at a fault
 pub on_err_always : {T E Q : Type 0} (r : Result T E) → Q → OnErr r Q
@@ -24,7 +24,7 @@ failed_after a b c same h = subst (λ (n : ℕ). HasFailed n c) same h
 module _ (items : List Marked) (word : List ℕ) (steps : ℕ) (shown : List ℕ) (a : Option (List ℕ)) (none : List ℕ) (is : none ≡ []) where
   -- what stands behind the answers
   abbrev behind : List ℕ
-  behind = behind_answers word (decimal steps) (decimal (length shown)) shown
+  behind = after_answers word (decimal steps) (decimal (length shown)) shown
 
   pub first_fails : (b : Option (List ℕ)) → TakesSome a b (none ++ codes "RUN ") → TakesSome a b (report_text items word steps shown)
   first_fails b t =
@@ -45,18 +45,18 @@ module _ (items : List Marked) (word : List ℕ) (steps : ℕ) (shown : List ℕ
       listed : Gathers a c (codes "RUN " ++ spelling items) q
       listed = gathers_more a b c (codes "RUN ") p (spelling items) q begun second
 
-      same_behind : q ++ behind_answers word counted sized shown ≡ q ++ behind
-      same_behind =
-          ap (λ (z : List ℕ). q ++ behind_answers word z sized shown) count
-          ∙ ap (λ (z : List ℕ). q ++ behind_answers word (decimal steps) z shown) size
+      same_after : q ++ after_answers word counted sized shown ≡ q ++ behind
+      same_after =
+          ap (λ (z : List ℕ). q ++ after_answers word z sized shown) count
+          ∙ ap (λ (z : List ℕ). q ++ after_answers word (decimal steps) z shown) size
 
-      pub all_written : (d : Option (List ℕ)) {T E : Type 0} (result : Result T E) → OnOk result (Appends c d (q ++ behind_answers word counted sized shown)) → OnOk result (Appends a d (report_text items word steps shown))
+      pub all_written : (d : Option (List ℕ)) {T E : Type 0} (result : Result T E) → OnOk result (Appends c d (q ++ after_answers word counted sized shown)) → OnOk result (Appends a d (report_text items word steps shown))
       all_written d result h =
-          on_ok_weaker result (λ t. subst (Appends a d) (report_in_pieces items word steps shown) (all_more a c d (codes "RUN " ++ spelling items) q behind listed (subst (Appends c d) same_behind t))) h
+          on_ok_weaker result (λ t. subst (Appends a d) (report_in_pieces items word steps shown) (all_more a c d (codes "RUN " ++ spelling items) q behind listed (subst (Appends c d) same_after t))) h
 
-      pub rest_fails : (d : Option (List ℕ)) {T E : Type 0} (result : Result T E) → OnErr result (TakesSome c d (q ++ behind_answers word counted sized shown)) → OnErr result (TakesSome a d (report_text items word steps shown))
+      pub rest_fails : (d : Option (List ℕ)) {T E : Type 0} (result : Result T E) → OnErr result (TakesSome c d (q ++ after_answers word counted sized shown)) → OnErr result (TakesSome a d (report_text items word steps shown))
       rest_fails d result h =
-          on_err_weaker result (λ t. subst (TakesSome a d) (report_in_pieces items word steps shown) (some_after a c d (codes "RUN " ++ spelling items) q behind listed (subst (TakesSome c d) same_behind t))) h
+          on_err_weaker result (λ t. subst (TakesSome a d) (report_in_pieces items word steps shown) (some_after a c d (codes "RUN " ++ spelling items) q behind listed (subst (TakesSome c d) same_after t))) h
 
 -- ---- a list of answers
 

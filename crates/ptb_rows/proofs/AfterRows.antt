@@ -8,15 +8,15 @@ pub after_rows : AfterRows
 unfolding on_programs
 after_rows = record {
   first_two = refl;
-  two_behind = refl;
-  behind_second = refl;
-  behind_last = refl;
+  two_after = refl;
+  after_second = refl;
+  after_last = refl;
   beginning_of_run = refl;
   outside = refl;
   too_long = refl;
-  behind_shorter = refl;
+  after_shorter = refl;
   greatest = refl;
-  behind_only = refl;
+  after_only = refl;
   empty_list = refl;
   fewer_left = refl;
 }

@@ -7,13 +7,13 @@ use Rattle.ptb_rows.proofs.OnPrograms.{on_programs}
 pub bound_rows : BoundRows
 unfolding on_programs
 bound_rows = record {
-  roll_behind_if = refl;
-  behind_bound = refl;
+  roll_after_if = refl;
+  after_bound = refl;
   other_bound = refl;
   bound_of_last = refl;
   beginning_of_run = refl;
   bounds_and_form_1 = refl;
   no_answers = refl;
   only_answer = refl;
-  behind_none = refl;
+  after_none = refl;
 }

@@ -8,7 +8,7 @@ pub choice_rows : ChoiceRows
 unfolding on_programs
 choice_rows = record {
   each_answer = refl;
-  behind_faulty_line = refl;
+  after_faulty_line = refl;
   index_and_value = refl;
   no_answer = refl;
   bad_answer = refl;
@@ -19,7 +19,7 @@ choice_rows = record {
   greatest = refl;
   drawn = refl;
   limit = refl;
-  behind_first = refl;
+  after_first = refl;
   first_one = refl;
-  behind_none = refl;
+  after_none = refl;
 }

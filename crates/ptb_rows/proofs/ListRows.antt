@@ -95,7 +95,7 @@ list_rows = record {
     All-cons IsItem (with_bound (pos 2) (pos 2)) (without_bound (pos 1) ∷ []) two_of_two (listed (pos 1) [] (answer_from 1 (omega arith) (omega arith)) (All-nil IsItem)),
     refl,
   );
-  no_bound_behind = by_word (codes "2/2,1/") 1 (codes "1/") (other_first (codes "2/2,1/") (omega arith)) (omega arith) refl (bound_wrong [] (omega arith));
+  no_bound_after = by_word (codes "2/2,1/") 1 (codes "1/") (other_first (codes "2/2,1/") (omega arith)) (omega arith) refl (bound_wrong [] (omega arith));
   bound_of_0 = by_word (codes "1/0") 0 (codes "1/0") (other_first (codes "1/0") (omega arith)) (omega arith) refl (bound_wrong (codes "0") (omega arith));
   bound_in_answers = λ a h.
       let p = word_of_items without_bound (codes "2/2") a 0 (codes "2/2") (other_first (codes "2/2") (omega arith)) h (omega arith) refl in

@@ -9,7 +9,7 @@ unfolding on_programs
 share_rows = record {
   second_answer = refl;
   first_of_share = refl;
-  behind_one = refl;
+  after_one = refl;
   run_alone = refl;
   first_answer = refl;
   with_bounds = refl;
@@ -17,7 +17,7 @@ share_rows = record {
   too_long = refl;
   outside = refl;
   other_bound = refl;
-  behind_another = refl;
+  after_another = refl;
   neither = refl;
   empty_program = refl;
 }

@@ -174,7 +174,7 @@ pub record SeedRows : Type 0 where
 -- answers that stand in place of missing lines
 pub record ChoiceRows : Type 0 where
   pub each_answer : reply_to (choosing (pos 2) (le_z_yes tt) all) (codes "10 INPUT A;PRINT A") [] ≡ success (codes "RUN 1 END 2 11\nA:1\n     1\n\nRUN 2 END 2 11\nA:2\n     2\n\n")
-  pub behind_faulty_line : reply_to (choosing (pos 2) (le_z_yes tt) all) (codes "10 INPUT A;PRINT A") (one_line (codes ")"))
+  pub after_faulty_line : reply_to (choosing (pos 2) (le_z_yes tt) all) (codes "10 INPUT A;PRINT A") (one_line (codes ")"))
       ≡ success (codes "RUN 1 END 2 21\nA:)\nWHAT?\nA:1\n     1\n\nRUN 2 END 2 21\nA:)\nWHAT?\nA:2\n     2\n\n")
   pub index_and_value : reply_to (choosing (pos 2) (le_z_yes tt) all) (codes "10 INPUT @(RND(2)-1)") [] ≡ success (
       codes "RUN 1,1 END 1 14\n@(RND(2)-1):1\n\n" ++ codes "RUN 1,2 END 1 14\n@(RND(2)-1):2\n\n"
@@ -191,9 +191,9 @@ pub record ChoiceRows : Type 0 where
   pub drawn : reply_to (choosing (pos 6) (le_z_yes tt) (seeded 7)) (codes "10 INPUT A;PRINT RND(6)") [] ≡ run_end (codes "A:3\n     5\n") 0
   -- with the steps of a limit
   pub limit : reply_to (record all { rules = record { limit = 1; choose = Some (pos 2); in_range = le_z_yes tt } }) (codes "10 INPUT A;PRINT A") [] ≡ success (codes "RUN 1 LIMIT 1 4\nA:1\n\nRUN 2 LIMIT 1 4\nA:2\n\n")
-  pub behind_first : reply_to (choosing (pos 2) (le_z_yes tt) (behind (pos 1 ∷ []))) (codes "10 INPUT A;PRINT A") [] ≡ success (codes "RUN 2 END 2 11\nA:2\n     2\n\n")
+  pub after_first : reply_to (choosing (pos 2) (le_z_yes tt) (behind (pos 1 ∷ []))) (codes "10 INPUT A;PRINT A") [] ≡ success (codes "RUN 2 END 2 11\nA:2\n     2\n\n")
   pub first_one : reply_to (choosing (pos 2) (le_z_yes tt) (all_from None (Some 1))) (codes "10 INPUT A;PRINT A") [] ≡ success (codes "RUN 1 END 2 11\nA:1\n     1\n\n")
-  pub behind_none : reply_to (choosing (pos 2) (le_z_yes tt) (behind (pos 3 ∷ []))) (codes "10 INPUT A;PRINT A") [] ≡ refusal notes.NoRun
+  pub after_none : reply_to (choosing (pos 2) (le_z_yes tt) (behind (pos 3 ∷ []))) (codes "10 INPUT A;PRINT A") [] ≡ refusal notes.NoRun
 
 -- programs that run once
 pub record ProgramRows : Type 0 where
@@ -246,7 +246,7 @@ pub record AllRows : Type 0 where
   pub no_program : reply_to all [] [] ≡ success (codes "RUN none END 0 0\n\n")
   pub one_roll : reply_to all (codes "10 P.RND(2)") [] ≡ success (codes "RUN 1 END 1 7\n     1\n\nRUN 2 END 1 7\n     2\n\n")
   pub two_rolls : reply_to all (codes "10 PRINT RND(2)*RND(2)") [] ≡ success (codes "RUN 1,1 END 1 7\n     1\n\nRUN 1,2 END 1 7\n     2\n\nRUN 2,1 END 1 7\n     2\n\nRUN 2,2 END 1 7\n     4\n\n")
-  pub roll_behind_if : reply_to all (codes "10 A=RND(2);IF A=2 B=RND(3);PRINT B") [] ≡ success (codes "RUN 1 END 2 0\n\nRUN 2,1 END 4 7\n     1\n\nRUN 2,2 END 4 7\n     2\n\nRUN 2,3 END 4 7\n     3\n\n")
+  pub roll_after_if : reply_to all (codes "10 A=RND(2);IF A=2 B=RND(3);PRINT B") [] ≡ success (codes "RUN 1 END 2 0\n\nRUN 2,1 END 4 7\n     1\n\nRUN 2,2 END 4 7\n     2\n\nRUN 2,3 END 4 7\n     3\n\n")
   pub faulty_run : reply_to all (codes "10 A=RND(2)-1;B=RND(A)") [] ≡ success (codes "RUN 1 HOW 2 29\nHOW?\n10 A=RND(2)-1;B=RND(A)?\n\nRUN 2,1 END 2 0\n\n")
   pub limit : reply_to (limited 5 all) (codes "10 GOTO 10") [] ≡ success (codes "RUN none LIMIT 5 0\n\n")
   pub limit_between : reply_to (limited 1 all) (codes "10 A=RND(2);B=RND(2)") [] ≡ success (codes "RUN 1 LIMIT 1 0\n\nRUN 2 LIMIT 1 0\n\n")
@@ -263,34 +263,34 @@ pub record AllRows : Type 0 where
 -- the runs behind one of them, and the first of them
 pub record AfterRows : Type 0 where
   pub first_two : reply_to (all_from None (Some 2)) (codes "10 PRINT RND(2)*RND(2)") [] ≡ success (codes "RUN 1,1 END 1 7\n     1\n\nRUN 1,2 END 1 7\n     2\n\n")
-  pub two_behind : reply_to (all_from (Some (pos 1 ∷ pos 1 ∷ [])) (Some 2)) (codes "10 PRINT RND(2)*RND(2)") [] ≡ success (codes "RUN 1,2 END 1 7\n     2\n\nRUN 2,1 END 1 7\n     2\n\n")
-  pub behind_second : reply_to (behind (pos 2 ∷ pos 1 ∷ [])) (codes "10 A=RND(2);IF A=2 B=RND(3);PRINT B") [] ≡ success (codes "RUN 2,2 END 4 7\n     2\n\nRUN 2,3 END 4 7\n     3\n\n")
-  pub behind_last : reply_to (behind (pos 2 ∷ pos 3 ∷ [])) (codes "10 A=RND(2);IF A=2 B=RND(3);PRINT B") [] ≡ success []
+  pub two_after : reply_to (all_from (Some (pos 1 ∷ pos 1 ∷ [])) (Some 2)) (codes "10 PRINT RND(2)*RND(2)") [] ≡ success (codes "RUN 1,2 END 1 7\n     2\n\nRUN 2,1 END 1 7\n     2\n\n")
+  pub after_second : reply_to (behind (pos 2 ∷ pos 1 ∷ [])) (codes "10 A=RND(2);IF A=2 B=RND(3);PRINT B") [] ≡ success (codes "RUN 2,2 END 4 7\n     2\n\nRUN 2,3 END 4 7\n     3\n\n")
+  pub after_last : reply_to (behind (pos 2 ∷ pos 3 ∷ [])) (codes "10 A=RND(2);IF A=2 B=RND(3);PRINT B") [] ≡ success []
   pub beginning_of_run : reply_to (behind (pos 2 ∷ [])) (codes "10 A=RND(2);IF A=2 B=RND(3);PRINT B") [] ≡ refusal notes.NoRun
   pub outside : reply_to (behind (pos 2 ∷ pos 4 ∷ [])) (codes "10 A=RND(2);IF A=2 B=RND(3);PRINT B") [] ≡ refusal notes.NoRun
   pub too_long : reply_to (behind (pos 2 ∷ pos 1 ∷ pos 1 ∷ [])) (codes "10 A=RND(2);IF A=2 B=RND(3);PRINT B") [] ≡ refusal notes.NoRun
-  pub behind_shorter : reply_to (behind (pos 1 ∷ [])) (codes "10 A=RND(2);IF A=2 B=RND(3);PRINT B") [] ≡ success (codes "RUN 2,1 END 4 7\n     1\n\nRUN 2,2 END 4 7\n     2\n\nRUN 2,3 END 4 7\n     3\n\n")
+  pub after_shorter : reply_to (behind (pos 1 ∷ [])) (codes "10 A=RND(2);IF A=2 B=RND(3);PRINT B") [] ≡ success (codes "RUN 2,1 END 4 7\n     1\n\nRUN 2,2 END 4 7\n     2\n\nRUN 2,3 END 4 7\n     3\n\n")
   pub greatest : reply_to (behind (pos 32767 ∷ [])) (codes "10 P.RND(2)") [] ≡ refusal notes.NoRun
-  pub behind_only : reply_to (behind []) [] [] ≡ success []
+  pub after_only : reply_to (behind []) [] [] ≡ success []
   pub empty_list : reply_to (behind []) (codes "10 P.RND(2)") [] ≡ refusal notes.NoRun
   pub fewer_left : reply_to (all_from (Some (pos 1 ∷ [])) (Some 5)) (codes "10 P.RND(2)") [] ≡ success (codes "RUN 2 END 1 7\n     2\n\n")
 
 -- all runs of a program, each answer with its bound
-abbrev pub bounds_behind : List Marked → Request
-bounds_behind list = all_in Two (Some list) None
+abbrev pub bounds_later : List Marked → Request
+bounds_later list = all_in Two (Some list) None
 
 -- reports with bounds, and lists to go on behind in which bounds stand
 pub record BoundRows : Type 0 where
-  pub roll_behind_if : reply_to (all_in Two None None) (codes "10 A=RND(2);IF A=2 B=RND(3);PRINT B") [] ≡ success (
+  pub roll_after_if : reply_to (all_in Two None None) (codes "10 A=RND(2);IF A=2 B=RND(3);PRINT B") [] ≡ success (
       codes "RUN 1/2 END 2 0\n\nRUN 2/2,1/3 END 4 7\n     1\n\n" ++ codes "RUN 2/2,2/3 END 4 7\n     2\n\nRUN 2/2,3/3 END 4 7\n     3\n\n")
-  pub behind_bound : reply_to (bounds_behind (with_bound (pos 2) (pos 2) ∷ without_bound (pos 1) ∷ [])) (codes "10 A=RND(2);IF A=2 B=RND(3);PRINT B") [] ≡ success (codes "RUN 2/2,2/3 END 4 7\n     2\n\nRUN 2/2,3/3 END 4 7\n     3\n\n")
-  pub other_bound : reply_to (bounds_behind (with_bound (pos 2) (pos 3) ∷ with_bound (pos 1) (pos 3) ∷ [])) (codes "10 A=RND(2);IF A=2 B=RND(3);PRINT B") [] ≡ refusal notes.NoRun
-  pub bound_of_last : reply_to (bounds_behind (with_bound (pos 2) (pos 2) ∷ with_bound (pos 1) (pos 2) ∷ [])) (codes "10 A=RND(2);IF A=2 B=RND(3);PRINT B") [] ≡ refusal notes.NoRun
-  pub beginning_of_run : reply_to (bounds_behind (with_bound (pos 2) (pos 2) ∷ [])) (codes "10 A=RND(2);IF A=2 B=RND(3);PRINT B") [] ≡ refusal notes.NoRun
+  pub after_bound : reply_to (bounds_later (with_bound (pos 2) (pos 2) ∷ without_bound (pos 1) ∷ [])) (codes "10 A=RND(2);IF A=2 B=RND(3);PRINT B") [] ≡ success (codes "RUN 2/2,2/3 END 4 7\n     2\n\nRUN 2/2,3/3 END 4 7\n     3\n\n")
+  pub other_bound : reply_to (bounds_later (with_bound (pos 2) (pos 3) ∷ with_bound (pos 1) (pos 3) ∷ [])) (codes "10 A=RND(2);IF A=2 B=RND(3);PRINT B") [] ≡ refusal notes.NoRun
+  pub bound_of_last : reply_to (bounds_later (with_bound (pos 2) (pos 2) ∷ with_bound (pos 1) (pos 2) ∷ [])) (codes "10 A=RND(2);IF A=2 B=RND(3);PRINT B") [] ≡ refusal notes.NoRun
+  pub beginning_of_run : reply_to (bounds_later (with_bound (pos 2) (pos 2) ∷ [])) (codes "10 A=RND(2);IF A=2 B=RND(3);PRINT B") [] ≡ refusal notes.NoRun
   pub bounds_and_form_1 : reply_to (all_in One (Some (with_bound (pos 1) (pos 2) ∷ [])) None) (codes "10 P.RND(2)") [] ≡ success (codes "RUN 2 END 1 7\n     2\n\n")
   pub no_answers : reply_to (all_in Two None None) [] [] ≡ success (codes "RUN none END 0 0\n\n")
   pub only_answer : reply_to (all_in Two None None) (codes "10 A=RND(1)") [] ≡ success (codes "RUN 1/1 END 1 0\n\n")
-  pub behind_none : reply_to (bounds_behind []) [] [] ≡ success []
+  pub after_none : reply_to (bounds_later []) [] [] ≡ success []
 
 -- runs that a seed draws, one after the other
 pub record SampleRows : Type 0 where
@@ -317,7 +317,7 @@ answers list = unmarked list
 pub record ShareRows : Type 0 where
   pub second_answer : reply_to (under (answers (pos 2 ∷ [])) None None) (codes "10 A=RND(2);IF A=2 B=RND(3);PRINT B") [] ≡ success (codes "RUN 2/2,1/3 END 4 7\n     1\n\n" ++ codes "RUN 2/2,2/3 END 4 7\n     2\n\n" ++ codes "RUN 2/2,3/3 END 4 7\n     3\n\n")
   pub first_of_share : reply_to (under (answers (pos 2 ∷ [])) None (Some 1)) (codes "10 A=RND(2);IF A=2 B=RND(3);PRINT B") [] ≡ success (codes "RUN 2/2,1/3 END 4 7\n     1\n\n")
-  pub behind_one : reply_to (under (answers (pos 2 ∷ [])) (Some (answers (pos 2 ∷ pos 1 ∷ []))) None) (codes "10 A=RND(2);IF A=2 B=RND(3);PRINT B") [] ≡ success (codes "RUN 2/2,2/3 END 4 7\n     2\n\n" ++ codes "RUN 2/2,3/3 END 4 7\n     3\n\n")
+  pub after_one : reply_to (under (answers (pos 2 ∷ [])) (Some (answers (pos 2 ∷ pos 1 ∷ []))) None) (codes "10 A=RND(2);IF A=2 B=RND(3);PRINT B") [] ≡ success (codes "RUN 2/2,2/3 END 4 7\n     2\n\n" ++ codes "RUN 2/2,3/3 END 4 7\n     3\n\n")
   pub run_alone : reply_to (under (answers (pos 2 ∷ pos 3 ∷ [])) None None) (codes "10 A=RND(2);IF A=2 B=RND(3);PRINT B") [] ≡ success (codes "RUN 2/2,3/3 END 4 7\n     3\n\n")
   pub first_answer : reply_to (under (answers (pos 1 ∷ [])) None None) (codes "10 A=RND(2);IF A=2 B=RND(3);PRINT B") [] ≡ success (codes "RUN 1/2 END 2 0\n\n")
   pub with_bounds : reply_to (under (with_bound (pos 2) (pos 2) ∷ with_bound (pos 1) (pos 3) ∷ []) None None) (codes "10 A=RND(2);IF A=2 B=RND(3);PRINT B") [] ≡ success (codes "RUN 2/2,1/3 END 4 7\n     1\n\n")
@@ -325,7 +325,7 @@ pub record ShareRows : Type 0 where
   pub too_long : reply_to (under (answers (pos 1 ∷ pos 1 ∷ [])) None None) (codes "10 A=RND(2);IF A=2 B=RND(3);PRINT B") [] ≡ refusal notes.NoBeginning
   pub outside : reply_to (under (answers (pos 3 ∷ [])) None None) (codes "10 A=RND(2);IF A=2 B=RND(3);PRINT B") [] ≡ refusal notes.NoBeginning
   pub other_bound : reply_to (under (with_bound (pos 2) (pos 3) ∷ []) None None) (codes "10 A=RND(2);IF A=2 B=RND(3);PRINT B") [] ≡ refusal notes.NoBeginning
-  pub behind_another : reply_to (under (answers (pos 2 ∷ [])) (Some (answers (pos 1 ∷ []))) None) (codes "10 A=RND(2);IF A=2 B=RND(3);PRINT B") [] ≡ refusal notes.NoRun
+  pub after_another : reply_to (under (answers (pos 2 ∷ [])) (Some (answers (pos 1 ∷ []))) None) (codes "10 A=RND(2);IF A=2 B=RND(3);PRINT B") [] ≡ refusal notes.NoRun
   -- the beginning is looked at first
   pub neither : reply_to (under (answers (pos 3 ∷ [])) (Some (answers (pos 9 ∷ []))) None) (codes "10 A=RND(2);IF A=2 B=RND(3);PRINT B") [] ≡ refusal notes.NoBeginning
   pub empty_program : reply_to (under [] None None) [] [] ≡ success (codes "RUN none END 0 0\n\n")
@@ -431,7 +431,7 @@ pub record ListRows : Type 0 where
   pub greatest : SpellsAnswers (codes "32767") (pos 32767 ∷ [])
   pub three : SpellsAnswers (codes "2,1,30000") (pos 2 ∷ pos 1 ∷ pos 30000 ∷ [])
   pub one_bound : SpellsList (codes "2/2,1") (with_bound (pos 2) (pos 2) ∷ without_bound (pos 1) ∷ [])
-  pub no_bound_behind : IsMisspelled (codes "2/2,1/")
+  pub no_bound_after : IsMisspelled (codes "2/2,1/")
   pub bound_of_0 : IsMisspelled (codes "1/0")
   pub bound_in_answers : HasNoAnswers (codes "2/2")
   pub nothing : IsMisspelled []

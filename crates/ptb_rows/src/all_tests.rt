@@ -338,7 +338,7 @@ const RUNS_BEHIND_A_RUN: &[(&[u8], Option<&[Marked]>, Option<u64>, &[u8])] = &[
 
 // Listings behind a run, or of the first runs: what is written, with status 0.
 #[test]
-fn runs_behind_a_run(rt: HostRuntime) -> Result<(), Fail> {
+fn runs_after_a_run(rt: HostRuntime) -> Result<(), Fail> {
     for &(program, after, first, text) in RUNS_BEHIND_A_RUN {
         let asked = all_of!(program, after = after, first = first);
         expect_listing(&rt, rt.alloc(), &asked, 100, text)?;
@@ -405,7 +405,7 @@ const NO_RUNS: &[(&[u8], &[Marked])] = &[
 
 // Answers that are no run are refused, and nothing is written.
 #[test]
-fn runs_behind_no_run(rt: HostRuntime) -> Result<(), Fail> {
+fn runs_after_no_run(rt: HostRuntime) -> Result<(), Fail> {
     for &(program, list) in NO_RUNS {
         let reply = served(rt.alloc(), &all_of!(program, after = Some(list)), 100)?;
         expect_reply(&rt, reply, (67, Some(Note::NoRun)), b"");

@@ -365,7 +365,7 @@ fn expect_third(rt: &impl Abort, explorer: &mut Explorer) -> Result<(), Fail> {
 }
 
 // Goes behind the second of four runs, and to the third.
-fn expect_behind(
+fn expect_after(
     rt: &impl Abort,
     alloc: Global,
     program: &Program,
@@ -381,9 +381,9 @@ fn expect_behind(
 
 // Behind a run, too, the next one goes on from a copy.
 #[test]
-fn behind_a_run(rt: HostRuntime) -> Result<(), Fail> {
+fn after_a_run(rt: HostRuntime) -> Result<(), Fail> {
     let (program, lines) = loaded(rt.alloc(), MANY_QUESTIONS, "")?;
-    expect_behind(&rt, rt.alloc(), &program, &lines)
+    expect_after(&rt, rt.alloc(), &program, &lines)
 }
 
 // Goes behind a run, of whose two answers the first is told with its bound; or there is no memory.
@@ -397,7 +397,7 @@ fn expect_played(rt: &impl Abort, alloc: Global, program: &Program, lines: &[Lin
 // Passes whichever of its allocations is refused: the list is a run with its bounds, so that nothing
 // but memory can be wanting.
 #[test]
-fn refused_behind_a_run(rt: HostRuntime) {
+fn refused_after_a_run(rt: HostRuntime) {
     match loaded(rt.alloc(), "10 A=RND(2);B=RND(3)", "") {
         Ok((program, lines)) => expect_played(&rt, rt.alloc(), &program, &lines),
         Err(why) => expect_same(&rt, "program", why, OUT_OF_MEMORY),

@@ -236,7 +236,7 @@ const LISTINGS_BEHIND: &[(&str, &[i16], Option<u64>, u64, &[u8])] = &[
 ];
 
 #[test]
-fn writes_those_behind(rt: HostRuntime) {
+fn writes_those_after(rt: HostRuntime) {
     for &(text, run, first, count, reports) in LISTINGS_BEHIND {
         let asked = Asked {
             text,
@@ -359,7 +359,7 @@ const SECOND_RUN: &[&[Marked]] = &[
 ];
 
 #[test]
-fn goes_on_behind_stated_bounds(rt: HostRuntime) {
+fn goes_on_after_stated_bounds(rt: HostRuntime) {
     for &run in SECOND_RUN {
         let asked = of_branches(Runs::BehindMarked(run), None);
         expect_branches(&rt, rt.alloc(), &asked, 2, 45, 101);

@@ -9,7 +9,7 @@ use std::process::Abort;
 use std::test::Fail;
 
 // An explorer behind the run with these answers, or at the first run.
-fn explorer_behind<'a>(
+fn explorer_after<'a>(
     alloc: Global,
     program: &'a Program,
     lines: &'a [Line],
@@ -44,7 +44,7 @@ fn expect_next(
 }
 
 // The run behind one with these answers has these answers and bounds.
-fn expect_behind(
+fn expect_after(
     rt: &impl Abort,
     alloc: Global,
     program: &Program,
@@ -53,7 +53,7 @@ fn expect_behind(
     answers: &[i16],
     bounds: &[i16],
 ) -> Result<(), Fail> {
-    let mut explorer = explorer_behind(alloc, program, lines, 10000, Some(before))?;
+    let mut explorer = explorer_after(alloc, program, lines, 10000, Some(before))?;
     expect_next(rt, &mut explorer, answers, bounds)
 }
 
@@ -64,7 +64,7 @@ fn records_a_plan_and_ones(rt: HostRuntime) -> Result<(), Fail> {
     let (program, lines) = loaded(rt.alloc(), text, "")?;
     let (before, answers) = (&[2, 2, 7, 1], &[2, 3, 1, 1]);
     let bounds = &[2, 3, 7, 1];
-    expect_behind(&rt, rt.alloc(), &program, &lines, before, answers, bounds)
+    expect_after(&rt, rt.alloc(), &program, &lines, before, answers, bounds)
 }
 
 // Whether a list of answers, of which some have their bounds, is a run of a program.
@@ -129,7 +129,7 @@ fn written_from(
     before: Option<&[i16]>,
     form: Form,
 ) -> Result<Vec<u8>, &'static str> {
-    let mut explorer = explorer_behind(alloc, program, lines, limit, before)?;
+    let mut explorer = explorer_after(alloc, program, lines, limit, before)?;
     written_by(alloc, &mut explorer, form)
 }
 
@@ -241,7 +241,7 @@ fn written_to(
     lines: &[Line],
     room: &mut [u8],
 ) -> Result<Result<u64, ExploreFault>, &'static str> {
-    let mut explorer = explorer_behind(alloc, program, lines, 10000, Some(&[1, 1]))?;
+    let mut explorer = explorer_after(alloc, program, lines, 10000, Some(&[1, 1]))?;
     let mut out = Device::new(room);
     Ok(write_all_runs(&mut explorer, None, Form::One, &mut out))
 }

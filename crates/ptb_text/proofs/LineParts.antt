@@ -40,8 +40,8 @@ some_bytes (x ∷ t) b is e = omega arith
 abbrev pub digits_of : List ℕ → List ℕ
 digits_of t = take (prefix_len is_digit t) t
 
-abbrev pub behind_digits : List ℕ → List ℕ
-behind_digits t = drop (prefix_len is_digit t) t
+abbrev pub after_digits : List ℕ → List ℕ
+after_digits t = drop (prefix_len is_digit t) t
 
 no_number : (t : List ℕ) (p : Statements) (memory : ℕ) → 0 < length t → digits_value (digits_of t) ≡ 0
     → after_trimmed p memory t ≡ Err NoNumber
@@ -54,7 +54,7 @@ too_big [] p memory some over = absurd (omega arith)
 too_big (b ∷ bs) p memory some over = grind (arith, nat_tests)
 
 numbered : (t : List ℕ) (p : Statements) (memory n : ℕ) → 0 < length t → digits_value (digits_of t) ≡ n → 0 < n
-    → n ≤ number_limit → after_trimmed p memory t ≡ after_statement p memory n (trim_start (behind_digits t))
+    → n ≤ number_limit → after_trimmed p memory t ≡ after_statement p memory n (trim_start (after_digits t))
 numbered [] p memory n some is low high = absurd (omega arith)
 numbered (b ∷ bs) p memory n some is low high = grind (arith, nat_tests)
 
@@ -72,13 +72,13 @@ module _ (line t : List ℕ) (clean : position (λ b. not (is_printable b)) line
   after_too_big some over p memory = by_trimmed p memory ∙ too_big t p memory some over
 
   pub after_number : (n : ℕ) → 0 < length t → digits_value (digits_of t) ≡ n → 0 < n → n ≤ number_limit
-      → IsNumbered line n (trim_start (behind_digits t))
+      → IsNumbered line n (trim_start (after_digits t))
   after_number n some is low high = record {
     low = low;
     high = high;
-    printable = list_all-drop is_printable (prefix_len is_blank (behind_digits t)) (behind_digits t) (list_all-drop is_printable (prefix_len is_digit t) t (rw trimmed (list_all-drop is_printable (prefix_len is_blank line) line (list_all-from_none is_printable line clean))));
-    no_blank_in_front = ap length (trim_start-trimmed (behind_digits t));
-    behind_number = ap (λ u. trim_start (behind_digits u)) trimmed;
+    printable = list_all-drop is_printable (prefix_len is_blank (after_digits t)) (after_digits t) (list_all-drop is_printable (prefix_len is_digit t) t (rw trimmed (list_all-drop is_printable (prefix_len is_blank line) line (list_all-from_none is_printable line clean))));
+    no_blank_in_front = ap length (trim_start-trimmed (after_digits t));
+    after_the_number = ap (λ u. trim_start (after_digits u)) trimmed;
     enters = λ p memory. by_trimmed p memory ∙ numbered t p memory n some is low high;
   }
 
@@ -100,7 +100,7 @@ after_trimmed-fault : (p : Statements) (memory : ℕ) (t : List ℕ) → IfErr (
 after_trimmed-fault p memory [] = tt
 after_trimmed-fault p memory (b ∷ bs) =
     let n = digits_value (digits_of (b ∷ bs)) in
-    let t = trim_start (behind_digits (b ∷ bs)) in
+    let t = trim_start (after_digits (b ∷ bs)) in
     chosen (n == 0) (Err NoNumber) (if nat_lt number_limit n then Err NumberTooBig else after_statement p memory n t) tt
     (chosen (nat_lt number_limit n) (Err NumberTooBig) (after_statement p memory n t) tt (after_statement-fault p memory n t))
 
@@ -223,10 +223,10 @@ number_absent line j e = elim (number_cases line Absent j e) [
 pub record HasNumber (line : List ℕ) (v : ℤ) (j : ℕ) : Type 0 where
   pub value : pos (digits_value (digits_of (in_front line))) ≡ v
   pub high : digits_value (digits_of (in_front line)) ≤ number_limit
-  pub text : drop j line ≡ trim_start (behind_digits (in_front line))
+  pub text : drop j line ≡ trim_start (after_digits (in_front line))
 
 behind : (line : List ℕ)
-    → drop (past_blanks line (past_blanks line 0 + prefix_len is_digit (in_front line))) line ≡ trim_start (behind_digits (in_front line))
+    → drop (past_blanks line (past_blanks line 0 + prefix_len is_digit (in_front line))) line ≡ trim_start (after_digits (in_front line))
 unfolding past_blanks
 behind line =
     let k = prefix_len is_digit (in_front line) in
@@ -265,7 +265,7 @@ after_short p memory n (b ∷ bs) some short = grind (arith, nat_tests)
 module _ (line : List ℕ) (p : StoredProgram) where
   module _ (n : ℕ) (t : List ℕ) (numbered : IsNumbered line n t) (empty : Bool) (tested : empty ≡ (length t == 0)) (not_empty : empty ≡ false) where
     has_text : HasText line
-    has_text = subst (λ (u : List ℕ). 0 < length u) numbered.behind_number (some_bytes t empty tested not_empty)
+    has_text = subst (λ (u : List ℕ). 0 < length u) numbered.after_the_number (some_bytes t empty tested not_empty)
 
     -- its text is stored
     module _ (short : length t ≤ text_limit) where

@@ -27,7 +27,7 @@ use Rattle.ptb_words.specs.Digits.{digits_value, is_blank, is_digit}
 use Rattle.ptb_text.proofs.ByteTests.{none_from_list_all, prefix_len-whole}
 use Rattle.ptb_text.proofs.Edits.{both, one_cost}
 use Rattle.ptb_text.proofs.Entries.{with_text-gap}
-use Rattle.ptb_text.proofs.LineParts.{behind_digits, digits_of, after_number}
+use Rattle.ptb_text.proofs.LineParts.{after_digits, digits_of, after_number}
 use Rattle.ptb_text.proofs.Sound.{StatementFacts, StatementFacts-from_test, both_true, rising}
 
 -- ---- decimals, as they are read
@@ -140,8 +140,8 @@ trim_start-text : (t : List ℕ) → IsText t → prefix_len is_blank t ≡ 0
 trim_start-text t text =
     nothing_dropped (prefix_len is_blank t) t (prefix_len-le-length is_blank t) text.no_blank_in_front
 
-trim_start-behind_blank : (t : List ℕ) → IsText t → trim_start (32 ∷ t) ≡ t
-trim_start-behind_blank t text = ap (λ k. drop (1 + k) (32 ∷ t)) (trim_start-text t text)
+trim_start-after_blank : (t : List ℕ) → IsText t → trim_start (32 ∷ t) ≡ t
+trim_start-after_blank t text = ap (λ k. drop (1 + k) (32 ∷ t)) (trim_start-text t text)
 
 trim_start-digits : (ds rest : List ℕ) → list_all is_digit ds ≡ true → 0 < length ds
     → trim_start (ds ++ rest) ≡ ds ++ rest
@@ -164,11 +164,11 @@ after_line-entry p memory n t facts fits =
     let clean = none_from_list_all is_printable line (entry-prints n t facts) in
     let size : prefix_len is_digit line ≡ length ds = prefix_len-whole is_digit ds 32 t is.all_digits refl in
     let digits : digits_of line ≡ ds = ap (λ k. take k line) size ∙ take-append_seam ds (32 ∷ t) in
-    let behind : behind_digits line ≡ 32 ∷ t = ap (λ k. drop k line) size ∙ drop-append_seam ds (32 ∷ t) in
+    let behind : after_digits line ≡ 32 ∷ t = ap (λ k. drop k line) size ∙ drop-append_seam ds (32 ∷ t) in
     let some : 0 < length line = omega (arith, is.some, length-append ds (32 ∷ t)) in
     let numbered = after_number line line clean (sym (trim_start-digits ds (32 ∷ t) is.all_digits is.some)) n some (ap digits_value digits ∙ is.value) facts.low facts.high in
     numbered.enters p memory
-    ∙ ap (after_statement p memory n) (ap trim_start behind ∙ trim_start-behind_blank t facts.text)
+    ∙ ap (after_statement p memory n) (ap trim_start behind ∙ trim_start-after_blank t facts.text)
     ∙ store_text p memory n t facts.text.not_empty facts.text.short fits
 
 -- ---- all lines, one after the other

@@ -12,7 +12,7 @@ use Rattle.ptb_text.specs.declared.fault.LoadFault.TheVariants.{BadByte, Full, M
 use Rattle.ptb_text.specs.declared.fault.LoadFault.TheVariants.{TooLong}
 use Rattle.ptb_text.specs.Lines.{is_printable}
 use Rattle.ptb_text.specs.Statements.{Statements, StoredProgram, after_line, after_statement}
-use Rattle.ptb_text.specs.Statements.{text_behind_number, trim_start}
+use Rattle.ptb_text.specs.Statements.{text_after_number, trim_start}
 use Rattle.ptb_words.specs.Digits.{number_limit}
 
 abbrev pub EntersNothing : List ℕ → Type 0
@@ -26,7 +26,7 @@ pub record IsNumbered (line : List ℕ) (n : ℕ) (text : List ℕ) : Type 0 whe
   pub high : n ≤ number_limit
   pub printable : IsTrue (list_all is_printable text)
   pub no_blank_in_front : length (trim_start text) ≡ length text
-  pub behind_number : text ≡ text_behind_number line
+  pub after_the_number : text ≡ text_after_number line
   pub enters : (p : Statements) (memory : ℕ) → after_line p memory line ≡ after_statement p memory n text
 
 abbrev pub IsLineFault : LoadFault → Type 0

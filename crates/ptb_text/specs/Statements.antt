@@ -8,7 +8,7 @@
 --     StoredProgram, size_of p                       a program with its memory, and the memory that it leaves
 --     IsSound p, IsText t                            what every stored program keeps, and each of its texts
 --     after_line p memory line                       the map after a line is entered, or why the line is refused
---     text_behind_number line, HasText line          the text that a line is to store; it has one
+--     text_after_number line, HasText line          the text that a line is to store; it has one
 --     program memory b                               the map that a whole text gives, or which source line is refused first, and why
 --     listing p                                      the program as text
 --     is_program p                                   whether a list of pairs is such a map
@@ -107,12 +107,12 @@ abbrev pub after_line : Statements → ℕ → List ℕ → Result Statements Lo
 after_line p memory line = unless_bad_byte (position (λ b. not (is_printable b)) line) p memory line
 
 -- what stands behind the number of a line, without blanks in front
-abbrev pub text_behind_number : List ℕ → List ℕ
-text_behind_number line = let t = trim_start line in trim_start (drop (prefix_len is_digit t) t)
+abbrev pub text_after_number : List ℕ → List ℕ
+text_after_number line = let t = trim_start line in trim_start (drop (prefix_len is_digit t) t)
 
 -- the line has a text to store: it isn't blank, and deletes no statement
 abbrev pub HasText : List ℕ → Type 0
-HasText line = 0 < length (text_behind_number line)
+HasText line = 0 < length (text_after_number line)
 
 -- ---- a whole text
 

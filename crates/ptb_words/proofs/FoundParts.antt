@@ -139,14 +139,14 @@ number_range t i v j e = elim (number_cases t i (Value v) j e) [
 abbrev HasByte : List ℕ → Type 0
 HasByte s = 0 < length s
 
-behind_have_bytes : (c : ℕ) (ss : List (List ℕ)) → AllByRecursion HasByte (map (λ s. c ∷ s) ss)
-behind_have_bytes c [] = tt
-behind_have_bytes c (s ∷ ss) = (omega arith, behind_have_bytes c ss)
+after_have_bytes : (c : ℕ) (ss : List (List ℕ)) → AllByRecursion HasByte (map (λ s. c ∷ s) ss)
+after_have_bytes c [] = tt
+after_have_bytes c (s ∷ ss) = (omega arith, after_have_bytes c ss)
 
 abbreviations_have_bytes : (letters : List ℕ) → AllByRecursion HasByte (abbreviations letters)
 abbreviations_have_bytes [] = tt
 abbreviations_have_bytes (c ∷ []) = tt
-abbreviations_have_bytes (c ∷ d ∷ cs) = (omega arith, behind_have_bytes c (abbreviations (d ∷ cs)))
+abbreviations_have_bytes (c ∷ d ∷ cs) = (omega arith, after_have_bytes c (abbreviations (d ∷ cs)))
 
 -- what is found has what all have, and passes the test
 find_has : {A : Type 0} (P : A → Type 0) (p : A → Bool) (xs : List A) (y : A) → AllByRecursion P xs → find p xs ≡ Some y

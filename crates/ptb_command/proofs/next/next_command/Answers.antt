@@ -4,7 +4,7 @@ use Rattle.ptb_words.specs.Words.{is_over}
 use Rattle.ptb_command.specs.Representation.{PlacesAre, NextIs}
 use Rattle.ptb_command.specs.State.{Place, next_command}
 use Rattle.ptb_command.proofs.Placed.{not_placed}
-use Rattle.ptb_command.proofs.Nexts.{placed, text_there, next_nowhere, next_here, next_last, next_empty, next_behind}
+use Rattle.ptb_command.proofs.Nexts.{placed, text_there, next_nowhere, next_here, next_last, next_empty, next_later}
 use Rattle.ptb_command.proofs.next.next_command.Goals as goal
 
 pub returns-in_err-here-clause-next : goal.returns-in_err-here-clause-next
@@ -34,18 +34,18 @@ pub returns-then-at_end-clause-next : goal.returns-then-at_end-clause-next
 returns-then-at_end-clause-next c q a =
     let p = c.args.program.now.lines in
     let over : is_over c.line_at.result.1.now c.in_ok-here.here.at ≡ true = rw c.new-cursor.ensures at (sym c.at_end.ensures ∙ c.if-not-at_end.false) in
-    let over_behind : is_over c.line_at-2.result.1.now c.in_ok-behind.behind.at ≡ true = rw c.new-cursor-2.ensures at (sym c.at_end-2.ensures ∙ c.if-at_end.true) in
+    let over_after : is_over c.line_at-2.result.1.now c.in_ok-behind.behind.at ≡ true = rw c.new-cursor-2.ensures at (sym c.at_end-2.ensures ∙ c.if-at_end.true) in
     placed p c.in_ok-here.here (λ (q : Option Place). next_command p q ≡ None)
     (λ q a. next_empty c.command_laws.ensures p q c.in_ok-here.here a _ (text_there p q _ _ _ a c.line_at.ensures.there) c.in_ok-behind.behind _ _ over
-    (c.in_ok-behind.ensures.behind q a.statement) c.line_at-2.ensures.there over_behind)
+    (c.in_ok-behind.ensures.behind q a.statement) c.line_at-2.ensures.there over_after)
     q (subst (PlacesAre p q) c.in_ok-here.was a)
 
 pub returns-clause-next : goal.returns-clause-next
 returns-clause-next c q a =
     let p = c.args.program.now.lines in
     let over : is_over c.line_at.result.1.now c.in_ok-here.here.at ≡ true = rw c.new-cursor.ensures at (sym c.at_end.ensures ∙ c.if-not-at_end.false) in
-    let over_behind : is_over c.line_at-2.result.1.now c.in_ok-behind.behind.at ≡ false = rw c.new-cursor-2.ensures at (sym c.at_end-2.ensures ∙ c.if-at_end.false) in
+    let over_after : is_over c.line_at-2.result.1.now c.in_ok-behind.behind.at ≡ false = rw c.new-cursor-2.ensures at (sym c.at_end-2.ensures ∙ c.if-at_end.false) in
     rw c.new-cursor-2.ensures (placed p c.in_ok-here.here (λ (q : Option Place). NextIs p q c.in_ok-behind.behind c.line_at-2.result.1.now)
-    (λ q a. next_behind c.command_laws.ensures p q c.in_ok-here.here a _ (text_there p q _ _ _ a c.line_at.ensures.there) c.in_ok-behind.behind _ _ over
-    (c.in_ok-behind.ensures.behind q a.statement) c.line_at-2.ensures.there over_behind)
+    (λ q a. next_later c.command_laws.ensures p q c.in_ok-here.here a _ (text_there p q _ _ _ a c.line_at.ensures.there) c.in_ok-behind.behind _ _ over
+    (c.in_ok-behind.ensures.behind q a.statement) c.line_at-2.ensures.there over_after)
     q (subst (PlacesAre p q) c.in_ok-here.was a))

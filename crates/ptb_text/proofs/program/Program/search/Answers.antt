@@ -29,10 +29,10 @@ pub returns-in-Some-clause-absent : goal.returns-in-Some-clause-absent
 returns-in-Some-clause-absent c = (by_number c).absent
 
 -- the last statement, if there is one, has a smaller number
-behind_all : (c : After-len) (last : Option Statement)
+after_all : (c : After-len) (last : Option Statement)
     → last ≡ slice_get c.deref.result.now (length c.deref.result.now - 1) → IfSome last (λ s. s.number < c.args.number)
     → IsGapFor c.args.self.now.lines c.args.number c.len.result
-behind_all c last is above =
+after_all c last is above =
     let items = c.self.inside.statements.items in
     let sorted : is_sorted nat_cmp (map (shown c.self.inside.pool.items) items) ≡ true = (both_true _ _ c.self.invariant.sound.is_map).0 in
     let gap = IsGapFor-end c.self.inside.pool.items items sorted c.args.number last (rw c.deref.ensures.value at is) above in
@@ -42,6 +42,6 @@ pub returns-in_default-clause-absent : goal.returns-in_default-clause-absent
 returns-in_default-clause-absent c =
     elim c.in_default.branch [
       | in_default-via-in-Some+else-last-number w ↦
-          behind_all c (Some w.in-Some.last.now) w.in-Some.ensures.value w.if-last-number.false
-      | in_default-via-in_default w ↦ behind_all c None w.in_default.ensures.value tt
+          after_all c (Some w.in-Some.last.now) w.in-Some.ensures.value w.if-last-number.false
+      | in_default-via-in_default w ↦ after_all c None w.in_default.ensures.value tt
     ]
