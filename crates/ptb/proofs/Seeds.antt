@@ -114,7 +114,17 @@ asks_drawn t o r seed asks draws small =
     let answers : o.answers ≡ None = grind arith in
     let undrawn : o.seed ≡ None = grind arith in
     record {
-      asks = record { clash = clash_drawn o seed runs every answers asks.clash; rules = record { limit = asks.rules.limit; choose = asks.rules.choose }; memory = asks.memory; mode = (record { unlisted = list; unchecked = check; no_chances = chances }, every, refl, unsampled o runs every undrawn asks.clash) };
+      asks = record {
+        clash = clash_drawn o seed runs every answers asks.clash;
+        rules = record { limit = asks.rules.limit; choose = asks.rules.choose };
+        memory = asks.memory;
+        mode = (
+          record { unlisted = list; unchecked = check; no_chances = chances },
+          every,
+          refl,
+          unsampled o runs every undrawn asks.clash,
+        );
+      };
       draws = wants;
       small = small;
     }

@@ -98,7 +98,8 @@ module _ {R : Type 0} (input : Reads R) (out : Writes) where
     pub status : n ≡ unread_status kind
     pub untouched : IsUntouched input out
 
-module _ {P R : Type 0} (opens : Option (List ℕ) → Result P Note → Type 0) (text : P → P → Reads P) (input : Reads R) (out : Writes) where
+module _ {P R : Type 0} (opens : Option (List ℕ) → Result P Note → Type 0) (text : P → P
+    → Reads P) (input : Reads R) (out : Writes) where
   pub record AnswersRequest (terminals : Terminals) (entries : List Row) (n : ℕ) : Type 0 where
     pub drawn : Option ℕ
     pub request : Request
@@ -112,5 +113,6 @@ module _ {P R : Type 0} (opens : Option (List ℕ) → Result P Note → Type 0)
 
   -- the options of arguments without a fault are answered, and otherwise it is the status of their fault
   pub record ExitsBy (terminals : Terminals) (words : List Text) (n : ℕ) : Type 0 where
-    pub exits : ((fault_of tool words ≡ []) × AnswersOptions terminals (matches_of tool words) n) ⊎ IsFaultStatus input out
+    pub exits : ((fault_of tool words ≡ []) × AnswersOptions terminals (matches_of tool words) n)
+        ⊎ IsFaultStatus input out
         (fault_of tool words) n

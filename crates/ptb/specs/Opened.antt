@@ -5,7 +5,8 @@
 --     ServesBeside path text request opened input out result     beside a program at a path, or beside standard input
 --     exit_status result                          the status of either
 --     no_lines                                    what is read of an input without lines
---     ServesTask opens text path request input out n     the request is served for the program at the path, with the status n
+--     ServesTask opens text path request input out n     the request is served for the program at the path, with the
+--                                                        status n
 use Rattle.std.specs.Prelude.{◌≡◌, ℕ, List, [], Option, Some, None, Result, Ok, Err}
 use Rattle.ptb_options.specs.declared.request.Request.{Request}
 use Rattle.ptb_serve.specs.declared.note.Note.{Note}
@@ -21,7 +22,8 @@ pub record IsUntouched {R : Type 0} (input : Reads R) (out : Writes) : Type 0 wh
   pub unfailed : out.fails ≡ out.failed
 
 -- all that `serve` promises, of a program's reader with what it has left
-pub record KeepsPromises {P R : Type 0} (text : P → Reads P) (request : Request) (input : Reads R) (out : Writes) (result : Result Outcome Note) : Type 0 where
+pub record KeepsPromises {P R : Type 0} (text : P → Reads P) (request : Request) (input : Reads R) (out : Writes)
+    (result : Result Outcome Note) : Type 0 where
   pub left : P
   pub outcome : Outcome
   pub is : result ≡ Ok outcome
@@ -30,7 +32,8 @@ pub record KeepsPromises {P R : Type 0} (text : P → Reads P) (request : Reques
   pub fails : FailsLoudly (text left) input out outcome
 
 -- for a program that is not opened nothing is read and nothing is written
-pub record NotesUnopened {R : Type 0} (note : Note) (input : Reads R) (out : Writes) (result : Result Outcome Note) : Type 0 where
+pub record NotesUnopened {R : Type 0} (note : Note) (input : Reads R) (out : Writes)
+    (result : Result Outcome Note) : Type 0 where
   pub noted : result ≡ Err note
   pub untouched : IsUntouched input out
 
@@ -56,7 +59,8 @@ ServesBeside None text request opened input out result =
     ServesOpened text request opened no_lines out result × (input.new ≡ input.old)
 
 -- what is opened at the path is served, and the program exits with the status of that
-pub record ServesTask {P R : Type 0} (opens : Option (List ℕ) → Result P Note → Type 0) (text : P → P → Reads P) (path : Option (List ℕ)) (request : Request) (input : Reads R) (out : Writes) (n : ℕ) : Type 0 where
+pub record ServesTask {P R : Type 0} (opens : Option (List ℕ) → Result P Note → Type 0) (text : P → P
+    → Reads P) (path : Option (List ℕ)) (request : Request) (input : Reads R) (out : Writes) (n : ℕ) : Type 0 where
   pub opened : Result P Note
   pub at_path : opens path opened
   pub result : Result Outcome Note

@@ -33,11 +33,13 @@ bounds_from f t q (k ∷ a) =
     (ap (λ p. bounds_after f p a) (append_assoc t q (k ∷ [])) ∙ bounds_from f t (q ++ k ∷ []) a)
 
 -- the first answer is asked for, inside its bound
-module _ {A W : Type 0} (f : Answers → Outcome A W) (most : ℕ) (reads : IsReader f most) (k : ℤ) (b : Answers) (run : is_whole (f (k ∷ b)) ≡ true) where
+module _ {A W : Type 0} (f : Answers → Outcome A W) (most : ℕ) (reads : IsReader f most) (k : ℤ) (b : Answers)
+    (run : is_whole (f (k ∷ b)) ≡ true) where
   first_inside : (n : ℤ) (w : W) → f [] ≡ Asks n w → is_answer n k ≡ true
   first_inside n w e = elim (cases_Bool (is_answer n k)) [
     | inl i ↦ i
-    | inr o ↦ let gone = reads.out (k ∷ []) b n w (reads.outside [] n k w e o) in let v = whole_is (f (k ∷ b)) run in absurd cc
+    | inr o ↦ let gone = reads.out (k ∷ []) b n w (reads.outside [] n k w e o) in let v = whole_is (f (k ∷ b)) run in
+        absurd cc
   ]
 
   run_asks : (n : ℤ) × (w : W) × (f [] ≡ Asks n w) × (is_answer n k ≡ true)
@@ -67,7 +69,8 @@ bounds_later f n k w a e =
 
 drawn_inside : (word : ℕ) (n : ℤ) → pos 1 ≤ℤ n → is_answer n (drawn_answer word n) ≡ true
 drawn_inside word (pos zero) h = absurd (omega (arith, h))
-drawn_inside word (pos (suc n)) h = let l : word % suc n < suc n = mod_below word (suc n) (omega arith) in grind (arith, ints, l)
+drawn_inside word (pos (suc n)) h = let l : word % suc n < suc n = mod_below word (suc n) (omega arith) in
+    grind (arith, ints, l)
 drawn_inside word (negsuc n) h = absurd (omega (arith, h))
 
 answers_by-done : {A W : Type 0} (most : ℕ) (g : Lcg) (f : Answers → Outcome A W) (x : A) (rest : Answers)
@@ -76,8 +79,10 @@ answers_by-done zero g f x rest e = refl
 answers_by-done (suc most) g f x rest e = ap (to_question _) e
 
 answers_by-asks : {A W : Type 0} (most : ℕ) (g : Lcg) (f : Answers → Outcome A W) (n : ℤ) (w : W) → f [] ≡ Asks n w
-    → answers_by (suc most) g f ≡ drawn_answer (pcg32 g).0 n ∷ answers_by most (pcg32 g).1 (λ a. f (drawn_answer (pcg32 g).0 n ∷ a))
-answers_by-asks most g f n w e = ap (to_question (λ n. drawn_answer (pcg32 g).0 n ∷ answers_by most (pcg32 g).1 (λ a. f (drawn_answer (pcg32 g).0 n ∷ a)))) e
+    → answers_by (suc most) g f ≡ drawn_answer (pcg32 g).0 n ∷ answers_by most (pcg32 g).1
+    (λ a. f (drawn_answer (pcg32 g).0 n ∷ a))
+answers_by-asks most g f n w e = ap (to_question
+    (λ n. drawn_answer (pcg32 g).0 n ∷ answers_by most (pcg32 g).1 (λ a. f (drawn_answer (pcg32 g).0 n ∷ a)))) e
 
 pub answers_by-drawn : {A W : Type 0} (most : ℕ) (g : Lcg) (f : Answers → Outcome A W) → IsReader f most
     → IsDrawnFrom g f (answers_by most g f)
@@ -90,11 +95,16 @@ answers_by-drawn most g f reads = by_first most g f reads (open_is (f []) reads.
   by_first zero g f reads (inr q) = let l = reads.few [] q.0 q.1 q.2 in absurd (omega (arith, l))
   by_first (suc most) g f reads (inr q) =
       let k = drawn_answer (pcg32 g).0 q.0 in
-      let others = reader_after f most q.0 k q.1 reads q.2 (drawn_inside (pcg32 g).0 q.0 (reads.positive [] q.0 q.1 q.2)) in
+      let others = reader_after f most q.0 k q.1 reads q.2
+      (drawn_inside (pcg32 g).0 q.0 (reads.positive [] q.0 q.1 q.2)) in
       let behind = by_first most (pcg32 g).1 (λ a. f (k ∷ a)) others (open_is (f (k ∷ [])) others.begins) in
       let a = answers_by most (pcg32 g).1 (λ a. f (k ∷ a)) in
       subst (IsDrawnFrom g f) (sym (answers_by-asks most g f q.0 q.1 q.2))
-      (record { run = behind.run; drawn = ap (λ l. k ∷ l) behind.drawn ∙ ap (drawn_from g) (sym (bounds_later f q.0 k q.1 a q.2)) })
+      (record {
+        run = behind.run;
+        drawn = ap (λ l. k ∷ l) behind.drawn
+            ∙ ap (drawn_from g) (sym (bounds_later f q.0 k q.1 a q.2));
+      })
 
 -- no other list is
 pub drawn_alone : {A W : Type 0} (most : ℕ) (g : Lcg) (f : Answers → Outcome A W) (b : Answers) → IsReader f most
@@ -105,9 +115,11 @@ drawn_alone zero g f (k ∷ b) reads h =
     let l = reads.few [] q.0 q.1 q.2 in absurd (omega (arith, l))
 drawn_alone (suc most) g f (k ∷ b) reads h =
     let q = run_asks f (suc most) reads k b h.run in
-    let drawn : k ∷ b ≡ drawn_answer (pcg32 g).0 q.0 ∷ drawn_from (pcg32 g).1 (bounds (λ a. f (k ∷ a)) b) = h.drawn ∙ ap (drawn_from g) (bounds_later f q.0 k q.1 b q.2) in
+    let drawn : k ∷ b ≡ drawn_answer (pcg32 g).0 q.0 ∷ drawn_from (pcg32 g).1 (bounds (λ a. f (k ∷ a)) b) =
+    h.drawn ∙ ap (drawn_from g) (bounds_later f q.0 k q.1 b q.2) in
     let first : k ≡ drawn_answer (pcg32 g).0 q.0 = cc in
     let rest : b ≡ drawn_from (pcg32 g).1 (bounds (λ a. f (k ∷ a)) b) = cc in
-    let behind = drawn_alone most (pcg32 g).1 (λ a. f (k ∷ a)) b (reader_after f most q.0 k q.1 reads q.2 q.3) (record { run = h.run; drawn = rest }) in
+    let behind = drawn_alone most (pcg32 g).1 (λ a. f (k ∷ a)) b (reader_after f most q.0 k q.1 reads q.2 q.3)
+    (record { run = h.run; drawn = rest }) in
     ap (λ l. k ∷ l) behind ∙ ap (λ x. x ∷ answers_by most (pcg32 g).1 (λ a. f (x ∷ a))) first
     ∙ sym (answers_by-asks most g f q.0 q.1 q.2)

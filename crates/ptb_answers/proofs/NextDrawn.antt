@@ -33,8 +33,11 @@ pushed list new n r fits is ok =
 
 -- n is the bound; both lists have room for one more, and the answer k was drawn for it by the generator g, which is h
 -- then
-module _ (state : ℕ) (bounds : List ℤ) (answers : Answers) (g : Lcg) (drawn : HasDrawn (at_state g state) bounds answers g) (n : ℤ) (fits : FitsSigned w16 n) {T E : Type 0} (r : Result T E) (bounds_new : List ℤ) (bounded : bounds_new ≡ (if is_ok r then bounds ++ to_z w16 (of_z w16 n) ∷ [] else bounds)) (ok : is_ok r ≡ true)
-    (word : ℕ) (h : Lcg) (stepped : ◌≡◌ {A = ℕ × Lcg} (word, h) (pcg32 g)) (k : ℤ) (within : FitsSigned w16 k) (is : k ≡ drawn_answer word (to_z w16 (of_z w16 n))) where
+module _ (state : ℕ) (bounds : List ℤ) (answers : Answers) (g : Lcg) (drawn : HasDrawn (at_state g state) bounds
+    answers g) (n : ℤ) (fits : FitsSigned w16 n) {T E : Type 0} (r : Result T E) (bounds_new : List ℤ)
+    (bounded : bounds_new ≡ (if is_ok r then bounds ++ to_z w16 (of_z w16 n) ∷ [] else bounds)) (ok : is_ok r ≡ true)
+    (word : ℕ) (h : Lcg) (stepped : ◌≡◌ {A = ℕ × Lcg} (word, h) (pcg32 g)) (k : ℤ) (within : FitsSigned w16 k)
+    (is : k ≡ drawn_answer word (to_z w16 (of_z w16 n))) where
   answered : to_z w16 (of_z w16 k) ≡ drawn_answer (pcg32 g).0 n
   answered =
       to_z-of_z within ∙ is ∙ ap (drawn_answer word) (to_z-of_z fits) ∙ ap (λ (p : ℕ × Lcg). drawn_answer p.0 n) stepped
@@ -53,12 +56,15 @@ module _ (state : ℕ) (bounds : List ℤ) (answers : Answers) (g : Lcg) (drawn 
   drawn_next q answers_new room roomy size counted =
       let one : answers_new ≡ answers ++ n ∷ [] = pushed answers answers_new n q fits room roomy in
       let place : size - 1 ≡ length answers = omega (arith, counted, ap length one, length-append answers (n ∷ [])) in
-      let more : HasDrawn (at_state g state) (bounds ++ n ∷ []) (answers ++ drawn_answer (pcg32 g).0 n ∷ []) (pcg32 g).1 = drawn_one_more (at_state g state) bounds answers g n drawn in
-      let seam : set (answers ++ n ∷ []) (length answers) (drawn_answer (pcg32 g).0 n) ≡ answers ++ drawn_answer (pcg32 g).0 n ∷ [] = set-append_seam answers n [] (drawn_answer (pcg32 g).0 n) in
+      let more : HasDrawn (at_state g state) (bounds ++ n ∷ []) (answers ++ drawn_answer (pcg32 g).0 n ∷ [])
+      (pcg32 g).1 = drawn_one_more (at_state g state) bounds answers g n drawn in
+      let seam : set (answers ++ n ∷ []) (length answers) (drawn_answer (pcg32 g).0 n)
+      ≡ answers ++ drawn_answer (pcg32 g).0 n ∷ [] = set-append_seam answers n [] (drawn_answer (pcg32 g).0 n) in
       rw (begun, more_bounds, one, place, answered, seam, ap (λ (p : ℕ × Lcg). p.1) stepped) more
 
   pub grown_by_next : (old : SeededAnswers) → record { first = at_state g state; bounds = bounds } ≡ old
-      → seeded_choices (record { first = at_state h state; bounds = bounds_new }) ≡ with_answers (to_z w16 (of_z w16 k) ∷ []) (n ∷ []) (seeded_choices old)
+      → seeded_choices (record { first = at_state h state; bounds = bounds_new })
+      ≡ with_answers (to_z w16 (of_z w16 k) ∷ []) (n ∷ []) (seeded_choices old)
   grown_by_next old view =
       let first : Lcg = at_state g state in
       let x : ℤ = to_z w16 (of_z w16 k) in
@@ -68,5 +74,6 @@ module _ (state : ℕ) (bounds : List ℤ) (answers : Answers) (g : Lcg) (drawn 
       ∙ ap (λ (y : ℤ). drawn_from first bounds ++ y ∷ []) (sym answered) in
       ap (λ (b : Lcg). seeded_choices (record { first = b; bounds = bounds_new })) begun
       ∙ ap (λ (b : List ℤ). seeded_choices (record { first = first; bounds = b })) more_bounds
-      ∙ ap (λ (t : List ℤ). record (seeded_choices (record { first = first; bounds = bounds ++ n ∷ [] })) { taken = t }) grown
+      ∙ ap (λ (t : List ℤ). record (seeded_choices (record { first = first; bounds = bounds ++ n ∷ [] })) { taken = t })
+      grown
       ∙ ap (λ (o : SeededAnswers). with_answers (x ∷ []) (n ∷ []) (seeded_choices o)) view

@@ -2,8 +2,10 @@
 --     done_reader, success_reader, failure_reader      takes no answer
 --     answer_reader                                    takes one
 --     then_reader, then_reader_by                      one reader after the other
---     bind_reader, bind_reader_by, bind_reader_alone           the same for `>>=`; the last where only the first takes answers
---     map_reader                                       a reader with another result, and another value beside its questions
+--     bind_reader, bind_reader_by, bind_reader_alone           the same for `>>=`; the last where only the first takes
+--                                                              answers
+--     map_reader                                       a reader with another result, and another value beside its
+--                                                      questions
 --     wider_reader                                     the same reader with a greater bound
 --     Came, came, whole_is, open_is, closed_is         what an outcome is
 -- Main lemma: `bind_reader`.
@@ -142,7 +144,9 @@ module _ {W : Type 0} (n : ℤ) (w : W) (positive : pos 1 ≤ℤ n) where
 
 -- the second part takes at most `cost x` answers, where x is what the first part gave, and with those of the first
 -- these are `total` at most
-module _ {A B W : Type 0} (m : Answers → Outcome A W) (f : A → Answers → Outcome B W) (p total : ℕ) (cost : A → ℕ) (first : IsReader m p) (room : p ≤ total) (pays : (q rest : Answers) (x : A) → m q ≡ Done x rest → length q + cost x ≤ total + length rest) (second : (x : A) → IsReader (f x) (cost x)) where
+module _ {A B W : Type 0} (m : Answers → Outcome A W) (f : A → Answers → Outcome B W) (p total : ℕ) (cost : A
+    → ℕ) (first : IsReader m p) (room : p ≤ total) (pays : (q rest : Answers) (x : A) → m q ≡ Done x rest
+    → length q + cost x ≤ total + length rest) (second : (x : A) → IsReader (f x) (cost x)) where
   both-done : (q rest : Answers) (x : A) → m q ≡ Done x rest → go_on (m q) f ≡ f x rest
   both-done q rest x e = ap (λ v. go_on v f) e
 
@@ -186,7 +190,8 @@ module _ {A B W : Type 0} (m : Answers → Outcome A W) (f : A → Answers → O
       by_cases (Gave y s h) =
           rw (both-done (q ++ k ∷ []) (s ++ k ∷ []) y (first.done q (k ∷ []) s y h))
           ((second y).inside s n k w (sym (both-done q s y h) ∙ e) i)
-      by_cases (Asked j v h) = let t : Asks n w ≡ Asks j v = sym e ∙ both-asks q j v h in let same : n ≡ j = cc in both_open (q ++ k ∷ []) (first.inside q j k v h (rw same at i))
+      by_cases (Asked j v h) = let t : Asks n w ≡ Asks j v = sym e ∙ both-asks q j v h in let same : n ≡ j = cc in
+          both_open (q ++ k ∷ []) (first.inside q j k v h (rw same at i))
       by_cases (Refused j v h) = let t = both-out q j v h in absurd cc
 
   both_outside : (q : Answers) (n k : ℤ) (w : W) → go_on (m q) f ≡ Asks n w → is_answer n k ≡ false
@@ -197,7 +202,8 @@ module _ {A B W : Type 0} (m : Answers → Outcome A W) (f : A → Answers → O
       by_cases (Gave y s h) =
           both-done (q ++ k ∷ []) (s ++ k ∷ []) y (first.done q (k ∷ []) s y h)
           ∙ (second y).outside s n k w (sym (both-done q s y h) ∙ e) o
-      by_cases (Asked j v h) = let t : Asks n w ≡ Asks j v = sym e ∙ both-asks q j v h in let same : n ≡ j = cc in both-out (q ++ k ∷ []) j v (first.outside q j k v h (rw same at o)) ∙ cc
+      by_cases (Asked j v h) = let t : Asks n w ≡ Asks j v = sym e ∙ both-asks q j v h in let same : n ≡ j = cc in
+          both-out (q ++ k ∷ []) j v (first.outside q j k v h (rw same at o)) ∙ cc
       by_cases (Refused j v h) = let t = both-out q j v h in absurd cc
 
   both_positive : (q : Answers) (n : ℤ) (w : W) → go_on (m q) f ≡ Asks n w → pos 1 ≤ℤ n
@@ -205,14 +211,16 @@ module _ {A B W : Type 0} (m : Answers → Outcome A W) (f : A → Answers → O
     where
       by_cases : Came (m q) → pos 1 ≤ℤ n
       by_cases (Gave y s h) = (second y).positive s n w (sym (both-done q s y h) ∙ e)
-      by_cases (Asked j v h) = let t : Asks n w ≡ Asks j v = sym e ∙ both-asks q j v h in let same : n ≡ j = cc in rw same (first.positive q j v h)
+      by_cases (Asked j v h) = let t : Asks n w ≡ Asks j v = sym e ∙ both-asks q j v h in let same : n ≡ j = cc in
+          rw same (first.positive q j v h)
       by_cases (Refused j v h) = let t = both-out q j v h in absurd cc
 
   both_few : (q : Answers) (n : ℤ) (w : W) → go_on (m q) f ≡ Asks n w → length q < total
   both_few q n w e = by_cases (came (m q))
     where
       by_cases : Came (m q) → length q < total
-      by_cases (Gave y s h) = let l = (second y).few s n w (sym (both-done q s y h) ∙ e) in let u = pays q s y h in omega arith
+      by_cases (Gave y s h) = let l = (second y).few s n w (sym (both-done q s y h) ∙ e) in let u = pays q s y h in
+          omega arith
       by_cases (Asked j v h) = let l = first.few q j v h in omega arith
       by_cases (Refused j v h) = let t = both-out q j v h in absurd cc
 
@@ -220,18 +228,29 @@ module _ {A B W : Type 0} (m : Answers → Outcome A W) (f : A → Answers → O
   both_spends q rest x e = by_cases (came (m q))
     where
       by_cases : Came (m q) → length q ≤ total + length rest
-      by_cases (Gave y s h) = let l = (second y).spends s rest x (sym (both-done q s y h) ∙ e) in let u = pays q s y h in omega arith
+      by_cases (Gave y s h) = let l = (second y).spends s rest x (sym (both-done q s y h) ∙ e) in
+          let u = pays q s y h in omega arith
       by_cases (Asked j v h) = let t = both-asks q j v h in absurd cc
       by_cases (Refused j v h) = let t = both-out q j v h in absurd cc
 
   pub then_reader_by : IsReader (λ a. go_on (m a) f) total
-  then_reader_by = record { begins = both_open [] first.begins; done = both_done; out = both_out; inside = both_inside; outside = both_outside; positive = both_positive; few = both_few; spends = both_spends }
+  then_reader_by = record {
+    begins = both_open [] first.begins;
+    done = both_done;
+    out = both_out;
+    inside = both_inside;
+    outside = both_outside;
+    positive = both_positive;
+    few = both_few;
+    spends = both_spends;
+  }
 
 -- the same where each second part takes as many answers at most
 pub then_reader : {A B W : Type 0} (m : Answers → Outcome A W) (f : A → Answers → Outcome B W) (p r : ℕ) → IsReader m p
     → ((x : A) → IsReader (f x) r) → IsReader (λ a. go_on (m a) f) (p + r)
 then_reader m f p r first each =
-    then_reader_by m f p (p + r) (λ _. r) first (omega arith) (λ q rest x e. let u = first.spends q rest x e in omega arith) each
+    then_reader_by m f p (p + r) (λ _. r) first (omega arith) (λ q rest x e. let u = first.spends q rest x e in
+    omega arith) each
 
 -- ---- values and errors
 
@@ -262,18 +281,22 @@ module _ {A B E W : Type 0} (f : A → Answers → Outcome (Result B E) W) where
   pub bind_reader : (m : Answers → Outcome (Result A E) W) (p r : ℕ) → IsReader m p → ((x : A) → IsReader (f x) r)
       → IsReader (m >>= f) (p + r)
   bind_reader m p r first each =
-      bind_reader_by m p (p + r) (λ _. r) first (omega arith) (λ q rest x e. let u = first.spends q rest (Ok x) e in omega arith) each
+      bind_reader_by m p (p + r) (λ _. r) first (omega arith) (λ q rest x e. let u = first.spends q rest (Ok x) e in
+      omega arith) each
 
   -- what follows takes no answer
   pub bind_reader_alone : (m : Answers → Outcome (Result A E) W) (p : ℕ) → IsReader m p → ((x : A) → IsReader (f x) 0)
       → IsReader (m >>= f) p
   bind_reader_alone m p first each =
-      bind_reader_by m p p (λ _. 0) first (omega arith) (λ q rest x e. let u = first.spends q rest (Ok x) e in omega arith) each
+      bind_reader_by m p p (λ _. 0) first (omega arith) (λ q rest x e. let u = first.spends q rest (Ok x) e in
+      omega arith) each
 
 -- ---- other results
 
 -- h gives a result and what stands beside a question another form, each by a function, and leaves answers and bounds
-module _ {A B V W : Type 0} (h : Outcome A V → Outcome B W) (f : A → B) (g : V → W) (h-done : (x : A) (rest : Answers) → h (Done x rest) ≡ Done (f x) rest) (h-asks : (n : ℤ) (v : V) → h (Asks n v) ≡ Asks n (g v)) (h-out : (n : ℤ) (v : V) → h (Out n v) ≡ Out n (g v)) where
+module _ {A B V W : Type 0} (h : Outcome A V → Outcome B W) (f : A → B) (g : V
+    → W) (h-done : (x : A) (rest : Answers) → h (Done x rest) ≡ Done (f x) rest) (h-asks : (n : ℤ) (v : V)
+    → h (Asks n v) ≡ Asks n (g v)) (h-out : (n : ℤ) (v : V) → h (Out n v) ≡ Out n (g v)) where
   -- what h made, it made of the same
   from_done : (u : Outcome A V) (y : B) (rest : Answers) → h u ≡ Done y rest → (x : A) × (u ≡ Done x rest) × (f x ≡ y)
   from_done (Done x s) y rest e = let d = h-done x s in let r : s ≡ rest = cc in (x, ap (Done x) r, cc)
@@ -299,10 +322,12 @@ module _ {A B V W : Type 0} (h : Outcome A V → Outcome B W) (f : A → B) (g :
   pub map_reader : (m : Answers → Outcome A V) (most : ℕ) → IsReader m most → IsReader (λ a. h (m a)) most
   map_reader m most r = record {
     begins = still_open (m []) r.begins;
-    done = λ q b rest y e. let d = from_done (m q) y rest e in ap h (r.done q b rest d.0 d.1) ∙ h-done d.0 (rest ++ b) ∙ ap (λ z. Done z (rest ++ b)) d.2;
+    done = λ q b rest y e. let d = from_done (m q) y rest e in
+        ap h (r.done q b rest d.0 d.1) ∙ h-done d.0 (rest ++ b) ∙ ap (λ z. Done z (rest ++ b)) d.2;
     out = λ q b n w e. let d = from_out (m q) n w e in ap h (r.out q b n d.0 d.1) ∙ h-out n d.0 ∙ ap (Out n) d.2;
     inside = λ q n k w e i. let d = from_asks (m q) n w e in still_open (m (q ++ k ∷ [])) (r.inside q n k d.0 d.1 i);
-    outside = λ q n k w e o. let d = from_asks (m q) n w e in ap h (r.outside q n k d.0 d.1 o) ∙ h-out n d.0 ∙ ap (Out n) d.2;
+    outside = λ q n k w e o. let d = from_asks (m q) n w e in
+        ap h (r.outside q n k d.0 d.1 o) ∙ h-out n d.0 ∙ ap (Out n) d.2;
     positive = λ q n w e. let d = from_asks (m q) n w e in r.positive q n d.0 d.1;
     few = λ q n w e. let d = from_asks (m q) n w e in r.few q n d.0 d.1;
     spends = λ q rest y e. let d = from_done (m q) y rest e in r.spends q rest d.0 d.1;

@@ -10,7 +10,8 @@ use Rattle.ptb_answers.specs.Seeds.{generator_after, seeded_choices}
 
 -- a word for one question more
 drawn_push : (g : Lcg) (bounds : List ℤ) (n : ℤ)
-    → drawn_from g (bounds ++ n ∷ []) ≡ drawn_from g bounds ++ drawn_answer (pcg32 (generator_after g (length bounds))).0 n ∷ []
+    → drawn_from g (bounds ++ n ∷ []) ≡ drawn_from g bounds ++ drawn_answer
+    (pcg32 (generator_after g (length bounds))).0 n ∷ []
 drawn_push g [] n = refl
 drawn_push g (m ∷ bounds) n = ap (λ l. drawn_answer (pcg32 g).0 m ∷ l) (drawn_push (pcg32 g).1 bounds n)
 

@@ -3,7 +3,8 @@
 --     with_answers ts bs c          the same after more answers with these bounds
 --     AnswerList, choices_of l      a list of answers, of which some were given, and what it holds as a chooser
 --     RefusedByList                 why it refuses one
---     Reaches f c d g               between c and d answers were given, and what f was is what g is for all later answers
+--     Reaches f c d g               between c and d answers were given, and what f was is what g is for all later
+--                                   answers
 --     Pauses refused f c d z        f came to a question that the chooser refused
 use Rattle.std.specs.Prelude.{◌≡◌, ℕ, false, List, [], ◌∷◌, ◌++◌, length, take, Option, Some, None}
 use Rattle.std.specs.Prelude.{option_map, slice_get, ℤ}
@@ -72,7 +73,8 @@ SaysOut g n w (OutOfRange k) = (later : Answers) → g (k ∷ later) ≡ Out n w
 SaysOut g n w Memory = Unit {0}
 
 -- f came to a question that the chooser refused
-pub record Pauses {A W : Type 0} (refused : Pause → ℤ → Type 0) (f : Answers → Outcome A W) (c d : Choices) (z : Pause) : Type 0 where
+pub record Pauses {A W : Type 0} (refused : Pause → ℤ → Type 0) (f : Answers
+    → Outcome A W) (c d : Choices) (z : Pause) : Type 0 where
   pub left : Answers → Outcome A W
   pub bound : ℤ
   pub beside : W

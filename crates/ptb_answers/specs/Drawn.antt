@@ -1,5 +1,6 @@
 -- This file defines the runs whose answers are drawn from the words of a generator.
---     IsDrawnFrom g f a     a is a run of f, and each of its answers is drawn from the next word of g for the bound of its question
+--     IsDrawnFrom g f a     a is a run of f, and each of its answers is drawn from the next word of g for the bound of
+--                           its question
 --     answers_by most g f   what a generator draws for the questions of f, one after the other
 --     sampled_runs most f g n   the first n runs that a generator draws, one after the other
 use Rattle.std.specs.Prelude.{◌≡◌, true, ℕ, zero, suc, List, [], ◌∷◌, length, ℤ}

@@ -1,5 +1,6 @@
 -- This file defines what working something out comes to where answers are taken from a list, one by one.
---     Outcome A W              a result and the answers left, a question without an answer, or an answer outside its bound
+--     Outcome A W              a result and the answers left, a question without an answer, or an answer outside its
+--                              bound
 --     go_on o next             goes on with a result; a question or an outside answer stays what it is
 --     map_outcome f g o        the same with another result, and with another thing beside a question
 --     answer n w               takes an answer from 1 to n
@@ -39,7 +40,8 @@ unless_error next (Ok x) rest = next x rest
 unless_error next (Err e) rest = Done (Err e) rest
 
 infixl 10 ◌>>=◌
-abbrev pub ◌>>=◌ : {A B E W : Type 0} → (Answers → Outcome (Result A E) W) → (A → Answers → Outcome (Result B E) W) → Answers → Outcome (Result B E) W
+abbrev pub ◌>>=◌ : {A B E W : Type 0} → (Answers → Outcome (Result A E) W) → (A → Answers → Outcome (Result B E) W)
+    → Answers → Outcome (Result B E) W
 m >>= next = λ a. go_on (m a) (unless_error next)
 
 -- no answer is taken

@@ -2,9 +2,11 @@
 --     generator_of seed            the generator that begins with a seed
 --     generator_after g n          the generator g after n words
 --     drawn_answer word n          the answer to a question with bound n, by a word of a generator
---     drawn_from g bounds          the answers to questions with these bounds, the first by the next word of g, and so on
+--     drawn_from g bounds          the answers to questions with these bounds, the first by the next word of g, and so
+--                                  on
 --     drawn_answers seed bounds    the same by the words of the generator that begins with a seed
---     SeededAnswers                the generator before some answers, and the bounds of the questions that were answered by it
+--     SeededAnswers                the generator before some answers, and the bounds of the questions that were
+--                                  answered by it
 use Rattle.std.specs.Prelude.{◌≡◌, ℕ, zero, suc, ◌+◌, ◌%◌, List, [], ◌∷◌, length, Some, ℤ, pos, negsuc}
 use Rattle.rand_pcg.specs.Lcg.{Lcg, started, increment_of}
 use Rattle.rand_pcg.specs.Pcg.{multiplier_64, pcg32}
@@ -53,7 +55,11 @@ pub record SeededAnswers : Type 0 where
 
 -- its plan is the generator; what it has answered is drawn for the bounds that it keeps
 abbrev pub seeded_choices : SeededAnswers → Choices
-seeded_choices s = record { plan = pos s.first.state ∷ pos s.first.increment ∷ []; taken = drawn_from s.first s.bounds; kept = Some s.bounds }
+seeded_choices s = record {
+  plan = pos s.first.state ∷ pos s.first.increment ∷ [];
+  taken = drawn_from s.first s.bounds;
+  kept = Some s.bounds;
+}
 
 -- it refuses an answer for want of memory alone
 abbrev pub RefusedForMemory : Pause → ℤ → Type 0

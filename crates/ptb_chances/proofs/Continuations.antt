@@ -1,6 +1,7 @@
 -- This file proves what comes of a play that goes on where another has come to.
 -- Main lemmas: `gone_on` and `gone_over`.
-use Rattle.std.proofs.Common.{◌≡◌, ℕ, zero, suc, List, [], ◌++◌, take, length, refl, sym, ap, subst, ◌∙◌, true, append-nil}
+use Rattle.std.proofs.Common.{◌≡◌, ℕ, zero, suc, List, [], ◌++◌, take, length, refl, sym, ap, subst}
+use Rattle.std.proofs.Common.{◌∙◌, true, append-nil}
 use Rattle.ptb_text.specs.Statements.{StoredProgram}
 use Rattle.ptb_answers.specs.Outcome.{Answers, is_open}
 use Rattle.ptb_answers.specs.declared.rules.Rules.{Rules}
@@ -21,15 +22,23 @@ none_taken n b none = ap (take n) none ∙ by n
     by zero = refl
     by (suc n) = refl
 
-module _ (p : StoredProgram) (rules : Rules) (S : State) (a : Answers) (m : Configuration) (left : List (List ℕ)) (shown : List ℕ) (u : Came p rules S a m left shown) where
-  came_later : (n : Configuration) (rest : List (List ℕ)) (text : List ℕ) → Came p rules u.state [] n rest text → Came p rules S a n rest text
-  came_later n rest text x = record { state = x.state; stands = x.stands; reached = λ later. u.reached later ∙ x.reached later }
+module _ (p : StoredProgram) (rules : Rules) (S : State) (a : Answers) (m : Configuration) (left : List (List ℕ))
+    (shown : List ℕ) (u : Came p rules S a m left shown) where
+  came_later : (n : Configuration) (rest : List (List ℕ)) (text : List ℕ) → Came p rules u.state [] n rest text
+      → Came p rules S a n rest text
+  came_later n rest text x = record {
+    state = x.state;
+    stands = x.stands;
+    reached = λ later. u.reached later ∙ x.reached later;
+  }
 
-  over_later : (b none : Answers) (e : Ending) (text : List ℕ) → b ≡ a → none ≡ [] → IsOver p rules u.state none e text → IsOver p rules S b e text
+  over_later : (b none : Answers) (e : Ending) (text : List ℕ) → b ≡ a → none ≡ [] → IsOver p rules u.state none e text
+      → IsOver p rules S b e text
   over_later b none e text same empty o = record {
     finish = o.finish;
     outcome = λ later.
-        ap (λ c. run_from p rules S (c ++ later)) same ∙ u.reached later ∙ ap (λ c. run_from p rules u.state (c ++ later)) (sym empty) ∙ o.outcome later;
+        ap (λ c. run_from p rules S (c ++ later)) same ∙ u.reached later
+        ∙ ap (λ c. run_from p rules u.state (c ++ later)) (sym empty) ∙ o.outcome later;
     ending_is = o.ending_is;
     line_is = o.line_is;
   }
@@ -52,61 +61,87 @@ module _ (p : StoredProgram) (rules : Rules) (S : State) (a : Answers) (m : Conf
 
 -- ---- by other names
 
-came_named : (q p : StoredProgram) (r rules : Rules) (S : State) (a b : Answers) (m n : Configuration) (left now : List (List ℕ)) (shown text : List ℕ) → q ≡ p → r ≡ rules → a ≡ b → m ≡ n → left ≡ now → shown ≡ text
+came_named : (q p : StoredProgram) (r rules : Rules) (S : State) (a b : Answers) (m n : Configuration)
+    (left now : List (List ℕ)) (shown text : List ℕ)
+    → q ≡ p → r ≡ rules → a ≡ b → m ≡ n → left ≡ now → shown ≡ text
     → Came q r S a m left shown → Came p rules S b n now text
 came_named q p r rules S a b m n left now shown text program by answers machine lines_are text_is x =
     subst (λ (z : StoredProgram). Came z rules S b n now text) program
     (subst (λ (z : Rules). Came q z S b n now text) by
     (subst (λ (z : Answers). Came q r S z n now text) answers
     (subst (λ (z : Configuration). Came q r S a z now text) machine
-    (subst (λ (z : List (List ℕ)). Came q r S a m z text) lines_are (subst (λ (z : List ℕ). Came q r S a m left z) text_is x)))))
+    (subst (λ (z : List (List ℕ)). Came q r S a m z text) lines_are
+    (subst (λ (z : List ℕ). Came q r S a m left z) text_is x)))))
 
-over_named : (q p : StoredProgram) (r rules : Rules) (S : State) (a : Answers) (e : Ending) (text : List ℕ) → q ≡ p → r ≡ rules → IsOver q r S a e text → IsOver p rules S a e text
-over_named q p r rules S a e text program by x = subst (λ (z : StoredProgram). IsOver z rules S a e text) program (subst (λ (z : Rules). IsOver q z S a e text) by x)
+over_named : (q p : StoredProgram) (r rules : Rules) (S : State) (a : Answers) (e : Ending) (text : List ℕ) → q ≡ p
+    → r ≡ rules → IsOver q r S a e text → IsOver p rules S a e text
+over_named q p r rules S a e text program by x =
+    subst (λ (z : StoredProgram). IsOver z rules S a e text) program (subst (λ (z : Rules). IsOver q z S a e text) by x)
 
 -- ---- one command more, where nothing was asked before
 
-module _ (laws : RunLaws) (p q : StoredProgram) (rules r : Rules) (program : q ≡ p) (by : r ≡ rules) (S : State) (m new : Configuration) (n : ℕ) (left now : List (List ℕ)) (lines_are : now ≡ left) (shown text : List ℕ) (text_is : text ≡ shown)
+module _ (laws : RunLaws) (p q : StoredProgram) (rules r : Rules) (program : q ≡ p) (by : r ≡ rules) (S : State)
+    (m new : Configuration) (n : ℕ) (left now : List (List ℕ)) (lines_are : now ≡ left) (shown text : List ℕ)
+    (text_is : text ≡ shown)
     (u : Came p rules S [] m left shown) (turns : QuietTurns q r.limit n m new) where
   -- the commands that ask nothing are done
   pub gone : Came q r S [] new now text
   gone =
       came_named q q r r S [] [] new new left now shown text refl refl refl refl (sym lines_are) (sym text_is)
-      (advanced laws q r q n S m new [] shown left refl (came_named p q rules r S [] [] m m left left shown shown (sym program) (sym by) refl refl refl refl u) turns)
+      (advanced laws q r q n S m new [] shown left refl (came_named p q rules r S [] [] m m left left shown shown
+      (sym program) (sym by) refl refl refl refl u) turns)
 
-  pub gone_opens : (b : Answers) → b ≡ [] → is_open (run_from p rules S []) ≡ true → is_open (run_from q r gone.state b) ≡ true
+  pub gone_opens : (b : Answers) → b ≡ [] → is_open (run_from p rules S []) ≡ true
+      → is_open (run_from q r gone.state b) ≡ true
   gone_opens b none opens =
-      let there : is_open (run_from q r S []) ≡ true = subst (λ (z : StoredProgram). is_open (run_from z r S []) ≡ true) (sym program) (subst (λ (z : Rules). is_open (run_from p z S []) ≡ true) (sym by) opens) in
-      subst (λ (z : Answers). is_open (run_from q r gone.state z) ≡ true) (sym none) (opens_later q r S [] new now text gone there)
+      let there : is_open (run_from q r S []) ≡ true = subst (λ (z : StoredProgram). is_open (run_from z r S []) ≡ true)
+      (sym program) (subst (λ (z : Rules). is_open (run_from p z S []) ≡ true) (sym by) opens) in
+      subst (λ (z : Answers). is_open (run_from q r gone.state z) ≡ true) (sym none)
+      (opens_later q r S [] new now text gone there)
 
   -- it is noted where the run stands
-  pub gone_waits : (k : Configuration) (rest : List (List ℕ)) (end : List ℕ) → k ≡ new → now ≡ rest → SameEnd text end → Came p rules S [] k rest end
+  pub gone_waits : (k : Configuration) (rest : List (List ℕ)) (end : List ℕ) → k ≡ new → now ≡ rest → SameEnd text end
+      → Came p rules S [] k rest end
   gone_waits k rest end same rest_is ended =
-      came_named q p r rules S [] [] new k now rest end end program by refl (sym same) rest_is refl (came_ended q r S [] new now text gone end ended)
+      came_named q p r rules S [] [] new k now rest end end program by refl (sym same) rest_is refl
+      (came_ended q r S [] new now text gone end ended)
 
   -- then one is done
-  pub gone_on : (b : Answers) (k : Configuration) (rest rest2 : List (List ℕ)) (more : List ℕ) → b ≡ [] → rest ≡ rest2 → Came q r gone.state b k rest more → Came p rules S [] k rest2 more
+  pub gone_on : (b : Answers) (k : Configuration) (rest rest2 : List (List ℕ)) (more : List ℕ) → b ≡ [] → rest ≡ rest2
+      → Came q r gone.state b k rest more → Came p rules S [] k rest2 more
   gone_on b k rest rest2 more none rest_is x =
       let y : Came q r gone.state [] k rest more = subst (λ (z : Answers). Came q r gone.state z k rest more) none x in
-      came_named q p r rules S [] [] k k rest rest2 more more program by refl refl rest_is refl (came_later q r S [] new now text gone k rest more y)
+      came_named q p r rules S [] [] k k rest rest2 more more program by refl refl rest_is refl
+      (came_later q r S [] new now text gone k rest more y)
 
-  pub gone_over : (b : Answers) (g : ℕ) (e : Ending) (more : List ℕ) → b ≡ [] → IsOver q r gone.state (take g b) e more → IsOver p rules S [] e more
-  gone_over b g e more none x = over_named q p r rules S [] e more program by (over_later q r S [] new now text gone [] (take g b) e more refl (none_taken g b none) x)
+  pub gone_over : (b : Answers) (g : ℕ) (e : Ending) (more : List ℕ) → b ≡ [] → IsOver q r gone.state (take g b) e more
+      → IsOver p rules S [] e more
+  gone_over b g e more none x = over_named q p r rules S [] e more program by
+      (over_later q r S [] new now text gone [] (take g b) e more refl (none_taken g b none) x)
 
 -- ---- what is after a plan
 
-module _ (p q : StoredProgram) (rules r : Rules) (program : q ≡ p) (by : r ≡ rules) (S : State) (a : Answers) (m : Configuration) (left now : List (List ℕ)) (lines_are : now ≡ left) (shown : List ℕ) (u : Came p rules S a m left shown) where
+module _ (p q : StoredProgram) (rules r : Rules) (program : q ≡ p) (by : r ≡ rules) (S : State)
+    (a : Answers) (m : Configuration) (left now : List (List ℕ)) (lines_are : now ≡ left) (shown : List ℕ)
+    (u : Came p rules S a m left shown) where
   pub named : Came q r S a m now shown
   named = came_named p q rules r S a a m m left now shown shown (sym program) (sym by) refl refl (sym lines_are) refl u
 
   pub plan_opens : is_open (run_from p rules S a) ≡ true → is_open (run_from q r named.state []) ≡ true
-  plan_opens opens = opens_later q r S a m now shown named (subst (λ (z : StoredProgram). is_open (run_from z r S a) ≡ true) (sym program) (subst (λ (z : Rules). is_open (run_from p z S a) ≡ true) (sym by) opens))
+  plan_opens opens = opens_later q r S a m now shown named (subst (λ (z : StoredProgram). is_open (run_from z r S a)
+      ≡ true) (sym program) (subst (λ (z : Rules). is_open (run_from p z S a) ≡ true) (sym by) opens))
 
-  pub plan_over : (e : Ending) (more : List ℕ) → IsOver q r named.state [] e more → IsOver p rules S (take (length a) a) e more
-  plan_over e more x = over_named q p r rules S (take (length a) a) e more program by (over_later q r S a m now shown named (take (length a) a) [] e more (whole a) refl x)
+  pub plan_over : (e : Ending) (more : List ℕ) → IsOver q r named.state [] e more
+      → IsOver p rules S (take (length a) a) e more
+  plan_over e more x = over_named q p r rules S (take (length a) a) e more program by
+      (over_later q r S a m now shown named (take (length a) a) [] e more (whole a) refl x)
 
-  pub plan_waits : (k : Configuration) (rest rest2 : List (List ℕ)) (end : List ℕ) → rest ≡ rest2 → Came q r named.state [] k rest end → Came p rules S a k rest2 end
-  plan_waits k rest rest2 end rest_is x = came_named q p r rules S a a k k rest rest2 end end program by refl refl rest_is refl (came_later q r S a m now shown named k rest end x)
+  pub plan_waits : (k : Configuration) (rest rest2 : List (List ℕ)) (end : List ℕ) → rest ≡ rest2
+      → Came q r named.state [] k rest end → Came p rules S a k rest2 end
+  plan_waits k rest rest2 end rest_is x = came_named q p r rules S a a k k rest rest2 end end program by refl refl
+      rest_is refl (came_later q r S a m now shown named k rest end x)
 
-pub turns_named : (q p : StoredProgram) (r rules : Rules) (n : ℕ) (m new : Configuration) → q ≡ p → r ≡ rules → QuietTurns q r.limit n m new → QuietTurns p rules.limit n m new
-turns_named q p r rules n m new program by x = subst (λ (z : StoredProgram). QuietTurns z rules.limit n m new) program (subst (λ (z : Rules). QuietTurns q z.limit n m new) by x)
+pub turns_named : (q p : StoredProgram) (r rules : Rules) (n : ℕ) (m new : Configuration) → q ≡ p → r ≡ rules
+    → QuietTurns q r.limit n m new → QuietTurns p rules.limit n m new
+turns_named q p r rules n m new program by x = subst (λ (z : StoredProgram). QuietTurns z rules.limit n m new) program
+    (subst (λ (z : Rules). QuietTurns q z.limit n m new) by x)

@@ -21,20 +21,26 @@ module _ (f : Ratio) (some : 0 < f.denominator) where
 
   lowest_low : IsLowest (lowest f)
   lowest_low =
-      coprime_quotients f.numerator f.denominator (gcd f.numerator f.denominator) (f.numerator / gcd f.numerator f.denominator) (f.denominator / gcd f.numerator f.denominator)
+      coprime_quotients f.numerator f.denominator (gcd f.numerator f.denominator)
+      (f.numerator / gcd f.numerator f.denominator) (f.denominator / gcd f.numerator f.denominator)
       (gcd_is f.numerator f.denominator) (pos_of_dvd_of_pos ((gcd_is f.numerator f.denominator).1) some) upper lower
 
   pub lowest_positive : 0 < (lowest f).denominator
-  lowest_positive = factor_positive f.denominator (gcd f.numerator f.denominator) (f.denominator / gcd f.numerator f.denominator) lower some
+  lowest_positive = factor_positive f.denominator (gcd f.numerator f.denominator)
+      (f.denominator / gcd f.numerator f.denominator) lower some
 
   pub lowest_equal : Equals (lowest f) f
   lowest_equal =
-      let first : (f.numerator / gcd f.numerator f.denominator) * f.denominator ≡ (f.numerator / gcd f.numerator f.denominator) * (gcd f.numerator f.denominator * (f.denominator / gcd f.numerator f.denominator)) =
+      let first : (f.numerator / gcd f.numerator f.denominator) * f.denominator ≡ (f.numerator / gcd f.numerator
+      f.denominator) * (gcd f.numerator f.denominator * (f.denominator / gcd f.numerator f.denominator)) =
       ap (λ n. (f.numerator / gcd f.numerator f.denominator) * n) lower in
-      let second : f.numerator * (f.denominator / gcd f.numerator f.denominator) ≡ (gcd f.numerator f.denominator * (f.numerator / gcd f.numerator f.denominator)) * (f.denominator / gcd f.numerator f.denominator) =
+      let second : f.numerator * (f.denominator / gcd f.numerator f.denominator) ≡ (gcd f.numerator f.denominator
+      * (f.numerator / gcd f.numerator f.denominator)) * (f.denominator / gcd f.numerator f.denominator) =
       ap (λ n. n * (f.denominator / gcd f.numerator f.denominator)) upper in
-      let goal : (f.numerator / gcd f.numerator f.denominator) * f.denominator ≡ f.numerator * (f.denominator / gcd f.numerator f.denominator) = omega (arith, first, second) in
+      let goal : (f.numerator / gcd f.numerator f.denominator) * f.denominator
+      ≡ f.numerator * (f.denominator / gcd f.numerator f.denominator) = omega (arith, first, second) in
       goal
 
 pub lowest_same : (f g : Ratio) → 0 < f.denominator → 0 < g.denominator → Equals f g → lowest f ≡ lowest g
-lowest_same f g first second same = lowest_is g (lowest f) second (lowest_low f first) (equals_then (lowest f) f g first (lowest_equal f first) same)
+lowest_same f g first second same =
+    lowest_is g (lowest f) second (lowest_low f first) (equals_then (lowest f) f g first (lowest_equal f first) same)

@@ -17,7 +17,8 @@ use Rattle.ptb_chances.specs.Order.{result_order_total}
 -- ---- what is equal in the order is the same
 
 ending_at : ℕ → Ending
-ending_at n = get_or (endings.End ∷ endings.Stop ∷ endings.What ∷ endings.How ∷ endings.Sorry ∷ endings.Limit ∷ endings.NoInput ∷ endings.NoAnswer ∷ []) n endings.BadAnswer
+ending_at n = get_or (endings.End ∷ endings.Stop ∷ endings.What ∷ endings.How ∷ endings.Sorry ∷ endings.Limit
+    ∷ endings.NoInput ∷ endings.NoAnswer ∷ []) n endings.BadAnswer
 
 ending_back : (e : Ending) → ending_at (rank e) ≡ e
 unfolding ending_at
@@ -39,13 +40,15 @@ both_equal Less p h = absurd cc
 both_equal Equal p h = (refl, h)
 both_equal Greater p h = absurd cc
 
-parts_same : (e f : Ending) (l m : List ℕ) → e ≡ f → l ≡ m → ◌≡◌ {A = RunResult} (record { ending = e; line = l }) (record { ending = f; line = m })
+parts_same : (e f : Ending) (l m : List ℕ) → e ≡ f → l ≡ m
+    → ◌≡◌ {A = RunResult} (record { ending = e; line = l }) (record { ending = f; line = m })
 parts_same e f l m first second = rw (first, second) refl
 
 pub result_exact : (r s : RunResult) → result_order r s ≡ Equal → r ≡ s
 result_exact r s h =
     let parts = both_equal (nat_cmp (rank r.ending) (rank s.ending)) (slice_cmp nat_cmp r.line s.line) h in
-    parts_same r.ending s.ending r.line s.line (rank_exact r.ending s.ending (exact_unsigned (rank r.ending) (rank s.ending) parts.0)) (exact_bytes r.line s.line parts.1)
+    parts_same r.ending s.ending r.line s.line (rank_exact r.ending s.ending
+    (exact_unsigned (rank r.ending) (rank s.ending) parts.0)) (exact_bytes r.line s.line parts.1)
 
 -- ---- the order from both sides
 
@@ -82,12 +85,17 @@ pub has_with : (q r : RunResult) (ks : List RunResult) → has q (with_result r 
 has_with q r [] = refl
 has_with q r (s ∷ rest) = by_order (has_with q r rest) (result_order r s) refl
   where
-    by_order : has q (with_result r rest) ≡ is_eq (result_order q r) || has q rest → (o : Ordering) → result_order r s ≡ o → has q (placed o r s rest (with_result r rest)) ≡ is_eq (result_order q r) || (is_eq (result_order q s) || has q rest)
+    by_order : has q (with_result r rest) ≡ is_eq (result_order q r) || has q rest → (o : Ordering)
+        → result_order r s ≡ o
+        → has q (placed o r s rest (with_result r rest))
+        ≡ is_eq (result_order q r) || (is_eq (result_order q s) || has q rest)
     by_order later Less h = refl
     by_order later Equal h =
-        let same : is_eq (result_order q s) ≡ is_eq (result_order q r) = ap (λ x. is_eq (result_order q x)) (sym (result_exact r s h)) in
+        let same : is_eq (result_order q s) ≡ is_eq (result_order q r) =
+        ap (λ x. is_eq (result_order q x)) (sym (result_exact r s h)) in
         or_twice (is_eq (result_order q s)) (has q rest) ∙ ap (λ b. b || (is_eq (result_order q s) || has q rest)) same
-    by_order later Greater h = ap (λ b. is_eq (result_order q s) || b) later ∙ or_turned (is_eq (result_order q s)) (is_eq (result_order q r)) (has q rest)
+    by_order later Greater h = ap (λ b. is_eq (result_order q s) || b) later
+        ∙ or_turned (is_eq (result_order q s)) (is_eq (result_order q r)) (has q rest)
 
 pub has_results : (q : RunResult) (rs : List RunResult) → has q (results rs) ≡ has q rs
 has_results q [] = refl
@@ -95,20 +103,25 @@ has_results q (r ∷ rs) = has_with q r (results rs) ∙ ap (λ b. is_eq (result
 
 -- ---- they rise
 
-all_then : (P Q : RunResult → Type 0) → ((k : RunResult) → P k → Q k) → (ks : List RunResult) → AllByRecursion P ks → AllByRecursion Q ks
+all_then : (P Q : RunResult → Type 0) → ((k : RunResult) → P k → Q k) → (ks : List RunResult) → AllByRecursion P ks
+    → AllByRecursion Q ks
 all_then P Q f [] h = tt
 all_then P Q f (k ∷ ks) h = (f k h.0, all_then P Q f ks h.1)
 
-less_with : (s r : RunResult) (ks : List RunResult) → result_order s r ≡ Less → AllByRecursion (λ y. result_order s y ≡ Less) ks → AllByRecursion (λ y. result_order s y ≡ Less) (with_result r ks)
+less_with : (s r : RunResult) (ks : List RunResult) → result_order s r ≡ Less
+    → AllByRecursion (λ y. result_order s y ≡ Less) ks
+    → AllByRecursion (λ y. result_order s y ≡ Less) (with_result r ks)
 less_with s r [] h all = (h, tt)
 less_with s r (k ∷ ks) h all = by_order (less_with s r ks h all.1) (result_order r k)
   where
-    by_order : AllByRecursion (λ y. result_order s y ≡ Less) (with_result r ks) → (o : Ordering) → AllByRecursion (λ y. result_order s y ≡ Less) (placed o r k ks (with_result r ks))
+    by_order : AllByRecursion (λ y. result_order s y ≡ Less) (with_result r ks) → (o : Ordering)
+        → AllByRecursion (λ y. result_order s y ≡ Less) (placed o r k ks (with_result r ks))
     by_order later Less = (h, all)
     by_order later Equal = all
     by_order later Greater = (all.0, later)
 
-sorted_cons : (k : RunResult) (ks : List RunResult) → AllByRecursion (λ y. result_order k y ≡ Less) ks → IsStrictlySortedBy result_order ks → IsStrictlySortedBy result_order (k ∷ ks)
+sorted_cons : (k : RunResult) (ks : List RunResult) → AllByRecursion (λ y. result_order k y ≡ Less) ks
+    → IsStrictlySortedBy result_order ks → IsStrictlySortedBy result_order (k ∷ ks)
 unfolding IsStrictlySortedBy
 sorted_cons k ks h rest = (h, rest)
 
@@ -116,15 +129,21 @@ sorted_nil : IsStrictlySortedBy result_order []
 unfolding IsStrictlySortedBy
 sorted_nil = tt
 
-with_rises : (r : RunResult) (ks : List RunResult) → IsStrictlySortedBy result_order ks → IsStrictlySortedBy result_order (with_result r ks)
+with_rises : (r : RunResult) (ks : List RunResult) → IsStrictlySortedBy result_order ks
+    → IsStrictlySortedBy result_order (with_result r ks)
 with_rises r [] up = sorted_cons r [] tt sorted_nil
 with_rises r (s ∷ rest) up = by_order (with_rises r rest (sorted_tail result_order s rest up)) (result_order r s) refl
   where
     below : AllByRecursion (λ y. result_order s y ≡ Less) rest
     below = sorted_head result_order s rest up
 
-    by_order : IsStrictlySortedBy result_order (with_result r rest) → (o : Ordering) → result_order r s ≡ o → IsStrictlySortedBy result_order (placed o r s rest (with_result r rest))
-    by_order later Less h = sorted_cons r (s ∷ rest) (h, all_then (λ y. result_order s y ≡ Less) (λ y. result_order r y ≡ Less) (λ y l. result_order_total.trans r s y h l) rest below) up
+    by_order : IsStrictlySortedBy result_order (with_result r rest) → (o : Ordering) → result_order r s ≡ o
+        → IsStrictlySortedBy result_order (placed o r s rest (with_result r rest))
+    by_order later Less h = sorted_cons r (s ∷ rest) (
+      h,
+      all_then (λ y. result_order s y ≡ Less)
+          (λ y. result_order r y ≡ Less) (λ y l. result_order_total.trans r s y h l) rest below,
+    ) up
     by_order later Equal h = up
     by_order later Greater h = sorted_cons s (with_result r rest) (less_with s r rest (less_back r s h) below) later
 

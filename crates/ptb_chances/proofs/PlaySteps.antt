@@ -1,6 +1,9 @@
 -- This file proves what comes of the steps of a play, in each state for which the machine stands.
 -- Main lemma: `step_plays`.
-use Rattle.std.proofs.Common.{◌≡◌, ℕ, ◌-◌, ◌≤◌, List, [], ◌∷◌, ◌++◌, zero, suc, true, false, Option, Some, None, Result, Ok, Err, ℤ, inl, inr, refl, sym, ap, subst, ◌∙◌, arith, append_assoc, append-nil, length, take, drop, length-append, length-drop}
+use Rattle.std.proofs.Common.{◌≡◌, ℕ, ◌-◌, ◌≤◌, List, [], ◌∷◌, ◌++◌, zero, suc, true, false, Option}
+use Rattle.std.proofs.Common.{Some, None, Result, Ok, Err, ℤ, inl, inr, refl, sym, ap, subst, ◌∙◌}
+use Rattle.std.proofs.Common.{arith, append_assoc, append-nil, length, take, drop, length-append}
+use Rattle.std.proofs.Common.{length-drop}
 use Rattle.ptb_text.specs.Lines.{lines}
 use Rattle.ptb_text.specs.Statements.{StoredProgram}
 use Rattle.ptb_answers.specs.declared.pause.Pause.{Pause}
@@ -39,11 +42,13 @@ abbrev pub from_turn : StoredProgram → Rules → Outcome StepResult State → 
 from_turn p rules o = map_outcome (λ f. f) (λ (T : State). T.shown) (go_on o (after_step_result (turns p rules.limit)))
 
 pub line_same : (s t : List ℕ) → SameEnd s t → last_line (lines s) ≡ last_line (lines t)
-line_same s t h = ap (λ b. last_line (lines b)) (sym (append-nil s)) ∙ h [] ∙ ap (λ b. last_line (lines b)) (append-nil t)
+line_same s t h = ap (λ b. last_line (lines b)) (sym (append-nil s)) ∙ h []
+    ∙ ap (λ b. last_line (lines b)) (append-nil t)
 
 pub end_more : (s t u v bytes : List ℕ) → SameEnd s t → u ≡ s ++ bytes → v ≡ t ++ bytes → SameEnd u v
 end_more s t u v bytes same first second more =
-    ap (λ b. last_line (lines (b ++ more))) first ∙ ap (λ b. last_line (lines b)) (append_assoc s bytes more) ∙ same (bytes ++ more)
+    ap (λ b. last_line (lines (b ++ more))) first ∙ ap (λ b. last_line (lines b)) (append_assoc s bytes more)
+    ∙ same (bytes ++ more)
     ∙ sym (ap (λ b. last_line (lines (b ++ more))) second ∙ ap (λ b. last_line (lines b)) (append_assoc t bytes more))
 
 module _ (laws : RunLaws) (p : StoredProgram) (rules : Rules) where
@@ -52,31 +57,50 @@ module _ (laws : RunLaws) (p : StoredProgram) (rules : Rules) where
 
   -- ---- the turn of a run that is underway has come to g
 
-  module _ (S : State) (m new : Configuration) (c d : Choices) (s t : List ℕ) (given left rest : List (List ℕ)) (most few : ℕ) (u : Came p rules S c.taken m left s) where
+  module _ (S : State) (m new : Configuration) (c d : Choices) (s t : List ℕ) (given left rest : List (List ℕ))
+      (most few : ℕ) (u : Came p rules S c.taken m left s) where
     abbrev Turned : (State → Answers → Outcome StepResult State) → Type 0
-    Turned g = StepsTo p.lines new (devices c (text_state s) most rules.choose []) u.state rest (turn p rules.limit u.state) (devices d (text_state t) few rules.choose given) g
+    Turned g = StepsTo p.lines new (devices c (text_state s) most rules.choose []) u.state rest
+        (turn p rules.limit u.state) (devices d (text_state t) few rules.choose given) g
 
-    turned : (g : State → Answers → Outcome StepResult State) (x : Turned g) (later : Answers) → run_from p rules S (d.taken ++ later) ≡ from_turn p rules (g x.leads.state later)
+    turned : (g : State → Answers → Outcome StepResult State) (x : Turned g) (later : Answers)
+        → run_from p rules S (d.taken ++ later) ≡ from_turn p rules (g x.leads.state later)
     turned g x later =
         let ts = x.exchange.answers in
         let taken : d.taken ≡ c.taken ++ ts = ap (λ (y : Choices). y.taken) x.exchanges.grown in
-        ap (λ a. run_from p rules S (a ++ later)) taken ∙ ap (run_from p rules S) (append_assoc c.taken ts later) ∙ u.reached (ts ++ later)
+        ap (λ a. run_from p rules S (a ++ later)) taken ∙ ap (run_from p rules S) (append_assoc c.taken ts later)
+        ∙ u.reached (ts ++ later)
         ∙ by_turn u.state (ts ++ later) ∙ ap (λ f. from_turn p rules (f later)) x.leads.leaves.rest
 
     same_end : (g : State → Answers → Outcome StepResult State) (x : Turned g) → SameEnd x.leads.state.shown t
-    same_end g x = end_more u.state.shown s x.leads.state.shown t x.exchange.bytes u.stands.same_end x.leads.shown x.exchanges.shows.shown
+    same_end g x = end_more u.state.shown s x.leads.state.shown t x.exchange.bytes u.stands.same_end x.leads.shown
+        x.exchanges.shows.shown
 
     turn_came : Turned goes → Came p rules S d.taken new rest t
     turn_came x = record {
       state = x.leads.state;
-      stands = record { represents = x.leads.represents; lines_left = x.leads.lines; choose = x.leads.choose ∙ u.stands.choose; same_end = same_end goes x };
+      stands = record {
+        represents = x.leads.represents;
+        lines_left = x.leads.lines;
+        choose = x.leads.choose ∙ u.stands.choose;
+        same_end = same_end goes x;
+      };
       reached = turned goes x;
     }
 
     turn_over : (e : Ending) → Turned (ends e) → IsOver p rules S d.taken e t
-    turn_over e x = record { finish = finish_in e x.leads.state; outcome = turned (ends e) x; ending_is = refl; line_is = line_same x.leads.state.shown t (same_end (ends e) x) }
+    turn_over e x = record {
+      finish = finish_in e x.leads.state;
+      outcome = turned (ends e) x;
+      ending_is = refl;
+      line_is = line_same x.leads.state.shown t (same_end (ends e) x);
+    }
 
-    turn_dry : (refuses : Pause → ℤ → Type 0) → IsOutOfLines (refused_by refuses (λ _. ⊥) (Some rest)) (StepsTo p.lines new (devices c (text_state s) most rules.choose []) u.state rest (turn p rules.limit u.state)) (devices d (text_state t) few rules.choose given) (Over endings.NoInput) → IsOver p rules S d.taken endings.NoInput t
+    turn_dry : (refuses : Pause → ℤ → Type 0)
+        → IsOutOfLines (refused_by refuses (λ _. ⊥) (Some rest)) (StepsTo p.lines new
+        (devices c (text_state s) most rules.choose []) u.state rest (turn p rules.limit u.state))
+        (devices d (text_state t) few rules.choose given) (Over endings.NoInput)
+        → IsOver p rules S d.taken endings.NoInput t
     turn_dry refuses w =
         let x = w.comes in
         let T : State = x.leads.state in
@@ -88,9 +112,12 @@ module _ (laws : RunLaws) (p : StoredProgram) (rules : Rules) where
           line_is = line_same T.shown t (same_end w.left x);
         }
 
-  module _ (S : State) (m new : Configuration) (c : Choices) (l : PlanAnswers) (s t : List ℕ) (given left rest : List (List ℕ)) (most few : ℕ) (u : Came p rules S c.taken m left s) where
+  module _ (S : State) (m new : Configuration) (c : Choices) (l : PlanAnswers) (s t : List ℕ)
+      (given left rest : List (List ℕ)) (most few : ℕ) (u : Came p rules S c.taken m left s) where
     abbrev Paused : Pause → Type 0
-    Paused z = AsksUnanswered (refused_by (RefusedByPlan l) (λ _. ⊥) (Some rest)) (StepsTo p.lines new (devices c (text_state s) most rules.choose []) u.state rest (turn p rules.limit u.state)) (devices (choices_of l) (text_state t) few rules.choose given) act_state z
+    Paused z = AsksUnanswered (refused_by (RefusedByPlan l) (λ _. ⊥) (Some rest))
+        (StepsTo p.lines new (devices c (text_state s) most rules.choose []) u.state rest (turn p rules.limit u.state))
+        (devices (choices_of l) (text_state t) few rules.choose given) act_state z
 
     turn_asks : Paused pauses.Ended → IsAsked p rules S l.answers l.refused_bound
     turn_asks w =
@@ -98,60 +125,101 @@ module _ (laws : RunLaws) (p : StoredProgram) (rules : Rules) where
         let T : State = x.leads.state in
         let all : take l.given l.answers ++ [] ≡ l.answers = all_taken l.answers l.given w.refuses.0 in
         let asks : run_from p rules S l.answers ≡ Asks w.bound T.shown =
-        ap (run_from p rules S) (sym all) ∙ turned S m new c (choices_of l) s t given left rest most few u w.left x [] ∙ ap (from_turn p rules) (w.question T).asks in
+        ap (run_from p rules S) (sym all) ∙ turned S m new c (choices_of l) s t given left rest most few u w.left x []
+        ∙ ap (from_turn p rules) (w.question T).asks in
         record { shown = T.shown; asks = asks ∙ ap (λ (n : ℤ). Asks n T.shown) (sym w.refuses.1) }
 
     turn_out : (k : ℤ) → Paused (pauses.OutOfRange k) → is_open (run_from p rules S l.answers) ≡ true → ⊥
     turn_out k w opens =
         let x = w.comes in
         let T : State = x.leads.state in
-        let all : l.answers ≡ take l.given l.answers ++ k ∷ drop (suc l.given) l.answers = next_taken l.answers l.given k w.refuses.0 in
+        let all : l.answers ≡ take l.given l.answers ++ k ∷ drop (suc l.given) l.answers =
+        next_taken l.answers l.given k w.refuses.0 in
         let out : run_from p rules S l.answers ≡ Out w.bound T.shown =
-        ap (run_from p rules S) all ∙ turned S m new c (choices_of l) s t given left rest most few u w.left x (k ∷ drop (suc l.given) l.answers) ∙ ap (from_turn p rules) ((w.question T).outside (drop (suc l.given) l.answers)) in
+        ap (run_from p rules S) all
+        ∙ turned S m new c (choices_of l) s t given left rest most few u w.left x (k ∷ drop (suc l.given) l.answers)
+        ∙ ap (from_turn p rules) ((w.question T).outside (drop (suc l.given) l.answers)) in
         let never : false ≡ true = ap is_open (sym out) ∙ opens in
         absurd cc
 
-    turn_ends : (e : Ending) → (e ≡ endings.NoAnswer → ⊥) → (e ≡ endings.BadAnswer → ⊥) → StepComes (refused_by (RefusedByPlan l) (λ _. ⊥) (Some rest)) (StepsTo p.lines new (devices c (text_state s) most rules.choose []) u.state rest (turn p rules.limit u.state)) (devices (choices_of l) (text_state t) few rules.choose given) (Ok (Some e)) → IsOver p rules S (take l.given l.answers) e t
+    turn_ends : (e : Ending) → (e ≡ endings.NoAnswer → ⊥) → (e ≡ endings.BadAnswer → ⊥)
+        → StepComes (refused_by (RefusedByPlan l) (λ _. ⊥) (Some rest)) (StepsTo p.lines new
+        (devices c (text_state s) most rules.choose []) u.state rest (turn p rules.limit u.state))
+        (devices (choices_of l) (text_state t) few rules.choose given) (Ok (Some e))
+        → IsOver p rules S (take l.given l.answers) e t
     turn_ends endings.End a b x = turn_over S m new c (choices_of l) s t given left rest most few u endings.End x
     turn_ends endings.Stop a b x = turn_over S m new c (choices_of l) s t given left rest most few u endings.Stop x
     turn_ends endings.What a b x = turn_over S m new c (choices_of l) s t given left rest most few u endings.What x
     turn_ends endings.How a b x = turn_over S m new c (choices_of l) s t given left rest most few u endings.How x
     turn_ends endings.Sorry a b x = turn_over S m new c (choices_of l) s t given left rest most few u endings.Sorry x
     turn_ends endings.Limit a b x = turn_over S m new c (choices_of l) s t given left rest most few u endings.Limit x
-    turn_ends endings.NoInput a b w = turn_dry S m new c (choices_of l) s t given left rest most few u (RefusedByPlan l) w
+    turn_ends endings.NoInput a b w = turn_dry S m new c (choices_of l) s t given left rest most few u
+        (RefusedByPlan l) w
     turn_ends endings.NoAnswer a b w = absurd (a refl)
     turn_ends endings.BadAnswer a b w = absurd (b refl)
 
   -- ---- a step, by its result
 
-  module _ (S : State) (m new : Configuration) (c d : Choices) (s t : List ℕ) (given left rest : List (List ℕ)) (most few : ℕ) (refused : Refusal → Type 0) (r answer : Result (Option Ending) RunFault) (u : Came p rules S c.taken m left s) (is : r ≡ answer) (l : left ≡ given ++ rest) (follows : few ≡ 0 → rest ≡ []) (steps : Steps refused p rules.limit m new (devices c (text_state s) most rules.choose []) (devices d (text_state t) few rules.choose given) r) where
-    pub step_comes : StepComes refused (StepsTo p.lines new (devices c (text_state s) most rules.choose []) u.state rest (turn p rules.limit u.state)) (devices d (text_state t) few rules.choose given) answer
-    step_comes = subst (λ r. StepComes refused (StepsTo p.lines new (devices c (text_state s) most rules.choose []) u.state rest (turn p rules.limit u.state)) (devices d (text_state t) few rules.choose given) r) is (steps u.state rest (record { represents = u.stands.represents; lines = u.stands.lines_left ∙ l; follow = follows; choose = u.stands.choose }))
+  module _ (S : State) (m new : Configuration) (c d : Choices) (s t : List ℕ) (given left rest : List (List ℕ))
+      (most few : ℕ) (refused : Refusal → Type 0) (r answer : Result (Option Ending) RunFault)
+      (u : Came p rules S c.taken m left s) (is : r ≡ answer) (l : left ≡ given ++ rest) (follows : few ≡ 0
+      → rest ≡ []) (steps : Steps refused p rules.limit m new (devices c (text_state s) most rules.choose [])
+      (devices d (text_state t) few rules.choose given) r) where
+    pub step_comes : StepComes refused
+        (StepsTo p.lines new (devices c (text_state s) most rules.choose []) u.state rest (turn p rules.limit u.state))
+        (devices d (text_state t) few rules.choose given) answer
+    step_comes = subst (λ r. StepComes refused (StepsTo p.lines new (devices c (text_state s) most rules.choose [])
+        u.state rest (turn p rules.limit u.state)) (devices d (text_state t) few rules.choose given) r) is
+        (steps u.state rest (record {
+          represents = u.stands.represents;
+          lines = u.stands.lines_left ∙ l;
+          follow = follows;
+          choose = u.stands.choose;
+        }))
 
-  pub step_came : (S : State) (m new : Configuration) (c d : Choices) (s t : List ℕ) (given left rest : List (List ℕ)) (most few : ℕ) (refused : Refusal → Type 0) (r : Result (Option Ending) RunFault) → r ≡ Ok None → Came p rules S c.taken m left s → left ≡ given ++ rest → (few ≡ 0 → rest ≡ []) → Steps refused p rules.limit m new (devices c (text_state s) most rules.choose []) (devices d (text_state t) few rules.choose given) r → Came p rules S d.taken new rest t
+  pub step_came : (S : State) (m new : Configuration) (c d : Choices) (s t : List ℕ) (given left rest : List (List ℕ))
+      (most few : ℕ) (refused : Refusal → Type 0) (r : Result (Option Ending) RunFault)
+      → r ≡ Ok None → Came p rules S c.taken m left s → left ≡ given ++ rest → (few ≡ 0 → rest ≡ [])
+      → Steps refused p rules.limit m new (devices c (text_state s) most rules.choose [])
+      (devices d (text_state t) few rules.choose given) r
+      → Came p rules S d.taken new rest t
   step_came S m new c d s t given left rest most few refused r is u l follows steps =
-      turn_came S m new c d s t given left rest most few u (step_comes S m new c d s t given left rest most few refused r (Ok None) u is l follows steps)
+      turn_came S m new c d s t given left rest most few u
+      (step_comes S m new c d s t given left rest most few refused r (Ok None) u is l follows steps)
 
-  turns_came : (n : ℕ) (S : State) (old new : Configuration) (a : Answers) (s : List ℕ) (left : List (List ℕ)) → Came p rules S a old left s → QuietTurns p rules.limit n old new → Came p rules S a new left s
+  turns_came : (n : ℕ) (S : State) (old new : Configuration) (a : Answers) (s : List ℕ) (left : List (List ℕ))
+      → Came p rules S a old left s → QuietTurns p rules.limit n old new → Came p rules S a new left s
   turns_came zero S old new a s left u same = subst (λ (m : Configuration). Came p rules S a m left s) (sym same) u
   turns_came (suc n) S old new a s left u turns =
       let c : Choices = record { plan = []; taken = a; kept = None } in
-      step_came S turns.0 new c c s s [] left left 1 1 nothing_refused (Ok None) refl (turns_came n S old turns.0 a s left u turns.1) refl (λ none. absurd (omega (arith, none)))
+      step_came S turns.0 new c c s s [] left left 1 1 nothing_refused (Ok None) refl
+      (turns_came n S old turns.0 a s left u turns.1) refl (λ none. absurd (omega (arith, none)))
       (turns.2 (devices c (text_state s) 1 rules.choose []) refl)
 
   -- by a player that plays q
-  pub advanced : (q : StoredProgram) (n : ℕ) (S : State) (old new : Configuration) (a : Answers) (s : List ℕ) (left : List (List ℕ)) → q ≡ p → Came p rules S a old left s → QuietTurns p rules.limit n old new → Came q rules S a new left s
-  advanced q n S old new a s left same u turns = subst (λ (x : StoredProgram). Came x rules S a new left s) (sym same) (turns_came n S old new a s left u turns)
+  pub advanced : (q : StoredProgram) (n : ℕ) (S : State) (old new : Configuration) (a : Answers) (s : List ℕ)
+      (left : List (List ℕ))
+      → q ≡ p → Came p rules S a old left s → QuietTurns p rules.limit n old new → Came q rules S a new left s
+  advanced q n S old new a s left same u turns =
+      subst (λ (x : StoredProgram). Came x rules S a new left s) (sym same) (turns_came n S old new a s left u turns)
 
-  module _ (S : State) (m new : Configuration) (c : Choices) (l : PlanAnswers) (s t : List ℕ) (given left rest : List (List ℕ)) (most few : ℕ) (r : Result (Option Ending) RunFault) (u : Came p rules S c.taken m left s) (lines_are : left ≡ given ++ rest) (follows : few ≡ 0 → rest ≡ []) (steps : Steps (refused_by (RefusedByPlan l) (λ _. ⊥) (Some rest)) p rules.limit m new (devices c (text_state s) most rules.choose []) (devices (choices_of l) (text_state t) few rules.choose given) r) where
+  module _ (S : State) (m new : Configuration) (c : Choices) (l : PlanAnswers) (s t : List ℕ)
+      (given left rest : List (List ℕ)) (most few : ℕ) (r : Result (Option Ending) RunFault)
+      (u : Came p rules S c.taken m left s) (lines_are : left ≡ given ++ rest) (follows : few ≡ 0 → rest ≡ [])
+      (steps : Steps (refused_by (RefusedByPlan l) (λ _. ⊥) (Some rest)) p rules.limit m new (devices c (text_state s)
+      most rules.choose []) (devices (choices_of l) (text_state t) few rules.choose given) r) where
     abbrev Comes : Result (Option Ending) RunFault → Type 0
-    Comes answer = StepComes (refused_by (RefusedByPlan l) (λ _. ⊥) (Some rest)) (StepsTo p.lines new (devices c (text_state s) most rules.choose []) u.state rest (turn p rules.limit u.state)) (devices (choices_of l) (text_state t) few rules.choose given) answer
+    Comes answer = StepComes (refused_by (RefusedByPlan l) (λ _. ⊥) (Some rest))
+        (StepsTo p.lines new (devices c (text_state s) most rules.choose []) u.state rest (turn p rules.limit u.state))
+        (devices (choices_of l) (text_state t) few rules.choose given) answer
 
     comes : (answer : Result (Option Ending) RunFault) → r ≡ answer → Comes answer
-    comes answer is = step_comes S m new c (choices_of l) s t given left rest most few (refused_by (RefusedByPlan l) (λ _. ⊥) (Some rest)) r answer u is lines_are follows steps
+    comes answer is = step_comes S m new c (choices_of l) s t given left rest most few
+        (refused_by (RefusedByPlan l) (λ _. ⊥) (Some rest)) r answer u is lines_are follows steps
 
     abbrev Led : (State → Answers → Outcome StepResult State) → Type 0
-    Led g = StepsTo p.lines new (devices c (text_state s) most rules.choose []) u.state rest (turn p rules.limit u.state) (devices (choices_of l) (text_state t) few rules.choose given) g
+    Led g = StepsTo p.lines new (devices c (text_state s) most rules.choose []) u.state rest
+        (turn p rules.limit u.state) (devices (choices_of l) (text_state t) few rules.choose given) g
 
     turn_plan : (g : State → Answers → Outcome StepResult State) → Led g → l.answers ≡ c.plan
     turn_plan g x = ap (λ (y : Choices). y.plan) x.exchanges.grown
@@ -175,10 +243,12 @@ module _ (laws : RunLaws) (p : StoredProgram) (rules : Rules) where
     step_asks : r ≡ Ok (Some endings.NoAnswer) → IsAsked p rules S l.answers l.refused_bound
     step_asks is = turn_asks S m new c l s t given left rest most few u (comes (Ok (Some endings.NoAnswer)) is)
 
-    step_over : (e : Ending) → (e ≡ endings.NoAnswer → ⊥) → (e ≡ endings.BadAnswer → ⊥) → r ≡ Ok (Some e) → IsOver p rules S (take l.given l.answers) e t
+    step_over : (e : Ending) → (e ≡ endings.NoAnswer → ⊥) → (e ≡ endings.BadAnswer → ⊥) → r ≡ Ok (Some e)
+        → IsOver p rules S (take l.given l.answers) e t
     step_over e a b is = turn_ends S m new c l s t given left rest most few u e a b (comes (Ok (Some e)) is)
 
-    over_or_asks : (e : Ending) → (e ≡ endings.BadAnswer → ⊥) → r ≡ Ok (Some e) → PlaysTo p rules S (take l.given l.answers) l.answers new rest t (played_of e l.refused_bound)
+    over_or_asks : (e : Ending) → (e ≡ endings.BadAnswer → ⊥) → r ≡ Ok (Some e)
+        → PlaysTo p rules S (take l.given l.answers) l.answers new rest t (played_of e l.refused_bound)
     over_or_asks endings.End b is = step_over endings.End (λ e. absurd cc) b is
     over_or_asks endings.Stop b is = step_over endings.Stop (λ e. absurd cc) b is
     over_or_asks endings.What b is = step_over endings.What (λ e. absurd cc) b is
@@ -190,17 +260,22 @@ module _ (laws : RunLaws) (p : StoredProgram) (rules : Rules) where
     over_or_asks endings.BadAnswer b is = absurd (b refl)
 
     -- it is over, or it asks
-    pub step_plays : (e : Ending) (q : StoredProgram) (plan : Answers) (x : Played) → p ≡ q → l.answers ≡ plan → (e ≡ endings.BadAnswer → ⊥) → r ≡ Ok (Some e) → x ≡ played_of e l.refused_bound → PlaysTo q rules S (take l.given plan) plan new rest t x
+    pub step_plays : (e : Ending) (q : StoredProgram) (plan : Answers) (x : Played) → p ≡ q → l.answers ≡ plan
+        → (e ≡ endings.BadAnswer → ⊥) → r ≡ Ok (Some e) → x ≡ played_of e l.refused_bound
+        → PlaysTo q rules S (take l.given plan) plan new rest t x
     step_plays e q plan x program answers b is same =
         subst (λ (y : Played). PlaysTo q rules S (take l.given plan) plan new rest t y) (sym same)
         (subst (λ (a : Answers). PlaysTo q rules S (take l.given a) a new rest t (played_of e l.refused_bound)) answers
-        (subst (λ (z : StoredProgram). PlaysTo z rules S (take l.given l.answers) l.answers new rest t (played_of e l.refused_bound)) program (over_or_asks e b is)))
+        (subst (λ (z : StoredProgram). PlaysTo z rules S (take l.given l.answers) l.answers new rest t
+        (played_of e l.refused_bound)) program (over_or_asks e b is)))
 
     pub never_out : is_open (run_from p rules S l.answers) ≡ true → r ≡ Ok (Some endings.BadAnswer) → ⊥
-    never_out opens is = let w : Comes (Ok (Some endings.BadAnswer)) = comes (Ok (Some endings.BadAnswer)) is in turn_out S m new c l s t given left rest most few u w.0 w.1 opens
+    never_out opens is = let w : Comes (Ok (Some endings.BadAnswer)) = comes (Ok (Some endings.BadAnswer)) is in
+        turn_out S m new c l s t given left rest most few u w.0 w.1 opens
 
     pub never_unread : r ≡ Err faults.Read → ⊥
-    never_unread is = let w : Comes (Err faults.Read) = comes (Err faults.Read) is in elim w.broken.0.by [ inl x ↦ x | inr x ↦ x ]
+    never_unread is = let w : Comes (Err faults.Read) = comes (Err faults.Read) is in
+        elim w.broken.0.by [ inl x ↦ x | inr x ↦ x ]
 
     pub never_unwritten : r ≡ Err faults.Write → ⊥
     never_unwritten is =
@@ -215,25 +290,41 @@ none_follow s none = nothing (drop s.taken s.lines) (omega (arith, none, length-
   nothing [] e = refl
   nothing (l ∷ ls) e = absurd (omega (arith, e))
 
-pub fits_there : (p : StoredProgram) (rules : Rules) (S : State) (a : Answers) (m : Configuration) (left : List (List ℕ)) (shown : List ℕ) → Came p rules S a m left shown → FitsProgram p m
+pub fits_there : (p : StoredProgram) (rules : Rules) (S : State) (a : Answers) (m : Configuration)
+    (left : List (List ℕ)) (shown : List ℕ)
+    → Came p rules S a m left shown → FitsProgram p m
 fits_there p rules S a m left shown u = record { state = u.state; represents = u.stands.represents }
 
-pub came_first : (p : StoredProgram) (rules : Rules) (S : State) (a : Answers) (m : Configuration) (left : List (List ℕ)) (shown : List ℕ) → a ≡ [] → StandsAt p rules m left shown S → Came p rules S a m left shown
-came_first p rules S a m left shown none h = record { state = S; stands = h; reached = λ later. ap (λ b. run_from p rules S (b ++ later)) none }
+pub came_first : (p : StoredProgram) (rules : Rules) (S : State) (a : Answers) (m : Configuration)
+    (left : List (List ℕ)) (shown : List ℕ)
+    → a ≡ [] → StandsAt p rules m left shown S → Came p rules S a m left shown
+came_first p rules S a m left shown none h =
+    record { state = S; stands = h; reached = λ later. ap (λ b. run_from p rules S (b ++ later)) none }
 
 -- ---- the same, by other names
 
-pub came_by : (q p : StoredProgram) (rules : Rules) (S : State) (a b : Answers) (m : Configuration) (left now : List (List ℕ)) (shown : List ℕ) → q ≡ p → a ≡ b → left ≡ now → Came q rules S a m left shown → Came p rules S b m now shown
+pub came_by : (q p : StoredProgram) (rules : Rules) (S : State) (a b : Answers) (m : Configuration)
+    (left now : List (List ℕ)) (shown : List ℕ)
+    → q ≡ p → a ≡ b → left ≡ now → Came q rules S a m left shown → Came p rules S b m now shown
 came_by q p rules S a b m left now shown program answers lines_are x =
-    subst (λ (r : StoredProgram). Came r rules S b m now shown) program (subst (λ (d : Answers). Came q rules S d m now shown) answers (subst (λ (ls : List (List ℕ)). Came q rules S a m ls shown) lines_are x))
+    subst (λ (r : StoredProgram). Came r rules S b m now shown) program (subst (λ (d : Answers). Came q rules S d m now
+    shown) answers (subst (λ (ls : List (List ℕ)). Came q rules S a m ls shown) lines_are x))
 
-pub plays_by : (p : StoredProgram) (rules : Rules) (S : State) (given plan : Answers) (m : Configuration) (left now : List (List ℕ)) (shown : List ℕ) (x : Played) → left ≡ now → PlaysTo p rules S given plan m left shown x → PlaysTo p rules S given plan m now shown x
-plays_by p rules S given plan m left now shown x same y = subst (λ (ls : List (List ℕ)). PlaysTo p rules S given plan m ls shown x) same y
+pub plays_by : (p : StoredProgram) (rules : Rules) (S : State) (given plan : Answers) (m : Configuration)
+    (left now : List (List ℕ)) (shown : List ℕ) (x : Played)
+    → left ≡ now → PlaysTo p rules S given plan m left shown x → PlaysTo p rules S given plan m now shown x
+plays_by p rules S given plan m left now shown x same y =
+    subst (λ (ls : List (List ℕ)). PlaysTo p rules S given plan m ls shown x) same y
 
-pub stands_by : (p : StoredProgram) (rules : Rules) (S : State) (m n : Configuration) (left now : List (List ℕ)) (shown text : List ℕ) → m ≡ n → left ≡ now → shown ≡ text → StandsAt p rules m left shown S → StandsAt p rules n now text S
+pub stands_by : (p : StoredProgram) (rules : Rules) (S : State) (m n : Configuration) (left now : List (List ℕ))
+    (shown text : List ℕ)
+    → m ≡ n → left ≡ now → shown ≡ text → StandsAt p rules m left shown S → StandsAt p rules n now text S
 stands_by p rules S m n left now shown text machine lines_are end x =
-    subst (λ (k : Configuration). StandsAt p rules k now text S) machine (subst (λ (ls : List (List ℕ)). StandsAt p rules m ls text S) lines_are (subst (λ (b : List ℕ). StandsAt p rules m left b S) end x))
+    subst (λ (k : Configuration). StandsAt p rules k now text S) machine (subst (λ (ls : List (List ℕ)). StandsAt p
+    rules m ls text S) lines_are (subst (λ (b : List ℕ). StandsAt p rules m left b S) end x))
 
 -- lines that were taken were there
-pub taken_within : (s t : LineList) (xs : List (List ℕ)) → Gives s xs t → s.taken ≤ length s.lines → t.taken ≤ length s.lines
-taken_within s t xs gives l = omega (arith, l, gives.counted, sym (length-drop s.taken s.lines) ∙ ap length gives.first ∙ length-append xs _)
+pub taken_within : (s t : LineList) (xs : List (List ℕ)) → Gives s xs t → s.taken ≤ length s.lines
+    → t.taken ≤ length s.lines
+taken_within s t xs gives l =
+    omega (arith, l, gives.counted, sym (length-drop s.taken s.lines) ∙ ap length gives.first ∙ length-append xs _)

@@ -1,7 +1,8 @@
--- This file proves that the rows of a table have together what all runs have: their chances add up to 1, and their numbers of runs to
--- that of all runs.
+-- This file proves that the rows of a table have together what all runs have: their chances add up to 1, and their
+-- numbers of runs to that of all runs.
 -- Main lemma: `table_laws`.
-use Rattle.std.proofs.Common.{◌≡◌, ℕ, ◌+◌, ◌<◌, Bool, true, false, ◌||◌, List, [], ◌∷◌, map, length, refl, ap, sym, subst, ◌∙◌, arith}
+use Rattle.std.proofs.Common.{◌≡◌, ℕ, ◌+◌, ◌<◌, Bool, true, false, ◌||◌, List, [], ◌∷◌, map, length}
+use Rattle.std.proofs.Common.{refl, ap, sym, subst, ◌∙◌, arith}
 use Rattle.std.specs.List.{AllByRecursion}
 use Rattle.std.specs.List.Sorted.{IsStrictlySortedBy}
 use Rattle.std.specs.Ordering.{is_eq}
@@ -12,7 +13,8 @@ use Rattle.std.proofs.lemmas.Map.Keys.{sorted_head, sorted_tail}
 use Rattle.ptb_numbers.specs.Fractions.{Ratio, plus, lowest, Equals}
 use Rattle.ptb_answers.specs.Outcome.{Answers, Outcome, IsReader, bounds}
 use Rattle.ptb_machine.specs.Play.{Finish}
-use Rattle.ptb_explore.specs.Chances.{RunResult, Row, chance, chance_of_all, result_of, result_order, results, row_of, runs_with, table}
+use Rattle.ptb_explore.specs.Chances.{RunResult, Row, chance, chance_of_all, result_of}
+use Rattle.ptb_explore.specs.Chances.{result_order, results, row_of, runs_with, table}
 use Rattle.ptb_explore.specs.RunTree.{tree}
 use Rattle.ptb_explore.proofs.Chances.{whole_chance, sum_positive}
 use Rattle.ptb_chances.specs.Accounts.{has_result, rows_with, chance_of_rows, runs_of_rows, ArePositive, account}
@@ -22,7 +24,8 @@ use Rattle.ptb_chances.proofs.Accounts.{maybe, chance_is, runs_are, chance_posit
 use Rattle.ptb_chances.proofs.Positive.{all_positive}
 use Rattle.ptb_chances.proofs.Lowest.{lowest_equal, lowest_positive}
 use Rattle.ptb_chances.proofs.Orders.{result_exact, less_apart, has, has_results, results_rise}
-use Rattle.ptb_chances.proofs.Sums.{nothing, plus_nothing, plus_assoc, plus_turn, plus_positive, equals_plus, equals_then}
+use Rattle.ptb_chances.proofs.Sums.{nothing, plus_nothing, plus_assoc, plus_turn, plus_positive}
+use Rattle.ptb_chances.proofs.Sums.{equals_plus, equals_then}
 
 -- ---- which results are there
 
@@ -44,14 +47,16 @@ or_right true b h = refl
 or_right false b h = h
 
 -- what is less than all of them is none of them
-absent_below : (r : RunResult) (rs : List RunResult) → AllByRecursion (λ y. result_order r y ≡ Less) rs → has r rs ≡ false
+absent_below : (r : RunResult) (rs : List RunResult) → AllByRecursion (λ y. result_order r y ≡ Less) rs
+    → has r rs ≡ false
 absent_below r [] h = refl
 absent_below r (y ∷ rs) h = ap (λ b. b || has r rs) (less_apart r y h.0) ∙ absent_below r rs h.1
 
 abbrev results_in : List Row → List RunResult
 results_in ws = map (λ w. w.result) ws
 
-all_there : (ws : List Row) (rs : List RunResult) → ((q : RunResult) → has q (results_in ws) ≡ true → has q rs ≡ true) → AllByRecursion (λ w. has w.result rs ≡ true) ws
+all_there : (ws : List Row) (rs : List RunResult) → ((q : RunResult) → has q (results_in ws) ≡ true → has q rs ≡ true)
+    → AllByRecursion (λ w. has w.result rs ≡ true) ws
 all_there [] rs sub = tt
 all_there (w ∷ ws) rs sub = (
   sub w.result (ap (λ b. b || has w.result (results_in ws)) (ap is_eq (tied_itself result_order_total w.result))),
@@ -60,7 +65,8 @@ all_there (w ∷ ws) rs sub = (
 
 -- ---- the sum over all rows is that over the results
 
-module _ {M : Type 0} (add : M → M → M) (none : M) (value : Row → M) (alone : add none none ≡ none) (group : (a b c : M) → add (add a b) c ≡ add a (add b c)) (turn : (a b c : M) → add a (add b c) ≡ add b (add a c)) where
+module _ {M : Type 0} (add : M → M → M) (none : M) (value : Row → M) (alone : add none none ≡ none) (group : (a b c : M)
+    → add (add a b) c ≡ add a (add b c)) (turn : (a b c : M) → add a (add b c) ≡ add b (add a c)) where
   abbrev sum : List Row → M
   sum [] = none
   sum (w ∷ ws) = add (value w) (sum ws)
@@ -74,20 +80,25 @@ module _ {M : Type 0} (add : M → M → M) (none : M) (value : Row → M) (alon
   parts_none (r ∷ rs) = ap (add none) (parts_none rs) ∙ alone
 
   -- one row more counts for its own result alone
-  more_absent : (w : Row) (ws : List Row) (rs : List RunResult) → has w.result rs ≡ false → parts (w ∷ ws) rs ≡ parts ws rs
+  more_absent : (w : Row) (ws : List Row) (rs : List RunResult) → has w.result rs ≡ false
+      → parts (w ∷ ws) rs ≡ parts ws rs
   more_absent w ws [] h = refl
   more_absent w ws (r ∷ rs) h =
-      ap (λ b. add (sum (maybe b w (rows_with r ws))) (parts (w ∷ ws) rs)) (left_of (has_result r w) (has w.result rs) h)
+      ap (λ b. add (sum (maybe b w (rows_with r ws))) (parts (w ∷ ws) rs))
+      (left_of (has_result r w) (has w.result rs) h)
       ∙ ap (add (sum (rows_with r ws))) (more_absent w ws rs (right_of (has_result r w) (has w.result rs) h))
 
-  more_once : (w : Row) (ws : List Row) (rs : List RunResult) → IsStrictlySortedBy result_order rs → has w.result rs ≡ true → parts (w ∷ ws) rs ≡ add (value w) (parts ws rs)
+  more_once : (w : Row) (ws : List Row) (rs : List RunResult) → IsStrictlySortedBy result_order rs
+      → has w.result rs ≡ true → parts (w ∷ ws) rs ≡ add (value w) (parts ws rs)
   more_once w ws [] up h = absurd cc
   more_once w ws (r ∷ rs) up h = by_test (more_once w ws rs (sorted_tail result_order r rs up)) (has_result r w) refl
     where
       rest : has_result r w ≡ true → has w.result rs ≡ false
-      rest e = subst (λ (q : RunResult). has q rs ≡ false) (sym (result_exact w.result r (equal_by_test (result_order w.result r) e))) (absent_below r rs (sorted_head result_order r rs up))
+      rest e = subst (λ (q : RunResult). has q rs ≡ false) (sym (result_exact w.result r
+          (equal_by_test (result_order w.result r) e))) (absent_below r rs (sorted_head result_order r rs up))
 
-      by_test : (has w.result rs ≡ true → parts (w ∷ ws) rs ≡ add (value w) (parts ws rs)) → (b : Bool) → has_result r w ≡ b → parts (w ∷ ws) (r ∷ rs) ≡ add (value w) (parts ws (r ∷ rs))
+      by_test : (has w.result rs ≡ true → parts (w ∷ ws) rs ≡ add (value w) (parts ws rs)) → (b : Bool)
+          → has_result r w ≡ b → parts (w ∷ ws) (r ∷ rs) ≡ add (value w) (parts ws (r ∷ rs))
       by_test later true e =
           ap (λ b. add (sum (maybe b w (rows_with r ws))) (parts (w ∷ ws) rs)) e
           ∙ ap (add (add (value w) (sum (rows_with r ws)))) (more_absent w ws rs (rest e))
@@ -97,7 +108,8 @@ module _ {M : Type 0} (add : M → M → M) (none : M) (value : Row → M) (alon
           ∙ ap (add (sum (rows_with r ws))) (later (ap (λ b. b || has w.result rs) (sym e) ∙ h))
           ∙ turn (sum (rows_with r ws)) (value w) (parts ws rs)
 
-  pub all_parts : (ws : List Row) (rs : List RunResult) → IsStrictlySortedBy result_order rs → AllByRecursion (λ w. has w.result rs ≡ true) ws → parts ws rs ≡ sum ws
+  pub all_parts : (ws : List Row) (rs : List RunResult) → IsStrictlySortedBy result_order rs
+      → AllByRecursion (λ w. has w.result rs ≡ true) ws → parts ws rs ≡ sum ws
   all_parts [] rs up there = parts_none rs
   all_parts (w ∷ ws) rs up there = more_once w ws rs up there.0 ∙ ap (add (value w)) (all_parts ws rs up there.1)
 
@@ -152,36 +164,47 @@ module _ (play : Answers → Outcome Finish (List ℕ)) where
   results_of_table runs (r ∷ rs) = ap (λ qs. r ∷ qs) (results_of_table runs rs)
 
   -- all results are those of the account
-  all_results : (runs : List Answers) → AllByRecursion (λ w. has w.result (results (map (λ a. result_of (play a)) runs)) ≡ true) (account play runs)
+  all_results : (runs : List Answers)
+      → AllByRecursion (λ w. has w.result (results (map (λ a. result_of (play a)) runs)) ≡ true) (account play runs)
   all_results runs =
       all_there (account play runs) (results (map (λ a. result_of (play a)) runs))
       (λ q h. has_results q (map (λ a. result_of (play a)) runs) ∙ sym (ap (has q) (results_of_account runs)) ∙ h)
 
-  table_runs : (runs : List Answers) (rs : List RunResult) → runs_of_rows (map (row_for runs) rs) ≡ run_parts (account play runs) rs
+  table_runs : (runs : List Answers) (rs : List RunResult)
+      → runs_of_rows (map (row_for runs) rs) ≡ run_parts (account play runs) rs
   table_runs runs [] = refl
   table_runs runs (r ∷ rs) =
-      let one : run_sum (rows_with r (account play runs)) ≡ length (runs_with play r runs) = runs_sum (rows_with r (account play runs)) ∙ runs_are play r runs in
-      ap (λ n. length (runs_with play r runs) + n) (table_runs runs rs) ∙ ap (λ n. n + run_parts (account play runs) rs) (sym one)
+      let one : run_sum (rows_with r (account play runs)) ≡ length (runs_with play r runs) =
+      runs_sum (rows_with r (account play runs)) ∙ runs_are play r runs in
+      ap (λ n. length (runs_with play r runs) + n) (table_runs runs rs)
+      ∙ ap (λ n. n + run_parts (account play runs) rs) (sym one)
 
   module _ (runs : List Answers) (positive : ArePositive (account play runs)) where
     some : (r : RunResult) → 0 < (chance_of_all play (runs_with play r runs)).denominator
-    some r = subst (λ (f : Ratio). 0 < f.denominator) (chance_is play r runs) (chance_positive r (account play runs) positive)
+    some r = subst (λ (f : Ratio). 0 < f.denominator) (chance_is play r runs)
+        (chance_positive r (account play runs) positive)
 
-    row_chance : (r : RunResult) → Equals (lowest (chance_of_all play (runs_with play r runs))) (chance_sum (rows_with r (account play runs)))
+    row_chance : (r : RunResult)
+        → Equals (lowest (chance_of_all play (runs_with play r runs))) (chance_sum (rows_with r (account play runs)))
     row_chance r =
-        let one : chance_sum (rows_with r (account play runs)) ≡ chance_of_all play (runs_with play r runs) = chances_sum (rows_with r (account play runs)) ∙ chance_is play r runs in
-        subst (λ (f : Ratio). Equals (lowest (chance_of_all play (runs_with play r runs))) f) (sym one) (lowest_equal (chance_of_all play (runs_with play r runs)) (some r))
+        let one : chance_sum (rows_with r (account play runs)) ≡ chance_of_all play (runs_with play r runs) =
+        chances_sum (rows_with r (account play runs)) ∙ chance_is play r runs in
+        subst (λ (f : Ratio). Equals (lowest (chance_of_all play (runs_with play r runs))) f) (sym one)
+        (lowest_equal (chance_of_all play (runs_with play r runs)) (some r))
 
-    table_chances : (rs : List RunResult) → Equals (chance_of_rows (map (row_for runs) rs)) (chance_parts (account play runs) rs)
+    table_chances : (rs : List RunResult)
+        → Equals (chance_of_rows (map (row_for runs) rs)) (chance_parts (account play runs) rs)
     table_chances [] = refl
     table_chances (r ∷ rs) =
-        equals_plus (lowest (chance_of_all play (runs_with play r runs))) (chance_sum (rows_with r (account play runs))) (chance_of_rows (map (row_for runs) rs)) (chance_parts (account play runs) rs)
+        equals_plus (lowest (chance_of_all play (runs_with play r runs))) (chance_sum (rows_with r (account play runs)))
+        (chance_of_rows (map (row_for runs) rs)) (chance_parts (account play runs) rs)
         (row_chance r) (table_chances rs)
 
     table_positive : (rs : List RunResult) → 0 < (chance_of_rows (map (row_for runs) rs)).denominator
     table_positive [] = omega arith
     table_positive (r ∷ rs) =
-        plus_positive (lowest (chance_of_all play (runs_with play r runs))) (chance_of_rows (map (row_for runs) rs)) (lowest_positive (chance_of_all play (runs_with play r runs)) (some r)) (table_positive rs)
+        plus_positive (lowest (chance_of_all play (runs_with play r runs))) (chance_of_rows (map (row_for runs) rs))
+        (lowest_positive (chance_of_all play (runs_with play r runs)) (some r)) (table_positive rs)
 
   module _ (most : ℕ) (reads : IsReader play most) where
     abbrev all : List Answers
@@ -195,20 +218,26 @@ module _ (play : Answers → Outcome Finish (List ℕ)) where
 
     whole : chance_parts (account play all) keys ≡ chance_of_all play all
     whole =
-        all_parts plus nothing (λ w. w.chance) (plus_nothing nothing) plus_assoc plus_turn (account play all) keys keys_rise (all_results all)
+        all_parts plus nothing (λ w. w.chance) (plus_nothing nothing) plus_assoc plus_turn
+        (account play all) keys keys_rise (all_results all)
         ∙ chances_sum (account play all) ∙ chances_of_account all
 
     equal : Equals (chance_of_rows (table play all)) (chance_of_all play all)
-    equal = subst (λ (f : Ratio). Equals (chance_of_rows (table play all)) f) whole (table_chances all (all_positive play most reads) keys)
+    equal = subst (λ (f : Ratio). Equals (chance_of_rows (table play all)) f) whole
+        (table_chances all (all_positive play most reads) keys)
 
     pub table_has : TableLaws play most
     table_has = record {
       rising = subst (IsStrictlySortedBy result_order) (sym (results_of_table all keys)) keys_rise;
-      sum = equals_then (chance_of_rows (table play all)) (chance_of_all play all) (record { numerator = 1; denominator = 1 }) (sum_positive play most reads) equal (whole_chance play most reads);
+      sum = equals_then (chance_of_rows (table play all)) (chance_of_all play all) (record {
+        numerator = 1;
+        denominator = 1;
+      }) (sum_positive play most reads) equal (whole_chance play most reads);
       positive = table_positive all (all_positive play most reads) keys;
       runs =
           table_runs all keys
-          ∙ all_parts (λ a b. a + b) 0 (λ w. w.runs) refl add_assoc add_turn (account play all) keys keys_rise (all_results all)
+          ∙ all_parts (λ a b. a + b) 0 (λ w. w.runs) refl add_assoc add_turn (account play all) keys keys_rise
+          (all_results all)
           ∙ runs_sum (account play all) ∙ runs_of_account all;
     }
 

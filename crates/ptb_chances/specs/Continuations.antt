@@ -1,6 +1,8 @@
 -- This file defines what comes of a plan, and of what is after it, up to the next command that asks.
---     GoesOn p rules S before input shown over      from the state S without answers: the run is over, or waits at a place
---     ComesTo p rules S given plan before input shown played     with a plan: it is over, asks, or waits at a place after it
+--     GoesOn p rules S before input shown over      from the state S without answers: the run is over, or waits at a
+--                                                   place
+--     ComesTo p rules S given plan before input shown played     with a plan: it is over, asks, or waits at a place
+--                                                                after it
 use Rattle.std.specs.Prelude.{ℕ, List, [], Option, Some, None, drop, take}
 use Rattle.ptb_text.specs.Statements.{StoredProgram}
 use Rattle.ptb_answers.specs.Outcome.{Answers}
@@ -21,4 +23,5 @@ GoesOn p rules S before input shown None = Came p rules S [] before.machine (dro
 abbrev pub ComesTo : StoredProgram → Rules → State → ℕ → Answers → Place → List (List ℕ) → List ℕ → Played → Type 0
 ComesTo p rules S given plan before input shown (played.Over ending) = IsOver p rules S (take given plan) ending shown
 ComesTo p rules S given plan before input shown (played.Asks n) = IsAsked p rules S plan n
-ComesTo p rules S given plan before input shown played.Goes = Came p rules S plan before.machine (drop before.taken input) before.shown.items
+ComesTo p rules S given plan before input shown played.Goes =
+    Came p rules S plan before.machine (drop before.taken input) before.shown.items

@@ -25,7 +25,8 @@ rows_of es = map row_of_share es
 -- a share has this chance and these runs more than another, or these alone
 abbrev pub Joins : Option Share → Ratio → ℕ → Share → Type 0
 Joins None chance runs new = (new.chance ≡ chance) × (new.runs ≡ runs)
-Joins (Some old) chance runs new = Equals new.chance (plus old.chance chance) × (0 < new.chance.denominator) × (new.runs ≡ old.runs + runs)
+Joins (Some old) chance runs new = Equals new.chance (plus old.chance chance) × (0 < new.chance.denominator)
+    × (new.runs ≡ old.runs + runs)
 
 -- ---- how a row is written
 

@@ -5,4 +5,5 @@ use Rattle.std.specs.Cmp.Lexicographic.{nat_list_cmp_total}
 use Rattle.ptb_explore.specs.Chances.{RunResult, rank, result_order}
 
 pub result_order_total : IsTotalOrder result_order
-result_order_total = then_total (on_total (λ (r : RunResult). rank r.ending) nat_cmp_total) (on_total (λ (r : RunResult). r.line) nat_list_cmp_total)
+result_order_total = then_total (on_total (λ (r : RunResult). rank r.ending) nat_cmp_total)
+    (on_total (λ (r : RunResult). r.line) nat_list_cmp_total)

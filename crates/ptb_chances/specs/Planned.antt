@@ -1,5 +1,6 @@
 -- This file defines what the chooser of a plan holds.
---     PlanAnswers                    the answers of a plan, how many of them were given, and the bound of the question that was refused last
+--     PlanAnswers                    the answers of a plan, how many of them were given, and the bound of the question
+--                                    that was refused last
 --     choices_of l                   what it holds as a chooser
 --     RefusedByPlan l pause n        why it gives no answer to a question with bound n
 use Rattle.std.specs.Prelude.{◌≡◌, ℕ, false, List, length, take, Some, None, slice_get, ℤ}

@@ -1,6 +1,7 @@
 -- This file defines where a play stands, and what comes of it with some answers more.
 --     SameEnd s t                      whatever is shown next, the last line is the same after s and after t
---     StandsAt p rules m left shown S      a machine stands for the state S; these lines are left, and this was shown last
+--     StandsAt p rules m left shown S      a machine stands for the state S; these lines are left, and this was shown
+--                                          last
 --     Came p rules S a m left shown    with the answers a, a run has come from the state S to where a machine stands
 --     IsOver p rules S a ending shown  with these answers it is over
 --     IsAsked p rules S a n            with these answers it asks a question with bound n
@@ -26,18 +27,21 @@ abbrev pub SameEnd : List ℕ → List ℕ → Type 0
 SameEnd s t = (more : List ℕ) → last_line (lines (s ++ more)) ≡ last_line (lines (t ++ more))
 
 -- of what was shown before, only the last line matters
-pub record StandsAt (p : StoredProgram) (rules : Rules) (m : Configuration) (left : List (List ℕ)) (shown : List ℕ) (S : State) : Type 0 where
+pub record StandsAt (p : StoredProgram) (rules : Rules) (m : Configuration) (left : List (List ℕ)) (shown : List ℕ)
+    (S : State) : Type 0 where
   pub represents : Represents p.lines m S
   pub lines_left : S.lines ≡ left
   pub choose : S.choose ≡ rules.choose
   pub same_end : SameEnd S.shown shown
 
-pub record Came (p : StoredProgram) (rules : Rules) (S : State) (answers : Answers) (m : Configuration) (left : List (List ℕ)) (shown : List ℕ) : Type 0 where
+pub record Came (p : StoredProgram) (rules : Rules) (S : State) (answers : Answers) (m : Configuration)
+    (left : List (List ℕ)) (shown : List ℕ) : Type 0 where
   pub state : State
   pub stands : StandsAt p rules m left shown state
   pub reached : (later : Answers) → run_from p rules S (answers ++ later) ≡ run_from p rules state later
 
-pub record IsOver (p : StoredProgram) (rules : Rules) (S : State) (answers : Answers) (ending : Ending) (shown : List ℕ) : Type 0 where
+pub record IsOver (p : StoredProgram) (rules : Rules) (S : State) (answers : Answers) (ending : Ending)
+    (shown : List ℕ) : Type 0 where
   pub finish : Finish
   pub outcome : (later : Answers) → run_from p rules S (answers ++ later) ≡ Done finish later
   pub ending_is : finish.ending ≡ ending
@@ -53,7 +57,8 @@ played_of endings.NoAnswer bound = played.Asks bound
 played_of ending bound = played.Over ending
 
 -- of a plan, these answers were given
-abbrev pub PlaysTo : StoredProgram → Rules → State → Answers → Answers → Configuration → List (List ℕ) → List ℕ → Played → Type 0
+abbrev pub PlaysTo : StoredProgram → Rules → State → Answers → Answers → Configuration → List (List ℕ) → List ℕ → Played
+    → Type 0
 PlaysTo p rules S given plan m left shown (played.Over ending) = IsOver p rules S given ending shown
 PlaysTo p rules S given plan m left shown (played.Asks n) = IsAsked p rules S plan n
 PlaysTo p rules S given plan m left shown played.Goes = Came p rules S plan m left shown

@@ -1,5 +1,6 @@
 -- This file defines the plays that wait to be continued.
---     Standing                       where plays stand, the answers that each of them takes next, their chance and their number
+--     Standing                       where plays stand, the answers that each of them takes next, their chance and
+--                                    their number
 --     planned, unplanned             what the code holds of it
 --     standings w                    all that is left to be played
 --     Waits p input rules w q        the play with the answers q waits there
@@ -10,7 +11,8 @@
 --     Puts old w new                 one was put in: by itself, or together with one at the same place
 --     after_answer w n k             the same plays after the answer k to a question with bound n
 --     load limit most ws             more than is left to be done
-use Rattle.std.specs.Prelude.{◌≡◌, ◌⊎◌, ◌<◌, ◌≤◌, ℕ, zero, suc, ◌+◌, ◌-◌, ◌*◌, List, [], ◌∷◌, ◌++◌, map, length, drop, true, false, ℤ, pos}
+use Rattle.std.specs.Prelude.{◌≡◌, ◌⊎◌, ◌<◌, ◌≤◌, ℕ, zero, suc, ◌+◌, ◌-◌, ◌*◌, List, [], ◌∷◌, ◌++◌}
+use Rattle.std.specs.Prelude.{map, length, drop, true, false, ℤ, pos}
 use Rattle.std.specs.List.{flat_map, AllByRecursion}
 use Rattle.ptb_numbers.specs.Fractions.{Ratio, Equals, plus}
 use Rattle.ptb_text.specs.Statements.{StoredProgram}
@@ -72,11 +74,25 @@ standings w = map (planned w.place) w.plans.items ++ states_left w
 
 -- at the beginning of all runs
 abbrev pub first_standing : Configuration → Standing
-first_standing m = record { machine = m; taken = 0; shown = []; plan = []; chance = record { numerator = 1; denominator = 1 }; runs = 1 }
+first_standing m = record {
+  machine = m;
+  taken = 0;
+  shown = [];
+  plan = [];
+  chance = record { numerator = 1; denominator = 1 };
+  runs = 1;
+}
 
 -- where a machine stands, after the last answer of a plan
 abbrev pub gone_to : Configuration → ℕ → List ℕ → Ratio → ℕ → Standing
-gone_to m taken shown chance runs = record { machine = m; taken = taken; shown = shown; plan = []; chance = chance; runs = runs }
+gone_to m taken shown chance runs = record {
+  machine = m;
+  taken = taken;
+  shown = shown;
+  plan = [];
+  chance = chance;
+  runs = runs;
+}
 
 -- ---- which plays these are
 
@@ -104,7 +120,8 @@ module _ (p : StoredProgram) (input : List (List ℕ)) (rules : Rules) where
 
   -- these runs, and those to which the plays that wait may come, are all runs
   abbrev pub Covers : ℕ → List Answers → List Standing → Type 0
-  Covers most done [] = AreAlike (account (play p input rules) (tree (play p input rules) most)) (account (play p input rules) done)
+  Covers most done [] = AreAlike (account (play p input rules) (tree (play p input rules) most))
+      (account (play p input rules) done)
   Covers most done (w ∷ ws) = (qs : List Answers) × StandsFor w qs × Covers most (below most qs ++ done) ws
 
   pub record Accounted (most : ℕ) (tally : List Row) (ws : List Standing) : Type 0 where
@@ -154,7 +171,8 @@ after_answer w n k = record w {
 -- those after the answers 1 to k were put in
 abbrev pub PutsAnswers : Standing → ℤ → ℕ → List Standing → List Standing → Type 0
 PutsAnswers w n zero old new = new ≡ old
-PutsAnswers w n (suc k) old new = (mid : List Standing) × PutsAnswers w n k old mid × Takes new (after_answer w n (pos (suc k))) mid
+PutsAnswers w n (suc k) old new = (mid : List Standing) × PutsAnswers w n k old mid
+    × Takes new (after_answer w n (pos (suc k))) mid
 
 -- ---- how much is left
 

@@ -1,7 +1,9 @@
 // This file has what is left to be played of all runs: where plays stand, with the chance and the
 // number of the plays that have come there.
 
-ghost use Rattle.std.specs.Prelude.{◌≡◌, ℕ, ◌<ℤ◌, ◌≤ℤ◌, pos, false, List, [], ◌∷◌, ◌++◌, map, unsigned_abs, Option, IsTrue, ◌+◌, ◌<◌, IfOk, OnOk, IfSome, IfNone, ℤ};
+ghost use Rattle.std.specs.Prelude.{◌≡◌, ℕ, ◌<ℤ◌, ◌≤ℤ◌, pos, false, List, [], ◌∷◌, ◌++◌, map};
+ghost use Rattle.std.specs.Prelude.{unsigned_abs, Option, IsTrue, ◌+◌, ◌<◌, IfOk, OnOk, IfSome};
+ghost use Rattle.std.specs.Prelude.{IfNone, ℤ};
 ghost use Rattle.ptb_command.specs.Configuration.{Configuration};
 ghost use Rattle.ptb_command.specs.Representation.{Represents};
 ghost use Rattle.ptb_command.specs.State.{first_state};

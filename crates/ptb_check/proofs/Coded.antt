@@ -79,7 +79,8 @@ module _ (p : Statements) (t : List ℕ) (word : Word) (i : ℕ) (steps : List S
   part_then : (left : Reading (List Part)) (part : Part) (Stuck : Type 0) (o : Option Fault) (rest : List Operation)
       (P : Reading (List Part) → Type 0)
       → IsPart left part Stuck P → Tells parts_fault left → o ≡ part_fault part → (part_fault part ≡ None → Stuck → ⊥)
-      → ((others : Reading (List Part)) → left ≡ in_front part others → P others → part_fault part ≡ None → code_mistake p steps rest ≡ parts_mistake p word (in_front part others))
+      → ((others : Reading (List Part)) → left ≡ in_front part others → P others → part_fault part ≡ None
+      → code_mistake p steps rest ≡ parts_mistake p word (in_front part others))
       → option_or o (code_mistake p steps rest) ≡ parts_mistake p word left
   part_then left part Stuck o rest P at tells same free next = by_fault (part_fault part) refl
     where
@@ -178,7 +179,8 @@ module _ (p : Statements) (t : List ℕ) (word : Word) (i : ℕ) (steps : List S
       (λ others is k clean. after_part left _ others rest refl tells is clean (code_tells others rest k))
   code_tells left (operations.Discard e ∷ rest) h tells =
       part_then left (Operand h.1) _ _ rest _ h.3 tells h.2.evaluate.fail (λ clean v. not_none _ clean v.written)
-      (λ others is k clean. after_operand left h.1 others rest k.0.parts k.0.is tells is clean (code_tells others rest k.1))
+      (λ others is k clean. after_operand left h.1 others rest k.0.parts k.0.is tells is clean
+      (code_tells others rest k.1))
   code_tells left (operations.Fail kind mark ∷ rest) h tells = sym (ap (parts_mistake p word) h)
   code_tells left (operations.Done next ∷ rest) h tells = nothing_jumps p word left h.1 h.2
   code_tells left (operations.If e then_ ∷ rest) h tells =
@@ -191,7 +193,8 @@ module _ (p : Statements) (t : List ℕ) (word : Word) (i : ℕ) (steps : List S
       ∙ sym (ap (parts_mistake p word) h.3 ∙ ap (λ w. jump_mistake p end (jump_number w (Operand h.1 ∷ []))) h.0)
   code_tells left (operations.Return end ∷ rest) h tells = nothing_jumps p word left end h.1
   code_tells left (operations.For letter limit step end next ∷ rest) h tells =
-      sym (ap (parts_mistake p word) h.6 ∙ ap (λ w. jump_mistake p end (jump_number w (Operand h.2 ∷ Operand h.3 ∷ []))) h.0)
+      sym (ap (parts_mistake p word) h.6 ∙ ap (λ w. jump_mistake p end (jump_number w (Operand h.2 ∷ Operand h.3 ∷ [])))
+      h.0)
   code_tells left (operations.EndTurn letter end next ∷ rest) h tells = nothing_jumps p word left end h.2
   code_tells left (operations.Stop ∷ rest) h tells = nothing_jumps p word left h.1 h.2
   code_tells left (operations.Remark ∷ rest) h tells = nothing_jumps p word left h.1 h.2

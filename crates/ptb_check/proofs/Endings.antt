@@ -66,7 +66,8 @@ for_stays : (e : ℕ) (loop : Loop) (S : State) (a : Answers)
 for_stays e loop S a = by_room (is_full (without_loop loop.letter S))
   where
     by_room : (b : Bool)
-        → HaltStays S (cond b (fails kinds.Sorry e (without_loop loop.letter S) a) (Done (Goes tt (with_loop loop (without_loop loop.letter S))) a))
+        → HaltStays S (cond b (fails kinds.Sorry e (without_loop loop.letter S) a)
+        (Done (Goes tt (with_loop loop (without_loop loop.letter S))) a))
     by_room true = refl
     by_room false = tt
 
@@ -202,7 +203,8 @@ module _ (effects : EffectLaws) where
     told_next : (o : Outcome Last State) (f : Finish) (rest : Answers) → NextAtLast o
         → map_outcome (λ g. g) (λ (S : State). S.shown) (map_outcome finish_of (λ (S : State). S) o) ≡ Done f rest
         → f.ending ≡ ending_of kind → StandsNext p.lines (last_state o)
-    told_next (Done last r) f rest h e k = let same : finish_of last ≡ f = cc in h (ap (λ (g : Finish). g.ending) same ∙ k)
+    told_next (Done last r) f rest h e k = let same : finish_of last ≡ f = cc in
+        h (ap (λ (g : Finish). g.ending) same ∙ k)
     told_next (Asks n T) f rest h e k = absurd cc
     told_next (Out n T) f rest h e k = absurd cc
 

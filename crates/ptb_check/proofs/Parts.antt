@@ -53,7 +53,8 @@ abbrev RoundTells : Round Part → Type 0
 RoundTells (Last r) = Tells parts_fault r
 RoundTells (Onward part j) = part_fault part ≡ None
 
-module _ (t : List ℕ) (round : ℕ → Round Part) (advances : Advances t round) (tells : (i : ℕ) → RoundTells (round i)) where
+module _ (t : List ℕ) (round : ℕ → Round Part) (advances : Advances t round) (tells : (i : ℕ)
+    → RoundTells (round i)) where
   within_tells : (n i : ℕ) → length t - i < n → Tells parts_fault (items_within n round i)
   unfolding items_within
   within_tells zero i h = absurd (omega arith)

@@ -59,7 +59,8 @@ module _ (p : Statements) (n : ℕ) (t : List ℕ) where
   mistakes_from = flat_map (λ c. mistake_in (n, t) (command_mistake p c))
 
   pub mistakes_left : (i : ℕ) (others : List Command) → commands_from t i ≡ command_at t i ∷ others
-      → mistakes_from (commands_from t i) ≡ mistake_in (n, t) (command_mistake p (command_at t i)) ++ mistakes_from others
+      → mistakes_from (commands_from t i) ≡ mistake_in (n, t) (command_mistake p (command_at t i))
+      ++ mistakes_from others
   mistakes_left i others e = ap mistakes_from e
 
 -- ---- the statements of a program
@@ -75,11 +76,13 @@ drop_there (y ∷ xs) zero x e = let same : y ≡ x = cc in ap (λ z. z ∷ xs) 
 drop_there (y ∷ xs) (suc k) x e = drop_there xs k x e
 
 pub statement_left : (p q : Statements) (at : ℕ) (n : ℤ) (t : List ℕ) → at < length p → IsLineAt p at n t
-    → flat_map (statement_mistakes q) (drop at p) ≡ statement_mistakes q (unsigned_abs n, t) ++ flat_map (statement_mistakes q) (drop (at + 1) p)
+    → flat_map (statement_mistakes q) (drop at p) ≡ statement_mistakes q (unsigned_abs n, t)
+    ++ flat_map (statement_mistakes q) (drop (at + 1) p)
 statement_left p q at n t lt line =
     let there = statement_there p at lt in
     let is = line there.0.0 there.0.1 there.1 in
-    let same : there.0 ≡ (unsigned_abs n, t) = ap₂ (λ (m : ℕ) (u : List ℕ). (m, u)) (sym (ap unsigned_abs is.0)) (sym is.1) in
+    let same : there.0 ≡ (unsigned_abs n, t) =
+    ap₂ (λ (m : ℕ) (u : List ℕ). (m, u)) (sym (ap unsigned_abs is.0)) (sym is.1) in
     ap (flat_map (statement_mistakes q)) (drop_there p at there.0 there.1)
     ∙ ap₂ (λ (s : ℕ × List ℕ) (k : ℕ). statement_mistakes q s ++ flat_map (statement_mistakes q) (drop k p)) same
     (sym (add-one at))

@@ -100,7 +100,8 @@ in_all : (p : Statements) (q : Place) (c : Command) (f : Fault) → IsAmong p (q
     → IsAmong (commands (text_of p q.number)) c → command_mistake p c ≡ Some f → IsAmong (mistakes p) (mistake_at p q f)
 in_all p q c f statement there is =
     among_all (statement_mistakes p) p (q.number, text_of p q.number) (mistake_at p q f) statement
-    (among_all (λ d. mistake_in (q.number, text_of p q.number) (command_mistake p d)) (commands (text_of p q.number)) c (mistake_at p q f) there (alone p q c f is))
+    (among_all (λ d. mistake_in (q.number, text_of p q.number) (command_mistake p d)) (commands (text_of p q.number)) c
+    (mistake_at p q f) there (alone p q c f is))
 
 module _ (spelling : SpellingLaws) (laws : CommandLaws) where
   command_tells : (t : List ℕ) (b : ℕ) → Tells parts_fault (command_at t b).parts

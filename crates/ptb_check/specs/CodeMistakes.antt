@@ -1,5 +1,6 @@
 -- This file defines the mistake of a command by its code.
---     code_mistake p steps operations      the fault of the first operation that has one in any run, or a jump to no statement
+--     code_mistake p steps operations      the fault of the first operation that has one in any run, or a jump to no
+--                                          statement
 use Rattle.std.specs.Prelude.{List, [], ◌∷◌, Option, Some, None}
 use Rattle.std.specs.Option.{option_or}
 use Rattle.ptb_text.specs.Statements.{Statements}

@@ -1,7 +1,8 @@
 -- This file defines how mistakes are written.
 --     texts due                      the texts of mistakes, one after the other
 --     has_any due                    there is one
---     WritesMistakes due old new result    these mistakes were written, or a prefix of their texts where the writer failed
+--     WritesMistakes due old new result    these mistakes were written, or a prefix of their texts where the writer
+--                                          failed
 use Rattle.std.specs.Prelude.{◌≡◌, ℕ, Bool, true, false, List, [], ◌∷◌, flat_map, Option, Result, IfOk, OnErr, OnOk}
 use Rattle.std.specs.Io.KnownBytes.{Appends}
 use Rattle.ptb_text.specs.Device.{TakesSome}
@@ -16,7 +17,8 @@ has_any [] = false
 has_any (mistake ∷ others) = true
 
 -- the writer took `old` before, and `new` after
-pub record WritesMistakes (due : List Mistake) (old new : Option (List ℕ)) (result : Result Bool WriteFault) : Type 0 where
+pub record WritesMistakes (due : List Mistake) (old new : Option (List ℕ))
+    (result : Result Bool WriteFault) : Type 0 where
   -- all of them were written; `any` is whether there is one
   pub ok : OnOk result (Appends old new (texts due))
   pub any : IfOk result (λ any. any ≡ has_any due)

@@ -1,16 +1,29 @@
 -- This file proves that the parts of a command and the commands of a statement lie ahead, and within the text.
 -- Main lemma: `commands_advance`.
-use Rattle.std.proofs.Common.{◌≡◌, ℕ, zero, suc, Bool, true, false, cond, List, [], length, Option, Some, None, refl, subst, arith}
+use Rattle.std.proofs.Common.{◌≡◌, ℕ, zero, suc, Bool, true, false, cond, List, [], length, Option}
+use Rattle.std.proofs.Common.{Some, None, refl, subst, arith}
 use Rattle.ptb_words.specs.declared.word.Table.TheVariants.{Commands, To, Step}
 use Rattle.ptb_words.specs.declared.word.Word.{Word}
-use Rattle.ptb_words.specs.declared.word.Word.TheVariants.{NextKw, LetKw, IfKw, GotoKw, GosubKw, ReturnKw, RemKw, ForKw, InputKw, PrintKw, StopKw}
-use Rattle.ptb_words.specs.Words.{is_over, word_at, token_at, letter_at, Quotation, NoQuote, OpenQuote, QuotedText, quotation_at}
+use Rattle.ptb_words.specs.declared.word.Word.TheVariants.{NextKw, LetKw, IfKw, GotoKw, GosubKw}
+use Rattle.ptb_words.specs.declared.word.Word.TheVariants.{ReturnKw, RemKw, ForKw, InputKw, PrintKw}
+use Rattle.ptb_words.specs.declared.word.Word.TheVariants.{StopKw}
+use Rattle.ptb_words.specs.Words.{is_over, word_at, token_at, letter_at, Quotation, NoQuote}
+use Rattle.ptb_words.specs.Words.{OpenQuote, QuotedText, quotation_at}
 use Rattle.ptb_words.specs.Finding.{LiesAhead, FindingLaws}
 use Rattle.ptb_expr.specs.Tree.{Tree}
 use Rattle.ptb_expr.specs.Reading.{Reading, Whole, Malformed, after, map_reading, expression, variable_tree}
 use Rattle.ptb_expr.specs.Spells.{SpellingLaws}
 use Rattle.ptb_command.specs.Items.{Round, Last, Onward, in_front, with_others, items_within, items, Advances, LiesOn}
-use Rattle.ptb_command.specs.Commands.{Part, Assign, Show, NewLine, Letter, Operand, Command, at_end, defect, end_check, over_check, part_and, after_part, comma_round, value_part, assignment, or_quotation, string_at, string_or_value, width_or, print_item, next_item, after_item, item_round, print_parts_if, print_parts, variable_item, string_item, input_item_by, input_item, step_by, step_parts, limit_by, limit_parts, first_parts, for_by, for_parts, next_by, next_parts, parts_of, command_of, command_by, command_at, next_begin, command_and, after_command, command_unless, command_round}
+use Rattle.ptb_command.specs.Commands.{Part, Assign, Show, NewLine, Letter, Operand, Command}
+use Rattle.ptb_command.specs.Commands.{at_end, defect, end_check, over_check, part_and, after_part}
+use Rattle.ptb_command.specs.Commands.{comma_round, value_part, assignment, or_quotation, string_at}
+use Rattle.ptb_command.specs.Commands.{string_or_value, width_or, print_item, next_item, after_item}
+use Rattle.ptb_command.specs.Commands.{item_round, print_parts_if, print_parts, variable_item}
+use Rattle.ptb_command.specs.Commands.{string_item, input_item_by, input_item, step_by, step_parts}
+use Rattle.ptb_command.specs.Commands.{limit_by, limit_parts, first_parts, for_by, for_parts}
+use Rattle.ptb_command.specs.Commands.{next_by, next_parts, parts_of, command_of, command_by}
+use Rattle.ptb_command.specs.Commands.{command_at, next_begin, command_and, after_command}
+use Rattle.ptb_command.specs.Commands.{command_unless, command_round}
 
 -- ---- places
 
@@ -22,16 +35,19 @@ module _ (t : List ℕ) where
   on_ahead i j a = let h = a.after in record { from = omega arith; within = λ _. a.within; settled = λ _. a.settled }
 
   on_on : (i j k : ℕ) → LiesOn t i j → LiesOn t j k → LiesOn t i k
-  on_on i j k a b = let h = a.from in let g = b.from in record { from = omega arith; within = λ n. b.within (a.within n); settled = λ n. b.settled (a.settled n) }
+  on_on i j k a b = let h = a.from in let g = b.from in
+      record { from = omega arith; within = λ n. b.within (a.within n); settled = λ n. b.settled (a.settled n) }
 
   ahead_of : (i j k : ℕ) → LiesOn t i j → LiesAhead t j k → LiesAhead t i k
-  ahead_of i j k a b = let h = a.from in let g = b.after in record { after = omega arith; within = b.within; settled = b.settled }
+  ahead_of i j k a b = let h = a.from in let g = b.after in
+      record { after = omega arith; within = b.within; settled = b.settled }
 
   further : (i j k : ℕ) → LiesAhead t i j → LiesAhead t j k → LiesAhead t i k
   further i j k a b = ahead_of i j k (on_ahead i j a) b
 
   on_from : (i j k : ℕ) → LiesAhead t i j → LiesOn t j k → LiesAhead t i k
-  on_from i j k a b = let h = a.after in let g = b.from in record { after = omega arith; within = b.within a.within; settled = b.settled a.settled }
+  on_from i j k a b = let h = a.after in let g = b.from in
+      record { after = omega arith; within = b.within a.within; settled = b.settled a.settled }
 
   -- ---- readings
 
@@ -56,11 +72,13 @@ module _ (t : List ℕ) where
   on_after i j (Whole x k) a b = on_on i j k a b
   on_after i j (Malformed x) a b = tt
 
-  after_ahead : {A B : Type 0} (i : ℕ) (r : Reading A) (wrap : A → B) (next : A → ℕ → Reading B) → EndsAhead i r → ((x : A) (j : ℕ) → LiesAhead t i j → EndsAhead i (next x j)) → EndsAhead i (after r wrap next)
+  after_ahead : {A B : Type 0} (i : ℕ) (r : Reading A) (wrap : A → B) (next : A → ℕ → Reading B) → EndsAhead i r
+      → ((x : A) (j : ℕ) → LiesAhead t i j → EndsAhead i (next x j)) → EndsAhead i (after r wrap next)
   after_ahead i (Whole x j) wrap next a each = each x j a
   after_ahead i (Malformed x) wrap next a each = tt
 
-  after_on : {A B : Type 0} (i : ℕ) (r : Reading A) (wrap : A → B) (next : A → ℕ → Reading B) → EndsOn i r → ((x : A) (j : ℕ) → EndsOn j (next x j)) → EndsOn i (after r wrap next)
+  after_on : {A B : Type 0} (i : ℕ) (r : Reading A) (wrap : A → B) (next : A → ℕ → Reading B) → EndsOn i r
+      → ((x : A) (j : ℕ) → EndsOn j (next x j)) → EndsOn i (after r wrap next)
   after_on i (Whole x j) wrap next a each = on_after i j (next x j) a (each x j)
   after_on i (Malformed x) wrap next a each = tt
 
@@ -82,16 +100,20 @@ module _ (t : List ℕ) where
   pub advances : {X : Type 0} (round : ℕ → Round X) → ((i : ℕ) → RoundOn i (round i)) → Advances t round
   advances round on = record { ahead = λ i j x e. subst (RoundOn i) e (on i) }
 
-  within_on : {X : Type 0} (n : ℕ) (round : ℕ → Round X) → ((i : ℕ) → RoundOn i (round i)) → (i : ℕ) → EndsOn i (items_within n round i)
+  within_on : {X : Type 0} (n : ℕ) (round : ℕ → Round X) → ((i : ℕ) → RoundOn i (round i)) → (i : ℕ)
+      → EndsOn i (items_within n round i)
   unfolding items_within
   within_on zero round on i = tt
   within_on (suc n) round on i = go (round i) (on i) (λ j. within_on n round on j)
     where
-      go : (r : Round _) → RoundOn i r → ((j : ℕ) → EndsOn j (items_within n round j)) → EndsOn i (with_others (items_within n round) r)
+      go : (r : Round _) → RoundOn i r → ((j : ℕ) → EndsOn j (items_within n round j))
+          → EndsOn i (with_others (items_within n round) r)
       go (Last r) a more = a
-      go (Onward x j) a more = in_front_on x i (items_within n round j) (on_after i j (items_within n round j) (on_ahead i j a) (more j))
+      go (Onward x j) a more =
+          in_front_on x i (items_within n round j) (on_after i j (items_within n round j) (on_ahead i j a) (more j))
 
-  pub items_on : {X : Type 0} (round : ℕ → Round X) → ((i : ℕ) → RoundOn i (round i)) → (i : ℕ) → EndsOn i (items t round i)
+  pub items_on : {X : Type 0} (round : ℕ → Round X) → ((i : ℕ) → RoundOn i (round i)) → (i : ℕ)
+      → EndsOn i (items t round i)
   unfolding items
   items_on round on i = within_on (suc (length t)) round on i
 
@@ -141,14 +163,18 @@ module _ (finding : FindingLaws) (spelling : SpellingLaws) (t : List ℕ) where
     where
       by_comma : (o : Option ℕ) → token_at 44 t j ≡ o → RoundOn t i (after_part t part j o)
       by_comma (Some k) e = further t i j k a (finding.token 44 t j k e)
-      by_comma None e = in_front_on t part i (end_check t j) (on_after t i j (end_check t j) (on_ahead t i j a) (end_on j))
+      by_comma None e =
+          in_front_on t part i (end_check t j) (on_after t i j (end_check t j) (on_ahead t i j a) (end_on j))
 
   assignment_ends : (i : ℕ) → EndsAhead t i (assignment t i)
   unfolding assignment
-  assignment_ends i = after_ahead t i (variable_tree t i) _ _ (variable_ends i) (λ x j a. by_equals x j a (token_at 61 t j) refl)
+  assignment_ends i = after_ahead t i (variable_tree t i) _ _ (variable_ends i)
+      (λ x j a. by_equals x j a (token_at 61 t j) refl)
     where
-      by_equals : (x : Tree) (j : ℕ) → LiesAhead t i j → (o : Option ℕ) → token_at 61 t j ≡ o → EndsAhead t i (value_part t x j o)
-      by_equals x j a (Some k) e = map_ahead t (Assign x) i (expression t k) (expression_after i k (further t i j k a (finding.token 61 t j k e)))
+      by_equals : (x : Tree) (j : ℕ) → LiesAhead t i j → (o : Option ℕ) → token_at 61 t j ≡ o
+          → EndsAhead t i (value_part t x j o)
+      by_equals x j a (Some k) e = map_ahead t (Assign x) i (expression t k)
+          (expression_after i k (further t i j k a (finding.token 61 t j k e)))
       by_equals x j a None e = tt
 
   pub let_advances : Advances t (λ j. comma_round t (assignment t j))
@@ -205,7 +231,8 @@ module _ (finding : FindingLaws) (spelling : SpellingLaws) (t : List ℕ) where
       by_string NoQuote a = map_ahead t Show i (expression t i) (expression_ends i)
 
       by_width : (o : Option ℕ) → token_at 35 t i ≡ o → EndsAhead t i (width_or t i o)
-      by_width (Some j) e = after_ahead t i (expression t j) _ _ (expression_after i j (finding.token 35 t i j e)) (λ x k a. a)
+      by_width (Some j) e = after_ahead t i (expression t j) _ _ (expression_after i j (finding.token 35 t i j e))
+          (λ x k a. a)
       by_width None e = by_string (string_at t i) (string_ends i)
 
   item_on : (i : ℕ) (r : Reading Part) → EndsAhead t i r → RoundOn t i (item_round t r)
@@ -218,14 +245,16 @@ module _ (finding : FindingLaws) (spelling : SpellingLaws) (t : List ℕ) where
 
       by_comma : (o : Option ℕ) → token_at 44 t j ≡ o → RoundOn t i (after_item t part j o)
       by_comma (Some k) e = by_next k _ (further t i j k a (finding.token 44 t j k e))
-      by_comma None e = in_front_on t part i _ (in_front_on t NewLine i (end_check t j) (on_after t i j (end_check t j) (on_ahead t i j a) (end_on j)))
+      by_comma None e = in_front_on t part i _
+          (in_front_on t NewLine i (end_check t j) (on_after t i j (end_check t j) (on_ahead t i j a) (end_on j)))
 
   pub print_advances : Advances t (λ j. item_round t (print_item t j))
   print_advances = advances t _ (λ i. item_on i (print_item t i) (print_item_ends i))
 
   -- ---- all parts
 
-  part_and_on : (node : Tree → Part) (i : ℕ) (r : Reading Tree) (next : ℕ → Reading (List Part)) → EndsOn t i r → ((j : ℕ) → EndsOn t j (next j)) → EndsOn t i (part_and node r next)
+  part_and_on : (node : Tree → Part) (i : ℕ) (r : Reading Tree) (next : ℕ → Reading (List Part)) → EndsOn t i r
+      → ((j : ℕ) → EndsOn t j (next j)) → EndsOn t i (part_and node r next)
   part_and_on node i r next a each = after_on t i r _ _ a (λ x j. in_front_on t (node x) j (next j) (each j))
 
   expression_on : (i j : ℕ) → LiesOn t i j → EndsOn t i (expression t j)
@@ -236,7 +265,8 @@ module _ (finding : FindingLaws) (spelling : SpellingLaws) (t : List ℕ) where
   step_on i = by_word (word_at Step t i) refl
     where
       by_word : (o : Option (Word × ℕ)) → word_at Step t i ≡ o → EndsOn t i (step_by t i o)
-      by_word (Some w) e = part_and_on Operand i (expression t w.1) (end_check t) (expression_on i w.1 (on_ahead t i w.1 (finding.word Step t i w.0 w.1 e))) end_on
+      by_word (Some w) e = part_and_on Operand i (expression t w.1) (end_check t)
+          (expression_on i w.1 (on_ahead t i w.1 (finding.word Step t i w.0 w.1 e))) end_on
       by_word None e = in_front_on t _ i (end_check t i) (end_on i)
 
   limit_on : (i : ℕ) → EndsOn t i (limit_parts t i)
@@ -244,14 +274,16 @@ module _ (finding : FindingLaws) (spelling : SpellingLaws) (t : List ℕ) where
   limit_on i = by_word (word_at To t i) refl
     where
       by_word : (o : Option (Word × ℕ)) → word_at To t i ≡ o → EndsOn t i (limit_by t i o)
-      by_word (Some w) e = part_and_on Operand i (expression t w.1) (step_parts t) (expression_on i w.1 (on_ahead t i w.1 (finding.word To t i w.0 w.1 e))) step_on
+      by_word (Some w) e = part_and_on Operand i (expression t w.1) (step_parts t)
+          (expression_on i w.1 (on_ahead t i w.1 (finding.word To t i w.0 w.1 e))) step_on
       by_word None e = tt
 
   first_on : (x i : ℕ) → EndsOn t i (first_parts t x i (token_at 61 t i))
   first_on x i = by_equals (token_at 61 t i) refl
     where
       by_equals : (o : Option ℕ) → token_at 61 t i ≡ o → EndsOn t i (first_parts t x i o)
-      by_equals (Some j) e = part_and_on _ i (expression t j) (limit_parts t) (expression_on i j (on_ahead t i j (finding.token 61 t i j e))) limit_on
+      by_equals (Some j) e = part_and_on _ i (expression t j) (limit_parts t)
+          (expression_on i j (on_ahead t i j (finding.token 61 t i j e))) limit_on
       by_equals None e = tt
 
   for_on : (i : ℕ) → EndsOn t i (for_parts t i)
@@ -261,7 +293,8 @@ module _ (finding : FindingLaws) (spelling : SpellingLaws) (t : List ℕ) where
       by_letter : (o : Option (ℕ × ℕ)) → letter_at t i ≡ o → EndsOn t i (for_by t i o)
       by_letter (Some x) e =
           let r = first_parts t x.0 x.1 (token_at 61 t x.1) in
-          in_front_on t (Letter x.0) i r (on_after t i x.1 r (on_ahead t i x.1 (finding.letter t i x.0 x.1 e)) (first_on x.0 x.1))
+          in_front_on t (Letter x.0) i r
+          (on_after t i x.1 r (on_ahead t i x.1 (finding.letter t i x.0 x.1 e)) (first_on x.0 x.1))
       by_letter None e = tt
 
   next_on : (i : ℕ) → EndsOn t i (next_parts t i)
@@ -269,7 +302,8 @@ module _ (finding : FindingLaws) (spelling : SpellingLaws) (t : List ℕ) where
   next_on i = by_letter (letter_at t i) refl
     where
       by_letter : (o : Option (ℕ × ℕ)) → letter_at t i ≡ o → EndsOn t i (next_by t i o)
-      by_letter (Some x) e = in_front_on t (Letter x.0) i (end_check t x.1) (on_after t i x.1 (end_check t x.1) (on_ahead t i x.1 (finding.letter t i x.0 x.1 e)) (end_on x.1))
+      by_letter (Some x) e = in_front_on t (Letter x.0) i (end_check t x.1)
+          (on_after t i x.1 (end_check t x.1) (on_ahead t i x.1 (finding.letter t i x.0 x.1 e)) (end_on x.1))
       by_letter None e = tt
 
   print_on : (i : ℕ) → EndsOn t i (print_parts t i)
@@ -308,7 +342,9 @@ module _ (finding : FindingLaws) (spelling : SpellingLaws) (t : List ℕ) where
   next_ahead IfKw i e j a h = let same : e ≡ j = cc in subst (LiesAhead t i) same a
   next_ahead _ i e j a h = further t i e j a (finding.token 59 t e j h)
 
-  after_command_on : (c : Command) (i : ℕ) (r : Reading (List Part)) → EndsOn t i r → ((parts : List Part) (e j : ℕ) → r ≡ Whole parts e → next_begin c.kind t e ≡ Some j → LiesAhead t i j) → RoundOn t i (after_command t c r)
+  after_command_on : (c : Command) (i : ℕ) (r : Reading (List Part)) → EndsOn t i r
+      → ((parts : List Part) (e j : ℕ) → r ≡ Whole parts e → next_begin c.kind t e ≡ Some j → LiesAhead t i j)
+      → RoundOn t i (after_command t c r)
   after_command_on c i (Malformed parts) a next = tt
   after_command_on c i (Whole parts e) a next = by_begin (next_begin c.kind t e) (λ j h. next parts e j refl h)
     where
@@ -323,10 +359,12 @@ module _ (finding : FindingLaws) (spelling : SpellingLaws) (t : List ℕ) where
       ends : (w : Word) (k : ℕ) (parts : List Part) (e : ℕ) → parts_of w t k ≡ Whole parts e → LiesOn t k e
       ends w k parts e h = subst (EndsOn t k) h (parts_on w k)
 
-      by_word : (o : Option (Word × ℕ)) → word_at Commands t i ≡ o → RoundOn t i (after_command t (command_by t i o) (command_by t i o).parts)
+      by_word : (o : Option (Word × ℕ)) → word_at Commands t i ≡ o
+          → RoundOn t i (after_command t (command_by t i o) (command_by t i o).parts)
       by_word (Some w) e =
           let a = finding.word Commands t i w.0 w.1 e in
-          after_command_on (command_of w.0 (parts_of w.0 t w.1)) i (parts_of w.0 t w.1) (on_after t i w.1 (parts_of w.0 t w.1) (on_ahead t i w.1 a) (parts_on w.0 w.1))
+          after_command_on (command_of w.0 (parts_of w.0 t w.1)) i (parts_of w.0 t w.1)
+          (on_after t i w.1 (parts_of w.0 t w.1) (on_ahead t i w.1 a) (parts_on w.0 w.1))
           (λ parts e j h n. next_ahead w.0 i e j (on_from t i w.1 e a (ends w.0 w.1 parts e h)) n)
       by_word None e =
           after_command_on (command_of LetKw (parts_of LetKw t i)) i (parts_of LetKw t i) (parts_on LetKw i)

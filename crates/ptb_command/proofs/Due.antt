@@ -1,6 +1,7 @@
 -- This file proves what is left of bytes that are gathered, and not shown yet, where a part of a command stops.
 -- Main lemma: `stops_due`.
-use Rattle.std.proofs.Common.{◌≡◌, Bool, true, false, List, [], ◌∷◌, ◌++◌, ℕ, Result, Err, refl, sym, ap, subst, ◌∙◌, append-nil}
+use Rattle.std.proofs.Common.{◌≡◌, Bool, true, false, List, [], ◌∷◌, ◌++◌, ℕ, Result, Err, refl}
+use Rattle.std.proofs.Common.{sym, ap, subst, ◌∙◌, append-nil}
 use Rattle.ptb_answers.specs.Outcome.{Answers, Outcome}
 use Rattle.ptb_command.specs.declared.stop.Stop.{Stop}
 use Rattle.ptb_command.specs.declared.stop.Stop.TheVariants as stops
@@ -34,20 +35,32 @@ due_goes (b ∷ due) (stops.Pause z) h = cc
 due_goes (b ∷ due) (stops.DeviceFailed x) h = refl
 
 -- what is dropped is left to do
-pub refines_part_dropped : {A : Type 0} {o n : Trace} {f g : State → Answers → Outcome A State} → RefinesPart o n f g → RefinesPart o (with_due [] n) f (λ S. g (once_shown n.due S))
+pub refines_part_dropped : {A : Type 0} {o n : Trace} {f g : State → Answers → Outcome A State} → RefinesPart o n f g
+    → RefinesPart o (with_due [] n) f (λ S. g (once_shown n.due S))
 refines_part_dropped m = record { exchange = m.exchange; exchanges = m.exchanges; fresh = m.fresh; leaves = m.leaves }
 
 -- where it is shown later, and where it isn't
-pub stops_due : {A : Type 0} (refused : Refusal → Type 0) (o n : Trace) (f : Action A) (e : Stop) → is_shown_at e ≡ true → Stops refused (RefinesPartTo o n f) n.devices e → Stops refused (RefinesPartTo o (with_due (still_due n.due e) n) f) n.devices e
-stops_due refused o n f e k h = subst (λ (due : List ℕ). Stops refused (RefinesPartTo o (with_due due n) f) n.devices e) (sym (due_stays n.due e k)) h
+pub stops_due : {A : Type 0} (refused : Refusal → Type 0) (o n : Trace) (f : Action A) (e : Stop) → is_shown_at e ≡ true
+    → Stops refused (RefinesPartTo o n f) n.devices e
+    → Stops refused (RefinesPartTo o (with_due (still_due n.due e) n) f) n.devices e
+stops_due refused o n f e k h = subst (λ (due : List ℕ). Stops refused (RefinesPartTo o (with_due due n) f) n.devices e)
+    (sym (due_stays n.due e k)) h
 
-pub stops_dropped : {A : Type 0} (refused : Refusal → Type 0) (o n : Trace) (f : Action A) (e : Stop) → is_shown_at e ≡ false → Stops refused (RefinesPartTo o (with_due [] n) f) n.devices e → Stops refused (RefinesPartTo o (with_due (still_due n.due e) n) f) n.devices e
-stops_dropped refused o n f e k h = subst (λ (due : List ℕ). Stops refused (RefinesPartTo o (with_due due n) f) n.devices e) (sym (due_goes n.due e k)) h
+pub stops_dropped : {A : Type 0} (refused : Refusal → Type 0) (o n : Trace) (f : Action A) (e : Stop)
+    → is_shown_at e ≡ false → Stops refused (RefinesPartTo o (with_due [] n) f) n.devices e
+    → Stops refused (RefinesPartTo o (with_due (still_due n.due e) n) f) n.devices e
+stops_dropped refused o n f e k h = subst
+    (λ (due : List ℕ). Stops refused (RefinesPartTo o (with_due due n) f) n.devices e) (sym (due_goes n.due e k)) h
 
 -- where nothing is gathered
-pub stops_none : {A : Type 0} (refused : Refusal → Type 0) (o n : Trace) (f : Action A) (e : Stop) → n.due ≡ [] → Stops refused (RefinesPartTo o n f) n.devices e → Stops refused (RefinesPartTo o (with_due (still_due n.due e) n) f) n.devices e
+pub stops_none : {A : Type 0} (refused : Refusal → Type 0) (o n : Trace) (f : Action A) (e : Stop) → n.due ≡ []
+    → Stops refused (RefinesPartTo o n f) n.devices e
+    → Stops refused (RefinesPartTo o (with_due (still_due n.due e) n) f) n.devices e
 stops_none refused o n f e none h =
-    subst (λ (due : List ℕ). Stops refused (RefinesPartTo o (with_due due n) f) n.devices e) (none ∙ sym (ap (λ (due : List ℕ). still_due due e) none)) h
+    subst (λ (due : List ℕ). Stops refused (RefinesPartTo o (with_due due n) f) n.devices e)
+    (none ∙ sym (ap (λ (due : List ℕ). still_due due e) none)) h
 
-pub comes_emptied : {A X : Type 0} (refused : Refusal → Type 0) (o n : Trace) (f : Action A) (ok : X → Action A) (due : List ℕ) → due ≡ [] → (r : Result X Stop) → Comes refused o (with_due [] n) f ok r → Comes refused o (with_due due n) f ok r
+pub comes_emptied : {A X : Type 0} (refused : Refusal → Type 0) (o n : Trace) (f : Action A) (ok : X → Action A)
+    (due : List ℕ)
+    → due ≡ [] → (r : Result X Stop) → Comes refused o (with_due [] n) f ok r → Comes refused o (with_due due n) f ok r
 comes_emptied refused o n f ok due none r h = subst (λ (x : List ℕ). Comes refused o (with_due x n) f ok r) (sym none) h

@@ -15,16 +15,28 @@ pub string_return : (t : List ℕ) (i j : ℕ) → token_at 95 t i ≡ Some j �
 unfolding string_at
 string_return t i j e = ap (λ o. or_quotation o (quotation_at t i)) e
 
-pub string_quoted : (t : List ℕ) (i : ℕ) (q : Quotation) → token_at 95 t i ≡ None → quotation_at t i ≡ q → string_at t i ≡ q
+pub string_quoted : (t : List ℕ) (i : ℕ) (q : Quotation) → token_at 95 t i ≡ None → quotation_at t i ≡ q
+    → string_at t i ≡ q
 unfolding string_at
 string_quoted t i q e k = ap (λ o. or_quotation o (quotation_at t i)) e ∙ k
 
 -- ---- words
 
-pub command_word : (t : List ℕ) (i : ℕ) (word : Word) (j : ℕ) → word_at Commands t i ≡ Some (word, j) → LiesAhead t i j → IsFirstWord t i word j
+pub command_word : (t : List ℕ) (i : ℕ) (word : Word) (j : ℕ) → word_at Commands t i ≡ Some (word, j) → LiesAhead t i j
+    → IsFirstWord t i word j
 unfolding command_at
-command_word t i word j e l = record { there = ap (λ o. unwrap_or o (LetKw, i)) e; command = ap (command_by t i) e; from = omega (arith, l.after); within = l.within }
+command_word t i word j e l = record {
+  there = ap (λ o. unwrap_or o (LetKw, i)) e;
+  command = ap (command_by t i) e;
+  from = omega (arith, l.after);
+  within = l.within;
+}
 
 pub no_command_word : (t : List ℕ) (i : ℕ) → word_at Commands t i ≡ None → i ≤ length t → IsFirstWord t i LetKw i
 unfolding command_at
-no_command_word t i e h = record { there = ap (λ o. unwrap_or o (LetKw, i)) e; command = ap (command_by t i) e; from = omega arith; within = h }
+no_command_word t i e h = record {
+  there = ap (λ o. unwrap_or o (LetKw, i)) e;
+  command = ap (command_by t i) e;
+  from = omega arith;
+  within = h;
+}

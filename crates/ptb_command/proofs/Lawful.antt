@@ -5,7 +5,8 @@ use Rattle.ptb_expr.specs.Spells.{SpellingLaws}
 use Rattle.ptb_command.specs.Commands.{command_round}
 use Rattle.ptb_command.proofs.Sequences.{enough_rounds, items_by_round}
 use Rattle.ptb_command.proofs.CommandOrder.{let_advances, input_advances, print_advances, commands_advance, parts_end}
-use Rattle.ptb_command.proofs.Places.{commands_by_round, at_first, at_next, at_last, at_there, at_none, begins_at, begin_there}
+use Rattle.ptb_command.proofs.Places.{commands_by_round, at_first, at_next, at_last, at_there}
+use Rattle.ptb_command.proofs.Places.{at_none, begins_at, begin_there}
 use Rattle.ptb_command.specs.Laws.{CommandLaws}
 
 pub command_laws : FindingLaws → SpellingLaws → CommandLaws

@@ -8,7 +8,8 @@ use Rattle.ptb_words.specs.declared.word.Word.TheVariants.{NextKw, LetKw, GosubK
 use Rattle.ptb_text.specs.Statements.{Statements}
 use Rattle.ptb_words.specs.Words.{is_over, token_at}
 use Rattle.ptb_expr.specs.Evaluate.{IsWhole}
-use Rattle.ptb_command.specs.Commands.{Command, command_of, parts_of, next_begin, command_and, after_command, command_unless, command_round}
+use Rattle.ptb_command.specs.Commands.{Command, command_of, parts_of, next_begin, command_and}
+use Rattle.ptb_command.specs.Commands.{after_command, command_unless, command_round}
 use Rattle.ptb_command.specs.State.{Place, next_index}
 use Rattle.ptb_command.specs.Places.{At}
 use Rattle.ptb_command.specs.Laws.{CommandLaws}
@@ -39,9 +40,11 @@ next_checks_end = record { next = λ t e. refl }
 
 -- ---- rounds of commands
 
-module _ (laws : CommandLaws) (p : Statements) (q : Place) (k : ℕ) (t : List ℕ) (word : Word) (i : ℕ) (begun : Begun p q k t word i) where
+module _ (laws : CommandLaws) (p : Statements) (q : Place) (k : ℕ) (t : List ℕ) (word : Word) (i : ℕ)
+    (begun : Begun p q k t word i) where
   -- the round that reads the command
-  pub begun_round : (e : ℕ) → IsWhole (parts_of word t i) e → command_round t begun.begin ≡ command_and (command_of word (parts_of word t i)) e (next_begin word t e)
+  pub begun_round : (e : ℕ) → IsWhole (parts_of word t i) e
+      → command_round t begun.begin ≡ command_and (command_of word (parts_of word t i)) e (next_begin word t e)
   unfolding command_round
   begun_round e whole =
       ap (command_unless t begun.begin) begun.more
@@ -49,19 +52,23 @@ module _ (laws : CommandLaws) (p : Statements) (q : Place) (k : ℕ) (t : List �
       ∙ ap (after_command t (command_of word (parts_of word t i))) whole
 
   -- another command follows it
-  pub next_there : (e j : ℕ) → IsWhole (parts_of word t i) e → next_begin word t e ≡ Some j → PlaceIs p (next_index q) (record { statement = k; at = j })
+  pub next_there : (e j : ℕ) → IsWhole (parts_of word t i) e → next_begin word t e ≡ Some j
+      → PlaceIs p (next_index q) (record { statement = k; at = j })
   next_there e j whole n = record {
     statement = begun.statement;
     at = subst (λ (x : List ℕ). At x (q.index + 1) j) (sym begun.text)
-        (laws.at_next t q.index begun.begin j _ begun.at (begun_round e whole ∙ ap (command_and (command_of word (parts_of word t i)) e) n));
+        (laws.at_next t q.index begun.begin j _ begun.at
+        (begun_round e whole ∙ ap (command_and (command_of word (parts_of word t i)) e) n));
   }
 
   -- it is the last one
-  pub none_there : (e : ℕ) → IsWhole (parts_of word t i) e → next_begin word t e ≡ None → is_over t e ≡ true → PlaceIs p (next_index q) (record { statement = k; at = e })
+  pub none_there : (e : ℕ) → IsWhole (parts_of word t i) e → next_begin word t e ≡ None → is_over t e ≡ true
+      → PlaceIs p (next_index q) (record { statement = k; at = e })
   none_there e whole n over = record {
     statement = begun.statement;
     at = subst (λ (x : List ℕ). At x (q.index + 1) e) (sym begun.text)
-        (laws.at_last t q.index begun.begin e _ begun.at (begun_round e whole ∙ ap (command_and (command_of word (parts_of word t i)) e) n) over);
+        (laws.at_last t q.index begun.begin e _ begun.at
+        (begun_round e whole ∙ ap (command_and (command_of word (parts_of word t i)) e) n) over);
   }
 
   over_there : (a b : Bool) → (a || b) ≡ true → b ≡ false → a ≡ true
@@ -69,8 +76,10 @@ module _ (laws : CommandLaws) (p : Statements) (q : Place) (k : ℕ) (t : List �
   over_there false b h k = absurd (false≢true (sym k ∙ h))
 
   -- the place behind a command that checks for its end
-  pub follows_there : (e j : ℕ) → ChecksEnd word → IsClosed t i (parts_of word t i) e → NextBegins t e j → PlaceIs p (next_index q) (record { statement = k; at = j })
+  pub follows_there : (e j : ℕ) → ChecksEnd word → IsClosed t i (parts_of word t i) e → NextBegins t e j
+      → PlaceIs p (next_index q) (record { statement = k; at = j })
   follows_there e j checks closed (inl f) = next_there e j closed.whole (checks.next t e ∙ f)
   follows_there e j checks closed (inr f) =
       subst (λ (x : ℕ). PlaceIs p (next_index q) (record { statement = k; at = x })) (sym f.1)
-      (none_there e closed.whole (checks.next t e ∙ f.0) (over_there (is_over t e) (is_some (token_at 59 t e)) closed.ends (ap is_some f.0)))
+      (none_there e closed.whole (checks.next t e ∙ f.0)
+      (over_there (is_over t e) (is_some (token_at 59 t e)) closed.ends (ap is_some f.0)))

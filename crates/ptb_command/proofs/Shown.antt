@@ -1,6 +1,9 @@
 -- This file proves what showing bytes comes to.
 -- Main lemma: `shown`.
-use Rattle.std.proofs.Common.{◌≡◌, ℕ, suc, ◌+◌, ◌-◌, ◌≤◌, ◌<◌, Bool, List, [], ◌∷◌, ◌++◌, length, take, drop, Result, Err, refl, sym, ap, subst, ◌∙◌, append-nil, append_assoc, arith, length-append, take-append-drop, inl, ℤ, pos, negsuc, Ok}
+use Rattle.std.proofs.Common.{◌≡◌, ℕ, suc, ◌+◌, ◌-◌, ◌≤◌, ◌<◌, Bool, List, [], ◌∷◌, ◌++◌, length}
+use Rattle.std.proofs.Common.{take, drop, Result, Err, refl, sym, ap, subst, ◌∙◌, append-nil}
+use Rattle.std.proofs.Common.{append_assoc, arith, length-append, take-append-drop, inl, ℤ, pos}
+use Rattle.std.proofs.Common.{negsuc, Ok}
 use native.Mathlib.Decide.{dec_lt}
 use Rattle.std.proofs.lemmas.Bool.{le-leb, lt-leb}
 use Rattle.std.proofs.Math.Dec.{eqb-suc-zero}
@@ -52,19 +55,32 @@ is_fresh-append shown (b ∷ bytes) =
 -- ---- showing
 
 module _ (old new : ScreenState) (d : Devices) (fresh : Bool) (cells : Cells) (bytes : List ℕ) where
-  pub shown : Shows old new bytes → new.failures ≡ old.failures → (after : Bool) → after ≡ fresh_after fresh bytes → RefinesPart (trace (with_screen old d) fresh cells) (trace (with_screen new d) after cells) (show bytes) (goes_on tt)
+  pub shown : Shows old new bytes → new.failures ≡ old.failures → (after : Bool) → after ≡ fresh_after fresh bytes
+      → RefinesPart (trace (with_screen old d) fresh cells) (trace (with_screen new d) after cells) (show bytes)
+      (goes_on tt)
   shown s unfailed after e = record {
     exchange = bytes_alone bytes;
-    exchanges = record { grown = sym (with_answers_nil d.choices); shows = s; unfailed = unfailed; given = sym (append-nil d.given); falls = omega arith; same_choose = refl };
+    exchanges = record {
+      grown = sym (with_answers_nil d.choices);
+      shows = s;
+      unfailed = unfailed;
+      given = sym (append-nil d.given);
+      falls = omega arith;
+      same_choose = refl;
+    };
     fresh = λ h k. is_fresh-append h bytes ∙ ap (λ x. fresh_after x bytes) k ∙ sym e;
     leaves = λ S rest _ w. leaves_to _
         (ap (λ (c : Cells). goes_on tt (record S { cells = c; shown = S.shown ++ bytes })) w.cells
-        ∙ ap (λ (l : List (List ℕ)). goes_on tt (record S { cells = cells; lines = l; shown = S.shown ++ bytes })) w.lines)
+        ∙ ap (λ (l : List (List ℕ)). goes_on tt (record S { cells = cells; lines = l; shown = S.shown ++ bytes }))
+        w.lines)
         (leaves_itself (show bytes S));
   }
 
   -- only a part was shown
-  part_shown : (n : ℕ) → Shows old new (take n bytes) → (e : DeviceError) → WantsLine e (Halts (Ends endings.NoInput)) (take n bytes) (show bytes) → HasBroken nothing_refused old new e → DeviceFails nothing_refused (RefinesPartTo (trace (with_screen old d) fresh cells) (trace (with_screen new d) fresh cells) (show bytes)) (with_screen new d) action_state (Halts (Ends endings.NoInput)) e
+  part_shown : (n : ℕ) → Shows old new (take n bytes) → (e : DeviceError)
+      → WantsLine e (Halts (Ends endings.NoInput)) (take n bytes) (show bytes) → HasBroken nothing_refused old new e
+      → DeviceFails nothing_refused (RefinesPartTo (trace (with_screen old d) fresh cells) (trace (with_screen new d)
+      fresh cells) (show bytes)) (with_screen new d) action_state (Halts (Ends endings.NoInput)) e
   part_shown n s e wants broken = record {
     left = show bytes;
     screen = old;
@@ -72,7 +88,11 @@ module _ (old new : ScreenState) (d : Devices) (fresh : Bool) (cells : Cells) (b
     comes = refines_part_refl (trace (with_screen old d) fresh cells) (show bytes);
     shows = s;
     continues = record {
-      begins = λ S a. (drop n bytes, ap (λ l. S.shown ++ l) (sym (take-append-drop n bytes)) ∙ sym (append_assoc S.shown (take n bytes) (drop n bytes)));
+      begins = λ S a. (
+        drop n bytes,
+        ap (λ l. S.shown ++ l) (sym (take-append-drop n bytes))
+            ∙ sym (append_assoc S.shown (take n bytes) (drop n bytes)),
+      );
       takes = λ S a. ([], refl);
     };
     line = wants;
@@ -80,19 +100,29 @@ module _ (old new : ScreenState) (d : Devices) (fresh : Bool) (cells : Cells) (b
   }
 
   -- by the contract of a screen
-  pub not_shown : TakesSome old.shown new.shown bytes → old.failures ≤ new.failures → new.borrow ≡ old.borrow → new.takes_memory ≡ old.takes_memory → (fault : ScreenFault) → (IsErrOf {T = Unit {0}} (Err fault) screens.Write → HasFailed old.failures new.failures) → ((IsErrOf {T = Unit {0}} (Err fault) screens.Write → ⊥) → new.failures ≡ old.failures) → (IsErrOf {T = Unit {0}} (Err fault) screens.Memory → IsTrue old.takes_memory) → Stops nothing_refused (RefinesPartTo (trace (with_screen old d) fresh cells) (trace (with_screen new d) fresh cells) (show bytes)) (with_screen new d) (stop_of_screen fault)
+  pub not_shown : TakesSome old.shown new.shown bytes → old.failures ≤ new.failures → new.borrow ≡ old.borrow
+      → new.takes_memory ≡ old.takes_memory → (fault : ScreenFault)
+      → (IsErrOf {T = Unit {0}} (Err fault) screens.Write → HasFailed old.failures new.failures)
+      → ((IsErrOf {T = Unit {0}} (Err fault) screens.Write → ⊥) → new.failures ≡ old.failures)
+      → (IsErrOf {T = Unit {0}} (Err fault) screens.Memory → IsTrue old.takes_memory)
+      → Stops nothing_refused (RefinesPartTo (trace (with_screen old d) fresh cells)
+      (trace (with_screen new d) fresh cells) (show bytes)) (with_screen new d) (stop_of_screen fault)
   not_shown t later borrow memory screens.Write failed unfailed refused =
-      part_shown t.0 (record { shown = t.2; same_borrow = borrow; same_memory = memory }) errors.Write tt (failed refl, later)
+      part_shown t.0 (record { shown = t.2; same_borrow = borrow; same_memory = memory }) errors.Write tt
+      (failed refl, later)
   not_shown t later borrow memory screens.Memory failed unfailed refused =
-      part_shown t.0 (record { shown = t.2; same_borrow = borrow; same_memory = memory }) errors.Memory tt (record { by = inl (refused refl) }, unfailed (λ e. cc))
+      part_shown t.0 (record { shown = t.2; same_borrow = borrow; same_memory = memory }) errors.Memory tt
+      (record { by = inl (refused refl) }, unfailed (λ e. cc))
 
-pub shown_as : (o n : Trace) (s bytes : List ℕ) (r : Result (Unit {0}) Stop) → s ≡ bytes → Comes nothing_refused o n (show s) goes_on r → Comes nothing_refused o n (show bytes) goes_on r
+pub shown_as : (o n : Trace) (s bytes : List ℕ) (r : Result (Unit {0}) Stop) → s ≡ bytes
+    → Comes nothing_refused o n (show s) goes_on r → Comes nothing_refused o n (show bytes) goes_on r
 shown_as o n s bytes r e h = subst (λ (x : List ℕ). Comes nothing_refused o n (show x) goes_on r) e h
 
 -- ---- widths
 
 -- digits behind a beginning of so many blanks
-pub padded-is : (w : ℕ) (v : ℤ) (digits : List ℕ) (start : ℕ) → digits ≡ signed_decimal v → start ≡ w - length digits → w ≤ width_limit → take start (replicate 255 32) ++ digits ≡ padded_decimal w v
+pub padded-is : (w : ℕ) (v : ℤ) (digits : List ℕ) (start : ℕ) → digits ≡ signed_decimal v → start ≡ w - length digits
+    → w ≤ width_limit → take start (replicate 255 32) ++ digits ≡ padded_decimal w v
 padded-is w v digits start e k h =
     let fits : start ≤ 255 = omega (arith, k) in
     ap (λ l. l ++ digits) (take-replicate start 255 32 fits)

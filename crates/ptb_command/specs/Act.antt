@@ -2,12 +2,16 @@
 --     parts_action parts w operands    the parts of a command, one after the other
 --     finish kind p q ..               what a command does once its parts are done
 --     act p q c                        a whole command, whose fault is reported
-use Rattle.std.specs.Prelude.{ℕ, ◌+◌, ◌-◌, Bool, true, false, not, ◌||◌, ◌==◌, nat_le, if◌then◌else◌, List, [], ◌∷◌, ◌++◌, length, take, drop, filter, replicate, slice_index, Option, Some, None, is_some, Result, Ok, Err, ℤ, pos, negsuc, neg_ℤ, ◌+ℤ◌, int_lt, codes, decimal}
+use Rattle.std.specs.Prelude.{ℕ, ◌+◌, ◌-◌, Bool, true, false, not, ◌||◌, ◌==◌, nat_le}
+use Rattle.std.specs.Prelude.{if◌then◌else◌, List, [], ◌∷◌, ◌++◌, length, take, drop, filter}
+use Rattle.std.specs.Prelude.{replicate, slice_index, Option, Some, None, is_some, Result, Ok, Err}
+use Rattle.std.specs.Prelude.{ℤ, pos, negsuc, neg_ℤ, ◌+ℤ◌, int_lt, codes, decimal}
 use Rattle.std.specs.List.{slice_index_or}
 use Rattle.std.specs.Ordering.{int_eq}
 use Rattle.std.specs.Fmt.{signed_decimal}
 use Rattle.ptb_words.specs.declared.word.Word.{Word}
-use Rattle.ptb_words.specs.declared.word.Word.TheVariants.{NextKw, IfKw, GotoKw, GosubKw, ReturnKw, RemKw, ForKw, StopKw}
+use Rattle.ptb_words.specs.declared.word.Word.TheVariants.{NextKw, IfKw, GotoKw, GosubKw, ReturnKw}
+use Rattle.ptb_words.specs.declared.word.Word.TheVariants.{RemKw, ForKw, StopKw}
 use Rattle.ptb_text.specs.Statements.{Statements, text_at}
 use Rattle.ptb_expr.specs.declared.fault.Fault.{Fault}
 use Rattle.ptb_expr.specs.declared.fault.FaultKind.{FaultKind}
@@ -21,8 +25,10 @@ use Rattle.ptb_expr.specs.Value.{fault, or_fault, in_range, random_number, value
 use Rattle.ptb_command.specs.declared.ending.Ending.{Ending}
 use Rattle.ptb_command.specs.declared.ending.Ending.TheVariants as endings
 use Rattle.ptb_command.specs.Commands.{Part, Assign, Say, Width, Show, NewLine, Take, Letter, Operand, Defect, Command}
-use Rattle.ptb_command.specs.State.{Place, Loop, Call, State, nesting, nesting_limit, start_of, place_after, next_index, text_of}
-use Rattle.ptb_command.specs.Actions.{Faults, Ends, Progress, Goes, Halts, Action, and_then, goes_on, halt, change, show, attempt, work_action}
+use Rattle.ptb_command.specs.State.{Place, Loop, Call, State, nesting, nesting_limit, start_of}
+use Rattle.ptb_command.specs.State.{place_after, next_index, text_of}
+use Rattle.ptb_command.specs.Actions.{Faults, Ends, Progress, Goes, Halts, Action, and_then}
+use Rattle.ptb_command.specs.Actions.{goes_on, halt, change, show, attempt, work_action}
 
 -- ---- values
 
@@ -81,7 +87,8 @@ store_or_again at again (Err f) = and_then (show (fault_word f.kind ++ newline))
 -- an answer is asked for as RND asks with this bound, which is at least 1; it is shown as a line, and stored
 abbrev pub answer_instead : ℤ → Target → Action (Unit {0})
 answer_instead n at =
-    and_then (work_action (λ _. random_number n 0)) (λ v. and_then (show (signed_decimal v ++ newline)) (λ _. store at v))
+    and_then (work_action (λ _. random_number n 0))
+    (λ v. and_then (show (signed_decimal v ++ newline)) (λ _. store at v))
 
 -- where no line is left the run ends, or asks for an answer with this bound instead
 abbrev pub without_line : Option ℤ → Target → Action (Unit {0})
@@ -106,10 +113,12 @@ item_action said x prompt S = input_action said x prompt S.lines S
 unfoldable pub parts_action : List Part → ℕ → List ℤ → Action (List ℤ)
 parts_action [] w operands = goes_on operands
 parts_action (Assign x y ∷ parts) w operands =
-    and_then (target_action x) (λ at. and_then (value_action y) (λ v. and_then (store at v) (λ _. parts_action parts w operands)))
+    and_then (target_action x)
+    (λ at. and_then (value_action y) (λ v. and_then (store at v) (λ _. parts_action parts w operands)))
 parts_action (Say s ∷ parts) w operands = and_then (show s) (λ _. parts_action parts w operands)
 parts_action (Width x m ∷ parts) w operands =
-    and_then (value_action x) (λ v. and_then (work_action (λ _. or_fault (width_of v) m)) (λ u. parts_action parts u operands))
+    and_then (value_action x) (λ v. and_then (work_action (λ _. or_fault (width_of v) m))
+    (λ u. parts_action parts u operands))
 parts_action (Show x ∷ parts) w operands =
     and_then (value_action x) (λ v. and_then (show (padded_decimal w v)) (λ _. parts_action parts w operands))
 parts_action (NewLine ∷ parts) w operands = and_then (show newline) (λ _. parts_action parts w operands)
@@ -271,7 +280,8 @@ pub data StepResult : Type 0 where
 -- a fault is reported with its statement
 abbrev pub step_result_of : ℕ → List ℕ → Progress (Unit {0}) → StepResult
 step_result_of n text (Goes x S) = Next S
-step_result_of n text (Halts (Faults f) S) = Over (ending_of f.kind) (record S { shown = S.shown ++ report_bytes (is_fresh S.shown) n text f })
+step_result_of n text (Halts (Faults f) S) =
+    Over (ending_of f.kind) (record S { shown = S.shown ++ report_bytes (is_fresh S.shown) n text f })
 step_result_of n text (Halts (Ends ending) S) = Over ending S
 
 -- a command that begins is a step
@@ -280,4 +290,5 @@ with_step S = record S { steps = S.steps + 1 }
 
 -- the command c, whose place is q
 unfoldable pub act : Statements → Place → Command → State → Answers → Outcome StepResult State
-act p q c S a = map_outcome (step_result_of q.number (text_of p q.number)) (λ T. T) (command_action p q c (with_step S) a)
+act p q c S a = map_outcome (step_result_of q.number (text_of p q.number)) (λ T. T)
+    (command_action p q c (with_step S) a)

@@ -1,5 +1,6 @@
 -- This file defines what a part of a command comes to, and how one part follows another.
---     Action A                  what is done in a state with a list of answers: it goes on with an A in another state, or halts
+--     Action A                  what is done in a state with a list of answers: it goes on with an A in another state,
+--                               or halts
 --     and_then m next           one after the other
 --     goes_on x, halt h         nothing is done; the command stops
 --     attempt m, work_action m  something is worked out; its fault is a result, or halts

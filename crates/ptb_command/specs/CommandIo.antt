@@ -12,14 +12,17 @@ use Rattle.ptb_devices.specs.declared.screen.Screen.{Ghosts}
 use Rattle.ptb_command.specs.Devices.{Devices, devices, screen_state}
 use Rattle.ptb_command.specs.Traces.{Trace, trace, with_due}
 
-abbrev pub io_devices : {C S L : Type 0} → (C → Choices) → Ghosts S → (L → ℕ) → CommandIo C S L → List (List ℕ) → Devices
+abbrev pub io_devices : {C S L : Type 0} → (C → Choices) → Ghosts S → (L → ℕ) → CommandIo C S L → List (List ℕ)
+    → Devices
 io_devices choices screen most io given =
     devices (choices io.chooser.now) (screen_state screen io.screen.now) (most io.source.now) io.rules.choose given
 
-abbrev pub io_trace : {C S L : Type 0} → (C → Choices) → Ghosts S → (L → ℕ) → CommandIo C S L → List (List ℕ) → Cells → Trace
+abbrev pub io_trace : {C S L : Type 0} → (C → Choices) → Ghosts S → (L → ℕ) → CommandIo C S L → List (List ℕ) → Cells
+    → Trace
 io_trace choices screen most io given cells = trace (io_devices choices screen most io given) io.fresh cells
 
-abbrev pub due_trace : {C S L : Type 0} → (C → Choices) → Ghosts S → (L → ℕ) → CommandIo C S L → List (List ℕ) → Cells → List ℕ → Trace
+abbrev pub due_trace : {C S L : Type 0} → (C → Choices) → Ghosts S → (L → ℕ) → CommandIo C S L → List (List ℕ) → Cells
+    → List ℕ → Trace
 due_trace choices screen most io given cells due = with_due due (io_trace choices screen most io given cells)
 
 pub record SameBorrows {C S L : Type 0} (old new : CommandIo C S L) : Type 0 where

@@ -3,12 +3,16 @@
 --     commands_from t i        those from place i on
 --     command_at t i           the command at place i; LET where no word stands
 --     parts_of word t i        the parts of a command whose word ends at i
-use Rattle.std.specs.Prelude.{ℕ, Bool, true, false, ◌||◌, is_some, if◌then◌else◌, List, [], ◌∷◌, ◌++◌, reverse, Option, Some, None, slice_range, pos}
+use Rattle.std.specs.Prelude.{ℕ, Bool, true, false, ◌||◌, is_some, if◌then◌else◌, List, [], ◌∷◌}
+use Rattle.std.specs.Prelude.{◌++◌, reverse, Option, Some, None, slice_range, pos}
 use Rattle.ptb_words.specs.declared.word.Table.TheVariants.{Commands, To, Step}
 use Rattle.ptb_words.specs.declared.word.Word.{Word}
-use Rattle.ptb_words.specs.declared.word.Word.TheVariants.{NextKw, LetKw, IfKw, GotoKw, GosubKw, ReturnKw, RemKw, ForKw, InputKw, PrintKw, StopKw}
+use Rattle.ptb_words.specs.declared.word.Word.TheVariants.{NextKw, LetKw, IfKw, GotoKw, GosubKw}
+use Rattle.ptb_words.specs.declared.word.Word.TheVariants.{ReturnKw, RemKw, ForKw, InputKw, PrintKw}
+use Rattle.ptb_words.specs.declared.word.Word.TheVariants.{StopKw}
 use Rattle.ptb_text.specs.Statements.{trim_start}
-use Rattle.ptb_words.specs.Words.{past_blanks, is_over, word_at, token_at, letter_at, Quotation, NoQuote, OpenQuote, QuotedText, quotation_at}
+use Rattle.ptb_words.specs.Words.{past_blanks, is_over, word_at, token_at, letter_at, Quotation}
+use Rattle.ptb_words.specs.Words.{NoQuote, OpenQuote, QuotedText, quotation_at}
 use Rattle.ptb_expr.specs.declared.fault.FaultKind.{FaultKind}
 use Rattle.ptb_expr.specs.declared.fault.FaultKind.TheVariants.{What}
 use Rattle.ptb_expr.specs.Tree.{Tree, Num, Var, Bad}
@@ -138,7 +142,8 @@ source t i j = reverse (trim_start (reverse (slice_range t (past_blanks t i) j))
 
 -- a variable, whose source is its prompt
 abbrev pub variable_item : List ℕ → ℕ → Bool → Reading Part
-variable_item t i true = after (variable_tree t i) (λ x. Take [] x []) (λ x j. Whole (Take [] x (source t i j ++ 58 ∷ [])) j)
+variable_item t i true = after (variable_tree t i) (λ x. Take [] x [])
+    (λ x j. Whole (Take [] x (source t i j ++ 58 ∷ [])) j)
 variable_item t i false = Malformed (Defect What i)
 
 -- a string, and a variable where one stands behind it

@@ -33,7 +33,12 @@ pub record ScreenState : Type 0 where
 
 -- by what a screen's own contract says of it
 abbrev pub screen_state : {S : Type 0} → Ghosts S → S → ScreenState
-screen_state g s = record { shown = g.shown s; failures = g.failures s; borrow = g.borrow s; takes_memory = g.takes_memory }
+screen_state g s = record {
+  shown = g.shown s;
+  failures = g.failures s;
+  borrow = g.borrow s;
+  takes_memory = g.takes_memory;
+}
 
 pub record Devices : Type 0 where
   pub choices : Choices
@@ -46,7 +51,13 @@ pub record Devices : Type 0 where
   pub given : List (List ℕ)
 
 abbrev pub devices : Choices → ScreenState → ℕ → Option ℤ → List (List ℕ) → Devices
-devices choices screen most choose given = record { choices = choices; screen = screen; most = most; choose = choose; given = given }
+devices choices screen most choose given = record {
+  choices = choices;
+  screen = screen;
+  most = most;
+  choose = choose;
+  given = given;
+}
 
 -- the same with another chooser, with another screen, and with a writer that has failed so often
 abbrev pub with_choices : Choices → Devices → Devices
@@ -130,7 +141,8 @@ refused_by refused unread lines NoLine = NoneLeft lines
 
 -- a screen that takes memory, or a chooser or a source, was refused memory
 pub record HasNoMemory (refused : Refusal → Type 0) (takes_memory : Bool) : Type 0 where
-  pub by : IsTrue takes_memory ⊎ (((bound : ℤ) × refused (Unanswered pauses.Memory bound)) ⊎ refused (Unread faults.Memory))
+  pub by : IsTrue takes_memory ⊎ (((bound : ℤ) × refused (Unanswered pauses.Memory bound))
+      ⊎ refused (Unread faults.Memory))
 
 -- the input could not be read, or is too long
 pub record IsUnread (refused : Refusal → Type 0) : Type 0 where

@@ -6,7 +6,9 @@ use Rattle.ptb_words.specs.declared.word.Word.{Word}
 use Rattle.ptb_words.specs.Words.{is_over}
 use Rattle.ptb_expr.specs.Reading.{Whole}
 use Rattle.ptb_command.specs.Items.{Round, Last, Onward, with_others, items_within, items, Advances, LiesOn}
-use Rattle.ptb_command.specs.Commands.{Part, Command, comma_round, assignment, print_item, item_round, input_item, parts_of, command_at, command_round, commands_from, commands}
+use Rattle.ptb_command.specs.Commands.{Part, Command, comma_round, assignment, print_item}
+use Rattle.ptb_command.specs.Commands.{item_round, input_item, parts_of, command_at, command_round}
+use Rattle.ptb_command.specs.Commands.{commands_from, commands}
 use Rattle.ptb_command.specs.Places.{At, begin_of, commands_after}
 
 -- ---- parts and commands

@@ -21,7 +21,8 @@ use Rattle.ptb_command.specs.Configuration.{Configuration}
 
 -- ---- places
 
--- the number of a statement and the index of a command, beside the place of the statement and the byte place at which the command begins
+-- the number of a statement and the index of a command, beside the place of the statement and the byte place at which
+-- the command begins
 pub record PlaceIs (p : Statements) (q : Place) (m : Location) : Type 0 where
   pub statement : slice_get p m.statement ≡ Some (q.number, text_of p q.number)
   pub at : At (text_of p q.number) q.index m.at

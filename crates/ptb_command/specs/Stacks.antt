@@ -5,7 +5,8 @@
 --     newest_return os         the place to which the newest of all returns, if it is a call
 --     without x os             all of it but the newest level's loops of x
 --     ClosesCall old new result                              the newest call is closed, if there is one
---     ClosesNewer x old new result                           the loop of the variable x, if there is one, becomes the newest
+--     ClosesNewer x old new result                           the loop of the variable x, if there is one, becomes the
+--                                                            newest
 --     ClosesNewest old new                                   the newest loop or call is closed, if one is open
 use Rattle.std.specs.Prelude.{◌≡◌, ℕ, ◌==◌, if◌then◌else◌, List, [], ◌∷◌, Option, Some, None}
 use Rattle.ptb_command.specs.declared.location.Location.{Location}

@@ -1,7 +1,8 @@
 -- This file defines the state of a run.
 --     first_state p input choose       where a run begins
 --     next_command p place             the command that is next at a place, with its own place
-use Rattle.std.specs.Prelude.{ℕ, ◌+◌, List, [], length, Option, Some, None, unwrap_or, ℤ, pos, sum_by, slice_get, option_map}
+use Rattle.std.specs.Prelude.{ℕ, ◌+◌, List, [], length, Option, Some, None, unwrap_or, ℤ, pos}
+use Rattle.std.specs.Prelude.{sum_by, slice_get, option_map}
 use Rattle.ptb_text.specs.Statements.{Statements, StoredProgram, text_at, first_number, number_after, size_of}
 use Rattle.ptb_expr.specs.Store.{Cells, empty_cells}
 use Rattle.ptb_command.specs.Commands.{Command, commands}
@@ -23,8 +24,9 @@ pub record Call : Type 0 where
   pub back : Place
   pub loops : List Loop
 
--- where a run stands: at the end no place is left; the loops of the newest level, newest first; the calls, newest first;
--- what is left of the input, what was shown, how many commands were begun; and, as long as the run lasts, the bound with which
+-- where a run stands: at the end no place is left; the loops of the newest level, newest first; the calls, newest
+-- first; what is left of the input, what was shown, how many commands were begun; and, as long as the run lasts, the
+-- bound with which
 -- INPUT asks for an answer where no line is left, if it does
 pub record State : Type 0 where
   pub place : Option Place

@@ -2,7 +2,8 @@
 --
 -- Where a device stops it, it has come to what is `left` to do. A question that was refused, or a line that isn't
 -- there, is what is left next; where a device broke, the screen may have shown some of what is left.
---     stop_of_screen, stop_of_read, stop_of    why a command stops where a device fails, and where an expression has no value
+--     stop_of_screen, stop_of_read, stop_of    why a command stops where a device fails, and where an expression has no
+--                                              value
 --     AsksNext f bound beside z            f asks a question next, which is refused for this pause
 --     Continues state shown left           what is left takes back nothing
 --     LacksLine choose ends left S         without a line it ends, or asks for an answer
@@ -12,10 +13,12 @@
 --     still_shows result                   once it comes to this, what is gathered is shown
 --     Miss, stop_miss, miss_of             whether a result reports that a line was asked for without success
 --     UnlessMissed refused P miss          P holds, unless that is reported
---     NotMissed choose old new most        no line was asked for without success, unless an answer was asked for instead
+--     NotMissed choose old new most        no line was asked for without success, unless an answer was asked for
+--                                          instead
 --     ReportsMissed source choose old new miss    the same of a source, unless it is reported
 --     Comes refused o n f ok result        from trace o to trace n, f comes to the result
-use Rattle.std.specs.Prelude.{◌≡◌, ◌≤◌, ◌⊎◌, ℕ, Bool, true, false, List, [], ◌++◌, Option, Some, None, Result, Ok, Err, ℤ, pos, ◌≤ℤ◌}
+use Rattle.std.specs.Prelude.{◌≡◌, ◌≤◌, ◌⊎◌, ℕ, Bool, true, false, List, [], ◌++◌, Option, Some}
+use Rattle.std.specs.Prelude.{None, Result, Ok, Err, ℤ, pos, ◌≤ℤ◌}
 use Rattle.ptb_expr.specs.declared.fault.Stop.{Stop as NoValue}
 use Rattle.ptb_expr.specs.declared.fault.Stop.TheVariants as values
 use Rattle.ptb_answers.specs.declared.pause.Pause.{Pause}
@@ -71,7 +74,8 @@ pub record AsksNext {A W : Type 0} (f : Answers → Outcome A W) (bound : ℤ) (
   pub outside : SaysOut f bound beside z
 
 -- whatever answers follow, what is left shows these bytes and perhaps more, and takes lines from the first on
-pub record Continues {A : Type 0} (state : Outcome A State → State) (shown : State → List ℕ) (left : State → Answers → Outcome A State) : Type 0 where
+pub record Continues {A : Type 0} (state : Outcome A State → State) (shown : State → List ℕ) (left : State → Answers
+    → Outcome A State) : Type 0 where
   pub begins : (S : State) (a : Answers) → Begins (shown S) (state (left S a)).shown
   pub takes : (S : State) (a : Answers) → TakesLines S.lines (state (left S a)).lines
 
@@ -80,14 +84,16 @@ abbrev pub LacksLine : {A : Type 0} → Option ℤ → (State → A) → (State 
 LacksLine None ends left S = (a : Answers) → left S a ≡ Done (ends S) a
 LacksLine (Some n) ends left S = pos 1 ≤ℤ n → left S [] ≡ Asks n S
 
--- the input is read only where a line is wanted: nothing of what is left was shown then, and it lacks a line where none is left
+-- the input is read only where a line is wanted: nothing of what is left was shown then, and it lacks a line where
+-- none is left
 abbrev pub WantsLine : {A : Type 0} → DeviceError → (State → A) → List ℕ → (State → Answers → Outcome A State) → Type 0
 WantsLine errors.Read ends bytes left = (bytes ≡ []) × ((S : State) → S.lines ≡ [] → LacksLine S.choose ends left S)
 WantsLine errors.Memory ends bytes left = Unit {0}
 WantsLine errors.Write ends bytes left = Unit {0}
 
 -- R d g says that it has come to g, with devices that hold d; `refused` is what holds after a refusal
-module _ {A : Type 0} (refused : Refusal → Type 0) (R : Devices → (State → Answers → Outcome A State) → Type 0) (n : Devices) where
+module _ {A : Type 0} (refused : Refusal → Type 0) (R : Devices → (State → Answers → Outcome A State)
+    → Type 0) (n : Devices) where
   -- the chooser has refused the question that is next
   pub record AsksUnanswered (state : Outcome A State → State) (z : Pause) : Type 0 where
     pub left : State → Answers → Outcome A State
@@ -158,7 +164,8 @@ abbrev pub miss_of : {X : Type 0} → Result X Stop → Miss
 miss_of (Ok x) = NoMiss
 miss_of (Err e) = stop_miss e
 
--- no line was asked for without success; where answers are asked for instead, one may have been that the source can't give
+-- no line was asked for without success; where answers are asked for instead, one may have been that the source can't
+-- give
 abbrev pub NotMissed : Option ℤ → ℕ → ℕ → ℕ → Type 0
 NotMissed None old new most = new ≤ old
 NotMissed (Some n) old new most = (new ≤ old) ⊎ (most ≡ 0)
@@ -175,6 +182,7 @@ abbrev pub RefinesPartTo : {A : Type 0} → Trace → Trace → Action A → Dev
 RefinesPartTo o n f d g = RefinesPart o (record n { devices = d }) f g
 
 -- at Ok, to what is left to do with its value; at a stop, with what is still due then
-abbrev pub Comes : {A X : Type 0} → (Refusal → Type 0) → Trace → Trace → Action A → (X → Action A) → Result X Stop → Type 0
+abbrev pub Comes : {A X : Type 0} → (Refusal → Type 0) → Trace → Trace → Action A → (X → Action A) → Result X Stop
+    → Type 0
 Comes refused o n f ok (Ok x) = RefinesPart o n f (ok x)
 Comes refused o n f ok (Err e) = Stops refused (RefinesPartTo o (with_due (still_due n.due e) n) f) n.devices e

@@ -1,5 +1,6 @@
 -- This file defines how far something has come that is done while it is read.
---     Trace                    the devices, what of a state the parts of a command change, and what is still to be shown
+--     Trace                    the devices, what of a state the parts of a command change, and what is still to be
+--                              shown
 --     with_due due o           the same trace, with these bytes to be shown next
 --     still_due due e          what is to be shown once a part stops for the reason e
 --     Fits o left S            a state that is as the trace says, with these lines left
@@ -71,7 +72,8 @@ once_shown due S = record S { shown = behind S.shown due }
 -- ---- moves
 
 -- f takes these answers, each to a question with its bound, and what is left of it is g
-pub record Leaves {A W : Type 0} (f : Answers → Outcome A W) (answers : Answers) (bounds : List ℤ) (g : Answers → Outcome A W) : Type 0 where
+pub record Leaves {A W : Type 0} (f : Answers → Outcome A W) (answers : Answers) (bounds : List ℤ) (g : Answers
+    → Outcome A W) : Type 0 where
   pub asked : Asked f answers bounds
   pub rest : (λ later. f (answers ++ later)) ≡ g
 
@@ -82,4 +84,5 @@ pub record RefinesPart {A : Type 0} (o n : Trace) (f g : State → Answers → O
   pub exchanges : Exchanges o.devices n.devices exchange
   pub fresh : Freshens o.fresh exchange.bytes n.fresh
   pub leaves : (S : State) (rest : List (List ℕ)) → MayFollow n.devices rest → Fits o (exchange.given ++ rest) S
-      → Leaves (f (once_shown o.due S)) exchange.answers exchange.bounds (g (once_shown n.due (after n exchange.bytes rest S)))
+      → Leaves (f (once_shown o.due S)) exchange.answers exchange.bounds
+      (g (once_shown n.due (after n exchange.bytes rest S)))

@@ -1,6 +1,10 @@
 -- This file proves how an input goes on at each step: a line is cut, more is read, the end or a fault comes.
 -- Main lemmas: `ReadsOn_line`, `ReadsOn_more_bytes` and `ReadsOn_end`.
-use Rattle.std.proofs.Common.{◌≡◌, ℕ, ◌+◌, ◌-◌, ◌≤◌, ◌<◌, ◌⊎◌, inl, inr, min, Bool, true, false, ltb, List, [], ◌∷◌, ◌++◌, length, take, Option, Some, None, IfSome, is_some, refl, sym, ap, subst, ◌∙◌, append_assoc, append-nil, slice_range, arith, length-append, length-take, length-drop, take_all, drop, drop-drop, take-append-drop}
+use Rattle.std.proofs.Common.{◌≡◌, ℕ, ◌+◌, ◌-◌, ◌≤◌, ◌<◌, ◌⊎◌, inl, inr, min, Bool, true, false}
+use Rattle.std.proofs.Common.{ltb, List, [], ◌∷◌, ◌++◌, length, take, Option, Some, None, IfSome}
+use Rattle.std.proofs.Common.{is_some, refl, sym, ap, subst, ◌∙◌, append_assoc, append-nil}
+use Rattle.std.proofs.Common.{slice_range, arith, length-append, length-take, length-drop, take_all}
+use Rattle.std.proofs.Common.{drop, drop-drop, take-append-drop}
 use Rattle.std.specs.Prelude.{if◌then◌else◌}
 use Rattle.std.proofs.Math.Nat.{eq-or-lt_of_le}
 use Rattle.std.proofs.Math.Seq.{take-nil}
@@ -14,7 +18,9 @@ use Rattle.ptb_devices.specs.declared.line_buffer.InputEnd.TheVariants.{Open, En
 use Rattle.ptb_devices.specs.CutLines.{kept_bytes, whole_lines, last_piece, last_line, Cuts}
 use Rattle.ptb_devices.specs.CutLineLaws.{whole_lines-append, last_piece-append}
 use Rattle.ptb_devices.specs.Sources.{Loses}
-use Rattle.ptb_devices.specs.Inputs.{InputState, InputNow, IsCounted, open_piece, cut_bytes, ends_within, lines_to_end, known_lines, CutsLine, CutsAll, TakesLine, asked_at, asked, ReadsOn}
+use Rattle.ptb_devices.specs.Inputs.{InputState, InputNow, IsCounted, open_piece, cut_bytes}
+use Rattle.ptb_devices.specs.Inputs.{ends_within, lines_to_end, known_lines, CutsLine, CutsAll}
+use Rattle.ptb_devices.specs.Inputs.{TakesLine, asked_at, asked, ReadsOn}
 use Rattle.ptb_devices.specs.InputLaws.{IsCounted_none, ReadsOn_none, take-split}
 use Rattle.ptb_devices.proofs.CutLines.{Cuts_more}
 
@@ -37,7 +43,8 @@ asked_open Exceeded s = omega arith
 
 -- ---- a piece that was given is forgotten
 
-pub ReadsOn_forget : (wanted : ℕ) (m : InputNow) → ReadsOn wanted m [] (record m { state = record m.state { piece = open_piece m.state; is_given = false } })
+pub ReadsOn_forget : (wanted : ℕ) (m : InputNow)
+    → ReadsOn wanted m [] (record m { state = record m.state { piece = open_piece m.state; is_given = false } })
 ReadsOn_forget wanted m =
     let same : ReadsOn wanted m [] m = ReadsOn_none wanted m in
     record {
@@ -70,8 +77,10 @@ lines_to_end-cut : (ends : Bool) (p q : Option (List ℕ)) (front rest : List �
     → lines_to_end ends p (front ++ rest) ≡ ls ++ lines_to_end ends q rest
 lines_to_end-cut ends p q front rest ls c =
     let whole : whole_lines p (front ++ rest) ≡ ls ++ whole_lines q rest =
-    whole_lines-append p front rest ∙ ap (λ l. l ++ whole_lines (last_piece p front) rest) c.0 ∙ ap (λ s. ls ++ whole_lines s rest) c.1 in
-    let last : last_piece p (front ++ rest) ≡ last_piece q rest = last_piece-append p front rest ∙ ap (λ s. last_piece s rest) c.1 in
+    whole_lines-append p front rest ∙ ap (λ l. l ++ whole_lines (last_piece p front) rest) c.0
+    ∙ ap (λ s. ls ++ whole_lines s rest) c.1 in
+    let last : last_piece p (front ++ rest) ≡ last_piece q rest =
+    last_piece-append p front rest ∙ ap (λ s. last_piece s rest) c.1 in
     ap (λ l. l ++ cut_off ends (last_piece p (front ++ rest))) whole
     ∙ ap (λ s. (ls ++ whole_lines q rest) ++ cut_off ends s) last
     ∙ append_assoc ls (whole_lines q rest) (cut_off ends (last_piece q rest))
@@ -83,10 +92,16 @@ open_piece-kept a kept = ap (λ t. if t then None else a.piece) kept
 abbrev left_open : Bool → Option (List ℕ) → Option (List ℕ)
 left_open given q = if given then None else q
 
-loses_cut : (a : InputState) (given : Bool) (q : Option (List ℕ)) (front rest : List ℕ) (ls : List (List ℕ)) (known : Option (List ℕ))
+loses_cut : (a : InputState) (given : Bool) (q : Option (List ℕ)) (front rest : List ℕ) (ls : List (List ℕ))
+    (known : Option (List ℕ))
     → a.is_given ≡ false → a.waiting ≡ front ++ rest → Cuts a.piece front ls (left_open given q)
     → Loses (known_lines (record { state = a; bytes = known; given = 0; failures = 0 }))
-    (known_lines (record { state = record a { piece = q; is_given = given; waiting = rest }; bytes = known; given = 0; failures = 0 })) ls
+    (known_lines (record {
+      state = record a { piece = q; is_given = given; waiting = rest };
+      bytes = known;
+      given = 0;
+      failures = 0;
+    })) ls
 loses_cut a given q front rest ls None kept whole c = tt
 loses_cut a given q front rest ls (Some bytes) kept whole c =
     let ends : Bool = ends_within a.end a.left bytes in
@@ -101,14 +116,21 @@ none_after : (front rest : List ℕ) → front ++ rest ≡ [] → rest ≡ []
 none_after [] rest e = e
 none_after (b ∷ front) rest e = absurd (let clash = ap length e in omega arith)
 
-ReadsOn_cut : (wanted : ℕ) (m : InputNow) (given : Bool) (q : Option (List ℕ)) (front rest : List ℕ) (ls : List (List ℕ))
+ReadsOn_cut : (wanted : ℕ) (m : InputNow) (given : Bool) (q : Option (List ℕ)) (front rest : List ℕ)
+    (ls : List (List ℕ))
     → m.state.is_given ≡ false → m.state.waiting ≡ front ++ rest → Cuts m.state.piece front ls (left_open given q)
     → length (last_line (left_open given q)) + length ls ≤ length front + length (last_line m.state.piece)
     → asked m.state ≤ length ls + asked_at m.state.end given
     → ReadsOn wanted m ls (record m { state = record m.state { piece = q; is_given = given; waiting = rest } })
 ReadsOn_cut wanted m given q front rest ls kept whole c fewer asks = record {
   loses = loses_cut m.state given q front rest ls m.bytes kept whole c;
-  falls = omega (arith, fewer, ap length whole, length-append front rest, ap (λ p. length (last_line p)) (open_piece-kept m.state kept));
+  falls = omega (
+    arith,
+    fewer,
+    ap length whole,
+    length-append front rest,
+    ap (λ p. length (last_line p)) (open_piece-kept m.state kept),
+  );
   taken = [];
   consumed = Consumes-nil m.bytes;
   counted = IsCounted_none m.given;
@@ -118,13 +140,16 @@ ReadsOn_cut wanted m given q front rest ls kept whole c fewer asks = record {
   drained = λ d closed. none_after front rest (sym whole ∙ d closed);
   asks = asks;
   cut = λ _.
-      let both : Cuts m.state.piece (front ++ rest) (ls ++ whole_lines (left_open given q) rest) (last_piece (left_open given q) rest) =
+      let both : Cuts m.state.piece (front ++ rest) (ls ++ whole_lines (left_open given q) rest)
+      (last_piece (left_open given q) rest) =
       Cuts_more m.state.piece (left_open given q) _ front rest ls _ c (refl, refl) in
       let waiting : m.state.waiting ++ take (m.state.left - 1) [] ≡ front ++ rest =
       ap (λ l. m.state.waiting ++ l) (take-nil (m.state.left - 1)) ∙ append-nil m.state.waiting ∙ whole in
       let piece : open_piece m.state ≡ m.state.piece = open_piece-kept m.state kept in (
-        ap (λ p. whole_lines p (m.state.waiting ++ take (m.state.left - 1) [])) piece ∙ ap (whole_lines m.state.piece) waiting ∙ both.0,
-        ap (λ p. last_piece p (m.state.waiting ++ take (m.state.left - 1) [])) piece ∙ ap (last_piece m.state.piece) waiting ∙ both.1,
+        ap (λ p. whole_lines p (m.state.waiting ++ take (m.state.left - 1) [])) piece
+            ∙ ap (whole_lines m.state.piece) waiting ∙ both.0,
+        ap (λ p. last_piece p (m.state.waiting ++ take (m.state.left - 1) [])) piece
+            ∙ ap (last_piece m.state.piece) waiting ∙ both.1,
       );
   spare = λ room _. room;
   ended = λ e. inl e;
@@ -134,43 +159,53 @@ ReadsOn_cut wanted m given q front rest ls kept whole c fewer asks = record {
   exceeded = λ e. inl e;
 }
 
-pub ReadsOn_line : (wanted : ℕ) (m : InputNow) (b : InputState) → m.state.is_given ≡ false → CutsLine m.state b → ReadsOn wanted m (kept_bytes b.piece ∷ []) (record m { state = b })
+pub ReadsOn_line : (wanted : ℕ) (m : InputNow) (b : InputState) → m.state.is_given ≡ false → CutsLine m.state b
+    → ReadsOn wanted m (kept_bytes b.piece ∷ []) (record m { state = b })
 ReadsOn_line wanted m b kept cuts =
     subst (λ (s : InputState). ReadsOn wanted m (kept_bytes b.piece ∷ []) (record m { state = s })) (sym cuts.rest)
-    (ReadsOn_cut wanted m true b.piece cuts.front b.waiting (kept_bytes b.piece ∷ []) kept cuts.whole cuts.cut (omega (arith, cuts.some)) (asked_one m.state.end m.state.is_given true))
+    (ReadsOn_cut wanted m true b.piece cuts.front b.waiting (kept_bytes b.piece ∷ []) kept cuts.whole cuts.cut
+    (omega (arith, cuts.some)) (asked_one m.state.end m.state.is_given true))
 
 -- a line is given where it is, and not kept
-pub ReadsOn_whole : (wanted : ℕ) (m : InputNow) (line : List ℕ) (b : InputState) → m.state.is_given ≡ false → TakesLine m.state line b → ReadsOn wanted m (line ∷ []) (record m { state = b })
+pub ReadsOn_whole : (wanted : ℕ) (m : InputNow) (line : List ℕ) (b : InputState) → m.state.is_given ≡ false
+    → TakesLine m.state line b → ReadsOn wanted m (line ∷ []) (record m { state = b })
 ReadsOn_whole wanted m line b kept takes =
     let same : record m.state { piece = None; is_given = false; waiting = b.waiting } ≡ b =
     ap (λ p. record m.state { piece = p; is_given = false; waiting = b.waiting }) (sym takes.unbegun)
     ∙ ap (λ t. record m.state { is_given = t; waiting = b.waiting }) (sym kept) ∙ sym takes.rest in
-    let cut : Cuts m.state.piece takes.front (line ∷ []) None = subst (λ p. Cuts p takes.front (line ∷ []) None) (sym takes.unbegun) takes.cut in
+    let cut : Cuts m.state.piece takes.front (line ∷ []) None =
+    subst (λ p. Cuts p takes.front (line ∷ []) None) (sym takes.unbegun) takes.cut in
     subst (λ (s : InputState). ReadsOn wanted m (line ∷ []) (record m { state = s })) same
-    (ReadsOn_cut wanted m false None takes.front b.waiting (line ∷ []) kept takes.whole cut (omega (arith, takes.some)) (asked_one m.state.end m.state.is_given false))
+    (ReadsOn_cut wanted m false None takes.front b.waiting (line ∷ []) kept takes.whole cut (omega (arith, takes.some))
+    (asked_one m.state.end m.state.is_given false))
 
 -- where no line ends, a piece begins at most where there are bytes
-begun_by_bytes : (p q : Option (List ℕ)) (bytes : List ℕ) → Cuts p bytes [] q → length (last_line q) ≤ length bytes + length (last_line p)
+begun_by_bytes : (p q : Option (List ℕ)) (bytes : List ℕ) → Cuts p bytes [] q
+    → length (last_line q) ≤ length bytes + length (last_line p)
 begun_by_bytes p q [] c = omega (arith, ap (λ s. length (last_line s)) c.1)
 begun_by_bytes p None (b ∷ bytes) c = omega arith
 begun_by_bytes p (Some kept) (b ∷ bytes) c = omega arith
 
-pub ReadsOn_all : (wanted : ℕ) (m : InputNow) (b : InputState) → m.state.is_given ≡ false → CutsAll m.state b → ReadsOn wanted m [] (record m { state = b })
+pub ReadsOn_all : (wanted : ℕ) (m : InputNow) (b : InputState) → m.state.is_given ≡ false → CutsAll m.state b
+    → ReadsOn wanted m [] (record m { state = b })
 ReadsOn_all wanted m b kept cuts =
     subst (λ (s : InputState). ReadsOn wanted m [] (record m { state = s })) (sym cuts.rest)
     (ReadsOn_cut wanted m false b.piece m.state.waiting [] [] kept (sym (append-nil m.state.waiting)) cuts.cut
-    (omega (arith, begun_by_bytes m.state.piece b.piece m.state.waiting cuts.cut)) (asked_open m.state.end m.state.is_given))
+    (omega (arith, begun_by_bytes m.state.piece b.piece m.state.waiting cuts.cut))
+    (asked_open m.state.end m.state.is_given))
 
 -- ---- more is read, where all that has come is cut
 
 same_test : (a b c d : ℕ) → (a < b → c < d) → (c < d → a < b) → ltb a b ≡ ltb c d
-same_test a b c d to from = ltb_from_iff {b = ltb a b} {m = c} {n = d} (λ e. to (ltb-true a b e), λ h. lt-ltb a b (from h))
+same_test a b c d to from =
+    ltb_from_iff {b = ltb a b} {m = c} {n = d} (λ e. to (ltb-true a b e), λ h. lt-ltb a b (from h))
 
 -- what is open, with the bytes that came behind it
 abbrev pub state_at : Option (List ℕ) → Bool → List ℕ → ℕ → InputEnd → InputState
 state_at p given waiting left end = record { piece = p; is_given = given; waiting = waiting; left = left; end = end }
 
-loses_more : (p : Option (List ℕ)) (given : Bool) (bytes : List ℕ) (k l : ℕ) (old new : Option (List ℕ)) → Consumes old new bytes → length bytes + l ≡ k → 0 < l
+loses_more : (p : Option (List ℕ)) (given : Bool) (bytes : List ℕ) (k l : ℕ) (old new : Option (List ℕ))
+    → Consumes old new bytes → length bytes + l ≡ k → 0 < l
     → Loses (known_lines (record { state = state_at p given [] k Open; bytes = old; given = 0; failures = 0 }))
     (known_lines (record { state = state_at p given bytes l Open; bytes = new; given = 0; failures = 0 })) []
 loses_more p given bytes k l None new c size room = tt
@@ -178,16 +213,21 @@ loses_more p given bytes k l (Some x) None c size room = absurd c
 loses_more p given bytes k l (Some x) (Some y) c size room =
     let q : Option (List ℕ) = left_open given p in
     let total : length x ≡ length bytes + length y = ap length c ∙ length-append bytes y in
-    let test : ltb (length x) k ≡ ltb (length y) l = same_test (length x) k (length y) l (λ h. omega (arith, h, total, size)) (λ h. omega (arith, h, total, size)) in
+    let test : ltb (length x) k ≡ ltb (length y) l =
+    same_test (length x) k (length y) l (λ h. omega (arith, h, total, size)) (λ h. omega (arith, h, total, size)) in
     let less : (k - 1) - length bytes ≡ l - 1 = omega (arith, size) in
     let coming : take (k - 1) x ≡ bytes ++ take (l - 1) y =
-    ap (take (k - 1)) c ∙ take-split (k - 1) bytes y ∙ ap (λ f. f ++ take ((k - 1) - length bytes) y) (take_all (k - 1) bytes (omega (arith, size)))
+    ap (take (k - 1)) c ∙ take-split (k - 1) bytes y ∙ ap (λ f. f ++ take ((k - 1) - length bytes) y)
+    (take_all (k - 1) bytes (omega (arith, size)))
     ∙ ap (λ n. bytes ++ take n y) less in
     ap (λ t. lines_to_end t q (take (k - 1) x)) test ∙ ap (lines_to_end (ltb (length y) l) q) coming
 
-pub ReadsOn_more_bytes : (p : Option (List ℕ)) (given : Bool) (bytes : List ℕ) (k l : ℕ) (old new : Option (List ℕ)) (f g x y : ℕ)
-    → Consumes old new bytes → length bytes + l ≡ k → 0 < l → g ≡ f → 0 < length bytes → length bytes ≤ 4096 → IsCounted x y (length bytes)
-    → ReadsOn 1 (record { state = state_at p given [] k Open; bytes = old; given = x; failures = f }) [] (record { state = state_at p given bytes l Open; bytes = new; given = y; failures = g })
+pub ReadsOn_more_bytes : (p : Option (List ℕ)) (given : Bool) (bytes : List ℕ) (k l : ℕ) (old new : Option (List ℕ))
+    (f g x y : ℕ)
+    → Consumes old new bytes → length bytes + l ≡ k → 0 < l → g ≡ f → 0 < length bytes → length bytes ≤ 4096
+    → IsCounted x y (length bytes)
+    → ReadsOn 1 (record { state = state_at p given [] k Open; bytes = old; given = x; failures = f }) []
+    (record { state = state_at p given bytes l Open; bytes = new; given = y; failures = g })
 ReadsOn_more_bytes p given bytes k l old new f g x y c size room unfailed some fits counted = record {
   loses = loses_more p given bytes k l old new c size room;
   falls = omega (arith, size);
@@ -211,7 +251,8 @@ ReadsOn_more_bytes p given bytes k l old new f g x y c size room unfailed some f
   exceeded = λ e. inl e;
 }
 
-loses_end : (p : Option (List ℕ)) (given : Bool) (k : ℕ) (old new : Option (List ℕ)) → Consumes old new [] → IsAtEnd new → 0 < k
+loses_end : (p : Option (List ℕ)) (given : Bool) (k : ℕ) (old new : Option (List ℕ)) → Consumes old new [] → IsAtEnd new
+    → 0 < k
     → Loses (known_lines (record { state = state_at p given [] k Open; bytes = old; given = 0; failures = 0 }))
     (known_lines (record { state = state_at p given [] k Ended; bytes = new; given = 0; failures = 0 })) []
 loses_end p given k None new c end room = tt
@@ -219,7 +260,8 @@ loses_end p given k (Some x) None c end room = absurd c
 loses_end p given k (Some x) (Some y) c end room =
     let q : Option (List ℕ) = left_open given p in
     let none : x ≡ [] = c ∙ end in
-    ap (λ l. lines_to_end (ltb (length l) k) q (take (k - 1) l)) none ∙ ap (λ t. lines_to_end t q (take (k - 1) [])) (lt-ltb 0 k room)
+    ap (λ l. lines_to_end (ltb (length l) k) q (take (k - 1) l)) none
+    ∙ ap (λ t. lines_to_end t q (take (k - 1) [])) (lt-ltb 0 k room)
     ∙ ap (lines_to_end true q) (take-nil (k - 1))
 
 within : {k : ℕ} (a b : Option (List ℕ)) → Consumes a b [] → IsAtEnd b → 0 < k → IfSome a (λ bytes. length bytes < k)
@@ -227,8 +269,10 @@ within None b c end room = tt
 within (Some x) None c end room = absurd c
 within (Some x) (Some y) c end room = omega (arith, ap length c, ap length end, room)
 
-pub ReadsOn_end : (p : Option (List ℕ)) (given : Bool) (k : ℕ) (old new : Option (List ℕ)) (f g x y : ℕ) → Consumes old new [] → IsAtEnd new → 0 < k → g ≡ f → IsCounted x y 0
-    → ReadsOn 1 (record { state = state_at p given [] k Open; bytes = old; given = x; failures = f }) [] (record { state = state_at p given [] k Ended; bytes = new; given = y; failures = g })
+pub ReadsOn_end : (p : Option (List ℕ)) (given : Bool) (k : ℕ) (old new : Option (List ℕ)) (f g x y : ℕ)
+    → Consumes old new [] → IsAtEnd new → 0 < k → g ≡ f → IsCounted x y 0
+    → ReadsOn 1 (record { state = state_at p given [] k Open; bytes = old; given = x; failures = f }) []
+    (record { state = state_at p given [] k Ended; bytes = new; given = y; failures = g })
 ReadsOn_end p given k old new f g x y c end room unfailed counted = record {
   loses = loses_end p given k old new c end room;
   falls = omega arith;
@@ -259,7 +303,8 @@ loses_failed : (p : Option (List ℕ)) (given : Bool) (k : ℕ) (old new : Optio
     (known_lines (record { state = state_at p given [] k Failed; bytes = new; given = 0; failures = 0 })) []
 loses_failed p given k None new c = tt
 loses_failed p given k (Some x) None c = absurd c
-loses_failed p given k (Some x) (Some y) c = ap (λ l. lines_to_end (ltb (length l) k) (left_open given p) (take (k - 1) l)) (sym c)
+loses_failed p given k (Some x) (Some y) c =
+    ap (λ l. lines_to_end (ltb (length l) k) (left_open given p) (take (k - 1) l)) (sym c)
 
 counted_fault : (f g most : ℕ) → f ≤ most → g ≡ min (f + 1) most → (f < g) ⊎ (f ≡ most)
 counted_fault f g most fits counted = at_least (eq-or-lt_of_le fits) where
@@ -267,8 +312,10 @@ counted_fault f g most fits counted = at_least (eq-or-lt_of_le fits) where
   at_least (inl e) = inr e
   at_least (inr h) = inl (omega (arith, counted))
 
-pub ReadsOn_failed : (p : Option (List ℕ)) (given : Bool) (k : ℕ) (old new : Option (List ℕ)) (f g x y : ℕ) → Keeps old new → f ≤ failure_limit → g ≡ min (f + 1) failure_limit → IsCounted x y 0
-    → ReadsOn 1 (record { state = state_at p given [] k Open; bytes = old; given = x; failures = f }) [] (record { state = state_at p given [] k Failed; bytes = new; given = y; failures = g })
+pub ReadsOn_failed : (p : Option (List ℕ)) (given : Bool) (k : ℕ) (old new : Option (List ℕ)) (f g x y : ℕ)
+    → Keeps old new → f ≤ failure_limit → g ≡ min (f + 1) failure_limit → IsCounted x y 0
+    → ReadsOn 1 (record { state = state_at p given [] k Open; bytes = old; given = x; failures = f }) []
+    (record { state = state_at p given [] k Failed; bytes = new; given = y; failures = g })
 ReadsOn_failed p given k old new f g x y c fits counted count = record {
   loses = loses_failed p given k old new c;
   falls = omega arith;
@@ -280,7 +327,11 @@ ReadsOn_failed p given k old new f g x y c fits counted count = record {
   stays = λ closed. absurd (closed refl);
   drained = λ d closed. refl;
   asks = omega arith;
-  cut = λ _. (ap (whole_lines (left_open given p)) (take-nil (k - 1)), ap (last_piece (left_open given p)) (take-nil (k - 1)));
+  cut = λ _. (
+    ap (whole_lines (left_open given p)) (take-nil (k - 1)),
+    ap (last_piece (left_open given p))
+        (take-nil (k - 1)),
+  );
   spare = λ room _. room;
   ended = λ e. absurd (let clash : Failed ≡ Ended = e in cc);
   later = omega (arith, fits, counted);
@@ -289,7 +340,8 @@ ReadsOn_failed p given k old new f g x y c fits counted count = record {
   exceeded = λ e. absurd (let clash : Failed ≡ Exceeded = e in cc);
 }
 
-loses_exceeded : (p : Option (List ℕ)) (given : Bool) (piece : List ℕ) (old new : Option (List ℕ)) → Consumes old new piece → length piece ≡ 1
+loses_exceeded : (p : Option (List ℕ)) (given : Bool) (piece : List ℕ) (old new : Option (List ℕ))
+    → Consumes old new piece → length piece ≡ 1
     → Loses (known_lines (record { state = state_at p given [] 1 Open; bytes = old; given = 0; failures = 0 }))
     (known_lines (record { state = state_at p given [] 0 Exceeded; bytes = new; given = 0; failures = 0 })) []
 loses_exceeded p given piece None new c one = tt
@@ -297,10 +349,13 @@ loses_exceeded p given piece (Some x) None c one = absurd c
 loses_exceeded p given piece (Some x) (Some y) c one =
     let q : Option (List ℕ) = left_open given p in
     let total : length x ≡ length piece + length y = ap length c ∙ length-append piece y in
-    ap (λ t. lines_to_end t q []) (le-ltb (length x) 1 (omega (arith, total, one)) ∙ sym (le-ltb (length y) 0 (omega arith)))
+    ap (λ t. lines_to_end t q []) (le-ltb (length x) 1 (omega (arith, total, one))
+    ∙ sym (le-ltb (length y) 0 (omega arith)))
 
-pub ReadsOn_exceeded : (p : Option (List ℕ)) (given : Bool) (piece : List ℕ) (old new : Option (List ℕ)) (f g x y : ℕ) → Consumes old new piece → length piece ≡ 1 → g ≡ f → IsCounted x y (length piece)
-    → ReadsOn 1 (record { state = state_at p given [] 1 Open; bytes = old; given = x; failures = f }) [] (record { state = state_at p given [] 0 Exceeded; bytes = new; given = y; failures = g })
+pub ReadsOn_exceeded : (p : Option (List ℕ)) (given : Bool) (piece : List ℕ) (old new : Option (List ℕ)) (f g x y : ℕ)
+    → Consumes old new piece → length piece ≡ 1 → g ≡ f → IsCounted x y (length piece)
+    → ReadsOn 1 (record { state = state_at p given [] 1 Open; bytes = old; given = x; failures = f }) []
+    (record { state = state_at p given [] 0 Exceeded; bytes = new; given = y; failures = g })
 ReadsOn_exceeded p given piece old new f g x y c one unfailed counted = record {
   loses = loses_exceeded p given piece old new c one;
   falls = omega arith;
@@ -308,7 +363,14 @@ ReadsOn_exceeded p given piece old new f g x y c one unfailed counted = record {
   consumed = c;
   counted = counted;
   room = omega (arith, one);
-  ahead = inr (record { before = []; piece = piece; both = refl; some = omega (arith, one); fits = omega (arith, one); needed = omega arith });
+  ahead = inr (record {
+    before = [];
+    piece = piece;
+    both = refl;
+    some = omega (arith, one);
+    fits = omega (arith, one);
+    needed = omega arith;
+  });
   stays = λ closed. absurd (closed refl);
   drained = λ d closed. refl;
   asks = omega arith;
@@ -324,35 +386,44 @@ ReadsOn_exceeded p given piece old new f g x y c one unfailed counted = record {
 -- ---- the states of the machine's fields
 
 -- where all that has come is cut, and the reader may have more
-pub state_open : (a : InputState) (p : Option (List ℕ)) (given : Bool) (waiting : List ℕ) (left : ℕ) (end : InputEnd) → state_at p given waiting left end ≡ a → a.waiting ≡ []
+pub state_open : (a : InputState) (p : Option (List ℕ)) (given : Bool) (waiting : List ℕ) (left : ℕ) (end : InputEnd)
+    → state_at p given waiting left end ≡ a → a.waiting ≡ []
     → end ≡ Open → a ≡ state_at p given [] left Open
 state_open a p given waiting left end view none goes =
-    sym view ∙ ap (λ w. state_at p given w left end) (ap (λ s. s.waiting) view ∙ none) ∙ ap (λ e. state_at p given [] left e) goes
+    sym view ∙ ap (λ w. state_at p given w left end) (ap (λ s. s.waiting) view ∙ none)
+    ∙ ap (λ e. state_at p given [] left e) goes
 
 -- a range of no bytes has none in another buffer
-pub slice_range-none : (xs ys : List ℕ) (i j : ℕ) → i ≤ j → j ≤ length xs → slice_range xs i j ≡ [] → slice_range ys i j ≡ []
+pub slice_range-none : (xs ys : List ℕ) (i j : ℕ) → i ≤ j → j ≤ length xs → slice_range xs i j ≡ []
+    → slice_range ys i j ≡ []
 slice_range-none xs ys i j ordered inside none =
     let size : j - i ≡ length (slice_range xs i j) = omega (arith, length-take (j - i) (drop i xs), length-drop i xs) in
     ap (λ n. take n (drop i ys)) (let empty : j - i ≡ 0 = size ∙ ap length none in empty)
 
 -- the first bytes of a buffer, where they were read to its front
 pub slice_range-read : (n : ℕ) (xs ys : List ℕ) → n ≤ length xs → slice_range (xs ++ ys) 0 n ≡ take n xs
-slice_range-read n xs ys inside = ap (λ k. take k (xs ++ ys)) (let e : n - 0 ≡ n = omega arith in e) ∙ take-append-le n xs ys inside
+slice_range-read n xs ys inside = ap (λ k. take k (xs ++ ys)) (let e : n - 0 ≡ n = omega arith in
+    e) ∙ take-append-le n xs ys inside
 
-pub Consumes_no_bytes : (a b : Option (List ℕ)) (n : ℕ) (xs : List ℕ) → n ≡ 0 → Consumes a b (take n xs) → Consumes a b []
+pub Consumes_no_bytes : (a b : Option (List ℕ)) (n : ℕ) (xs : List ℕ) → n ≡ 0 → Consumes a b (take n xs)
+    → Consumes a b []
 Consumes_no_bytes a b n xs e c = subst (λ k. Consumes a b (take k xs)) e c
 
 -- a range is its first bytes and the range after them
-pub slice_range-front : (xs : List ℕ) (i j n : ℕ) → i + n ≤ j → slice_range xs i j ≡ take n (slice_range xs i j) ++ slice_range xs (i + n) j
+pub slice_range-front : (xs : List ℕ) (i j n : ℕ) → i + n ≤ j
+    → slice_range xs i j ≡ take n (slice_range xs i j) ++ slice_range xs (i + n) j
 slice_range-front xs i j n inside =
     let rest : drop n (slice_range xs i j) ≡ slice_range xs (i + n) j =
-    ap (λ k. drop n (take k (drop i xs))) (let e : j - i ≡ n + (j - (i + n)) = omega arith in e) ∙ drop-take n (j - (i + n)) (drop i xs)
+    ap (λ k. drop n (take k (drop i xs))) (let e : j - i ≡ n + (j - (i + n)) = omega arith in
+    e) ∙ drop-take n (j - (i + n)) (drop i xs)
     ∙ ap (take (j - (i + n))) (drop-drop n i xs) in
     sym (take-append-drop n (slice_range xs i j)) ∙ ap (λ l. take n (slice_range xs i j) ++ l) rest
 
-pub ReadsOn_at : (wanted : ℕ) (m n : InputNow) (s t : InputState) → m.state ≡ s → n.state ≡ t → ReadsOn wanted (record m { state = s }) [] (record n { state = t }) → ReadsOn wanted m [] n
+pub ReadsOn_at : (wanted : ℕ) (m n : InputNow) (s t : InputState) → m.state ≡ s → n.state ≡ t
+    → ReadsOn wanted (record m { state = s }) [] (record n { state = t }) → ReadsOn wanted m [] n
 ReadsOn_at wanted m n s t e f reads =
-    subst (λ (u : InputState). ReadsOn wanted m [] (record n { state = u })) (sym f) (subst (λ (u : InputState). ReadsOn wanted (record m { state = u }) [] (record n { state = t })) (sym e) reads)
+    subst (λ (u : InputState). ReadsOn wanted m [] (record n { state = u })) (sym f)
+    (subst (λ (u : InputState). ReadsOn wanted (record m { state = u }) [] (record n { state = t })) (sym e) reads)
 
 -- ---- the last piece is given
 
@@ -361,8 +432,11 @@ module _ (wanted k : ℕ) (known : Option (List ℕ)) (x f : ℕ) where
   abbrev at_end : Option (List ℕ) → Bool → InputNow
   at_end p given = record { state = state_at p given [] k Ended; bytes = known; given = x; failures = f }
 
-  loses_last : (kept : List ℕ) (a : Option (List ℕ)) → Loses (known_lines (record { state = state_at (Some kept) false [] k Ended; bytes = a; given = x; failures = f }))
-      (known_lines (record { state = state_at (Some kept) true [] k Ended; bytes = a; given = x; failures = f })) (kept ∷ [])
+  loses_last : (kept : List ℕ) (a : Option (List ℕ))
+      → Loses
+      (known_lines (record { state = state_at (Some kept) false [] k Ended; bytes = a; given = x; failures = f }))
+      (known_lines (record { state = state_at (Some kept) true [] k Ended; bytes = a; given = x; failures = f }))
+      (kept ∷ [])
   loses_last kept None = tt
   loses_last kept (Some x) = refl
 
@@ -391,7 +465,13 @@ module _ (wanted k : ℕ) (known : Option (List ℕ)) (x f : ℕ) where
 -- ---- what a read counts
 
 pub IsCounted_read : (x y n : ℕ) → x ≤ given_limit → GivesExactly x y n → IsCounted x y n
-IsCounted_read x y n within gives = record { at_most = (omega (arith, within, gives), omega (arith, gives)); exactly = λ _. gives }
+IsCounted_read x y n within gives = record {
+  at_most = (omega (arith, within, gives), omega (arith, gives));
+  exactly = λ _. gives;
+}
 
 pub IsCounted_fault : (x y : ℕ) → y ≡ x → IsCounted x y 0
-IsCounted_fault x y same = record { at_most = (omega (arith, same), omega (arith, same)); exactly = λ some. absurd (omega arith) }
+IsCounted_fault x y same = record {
+  at_most = (omega (arith, same), omega (arith, same));
+  exactly = λ some. absurd (omega arith);
+}

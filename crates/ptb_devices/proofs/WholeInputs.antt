@@ -1,6 +1,8 @@
 -- This file proves what holds at each way out of reading a whole input, from what its reader knows of each step.
 -- Main lemma: `told_all`.
-use Rattle.std.proofs.Common.{◌≡◌, ◌∙◌, ℕ, ◌+◌, ◌-◌, ◌<◌, ◌≤◌, List, ◌++◌, length, length-append, Option, IfSome, Result, Ok, Err, IfOk, IsOk, inl, inr, min, refl, sym, ap, subst, arith}
+use Rattle.std.proofs.Common.{◌≡◌, ◌∙◌, ℕ, ◌+◌, ◌-◌, ◌<◌, ◌≤◌, List, ◌++◌, length, length-append}
+use Rattle.std.proofs.Common.{Option, IfSome, Result, Ok, Err, IfOk, IsOk, inl, inr, min, refl, sym}
+use Rattle.std.proofs.Common.{ap, subst, arith}
 use Rattle.std.specs.Io.KnownBytes.{Consumes, IsAtEnd, Keeps}
 use Rattle.std.specs.Result.{IsErrAnd, IsErrOf}
 use Rattle.std.proofs.KnownBytes.{Consumes-trans, Consumes-whole}
@@ -13,7 +15,8 @@ use Rattle.ptb_text.proofs.ByteCounts.{IsCountedUpTo, IsCountedUpTo_more}
 use Rattle.ptb_devices.specs.CutLines.{last_line}
 use Rattle.ptb_devices.specs.declared.fault.ReadFault.{ReadFault}
 use Rattle.ptb_devices.specs.declared.fault.ReadFault.TheVariants.{Read, TooLong, Memory}
-use Rattle.ptb_devices.proofs.ReadLines.{IsReadUpTo, IsReadUpTo_bounded, IsReadUpTo_end, IsReadUpTo_kept, IsReadUpTo_long}
+use Rattle.ptb_devices.proofs.ReadLines.{IsReadUpTo, IsReadUpTo_bounded, IsReadUpTo_end}
+use Rattle.ptb_devices.proofs.ReadLines.{IsReadUpTo_kept, IsReadUpTo_long}
 
 failed_once : (f h : ℕ) → f ≤ failure_limit → h ≡ min (f + 1) failure_limit → HasFailed f h
 failed_once f h within counted = elim (cases_lt f failure_limit) [
@@ -38,7 +41,9 @@ module _ {R T : Type 0} (items : T → List (List ℕ)) (limit : ℕ) (input : R
     pub reads : ReadsUpTo limit input (IsOk result) (IsErrOf result TooLong) (IsErrOf result Read)
 
   -- all that may be taken was
-  pub told_long : (ls : List (List ℕ)) (q : Option (List ℕ)) (left : ℕ) → input.fails ≡ input.failed → IsReadUpTo input.bytes input.left ls q (limit + 1) left → IsCountedUpTo input.gave input.gives ((limit + 1) - left) → left ≤ limit + 1
+  pub told_long : (ls : List (List ℕ)) (q : Option (List ℕ)) (left : ℕ) → input.fails ≡ input.failed
+      → IsReadUpTo input.bytes input.left ls q (limit + 1) left
+      → IsCountedUpTo input.gave input.gives ((limit + 1) - left) → left ≤ limit + 1
       → left ≤ 0 → IsTold (Err TooLong)
   told_long ls q left same before counted room none =
       let all : (limit + 1) - left ≡ limit + 1 = omega (arith, none) in
@@ -59,9 +64,12 @@ module _ {R T : Type 0} (items : T → List (List ℕ)) (limit : ℕ) (input : R
       }
 
   -- so far ls and q were cut from the bytes that were taken, and b are the bytes that are left
-  module _ (b : Option (List ℕ)) (g j : ℕ) (ls : List (List ℕ)) (q : Option (List ℕ)) (left : ℕ) (same : g ≡ input.failed) (before : IsReadUpTo input.bytes b ls q (limit + 1) left) (counted : IsCountedUpTo input.gave j ((limit + 1) - left)) (room : left ≤ limit + 1) where
+  module _ (b : Option (List ℕ)) (g j : ℕ) (ls : List (List ℕ)) (q : Option (List ℕ)) (left : ℕ)
+      (same : g ≡ input.failed) (before : IsReadUpTo input.bytes b ls q (limit + 1) left)
+      (counted : IsCountedUpTo input.gave j ((limit + 1) - left)) (room : left ≤ limit + 1) where
     -- the reader failed
-    module _ (kept : Keeps b input.left) (rising : (g ≤ failure_limit) × (input.fails ≡ min (g + 1) failure_limit)) (giving : (j ≤ given_limit) × (input.gives ≡ j)) where
+    module _ (kept : Keeps b input.left) (rising : (g ≤ failure_limit) × (input.fails ≡ min (g + 1) failure_limit))
+        (giving : (j ≤ given_limit) × (input.gives ≡ j)) where
       told_failure : IsTold (Err Read)
       told_failure = record {
         lines = tt;
@@ -73,7 +81,8 @@ module _ {R T : Type 0} (items : T → List (List ℕ)) (limit : ℕ) (input : R
           given_within = λ e. absurd cc;
           longer = λ e. absurd cc;
           given_longer = λ e. absurd cc;
-          has_failed = λ _. subst (λ (n : ℕ). HasFailed n input.fails) same (failed_once g input.fails rising.0 rising.1);
+          has_failed = λ _. subst (λ (n : ℕ). HasFailed n input.fails) same
+              (failed_once g input.fails rising.0 rising.1);
           unfailed = λ other. absurd (other refl);
           later = omega (arith, same, rising.0, rising.1);
         };
@@ -85,7 +94,9 @@ module _ {R T : Type 0} (items : T → List (List ℕ)) (limit : ℕ) (input : R
           subst IsTold (sym (e.1 ∙ ap Err e.2)) told_failure
 
     -- it gave n bytes
-    module _ (n : ℕ) (piece : List ℕ) (fits : length piece ≤ left) (took : Consumes b input.left piece) (steady : (g < failure_limit) × (input.fails ≡ g)) (giving : (j ≤ given_limit) × GivesExactly j input.gives n) (few : n ≤ left) where
+    module _ (n : ℕ) (piece : List ℕ) (fits : length piece ≤ left) (took : Consumes b input.left piece)
+        (steady : (g < failure_limit) × (input.fails ≡ g)) (giving : (j ≤ given_limit) × GivesExactly j input.gives n)
+        (few : n ≤ left) where
       more : IsCountedUpTo input.gave input.gives (((limit + 1) - left) + n)
       more = IsCountedUpTo_more input.gave j input.gives ((limit + 1) - left) n counted giving.0 giving.1
 
@@ -113,7 +124,8 @@ module _ {R T : Type 0} (items : T → List (List ℕ)) (limit : ℕ) (input : R
           subst IsTold (sym (e.1 ∙ ap Err e.2)) told_want
 
       -- there was none, and that is the end
-      pub told_all : n ≡ 0 → length piece ≡ 0 → 0 < left → IsAtEnd input.left → (x : T) → items x ≡ ls ++ last_line q → IsTold (Ok x)
+      pub told_all : n ≡ 0 → length piece ≡ 0 → 0 < left → IsAtEnd input.left → (x : T) → items x ≡ ls ++ last_line q
+          → IsTold (Ok x)
       told_all zero none some end x last = record {
         lines = IsReadUpTo_end input.bytes b input.left ls (items x) q (limit + 1) left piece none before took end last;
         reads = record {
@@ -121,7 +133,8 @@ module _ {R T : Type 0} (items : T → List (List ℕ)) (limit : ℕ) (input : R
           given = (more.at_most.0, omega (arith, more.at_most.1));
           end = λ _. end;
           within =
-              λ _. Consumes-whole input.bytes input.left (before.bytes ++ piece) (λ all. length all ≤ limit) (Consumes-trans input.bytes b input.left before.bytes piece before.taken took) end
+              λ _. Consumes-whole input.bytes input.left (before.bytes ++ piece) (λ all. length all ≤ limit)
+              (Consumes-trans input.bytes b input.left before.bytes piece before.taken took) end
               (omega (arith, before.size, length-append before.bytes piece));
           given_within = λ _. (more.at_most.0, omega (arith, more.at_most.1));
           longer = λ e. absurd cc;

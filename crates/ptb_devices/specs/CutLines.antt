@@ -11,7 +11,8 @@
 --     IsLine line bytes            these bytes are the line and its end, and the cleaned line is the same
 --     Cuts p bytes given q         these bytes end the lines given, and then q has begun
 --     AddsLines p bytes old new q  the lines that these bytes end come after the old ones
-use Rattle.std.specs.Prelude.{◌≡◌, ℕ, ◌==◌, ◌≤◌, Bool, true, false, IsTrue, if◌then◌else◌, List, [], ◌∷◌, ◌++◌, length, filter, take, Option, Some, None}
+use Rattle.std.specs.Prelude.{◌≡◌, ℕ, ◌==◌, ◌≤◌, Bool, true, false, IsTrue, if◌then◌else◌, List, []}
+use Rattle.std.specs.Prelude.{◌∷◌, ◌++◌, length, filter, take, Option, Some, None}
 use Rattle.std.specs.List.{list_all}
 use Rattle.ptb_text.specs.Lines.{tab_as_space, is_printable, line_limit}
 
@@ -40,7 +41,8 @@ whole_lines p (b ∷ bytes) =
 
 abbrev pub last_piece : Option (List ℕ) → List ℕ → Option (List ℕ)
 last_piece p [] = p
-last_piece p (b ∷ bytes) = if b == 10 then last_piece None bytes else last_piece (Some (with_byte (kept_bytes p) b)) bytes
+last_piece p (b ∷ bytes) = if b == 10 then last_piece None bytes else last_piece
+    (Some (with_byte (kept_bytes p) b)) bytes
 
 -- a last piece that has not begun is no line
 abbrev pub last_line : Option (List ℕ) → List (List ℕ)

@@ -1,7 +1,9 @@
 -- This file proves the laws of an input that goes on, as a line source has to keep them.
 --     ReadsOn_none, ReadsOn_more       no line was taken; lines were taken in two parts
 --     Loses_none, Loses_more           the same for the lines alone
-use Rattle.std.proofs.Common.{◌≡◌, ℕ, zero, suc, ◌+◌, ◌-◌, ◌≤◌, ◌<◌, ◌⊎◌, inl, inr, true, List, [], ◌∷◌, ◌++◌, length, take, Option, Some, None, IfSome, refl, sym, ap, subst, ◌∙◌, append_assoc, append-nil, arith, length-append}
+use Rattle.std.proofs.Common.{◌≡◌, ℕ, zero, suc, ◌+◌, ◌-◌, ◌≤◌, ◌<◌, ◌⊎◌, inl, inr, true, List, []}
+use Rattle.std.proofs.Common.{◌∷◌, ◌++◌, length, take, Option, Some, None, IfSome, refl, sym, ap}
+use Rattle.std.proofs.Common.{subst, ◌∙◌, append_assoc, append-nil, arith, length-append}
 use Rattle.std.specs.Prelude.{option_map}
 use Rattle.std.proofs.Math.Nat.{eq-or-lt_of_le}
 use Rattle.std.proofs.Math.Seq.{take-nil}
@@ -14,7 +16,9 @@ use Rattle.ptb_devices.specs.declared.line_buffer.InputEnd.TheVariants.{Open, En
 use Rattle.ptb_devices.specs.CutLines.{whole_lines, last_piece, last_line, Cuts}
 use Rattle.ptb_devices.specs.CutLineLaws.{whole_lines-append, last_piece-append}
 use Rattle.ptb_devices.specs.Sources.{Loses, NoneLeft}
-use Rattle.ptb_devices.specs.Inputs.{InputNow, IsCounted, open_piece, cut_at_end, ends_within, lines_to_end, most_to_come, most_lines, known_lines, IsReadAhead, ReadsOn, asked}
+use Rattle.ptb_devices.specs.Inputs.{InputNow, IsCounted, open_piece, cut_at_end, ends_within}
+use Rattle.ptb_devices.specs.Inputs.{lines_to_end, most_to_come, most_lines, known_lines}
+use Rattle.ptb_devices.specs.Inputs.{IsReadAhead, ReadsOn, asked}
 
 -- ---- lines, failures and bytes over several calls
 
@@ -22,7 +26,8 @@ pub Loses_none : (a : Option (List (List ℕ))) → Loses a a []
 Loses_none None = tt
 Loses_none (Some ls) = refl
 
-pub Loses_more : (a b c : Option (List (List ℕ))) (xs ys : List (List ℕ)) → Loses a b xs → Loses b c ys → Loses a c (xs ++ ys)
+pub Loses_more : (a b c : Option (List (List ℕ))) (xs ys : List (List ℕ)) → Loses a b xs → Loses b c ys
+    → Loses a c (xs ++ ys)
 Loses_more None b c xs ys p q = tt
 Loses_more (Some ls) None c xs ys p q = absurd p
 Loses_more (Some ls) (Some ms) None xs ys p q = absurd q
@@ -63,29 +68,36 @@ IsCounted_more a b c (suc n) (suc k) first second = record {
 }
 
 -- bytes that end within what was left of an input did so before
-within_before : (a b : Option (List ℕ)) (taken : List ℕ) (k l : ℕ) → length taken + l ≡ k → Consumes a b taken → IfSome b (λ y. length y < l) → IfSome a (λ x. length x < k)
+within_before : (a b : Option (List ℕ)) (taken : List ℕ) (k l : ℕ) → length taken + l ≡ k → Consumes a b taken
+    → IfSome b (λ y. length y < l) → IfSome a (λ x. length x < k)
 within_before None b taken k l size p q = tt
 within_before (Some x) None taken k l size p q = absurd p
 within_before (Some x) (Some y) taken k l size p q = omega (arith, ap length p, length-append taken y)
 
 -- the first n of two lists one after the other
 pub take-split : {A : Type 0} (n : ℕ) (xs ys : List A) → take n (xs ++ ys) ≡ take n xs ++ take (n - length xs) ys
-take-split n [] ys = ap (λ k. take k ys) (let e : n ≡ n - 0 = omega arith in e) ∙ ap (λ l. l ++ take (n - 0) ys) (sym (take-nil n))
+take-split n [] ys = ap (λ k. take k ys) (let e : n ≡ n - 0 = omega arith in
+    e) ∙ ap (λ l. l ++ take (n - 0) ys) (sym (take-nil n))
 take-split zero (x ∷ xs) ys = ap (λ k. take k ys) (let e : 0 ≡ 0 - length (x ∷ xs) = omega arith in e)
 take-split (suc n) (x ∷ xs) ys =
-    ap (λ l. x ∷ l) (take-split n xs ys) ∙ ap (λ k. (x ∷ take n xs) ++ take k ys) (let e : n - length xs ≡ suc n - length (x ∷ xs) = omega arith in e)
+    ap (λ l. x ∷ l) (take-split n xs ys) ∙ ap (λ k. (x ∷ take n xs) ++ take k ys)
+    (let e : n - length xs ≡ suc n - length (x ∷ xs) = omega arith in e)
 
 -- ---- cutting over several calls
 
 -- where q and the bytes w are left of a first cut, a second goes on with them
-Cuts_on : (p q r : Option (List ℕ)) (v w first second : List ℕ) (xs ys zs : List (List ℕ)) → Cuts p (v ++ first) (xs ++ whole_lines q w) (last_piece q w)
+Cuts_on : (p q r : Option (List ℕ)) (v w first second : List ℕ) (xs ys zs : List (List ℕ))
+    → Cuts p (v ++ first) (xs ++ whole_lines q w) (last_piece q w)
     → Cuts q (w ++ second) (ys ++ zs) r → Cuts p (v ++ (first ++ second)) ((xs ++ ys) ++ zs) r
 Cuts_on p q r v w first second xs ys zs c d =
     let all : v ++ (first ++ second) ≡ (v ++ first) ++ second = sym (append_assoc v first second) in (
-      ap (whole_lines p) all ∙ whole_lines-append p (v ++ first) second ∙ ap (λ l. l ++ whole_lines (last_piece p (v ++ first)) second) c.0
-          ∙ ap (λ s. (xs ++ whole_lines q w) ++ whole_lines s second) c.1 ∙ append_assoc xs (whole_lines q w) (whole_lines (last_piece q w) second)
+      ap (whole_lines p) all ∙ whole_lines-append p (v ++ first) second
+          ∙ ap (λ l. l ++ whole_lines (last_piece p (v ++ first)) second) c.0
+          ∙ ap (λ s. (xs ++ whole_lines q w) ++ whole_lines s second) c.1
+          ∙ append_assoc xs (whole_lines q w) (whole_lines (last_piece q w) second)
           ∙ ap (λ l. xs ++ l) (sym (whole_lines-append q w second) ∙ d.0) ∙ sym (append_assoc xs ys zs),
-      ap (last_piece p) all ∙ last_piece-append p (v ++ first) second ∙ ap (λ s. last_piece s second) c.1 ∙ sym (last_piece-append q w second) ∙ d.1,
+      ap (last_piece p) all ∙ last_piece-append p (v ++ first) second ∙ ap (λ s. last_piece s second) c.1
+          ∙ sym (last_piece-append q w second) ∙ d.1,
     )
 
 -- ---- an input of which no line can come
@@ -94,18 +106,23 @@ Cuts_on p q r v w first second xs ys zs c d =
 pub none_known : (m : InputNow) → most_lines m.state ≡ 0 → NoneLeft (known_lines m)
 none_known m none = by_state m.state.end m.state.waiting (open_piece m.state) refl refl refl m.bytes
   where
-    by_bytes : (left : ℕ) (waiting : List ℕ) (p : Option (List ℕ)) (bytes : Option (List ℕ)) → length waiting ≡ 0 → length (last_line p) ≡ 0
+    by_bytes : (left : ℕ) (waiting : List ℕ) (p : Option (List ℕ)) (bytes : Option (List ℕ)) → length waiting ≡ 0
+        → length (last_line p) ≡ 0
         → NoneLeft (option_map (λ b. lines_to_end true p (waiting ++ cut_at_end Ended left b)) bytes)
     by_bytes left waiting p None e f = tt
     by_bytes left [] None (Some b) e f = refl
     by_bytes left [] (Some kept) (Some b) e f = absurd (omega (arith, f))
     by_bytes left (x ∷ waiting) p (Some b) e f = absurd (omega (arith, e))
 
-    by_state : (end : InputEnd) (waiting : List ℕ) (p : Option (List ℕ)) → m.state.end ≡ end → m.state.waiting ≡ waiting → open_piece m.state ≡ p → (bytes : Option (List ℕ))
-        → NoneLeft (option_map (λ b. lines_to_end (ends_within m.state.end m.state.left b) (open_piece m.state) (m.state.waiting ++ cut_at_end m.state.end m.state.left b)) bytes)
+    by_state : (end : InputEnd) (waiting : List ℕ) (p : Option (List ℕ)) → m.state.end ≡ end → m.state.waiting ≡ waiting
+        → open_piece m.state ≡ p → (bytes : Option (List ℕ))
+        → NoneLeft (option_map (λ b. lines_to_end (ends_within m.state.end m.state.left b) (open_piece m.state)
+        (m.state.waiting ++ cut_at_end m.state.end m.state.left b)) bytes)
     by_state Ended waiting p e f g bytes =
-        let none : most_to_come Ended m.state.left + length m.state.waiting + length (last_line (open_piece m.state)) ≡ 0 = rw e at none in
-        rw e (by_bytes m.state.left m.state.waiting (open_piece m.state) bytes (omega (arith, none)) (omega (arith, none)))
+        let none : most_to_come Ended m.state.left + length m.state.waiting + length (last_line (open_piece m.state))
+        ≡ 0 = rw e at none in
+        rw e (by_bytes m.state.left m.state.waiting (open_piece m.state) bytes (omega (arith, none))
+        (omega (arith, none)))
     by_state Open waiting p e f g bytes = absurd (omega (arith, rw e at none))
     by_state Failed waiting p e f g bytes = absurd (omega (arith, rw e at none))
     by_state Exceeded waiting p e f g bytes = absurd (omega (arith, rw e at none))
@@ -124,7 +141,8 @@ ReadsOn_none wanted m = record {
   stays = λ _. (refl, refl);
   drained = λ d. d;
   asks = omega arith;
-  cut = λ _. subst (λ (l : List ℕ). Cuts (open_piece m.state) l (whole_lines (open_piece m.state) m.state.waiting) (last_piece (open_piece m.state) m.state.waiting))
+  cut = λ _. subst (λ (l : List ℕ). Cuts (open_piece m.state) l (whole_lines (open_piece m.state) m.state.waiting)
+      (last_piece (open_piece m.state) m.state.waiting))
       (sym (ap (λ l. m.state.waiting ++ l) (take-nil (m.state.left - 1)) ∙ append-nil m.state.waiting)) (refl, refl);
   spare = λ room _. room;
   ended = λ e. inl e;
@@ -134,13 +152,18 @@ ReadsOn_none wanted m = record {
   exceeded = λ e. inl e;
 }
 
-module _ (first_wanted second_wanted wanted : ℕ) (m n o : InputNow) (xs ys : List (List ℕ)) (first : ReadsOn first_wanted m xs n) (second : ReadsOn second_wanted n ys o) where
+module _ (first_wanted second_wanted wanted : ℕ) (m n o : InputNow) (xs ys : List (List ℕ))
+    (first : ReadsOn first_wanted m xs n) (second : ReadsOn second_wanted n ys o) where
   -- what isn't true of the end isn't true before
   open_before : (end : InputEnd) → (end ≡ Open → ⊥) → (o.state.end ≡ end → ⊥) → n.state.end ≡ end → ⊥
   open_before end closed other e = other ((second.stays (λ h. closed (sym e ∙ h))).0 ∙ e)
 
-  more_failed : (n.state.end ≡ Failed) ⊎ HasFailed n.failures o.failures → (m.state.end ≡ Failed) ⊎ HasFailed m.failures o.failures
-  more_failed (inl e) = elim (first.failed e) [ inl p ↦ inl p | inr p ↦ inr (HasFailed_more m.failures n.failures o.failures second.later p) ]
+  more_failed : (n.state.end ≡ Failed) ⊎ HasFailed n.failures o.failures
+      → (m.state.end ≡ Failed) ⊎ HasFailed m.failures o.failures
+  more_failed (inl e) = elim (first.failed e) [
+    | inl p ↦ inl p
+    | inr p ↦ inr (HasFailed_more m.failures n.failures o.failures second.later p)
+  ]
   more_failed (inr p) = inr (HasFailed_later m.failures n.failures o.failures first.later second.later p)
 
   more_exceeded : (n.state.end ≡ Exceeded) ⊎ (o.state.left ≡ 0) → (m.state.end ≡ Exceeded) ⊎ (o.state.left ≡ 0)
@@ -148,14 +171,19 @@ module _ (first_wanted second_wanted wanted : ℕ) (m n o : InputNow) (xs ys : L
   more_exceeded (inr p) = inr p
 
   more_counted : IsCounted m.given o.given (length (first.taken ++ second.taken))
-  more_counted = subst (λ k. IsCounted m.given o.given k) (sym (length-append first.taken second.taken)) (IsCounted_more m.given n.given o.given (length first.taken) (length second.taken) first.counted second.counted)
+  more_counted = subst (λ k. IsCounted m.given o.given k) (sym (length-append first.taken second.taken))
+      (IsCounted_more m.given n.given o.given (length first.taken) (length second.taken) first.counted second.counted)
 
-  more_ended : (n.state.end ≡ Ended) ⊎ IfSome n.bytes (λ bytes. length bytes < n.state.left) → (m.state.end ≡ Ended) ⊎ IfSome m.bytes (λ bytes. length bytes < m.state.left)
+  more_ended : (n.state.end ≡ Ended) ⊎ IfSome n.bytes (λ bytes. length bytes < n.state.left)
+      → (m.state.end ≡ Ended) ⊎ IfSome m.bytes (λ bytes. length bytes < m.state.left)
   more_ended (inl e) = first.ended e
-  more_ended (inr p) = inr (within_before m.bytes n.bytes first.taken m.state.left n.state.left first.room first.consumed p)
+  more_ended (inr p) =
+      inr (within_before m.bytes n.bytes first.taken m.state.left n.state.left first.room first.consumed p)
 
-  ahead_first : second.taken ≡ [] → first_wanted ≤ length ys + wanted → (first.taken ≡ []) ⊎ IsReadAhead m.state first.taken (length xs + first_wanted)
-      → (first.taken ++ second.taken ≡ []) ⊎ IsReadAhead m.state (first.taken ++ second.taken) (length (xs ++ ys) + wanted)
+  ahead_first : second.taken ≡ [] → first_wanted ≤ length ys + wanted
+      → (first.taken ≡ []) ⊎ IsReadAhead m.state first.taken (length xs + first_wanted)
+      → (first.taken ++ second.taken ≡ []) ⊎ IsReadAhead m.state (first.taken ++ second.taken)
+      (length (xs ++ ys) + wanted)
   ahead_first none fewer (inl e) = inl (ap (λ l. l ++ second.taken) e ∙ none)
   ahead_first none fewer (inr h) = inr (record {
     before = h.before;
@@ -170,25 +198,43 @@ module _ (first_wanted second_wanted wanted : ℕ) (m n o : InputNow) (xs ys : L
   ahead_second : second_wanted ≤ wanted → IsReadAhead n.state second.taken (length ys + second_wanted)
       → IsReadAhead m.state (first.taken ++ second.taken) (length (xs ++ ys) + wanted)
   ahead_second fewer h =
-      let size : length second.taken ≡ length h.before + length h.piece = ap length h.both ∙ length-append h.before h.piece in
-      let all : take (m.state.left - 1) first.taken ≡ first.taken = take_all (m.state.left - 1) first.taken (omega (arith, size, h.some, first.room, second.room)) in
-      let going : n.state.end ≡ Ended → ⊥ = λ e. absurd (let none = ap length (second.stays (λ q. (let clash : Ended ≡ Open = sym e ∙ q in cc))).1 in omega (arith, none, size, h.some)) in
-      let before : Cuts (open_piece m.state) (m.state.waiting ++ first.taken) (xs ++ whole_lines (open_piece n.state) n.state.waiting) (last_piece (open_piece n.state) n.state.waiting) =
-      subst (λ (l : List ℕ). Cuts (open_piece m.state) (m.state.waiting ++ l) (xs ++ whole_lines (open_piece n.state) n.state.waiting) (last_piece (open_piece n.state) n.state.waiting)) all (first.cut going) in
+      let size : length second.taken ≡ length h.before + length h.piece =
+      ap length h.both ∙ length-append h.before h.piece in
+      let all : take (m.state.left - 1) first.taken ≡ first.taken =
+      take_all (m.state.left - 1) first.taken (omega (arith, size, h.some, first.room, second.room)) in
+      let going : n.state.end ≡ Ended → ⊥ =
+      λ e. absurd (let none = ap length (second.stays (λ q. (let clash : Ended ≡ Open = sym e ∙ q in cc))).1 in
+      omega (arith, none, size, h.some)) in
+      let before : Cuts (open_piece m.state) (m.state.waiting ++ first.taken)
+      (xs ++ whole_lines (open_piece n.state) n.state.waiting) (last_piece (open_piece n.state) n.state.waiting) =
+      subst (λ (l : List ℕ). Cuts (open_piece m.state) (m.state.waiting ++ l) (xs ++ whole_lines (open_piece n.state)
+      n.state.waiting) (last_piece (open_piece n.state) n.state.waiting)) all (first.cut going) in
       let behind : List (List ℕ) = whole_lines (open_piece n.state) (n.state.waiting ++ h.before) in
-      let both : whole_lines (open_piece m.state) (m.state.waiting ++ (first.taken ++ h.before)) ≡ (xs ++ []) ++ behind =
-      (Cuts_on (open_piece m.state) (open_piece n.state) _ m.state.waiting n.state.waiting first.taken h.before xs [] behind before (refl, refl)).0 in
+      let both : whole_lines (open_piece m.state) (m.state.waiting ++ (first.taken ++ h.before))
+      ≡ (xs ++ []) ++ behind =
+      (Cuts_on (open_piece m.state) (open_piece n.state) _ m.state.waiting n.state.waiting first.taken h.before xs
+      [] behind before (refl, refl)).0 in
       record {
         before = first.taken ++ h.before;
         piece = h.piece;
         both = ap (λ l. first.taken ++ l) h.both ∙ sym (append_assoc first.taken h.before h.piece);
         some = h.some;
         fits = h.fits;
-        needed = omega (arith, ap length both, length-append (xs ++ []) behind, length-append xs [], length-append xs ys, h.needed, fewer);
+        needed = omega (
+          arith,
+          ap length both,
+          length-append (xs ++ []) behind,
+          length-append xs [],
+          length-append xs ys,
+          h.needed,
+          fewer,
+        );
       }
 
-  more_ahead : first_wanted ≤ length ys + wanted → second_wanted ≤ wanted → (second.taken ≡ []) ⊎ IsReadAhead n.state second.taken (length ys + second_wanted)
-      → (first.taken ++ second.taken ≡ []) ⊎ IsReadAhead m.state (first.taken ++ second.taken) (length (xs ++ ys) + wanted)
+  more_ahead : first_wanted ≤ length ys + wanted → second_wanted ≤ wanted
+      → (second.taken ≡ []) ⊎ IsReadAhead n.state second.taken (length ys + second_wanted)
+      → (first.taken ++ second.taken ≡ []) ⊎ IsReadAhead m.state (first.taken ++ second.taken)
+      (length (xs ++ ys) + wanted)
   more_ahead fewer less (inl none) = ahead_first none fewer first.ahead
   more_ahead fewer less (inr h) = inr (ahead_second less h)
 
@@ -212,10 +258,16 @@ module _ (first_wanted second_wanted wanted : ℕ) (m n o : InputNow) (xs ys : L
     asks = omega (arith, first.asks, second.asks, length-append xs ys);
     cut = λ going.
         let size : n.state.left - 1 ≡ (m.state.left - 1) - length first.taken = omega (arith, first.room) in
-        let both : take (m.state.left - 1) (first.taken ++ second.taken) ≡ take (m.state.left - 1) first.taken ++ take (n.state.left - 1) second.taken =
-        take-split (m.state.left - 1) first.taken second.taken ∙ ap (λ k. take (m.state.left - 1) first.taken ++ take k second.taken) (sym size) in
-        subst (λ (l : List ℕ). Cuts (open_piece m.state) (m.state.waiting ++ l) ((xs ++ ys) ++ whole_lines (open_piece o.state) o.state.waiting) (last_piece (open_piece o.state) o.state.waiting))
-        (sym both) (Cuts_on (open_piece m.state) (open_piece n.state) _ m.state.waiting n.state.waiting (take (m.state.left - 1) first.taken) (take (n.state.left - 1) second.taken) xs ys (whole_lines (open_piece o.state) o.state.waiting) (first.cut (open_before Ended (λ e. cc) going)) (second.cut going));
+        let both : take (m.state.left - 1) (first.taken ++ second.taken)
+        ≡ take (m.state.left - 1) first.taken ++ take (n.state.left - 1) second.taken =
+        take-split (m.state.left - 1) first.taken second.taken
+        ∙ ap (λ k. take (m.state.left - 1) first.taken ++ take k second.taken) (sym size) in
+        subst (λ (l : List ℕ). Cuts (open_piece m.state) (m.state.waiting ++ l) ((xs ++ ys) ++ whole_lines
+        (open_piece o.state) o.state.waiting) (last_piece (open_piece o.state) o.state.waiting))
+        (sym both) (Cuts_on (open_piece m.state) (open_piece n.state) _ m.state.waiting n.state.waiting
+        (take (m.state.left - 1) first.taken) (take (n.state.left - 1) second.taken) xs ys
+        (whole_lines (open_piece o.state) o.state.waiting) (first.cut (open_before Ended (λ e. cc) going))
+        (second.cut going));
     spare = λ room other. second.spare (first.spare room (open_before Exceeded (λ e. cc) other)) other;
     ended = λ e. more_ended (second.ended e);
     later = omega (arith, first.later, second.later);
@@ -224,6 +276,7 @@ module _ (first_wanted second_wanted wanted : ℕ) (m n o : InputNow) (xs ys : L
     exceeded = λ e. more_exceeded (second.exceeded e);
   }
 
-pub ReadsOn_more : (m n o : InputNow) (xs ys : List (List ℕ)) → ReadsOn (asked n.state) m xs n → ReadsOn (asked o.state) n ys o → ReadsOn (asked o.state) m (xs ++ ys) o
+pub ReadsOn_more : (m n o : InputNow) (xs ys : List (List ℕ)) → ReadsOn (asked n.state) m xs n
+    → ReadsOn (asked o.state) n ys o → ReadsOn (asked o.state) m (xs ++ ys) o
 ReadsOn_more m n o xs ys first second =
     ReadsOn_then (asked n.state) (asked o.state) (asked o.state) m n o xs ys first second second.asks (omega arith)

@@ -12,11 +12,14 @@
 --     TakesLine a line b             this line was taken from what has come, and is not kept
 --     TakesWhole a line b            the same for a line that may be there: without one, nothing was done
 --     IsCounted old new n            so many bytes were given, as a reader counts them
---     IsReadAhead a taken most       these bytes were taken because fewer than so many lines were whole before the last read
+--     IsReadAhead a taken most       these bytes were taken because fewer than so many lines were whole before the last
+--                                    read
 --     ReadsOn wanted m given n       the input went on from m to n, and gave these lines; so many more were asked for
 --     asked a                        how many lines were asked for that could not be given
 --     fault_at end, Refuses end f    the fault that is answered from there on
-use Rattle.std.specs.Prelude.{◌≡◌, ℕ, ◌+◌, ◌-◌, ◌<◌, ◌≤◌, ◌⊎◌, nat_lt, Bool, true, false, if◌then◌else◌, List, [], ◌∷◌, ◌++◌, length, take, Option, Some, None, option_map, IfSome}
+use Rattle.std.specs.Prelude.{◌≡◌, ℕ, ◌+◌, ◌-◌, ◌<◌, ◌≤◌, ◌⊎◌, nat_lt, Bool, true, false}
+use Rattle.std.specs.Prelude.{if◌then◌else◌, List, [], ◌∷◌, ◌++◌, length, take, Option, Some, None}
+use Rattle.std.specs.Prelude.{option_map, IfSome}
 use Rattle.std.specs.Borrow.{Bor}
 use Rattle.std.specs.Io.KnownBytes.{Consumes}
 use Rattle.ptb_text.specs.Device.{GivesAtMost, GivesExactly, HasFailed}
@@ -45,7 +48,8 @@ fresh_input = record { piece = None; is_given = false; waiting = []; left = INPU
 abbrev pub open_piece : InputState → Option (List ℕ)
 open_piece a = if a.is_given then None else a.piece
 
--- the buffer's bytes from the first place to the second wait to be cut, and the reader may go on only where a byte may still be taken
+-- the buffer's bytes from the first place to the second wait to be cut, and the reader may go on only where a byte
+-- may still be taken
 pub record IsWithin (buffer : List ℕ) (from to left : ℕ) (end : InputEnd) : Type 0 where
   pub ordered : from ≤ to
   pub in_buffer : to ≤ length buffer
@@ -69,14 +73,17 @@ ends_within Open left bytes = nat_lt (length bytes) left
 ends_within Failed left bytes = nat_lt (length bytes) left
 ends_within Exceeded left bytes = nat_lt (length bytes) left
 
--- a last piece is a line where the bytes end with it; where the input is cut off as too long, the line that is cut stands last, and is never given
+-- a last piece is a line where the bytes end with it; where the input is cut off as too long, the line that is cut
+-- stands last, and is never given
 abbrev pub lines_to_end : Bool → Option (List ℕ) → List ℕ → List (List ℕ)
-lines_to_end ends p bytes = whole_lines p bytes ++ (if ends then last_line (last_piece p bytes) else (kept_bytes (last_piece p bytes) ∷ []))
+lines_to_end ends p bytes =
+    whole_lines p bytes ++ (if ends then last_line (last_piece p bytes) else (kept_bytes (last_piece p bytes) ∷ []))
 
 abbrev pub lines_left : InputState → List ℕ → List (List ℕ)
 lines_left a bytes = lines_to_end (ends_within a.end a.left bytes) (open_piece a) (a.waiting ++ cut_bytes a bytes)
 
--- at most how many lines are ended by bytes that can still come: none once the end has come; else as many as the bytes, and one that is cut off
+-- at most how many lines are ended by bytes that can still come: none once the end has come; else as many as the
+-- bytes, and one that is cut off
 abbrev pub most_to_come : InputEnd → ℕ → ℕ
 most_to_come Ended left = 0
 most_to_come Open left = left + 1

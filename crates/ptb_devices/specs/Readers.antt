@@ -17,6 +17,8 @@ line_input s = s.buffer
 abbrev pub input_of : {R : Type 0} → (R → Option (List ℕ)) → (R → ℕ) → (R → ℕ) → ReaderLines R → InputNow
 input_of remaining given failures s = input_now remaining given failures (line_input s) (line_reader s).now
 
-pub record GivesFrom {R : Type 0} (remaining : R → Option (List ℕ)) (counted failures : R → ℕ) (old : ReaderLines R) (given : List (List ℕ)) (new : ReaderLines R) : Type 0 where
+pub record GivesFrom {R : Type 0} (remaining : R → Option (List ℕ)) (counted failures : R
+    → ℕ) (old : ReaderLines R) (given : List (List ℕ)) (new : ReaderLines R) : Type 0 where
   pub same_borrow : (line_reader new).ghost_name ≡ (line_reader old).ghost_name
-  pub reads : ReadsOn (asked (line_input new)) (input_of remaining counted failures old) given (input_of remaining counted failures new)
+  pub reads : ReadsOn (asked (line_input new)) (input_of remaining counted failures old) given
+      (input_of remaining counted failures new)

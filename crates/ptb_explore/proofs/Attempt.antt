@@ -1,6 +1,8 @@
 -- This file proves what a plan is that was played.
 -- Main lemma: `ends_at`.
-use Rattle.std.proofs.Common.{◌≡◌, ℕ, zero, suc, ◌-◌, ◌<◌, ◌≤◌, List, [], ◌∷◌, ◌++◌, length, take, drop, replicate, true, false, inl, inr, refl, ap, sym, ◌∙◌, arith, append_assoc, length-drop}
+use Rattle.std.proofs.Common.{◌≡◌, ℕ, zero, suc, ◌-◌, ◌<◌, ◌≤◌, List, [], ◌∷◌, ◌++◌, length, take}
+use Rattle.std.proofs.Common.{drop, replicate, true, false, inl, inr, refl, ap, sym, ◌∙◌, arith}
+use Rattle.std.proofs.Common.{append_assoc, length-drop}
 use Rattle.std.specs.Prelude.{ℤ, pos}
 use Rattle.std.proofs.lemmas.Bool.{cases_lt}
 use Rattle.std.proofs.lemmas.List.{take-append-drop}
@@ -23,7 +25,8 @@ drop_cons {X = X} s n l = by_cases (drop n s) refl
 
 module _ {A W : Type 0} (play : Answers → Outcome A W) (most : ℕ) (reads : IsReader play most) where
   -- an answer out of range closes every list that continues with it
-  pub out_closes : (plan t rest : Answers) (x n : ℤ) (w : W) → plan ≡ t ++ x ∷ rest → play t ≡ Asks n w → is_answer n x ≡ false → is_open (play plan) ≡ true → ⊥
+  pub out_closes : (plan t rest : Answers) (x n : ℤ) (w : W) → plan ≡ t ++ x ∷ rest → play t ≡ Asks n w
+      → is_answer n x ≡ false → is_open (play plan) ≡ true → ⊥
   out_closes plan t rest x n w e a o h =
       let f = reads.out (t ++ x ∷ []) rest n w (reads.outside t n x w a o) in
       let s : play plan ≡ Out n w = ap play (e ∙ sym (append_assoc t (x ∷ []) rest)) ∙ f in
@@ -31,13 +34,16 @@ module _ {A W : Type 0} (play : Answers → Outcome A W) (most : ℕ) (reads : I
 
   -- what continues after a run is not open
   pub run_closes : (t rest : Answers) (x : ℤ) (f : A) → play t ≡ Done f [] → is_open (play (t ++ x ∷ rest)) ≡ true → ⊥
-  run_closes t rest x f e h = let s : is_open (play (t ++ x ∷ rest)) ≡ false = ap is_open (reads.done t (x ∷ rest) [] f e) in cc
+  run_closes t rest x f e h = let s : is_open (play (t ++ x ∷ rest)) ≡ false =
+      ap is_open (reads.done t (x ∷ rest) [] f e) in cc
 
   pub run_opens : (plan : Answers) → IsRun play plan → is_open (play plan) ≡ true
   run_opens plan r = let w = whole_is (play plan) r in rw w.1 refl
 
--- Of `answers`, the first `planned` are a plan and the others, if any, are ones; the first `count` of them were taken, all of them where there are ones, and play came to a result.
-pub record Took {A W : Type 0} (play : Answers → Outcome A W) (plan answers : Answers) (planned count : ℕ) (result : A) : Type 0 where
+-- Of `answers`, the first `planned` are a plan and the others, if any, are ones; the first `count` of them were
+-- taken, all of them where there are ones, and play came to a result.
+pub record Took {A W : Type 0} (play : Answers → Outcome A W) (plan answers : Answers) (planned count : ℕ)
+    (result : A) : Type 0 where
   pub plan_is : take planned answers ≡ plan
   pub planned_within : planned ≤ length answers
   pub count_within : count ≤ length answers
@@ -45,20 +51,24 @@ pub record Took {A W : Type 0} (play : Answers → Outcome A W) (plan answers : 
   pub ones_after : answers ≡ take planned answers ++ replicate (length answers - planned) (pos 1)
   pub came : play (take count answers) ≡ Done result []
 
-module _ {A W : Type 0} (play : Answers → Outcome A W) (most : ℕ) (reads : IsReader play most) (plan answers : Answers) (planned count : ℕ) (result : A) (took : Took play plan answers planned count result) where
+module _ {A W : Type 0} (play : Answers → Outcome A W) (most : ℕ) (reads : IsReader play most) (plan answers : Answers)
+    (planned count : ℕ) (result : A) (took : Took play plan answers planned count result) where
   -- all of a plan that is open is taken
   pub all_taken : is_open (play plan) ≡ true → take count answers ≡ answers
   all_taken o = elim (cases_lt count (length answers)) [
-    | inr m ↦ let u = took.count_within in let c : count ≡ length answers = omega arith in ap (λ n. take n answers) c ∙ take-length answers
+    | inr m ↦ let u = took.count_within in let c : count ≡ length answers = omega arith in
+        ap (λ n. take n answers) c ∙ take-length answers
     | inl m ↦
         let u = took.planned_within in
-        let p : planned ≡ length answers = elim (cases_lt planned (length answers)) [ inl k ↦ let x = took.all_with_ones k in absurd (omega arith) | inr k ↦ omega arith ] in
+        let p : planned ≡ length answers = elim (cases_lt planned (length answers))
+        [ inl k ↦ let x = took.all_with_ones k in absurd (omega arith) | inr k ↦ omega arith ] in
         let same : plan ≡ answers = sym took.plan_is ∙ ap (λ n. take n answers) p ∙ take-length answers in
         let r = drop_cons answers count m in
         absurd (run_closes play most reads (take count answers) r.1 r.0 result took.came (rw (← r.2, ← same) o))
   ]
 
-  pub ends_at : (bounded : List ℤ) → is_open (play plan) ≡ true → bounded ≡ bounds play (take count answers) → PlanEndsWith play plan answers bounded result
+  pub ends_at : (bounded : List ℤ) → is_open (play plan) ≡ true → bounded ≡ bounds play (take count answers)
+      → PlanEndsWith play plan answers bounded result
   ends_at bounded o b =
       let t = all_taken o in
       record {

@@ -12,7 +12,8 @@ use Rattle.ptb_explore.specs.MarkedRuns.{states_bounds}
 use Rattle.ptb_explore.proofs.Stated.{states_begun}
 
 -- The plan is the answers of the list.
-module _ (p : StoredProgram) (input : List (List ℕ)) (rules : Rules) (list : List Marked) (plan : Answers) (is : plan ≡ answers_of list) where
+module _ (p : StoredProgram) (input : List (List ℕ)) (rules : Rules) (list : List Marked) (plan : Answers)
+    (is : plan ≡ answers_of list) where
   pub list_opens : is_open (play p input rules plan) ≡ true → is_open (play p input rules (answers_of list)) ≡ true
   list_opens h = subst (λ (a : Answers). is_open (play p input rules a) ≡ true) is h
 
@@ -21,5 +22,6 @@ module _ (p : StoredProgram) (input : List (List ℕ)) (rules : Rules) (list : L
     states_same : states_bounds list given ≡ states_bounds list (bounds (play p input rules) (answers_of list))
     states_same = states_begun list plan given _ is (front ∙ ap (bounds (play p input rules)) is)
 
-    pub begun_stated : states_bounds list given ≡ true → states_bounds list (bounds (play p input rules) (answers_of list)) ≡ true
+    pub begun_stated : states_bounds list given ≡ true
+        → states_bounds list (bounds (play p input rules) (answers_of list)) ≡ true
     begun_stated right = sym states_same ∙ right

@@ -12,14 +12,16 @@ pub ok_no_err : {T E P : Type 0} {x : T} {e : E} → ◌≡◌ {A = Result T E} 
 ok_no_err h = absurd cc
 
 -- a fault that is passed on is the fault
-pub passed_on : {T S E : Type 0} (r : Result T E) (e x : E) → IsErrAnd r (λ y. y ≡ e) → r ≡ Err x → ◌≡◌ {A = Result S E} (Err e) (Err x)
+pub passed_on : {T S E : Type 0} (r : Result T E) (e x : E) → IsErrAnd r (λ y. y ≡ e) → r ≡ Err x
+    → ◌≡◌ {A = Result S E} (Err e) (Err x)
 passed_on (Ok t) e x h k = absurd h
 passed_on (Err y) e x h k =
     let same : e ≡ x = cc in
     ap Err same
 
 -- the reason of a fault is the one that is found
-pub same_reason : {T : Type 0} (P : Mismatch → Type 0) (m n : Mismatch) → ◌≡◌ {A = Result T OpenFault} (Err (NotARun m)) (Err (NotARun n)) → P m → P n
+pub same_reason : {T : Type 0} (P : Mismatch → Type 0) (m n : Mismatch)
+    → ◌≡◌ {A = Result T OpenFault} (Err (NotARun m)) (Err (NotARun n)) → P m → P n
 same_reason P m n h x =
     let same : m ≡ n = cc in
     subst P same x
@@ -38,16 +40,19 @@ pub on_some_at : {T Q : Type 0} {o : Option T} {x : T} → o ≡ Some x → OnSo
 on_some_at {Q = Q} is h = subst (λ o. OnSome o Q) is h
 
 -- a refusal of memory is no fault of a list
-pub memory_no_beginning : {T P : Type 0} (r : Result T OpenFault) (m : Mismatch) → IsErrAnd r (λ e. e ≡ Memory) → r ≡ Err (NoBeginning m) → P
+pub memory_no_beginning : {T P : Type 0} (r : Result T OpenFault) (m : Mismatch) → IsErrAnd r (λ e. e ≡ Memory)
+    → r ≡ Err (NoBeginning m) → P
 memory_no_beginning (Ok x) m h k = absurd h
 memory_no_beginning (Err e) m h k = absurd cc
 
 -- and of the other
-pub memory_no_run : {T P : Type 0} (r : Result T OpenFault) (m : Mismatch) → IsErrAnd r (λ e. e ≡ Memory) → r ≡ Err (NotARun m) → P
+pub memory_no_run : {T P : Type 0} (r : Result T OpenFault) (m : Mismatch) → IsErrAnd r (λ e. e ≡ Memory)
+    → r ≡ Err (NotARun m) → P
 memory_no_run (Ok x) m h k = absurd h
 memory_no_run (Err e) m h k = absurd cc
 
-pub same_misfit : {T : Type 0} (P : Mismatch → Type 0) (m n : Mismatch) → ◌≡◌ {A = Result T OpenFault} (Err (NoBeginning m)) (Err (NoBeginning n)) → P m → P n
+pub same_misfit : {T : Type 0} (P : Mismatch → Type 0) (m n : Mismatch)
+    → ◌≡◌ {A = Result T OpenFault} (Err (NoBeginning m)) (Err (NoBeginning n)) → P m → P n
 same_misfit P m n h x =
     let same : m ≡ n = cc in
     subst P same x

@@ -1,6 +1,7 @@
 -- This file proves what the limit of a run changes: nothing before it is met.
 -- Main lemma: `taken_by`.
-use Rattle.std.proofs.Common.{◌≡◌, ℕ, ◌-◌, ◌+◌, ◌<◌, ◌≤◌, List, [], ◌∷◌, ◌++◌, length, true, Option, Some, None, refl, ap, sym, ◌∙◌, arith, append-nil}
+use Rattle.std.proofs.Common.{◌≡◌, ℕ, ◌-◌, ◌+◌, ◌<◌, ◌≤◌, List, [], ◌∷◌, ◌++◌, length, true, Option}
+use Rattle.std.proofs.Common.{Some, None, refl, ap, sym, ◌∙◌, arith, append-nil}
 use Rattle.std.proofs.lemmas.Bool.{le-leb, lt-leb}
 use Rattle.ptb_text.specs.Statements.{StoredProgram}
 use Rattle.ptb_answers.specs.Choices.{Choices}
@@ -20,24 +21,29 @@ use Rattle.ptb_explore.specs.PlannedPlays.{IsRunPrefix, limited, run_from}
 -- ---- turns
 
 -- below two limits a turn is the same
-same_below : (p : StoredProgram) (l k : ℕ) (S : State) (a : Answers) (r : Option (Place × Command)) → S.steps < l → S.steps < k → turn_by p k r S a ≡ turn_by p l r S a
+same_below : (p : StoredProgram) (l k : ℕ) (S : State) (a : Answers) (r : Option (Place × Command)) → S.steps < l
+    → S.steps < k → turn_by p k r S a ≡ turn_by p l r S a
 same_below p l k S a None h g = refl
 same_below p l k S a (Some r) h g = ap (λ b. act_unless p r b S a) (lt-leb k S.steps g ∙ sym (lt-leb l S.steps h))
 
-pub turn_below : (p : StoredProgram) (l k : ℕ) (S : State) (a : Answers) → S.steps < l → S.steps < k → turn p k S a ≡ turn p l S a
+pub turn_below : (p : StoredProgram) (l k : ℕ) (S : State) (a : Answers) → S.steps < l → S.steps < k
+    → turn p k S a ≡ turn p l S a
 unfolding turn
 turn_below p l k S a h g = same_below p l k S a (next_command p.lines S.place) h g
 
 -- at its limit a run is over
-over_by : (p : StoredProgram) (l : ℕ) (S : State) (a : Answers) (r : Option (Place × Command)) → l ≤ S.steps → (e : Ending) × (turn_by p l r S a ≡ Done (Over e S) a)
+over_by : (p : StoredProgram) (l : ℕ) (S : State) (a : Answers) (r : Option (Place × Command)) → l ≤ S.steps
+    → (e : Ending) × (turn_by p l r S a ≡ Done (Over e S) a)
 over_by p l S a None h = (endings.End, refl)
 over_by p l S a (Some r) h = (endings.Limit, ap (λ b. act_unless p r b S a) (le-leb l S.steps h))
 
-turn_over : (p : StoredProgram) (l : ℕ) (S : State) (a : Answers) → l ≤ S.steps → (e : Ending) × (turn p l S a ≡ Done (Over e S) a)
+turn_over : (p : StoredProgram) (l : ℕ) (S : State) (a : Answers) → l ≤ S.steps
+    → (e : Ending) × (turn p l S a ≡ Done (Over e S) a)
 unfolding turn
 turn_over p l S a h = over_by p l S a (next_command p.lines S.place) h
 
-run_over : (laws : RunLaws) (p : StoredProgram) (rules : Rules) (S : State) (a : Answers) → rules.limit ≤ S.steps → (f : Finish) × (run_from p rules S a ≡ Done f a)
+run_over : (laws : RunLaws) (p : StoredProgram) (rules : Rules) (S : State) (a : Answers) → rules.limit ≤ S.steps
+    → (f : Finish) × (run_from p rules S a ≡ Done f a)
 run_over laws p rules S a h =
     let t = turn_over p rules.limit S a h in
     let o = laws.by_turn p rules.limit S a ∙ ap (λ o. go_on o (after_step_result (turns p rules.limit))) t.1 in
@@ -45,19 +51,23 @@ run_over laws p rules S a h =
 
 -- ---- by which command answers are taken
 
-rest_left : (f : Finish) (rest : Answers) → 0 < length rest → is_whole {A = Finish} {W = List ℕ} (Done f rest) ≡ true → ⊥
+rest_left : (f : Finish) (rest : Answers) → 0 < length rest → is_whole {A = Finish} {W = List ℕ} (Done f rest) ≡ true
+    → ⊥
 rest_left f [] more h = absurd (omega (arith, more))
 rest_left f (k ∷ rest) more h = absurd cc
 
 -- where a step took answers, they are taken by as many commands as were begun then, and no fewer
-pub taken_by : (laws : RunLaws) (p : StoredProgram) (input : List (List ℕ)) (rules : Rules) (m new : Configuration) (c d : Choices) (s t : List ℕ) (left rest : List (List ℕ)) (more : Answers)
-    → IsRunPrefix p input rules c s left m → IsRunPrefix p input rules d t rest new → d.taken ≡ c.taken ++ more → 0 < length more → new.steps ≡ m.steps + 1 → AreTakenBy p input rules d.taken new.steps
+pub taken_by : (laws : RunLaws) (p : StoredProgram) (input : List (List ℕ)) (rules : Rules) (m new : Configuration)
+    (c d : Choices) (s t : List ℕ) (left rest : List (List ℕ)) (more : Answers)
+    → IsRunPrefix p input rules c s left m → IsRunPrefix p input rules d t rest new → d.taken ≡ c.taken ++ more
+    → 0 < length more → new.steps ≡ m.steps + 1 → AreTakenBy p input rules d.taken new.steps
 taken_by laws p input rules m new c d s t left rest more u v taken some step = record {
   all =
       let here : v.state.steps ≡ new.steps = v.represents.steps in
       let over = run_over laws p (limited rules new.steps) v.state [] (omega (arith, here)) in
       let is : play p input (limited rules new.steps) d.taken ≡ Done over.0 [] =
-      ap (play p input (limited rules new.steps)) (sym (append-nil d.taken)) ∙ v.reached new.steps (omega (arith, here)) [] ∙ over.1 in
+      ap (play p input (limited rules new.steps)) (sym (append-nil d.taken))
+      ∙ v.reached new.steps (omega (arith, here)) [] ∙ over.1 in
       ap is_whole is;
   no_sooner = λ run.
       let n = new.steps - 1 in

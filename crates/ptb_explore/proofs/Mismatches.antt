@@ -1,19 +1,25 @@
 -- This file proves which item of a list is the first that does not fit, by what a play of the list shows.
 -- Main lemma: `mismatch_closes`.
-use Rattle.std.proofs.Common.{◌≡◌, ℕ, zero, suc, ◌+◌, ◌<◌, ◌≤◌, List, [], ◌∷◌, ◌++◌, length, take, drop, true, false, inl, inr, refl, ap, sym, subst, ◌∙◌, arith, append_assoc, append-nil, length-append}
+use Rattle.std.proofs.Common.{◌≡◌, ℕ, zero, suc, ◌+◌, ◌<◌, ◌≤◌, List, [], ◌∷◌, ◌++◌, length, take}
+use Rattle.std.proofs.Common.{drop, true, false, inl, inr, refl, ap, sym, subst, ◌∙◌, arith}
+use Rattle.std.proofs.Common.{append_assoc, append-nil, length-append}
 use Rattle.std.specs.Prelude.{ℤ, pos, Option, Some, None, slice_index_or, IfSome, IfNone, is_some}
 use Rattle.std.specs.Ordering.{int_eq}
 use Rattle.std.proofs.lemmas.Bool.{cases_Bool, and_parts, and_from}
-use Rattle.std.proofs.lemmas.List.{length-map, map-append, take-map, get_or-take, get_or_default, length-take-le, take-append-le}
+use Rattle.std.proofs.lemmas.List.{length-map, map-append, take-map, get_or-take, get_or_default}
+use Rattle.std.proofs.lemmas.List.{length-take-le, take-append-le}
 use Rattle.std.proofs.Math.Seq.{take-length}
 use Rattle.ptb_answers.specs.declared.form.Marked.{Marked}
-use Rattle.ptb_answers.specs.Outcome.{Answers, Outcome, Asks, IsReader, is_answer, is_open, bound_of, bounds, bounds_after}
+use Rattle.ptb_answers.specs.Outcome.{Answers, Outcome, Asks, IsReader, is_answer, is_open}
+use Rattle.ptb_answers.specs.Outcome.{bound_of, bounds, bounds_after}
 use Rattle.ptb_answers.specs.AnswerText.{answers_of, with_bound}
 use Rattle.ptb_answers.proofs.Readers.{whole_is, open_is, closed_is}
 use Rattle.ptb_explore.specs.declared.mismatch.Mismatch.{Mismatch}
-use Rattle.ptb_explore.specs.declared.mismatch.Mismatch.TheVariants.{OutOfRange, OtherBound, NoQuestion, Missing, NotUnder}
+use Rattle.ptb_explore.specs.declared.mismatch.Mismatch.TheVariants.{OutOfRange, OtherBound}
+use Rattle.ptb_explore.specs.declared.mismatch.Mismatch.TheVariants.{NoQuestion, Missing, NotUnder}
 use Rattle.ptb_explore.specs.MarkedRuns.{IsMarkedRun, IsMarkedBeginning, is_bound, states_bounds}
-use Rattle.ptb_explore.specs.Mismatch.{IsOutOfRange, IsOtherBound, IsOver, IsItemMismatch, IsMissing, IsRunMismatch, IsUnder, TakesItems}
+use Rattle.ptb_explore.specs.Mismatch.{IsOutOfRange, IsOtherBound, IsOver, IsItemMismatch}
+use Rattle.ptb_explore.specs.Mismatch.{IsMissing, IsRunMismatch, IsUnder, TakesItems}
 use Rattle.ptb_explore.specs.RunTree.{IsRun}
 use Rattle.ptb_explore.proofs.Attempt.{run_opens}
 use Rattle.ptb_explore.proofs.Bounds.{length-bounds, bounds-append}
@@ -23,23 +29,29 @@ use Rattle.ptb_explore.proofs.Tree.{run_asks}
 
 -- ---- what is seen of a play of a list
 
--- the questions of a run that begins with these answers have these bounds; `later` are the answers that it takes after them
-pub record HasBounds {A W : Type 0} (play : Answers → Outcome A W) (answers : Answers) (their_bounds : List ℤ) : Type 0 where
+-- the questions of a run that begins with these answers have these bounds; `later` are the answers that it takes
+-- after them
+pub record HasBounds {A W : Type 0} (play : Answers → Outcome A W) (answers : Answers)
+    (their_bounds : List ℤ) : Type 0 where
   pub later : Answers
   pub run : IsRun play (answers ++ later)
   pub bounds_are : their_bounds ≡ bounds play (answers ++ later)
 
 -- ---- lists
 
-pub split_there : {X : Type 0} (s : List X) (i : ℕ) (d : X) → i < length s → s ≡ take i s ++ slice_index_or s i d ∷ drop (i + 1) s
+pub split_there : {X : Type 0} (s : List X) (i : ℕ) (d : X) → i < length s
+    → s ≡ take i s ++ slice_index_or s i d ∷ drop (i + 1) s
 split_there [] i d l = absurd (omega arith)
 split_there (x ∷ s) zero d l = refl
-split_there (x ∷ s) (suc i) d l = let e = split_there s i d (omega arith) in let n : suc i + 1 ≡ suc (i + 1) = omega arith in rw n (ap (λ r. x ∷ r) e)
+split_there (x ∷ s) (suc i) d l = let e = split_there s i d (omega arith) in
+    let n : suc i + 1 ≡ suc (i + 1) = omega arith in rw n (ap (λ r. x ∷ r) e)
 
 -- the bound of the answer after q
-bound_there : {A W : Type 0} (play : Answers → Outcome A W) (p q t : Answers) (x : ℤ) → slice_index_or (bounds_after play p (q ++ x ∷ t)) (length q) (pos 0) ≡ bound_of (play (p ++ q))
+bound_there : {A W : Type 0} (play : Answers → Outcome A W) (p q t : Answers) (x : ℤ)
+    → slice_index_or (bounds_after play p (q ++ x ∷ t)) (length q) (pos 0) ≡ bound_of (play (p ++ q))
 bound_there play p [] t x = ap (λ s. bound_of (play s)) (sym (append-nil p))
-bound_there play p (y ∷ q) t x = bound_there play (p ++ y ∷ []) q t x ∙ ap (λ s. bound_of (play s)) (append_assoc p (y ∷ []) q)
+bound_there play p (y ∷ q) t x = bound_there play (p ++ y ∷ []) q t x
+    ∙ ap (λ s. bound_of (play s)) (append_assoc p (y ∷ []) q)
 
 pub take_twice : {X : Type 0} (m n : ℕ) (xs : List X) → m ≤ n → take m (take n xs) ≡ take m xs
 take_twice zero n xs l = refl
@@ -47,7 +59,8 @@ take_twice (suc m) zero xs l = absurd (omega arith)
 take_twice (suc m) (suc n) [] l = refl
 take_twice (suc m) (suc n) (x ∷ xs) l = ap (λ r. x ∷ r) (take_twice m n xs (omega arith))
 
-pub answers_split : (before after : List Marked) (m : Marked) → answers_of (before ++ m ∷ after) ≡ answers_of before ++ m.answer ∷ answers_of after
+pub answers_split : (before after : List Marked) (m : Marked)
+    → answers_of (before ++ m ∷ after) ≡ answers_of before ++ m.answer ∷ answers_of after
 answers_split before after m = map-append (λ (x : Marked). x.answer) before (m ∷ after)
 
 pub answers_take : (n : ℕ) (list : List Marked) → take n (answers_of list) ≡ answers_of (take n list)
@@ -58,7 +71,9 @@ answers_length list = length-map list (λ (x : Marked). x.answer)
 
 -- ---- bounds that are stated
 
-states_split : (before : List Marked) (front back : List ℤ) (rest : List Marked) → length before ≡ length front → states_bounds (before ++ rest) (front ++ back) ≡ true → (states_bounds before front ≡ true) × (states_bounds rest back ≡ true)
+states_split : (before : List Marked) (front back : List ℤ) (rest : List Marked) → length before ≡ length front
+    → states_bounds (before ++ rest) (front ++ back) ≡ true
+    → (states_bounds before front ≡ true) × (states_bounds rest back ≡ true)
 states_split [] [] back rest l h = (refl, h)
 states_split [] (n ∷ front) back rest l h = absurd (omega arith)
 states_split (m ∷ before) [] back rest l h = absurd (omega arith)
@@ -69,13 +84,18 @@ states_split (m ∷ before) (n ∷ front) back rest l h =
 
 module _ {A W : Type 0} (play : Answers → Outcome A W) where
   -- an item states the bound of its question
-  states_there : (before after : List Marked) (m : Marked) → states_bounds (before ++ m ∷ after) (bounds play (answers_of (before ++ m ∷ after))) ≡ true
-      → (states_bounds before (bounds play (answers_of before)) ≡ true) × (is_bound m.bound (bound_of (play (answers_of before))) ≡ true)
+  states_there : (before after : List Marked) (m : Marked)
+      → states_bounds (before ++ m ∷ after) (bounds play (answers_of (before ++ m ∷ after))) ≡ true
+      → (states_bounds before (bounds play (answers_of before)) ≡ true)
+      × (is_bound m.bound (bound_of (play (answers_of before))) ≡ true)
   states_there before after m h =
       let front = bounds play (answers_of before) in
       let back = bounds_after play (answers_of before ++ m.answer ∷ []) (answers_of after) in
-      let same : bounds play (answers_of (before ++ m ∷ after)) ≡ front ++ bound_of (play (answers_of before)) ∷ back = ap (bounds play) (answers_split before after m) ∙ bounds-append play [] (answers_of before) (m.answer ∷ answers_of after) in
-      let n : length before ≡ length front = sym (answers_length before) ∙ sym (length-bounds play [] (answers_of before)) in
+      let same : bounds play (answers_of (before ++ m ∷ after)) ≡ front ++ bound_of (play (answers_of before)) ∷ back =
+      ap (bounds play) (answers_split before after m) ∙ bounds-append play [] (answers_of before)
+      (m.answer ∷ answers_of after) in
+      let n : length before ≡ length front = sym (answers_length before)
+      ∙ sym (length-bounds play [] (answers_of before)) in
       let p = states_split before front (bound_of (play (answers_of before)) ∷ back) (m ∷ after) n (rw same at h) in
       (p.0, (and_parts (is_bound m.bound (bound_of (play (answers_of before)))) (states_bounds after back) p.1).0)
 
@@ -92,10 +112,12 @@ module _ {A W : Type 0} (play : Answers → Outcome A W) (most : ℕ) (reads : I
   ]
 
   -- each answer of an open list is asked for, and inside its bound
-  open_asks : (q b : Answers) (k : ℤ) → is_open (play (q ++ k ∷ b)) ≡ true → (n : ℤ) × (w : W) × (play q ≡ Asks n w) × (is_answer n k ≡ true)
+  open_asks : (q b : Answers) (k : ℤ) → is_open (play (q ++ k ∷ b)) ≡ true
+      → (n : ℤ) × (w : W) × (play q ≡ Asks n w) × (is_answer n k ≡ true)
   open_asks q b k o = elim (open_is (play q) (open_front q (k ∷ b) o)) [
     | inl d ↦ let e : is_open (play (q ++ k ∷ b)) ≡ false = ap is_open (reads.done q (k ∷ b) [] d.0 d.1) in absurd cc
-    | inr d ↦ (d.0, d.1, d.2, elim (cases_Bool (is_answer d.0 k)) [ inl i ↦ i | inr x ↦ absurd (not_outside d.0 d.1 d.2 x) ])
+    | inr d ↦
+        (d.0, d.1, d.2, elim (cases_Bool (is_answer d.0 k)) [ inl i ↦ i | inr x ↦ absurd (not_outside d.0 d.1 d.2 x) ])
   ]
     where
       not_outside : (n : ℤ) (w : W) → play q ≡ Asks n w → is_answer n k ≡ false → ⊥
@@ -110,10 +132,12 @@ module _ {A W : Type 0} (play : Answers → Outcome A W) (most : ℕ) (reads : I
 
   -- ---- no run begins with a list that has an item that does not fit
 
-  pub mismatch_closes : (list : List Marked) (m : Mismatch) → IsItemMismatch play list m → IsMarkedBeginning play list → ⊥
+  pub mismatch_closes : (list : List Marked) (m : Mismatch) → IsItemMismatch play list m → IsMarkedBeginning play list
+      → ⊥
   mismatch_closes list (OutOfRange item answer bound) x b =
       let a = x.asked in
-      let o : is_open (play (answers_of a.before ++ answer ∷ answers_of a.after)) ≡ true = subst (λ (s : Answers). is_open (play s) ≡ true) (ap answers_of a.list_is ∙ answers_split a.before a.after _) b.0 in
+      let o : is_open (play (answers_of a.before ++ answer ∷ answers_of a.after)) ≡ true = subst
+      (λ (s : Answers). is_open (play s) ≡ true) (ap answers_of a.list_is ∙ answers_split a.before a.after _) b.0 in
       let p = open_asks (answers_of a.before) (answers_of a.after) answer o in
       let same : p.0 ≡ bound = same_question (answers_of a.before) p.0 bound p.1 a.question.0 p.2 a.question.1 in
       let inside : is_answer bound answer ≡ true = subst (λ (n : ℤ). is_answer n answer ≡ true) same p.3 in
@@ -127,7 +151,8 @@ module _ {A W : Type 0} (play : Answers → Outcome A W) (most : ℕ) (reads : I
       x.other (same_is stated bound (subst (λ (n : ℤ). int_eq stated n ≡ true) same p))
   mismatch_closes list (NoQuestion items) x b =
       let w = whole_is (play (answers_of x.before)) x.run.0 in
-      let o = subst (λ (s : Answers). is_open (play s) ≡ true) (ap answers_of x.list_is ∙ answers_split x.before x.after x.m) b.0 in
+      let o = subst (λ (s : Answers). is_open (play s) ≡ true)
+      (ap answers_of x.list_is ∙ answers_split x.before x.after x.m) b.0 in
       let p = open_asks (answers_of x.before) (answers_of x.after) x.m.answer o in
       let e = w.1 in let f = p.2 in
       absurd cc
@@ -149,7 +174,8 @@ module _ {A W : Type 0} (play : Answers → Outcome A W) (most : ℕ) (reads : I
         by_later (k ∷ s) e =
             let p = run_asks play most reads q s k (subst (λ (t : Answers). IsRun play (q ++ t)) e h.run) in
             let there : slice_index_or bs (length q) (pos 0) ≡ p.0 =
-            ap (λ (b : List ℤ). slice_index_or b (length q) (pos 0)) (h.bounds_are ∙ ap (λ (t : Answers). bounds play (q ++ t)) e) ∙ bound_there play [] q s k ∙ ap bound_of p.2 in
+            ap (λ (b : List ℤ). slice_index_or b (length q) (pos 0)) (h.bounds_are
+            ∙ ap (λ (t : Answers). bounds play (q ++ t)) e) ∙ bound_there play [] q s k ∙ ap bound_of p.2 in
             (p.1, p.2 ∙ ap (λ n. Asks n p.1) (sym there))
 
   -- ---- the first n items of a list are taken
@@ -177,7 +203,8 @@ module _ {A W : Type 0} (play : Answers → Outcome A W) (most : ℕ) (reads : I
       abbrev there : Marked
       there = slice_index_or list n d
 
-      pub out_of_range : (bound : ℤ) (w : W) → play (answers_of (take n list)) ≡ Asks bound w → is_answer bound there.answer ≡ false → IsOutOfRange play list (n + 1) there.answer bound
+      pub out_of_range : (bound : ℤ) (w : W) → play (answers_of (take n list)) ≡ Asks bound w
+          → is_answer bound there.answer ≡ false → IsOutOfRange play list (n + 1) there.answer bound
       out_of_range bound w asks outside = record {
         stated = there.bound;
         asked = record {
@@ -209,12 +236,14 @@ module _ {A W : Type 0} (play : Answers → Outcome A W) (most : ℕ) (reads : I
       in_front : (rest : Answers) × (answers_of (take n list) ≡ answers_of (take k list) ++ item_at.answer ∷ rest)
       in_front =
           let first = take n list in
-          let e : first ≡ take k first ++ slice_index_or first k d ∷ drop (k + 1) first = split_there first k d (omega (arith, length-take-le n list n_within)) in
+          let e : first ≡ take k first ++ slice_index_or first k d ∷ drop (k + 1) first =
+          split_there first k d (omega (arith, length-take-le n list n_within)) in
           let f : take k first ≡ take k list = take_twice k n list (omega arith) in
           let g : slice_index_or first k d ≡ item_at = get_or-take n list k d less in (
             answers_of (drop (k + 1) first),
             ap answers_of e ∙ answers_split (take k first) (drop (k + 1) first) (slice_index_or first k d)
-                ∙ ap (λ (l : List Marked). answers_of l ++ (slice_index_or first k d).answer ∷ answers_of (drop (k + 1) first)) f
+                ∙ ap (λ (l : List Marked). answers_of l ++ (slice_index_or first k d).answer
+                ∷ answers_of (drop (k + 1) first)) f
                 ∙ ap (λ (m : Marked). answers_of (take k list) ++ m.answer ∷ answers_of (drop (k + 1) first)) g,
           )
 
@@ -225,8 +254,10 @@ module _ {A W : Type 0} (play : Answers → Outcome A W) (most : ℕ) (reads : I
       front_opens = subst (λ (a : Answers). is_open (play a) ≡ true) in_front.1 takes.opens
 
       -- the bounds of the answers before it, and of its own
-      front_bounds : take n bs ≡ bounds play (answers_of (take k list)) ++ bounds_after play (answers_of (take k list)) (item_at.answer ∷ in_front.0)
-      front_bounds = takes.bounds_are ∙ ap (bounds play) in_front.1 ∙ bounds-append play [] (answers_of (take k list)) (item_at.answer ∷ in_front.0)
+      front_bounds : take n bs ≡ bounds play (answers_of (take k list)) ++ bounds_after play (answers_of (take k list))
+          (item_at.answer ∷ in_front.0)
+      front_bounds = takes.bounds_are ∙ ap (bounds play) in_front.1
+          ∙ bounds-append play [] (answers_of (take k list)) (item_at.answer ∷ in_front.0)
 
       front_takes : TakesItems play list bs k
       front_takes =
@@ -235,7 +266,8 @@ module _ {A W : Type 0} (play : Answers → Outcome A W) (most : ℕ) (reads : I
           let count : length (bounds play q) ≡ k = length-bounds play [] q ∙ front_count in
           let first : take k (take n bs) ≡ bounds play q =
           ap (take k) front_bounds ∙ ap (λ j. take j (bounds play q ++ bounds_after play q more)) (sym count)
-          ∙ take-append-le (length (bounds play q)) (bounds play q) (bounds_after play q more) (omega arith) ∙ take-length (bounds play q) in
+          ∙ take-append-le (length (bounds play q)) (bounds play q) (bounds_after play q more) (omega arith)
+          ∙ take-length (bounds play q) in
           record {
             within = omega (arith, n_within);
             counted = omega (arith, takes.counted);
@@ -243,12 +275,14 @@ module _ {A W : Type 0} (play : Answers → Outcome A W) (most : ℕ) (reads : I
             bounds_are = sym (take_twice k n bs (omega arith)) ∙ first;
           }
 
-      pub other_bound : (stated : ℤ) → item_at.bound ≡ Some stated → (stated ≡ slice_index_or bs k (pos 0) → ⊥) → IsOtherBound play list (k + 1) stated (slice_index_or bs k (pos 0))
+      pub other_bound : (stated : ℤ) → item_at.bound ≡ Some stated → (stated ≡ slice_index_or bs k (pos 0) → ⊥)
+          → IsOtherBound play list (k + 1) stated (slice_index_or bs k (pos 0))
       other_bound stated is other =
           let q = answers_of (take k list) in
           let opens = open_asks q in_front.0 item_at.answer front_opens in
           let at : slice_index_or bs k (pos 0) ≡ opens.0 =
-          sym (get_or-take n bs k (pos 0) less) ∙ ap (λ (b : List ℤ). slice_index_or b k (pos 0)) (takes.bounds_are ∙ ap (bounds play) in_front.1)
+          sym (get_or-take n bs k (pos 0) less) ∙ ap (λ (b : List ℤ). slice_index_or b k (pos 0))
+          (takes.bounds_are ∙ ap (bounds play) in_front.1)
           ∙ ap (λ j. slice_index_or (bounds play (q ++ item_at.answer ∷ in_front.0)) j (pos 0)) (sym front_count)
           ∙ bound_there play [] q in_front.0 item_at.answer ∙ ap bound_of opens.2 in
           record {
@@ -256,7 +290,8 @@ module _ {A W : Type 0} (play : Answers → Outcome A W) (most : ℕ) (reads : I
             asked = record {
               before = take k list;
               after = drop (k + 1) list;
-              list_is = split_there list k d (omega (arith, n_within)) ∙ ap (λ (o : Option ℤ). take k list ++ record { answer = item_at.answer; bound = o } ∷ drop (k + 1) list) is;
+              list_is = split_there list k d (omega (arith, n_within)) ∙ ap (λ (o : Option ℤ). take k list
+                  ++ record { answer = item_at.answer; bound = o } ∷ drop (k + 1) list) is;
               item_is = ap (λ i. i + 1) (sym (length-take-le k list (omega (arith, n_within))));
               begins = first_begins;
               question = (opens.1, opens.2 ∙ ap (λ b. Asks b opens.1) (sym at));
@@ -268,41 +303,56 @@ module _ {A W : Type 0} (play : Answers → Outcome A W) (most : ℕ) (reads : I
           first_begins : IsMarkedBeginning play (take k list)
           first_begins =
               let q = answers_of (take k list) in
-              let front : take (length q) bs ≡ bounds play q = ap (λ j. take j bs) front_count ∙ front_takes.bounds_are in
+              let front : take (length q) bs ≡ bounds play q =
+              ap (λ j. take j bs) front_count ∙ front_takes.bounds_are in
               (front_takes.opens, sym (states_begun (take k list) q bs (bounds play q) refl front) ∙ s)
 
 -- the bounds that are stated are looked at one by one
-pub states_more : (list : List Marked) (bs : List ℤ) (k : ℕ) (d : Marked) → k < length list → k < length bs → states_bounds (take k list) bs ≡ true
-    → is_bound (slice_index_or list k d).bound (slice_index_or bs k (pos 0)) ≡ true → states_bounds (take (k + 1) list) bs ≡ true
-states_more list bs k d l u h right = subst (λ (n : ℕ). states_bounds (take n list) bs ≡ true) (suc_is k) (by_place list bs k d l u h right)
+pub states_more : (list : List Marked) (bs : List ℤ) (k : ℕ) (d : Marked) → k < length list → k < length bs
+    → states_bounds (take k list) bs ≡ true
+    → is_bound (slice_index_or list k d).bound (slice_index_or bs k (pos 0)) ≡ true
+    → states_bounds (take (k + 1) list) bs ≡ true
+states_more list bs k d l u h right = subst (λ (n : ℕ). states_bounds (take n list) bs ≡ true) (suc_is k)
+    (by_place list bs k d l u h right)
   where
     suc_is : (n : ℕ) → suc n ≡ n + 1
     suc_is n = omega arith
 
-    by_place : (list : List Marked) (bs : List ℤ) (k : ℕ) (d : Marked) → k < length list → k < length bs → states_bounds (take k list) bs ≡ true
-        → is_bound (slice_index_or list k d).bound (slice_index_or bs k (pos 0)) ≡ true → states_bounds (take (suc k) list) bs ≡ true
+    by_place : (list : List Marked) (bs : List ℤ) (k : ℕ) (d : Marked) → k < length list → k < length bs
+        → states_bounds (take k list) bs ≡ true
+        → is_bound (slice_index_or list k d).bound (slice_index_or bs k (pos 0)) ≡ true
+        → states_bounds (take (suc k) list) bs ≡ true
     by_place [] bs k d l u h right = absurd (omega arith)
     by_place (m ∷ list) [] k d l u h right = absurd (omega arith)
     by_place (m ∷ list) (n ∷ bs) zero d l u h right = and_from (is_bound m.bound n) true right refl
     by_place (m ∷ list) (n ∷ bs) (suc k) d l u h right =
         let p = and_parts (is_bound m.bound n) (states_bounds (take k list) bs) h in
-        and_from (is_bound m.bound n) (states_bounds (take (suc k) list) bs) p.0 (by_place list bs k d (omega arith) (omega arith) p.1 right)
+        and_from (is_bound m.bound n) (states_bounds (take (suc k) list) bs) p.0
+        (by_place list bs k d (omega arith) (omega arith) p.1 right)
 
 -- ---- what a run that begins with a list shows
 
 module _ {A W : Type 0} (play : Answers → Outcome A W) (most : ℕ) (reads : IsReader play most) where
   -- it asks for one item more
-  pub missing_item : (list : List Marked) (bs : List ℤ) → HasBounds play (answers_of list) bs → IsMarkedBeginning play list
-      → (bound : ℤ) → bound ≡ slice_index_or bs (length list) bound → length list < length bs → IsMissing play list (length list + 1) bound
+  pub missing_item : (list : List Marked) (bs : List ℤ) → HasBounds play (answers_of list) bs
+      → IsMarkedBeginning play list
+      → (bound : ℤ) → bound ≡ slice_index_or bs (length list) bound → length list < length bs
+      → IsMissing play list (length list + 1) bound
   missing_item list bs h begins bound read l =
       let n = answers_length list in
       let p = asks_next play most reads (answers_of list) bs h (omega (arith, n)) in
-      let same : slice_index_or bs (length list) (pos 0) ≡ bound = get_or_default bs (length list) (pos 0) bound l ∙ sym read in
-      record { item_is = refl; begins = begins; question = (p.0, p.1 ∙ ap (λ k. Asks (slice_index_or bs k (pos 0)) p.0) n ∙ ap (λ k. Asks k p.0) same) }
+      let same : slice_index_or bs (length list) (pos 0) ≡ bound =
+      get_or_default bs (length list) (pos 0) bound l ∙ sym read in
+      record {
+        item_is = refl;
+        begins = begins;
+        question = (p.0, p.1 ∙ ap (λ k. Asks (slice_index_or bs k (pos 0)) p.0) n ∙ ap (λ k. Asks k p.0) same);
+      }
 
   -- ---- of a run
 
-  pub item_is_run : (under list : List Marked) (m : Mismatch) → IsUnder under list → IsItemMismatch play list m → IsRunMismatch play under list m
+  pub item_is_run : (under list : List Marked) (m : Mismatch) → IsUnder under list → IsItemMismatch play list m
+      → IsRunMismatch play under list m
   item_is_run under list (OutOfRange item answer bound) u x = (u, x)
   item_is_run under list (OtherBound item stated bound) u x = (u, x)
   item_is_run under list (NoQuestion items) u x = (u, x)
@@ -310,7 +360,8 @@ module _ {A W : Type 0} (play : Answers → Outcome A W) (most : ℕ) (reads : I
   item_is_run under list NotUnder u x = absurd x
 
   -- of a list that begins with another, it is that of the list alone
-  pub alone_is_under : (under list : List Marked) (m : Mismatch) → IsUnder under list → IsRunMismatch play [] list m → IsRunMismatch play under list m
+  pub alone_is_under : (under list : List Marked) (m : Mismatch) → IsUnder under list → IsRunMismatch play [] list m
+      → IsRunMismatch play under list m
   alone_is_under under list (OutOfRange item answer bound) u x = (u, x.1)
   alone_is_under under list (OtherBound item stated bound) u x = (u, x.1)
   alone_is_under under list (NoQuestion items) u x = (u, x.1)
@@ -320,11 +371,16 @@ module _ {A W : Type 0} (play : Answers → Outcome A W) (most : ℕ) (reads : I
   pub run_begins : (list : List Marked) → IsMarkedRun play list → IsMarkedBeginning play list
   run_begins list run = (run_opens play most reads (answers_of list) run.0, run.1)
 
-  pub run_closes : (under list : List Marked) (m : Mismatch) → IsRunMismatch play under list m → IsMarkedRun play list → IsUnder under list → ⊥
-  run_closes under list (OutOfRange item answer bound) x run b = mismatch_closes play most reads list (OutOfRange item answer bound) x.1 (run_begins list run)
-  run_closes under list (OtherBound item stated bound) x run b = mismatch_closes play most reads list (OtherBound item stated bound) x.1 (run_begins list run)
-  run_closes under list (NoQuestion items) x run b = mismatch_closes play most reads list (NoQuestion items) x.1 (run_begins list run)
-  run_closes under list (Missing item bound) x run b = let w = whole_is (play (answers_of list)) run.0 in let e = w.1 in let f = x.1.question.1 in absurd cc
+  pub run_closes : (under list : List Marked) (m : Mismatch) → IsRunMismatch play under list m → IsMarkedRun play list
+      → IsUnder under list → ⊥
+  run_closes under list (OutOfRange item answer bound) x run b =
+      mismatch_closes play most reads list (OutOfRange item answer bound) x.1 (run_begins list run)
+  run_closes under list (OtherBound item stated bound) x run b =
+      mismatch_closes play most reads list (OtherBound item stated bound) x.1 (run_begins list run)
+  run_closes under list (NoQuestion items) x run b =
+      mismatch_closes play most reads list (NoQuestion items) x.1 (run_begins list run)
+  run_closes under list (Missing item bound) x run b = let w = whole_is (play (answers_of list)) run.0 in let e = w.1 in
+      let f = x.1.question.1 in absurd cc
   run_closes under list NotUnder x run b = absurd cc
 
 -- ---- by what is found

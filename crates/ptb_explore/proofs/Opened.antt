@@ -20,52 +20,88 @@ use Rattle.ptb_explore.proofs.Keep.{kept_beginnings}
 use Rattle.ptb_explore.proofs.Runners.{added_alone}
 
 -- The runner plays the program p on these lines, by these rules, and has no copies.
-module _ (p : StoredProgram) (input : List (List ℕ)) (rules : Rules) (r : Runner) (program : r.player ≡ p) (lines : r.lines.now ≡ input) (by : r.rules ≡ rules) where
+module _ (p : StoredProgram) (input : List (List ℕ)) (rules : Rules) (r : Runner) (program : r.player ≡ p)
+    (lines : r.lines.now ≡ input) (by : r.rules ≡ rules) where
   pub opened_game : game_of r ≡ play p input rules
   opened_game = rw (program, lines, by) refl
 
-  pub opened_view : (list items : List Marked) → items ≡ list → r.copies.kept.items ≡ [] → (answers : Answers) (n : ℕ) → n ≡ r.played
-      → exploration r.player r.lines.now r.rules (answers_of items) Start (kept_runs answers r.copies.kept.items) r.played ≡ exploration p input rules (answers_of list) Start [] n
+  pub opened_view : (list items : List Marked) → items ≡ list → r.copies.kept.items ≡ [] → (answers : Answers) (n : ℕ)
+      → n ≡ r.played
+      → exploration r.player r.lines.now r.rules (answers_of items) Start
+      (kept_runs answers r.copies.kept.items) r.played ≡ exploration p input rules (answers_of list) Start [] n
   opened_view list items is none answers n same = rw (program, lines, by, is, none, same) refl
 
   pub opened_first : r.copies.kept.items ≡ [] → r.played ≡ 0 → (items : List Marked) → items ≡ [] → (answers : Answers)
-      → exploration r.player r.lines.now r.rules (answers_of items) Start (kept_runs answers r.copies.kept.items) r.played ≡ exploration p input rules [] Start [] 0
+      → exploration r.player r.lines.now r.rules (answers_of items) Start
+      (kept_runs answers r.copies.kept.items) r.played ≡ exploration p input rules [] Start [] 0
   opened_first none played items is answers = rw (program, lines, by, is, none, played) refl
 
 -- ---- before the runs that begin with a list
 
-pub begun_first : (old new : Runner) → IsSameGame old new → (list items : List Marked) → items ≡ list → is_open (game_of old (answers_of list)) ≡ true → is_open (game_of new (answers_of items)) ≡ true
+pub begun_first : (old new : Runner) → IsSameGame old new → (list items : List Marked) → items ≡ list
+    → is_open (game_of old (answers_of list)) ≡ true → is_open (game_of new (answers_of items)) ≡ true
 begun_first old new same list items is opens =
-    rw (ap (λ (r : Runner). r.player) same, ap (λ (r : Runner). r.lines.now) same, ap (λ (r : Runner). r.rules) same, is) opens
+    rw (
+      ap (λ (r : Runner). r.player) same,
+      ap (λ (r : Runner). r.lines.now) same,
+      ap (λ (r : Runner). r.rules) same,
+      is,
+    ) opens
 
 -- the first of them is all that was played
 pub opened_played : (game g : Answers → Outcome Finish (List ℕ)) → game ≡ g → (under : Answers) (old new : ℕ) → old ≡ 0
-    → ((a : Answers) → IsNextRun game under Start a → IsAdded game a old new) → (a : Answers) → IsNextRun g under Start a → IsPlayed g a new
+    → ((a : Answers) → IsNextRun game under Start a → IsAdded game a old new) → (a : Answers)
+    → IsNextRun g under Start a → IsPlayed g a new
 opened_played game g same under old new none h =
     subst (λ (x : Answers → Outcome Finish (List ℕ)). (a : Answers) → IsNextRun x under Start a → IsPlayed x a new) same
     (λ a first. added_alone game a old new none (h a first))
 
 -- ---- where it was
 
-pub stays : (old new : Runner) → IsSameGame old new → (under : Answers) (position : Position) → new.report.answers.items ≡ old.report.answers.items → new.report.bounds.items ≡ old.report.bounds.items
-    → IsPosition (game_of old) under position old.report.answers.items old.report.bounds.items → IsPosition (game_of new) under position new.report.answers.items new.report.bounds.items
+pub stays : (old new : Runner) → IsSameGame old new → (under : Answers) (position : Position)
+    → new.report.answers.items ≡ old.report.answers.items → new.report.bounds.items ≡ old.report.bounds.items
+    → IsPosition (game_of old) under position old.report.answers.items old.report.bounds.items
+    → IsPosition (game_of new) under position new.report.answers.items new.report.bounds.items
 stays old new same under position answers bs h =
-    rw (ap (λ (r : Runner). r.player) same, ap (λ (r : Runner). r.lines.now) same, ap (λ (r : Runner). r.rules) same, answers, bs) h
+    rw (
+      ap (λ (r : Runner). r.player) same,
+      ap (λ (r : Runner). r.lines.now) same,
+      ap (λ (r : Runner). r.rules) same,
+      answers,
+      bs,
+    ) h
 
 -- ---- at a run
 
-pub at_run : (old new : Runner) → IsSameGame old new → (list under : List Marked) → IsMarkedRun (game_of old) list → new.report.answers.items ≡ answers_of list → new.report.bounds.items ≡ bounds (game_of old) (answers_of list)
-    → begins_with (answers_of list) (answers_of under) ≡ true → AreCopies old.player old.lines.now old.rules (answers_of list) new.report.transcript.items new.copies.kept.items
-    → IsPosition (game_of new) (answers_of under) AtRun new.report.answers.items new.report.bounds.items × AreCopies new.player new.lines.now new.rules new.report.answers.items new.report.transcript.items new.copies.kept.items
+pub at_run : (old new : Runner) → IsSameGame old new → (list under : List Marked) → IsMarkedRun (game_of old) list
+    → new.report.answers.items ≡ answers_of list → new.report.bounds.items ≡ bounds (game_of old) (answers_of list)
+    → begins_with (answers_of list) (answers_of under) ≡ true
+    → AreCopies old.player old.lines.now old.rules (answers_of list) new.report.transcript.items new.copies.kept.items
+    → IsPosition (game_of new) (answers_of under) AtRun new.report.answers.items new.report.bounds.items × AreCopies
+    new.player new.lines.now new.rules new.report.answers.items new.report.transcript.items new.copies.kept.items
 at_run old new same list under run answers bs begins copies =
-    rw (ap (λ (r : Runner). r.player) same, ap (λ (r : Runner). r.lines.now) same, ap (λ (r : Runner). r.rules) same, answers) ((run.0, bs, begins), copies)
+    rw (
+      ap (λ (r : Runner). r.player) same,
+      ap (λ (r : Runner). r.lines.now) same,
+      ap (λ (r : Runner). r.rules) same,
+      answers,
+    ) ((run.0, bs, begins), copies)
 
 -- what contracts see of it
-pub gone_view : (old new : Runner) → IsSameGame old new → (under : Answers) (front : Front) (list : List Marked) → new.report.answers.items ≡ answers_of list → (kept before : List KeptRun) (n m : ℕ)
-    → exploration new.player new.lines.now new.rules under (At new.report.answers.items) kept n ≡ record (exploration old.player old.lines.now old.rules under front before m) { front = At (answers_of list); kept = kept; played = n }
+pub gone_view : (old new : Runner) → IsSameGame old new → (under : Answers) (front : Front) (list : List Marked)
+    → new.report.answers.items ≡ answers_of list → (kept before : List KeptRun) (n m : ℕ)
+    → exploration new.player new.lines.now new.rules under (At new.report.answers.items) kept n
+    ≡ record (exploration old.player old.lines.now old.rules under front before m) {
+      front = At (answers_of list);
+      kept = kept;
+      played = n;
+    }
 gone_view old new same under front list answers kept before n m =
     ap (λ (r : Runner). exploration r.player r.lines.now r.rules under (At new.report.answers.items) kept n) same
     ∙ ap (λ a. exploration old.player old.lines.now old.rules under (At a) kept n) answers
 
-pub gone_kept : (p : StoredProgram) (input : List (List ℕ)) (rules : Rules) (a b : Answers) (w : List ℕ) (ks : List KeptCopy) → b ≡ a → AreCopies p input rules a w ks → AreBeginnings 0 a (kept_runs b ks)
-gone_kept p input rules a b w ks same copies = subst (λ (x : Answers). AreBeginnings 0 a (kept_runs x ks)) (sym same) (kept_beginnings p input rules a w ks copies)
+pub gone_kept : (p : StoredProgram) (input : List (List ℕ)) (rules : Rules) (a b : Answers) (w : List ℕ)
+    (ks : List KeptCopy)
+    → b ≡ a → AreCopies p input rules a w ks → AreBeginnings 0 a (kept_runs b ks)
+gone_kept p input rules a b w ks same copies =
+    subst (λ (x : Answers). AreBeginnings 0 a (kept_runs x ks)) (sym same) (kept_beginnings p input rules a w ks copies)

@@ -43,14 +43,20 @@ before_under (x ∷ q) a b h = before_from_same x (q ++ a) (q ++ b) (before_unde
 
 pub before_front : (q a b : Answers) → Before (q ++ a) (q ++ b) → Before a b
 before_front [] a b h = h
-before_front (x ∷ q) a b h = elim (before_step x x (q ++ a) (q ++ b) h) [ inl l ↦ absurd (omega (arith, ints)) | inr p ↦ before_front q a b p.1 ]
+before_front (x ∷ q) a b h = elim (before_step x x (q ++ a) (q ++ b) h) [
+  | inl l ↦ absurd (omega (arith, ints))
+  | inr p ↦ before_front q a b p.1
+]
 
 pub before_from_differ : (front a b : Answers) (x y : ℤ) → x <ℤ y → Before (front ++ x ∷ a) (front ++ y ∷ b)
 before_from_differ front a b x y l = before_under front (x ∷ a) (y ∷ b) (before_from_less x y a b l)
 
 pub before_self : (a : Answers) → Before a a → ⊥
 before_self [] h = absurd cc
-before_self (x ∷ a) h = elim (before_step x x a a h) [ inl l ↦ absurd (omega (arith, ints)) | inr p ↦ before_self a p.1 ]
+before_self (x ∷ a) h = elim (before_step x x a a h) [
+  | inl l ↦ absurd (omega (arith, ints))
+  | inr p ↦ before_self a p.1
+]
 
 pub before_then : (a b c : Answers) → Before a b → Before b c → Before a c
 before_then [] b c h k = absurd cc

@@ -1,6 +1,8 @@
 -- This file proves how the reports that are written and those that are left make up a listing.
 -- Main lemma: `progress_more`.
-use Rattle.std.proofs.Common.{◌≡◌, ℕ, zero, suc, ◌+◌, ◌-◌, ◌^◌, ◌<◌, List, [], ◌∷◌, ◌++◌, length, take, drop, min, Option, Some, None, refl, ap, sym, ◌∙◌, arith, append_assoc, append-nil, length-append, inl, inr, subst}
+use Rattle.std.proofs.Common.{◌≡◌, ℕ, zero, suc, ◌+◌, ◌-◌, ◌^◌, ◌<◌, List, [], ◌∷◌, ◌++◌, length}
+use Rattle.std.proofs.Common.{take, drop, min, Option, Some, None, refl, ap, sym, ◌∙◌, arith}
+use Rattle.std.proofs.Common.{append_assoc, append-nil, length-append, inl, inr, subst}
 use Rattle.std.proofs.lemmas.List.Concat.{flat_map-append}
 use Rattle.std.proofs.lemmas.List.{take-append-drop}
 use Rattle.std.specs.Io.KnownBytes.{Appends}
@@ -25,61 +27,105 @@ take_none (suc n) [] h none = refl
 take_none (suc n) (x ∷ xs) h none = absurd cc
 
 module _ {A W : Type 0} (play : Answers → Outcome A W) (most : ℕ) (reads : IsReader play most) (under : Answers) where
-  left_more : (front : Front) (remaining : Option ℕ) (a : Answers) → (remaining ≡ Some 0 → ⊥) → IsNextRun play under front a → runs_left play most under front remaining ≡ a ∷ runs_left play most under (At a) (less_one remaining)
+  left_more : (front : Front) (remaining : Option ℕ) (a : Answers) → (remaining ≡ Some 0 → ⊥)
+      → IsNextRun play under front a
+      → runs_left play most under front remaining ≡ a ∷ runs_left play most under (At a) (less_one remaining)
   left_more front None a h n = left_next play most reads under front a n
-  left_more front (Some k) a h n = ap (take k) (left_next play most reads under front a n) ∙ take_one k a (runs_after play most under (At a)) (λ e. h (ap Some e))
+  left_more front (Some k) a h n = ap (take k) (left_next play most reads under front a n)
+      ∙ take_one k a (runs_after play most under (At a)) (λ e. h (ap Some e))
 
-  left_last : (front : Front) (remaining : Option ℕ) → IsLast play under front → runs_left play most under front remaining ≡ []
+  left_last : (front : Front) (remaining : Option ℕ) → IsLast play under front
+      → runs_left play most under front remaining ≡ []
   left_last front None h = left_none play most reads under front h
   left_last front (Some zero) h = refl
   left_last front (Some (suc k)) h = ap (take (suc k)) (left_none play most reads under front h)
 
   -- where a run is left and one more is wanted, the list isn't empty
-  left_some : (front : Front) (remaining : Option ℕ) → (remaining ≡ Some 0 → ⊥) → (IsLast play under front → ⊥) → runs_left play most under front remaining ≡ [] → ⊥
+  left_some : (front : Front) (remaining : Option ℕ) → (remaining ≡ Some 0 → ⊥) → (IsLast play under front → ⊥)
+      → runs_left play most under front remaining ≡ [] → ⊥
   left_some front None h more none = more (none_left play most reads under front none)
-  left_some front (Some n) h more none = more (none_left play most reads under front (take_none n (runs_after play most under front) (λ e. h (ap Some e)) none))
+  left_some front (Some n) h more none = more
+      (none_left play most reads under front (take_none n (runs_after play most under front) (λ e. h (ap Some e)) none))
 
-  pub fewer_left : (front : Front) (a : Answers) → IsNextRun play under front a → length (runs_after play most under (At a)) < length (runs_after play most under front)
+  pub fewer_left : (front : Front) (a : Answers) → IsNextRun play under front a
+      → length (runs_after play most under (At a)) < length (runs_after play most under front)
   fewer_left front a n = omega (arith, ap length (left_next play most reads under front a n))
 
 -- some reports are written, and with what is left they are the list
-pub record Progress {A W : Type 0} (play : Answers → Outcome A W) (most : ℕ) (under : Answers) (report : Answers → List ℕ) (list : List Answers) (start front : Front) (remaining : Option ℕ) (old new : Option (List ℕ)) (n : ℕ) : Type 0 where
+pub record Progress {A W : Type 0} (play : Answers → Outcome A W) (most : ℕ) (under : Answers) (report : Answers
+    → List ℕ) (list : List Answers) (start front : Front) (remaining : Option ℕ) (old new : Option (List ℕ))
+    (n : ℕ) : Type 0 where
   pub done : List Answers
   pub split : list ≡ done ++ runs_left play most under front remaining
   pub told : Appends old new (text report done)
   pub front_is : front ≡ front_after start done
   pub count : n ≡ count_of done
 
-module _ {A W : Type 0} (play : Answers → Outcome A W) (most : ℕ) (reads : IsReader play most) (under : Answers) (report : Answers → List ℕ) where
+module _ {A W : Type 0} (play : Answers → Outcome A W) (most : ℕ) (reads : IsReader play most) (under : Answers)
+    (report : Answers → List ℕ) where
   text_push : (done : List Answers) (a : Answers) → text report done ++ report a ≡ text report (done ++ a ∷ [])
-  text_push done a = sym (flat_map-append report done (a ∷ []) ∙ ap (λ x. text report done ++ x) (append-nil (report a)))
+  text_push done a =
+      sym (flat_map-append report done (a ∷ []) ∙ ap (λ x. text report done ++ x) (append-nil (report a)))
 
   module _ (list : List Answers) (start : Front) (old : Option (List ℕ)) where
-    pub progress_more : (front f' : Front) (remaining : Option ℕ) (new new' : Option (List ℕ)) (n n' : ℕ) (a : Answers) → Progress play most under report list start front remaining old new n → (remaining ≡ Some 0 → ⊥) → IsNextRun play under front a → f' ≡ At a → Appends new new' (report a) → n' ≡ min (n + 1) (2 ^ 64 - 1) → Progress play most under report list start f' (less_one remaining) old new' n'
+    pub progress_more : (front f' : Front) (remaining : Option ℕ) (new new' : Option (List ℕ)) (n n' : ℕ) (a : Answers)
+        → Progress play most under report list start front remaining old new n → (remaining ≡ Some 0 → ⊥)
+        → IsNextRun play under front a → f' ≡ At a → Appends new new' (report a) → n' ≡ min (n + 1) (2 ^ 64 - 1)
+        → Progress play most under report list start f' (less_one remaining) old new' n'
     progress_more front f' remaining new new' n n' a p h next e w c = record {
       done = p.done ++ a ∷ [];
-      split = p.split ∙ ap (λ x. p.done ++ x) (left_more play most reads under front remaining a h next) ∙ sym (append_assoc p.done (a ∷ []) (runs_left play most under (At a) (less_one remaining))) ∙ ap (λ x. (p.done ++ a ∷ []) ++ runs_left play most under x (less_one remaining)) (sym e);
-      told = subst (Appends old new') (text_push p.done a) (Appends-trans old new new' (text report p.done) (report a) p.told w);
+      split = p.split ∙ ap (λ x. p.done ++ x) (left_more play most reads under front remaining a h next)
+          ∙ sym (append_assoc p.done (a ∷ []) (runs_left play most under (At a) (less_one remaining)))
+          ∙ ap (λ x. (p.done ++ a ∷ []) ++ runs_left play most under x (less_one remaining)) (sym e);
+      told = subst (Appends old new') (text_push p.done a)
+          (Appends-trans old new new' (text report p.done) (report a) p.told w);
       front_is = e ∙ sym (after_push start p.done a);
       count = let l = length-append p.done (a ∷ []) in let k = p.count in omega (arith, l, k, c);
     }
 
-    pub progress_whole : (front : Front) (new : Option (List ℕ)) (n : ℕ) → Progress play most under report list start front (Some 0) old new n → WritesList play under report list start front old new n
+    pub progress_whole : (front : Front) (new : Option (List ℕ)) (n : ℕ)
+        → Progress play most under report list start front (Some 0) old new n
+        → WritesList play under report list start front old new n
     progress_whole front new n p =
         let e : list ≡ p.done = p.split ∙ append-nil p.done in
-        record { bytes = subst (λ x. Appends old new (text report x)) (sym e) p.told; count = p.count ∙ ap count_of (sym e); front = inl (p.front_is ∙ ap (front_after start) (sym e)) }
+        record {
+          bytes = subst (λ x. Appends old new (text report x)) (sym e) p.told;
+          count = p.count ∙ ap count_of (sym e);
+          front = inl (p.front_is ∙ ap (front_after start) (sym e));
+        }
 
-    pub progress_last : (front : Front) (remaining : Option ℕ) (new : Option (List ℕ)) (n : ℕ) → Progress play most under report list start front remaining old new n → IsLast play under front → WritesList play under report list start End old new n
+    pub progress_last : (front : Front) (remaining : Option ℕ) (new : Option (List ℕ)) (n : ℕ)
+        → Progress play most under report list start front remaining old new n → IsLast play under front
+        → WritesList play under report list start End old new n
     progress_last front remaining new n p last =
-        let e : list ≡ p.done = p.split ∙ ap (λ x. p.done ++ x) (left_last play most reads under front remaining last) ∙ append-nil p.done in
+        let e : list ≡ p.done = p.split ∙ ap (λ x. p.done ++ x) (left_last play most reads under front remaining last)
+        ∙ append-nil p.done in
         let s : front ≡ front_after start list = p.front_is ∙ ap (front_after start) (sym e) in
-        record { bytes = subst (λ x. Appends old new (text report x)) (sym e) p.told; count = p.count ∙ ap count_of (sym e); front = inr (refl, rw s at last) }
+        record {
+          bytes = subst (λ x. Appends old new (text report x)) (sym e) p.told;
+          count = p.count ∙ ap count_of (sym e);
+          front = inr (refl, rw s at last);
+        }
 
-    pub progress_some : (front : Front) (remaining : Option ℕ) (new : Option (List ℕ)) (n : ℕ) → Progress play most under report list start front remaining old new n → (remaining ≡ Some 0 → ⊥) → (IsLast play under front → ⊥)
+    pub progress_some : (front : Front) (remaining : Option ℕ) (new : Option (List ℕ)) (n : ℕ)
+        → Progress play most under report list start front remaining old new n → (remaining ≡ Some 0 → ⊥)
+        → (IsLast play under front → ⊥)
         → WritesSome play under report list start front old new n
-    progress_some front remaining new n p h more = record { beginning = p.done; rest = runs_left play most under front remaining; split = p.split; some_left = left_some play most reads under front remaining h more; bytes = p.told; count = p.count; front = p.front_is }
+    progress_some front remaining new n p h more =
+        record {
+          beginning = p.done;
+          rest = runs_left play most under front remaining;
+          split = p.split;
+          some_left = left_some play most reads under front remaining h more;
+          bytes = p.told;
+          count = p.count;
+          front = p.front_is;
+        }
 
-    pub progress_into : (front : Front) (remaining : Option ℕ) (new new' : Option (List ℕ)) (n : ℕ) (a : Answers) → Progress play most under report list start front remaining old new n → (remaining ≡ Some 0 → ⊥) → IsNextRun play under front a → TakesSome new new' (report a) → WritesInto play under report list start (At a) old new' n
+    pub progress_into : (front : Front) (remaining : Option ℕ) (new new' : Option (List ℕ)) (n : ℕ) (a : Answers)
+        → Progress play most under report list start front remaining old new n → (remaining ≡ Some 0 → ⊥)
+        → IsNextRun play under front a → TakesSome new new' (report a)
+        → WritesInto play under report list start (At a) old new' n
     progress_into front remaining new new' n a p h next part = record {
       beginning = p.done;
       at = a;

@@ -1,12 +1,15 @@
 -- This file proves which answers the next run begins with.
 -- Main lemmas: `next_plan` and `last_plan`.
-use Rattle.std.proofs.Common.{◌≡◌, ℕ, zero, suc, ◌+◌, ◌<◌, ◌≤◌, List, [], ◌∷◌, ◌++◌, length, take, drop, true, refl, ap, sym, subst, ◌∙◌, arith, append_assoc, append-nil, length-append}
+use Rattle.std.proofs.Common.{◌≡◌, ℕ, zero, suc, ◌+◌, ◌<◌, ◌≤◌, List, [], ◌∷◌, ◌++◌, length, take}
+use Rattle.std.proofs.Common.{drop, true, refl, ap, sym, subst, ◌∙◌, arith, append_assoc}
+use Rattle.std.proofs.Common.{append-nil, length-append}
 use Rattle.std.specs.Prelude.{ℤ, pos, Some, None, ◌+ℤ◌, ◌≤ℤ◌, ◌<ℤ◌, int_le, slice_index_or}
 use Rattle.std.proofs.lemmas.Bool.{and_from, and_parts}
 use Rattle.std.specs.Ordering.{int_eq}
 use Rattle.std.proofs.lemmas.Int.{ints}
 use Rattle.std.proofs.lemmas.List.{length-take-le}
-use Rattle.ptb_answers.specs.Outcome.{Answers, Outcome, Asks, IsReader, is_open, is_answer, bound_of, bounds, bounds_after}
+use Rattle.ptb_answers.specs.Outcome.{Answers, Outcome, Asks, IsReader, is_open, is_answer}
+use Rattle.ptb_answers.specs.Outcome.{bound_of, bounds, bounds_after}
 use Rattle.ptb_explore.specs.RunTree.{Front, Start, At, End, IsRun, IsNextRun, IsLast, Before, begins_with}
 use Rattle.ptb_explore.specs.declared.plan.Position.{Position}
 use Rattle.ptb_explore.specs.declared.plan.Position.TheVariants.{AtStart, AtRun, AtEnd}
@@ -14,16 +17,20 @@ use Rattle.ptb_explore.specs.Plans.{IsPlan, IsLastBelow, PlansNext, IsPosition, 
 use Rattle.ptb_explore.proofs.Bounds.{length-bounds}
 use Rattle.ptb_explore.proofs.Order.{before_from_differ, before_front, begins_from, begins_is}
 use Rattle.ptb_explore.proofs.Tree.{run_asks}
-use Rattle.ptb_explore.proofs.Next.{AtTop, is_answer_is, between_none, ones_first, top_last, left_after, left_begins, left_from}
+use Rattle.ptb_explore.proofs.Next.{AtTop, is_answer_is, between_none, ones_first, top_last}
+use Rattle.ptb_explore.proofs.Next.{left_after, left_begins, left_from}
 
 -- a list at a place: what is before it, there and after it
-pub split_at : {X : Type 0} (s : List X) (i : ℕ) (d : X) → i < length s → s ≡ take i s ++ slice_index_or s i d ∷ drop (i + 1) s
+pub split_at : {X : Type 0} (s : List X) (i : ℕ) (d : X) → i < length s
+    → s ≡ take i s ++ slice_index_or s i d ∷ drop (i + 1) s
 split_at [] i d l = absurd (omega arith)
 split_at (x ∷ s) zero d l = refl
-split_at (x ∷ s) (suc i) d l = let e = split_at s i d (omega arith) in let n : suc i + 1 ≡ suc (i + 1) = omega arith in rw n (ap (λ r. x ∷ r) e)
+split_at (x ∷ s) (suc i) d l = let e = split_at s i d (omega arith) in let n : suc i + 1 ≡ suc (i + 1) = omega arith in
+    rw n (ap (λ r. x ∷ r) e)
 
 -- what begins with a list does so up to a place after it
-begins_take : (under a b : Answers) (i : ℕ) → begins_with a under ≡ true → length under ≤ i → begins_with (take i a ++ b) under ≡ true
+begins_take : (under a b : Answers) (i : ℕ) → begins_with a under ≡ true → length under ≤ i
+    → begins_with (take i a ++ b) under ≡ true
 begins_take [] a b i h l = refl
 begins_take (y ∷ under) [] b i h l = absurd cc
 begins_take (y ∷ under) (x ∷ a) b zero h l = absurd (omega arith)
@@ -41,12 +48,16 @@ is_answer_of n k l u = and_from (int_le (pos 1) k) (int_le k n) (grind (arith, i
 
 module _ {A W : Type 0} (play : Answers → Outcome A W) where
   -- the bound of the answer after q
-  bound_there : (p q t : Answers) (x : ℤ) → slice_index_or (bounds_after play p (q ++ x ∷ t)) (length q) (pos 0) ≡ bound_of (play (p ++ q))
+  bound_there : (p q t : Answers) (x : ℤ)
+      → slice_index_or (bounds_after play p (q ++ x ∷ t)) (length q) (pos 0) ≡ bound_of (play (p ++ q))
   bound_there p [] t x = ap (λ s. bound_of (play s)) (sym (append-nil p))
   bound_there p (y ∷ q) t x = bound_there (p ++ y ∷ []) q t x ∙ ap (λ s. bound_of (play s)) (append_assoc p (y ∷ []) q)
 
   -- answers that are at their bounds by place are at their bounds
-  top_from : (p q t : Answers) → ((k : ℕ) → length q ≤ k → k < length (q ++ t) → slice_index_or (bounds_after play p (q ++ t)) k (pos 0) ≤ℤ slice_index_or (q ++ t) k (pos 0)) → AtTop play (p ++ q) t
+  top_from : (p q t : Answers)
+      → ((k : ℕ) → length q ≤ k → k < length (q ++ t)
+      → slice_index_or (bounds_after play p (q ++ t)) k (pos 0) ≤ℤ slice_index_or (q ++ t) k (pos 0))
+      → AtTop play (p ++ q) t
   top_from p (y ∷ q) t h =
       let r = top_from (p ++ y ∷ []) q t (λ k l u. h (suc k) (omega arith) (omega arith)) in
       rw (append_assoc p (y ∷ []) q) at r
@@ -72,7 +83,8 @@ module _ {A W : Type 0} (play : Answers → Outcome A W) (most : ℕ) (reads : I
     };
   }
 
-  raise_split : (q t : Answers) (x n : ℤ) (w : W) → IsRun play (q ++ x ∷ t) → play q ≡ Asks n w → pos 1 ≤ℤ x → x <ℤ n → AtTop play (q ++ x ∷ []) t → IsPlan play [] (At (q ++ x ∷ t)) (q ++ (x +ℤ pos 1) ∷ [])
+  raise_split : (q t : Answers) (x n : ℤ) (w : W) → IsRun play (q ++ x ∷ t) → play q ≡ Asks n w → pos 1 ≤ℤ x → x <ℤ n
+      → AtTop play (q ++ x ∷ []) t → IsPlan play [] (At (q ++ x ∷ t)) (q ++ (x +ℤ pos 1) ∷ [])
   raise_split q t x n w r a low high top = record {
     opens = reads.inside q n (x +ℤ pos 1) w a (is_answer_of n (x +ℤ pos 1) (omega (arith, ints)) (omega (arith, ints)));
     next = λ ones o s. let same = append_assoc q ((x +ℤ pos 1) ∷ []) ones in record {
@@ -82,24 +94,36 @@ module _ {A W : Type 0} (play : Answers → Outcome A W) (most : ℕ) (reads : I
     };
   }
 
-  raise_from : (a q t : Answers) (x : ℤ) (i : ℕ) → a ≡ q ++ x ∷ t → length q ≡ i → IsRun play a → x <ℤ slice_index_or (bounds play a) i (pos 0) → ((k : ℕ) → i < k → k < length a → slice_index_or (bounds play a) k (pos 0) ≤ℤ slice_index_or a k (pos 0)) → IsPlan play [] (At a) (q ++ (x +ℤ pos 1) ∷ [])
+  raise_from : (a q t : Answers) (x : ℤ) (i : ℕ) → a ≡ q ++ x ∷ t → length q ≡ i → IsRun play a
+      → x <ℤ slice_index_or (bounds play a) i (pos 0)
+      → ((k : ℕ) → i < k → k < length a → slice_index_or (bounds play a) k (pos 0) ≤ℤ slice_index_or a k (pos 0))
+      → IsPlan play [] (At a) (q ++ (x +ℤ pos 1) ∷ [])
   raise_from a q t x i e n r low top =
       let run : IsRun play (q ++ x ∷ t) = rw e at r in
       let asks = run_asks play most reads q t x run in
       let within = is_answer_is asks.0 x asks.3 in
-      let b : slice_index_or (bounds play (q ++ x ∷ t)) (length q) (pos 0) ≡ asks.0 = bound_there play [] q t x ∙ ap bound_of asks.2 in
+      let b : slice_index_or (bounds play (q ++ x ∷ t)) (length q) (pos 0) ≡ asks.0 =
+      bound_there play [] q t x ∙ ap bound_of asks.2 in
       let lower : x <ℤ slice_index_or (bounds play (q ++ x ∷ t)) (length q) (pos 0) = rw (e, ← n) at low in
       let s : (q ++ x ∷ []) ++ t ≡ q ++ x ∷ t = append_assoc q (x ∷ []) t in
-      let upper : (k : ℕ) → length (q ++ x ∷ []) ≤ k → k < length ((q ++ x ∷ []) ++ t) → slice_index_or (bounds_after play [] ((q ++ x ∷ []) ++ t)) k (pos 0) ≤ℤ slice_index_or ((q ++ x ∷ []) ++ t) k (pos 0) =
-      (λ k l u. rw (s ∙ sym e) (top k (omega (arith, length-append q (x ∷ []))) (omega (arith, ap length (s ∙ sym e))))) in
-      rw e (raise_split q t x asks.0 asks.1 run asks.2 within.0 (rw b at lower) (top_from play [] (q ++ x ∷ []) t upper))
+      let upper : (k : ℕ) → length (q ++ x ∷ []) ≤ k → k < length ((q ++ x ∷ []) ++ t) → slice_index_or
+      (bounds_after play [] ((q ++ x ∷ []) ++ t)) k (pos 0) ≤ℤ slice_index_or ((q ++ x ∷ []) ++ t) k (pos 0) =
+      (λ k l u. rw (s ∙ sym e)
+      (top k (omega (arith, length-append q (x ∷ []))) (omega (arith, ap length (s ∙ sym e))))) in
+      rw e (raise_split q t x asks.0 asks.1 run asks.2 within.0 (rw b at lower)
+      (top_from play [] (q ++ x ∷ []) t upper))
 
   -- the answer at i is below its bound and those after it are not: the next run raises it by one
-  pub raise_plan : (a : Answers) (i : ℕ) → IsRun play a → i < length a → slice_index_or a i (pos 0) <ℤ slice_index_or (bounds play a) i (pos 0) → ((k : ℕ) → i < k → k < length a → slice_index_or (bounds play a) k (pos 0) ≤ℤ slice_index_or a k (pos 0)) → IsPlan play [] (At a) (take i a ++ (slice_index_or a i (pos 0) +ℤ pos 1) ∷ [])
-  raise_plan a i r l low top = raise_from a (take i a) (drop (i + 1) a) (slice_index_or a i (pos 0)) i (split_at a i (pos 0) l) (length-take-le i a (omega arith)) r low top
+  pub raise_plan : (a : Answers) (i : ℕ) → IsRun play a → i < length a
+      → slice_index_or a i (pos 0) <ℤ slice_index_or (bounds play a) i (pos 0)
+      → ((k : ℕ) → i < k → k < length a → slice_index_or (bounds play a) k (pos 0) ≤ℤ slice_index_or a k (pos 0))
+      → IsPlan play [] (At a) (take i a ++ (slice_index_or a i (pos 0) +ℤ pos 1) ∷ [])
+  raise_plan a i r l low top = raise_from a (take i a) (drop (i + 1) a) (slice_index_or a i (pos 0)) i
+      (split_at a i (pos 0) l) (length-take-le i a (omega arith)) r low top
 
   -- what is raised continues with the answers in front
-  raise_under : (under a : Answers) (i : ℕ) → begins_with a under ≡ true → length under ≤ i → (y : ℤ) → IsPlan play [] (At a) (take i a ++ y ∷ []) → IsPlan play under (At a) (take i a ++ y ∷ [])
+  raise_under : (under a : Answers) (i : ℕ) → begins_with a under ≡ true → length under ≤ i → (y : ℤ)
+      → IsPlan play [] (At a) (take i a ++ y ∷ []) → IsPlan play under (At a) (take i a ++ y ∷ [])
   raise_under under a i b f y p = record {
     opens = p.opens;
     next = λ ones o r.
@@ -113,43 +137,57 @@ module _ {A W : Type 0} (play : Answers → Outcome A W) (most : ℕ) (reads : I
   }
 
   -- where no answer after those of `under` is below its bound, no run that begins with these is after
-  top_plan : (under a : Answers) → IsRun play a → begins_with a under ≡ true → ((k : ℕ) → length under ≤ k → k < length a → slice_index_or (bounds play a) k (pos 0) ≤ℤ slice_index_or a k (pos 0)) → IsLast play under (At a)
+  top_plan : (under a : Answers) → IsRun play a → begins_with a under ≡ true
+      → ((k : ℕ) → length under ≤ k → k < length a
+      → slice_index_or (bounds play a) k (pos 0) ≤ℤ slice_index_or a k (pos 0))
+      → IsLast play under (At a)
   top_plan under a r b top c s h =
       let p = begins_is a under b in
       let q = begins_is c under (left_begins under (At a) c h) in
       let later : Before (under ++ p.0) (under ++ q.0) = rw (← p.1, ← q.1) (left_after under (At a) c h) in
       let run : IsRun play (under ++ q.0) = rw (← q.1) s in
-      let at : (k : ℕ) → length under ≤ k → k < length (under ++ p.0) → slice_index_or (bounds_after play [] (under ++ p.0)) k (pos 0) ≤ℤ slice_index_or (under ++ p.0) k (pos 0) = rw (← p.1) top in
+      let at : (k : ℕ) → length under ≤ k → k < length (under ++ p.0)
+      → slice_index_or (bounds_after play [] (under ++ p.0)) k (pos 0) ≤ℤ slice_index_or (under ++ p.0) k (pos 0) =
+      rw (← p.1) top in
       top_last play most reads under q.0 p.0 (top_from play [] under p.0 at) run (before_front under p.0 q.0 later)
 
   -- ---- the plan that follows where a listing is
 
-  pub next_plan : (under : Answers) (position : Position) (answers plan : Answers) (bounded : List ℤ) (i : ℕ) → IsPosition play under position answers bounded → PlansNext under position answers bounded plan (Some i) → IsPlan play under (front_at position answers) plan
+  pub next_plan : (under : Answers) (position : Position) (answers plan : Answers) (bounded : List ℤ) (i : ℕ)
+      → IsPosition play under position answers bounded → PlansNext under position answers bounded plan (Some i)
+      → IsPlan play under (front_at position answers) plan
   next_plan under AtStart answers plan bounded i s p = rw p.1 (start_plan under s)
   next_plan under AtRun answers plan bounded i s p =
       let last : IsLastBelow (length under) answers (bounds play answers) i = rw s.1 at p.0 in
       rw p.1 (raise_under under answers i s.2 last.behind _ (raise_plan answers i s.0 last.within last.below last.last))
   next_plan under AtEnd answers plan bounded i s p = absurd p
 
-  pub last_plan : (under : Answers) (position : Position) (answers plan : Answers) (bounded : List ℤ) → IsPosition play under position answers bounded → PlansNext under position answers bounded plan None → IsLast play under (front_at position answers)
+  pub last_plan : (under : Answers) (position : Position) (answers plan : Answers) (bounded : List ℤ)
+      → IsPosition play under position answers bounded → PlansNext under position answers bounded plan None
+      → IsLast play under (front_at position answers)
   last_plan under AtStart answers plan bounded s p = absurd p
   last_plan under AtRun answers plan bounded s p = top_plan under answers s.0 s.2 (rw s.1 at p)
   last_plan under AtEnd answers plan bounded s p = λ b r h. let n = left_after under End b h in absurd cc
 
   -- a plan that was played to its end is the next run
-  pub plan_ends : (under : Answers) (front : Front) (plan answers : Answers) (bounded : List ℤ) (result : A) → IsPlan play under front plan → PlanEndsWith play plan answers bounded result → IsNextRun play under front answers
+  pub plan_ends : (under : Answers) (front : Front) (plan answers : Answers) (bounded : List ℤ) (result : A)
+      → IsPlan play under front plan → PlanEndsWith play plan answers bounded result
+      → IsNextRun play under front answers
   plan_ends under front plan answers bounded result p e =
       let run : IsRun play (plan ++ e.ones) = rw (← e.answers_are, e.outcome) refl in
       rw e.answers_are (p.next e.ones e.all_ones run)
 
 -- the plan begins with the first answers of the run
-pub plan_begins : (under answers plan : Answers) (bounded : List ℤ) (i : ℕ) → PlansNext under AtRun answers bounded plan (Some i) → (i ≤ length answers) × (take i plan ≡ take i answers)
+pub plan_begins : (under answers plan : Answers) (bounded : List ℤ) (i : ℕ)
+    → PlansNext under AtRun answers bounded plan (Some i) → (i ≤ length answers) × (take i plan ≡ take i answers)
 plan_begins under answers plan bounded i p =
     let u = p.0.within in
     (omega arith, ap (take i) p.1 ∙ take_front i answers (_ ∷ []) (omega arith))
 
 -- where it is at a run, there are as many bounds as answers
-pub position_lengths : {A W : Type 0} (play : Answers → Outcome A W) (under : Answers) (position : Position) (answers : Answers) (bounded : List ℤ) → IsPosition play under position answers bounded → position ≡ AtRun → length answers ≡ length bounded
+pub position_lengths : {A W : Type 0} (play : Answers → Outcome A W) (under : Answers) (position : Position)
+    (answers : Answers) (bounded : List ℤ)
+    → IsPosition play under position answers bounded → position ≡ AtRun → length answers ≡ length bounded
 position_lengths play under position answers bounded s e =
     let at = subst (λ (s : Position). IsPosition play under s answers bounded) e s in
     sym (ap length at.1 ∙ length-bounds play [] answers)

@@ -1,6 +1,8 @@
 -- This file proves that a report shows the answers of its run, so that two runs have two different reports.
 -- Main lemma: `report_laws`.
-use Rattle.std.proofs.Common.{◌≡◌, ℕ, zero, suc, ◌/◌, ◌%◌, ◌^◌, ◌<◌, ◌≤◌, List, [], ◌∷◌, ◌++◌, length, true, false, ◌⊎◌, inl, inr, refl, ap, sym, subst, ◌∙◌, arith, append_assoc, codes}
+use Rattle.std.proofs.Common.{◌≡◌, ℕ, zero, suc, ◌/◌, ◌%◌, ◌^◌, ◌<◌, ◌≤◌, List, [], ◌∷◌, ◌++◌}
+use Rattle.std.proofs.Common.{length, true, false, ◌⊎◌, inl, inr, refl, ap, sym, subst, ◌∙◌, arith}
+use Rattle.std.proofs.Common.{append_assoc, codes}
 use Rattle.std.specs.Prelude.{ℤ, pos, negsuc, Option, Some, None, ◌≤ℤ◌, ◌==◌, nat_lt, Contains}
 use Rattle.std.specs.List.{AllByRecursion}
 use Rattle.std.specs.Fmt.{decimal, digits, digits_onto, digit_glyph, signed_decimal}
@@ -10,7 +12,8 @@ use Rattle.std.proofs.lemmas.Fmt.{signed_decimal_injective}
 use Rattle.std.proofs.lemmas.Int.{ints}
 use lib.Signed.{mag}
 use Rattle.ptb_answers.specs.Outcome.{Answers, Outcome, IsReader, bounds}
-use Rattle.ptb_answers.specs.AnswerText.{answers_of, bound_text, item_text, items_in, marked, more_spelling, spelling, unmarked}
+use Rattle.ptb_answers.specs.AnswerText.{answers_of, bound_text, item_text, items_in, marked}
+use Rattle.ptb_answers.specs.AnswerText.{more_spelling, spelling, unmarked}
 use Rattle.ptb_answers.specs.declared.form.Form.{Form}
 use Rattle.ptb_answers.specs.declared.form.Form.TheVariants.{One, Two}
 use Rattle.ptb_answers.specs.declared.form.Marked.{Marked}
@@ -69,7 +72,8 @@ number_bytes (pos n) = decimal_digits n
 number_bytes (negsuc n) = (inl refl, decimal_digits (suc n))
 
 -- a number ends at the first mark
-same_numbers : (xs ys r s : List ℕ) (c d : ℕ) → AllNumberBytes xs → AllNumberBytes ys → IsMark c → IsMark d → xs ++ c ∷ r ≡ ys ++ d ∷ s → (xs ≡ ys) × (c ∷ r ≡ d ∷ s)
+same_numbers : (xs ys r s : List ℕ) (c d : ℕ) → AllNumberBytes xs → AllNumberBytes ys → IsMark c → IsMark d
+    → xs ++ c ∷ r ≡ ys ++ d ∷ s → (xs ≡ ys) × (c ∷ r ≡ d ∷ s)
 same_numbers [] [] r s c d h k m n e = (refl, e)
 same_numbers [] (y ∷ ys) r s c d h k m n e = let same : y ≡ c = cc in absurd (no_mark y c k.0 m same)
 same_numbers (x ∷ xs) [] r s c d h k m n e = let same : x ≡ d = cc in absurd (no_mark x d h.0 n same)
@@ -93,22 +97,35 @@ record StartsWithMark (bs : List ℕ) : Type 0 where
 
 after_mark : (bound : Option ℤ) (list : List Marked) (r : List ℕ) → StartsWithMark (after_answer bound list r)
 after_mark None [] r = record { mark = 32; rest = r; bytes_are = refl; is_mark = inl refl }
-after_mark None (m ∷ list) r = record { mark = 44; rest = (item_text m ++ more_spelling list) ++ 32 ∷ r; bytes_are = refl; is_mark = inr (inl refl) }
-after_mark (Some n) list r = record { mark = 47; rest = signed_decimal n ++ (more_spelling list ++ 32 ∷ r); bytes_are = refl; is_mark = inr (inr refl) }
+after_mark None (m ∷ list) r = record {
+  mark = 44;
+  rest = (item_text m ++ more_spelling list) ++ 32 ∷ r;
+  bytes_are = refl;
+  is_mark = inr (inl refl);
+}
+after_mark (Some n) list r = record {
+  mark = 47;
+  rest = signed_decimal n ++ (more_spelling list ++ 32 ∷ r);
+  bytes_are = refl;
+  is_mark = inr (inr refl);
+}
 
 -- numbers that a mark follows
-numbers_read : (y z : ℤ) (r s : List ℕ) → StartsWithMark r → StartsWithMark s → signed_decimal y ++ r ≡ signed_decimal z ++ s → (signed_decimal y ≡ signed_decimal z) × (r ≡ s)
+numbers_read : (y z : ℤ) (r s : List ℕ) → StartsWithMark r → StartsWithMark s
+    → signed_decimal y ++ r ≡ signed_decimal z ++ s → (signed_decimal y ≡ signed_decimal z) × (r ≡ s)
 numbers_read y z r s p q e =
     let same : signed_decimal y ++ p.mark ∷ p.rest ≡ signed_decimal z ++ q.mark ∷ q.rest =
     ap (λ t. signed_decimal y ++ t) (sym p.bytes_are) ∙ e ∙ ap (λ t. signed_decimal z ++ t) q.bytes_are in
-    let both = same_numbers (signed_decimal y) (signed_decimal z) p.rest q.rest p.mark q.mark (number_bytes y) (number_bytes z) p.is_mark q.is_mark same in
+    let both = same_numbers (signed_decimal y) (signed_decimal z) p.rest q.rest p.mark q.mark (number_bytes y)
+    (number_bytes z) p.is_mark q.is_mark same in
     (both.0, p.bytes_are ∙ both.1 ∙ sym q.bytes_are)
 
 -- the bounds have no part in it
 abbrev without : List ℕ → List Marked → List ℕ
 without r list = more_spelling list ++ 32 ∷ r
 
-after_bounds : (b c : Option ℤ) (l j : List Marked) (r s : List ℕ) → after_answer b l r ≡ after_answer c j s → without r l ≡ without s j
+after_bounds : (b c : Option ℤ) (l j : List Marked) (r s : List ℕ) → after_answer b l r ≡ after_answer c j s
+    → without r l ≡ without s j
 after_bounds None None l j r s e = e
 after_bounds (Some n) (Some m) l j r s e =
     let rest : signed_decimal n ++ without r l ≡ signed_decimal m ++ without s j = cc in
@@ -132,19 +149,23 @@ small (negsuc n) h = absurd (omega (arith, ints, h.0))
 same_short : (y z : ℤ) → IsShort y → IsShort z → signed_decimal y ≡ signed_decimal z → y ≡ z
 same_short y z h k e = signed_decimal_injective y z (small y h) (small z k) e
 
-item_after : (m : Marked) (list : List Marked) (r : List ℕ) → (item_text m ++ more_spelling list) ++ 32 ∷ r ≡ signed_decimal m.answer ++ after_answer m.bound list r
+item_after : (m : Marked) (list : List Marked) (r : List ℕ)
+    → (item_text m ++ more_spelling list) ++ 32 ∷ r ≡ signed_decimal m.answer ++ after_answer m.bound list r
 item_after m list r =
     append_assoc (item_text m) (more_spelling list) (32 ∷ r)
     ∙ append_assoc (signed_decimal m.answer) (bound_text m.bound) (more_spelling list ++ 32 ∷ r)
 
 -- the first answer is read, and the items after it
-item_read : (m n : Marked) (l j : List Marked) (r s : List ℕ) → IsShort m.answer → IsShort n.answer → (item_text m ++ more_spelling l) ++ 32 ∷ r ≡ (item_text n ++ more_spelling j) ++ 32 ∷ s
+item_read : (m n : Marked) (l j : List Marked) (r s : List ℕ) → IsShort m.answer → IsShort n.answer
+    → (item_text m ++ more_spelling l) ++ 32 ∷ r ≡ (item_text n ++ more_spelling j) ++ 32 ∷ s
     → (m.answer ≡ n.answer) × (without r l ≡ without s j)
 item_read m n l j r s h k e =
-    let both = numbers_read m.answer n.answer (after_answer m.bound l r) (after_answer n.bound j s) (after_mark m.bound l r) (after_mark n.bound j s) (sym (item_after m l r) ∙ e ∙ item_after n j s) in
+    let both = numbers_read m.answer n.answer (after_answer m.bound l r) (after_answer n.bound j s)
+    (after_mark m.bound l r) (after_mark n.bound j s) (sym (item_after m l r) ∙ e ∙ item_after n j s) in
     (same_short m.answer n.answer h k both.0, after_bounds m.bound n.bound l j r s both.1)
 
-more_read : (l j : List Marked) (r s : List ℕ) → AllShort (answers_of l) → AllShort (answers_of j) → without r l ≡ without s j → answers_of l ≡ answers_of j
+more_read : (l j : List Marked) (r s : List ℕ) → AllShort (answers_of l) → AllShort (answers_of j)
+    → without r l ≡ without s j → answers_of l ≡ answers_of j
 more_read [] [] r s h k e = refl
 more_read [] (n ∷ j) r s h k e = let x : ◌≡◌ {A = ℕ} 32 44 = cc in absurd (omega (arith, x))
 more_read (m ∷ l) [] r s h k e = let x : ◌≡◌ {A = ℕ} 44 32 = cc in absurd (omega (arith, x))
@@ -168,7 +189,8 @@ no_item m list t r e = by_number (signed_decimal m.answer) (number_bytes m.answe
         elim h.0 [ inl x ↦ omega arith | inr x ↦ omega (arith, x.0, x.1) ]
 
 -- a list is read up to the space that follows it
-spelling_read : (l j : List Marked) (r s : List ℕ) → AllShort (answers_of l) → AllShort (answers_of j) → spelling l ++ 32 ∷ r ≡ spelling j ++ 32 ∷ s → answers_of l ≡ answers_of j
+spelling_read : (l j : List Marked) (r s : List ℕ) → AllShort (answers_of l) → AllShort (answers_of j)
+    → spelling l ++ 32 ∷ r ≡ spelling j ++ 32 ∷ s → answers_of l ≡ answers_of j
 spelling_read [] [] r s h k e = refl
 spelling_read [] (n ∷ j) r s h k e = absurd (no_item n j _ s e)
 spelling_read (m ∷ l) [] r s h k e = absurd (no_item m l _ r (sym e))
@@ -188,7 +210,8 @@ answers_of_marked [] (n ∷ bs) l = absurd (omega arith)
 answers_of_marked (k ∷ a) [] l = absurd (omega arith)
 answers_of_marked (k ∷ a) (n ∷ bs) l = ap (λ r. k ∷ r) (answers_of_marked a bs (omega arith))
 
-answers_of_items : (form : Form) (a : Answers) (bs : List ℤ) → length a ≡ length bs → answers_of (items_in form a bs) ≡ a
+answers_of_items : (form : Form) (a : Answers) (bs : List ℤ) → length a ≡ length bs
+    → answers_of (items_in form a bs) ≡ a
 answers_of_items One a bs l = answers_of_unmarked a
 answers_of_items Two a bs l = answers_of_marked a bs l
 
@@ -197,10 +220,13 @@ regroup s w x y n t = simp append_assoc
 
 -- what comes after the answers of a report, and the space after them
 abbrev after_answers : List ℕ → ℕ → List ℕ → List ℕ
-after_answers word steps shown = word ++ (field (decimal steps) ++ (field (decimal (length shown)) ++ (codes "\n" ++ (shown ++ codes "\n"))))
+after_answers word steps shown =
+    word ++ (field (decimal steps) ++ (field (decimal (length shown)) ++ (codes "\n" ++ (shown ++ codes "\n"))))
 
-report_bytes : (items : List Marked) (word : List ℕ) (steps : ℕ) (shown : List ℕ) → report_text items word steps shown ≡ codes "RUN " ++ (spelling items ++ 32 ∷ after_answers word steps shown)
-report_bytes items word steps shown = ap (λ t. codes "RUN " ++ t) (regroup (spelling items) (field word) (field (decimal steps)) (field (decimal (length shown))) (codes "\n") shown)
+report_bytes : (items : List Marked) (word : List ℕ) (steps : ℕ) (shown : List ℕ)
+    → report_text items word steps shown ≡ codes "RUN " ++ (spelling items ++ 32 ∷ after_answers word steps shown)
+report_bytes items word steps shown = ap (λ t. codes "RUN " ++ t)
+    (regroup (spelling items) (field word) (field (decimal steps)) (field (decimal (length shown))) (codes "\n") shown)
 
 module _ (play : Answers → Outcome Finish (List ℕ)) (most : ℕ) (reads : IsReader play most) where
   -- the answers of a run are at least 1
@@ -208,10 +234,14 @@ module _ (play : Answers → Outcome Finish (List ℕ)) (most : ℕ) (reads : Is
   short_from q [] r h = tt
   short_from q (k ∷ a) r h =
       let p = run_asks play most reads q a k r in
-      let bounded = is_answer_is p.0 k p.3 in
-      ((bounded.0, h.0), short_from (q ++ k ∷ []) a (subst (λ (t : Answers). IsRun play t) (sym (append_assoc q (k ∷ []) a)) r) h.1)
+      let bounded = is_answer_is p.0 k p.3 in (
+        (bounded.0, h.0),
+        short_from (q ++ k ∷ []) a
+            (subst (λ (t : Answers). IsRun play t) (sym (append_assoc q (k ∷ []) a)) r) h.1,
+      )
 
-  pub reports_differ : (form : Form) (a b : Answers) → IsRun play a → IsRun play b → AreNumbers a → AreNumbers b → report form play a ≡ report form play b → a ≡ b
+  pub reports_differ : (form : Form) (a b : Answers) → IsRun play a → IsRun play b → AreNumbers a → AreNumbers b
+      → report form play a ≡ report form play b → a ≡ b
   reports_differ form a b r s h k e =
       let x = whole_is (play a) r in
       let y = whole_is (play b) s in

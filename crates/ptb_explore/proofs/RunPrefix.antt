@@ -1,6 +1,9 @@
 -- This file proves how a run continues that is played step by step, and how it ends.
 -- Main lemmas: `step_ends` and `step_goes`.
-use Rattle.std.proofs.Common.{◌≡◌, ℕ, ◌+◌, ◌-◌, ◌<◌, ◌≤◌, List, [], ◌∷◌, ◌++◌, zero, suc, true, Option, Some, None, Result, Ok, Err, ℤ, inl, inr, refl, sym, ap, subst, ◌∙◌, arith, append_assoc, append-nil, length, drop, length-append, length-drop}
+use Rattle.std.proofs.Common.{◌≡◌, ℕ, ◌+◌, ◌-◌, ◌<◌, ◌≤◌, List, [], ◌∷◌, ◌++◌, zero, suc, true}
+use Rattle.std.proofs.Common.{Option, Some, None, Result, Ok, Err, ℤ, inl, inr, refl, sym, ap}
+use Rattle.std.proofs.Common.{subst, ◌∙◌, arith, append_assoc, append-nil, length, drop}
+use Rattle.std.proofs.Common.{length-append, length-drop}
 use Rattle.std.proofs.Math.Path.{fun_ext}
 use Rattle.ptb_text.specs.Statements.{StoredProgram}
 use Rattle.ptb_answers.specs.declared.pause.Pause.{Pause}
@@ -40,11 +43,14 @@ text_state s = record { shown = Some s; failures = 0; borrow = None; takes_memor
 abbrev pub from_turn : StoredProgram → Rules → Outcome StepResult State → Outcome Finish (List ℕ)
 from_turn p rules o = map_outcome (λ f. f) (λ (T : State). T.shown) (go_on o (after_step_result (turns p rules.limit)))
 
-play-is : (p : StoredProgram) (input : List (List ℕ)) (rules : Rules) (a : Answers) → play p input rules a ≡ run_from p rules (first_state p input rules.choose) a
+play-is : (p : StoredProgram) (input : List (List ℕ)) (rules : Rules) (a : Answers)
+    → play p input rules a ≡ run_from p rules (first_state p input rules.choose) a
 unfolding play
 play-is p input rules a = refl
 
-pub run_prefix_at_first : (p : StoredProgram) (input : List (List ℕ)) (rules : Rules) (c : Choices) (m : Configuration) → c.taken ≡ [] → c.kept ≡ Some [] → Represents p.lines m (first_state p input rules.choose) → IsRunPrefix p input rules c [] input m
+pub run_prefix_at_first : (p : StoredProgram) (input : List (List ℕ)) (rules : Rules) (c : Choices) (m : Configuration)
+    → c.taken ≡ [] → c.kept ≡ Some [] → Represents p.lines m (first_state p input rules.choose)
+    → IsRunPrefix p input rules c [] input m
 run_prefix_at_first p input rules c m t k s =
     let h = holds_at_first (play p input rules) c t k in
     record {
@@ -54,17 +60,21 @@ run_prefix_at_first p input rules c m t k s =
       left_is = refl;
       choose = refl;
       holds = record { bounds_are = h.bounds_are; rest = λ later. h.rest later ∙ play-is p input rules later };
-      reached = λ limit within later. ap (λ a. play p input (limited rules limit) (a ++ later)) t ∙ play-is p input (limited rules limit) later;
+      reached = λ limit within later. ap (λ a. play p input (limited rules limit) (a ++ later)) t
+          ∙ play-is p input (limited rules limit) later;
     }
 
 -- a turn that is put into a run asks what it asked before
-asked_in_run : (p : StoredProgram) (rules : Rules) (f : Answers → Outcome StepResult State) (ts : Answers) (bs : List ℤ) → Asked f ts bs → Asked (λ a. from_turn p rules (f a)) ts bs
+asked_in_run : (p : StoredProgram) (rules : Rules) (f : Answers → Outcome StepResult State) (ts : Answers) (bs : List ℤ)
+    → Asked f ts bs → Asked (λ a. from_turn p rules (f a)) ts bs
 asked_in_run p rules f [] [] h = tt
 asked_in_run p rules f [] (n ∷ bs) h = absurd h
 asked_in_run p rules f (k ∷ ts) [] h = absurd h
-asked_in_run p rules f (k ∷ ts) (n ∷ bs) h = ((h.0.0.shown, ap (from_turn p rules) h.0.1), asked_in_run p rules (λ later. f (k ∷ later)) ts bs h.1)
+asked_in_run p rules f (k ∷ ts) (n ∷ bs) h =
+    ((h.0.0.shown, ap (from_turn p rules) h.0.1), asked_in_run p rules (λ later. f (k ∷ later)) ts bs h.1)
 
-holds_to : {A W : Type 0} (f : Answers → Outcome A W) (c : Choices) (g h : Answers → Outcome A W) → ((later : Answers) → g later ≡ h later) → Holds f c g → Holds f c h
+holds_to : {A W : Type 0} (f : Answers → Outcome A W) (c : Choices) (g h : Answers → Outcome A W)
+    → ((later : Answers) → g later ≡ h later) → Holds f c g → Holds f c h
 holds_to f c g h same x = record { bounds_are = x.bounds_are; rest = λ later. x.rest later ∙ same later }
 
 module _ (laws : RunLaws) (p : StoredProgram) (input : List (List ℕ)) (rules : Rules) where
@@ -74,40 +84,53 @@ module _ (laws : RunLaws) (p : StoredProgram) (input : List (List ℕ)) (rules :
 
   -- ---- the turn of a run that is underway has come to g
 
-  module _ (m new : Configuration) (c d : Choices) (s t : List ℕ) (given left rest : List (List ℕ)) (most few : ℕ) (u : IsRunPrefix p input rules c s left m) (g : State → Answers → Outcome StepResult State) (x : StepsTo p.lines new (devices c (text_state s) most rules.choose []) u.state rest (turn p rules.limit u.state) (devices d (text_state t) few rules.choose given) g) where
+  module _ (m new : Configuration) (c d : Choices) (s t : List ℕ) (given left rest : List (List ℕ))
+      (most few : ℕ) (u : IsRunPrefix p input rules c s left m) (g : State → Answers → Outcome StepResult State)
+      (x : StepsTo p.lines new (devices c (text_state s) most rules.choose []) u.state rest (turn p rules.limit u.state)
+      (devices d (text_state t) few rules.choose given) g) where
     abbrev there : State
     there = x.leads.state
 
     turn_reaches : Reaches (run_from p rules u.state) c d (λ a. from_turn p rules (g there a))
     turn_reaches =
-        let asked = asked_in_run p rules (turn p rules.limit u.state) x.exchange.answers x.exchange.bounds x.leads.leaves.asked in
+        let asked = asked_in_run p rules (turn p rules.limit u.state) x.exchange.answers x.exchange.bounds
+        x.leads.leaves.asked in
         record {
           answers = x.exchange.answers;
           bounds = x.exchange.bounds;
           grown = x.exchanges.grown;
           asked = subst (λ f. Asked f x.exchange.answers x.exchange.bounds) (sym (by_turn u.state)) asked;
-          rest = ap (λ f. λ later. f (x.exchange.answers ++ later)) (by_turn u.state) ∙ ap (λ g. λ later. from_turn p rules (g later)) x.leads.leaves.rest;
+          rest = ap (λ f. λ later. f (x.exchange.answers ++ later)) (by_turn u.state)
+              ∙ ap (λ g. λ later. from_turn p rules (g later)) x.leads.leaves.rest;
         }
 
     turn_holds : (d.plan ≡ c.plan) × Holds (play p input rules) d (λ a. from_turn p rules (g there a))
-    turn_holds = holds_on (play p input rules) c d (run_from p rules u.state) (λ a. from_turn p rules (g there a)) u.holds turn_reaches
+    turn_holds = holds_on (play p input rules) c d (run_from p rules u.state)
+        (λ a. from_turn p rules (g there a)) u.holds turn_reaches
 
     shown_there : there.shown ≡ t
     shown_there = x.leads.shown ∙ ap (λ b. b ++ x.exchange.bytes) u.shown_is ∙ sym x.exchanges.shows.shown
 
   -- it continues
-  module _ (m new : Configuration) (c d : Choices) (s t : List ℕ) (given left rest : List (List ℕ)) (most few : ℕ) (u : IsRunPrefix p input rules c s left m) (x : StepsTo p.lines new (devices c (text_state s) most rules.choose []) u.state rest (turn p rules.limit u.state) (devices d (text_state t) few rules.choose given) goes) where
-    goes_reached : (limit : ℕ) → x.leads.state.steps ≤ limit → (later : Answers) → play p input (limited rules limit) (d.taken ++ later) ≡ run_from p (limited rules limit) x.leads.state later
+  module _ (m new : Configuration) (c d : Choices) (s t : List ℕ)
+      (given left rest : List (List ℕ)) (most few : ℕ) (u : IsRunPrefix p input rules c s left m)
+      (x : StepsTo p.lines new (devices c (text_state s) most rules.choose []) u.state rest (turn p rules.limit u.state)
+      (devices d (text_state t) few rules.choose given) goes) where
+    goes_reached : (limit : ℕ) → x.leads.state.steps ≤ limit → (later : Answers)
+        → play p input (limited rules limit) (d.taken ++ later) ≡ run_from p (limited rules limit) x.leads.state later
     goes_reached limit within later =
         let ts = x.exchange.answers in
-        let one = laws.one_step p rules.limit u.state x.leads.state (ts ++ []) [] (ap (λ f. f []) x.leads.leaves.rest) in
+        let one = laws.one_step p rules.limit u.state x.leads.state (ts ++ []) []
+        (ap (λ f. f []) x.leads.leaves.rest) in
         let below : u.state.steps < limit = omega (arith, one.1, within) in
-        let goes_so : turn p limit u.state (ts ++ later) ≡ Done (Next x.leads.state) later = turn_below p rules.limit limit u.state (ts ++ later) one.0 below ∙ ap (λ f. f later) x.leads.leaves.rest in
+        let goes_so : turn p limit u.state (ts ++ later) ≡ Done (Next x.leads.state) later =
+        turn_below p rules.limit limit u.state (ts ++ later) one.0 below ∙ ap (λ f. f later) x.leads.leaves.rest in
         let taken : d.taken ≡ c.taken ++ ts = ap (λ y. y.taken) x.exchanges.grown in
         ap (λ a. play p input (limited rules limit) (a ++ later)) taken
         ∙ ap (play p input (limited rules limit)) (append_assoc c.taken ts later)
         ∙ u.reached limit (omega (arith, below)) (ts ++ later)
-        ∙ ap (map_outcome (λ f. f) (λ (T : State). T.shown)) (laws.by_turn p limit u.state (ts ++ later) ∙ ap (λ o. go_on o (after_step_result (turns p limit))) goes_so)
+        ∙ ap (map_outcome (λ f. f) (λ (T : State). T.shown)) (laws.by_turn p limit u.state (ts ++ later)
+        ∙ ap (λ o. go_on o (after_step_result (turns p limit))) goes_so)
 
     goes_run_prefix : IsRunPrefix p input rules d t rest new
     goes_run_prefix = record {
@@ -122,44 +145,70 @@ module _ (laws : RunLaws) (p : StoredProgram) (input : List (List ℕ)) (rules :
 
     goes_below : (m.steps < rules.limit) × (new.steps ≡ m.steps + 1)
     goes_below =
-        let e : turn p rules.limit u.state (x.exchange.answers ++ []) ≡ Done (Next x.leads.state) [] = ap (λ f. f []) x.leads.leaves.rest in
+        let e : turn p rules.limit u.state (x.exchange.answers ++ []) ≡ Done (Next x.leads.state) [] =
+        ap (λ f. f []) x.leads.leaves.rest in
         let one = laws.one_step p rules.limit u.state x.leads.state (x.exchange.answers ++ []) [] e in
         (omega (arith, one.0, u.represents.steps), omega (arith, one.1, u.represents.steps, x.leads.represents.steps))
 
   -- it ends
-  module _ (m new : Configuration) (c d : Choices) (s t : List ℕ) (given left rest : List (List ℕ)) (most few : ℕ) (u : IsRunPrefix p input rules c s left m) where
-    over_is : (e : Ending) (T : State) → Represents p.lines new T → T.shown ≡ t → (a : Answers) → from_turn p rules (ends e T a) ≡ Done (record { ending = e; steps = new.steps; shown = t }) a
-    over_is e T y h a = ap (λ (n : ℕ). Done (record { ending = e; steps = n; shown = T.shown }) a) y.steps ∙ ap (λ (b : List ℕ). Done (record { ending = e; steps = new.steps; shown = b }) a) h
+  module _ (m new : Configuration) (c d : Choices) (s t : List ℕ) (given left rest : List (List ℕ)) (most few : ℕ)
+      (u : IsRunPrefix p input rules c s left m) where
+    over_is : (e : Ending) (T : State) → Represents p.lines new T → T.shown ≡ t → (a : Answers)
+        → from_turn p rules (ends e T a) ≡ Done (record { ending = e; steps = new.steps; shown = t }) a
+    over_is e T y h a = ap (λ (n : ℕ). Done (record { ending = e; steps = n; shown = T.shown }) a) y.steps
+        ∙ ap (λ (b : List ℕ). Done (record { ending = e; steps = new.steps; shown = b }) a) h
 
     abbrev Ended : Ending → Type 0
     Ended e = Holds (play p input rules) d (λ later. Done (record { ending = e; steps = new.steps; shown = t }) later)
 
-    pub ends_so : (e : Ending) → StepsTo p.lines new (devices c (text_state s) most rules.choose []) u.state rest (turn p rules.limit u.state) (devices d (text_state t) few rules.choose given) (ends e) → (d.plan ≡ c.plan) × Ended e
+    pub ends_so : (e : Ending)
+        → StepsTo p.lines new (devices c (text_state s) most rules.choose []) u.state rest (turn p rules.limit u.state)
+        (devices d (text_state t) few rules.choose given) (ends e)
+        → (d.plan ≡ c.plan) × Ended e
     ends_so e x =
-        let h = turn_holds m new c d s t given left rest most few u (ends e) x in
-        (h.0, holds_to (play p input rules) d _ _ (over_is e x.leads.state x.leads.represents (shown_there m new c d s t given left rest most few u (ends e) x)) h.1)
+        let h = turn_holds m new c d s t given left rest most few u (ends e) x in (
+          h.0,
+          holds_to (play p input rules) d _ _ (over_is e x.leads.state x.leads.represents
+              (shown_there m new c d s t given left rest most few u (ends e) x)) h.1,
+        )
 
     -- INPUT finds no line left
-    pub ends_dry : (refuses : Pause → ℤ → Type 0) → IsOutOfLines (refused_by refuses (λ _. ⊥) (Some rest)) (StepsTo p.lines new (devices c (text_state s) most rules.choose []) u.state rest (turn p rules.limit u.state)) (devices d (text_state t) few rules.choose given) (Over endings.NoInput) → (d.plan ≡ c.plan) × Ended endings.NoInput
+    pub ends_dry : (refuses : Pause → ℤ → Type 0)
+        → IsOutOfLines (refused_by refuses (λ _. ⊥) (Some rest)) (StepsTo p.lines new
+        (devices c (text_state s) most rules.choose []) u.state rest (turn p rules.limit u.state))
+        (devices d (text_state t) few rules.choose given) (Over endings.NoInput)
+        → (d.plan ≡ c.plan) × Ended endings.NoInput
     ends_dry refuses w =
         let x = w.comes in
         let T : State = x.leads.state in
         let none : T.lines ≡ [] = x.leads.lines ∙ w.refuses in
-        let h = turn_holds m new c d s t given left rest most few u w.left x in
-        (h.0, holds_to (play p input rules) d _ _ (λ a. ap (from_turn p rules) (w.dry T a none) ∙ over_is endings.NoInput T x.leads.represents (shown_there m new c d s t given left rest most few u w.left x) a) h.1)
+        let h = turn_holds m new c d s t given left rest most few u w.left x in (
+          h.0,
+          holds_to (play p input rules) d _ _
+              (λ a. ap (from_turn p rules) (w.dry T a none) ∙ over_is endings.NoInput T x.leads.represents
+              (shown_there m new c d s t given left rest most few u w.left x) a) h.1,
+        )
 
-  module _ (m new : Configuration) (c d : Choices) (bound : ℤ) (s t : List ℕ) (given left rest : List (List ℕ)) (most few : ℕ) (u : IsRunPrefix p input rules c s left m) where
+  module _ (m new : Configuration) (c d : Choices) (bound : ℤ) (s t : List ℕ) (given left rest : List (List ℕ))
+      (most few : ℕ) (u : IsRunPrefix p input rules c s left m) where
     -- the plan's next answer is outside its bound
-    ends_outside : (k : ℤ) → AsksUnanswered (refused_by (RefusedByPlan d bound) (λ _. ⊥) (Some rest)) (StepsTo p.lines new (devices c (text_state s) most rules.choose []) u.state rest (turn p rules.limit u.state)) (devices d (text_state t) few rules.choose given) act_state (pauses.OutOfRange k) → (d.plan ≡ c.plan) × NextIsOutside (play p input rules) d bound
+    ends_outside : (k : ℤ)
+        → AsksUnanswered (refused_by (RefusedByPlan d bound) (λ _. ⊥) (Some rest)) (StepsTo p.lines new
+        (devices c (text_state s) most rules.choose []) u.state rest (turn p rules.limit u.state))
+        (devices d (text_state t) few rules.choose given) act_state (pauses.OutOfRange k)
+        → (d.plan ≡ c.plan) × NextIsOutside (play p input rules) d bound
     ends_outside k w =
         let x = w.comes in
         let T : State = x.leads.state in
         let h = turn_holds m new c d s t given left rest most few u w.left x in
         let reads = laws.reads p input rules in
         let later = w.refuses.0.0 in
-        let asks : play p input rules d.taken ≡ Asks w.bound T.shown = ap (play p input rules) (sym (append-nil d.taken)) ∙ h.1.rest [] ∙ ap (from_turn p rules) (w.question T).asks in
-        let out : play p input rules (d.taken ++ k ∷ []) ≡ Out w.bound T.shown = reads.outside d.taken w.bound k T.shown asks w.refuses.1 in
-        let all : play p input rules ((d.taken ++ k ∷ []) ++ later) ≡ Out w.bound T.shown = reads.out (d.taken ++ k ∷ []) later w.bound T.shown out in (
+        let asks : play p input rules d.taken ≡ Asks w.bound T.shown = ap (play p input rules)
+        (sym (append-nil d.taken)) ∙ h.1.rest [] ∙ ap (from_turn p rules) (w.question T).asks in
+        let out : play p input rules (d.taken ++ k ∷ []) ≡ Out w.bound T.shown =
+        reads.outside d.taken w.bound k T.shown asks w.refuses.1 in
+        let all : play p input rules ((d.taken ++ k ∷ []) ++ later) ≡ Out w.bound T.shown =
+        reads.out (d.taken ++ k ∷ []) later w.bound T.shown out in (
           h.0,
           subst (λ (n : ℤ). NextIsOutside (play p input rules) d n) (sym w.refuses.2) (record {
             next = k;
@@ -173,7 +222,11 @@ module _ (laws : RunLaws) (p : StoredProgram) (input : List (List ℕ)) (rules :
           }),
         )
 
-    ending_comes : (e : Ending) → StepComes (refused_by (RefusedByPlan d bound) (λ _. ⊥) (Some rest)) (StepsTo p.lines new (devices c (text_state s) most rules.choose []) u.state rest (turn p rules.limit u.state)) (devices d (text_state t) few rules.choose given) (Ok (Some e)) → (d.plan ≡ c.plan) × PlayEnds (play p input rules) d bound new.steps t e
+    ending_comes : (e : Ending)
+        → StepComes (refused_by (RefusedByPlan d bound) (λ _. ⊥) (Some rest)) (StepsTo p.lines new
+        (devices c (text_state s) most rules.choose []) u.state rest (turn p rules.limit u.state))
+        (devices d (text_state t) few rules.choose given) (Ok (Some e))
+        → (d.plan ≡ c.plan) × PlayEnds (play p input rules) d bound new.steps t e
     ending_comes endings.End x = ends_so m new c d s t given left rest most few u endings.End x
     ending_comes endings.Stop x = ends_so m new c d s t given left rest most few u endings.Stop x
     ending_comes endings.What x = ends_so m new c d s t given left rest most few u endings.What x
@@ -186,35 +239,75 @@ module _ (laws : RunLaws) (p : StoredProgram) (input : List (List ℕ)) (rules :
 
   -- ---- a step, by its result
 
-  pub step_goes : (m new : Configuration) (c d : Choices) (s t : List ℕ) (given left rest : List (List ℕ)) (most few : ℕ) (refused : Refusal → Type 0) (r : Result (Option Ending) RunFault) → r ≡ Ok None → IsRunPrefix p input rules c s left m → left ≡ given ++ rest → (few ≡ 0 → rest ≡ []) → Steps refused p rules.limit m new (devices c (text_state s) most rules.choose []) (devices d (text_state t) few rules.choose given) r → (d.plan ≡ c.plan) × IsRunPrefix p input rules d t rest new × ((m.steps < rules.limit) × (new.steps ≡ m.steps + 1))
+  pub step_goes : (m new : Configuration) (c d : Choices) (s t : List ℕ) (given left rest : List (List ℕ))
+      (most few : ℕ) (refused : Refusal → Type 0) (r : Result (Option Ending) RunFault)
+      → r ≡ Ok None → IsRunPrefix p input rules c s left m → left ≡ given ++ rest → (few ≡ 0 → rest ≡ [])
+      → Steps refused p rules.limit m new (devices c (text_state s) most rules.choose [])
+      (devices d (text_state t) few rules.choose given) r
+      → (d.plan ≡ c.plan) × IsRunPrefix p input rules d t rest new
+      × ((m.steps < rules.limit) × (new.steps ≡ m.steps + 1))
   step_goes m new c d s t given left rest most few refused r e u l follows steps =
-      let x = subst (λ r. StepComes refused (StepsTo p.lines new (devices c (text_state s) most rules.choose []) u.state rest (turn p rules.limit u.state)) (devices d (text_state t) few rules.choose given) r) e (steps u.state rest (record { represents = u.represents; lines = u.left_is ∙ l; follow = follows; choose = u.choose })) in
-      ((turn_holds m new c d s t given left rest most few u goes x).0, goes_run_prefix m new c d s t given left rest most few u x, goes_below m new c d s t given left rest most few u x)
+      let x = subst (λ r. StepComes refused (StepsTo p.lines new (devices c (text_state s) most rules.choose [])
+      u.state rest (turn p rules.limit u.state)) (devices d (text_state t) few rules.choose given) r) e
+      (steps u.state rest (record {
+        represents = u.represents;
+        lines = u.left_is ∙ l;
+        follow = follows;
+        choose = u.choose;
+      })) in (
+        (turn_holds m new c d s t given left rest most few u goes x).0,
+        goes_run_prefix m new c d s t given left rest
+            most few u x,
+        goes_below m new c d s t given left rest most few u x,
+      )
 
   -- ---- turns that ask nothing
 
-  turns_prefix : (n : ℕ) (old new : Configuration) (c : Choices) (s : List ℕ) (left : List (List ℕ)) → IsRunPrefix p input rules c s left old → QuietTurns p rules.limit n old new → IsRunPrefix p input rules c s left new
+  turns_prefix : (n : ℕ) (old new : Configuration) (c : Choices) (s : List ℕ) (left : List (List ℕ))
+      → IsRunPrefix p input rules c s left old → QuietTurns p rules.limit n old new
+      → IsRunPrefix p input rules c s left new
   turns_prefix zero old new c s left u same = subst (IsRunPrefix p input rules c s left) (sym same) u
   turns_prefix (suc n) old new c s left u turns =
-      (step_goes turns.0 new c c s s [] left left 1 1 nothing_refused (Ok None) refl (turns_prefix n old turns.0 c s left u turns.1) refl (λ none. absurd (omega (arith, none)))
+      (step_goes turns.0 new c c s s [] left left 1 1 nothing_refused (Ok None) refl
+      (turns_prefix n old turns.0 c s left u turns.1) refl (λ none. absurd (omega (arith, none)))
       (turns.2 (devices c (text_state s) 1 rules.choose []) refl)).1
 
   -- by a player that plays q
-  pub advanced : (q : StoredProgram) (n : ℕ) (old new : Configuration) (c : Choices) (s : List ℕ) (left : List (List ℕ)) → q ≡ p → IsRunPrefix p input rules c s left old → QuietTurns p rules.limit n old new → IsRunPrefix q input rules c s left new
-  advanced q n old new c s left same u turns = subst (λ (x : StoredProgram). IsRunPrefix x input rules c s left new) (sym same) (turns_prefix n old new c s left u turns)
+  pub advanced : (q : StoredProgram) (n : ℕ) (old new : Configuration) (c : Choices) (s : List ℕ) (left : List (List ℕ))
+      → q ≡ p → IsRunPrefix p input rules c s left old → QuietTurns p rules.limit n old new
+      → IsRunPrefix q input rules c s left new
+  advanced q n old new c s left same u turns = subst (λ (x : StoredProgram). IsRunPrefix x input rules c s left new)
+      (sym same) (turns_prefix n old new c s left u turns)
 
-  pub step_ends : (m new : Configuration) (c d : Choices) (bound : ℤ) (s t : List ℕ) (given left rest : List (List ℕ)) (most few : ℕ) (e : Ending) (r : Result (Option Ending) RunFault) → r ≡ Ok (Some e) → IsRunPrefix p input rules c s left m → left ≡ given ++ rest → (few ≡ 0 → rest ≡ []) → Steps (refused_by (RefusedByPlan d bound) (λ _. ⊥) (Some rest)) p rules.limit m new (devices c (text_state s) most rules.choose []) (devices d (text_state t) few rules.choose given) r → (d.plan ≡ c.plan) × PlayEnds (play p input rules) d bound new.steps t e
+  pub step_ends : (m new : Configuration) (c d : Choices) (bound : ℤ) (s t : List ℕ) (given left rest : List (List ℕ))
+      (most few : ℕ) (e : Ending) (r : Result (Option Ending) RunFault)
+      → r ≡ Ok (Some e) → IsRunPrefix p input rules c s left m → left ≡ given ++ rest → (few ≡ 0 → rest ≡ [])
+      → Steps (refused_by (RefusedByPlan d bound) (λ _. ⊥) (Some rest)) p rules.limit m new
+      (devices c (text_state s) most rules.choose []) (devices d (text_state t) few rules.choose given) r
+      → (d.plan ≡ c.plan) × PlayEnds (play p input rules) d bound new.steps t e
   step_ends m new c d bound s t given left rest most few e r is u l follows steps =
-      let x = subst (λ r. StepComes (refused_by (RefusedByPlan d bound) (λ _. ⊥) (Some rest)) (StepsTo p.lines new (devices c (text_state s) most rules.choose []) u.state rest (turn p rules.limit u.state)) (devices d (text_state t) few rules.choose given) r) is (steps u.state rest (record { represents = u.represents; lines = u.left_is ∙ l; follow = follows; choose = u.choose })) in
+      let x = subst (λ r. StepComes (refused_by (RefusedByPlan d bound) (λ _. ⊥) (Some rest)) (StepsTo p.lines new
+      (devices c (text_state s) most rules.choose []) u.state rest (turn p rules.limit u.state))
+      (devices d (text_state t) few rules.choose given) r) is (steps u.state rest
+      (record { represents = u.represents; lines = u.left_is ∙ l; follow = follows; choose = u.choose })) in
       ending_comes m new c d bound s t given left rest most few u e x
 
   -- a machine that isn't spent, whose bytes and lines are in memory, has no fault but want of memory
-  module _ (refuses : Pause → ℤ → Type 0) (m new : Configuration) (c d : Choices) (s t : List ℕ) (given left rest : List (List ℕ)) (most few : ℕ) (r : Result (Option Ending) RunFault) (u : IsRunPrefix p input rules c s left m) (l : left ≡ given ++ rest) (follows : few ≡ 0 → rest ≡ []) (steps : Steps (refused_by refuses (λ _. ⊥) (Some rest)) p rules.limit m new (devices c (text_state s) most rules.choose []) (devices d (text_state t) few rules.choose given) r) where
+  module _ (refuses : Pause → ℤ → Type 0) (m new : Configuration) (c d : Choices) (s t : List ℕ)
+      (given left rest : List (List ℕ)) (most few : ℕ) (r : Result (Option Ending) RunFault)
+      (u : IsRunPrefix p input rules c s left m) (l : left ≡ given ++ rest) (follows : few ≡ 0
+      → rest ≡ []) (steps : Steps (refused_by refuses (λ _. ⊥) (Some rest)) p rules.limit m new
+      (devices c (text_state s) most rules.choose []) (devices d (text_state t) few rules.choose given) r) where
     abbrev Fault : RunFault → Type 0
-    Fault f = StepComes (refused_by refuses (λ _. ⊥) (Some rest)) (StepsTo p.lines new (devices c (text_state s) most rules.choose []) u.state rest (turn p rules.limit u.state)) (devices d (text_state t) few rules.choose given) (Err f)
+    Fault f = StepComes (refused_by refuses (λ _. ⊥) (Some rest))
+        (StepsTo p.lines new (devices c (text_state s) most rules.choose []) u.state rest (turn p rules.limit u.state))
+        (devices d (text_state t) few rules.choose given) (Err f)
 
     faulted : (f : RunFault) → r ≡ Err f → Fault f
-    faulted f is = subst (λ r. StepComes (refused_by refuses (λ _. ⊥) (Some rest)) (StepsTo p.lines new (devices c (text_state s) most rules.choose []) u.state rest (turn p rules.limit u.state)) (devices d (text_state t) few rules.choose given) r) is (steps u.state rest (record { represents = u.represents; lines = u.left_is ∙ l; follow = follows; choose = u.choose }))
+    faulted f is = subst (λ r. StepComes (refused_by refuses (λ _. ⊥) (Some rest)) (StepsTo p.lines new
+        (devices c (text_state s) most rules.choose []) u.state rest (turn p rules.limit u.state))
+        (devices d (text_state t) few rules.choose given) r) is (steps u.state rest
+        (record { represents = u.represents; lines = u.left_is ∙ l; follow = follows; choose = u.choose }))
 
     pub never_unread : r ≡ Err faults.Read → ⊥
     never_unread is = let w : Fault faults.Read = faulted faults.Read is in elim w.broken.0.by [ inl x ↦ x | inr x ↦ x ]
@@ -227,16 +320,24 @@ module _ (laws : RunLaws) (p : StoredProgram) (input : List (List ℕ)) (rules :
 
 -- ---- a chooser that took the same answers
 
-pub prefix_to : (p : StoredProgram) (input : List (List ℕ)) (rules : Rules) (c d : Choices) (s t : List ℕ) (left rest : List (List ℕ)) (m : Configuration) → IsRunPrefix p input rules c s left m
-    → c.taken ≡ d.taken → d.kept ≡ Some (bounds (play p input rules) d.taken) → s ≡ t → left ≡ rest → IsRunPrefix p input rules d t rest m
+pub prefix_to : (p : StoredProgram) (input : List (List ℕ)) (rules : Rules) (c d : Choices) (s t : List ℕ)
+    (left rest : List (List ℕ)) (m : Configuration)
+    → IsRunPrefix p input rules c s left m
+    → c.taken ≡ d.taken → d.kept ≡ Some (bounds (play p input rules) d.taken) → s ≡ t → left ≡ rest
+    → IsRunPrefix p input rules d t rest m
 prefix_to p input rules c d s t left rest m u taken kept shown lines = record {
   state = u.state;
   represents = u.represents;
   shown_is = u.shown_is ∙ shown;
   left_is = u.left_is ∙ lines;
   choose = u.choose;
-  holds = record { bounds_are = kept; rest = λ later. ap (λ a. play p input rules (a ++ later)) (sym taken) ∙ u.holds.rest later };
-  reached = λ limit within later. ap (λ a. play p input (limited rules limit) (a ++ later)) (sym taken) ∙ u.reached limit within later;
+  holds = record {
+    bounds_are = kept;
+    rest = λ later. ap (λ a. play p input rules (a ++ later)) (sym taken)
+        ∙ u.holds.rest later;
+  };
+  reached = λ limit within later. ap (λ a. play p input (limited rules limit) (a ++ later)) (sym taken)
+      ∙ u.reached limit within later;
 }
 
 -- ---- what a step adds
@@ -247,11 +348,24 @@ pub record Extends (c d : Choices) (s t : List ℕ) : Type 0 where
   pub taken : d.taken ≡ c.taken ++ answers
   pub shown : t ≡ s ++ bytes
 
-module _ (p : StoredProgram) (input : List (List ℕ)) (rules : Rules) (m new : Configuration) (c d : Choices) (s t : List ℕ) (given left rest : List (List ℕ)) (most few : ℕ) (refused : Refusal → Type 0) (u : IsRunPrefix p input rules c s left m) where
-  turn_extends : (g : State → Answers → Outcome StepResult State) → StepsTo p.lines new (devices c (text_state s) most rules.choose []) u.state rest (turn p rules.limit u.state) (devices d (text_state t) few rules.choose given) g → Extends c d s t
-  turn_extends g x = record { answers = x.exchange.answers; bytes = x.exchange.bytes; taken = ap (λ y. y.taken) x.exchanges.grown; shown = x.exchanges.shows.shown }
+module _ (p : StoredProgram) (input : List (List ℕ)) (rules : Rules) (m new : Configuration)
+    (c d : Choices) (s t : List ℕ) (given left rest : List (List ℕ)) (most few : ℕ) (refused : Refusal
+    → Type 0) (u : IsRunPrefix p input rules c s left m) where
+  turn_extends : (g : State → Answers → Outcome StepResult State)
+      → StepsTo p.lines new (devices c (text_state s) most rules.choose []) u.state rest (turn p rules.limit u.state)
+      (devices d (text_state t) few rules.choose given) g
+      → Extends c d s t
+  turn_extends g x = record {
+    answers = x.exchange.answers;
+    bytes = x.exchange.bytes;
+    taken = ap (λ y. y.taken) x.exchanges.grown;
+    shown = x.exchanges.shows.shown;
+  }
 
-  ending_extends : (e : Ending) → StepComes refused (StepsTo p.lines new (devices c (text_state s) most rules.choose []) u.state rest (turn p rules.limit u.state)) (devices d (text_state t) few rules.choose given) (Ok (Some e)) → Extends c d s t
+  ending_extends : (e : Ending)
+      → StepComes refused (StepsTo p.lines new (devices c (text_state s) most rules.choose []) u.state rest
+      (turn p rules.limit u.state)) (devices d (text_state t) few rules.choose given) (Ok (Some e))
+      → Extends c d s t
   ending_extends endings.End x = turn_extends (ends endings.End) x
   ending_extends endings.Stop x = turn_extends (ends endings.Stop) x
   ending_extends endings.What x = turn_extends (ends endings.What) x
@@ -262,11 +376,21 @@ module _ (p : StoredProgram) (input : List (List ℕ)) (rules : Rules) (m new : 
   ending_extends endings.NoAnswer w = turn_extends w.left w.comes
   ending_extends endings.BadAnswer w = turn_extends w.1.left w.1.comes
 
-  pub step_extends : (o : Option Ending) (r : Result (Option Ending) RunFault) → r ≡ Ok o → left ≡ given ++ rest → (few ≡ 0 → rest ≡ []) → Steps refused p rules.limit m new (devices c (text_state s) most rules.choose []) (devices d (text_state t) few rules.choose given) r → Extends c d s t
+  pub step_extends : (o : Option Ending) (r : Result (Option Ending) RunFault) → r ≡ Ok o → left ≡ given ++ rest
+      → (few ≡ 0 → rest ≡ [])
+      → Steps refused p rules.limit m new (devices c (text_state s) most rules.choose [])
+      (devices d (text_state t) few rules.choose given) r
+      → Extends c d s t
   step_extends None r is l follows steps =
-      turn_extends goes (subst (λ r. StepComes refused (StepsTo p.lines new (devices c (text_state s) most rules.choose []) u.state rest (turn p rules.limit u.state)) (devices d (text_state t) few rules.choose given) r) is (steps u.state rest (record { represents = u.represents; lines = u.left_is ∙ l; follow = follows; choose = u.choose })))
+      turn_extends goes (subst (λ r. StepComes refused (StepsTo p.lines new
+      (devices c (text_state s) most rules.choose []) u.state rest (turn p rules.limit u.state))
+      (devices d (text_state t) few rules.choose given) r) is (steps u.state rest
+      (record { represents = u.represents; lines = u.left_is ∙ l; follow = follows; choose = u.choose })))
   step_extends (Some e) r is l follows steps =
-      ending_extends e (subst (λ r. StepComes refused (StepsTo p.lines new (devices c (text_state s) most rules.choose []) u.state rest (turn p rules.limit u.state)) (devices d (text_state t) few rules.choose given) r) is (steps u.state rest (record { represents = u.represents; lines = u.left_is ∙ l; follow = follows; choose = u.choose })))
+      ending_extends e (subst (λ r. StepComes refused (StepsTo p.lines new
+      (devices c (text_state s) most rules.choose []) u.state rest (turn p rules.limit u.state))
+      (devices d (text_state t) few rules.choose given) r) is (steps u.state rest
+      (record { represents = u.represents; lines = u.left_is ∙ l; follow = follows; choose = u.choose })))
 
 -- where a list can give no line, none is left
 pub none_follow : (s : LineList) → length s.lines - s.taken ≡ 0 → drop s.taken s.lines ≡ []
@@ -276,10 +400,13 @@ none_follow s none = nothing (drop s.taken s.lines) (omega (arith, none, length-
   nothing (l ∷ ls) e = absurd (omega (arith, e))
 
 -- lines that were taken were there
-pub taken_within : (s t : LineList) (xs : List (List ℕ)) → Gives s xs t → s.taken ≤ length s.lines → t.taken ≤ length s.lines
+pub taken_within : (s t : LineList) (xs : List (List ℕ)) → Gives s xs t → s.taken ≤ length s.lines
+    → t.taken ≤ length s.lines
 taken_within s t xs gives l =
     omega (arith, l, gives.counted, sym (length-drop s.taken s.lines) ∙ ap length gives.first ∙ length-append xs _)
 
 -- the runs of a program have the laws of what takes answers one by one
-pub program_laws : (laws : RunLaws) (p : StoredProgram) (input : List (List ℕ)) (rules : Rules) → TreeLaws (play p input rules) (most_answers p input rules.limit)
-program_laws laws p input rules = tree_laws (play p input rules) (most_answers p input rules.limit) (laws.reads p input rules)
+pub program_laws : (laws : RunLaws) (p : StoredProgram) (input : List (List ℕ)) (rules : Rules)
+    → TreeLaws (play p input rules) (most_answers p input rules.limit)
+program_laws laws p input rules = tree_laws (play p input rules) (most_answers p input rules.limit)
+    (laws.reads p input rules)

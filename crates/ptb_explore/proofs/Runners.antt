@@ -14,40 +14,53 @@ use Rattle.ptb_explore.specs.Copies.{AreCopies, more_played, play_limit}
 use Rattle.ptb_explore.specs.Explorations.{IsAdded, IsPlayed, IsSameGame}
 
 -- a step leaves all but the trial and the copies
-pub stepped : (r s : Runner) (player : StoredProgram) (t u : Recorder) (c d : Copies) → player ≡ r.player → r ≡ record s { trial = t; copies = c } → record r { player = player; trial = u; copies = d } ≡ record s { trial = u; copies = d }
-stepped r s player t u c d same h = ap (λ q. record r { player = q; trial = u; copies = d }) same ∙ ap (λ (q : Runner). record q { trial = u; copies = d }) h
+pub stepped : (r s : Runner) (player : StoredProgram) (t u : Recorder) (c d : Copies) → player ≡ r.player
+    → r ≡ record s { trial = t; copies = c }
+    → record r { player = player; trial = u; copies = d } ≡ record s { trial = u; copies = d }
+stepped r s player t u c d same h = ap (λ q. record r { player = q; trial = u; copies = d }) same
+    ∙ ap (λ (q : Runner). record q { trial = u; copies = d }) h
 
 -- so it plays the same,
-pub still_same : (n s : Runner) (x : Report) → n ≡ record s { trial = n.trial; report = x; copies = n.copies } → IsSameGame s n
+pub still_same : (n s : Runner) (x : Report) → n ≡ record s { trial = n.trial; report = x; copies = n.copies }
+    → IsSameGame s n
 still_same n s x h =
-    h ∙ ap₂ (λ y k. record s { trial = n.trial; report = y; copies = n.copies; played = k }) (sym (ap (λ (r : Runner). r.report) h)) (sym (ap (λ (r : Runner). r.played) h))
+    h ∙ ap₂ (λ y k. record s { trial = n.trial; report = y; copies = n.copies; played = k })
+    (sym (ap (λ (r : Runner). r.report) h)) (sym (ap (λ (r : Runner). r.played) h))
 
 -- also where the report is made, and commands are counted
-pub reported : (n s : Runner) (x y : Report) (d : Copies) (k : ℕ) → n ≡ record s { trial = n.trial; report = x; copies = n.copies } → record n { report = y; copies = d; played = k } ≡ record s { trial = n.trial; report = y; copies = d; played = k }
+pub reported : (n s : Runner) (x y : Report) (d : Copies) (k : ℕ)
+    → n ≡ record s { trial = n.trial; report = x; copies = n.copies }
+    → record n { report = y; copies = d; played = k } ≡ record s { trial = n.trial; report = y; copies = d; played = k }
 reported n s x y d k h = ap (λ (r : Runner). record r { report = y; copies = d; played = k }) h
 
-pub counted : (n r s : Runner) (x y : Report) (d : Copies) → n ≡ record r { trial = n.trial; copies = n.copies; played = n.played } → r ≡ record s { trial = r.trial; report = x; copies = r.copies }
+pub counted : (n r s : Runner) (x y : Report) (d : Copies)
+    → n ≡ record r { trial = n.trial; copies = n.copies; played = n.played }
+    → r ≡ record s { trial = r.trial; report = x; copies = r.copies }
     → record n { report = y; copies = d } ≡ record s { trial = n.trial; report = y; copies = d; played = n.played }
 counted n r s x y d h g =
     ap (λ (q : Runner). record q { report = y; copies = d }) h
     ∙ ap (λ (q : Runner). record q { trial = n.trial; report = y; copies = d; played = n.played }) g
 
-pub changed : (n s : Runner) (t : Recorder) (y : Report) (d : Copies) → IsSameGame s n → record n { trial = t; report = y; copies = d } ≡ record s { trial = t; report = y; copies = d; played = n.played }
+pub changed : (n s : Runner) (t : Recorder) (y : Report) (d : Copies) → IsSameGame s n
+    → record n { trial = t; report = y; copies = d } ≡ record s { trial = t; report = y; copies = d; played = n.played }
 changed n s t y d h = ap (λ (q : Runner). record q { trial = t; report = y; copies = d; played = n.played }) h
 
 -- ---- the same program, lines and rules
 
-module _ (p q : StoredProgram) (input lines : List (List ℕ)) (rules others : Rules) (player : q ≡ p) (same : lines ≡ input) (by : others ≡ rules) where
+module _ (p q : StoredProgram) (input lines : List (List ℕ)) (rules others : Rules) (player : q ≡ p)
+    (same : lines ≡ input) (by : others ≡ rules) where
   pub game_is : play q lines others ≡ play p input rules
   game_is = rw (player, same, by) refl
 
-  pub copies_stay : (t u : Answers) (w v : List ℕ) (ks js : List KeptCopy) → u ≡ t → v ≡ w → js ≡ ks → AreCopies p input rules t w ks → AreCopies q lines others u v js
+  pub copies_stay : (t u : Answers) (w v : List ℕ) (ks js : List KeptCopy) → u ≡ t → v ≡ w → js ≡ ks
+      → AreCopies p input rules t w ks → AreCopies q lines others u v js
   copies_stay t u w v ks js c d e h = rw (player, same, by, c, d, e) h
 
 -- ---- what was played
 
 -- where nothing was played before
-pub added_alone : (game : Answers → Outcome Finish (List ℕ)) (a : Answers) (old new : ℕ) → old ≡ 0 → IsAdded game a old new → IsPlayed game a new
+pub added_alone : (game : Answers → Outcome Finish (List ℕ)) (a : Answers) (old new : ℕ) → old ≡ 0
+    → IsAdded game a old new → IsPlayed game a new
 added_alone game a old new none h f is =
     let x = h f is in
     x.0 ∙ ap (λ n. more_played n f.steps) none ∙ few f.steps x.1

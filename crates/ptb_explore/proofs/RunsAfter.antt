@@ -1,6 +1,8 @@
--- This file proves what a listing has left, and that one that begins after a run resumes where one that ended with it stopped.
+-- This file proves what a listing has left, and that one that begins after a run resumes where one that ended with it
+-- stopped.
 -- Main lemma: `listing_laws`.
-use Rattle.std.proofs.Common.{◌≡◌, ℕ, List, [], ◌∷◌, ◌++◌, Bool, true, false, ◌↔◌, inl, refl, sym, ap, ◌∙◌, append_assoc}
+use Rattle.std.proofs.Common.{◌≡◌, ℕ, List, [], ◌∷◌, ◌++◌, Bool, true, false, ◌↔◌, inl, refl, sym}
+use Rattle.std.proofs.Common.{ap, ◌∙◌, append_assoc}
 use Rattle.std.specs.Prelude.{Contains}
 use Rattle.std.specs.List.{filter, AllByRecursion}
 use Rattle.std.proofs.lemmas.Bool.{false_from_ne_true}
@@ -17,7 +19,8 @@ filter-all p [] h = refl
 filter-all p (x ∷ xs) h = rw h.0 (ap (λ s. x ∷ s) (filter-all p xs h.1))
 
 -- in a rising list, what is after a member comes after it
-filter-behind : (xs ys : List Answers) (r : Answers) → IsRising (xs ++ r ∷ ys) → filter (is_before r) (xs ++ r ∷ ys) ≡ ys
+filter-behind : (xs ys : List Answers) (r : Answers) → IsRising (xs ++ r ∷ ys)
+    → filter (is_before r) (xs ++ r ∷ ys) ≡ ys
 filter-behind [] ys r up =
     let self : is_before r r ≡ false = false_from_ne_true _ (λ t. before_self r t) in
     rw self (filter-all (is_before r) ys up.0)
@@ -26,19 +29,25 @@ filter-behind (x ∷ xs) ys r up =
     let back : is_before r x ≡ false = false_from_ne_true _ (λ t. before_not_back x r below t) in
     rw back (filter-behind xs ys r up.1)
 
-text-append : (report : Answers → List ℕ) (xs ys : List Answers) → text report (xs ++ ys) ≡ text report xs ++ text report ys
+text-append : (report : Answers → List ℕ) (xs ys : List Answers)
+    → text report (xs ++ ys) ≡ text report xs ++ text report ys
 text-append report [] ys = refl
-text-append report (x ∷ xs) ys = ap (λ s. report x ++ s) (text-append report xs ys) ∙ sym (append_assoc (report x) (text report xs) (text report ys))
+text-append report (x ∷ xs) ys = ap (λ s. report x ++ s) (text-append report xs ys)
+    ∙ sym (append_assoc (report x) (text report xs) (text report ys))
 
 module _ {A W : Type 0} (play : Answers → Outcome A W) (most : ℕ) (reads : IsReader play most) where
-  behind : (front back : List Answers) (r : Answers) → tree play most ≡ front ++ r ∷ back → runs_after play most [] (At r) ≡ back
-  behind front back r e = ap (filter (is_before r)) e ∙ filter-behind front back r (rw e at (tree_rises play most reads))
+  behind : (front back : List Answers) (r : Answers) → tree play most ≡ front ++ r ∷ back
+      → runs_after play most [] (At r) ≡ back
+  behind front back r e = ap (filter (is_before r)) e
+      ∙ filter-behind front back r (rw e at (tree_rises play most reads))
 
-  left : (under : Answers) (f : Front) (a : Answers) → Contains (runs_after play most under f) a ↔ (IsRun play a × (is_left under f a ≡ true))
+  left : (under : Answers) (f : Front) (a : Answers)
+      → Contains (runs_after play most under f) a ↔ (IsRun play a × (is_left under f a ≡ true))
   left under f a =
       let all = tree play most in
       let listed = runs_after play most under f in (
-        λ c. let i = filter_in (is_left under f) a all (contained_in a listed c) in ((tree_runs play most reads a).0 i.0, i.1),
+        λ c. let i = filter_in (is_left under f) a all (contained_in a listed c) in
+            ((tree_runs play most reads a).0 i.0, i.1),
         λ h. in_contained a listed (in_filter (is_left under f) a all ((tree_runs play most reads a).1 h.0) h.1),
       )
 

@@ -1,6 +1,8 @@
 -- This file proves the laws of samples, and how the reports that are written and those that are left make up a sample.
 -- Main lemma: `sample_laws`.
-use Rattle.std.proofs.Common.{◌≡◌, ℕ, zero, suc, ◌+◌, ◌-◌, ◌<◌, List, [], ◌∷◌, ◌++◌, length, take, drop, Option, refl, ap, sym, ◌∙◌, arith, append_assoc, append-nil, length-append, inl, inr, subst}
+use Rattle.std.proofs.Common.{◌≡◌, ℕ, zero, suc, ◌+◌, ◌-◌, ◌<◌, List, [], ◌∷◌, ◌++◌, length, take}
+use Rattle.std.proofs.Common.{drop, Option, refl, ap, sym, ◌∙◌, arith, append_assoc, append-nil}
+use Rattle.std.proofs.Common.{length-append, inl, inr, subst}
 use Rattle.std.proofs.lemmas.List.Concat.{flat_map-append}
 use Rattle.std.proofs.lemmas.List.{take-append-drop}
 use Rattle.std.specs.Io.KnownBytes.{Appends}
@@ -40,10 +42,13 @@ module _ {A W : Type 0} (play : Answers → Outcome A W) (most : ℕ) (reads : I
     by_place g (suc n) a (inl is) = subst (IsRun play) (sym is) ((answers_by-drawn most g play reads).run)
     by_place g (suc n) a (inr later) = by_place (after_run g) n a later
 
-  sample_first : (g : Lcg) (a : Answers) (n : ℕ) → IsDrawnFrom g play a → sampled_runs most play g (suc n) ≡ a ∷ sampled_runs most play (generator_after g (length a)) n
-  sample_first g a n drawn = ap (λ (b : Answers). b ∷ sampled_runs most play (generator_after g (length b)) n) (sym (drawn_alone most g play a reads drawn))
+  sample_first : (g : Lcg) (a : Answers) (n : ℕ) → IsDrawnFrom g play a
+      → sampled_runs most play g (suc n) ≡ a ∷ sampled_runs most play (generator_after g (length a)) n
+  sample_first g a n drawn = ap (λ (b : Answers). b ∷ sampled_runs most play (generator_after g (length b)) n)
+      (sym (drawn_alone most g play a reads drawn))
 
-  sample_words : (g : Lcg) (n : ℕ) → concatenated (sampled_runs most play g n) ≡ drawn_from g (flat_map (bounds play) (sampled_runs most play g n))
+  sample_words : (g : Lcg) (n : ℕ)
+      → concatenated (sampled_runs most play g n) ≡ drawn_from g (flat_map (bounds play) (sampled_runs most play g n))
   sample_words g zero = refl
   sample_words g (suc n) =
       let a : Answers = run_by g in
@@ -51,47 +56,66 @@ module _ {A W : Type 0} (play : Answers → Outcome A W) (most : ℕ) (reads : I
       let size : length a ≡ length (bounds play a) = sym (length-bounds play [] a) in
       ap (λ (l : Answers). l ++ concatenated others) (answers_by-drawn most g play reads).drawn
       ∙ ap (λ (l : Answers). drawn_from g (bounds play a) ++ l) (sample_words (after_run g) n)
-      ∙ ap (λ (k : ℕ). drawn_from g (bounds play a) ++ drawn_from (generator_after g k) (flat_map (bounds play) others)) size
+      ∙ ap (λ (k : ℕ). drawn_from g (bounds play a) ++ drawn_from (generator_after g k) (flat_map (bounds play) others))
+      size
       ∙ sym (drawn_append g (bounds play a) (flat_map (bounds play) others))
 
-  sample_more : (g : Lcg) (m n : ℕ) → sampled_runs most play g (m + n) ≡ sampled_runs most play g m ++ sampled_runs most play (generator_after g (length (concatenated (sampled_runs most play g m)))) n
+  sample_more : (g : Lcg) (m n : ℕ)
+      → sampled_runs most play g (m + n) ≡ sampled_runs most play g m ++ sampled_runs most play
+      (generator_after g (length (concatenated (sampled_runs most play g m)))) n
   sample_more g zero n =
       let none : zero + n ≡ n = omega arith in
       ap (sampled_runs most play g) none
   sample_more g (suc m) n =
       let one : suc m + n ≡ suc (m + n) = omega arith in
       let others : List Answers = sampled_runs most play (after_run g) m in
-      let used : length (run_by g ++ concatenated others) ≡ length (run_by g) + length (concatenated others) = length-append (run_by g) (concatenated others) in
+      let used : length (run_by g ++ concatenated others) ≡ length (run_by g) + length (concatenated others) =
+      length-append (run_by g) (concatenated others) in
       ap (sampled_runs most play g) one
       ∙ ap (λ (l : List Answers). run_by g ∷ l) (sample_more (after_run g) m n)
-      ∙ ap (λ (h : Lcg). run_by g ∷ (others ++ sampled_runs most play h n)) (sym (after_sum g (length (run_by g)) (length (concatenated others))) ∙ ap (generator_after g) (sym used))
+      ∙ ap (λ (h : Lcg). run_by g ∷ (others ++ sampled_runs most play h n))
+      (sym (after_sum g (length (run_by g)) (length (concatenated others))) ∙ ap (generator_after g) (sym used))
 
   pub sample_laws : SampleLaws play most
-  sample_laws = record { count = sample_count; runs = sample_runs; first = sample_first; words = sample_words; more = sample_more }
+  sample_laws = record {
+    count = sample_count;
+    runs = sample_runs;
+    first = sample_first;
+    words = sample_words;
+    more = sample_more;
+  }
 
 -- ---- what is written
 
 -- some reports are written, and with what the generator draws for those that remain they are the sample
-pub record Sampled {A W : Type 0} (play : Answers → Outcome A W) (most : ℕ) (report : Answers → List ℕ) (first : Lcg) (runs : ℕ) (g : Lcg) (remaining : ℕ) (old new : Option (List ℕ)) : Type 0 where
+pub record Sampled {A W : Type 0} (play : Answers → Outcome A W) (most : ℕ) (report : Answers
+    → List ℕ) (first : Lcg) (runs : ℕ) (g : Lcg) (remaining : ℕ) (old new : Option (List ℕ)) : Type 0 where
   pub done : List Answers
   pub split : sampled_runs most play first runs ≡ done ++ sampled_runs most play g remaining
   pub told : Appends old new (text report done)
   pub count : length done + remaining ≡ runs
 
-module _ {A W : Type 0} (play : Answers → Outcome A W) (most : ℕ) (report : Answers → List ℕ) (first : Lcg) (runs : ℕ) (old : Option (List ℕ)) where
+module _ {A W : Type 0} (play : Answers → Outcome A W) (most : ℕ) (report : Answers
+    → List ℕ) (first : Lcg) (runs : ℕ) (old : Option (List ℕ)) where
   text_push : (done : List Answers) (a : Answers) → text report done ++ report a ≡ text report (done ++ a ∷ [])
-  text_push done a = sym (flat_map-append report done (a ∷ []) ∙ ap (λ x. text report done ++ x) (append-nil (report a)))
+  text_push done a =
+      sym (flat_map-append report done (a ∷ []) ∙ ap (λ x. text report done ++ x) (append-nil (report a)))
 
   module _ (g : Lcg) (new : Option (List ℕ)) where
     abbrev next_run : Answers
     next_run = answers_by most g play
 
-    sampled_more : (remaining : ℕ) (h : Lcg) (new' : Option (List ℕ)) → Sampled play most report first runs g (suc remaining) old new → h ≡ generator_after g (length next_run) → Appends new new' (report next_run)
+    sampled_more : (remaining : ℕ) (h : Lcg) (new' : Option (List ℕ))
+        → Sampled play most report first runs g (suc remaining) old new → h ≡ generator_after g (length next_run)
+        → Appends new new' (report next_run)
         → Sampled play most report first runs h remaining old new'
     sampled_more remaining h new' p after w = record {
       done = p.done ++ next_run ∷ [];
-      split = p.split ∙ sym (append_assoc p.done (next_run ∷ []) (sampled_runs most play (generator_after g (length next_run)) remaining)) ∙ ap (λ (x : Lcg). (p.done ++ next_run ∷ []) ++ sampled_runs most play x remaining) (sym after);
-      told = subst (Appends old new') (text_push p.done next_run) (Appends-trans old new new' (text report p.done) (report next_run) p.told w);
+      split = p.split ∙ sym
+          (append_assoc p.done (next_run ∷ []) (sampled_runs most play (generator_after g (length next_run)) remaining))
+          ∙ ap (λ (x : Lcg). (p.done ++ next_run ∷ []) ++ sampled_runs most play x remaining) (sym after);
+      told = subst (Appends old new') (text_push p.done next_run)
+          (Appends-trans old new new' (text report p.done) (report next_run) p.told w);
       count = let l = length-append p.done (next_run ∷ []) in let k = p.count in omega (arith, l, k);
     }
 
@@ -99,7 +123,8 @@ module _ {A W : Type 0} (play : Answers → Outcome A W) (most : ℕ) (report : 
     some_left zero more none = absurd (omega (arith, more))
     some_left (suc remaining) more none = absurd cc
 
-    pub sampled_some : (remaining n : ℕ) → 0 < remaining → Sampled play most report first runs g remaining old new → n ≡ runs - remaining → WritesFirst report (sampled_runs most play first runs) old new n
+    pub sampled_some : (remaining n : ℕ) → 0 < remaining → Sampled play most report first runs g remaining old new
+        → n ≡ runs - remaining → WritesFirst report (sampled_runs most play first runs) old new n
     sampled_some remaining n more p is = record {
       beginning = p.done;
       rest = sampled_runs most play g remaining;
@@ -109,7 +134,9 @@ module _ {A W : Type 0} (play : Answers → Outcome A W) (most : ℕ) (report : 
       count = let k = p.count in omega (arith, is, k);
     }
 
-    pub sampled_part : (remaining n : ℕ) (new' : Option (List ℕ)) → 0 < remaining → Sampled play most report first runs g remaining old new → n ≡ runs - remaining → TakesSome new new' (report next_run) → WritesPart report (sampled_runs most play first runs) old new' n
+    pub sampled_part : (remaining n : ℕ) (new' : Option (List ℕ)) → 0 < remaining
+        → Sampled play most report first runs g remaining old new → n ≡ runs - remaining
+        → TakesSome new new' (report next_run) → WritesPart report (sampled_runs most play first runs) old new' n
     sampled_part zero n new' more p is part = absurd (omega (arith, more))
     sampled_part (suc remaining) n new' more p is part = record {
       beginning = p.done;
@@ -124,16 +151,26 @@ module _ {A W : Type 0} (play : Answers → Outcome A W) (most : ℕ) (report : 
     }
 
     -- one run fewer remains
-    pub sampled_next : (remaining fewer : ℕ) (h : Lcg) (new' : Option (List ℕ)) → 0 < remaining → fewer ≡ remaining - 1 → Sampled play most report first runs g remaining old new → h ≡ generator_after g (length next_run) → Appends new new' (report next_run)
+    pub sampled_next : (remaining fewer : ℕ) (h : Lcg) (new' : Option (List ℕ)) → 0 < remaining → fewer ≡ remaining - 1
+        → Sampled play most report first runs g remaining old new → h ≡ generator_after g (length next_run)
+        → Appends new new' (report next_run)
         → Sampled play most report first runs h fewer old new'
     sampled_next zero fewer h new' more e p after w = absurd (omega (arith, more))
     sampled_next (suc remaining) fewer h new' more e p after w =
         let same : fewer ≡ remaining = omega (arith, e) in
-        subst (λ (k : ℕ). Sampled play most report first runs h k old new') (sym same) (sampled_more remaining h new' p after w)
+        subst (λ (k : ℕ). Sampled play most report first runs h k old new') (sym same)
+        (sampled_more remaining h new' p after w)
 
   -- where memory is refused before the first run, some run was to be sampled
   pub refused_at_first : (runs ≡ 0 → ⊥) → WritesFirst report (sampled_runs most play first runs) old old 0
   refused_at_first some = by_count runs some where
     by_count : (n : ℕ) → (n ≡ 0 → ⊥) → WritesFirst report (sampled_runs most play first n) old old 0
     by_count zero h = absurd (h refl)
-    by_count (suc n) h = record { beginning = []; rest = sampled_runs most play first (suc n); split = refl; some_left = λ none. absurd cc; bytes = Appends-nil old; count = refl }
+    by_count (suc n) h = record {
+      beginning = [];
+      rest = sampled_runs most play first (suc n);
+      split = refl;
+      some_left = λ none. absurd cc;
+      bytes = Appends-nil old;
+      count = refl;
+    }

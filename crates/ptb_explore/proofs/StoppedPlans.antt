@@ -1,6 +1,8 @@
 -- This file proves that a plan that stops after n answers is played to a run of what is stopped there.
 -- Main lemma: `beginning_ends`.
-use Rattle.std.proofs.Common.{◌≡◌, ℕ, zero, suc, ◌-◌, ◌≤◌, List, [], ◌∷◌, ◌++◌, length, take, drop, replicate, Some, true, false, refl, ap, sym, subst, ◌∙◌, arith, append_assoc, append-nil, length-append}
+use Rattle.std.proofs.Common.{◌≡◌, ℕ, zero, suc, ◌-◌, ◌≤◌, List, [], ◌∷◌, ◌++◌, length, take, drop}
+use Rattle.std.proofs.Common.{replicate, Some, true, false, refl, ap, sym, subst, ◌∙◌, arith}
+use Rattle.std.proofs.Common.{append_assoc, append-nil, length-append}
 use Rattle.std.specs.Prelude.{ℤ, pos, ◌+ℤ◌, int_le, slice_index_or}
 use Rattle.std.proofs.lemmas.Bool.{and_from}
 use Rattle.std.proofs.lemmas.Int.{ints}
@@ -50,7 +52,8 @@ one_cut y m t e (Short x s h) = not_nil t s x h
 one_cut y m t e (Ones j l h) = Ones (suc j) (omega (arith, l)) (ap (λ z. z ∷ t) (sym e) ∙ ap (λ z. pos 1 ∷ z) h)
 one_cut y m t e (Long s h) = Long s (ap (λ z. z ∷ t) (sym e) ∙ ap (λ z. pos 1 ∷ z) h)
 
-cut_taken : (plan : Answers) (m : ℕ) (t rest later : Answers) → plan ++ replicate m (pos 1) ++ pos 0 ∷ later ≡ t ++ rest → Cut plan m t
+cut_taken : (plan : Answers) (m : ℕ) (t rest later : Answers) → plan ++ replicate m (pos 1) ++ pos 0 ∷ later ≡ t ++ rest
+    → Cut plan m t
 cut_taken [] m [] rest later e = Ones 0 (omega arith) refl
 cut_taken [] zero (y ∷ t) rest later e = Long t (ap (λ z. z ∷ t) (sym (head_is (pos 0) y later (t ++ rest) e)))
 cut_taken [] (suc m) (y ∷ t) rest later e =
@@ -77,14 +80,16 @@ one_next y x m t e (InPlan s h) = not_nil t s x h
 one_next y x m t e (IsOne h) = IsOne h
 one_next y x m t e (IsNone h) = IsNone (ap (λ z. z ∷ t) (sym e) ∙ ap (λ z. pos 1 ∷ z) h)
 
-next_is : (plan : Answers) (m : ℕ) (t later : Answers) (x : ℤ) → plan ++ replicate m (pos 1) ++ pos 0 ∷ [] ≡ t ++ x ∷ later → Next plan m t x
+next_is : (plan : Answers) (m : ℕ) (t later : Answers) (x : ℤ)
+    → plan ++ replicate m (pos 1) ++ pos 0 ∷ [] ≡ t ++ x ∷ later → Next plan m t x
 next_is [] zero [] later x e = IsNone refl
 next_is [] zero (y ∷ t) later x e = not_nil t later x (tail_is (pos 0) y [] (t ++ x ∷ later) e)
 next_is [] (suc m) [] later x e = IsOne (sym (head_is (pos 1) x (replicate m (pos 1) ++ pos 0 ∷ []) later e))
 next_is [] (suc m) (y ∷ t) later x e =
     one_next y x m t (head_is (pos 1) y (replicate m (pos 1) ++ pos 0 ∷ []) (t ++ x ∷ later) e)
     (next_is [] m t later x (tail_is (pos 1) y (replicate m (pos 1) ++ pos 0 ∷ []) (t ++ x ∷ later) e))
-next_is (p ∷ plan) m [] later x e = InPlan plan (ap (λ z. z ∷ plan) (head_is p x (plan ++ replicate m (pos 1) ++ pos 0 ∷ []) later e))
+next_is (p ∷ plan) m [] later x e =
+    InPlan plan (ap (λ z. z ∷ plan) (head_is p x (plan ++ replicate m (pos 1) ++ pos 0 ∷ []) later e))
 next_is (p ∷ plan) m (y ∷ t) later x e =
     more_next p y x plan m t (head_is p y (plan ++ replicate m (pos 1) ++ pos 0 ∷ []) (t ++ x ∷ later) e)
     (next_is plan m t later x (tail_is p y (plan ++ replicate m (pos 1) ++ pos 0 ∷ []) (t ++ x ∷ later) e))
@@ -97,7 +102,8 @@ whole_unit (Done x (k ∷ rest)) h = absurd cc
 whole_unit (Asks n w) h = absurd cc
 whole_unit (Out n w) h = absurd cc
 
-module _ (play : Answers → Outcome Finish (List ℕ)) (most : ℕ) (reads : IsReader play most) (n : ℕ) (plan : Answers) (fits : length plan ≤ n) (opens : is_open (stopped n play plan) ≡ true)
+module _ (play : Answers → Outcome Finish (List ℕ)) (most : ℕ) (reads : IsReader play most) (n : ℕ) (plan : Answers)
+    (fits : length plan ≤ n) (opens : is_open (stopped n play plan) ≡ true)
     (r : Recorder) (planned : take r.planned r.answers.items ≡ stopping_plan n plan) where
   abbrev taken : Answers
   taken = take (length r.bounds.items) r.answers.items
@@ -113,9 +119,11 @@ module _ (play : Answers → Outcome Finish (List ℕ)) (most : ℕ) (reads : Is
       let later : Answers = replicate (r.answers.len - r.planned) (pos 1) in
       let all : r.answers.items ≡ plan ++ replicate ones (pos 1) ++ pos 0 ∷ later =
       r.later_one ∙ ap (λ p. p ++ later) planned ∙ append_assoc (plan ++ replicate ones (pos 1)) (pos 0 ∷ []) later in
-      cut_taken plan ones taken (drop (length r.bounds.items) r.answers.items) later (sym all ∙ sym (take-append-drop (length r.bounds.items) r.answers.items))
+      cut_taken plan ones taken (drop (length r.bounds.items) r.answers.items) later
+      (sym all ∙ sym (take-append-drop (length r.bounds.items) r.answers.items))
 
-  ends_with : (j : ℕ) → j ≤ ones → taken ≡ plan ++ replicate j (pos 1) → IsRun (stopped n play) taken → r.bounds.items ≡ bounds play taken → PlanEndsWith (stopped n play) plan taken r.bounds.items tt
+  ends_with : (j : ℕ) → j ≤ ones → taken ≡ plan ++ replicate j (pos 1) → IsRun (stopped n play) taken
+      → r.bounds.items ≡ bounds play taken → PlanEndsWith (stopped n play) plan taken r.bounds.items tt
   ends_with j l e run b = record {
     ones = replicate j (pos 1);
     all_ones = all_ones j;
@@ -125,40 +133,61 @@ module _ (play : Answers → Outcome Finish (List ℕ)) (most : ℕ) (reads : Is
   }
 
   -- it came to an end
-  ended : (result : Finish) → Holds play (choices_of r) (λ later. Done result later) → PlanEndsWith (stopped n play) plan taken r.bounds.items tt
+  ended : (result : Finish) → Holds play (choices_of r) (λ later. Done result later)
+      → PlanEndsWith (stopped n play) plan taken r.bounds.items tt
   ended result h = by_cut cut
     where
       done : play taken ≡ Done result []
       done = ap play (sym (append-nil taken)) ∙ h.rest []
 
       by_cut : Cut plan ones taken → PlanEndsWith (stopped n play) plan taken r.bounds.items tt
-      by_cut (Short x s e) = absurd (run_closes play most reads taken s x result done (subst (λ a. is_open (play a) ≡ true) e open_plan))
+      by_cut (Short x s e) =
+          absurd (run_closes play most reads taken s x result done (subst (λ a. is_open (play a) ≡ true) e open_plan))
       by_cut (Ones j l e) =
-          let few : length taken ≤ n = omega (arith, ap length e, length-append plan (replicate j (pos 1)), length-replicate j (pos 1), l, fits) in
+          let few : length taken ≤ n = omega (
+            arith,
+            ap length e,
+            length-append plan (replicate j (pos 1)),
+            length-replicate j (pos 1),
+            l,
+            fits,
+          ) in
           let theirs : r.bounds.items ≡ bounds play taken = (let k = h.bounds_are in cc) in
           ends_with j l e (whole_run play n most reads taken few (ap is_whole done)) theirs
       by_cut (Long s e) =
-          let asked = run_asks play most reads (plan ++ replicate ones (pos 1)) s (pos 0) (subst (λ a. IsRun play a) e (ap is_whole done)) in
+          let asked = run_asks play most reads (plan ++ replicate ones (pos 1)) s (pos 0)
+          (subst (λ a. IsRun play a) e (ap is_whole done)) in
           let none : is_answer asked.0 (pos 0) ≡ true = asked.3 in
           absurd cc
 
   -- it was stopped
-  stopped_there : NextIsOutside play (choices_of r) r.refused_bound → PlanEndsWith (stopped n play) plan taken r.bounds.items tt
+  stopped_there : NextIsOutside play (choices_of r) r.refused_bound
+      → PlanEndsWith (stopped n play) plan taken r.bounds.items tt
   stopped_there h = by_next (next_is plan ones taken h.later h.next (sym planned ∙ h.plan_is))
     where
       by_next : Next plan ones taken h.next → PlanEndsWith (stopped n play) plan taken r.bounds.items tt
-      by_next (InPlan s e) = absurd (out_closes play most reads plan taken s h.next r.refused_bound h.beside e h.asks h.outside open_plan)
+      by_next (InPlan s e) =
+          absurd (out_closes play most reads plan taken s h.next r.refused_bound h.beside e h.asks h.outside open_plan)
       by_next (IsOne e) =
           let least = reads.positive taken r.refused_bound h.beside h.asks in
-          let one : is_answer r.refused_bound (pos 1) ≡ true = and_from (int_le (pos 1) (pos 1)) (int_le (pos 1) r.refused_bound) refl (grind (arith, ints)) in
+          let one : is_answer r.refused_bound (pos 1) ≡ true =
+          and_from (int_le (pos 1) (pos 1)) (int_le (pos 1) r.refused_bound) refl (grind (arith, ints)) in
           let other : is_answer r.refused_bound (pos 1) ≡ false = ap (is_answer r.refused_bound) (sym e) ∙ h.outside in
           absurd cc
       by_next (IsNone e) =
-          let all : length taken ≡ n = omega (arith, ap length e, length-append plan (replicate ones (pos 1)), length-replicate ones (pos 1), fits) in
+          let all : length taken ≡ n = omega (
+            arith,
+            ap length e,
+            length-append plan (replicate ones (pos 1)),
+            length-replicate ones (pos 1),
+            fits,
+          ) in
           let theirs : r.bounds.items ≡ bounds play taken = (let k = h.bounds_are in cc) in
           ends_with ones (omega arith) e (asking_run play n most reads taken r.refused_bound h.beside all h.asks) theirs
 
-  pub beginning_ends : (steps : ℕ) (shown : List ℕ) (e : Ending) → PlayEnds play (choices_of r) r.refused_bound steps shown e → PlanEndsWith (stopped n play) plan taken r.bounds.items tt
+  pub beginning_ends : (steps : ℕ) (shown : List ℕ) (e : Ending)
+      → PlayEnds play (choices_of r) r.refused_bound steps shown e
+      → PlanEndsWith (stopped n play) plan taken r.bounds.items tt
   beginning_ends steps shown endings.End h = ended _ h
   beginning_ends steps shown endings.Stop h = ended _ h
   beginning_ends steps shown endings.What h = ended _ h
@@ -173,9 +202,11 @@ module _ (play : Answers → Outcome Finish (List ℕ)) (most : ℕ) (reads : Is
 
 module _ (play : Answers → Outcome Finish (List ℕ)) (most : ℕ) (reads : IsReader play most) (n : ℕ) where
   -- it has at most n answers, and those that it has in common with the list before
-  pub plan_fits : (position : Position) (answers plan : Answers) (bounded : List ℤ) (i : ℕ) → IsPosition (stopped n play) [] position answers bounded → PlansNext [] position answers bounded plan (Some i)
+  pub plan_fits : (position : Position) (answers plan : Answers) (bounded : List ℤ) (i : ℕ)
+      → IsPosition (stopped n play) [] position answers bounded → PlansNext [] position answers bounded plan (Some i)
       → (length plan ≤ n) × (i ≤ length plan)
-  plan_fits AtStart answers plan bounded i s p = let none : length plan ≡ 0 = ap length p.1 in (omega (arith, none), omega (arith, p.0))
+  plan_fits AtStart answers plan bounded i s p = let none : length plan ≡ 0 = ap length p.1 in
+      (omega (arith, none), omega (arith, p.0))
   plan_fits AtRun answers plan bounded i s p =
       let within = p.0.within in
       let few = run_within play n most reads answers s.0 in
@@ -185,14 +216,28 @@ module _ (play : Answers → Outcome Finish (List ℕ)) (most : ℕ) (reads : Is
       (omega (arith, within, few, front, size, both), omega (arith, within, front, size, both))
   plan_fits AtEnd answers plan bounded i s p = absurd p
 
-  pub beginning_agrees : (position : Position) (answers plan : Answers) (bounded : List ℤ) (i : ℕ) → IsPosition (stopped n play) [] position answers bounded → PlansNext [] position answers bounded plan (Some i)
+  pub beginning_agrees : (position : Position) (answers plan : Answers) (bounded : List ℤ) (i : ℕ)
+      → IsPosition (stopped n play) [] position answers bounded → PlansNext [] position answers bounded plan (Some i)
       → Agrees play i plan answers bounded
   beginning_agrees AtStart answers plan bounded i s p = rw p.0 (omega arith, refl, refl)
   beginning_agrees AtRun answers plan bounded i s p =
-      let b = plan_begins [] answers plan bounded i p in
-      (b.0, b.1, ap (take i) (s.1 ∙ bounds_within play n [] answers (omega (arith, run_within play n most reads answers s.0))))
+      let b = plan_begins [] answers plan bounded i p in (
+        b.0,
+        b.1,
+        ap (take i)
+            (s.1 ∙ bounds_within play n [] answers (omega (arith, run_within play n most reads answers s.0))),
+      )
   beginning_agrees AtEnd answers plan bounded i s p = absurd p
 
 -- the plan that stops begins as the plan does
-pub stopping_agrees : (play : Answers → Outcome Finish (List ℕ)) (n i : ℕ) (plan answers stopping : Answers) (bounded : List ℤ) → i ≤ length plan → stopping ≡ stopping_plan n plan → Agrees play i plan answers bounded → Agrees play i stopping answers bounded
-stopping_agrees play n i plan answers stopping bounded l e h = (h.0, ap (take i) e ∙ take-append-le i (plan ++ replicate (n - length plan) (pos 1)) (pos 0 ∷ []) (omega (arith, l, length-append plan (replicate (n - length plan) (pos 1)))) ∙ take-append-le i plan (replicate (n - length plan) (pos 1)) l ∙ h.1, h.2)
+pub stopping_agrees : (play : Answers → Outcome Finish (List ℕ)) (n i : ℕ) (plan answers stopping : Answers)
+    (bounded : List ℤ)
+    → i ≤ length plan → stopping ≡ stopping_plan n plan → Agrees play i plan answers bounded
+    → Agrees play i stopping answers bounded
+stopping_agrees play n i plan answers stopping bounded l e h = (
+  h.0,
+  ap (take i) e ∙ take-append-le i (plan ++ replicate (n - length plan) (pos 1))
+      (pos 0 ∷ []) (omega (arith, l, length-append plan (replicate (n - length plan) (pos 1))))
+      ∙ take-append-le i plan (replicate (n - length plan) (pos 1)) l ∙ h.1,
+  h.2,
+)

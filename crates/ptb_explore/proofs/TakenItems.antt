@@ -1,6 +1,7 @@
 -- This file proves which of the items of a list that is played are taken, and which bounds are seen then.
 -- Main lemma: `takes_items`.
-use Rattle.std.proofs.Common.{◌≡◌, ◌⊎◌, inl, inr, ℕ, ◌+◌, ◌<◌, ◌≤◌, List, [], ◌∷◌, ◌++◌, length, take, drop, true, false, refl, ap, sym, subst, ◌∙◌, arith, append-nil}
+use Rattle.std.proofs.Common.{◌≡◌, ◌⊎◌, inl, inr, ℕ, ◌+◌, ◌<◌, ◌≤◌, List, [], ◌∷◌, ◌++◌, length}
+use Rattle.std.proofs.Common.{take, drop, true, false, refl, ap, sym, subst, ◌∙◌, arith, append-nil}
 use Rattle.std.specs.Prelude.{ℤ, Some, slice_index_or}
 use Rattle.std.proofs.lemmas.List.{append_cancel_left, length-take-le}
 use Rattle.std.proofs.Math.Seq.{take-length}
@@ -15,11 +16,13 @@ use Rattle.ptb_explore.specs.Mismatch.{IsOutOfRange, IsOver, TakesItems}
 use Rattle.ptb_explore.specs.MarkedRuns.{states_bounds}
 use Rattle.ptb_explore.specs.PlannedPlays.{Holds, PlayEnds, NextIsOutside}
 use Rattle.ptb_explore.specs.Recorders.{choices_of}
-use Rattle.ptb_explore.proofs.Mismatches.{HasBounds, answers_length, answers_split, answers_take, no_question, out_of_range, split_there, take_twice}
+use Rattle.ptb_explore.proofs.Mismatches.{HasBounds, answers_length, answers_split, answers_take}
+use Rattle.ptb_explore.proofs.Mismatches.{no_question, out_of_range, split_there, take_twice}
 use Rattle.ptb_explore.proofs.Trial.{begun_opens, open_ends}
 
 -- the plan of the recorder is the answers of a list, and it has come to this ending
-module _ (play : Answers → Outcome Finish (List ℕ)) (r : Recorder) (steps : ℕ) (shown : List ℕ) (most : ℕ) (reads : IsReader play most) (list : List Marked) (planned : take r.planned r.answers.items ≡ answers_of list) where
+module _ (play : Answers → Outcome Finish (List ℕ)) (r : Recorder) (steps : ℕ) (shown : List ℕ) (most : ℕ)
+    (reads : IsReader play most) (list : List Marked) (planned : take r.planned r.answers.items ≡ answers_of list) where
   abbrev plan : Answers
   plan = answers_of list
 
@@ -30,14 +33,19 @@ module _ (play : Answers → Outcome Finish (List ℕ)) (r : Recorder) (steps : 
   plan_count = answers_length list
 
   -- all items were taken
-  module _ (all : length list ≤ count) (e : Ending) (h : PlayEnds play (choices_of r) r.refused_bound steps shown e) where
+  module _ (all : length list ≤ count) (e : Ending)
+      (h : PlayEnds play (choices_of r) r.refused_bound steps shown e) where
     begun : (is_open (play plan) ≡ true) × (take (length plan) r.bounds.items ≡ bounds play plan)
     begun = begun_opens play r steps shown most reads plan planned (omega (arith, plan_count)) e h
 
     pub has_all : HasBounds play plan r.bounds.items
     has_all =
         let x = open_ends play r steps shown most reads plan planned begun.0 e h in
-        record { later = x.ones; run = ap is_whole (ap play (sym x.answers_are) ∙ x.outcome); bounds_are = x.bounds_are ∙ ap (bounds play) x.answers_are }
+        record {
+          later = x.ones;
+          run = ap is_whole (ap play (sym x.answers_are) ∙ x.outcome);
+          bounds_are = x.bounds_are ∙ ap (bounds play) x.answers_are;
+        }
 
     pub takes_all : TakesItems play list r.bounds.items (length list)
     takes_all =
@@ -55,12 +63,15 @@ module _ (play : Answers → Outcome Finish (List ℕ)) (r : Recorder) (steps : 
     taken = take count r.answers.items
 
     planned_count : length plan ≡ r.planned
-    planned_count = sym (ap length planned) ∙ length-take-le r.planned r.answers.items (omega (arith, r.within, r.answers.ok.0))
+    planned_count = sym (ap length planned) ∙ length-take-le r.planned r.answers.items
+        (omega (arith, r.within, r.answers.ok.0))
 
     first_taken : answers_of (take count list) ≡ taken
-    first_taken = sym (answers_take count list) ∙ ap (take count) (sym planned) ∙ take_twice count r.planned r.answers.items (omega (arith, planned_count, plan_count))
+    first_taken = sym (answers_take count list) ∙ ap (take count) (sym planned)
+        ∙ take_twice count r.planned r.answers.items (omega (arith, planned_count, plan_count))
 
-    takes_open : is_open (play taken) ≡ true → Some r.bounds.items ≡ Some (bounds play taken) → TakesItems play list r.bounds.items count
+    takes_open : is_open (play taken) ≡ true → Some r.bounds.items ≡ Some (bounds play taken)
+        → TakesItems play list r.bounds.items count
     takes_open opens are =
         let same : r.bounds.items ≡ bounds play taken = cc in
         record {
@@ -73,13 +84,15 @@ module _ (play : Answers → Outcome Finish (List ℕ)) (r : Recorder) (steps : 
     ended_run : (result : Finish) → Holds play (choices_of r) (λ later. Done result later) → play taken ≡ Done result []
     ended_run result h = ap play (sym (append-nil taken)) ∙ h.rest []
 
-    takes_ended : (result : Finish) → Holds play (choices_of r) (λ later. Done result later) → TakesItems play list r.bounds.items count
+    takes_ended : (result : Finish) → Holds play (choices_of r) (λ later. Done result later)
+        → TakesItems play list r.bounds.items count
     takes_ended result h = takes_open (ap is_open (ended_run result h)) h.bounds_are
 
     takes_outside : (bound : ℤ) → NextIsOutside play (choices_of r) bound → TakesItems play list r.bounds.items count
     takes_outside bound h = takes_open (ap is_open h.asks) h.bounds_are
 
-    takes_some : (e : Ending) → PlayEnds play (choices_of r) r.refused_bound steps shown e → TakesItems play list r.bounds.items count
+    takes_some : (e : Ending) → PlayEnds play (choices_of r) r.refused_bound steps shown e
+        → TakesItems play list r.bounds.items count
     takes_some endings.End h = takes_ended _ h
     takes_some endings.Stop h = takes_ended _ h
     takes_some endings.What h = takes_ended _ h
@@ -92,22 +105,28 @@ module _ (play : Answers → Outcome Finish (List ℕ)) (r : Recorder) (steps : 
 
     module _ (d : Marked) (states : states_bounds (take count list) r.bounds.items ≡ true) where
       -- its answer is out of range
-      pub stops_outside : NextIsOutside play (choices_of r) r.refused_bound → IsOutOfRange play list (count + 1) (slice_index_or list count d).answer r.refused_bound
+      pub stops_outside : NextIsOutside play (choices_of r) r.refused_bound
+          → IsOutOfRange play list (count + 1) (slice_index_or list count d).answer r.refused_bound
       stops_outside h =
           let next = (slice_index_or list count d).answer in
           let rest = answers_of (drop (count + 1) list) in
           let split : plan ≡ taken ++ next ∷ rest =
-          ap answers_of (split_there list count d less) ∙ answers_split (take count list) (drop (count + 1) list) (slice_index_or list count d) ∙ ap (λ (t : Answers). t ++ next ∷ rest) first_taken in
-          let tails : h.next ∷ h.later ≡ next ∷ rest = append_cancel_left taken (h.next ∷ h.later) (next ∷ rest) (sym h.plan_is ∙ planned ∙ split) in
+          ap answers_of (split_there list count d less) ∙ answers_split (take count list) (drop (count + 1) list)
+          (slice_index_or list count d) ∙ ap (λ (t : Answers). t ++ next ∷ rest) first_taken in
+          let tails : h.next ∷ h.later ≡ next ∷ rest =
+          append_cancel_left taken (h.next ∷ h.later) (next ∷ rest) (sym h.plan_is ∙ planned ∙ split) in
           let same : h.next ≡ next = cc in
-          out_of_range play most reads list r.bounds.items count (takes_outside _ h) d less states r.refused_bound h.beside
+          out_of_range play most reads list r.bounds.items count (takes_outside _ h) d less states r.refused_bound
+          h.beside
           (ap play first_taken ∙ h.asks) (subst (λ (k : ℤ). is_answer r.refused_bound k ≡ false) same h.outside)
 
       -- the run is over before it
       stops_ended : (result : Finish) → Holds play (choices_of r) (λ later. Done result later) → IsOver play list count
-      stops_ended result h = no_question play most reads list r.bounds.items count (takes_ended result h) d less states (ap is_whole (ap play first_taken ∙ ended_run result h))
+      stops_ended result h = no_question play most reads list r.bounds.items count (takes_ended result h) d less states
+          (ap is_whole (ap play first_taken ∙ ended_run result h))
 
-      pub stops_over : (e : Ending) → (e ≡ endings.BadAnswer → ⊥) → PlayEnds play (choices_of r) r.refused_bound steps shown e → IsOver play list count
+      pub stops_over : (e : Ending) → (e ≡ endings.BadAnswer → ⊥)
+          → PlayEnds play (choices_of r) r.refused_bound steps shown e → IsOver play list count
       stops_over endings.End other h = stops_ended _ h
       stops_over endings.Stop other h = stops_ended _ h
       stops_over endings.What other h = stops_ended _ h
@@ -120,6 +139,7 @@ module _ (play : Answers → Outcome Finish (List ℕ)) (r : Recorder) (steps : 
 
   -- as many were taken as there are bounds, or all
   pub takes_items : (n : ℕ) → ((n ≡ length list) × (length list ≤ count)) ⊎ ((n ≡ count) × (count < length list))
-      → (e : Ending) → PlayEnds play (choices_of r) r.refused_bound steps shown e → TakesItems play list r.bounds.items n
+      → (e : Ending) → PlayEnds play (choices_of r) r.refused_bound steps shown e
+      → TakesItems play list r.bounds.items n
   takes_items n (inl all) e h = subst (TakesItems play list r.bounds.items) (sym all.0) (takes_all all.1 e h)
   takes_items n (inr some) e h = subst (TakesItems play list r.bounds.items) (sym some.0) (takes_some some.1 e h)

@@ -1,6 +1,9 @@
--- This file proves that the tree has the runs and nothing else, in rising order, and that none of its runs continues from another.
+-- This file proves that the tree has the runs and nothing else, in rising order, and that none of its runs continues
+-- from another.
 -- Main lemma: `tree_laws`.
-use Rattle.std.proofs.Common.{◌≡◌, ℕ, zero, suc, ◌+◌, ◌≤◌, [], ◌∷◌, ◌++◌, length, true, false, ◌↔◌, inl, inr, refl, ap, sym, ◌∙◌, arith, append_assoc, append-nil, length-append}
+use Rattle.std.proofs.Common.{◌≡◌, ℕ, zero, suc, ◌+◌, ◌≤◌, [], ◌∷◌, ◌++◌, length, true, false, ◌↔◌}
+use Rattle.std.proofs.Common.{inl, inr, refl, ap, sym, ◌∙◌, arith, append_assoc, append-nil}
+use Rattle.std.proofs.Common.{length-append}
 use Rattle.std.specs.Prelude.{ℤ}
 use Rattle.std.proofs.lemmas.Bool.{cases_Bool}
 use Rattle.std.specs.List.{flat_map}
@@ -16,7 +19,8 @@ module _ {A W : Type 0} (play : Answers → Outcome A W) where
   leaves-done zero q rest x e = ap (leaves_of q _) e
   leaves-done (suc d) q rest x e = ap (leaves_of q _) e
 
-  leaves-asks : (d : ℕ) (q : Answers) (n : ℤ) (w : W) → play q ≡ Asks n w → leaves play q (suc d) ≡ flat_map (λ k. leaves play (q ++ k ∷ []) d) (answers_to n)
+  leaves-asks : (d : ℕ) (q : Answers) (n : ℤ) (w : W) → play q ≡ Asks n w
+      → leaves play q (suc d) ≡ flat_map (λ k. leaves play (q ++ k ∷ []) d) (answers_to n)
   leaves-asks d q n w e = ap (leaves_of q _) e
 
   leaves-spent : (q : Answers) (n : ℤ) (w : W) → play q ≡ Asks n w → leaves play q 0 ≡ []
@@ -34,10 +38,12 @@ module _ {A W : Type 0} (play : Answers → Outcome A W) (most : ℕ) (reads : I
   ]
 
   -- each answer of a run is asked for, inside its bound
-  pub run_asks : (q b : Answers) (k : ℤ) → IsRun play (q ++ k ∷ b) → (n : ℤ) × (w : W) × (play q ≡ Asks n w) × (is_answer n k ≡ true)
+  pub run_asks : (q b : Answers) (k : ℤ) → IsRun play (q ++ k ∷ b)
+      → (n : ℤ) × (w : W) × (play q ≡ Asks n w) × (is_answer n k ≡ true)
   run_asks q b k r = elim (open_is (play q) (run_open q (k ∷ b) r)) [
     | inl d ↦ let e = reads.done q (k ∷ b) [] d.0 d.1 in let w = whole_is (play (q ++ k ∷ b)) r in absurd cc
-    | inr d ↦ (d.0, d.1, d.2, elim (cases_Bool (is_answer d.0 k)) [ inl i ↦ i | inr o ↦ absurd (not_outside d.0 d.1 d.2 o) ])
+    | inr d ↦
+        (d.0, d.1, d.2, elim (cases_Bool (is_answer d.0 k)) [ inl i ↦ i | inr o ↦ absurd (not_outside d.0 d.1 d.2 o) ])
   ]
     where
       not_outside : (n : ℤ) (w : W) → play q ≡ Asks n w → is_answer n k ≡ false → ⊥
@@ -50,13 +56,20 @@ module _ {A W : Type 0} (play : Answers → Outcome A W) (most : ℕ) (reads : I
   run_apart q b k r t = let p = run_asks q b k t in let w = whole_is (play q) r in absurd cc
 
   -- what is below q begins with q, and is a run
-  pub leaf_begins : (d : ℕ) (q a : Answers) → is_open (play q) ≡ true → IsIn a (leaves play q d) → (b : Answers) × (a ≡ q ++ b)
+  pub leaf_begins : (d : ℕ) (q a : Answers) → is_open (play q) ≡ true → IsIn a (leaves play q d)
+      → (b : Answers) × (a ≡ q ++ b)
   leaf_begins zero q a o h = elim (open_is (play q) o) [
-    | inl d ↦ elim (rw (leaves-done play 0 q [] d.0 d.1) at h) [ inl e ↦ ([], e ∙ sym (append-nil q)) | inr f ↦ absurd f ]
+    | inl d ↦ elim (rw (leaves-done play 0 q [] d.0 d.1) at h) [
+      | inl e ↦ ([], e ∙ sym (append-nil q))
+      | inr f ↦ absurd f
+    ]
     | inr d ↦ absurd (rw (leaves-spent play q d.0 d.1 d.2) at h)
   ]
   leaf_begins (suc m) q a o h = elim (open_is (play q) o) [
-    | inl d ↦ elim (rw (leaves-done play (suc m) q [] d.0 d.1) at h) [ inl e ↦ ([], e ∙ sym (append-nil q)) | inr f ↦ absurd f ]
+    | inl d ↦ elim (rw (leaves-done play (suc m) q [] d.0 d.1) at h) [
+      | inl e ↦ ([], e ∙ sym (append-nil q))
+      | inr f ↦ absurd f
+    ]
     | inr d ↦
         let i = in_answers _ a d.0 (rw (leaves-asks play m q d.0 d.1 d.2) at h) in
         let p = leaf_begins m (q ++ i.0 ∷ []) a (reads.inside q d.0 i.0 d.1 d.2 i.1) i.2 in
@@ -76,7 +89,8 @@ module _ {A W : Type 0} (play : Answers → Outcome A W) (most : ℕ) (reads : I
   ]
 
   -- each run that begins with q is below q
-  pub run_is_leaf : (d : ℕ) (q b : Answers) → most ≤ length q + d → IsRun play (q ++ b) → IsIn (q ++ b) (leaves play q d)
+  pub run_is_leaf : (d : ℕ) (q b : Answers) → most ≤ length q + d → IsRun play (q ++ b)
+      → IsIn (q ++ b) (leaves play q d)
   run_is_leaf d q [] l r =
       let w = whole_is (play (q ++ [])) r in
       let e : play q ≡ Done w.0 [] = ap play (sym (append-nil q)) ∙ w.1 in
@@ -112,7 +126,10 @@ module _ {A W : Type 0} (play : Answers → Outcome A W) (most : ℕ) (reads : I
 
   pub tree_laws : TreeLaws play most
   tree_laws = record {
-    runs = λ a. (λ c. (tree_runs a).0 (contained_in a (tree play most) c), λ r. in_contained a (tree play most) ((tree_runs a).1 r));
+    runs = λ a. (
+      λ c. (tree_runs a).0 (contained_in a (tree play most) c),
+      λ r. in_contained a (tree play most) ((tree_runs a).1 r),
+    );
     order = tree_rises;
     few = reads.few;
     apart = λ a later k. run_apart a later k;

@@ -1,6 +1,8 @@
 -- This file proves what a recorder holds once its plan was played.
 -- Main lemma: `open_ends`.
-use Rattle.std.proofs.Common.{◌≡◌, ℕ, zero, suc, ◌-◌, ◌≤◌, List, [], ◌∷◌, ◌++◌, length, take, drop, replicate, true, false, refl, ap, sym, ◌∙◌, arith, append-nil, length-append}
+use Rattle.std.proofs.Common.{◌≡◌, ℕ, zero, suc, ◌-◌, ◌≤◌, List, [], ◌∷◌, ◌++◌, length, take, drop}
+use Rattle.std.proofs.Common.{replicate, true, false, refl, ap, sym, ◌∙◌, arith, append-nil}
+use Rattle.std.proofs.Common.{length-append}
 use Rattle.std.proofs.lemmas.List.{length-take-le, take-append-drop, take-append-le}
 use Rattle.std.proofs.Math.Seq.{take-length}
 use Rattle.std.specs.Prelude.{ℤ, pos}
@@ -23,7 +25,8 @@ take_twice (suc m) zero xs l = absurd (omega arith)
 take_twice (suc m) (suc n) [] l = refl
 take_twice (suc m) (suc n) (x ∷ xs) l = ap (λ r. x ∷ r) (take_twice m n xs (omega arith))
 
-module _ {A W : Type 0} (play : Answers → Outcome A W) (r : Recorder) (result : A) (h : Holds play (choices_of r) (λ later. Done result later)) where
+module _ {A W : Type 0} (play : Answers → Outcome A W) (r : Recorder) (result : A)
+    (h : Holds play (choices_of r) (λ later. Done result later)) where
   taken_bounds : r.bounds.items ≡ bounds play (take (length r.bounds.items) r.answers.items)
   taken_bounds = let k = h.bounds_are in cc
 
@@ -33,13 +36,16 @@ module _ {A W : Type 0} (play : Answers → Outcome A W) (r : Recorder) (result 
     planned_within = omega (arith, r.within, r.answers.ok.0);
     count_within = omega (arith, r.bounded, r.answers.ok.0, r.bounds.ok.0);
     all_with_ones = λ l. omega (arith, r.at_end, r.answers.ok.0, r.bounds.ok.0);
-    ones_after = r.later_one ∙ ap (λ n. take r.planned r.answers.items ++ replicate (n - r.planned) (pos 1)) r.answers.ok.0;
+    ones_after = r.later_one ∙ ap (λ n. take r.planned r.answers.items ++ replicate (n - r.planned) (pos 1))
+        r.answers.ok.0;
     came = ap play (sym (append-nil (take (length r.bounds.items) r.answers.items))) ∙ h.rest [];
   }
 
   -- a plan that is open was played to its end
-  pub trial_ends : (most : ℕ) → IsReader play most → is_open (play (take r.planned r.answers.items)) ≡ true → PlanEndsWith play (take r.planned r.answers.items) r.answers.items r.bounds.items result
-  trial_ends most reads o = ends_at play most reads (take r.planned r.answers.items) r.answers.items r.planned (length r.bounds.items) result recorder_took r.bounds.items o taken_bounds
+  pub trial_ends : (most : ℕ) → IsReader play most → is_open (play (take r.planned r.answers.items)) ≡ true
+      → PlanEndsWith play (take r.planned r.answers.items) r.answers.items r.bounds.items result
+  trial_ends most reads o = ends_at play most reads (take r.planned r.answers.items) r.answers.items r.planned
+      (length r.bounds.items) result recorder_took r.bounds.items o taken_bounds
 
 -- ---- by the ending
 
@@ -51,16 +57,23 @@ pub result_is : {A W : Type 0} (x y : A) (a b : Answers) → ◌≡◌ {A = Outc
 result_is x y a b e = cc
 
 -- a recorder that has a bound for each of its answers gave them all
-pub all_given : {A W : Type 0} (play : Answers → Outcome A W) (r : Recorder) → r.bounds.items ≡ bounds play r.answers.items → (choices_of r).taken ≡ r.answers.items
-all_given play r e = ap (λ n. take n r.answers.items) (ap length e ∙ length-bounds play [] r.answers.items) ∙ take-length r.answers.items
+pub all_given : {A W : Type 0} (play : Answers → Outcome A W) (r : Recorder)
+    → r.bounds.items ≡ bounds play r.answers.items → (choices_of r).taken ≡ r.answers.items
+all_given play r e = ap (λ n. take n r.answers.items) (ap length e ∙ length-bounds play [] r.answers.items)
+    ∙ take-length r.answers.items
 
-module _ (play : Answers → Outcome Finish (List ℕ)) (r : Recorder) (steps : ℕ) (shown : List ℕ) (most : ℕ) (reads : IsReader play most) (plan : Answers) (planned : take r.planned r.answers.items ≡ plan) where
+module _ (play : Answers → Outcome Finish (List ℕ)) (r : Recorder) (steps : ℕ) (shown : List ℕ) (most : ℕ)
+    (reads : IsReader play most) (plan : Answers) (planned : take r.planned r.answers.items ≡ plan) where
   module _ (opens : is_open (play plan) ≡ true) where
-    ended_so : (e : Ending) → Holds play (choices_of r) (λ later. Done (record { ending = e; steps = steps; shown = shown }) later) → PlanEndsWith play plan r.answers.items r.bounds.items (record { ending = e; steps = steps; shown = shown })
-    ended_so e h = rw (← planned) (trial_ends play r (record { ending = e; steps = steps; shown = shown }) h most reads (rw planned opens))
+    ended_so : (e : Ending)
+        → Holds play (choices_of r) (λ later. Done (record { ending = e; steps = steps; shown = shown }) later)
+        → PlanEndsWith play plan r.answers.items r.bounds.items (record { ending = e; steps = steps; shown = shown })
+    ended_so e h = rw (← planned) (trial_ends play r (record { ending = e; steps = steps; shown = shown }) h most reads
+        (rw planned opens))
 
     -- a plan that is open is played to an end
-    pub open_ends : (e : Ending) → PlayEnds play (choices_of r) r.refused_bound steps shown e → PlanEndsWith play plan r.answers.items r.bounds.items (record { ending = e; steps = steps; shown = shown })
+    pub open_ends : (e : Ending) → PlayEnds play (choices_of r) r.refused_bound steps shown e
+        → PlanEndsWith play plan r.answers.items r.bounds.items (record { ending = e; steps = steps; shown = shown })
     open_ends endings.End h = ended_so endings.End h
     open_ends endings.Stop h = ended_so endings.Stop h
     open_ends endings.What h = ended_so endings.What h
@@ -82,19 +95,37 @@ module _ (play : Answers → Outcome Finish (List ℕ)) (r : Recorder) (steps : 
         let same : r.planned ≡ length r.answers.items = omega (arith, n, ap length planned, alone) in
         sym (ap (λ n. take n r.answers.items) same ∙ take-length r.answers.items) ∙ planned
 
-    whole_so : (e : Ending) → Holds play (choices_of r) (λ later. Done (record { ending = e; steps = steps; shown = shown }) later) → IsRun play plan × (r.answers.items ≡ plan) × (r.bounds.items ≡ bounds play plan) × (play plan ≡ Done (record { ending = e; steps = steps; shown = shown }) [])
+    whole_so : (e : Ending)
+        → Holds play (choices_of r) (λ later. Done (record { ending = e; steps = steps; shown = shown }) later)
+        → IsRun play plan × (r.answers.items ≡ plan) × (r.bounds.items ≡ bounds play plan)
+        × (play plan ≡ Done (record { ending = e; steps = steps; shown = shown }) [])
     whole_so e h =
         let n : length r.bounds.items ≡ length r.answers.items = omega (arith, taken, alone) in
-        let all : take (length r.bounds.items) r.answers.items ≡ plan = ap (λ n. take n r.answers.items) n ∙ take-length r.answers.items ∙ all_planned in
-        let came : play plan ≡ Done (record { ending = e; steps = steps; shown = shown }) [] = ap play (sym (append-nil plan)) ∙ ap (λ t. play (t ++ [])) (sym all) ∙ h.rest [] in
-        (ap is_whole came, all_planned, taken_bounds play r (record { ending = e; steps = steps; shown = shown }) h ∙ ap (bounds play) all, came)
+        let all : take (length r.bounds.items) r.answers.items ≡ plan =
+        ap (λ n. take n r.answers.items) n ∙ take-length r.answers.items ∙ all_planned in
+        let came : play plan ≡ Done (record { ending = e; steps = steps; shown = shown }) [] =
+        ap play (sym (append-nil plan)) ∙ ap (λ t. play (t ++ [])) (sym all) ∙ h.rest [] in (
+          ap is_whole came,
+          all_planned,
+          taken_bounds play r (record { ending = e; steps = steps; shown = shown }) h
+              ∙ ap (bounds play) all,
+          came,
+        )
 
     too_long : (next : ℤ) (later : Answers) → plan ≡ take (length r.bounds.items) r.answers.items ++ next ∷ later → ⊥
     too_long next later e =
         let within : length r.bounds.items ≤ length r.answers.items = omega (arith, taken, alone) in
-        omega (arith, ap length e, length-append (take (length r.bounds.items) r.answers.items) (next ∷ later), length-take-le (length r.bounds.items) r.answers.items within, taken)
+        omega (
+          arith,
+          ap length e,
+          length-append (take (length r.bounds.items) r.answers.items) (next ∷ later),
+          length-take-le (length r.bounds.items) r.answers.items within,
+          taken,
+        )
 
-    pub whole_plan : (e : Ending) → PlayEnds play (choices_of r) r.refused_bound steps shown e → IsRun play plan × (r.answers.items ≡ plan) × (r.bounds.items ≡ bounds play plan) × (play plan ≡ Done (record { ending = e; steps = steps; shown = shown }) [])
+    pub whole_plan : (e : Ending) → PlayEnds play (choices_of r) r.refused_bound steps shown e
+        → IsRun play plan × (r.answers.items ≡ plan) × (r.bounds.items ≡ bounds play plan)
+        × (play plan ≡ Done (record { ending = e; steps = steps; shown = shown }) [])
     whole_plan endings.End h = whole_so endings.End h
     whole_plan endings.Stop h = whole_so endings.Stop h
     whole_plan endings.What h = whole_so endings.What h
@@ -109,25 +140,31 @@ module _ (play : Answers → Outcome Finish (List ℕ)) (r : Recorder) (steps : 
   module _ (all : length plan ≤ length r.bounds.items) where
     begun_plan : plan ≡ take (length plan) r.answers.items
     begun_plan =
-        let n : length (take r.planned r.answers.items) ≡ r.planned = length-take-le r.planned r.answers.items (omega (arith, r.within, r.answers.ok.0)) in
+        let n : length (take r.planned r.answers.items) ≡ r.planned =
+        length-take-le r.planned r.answers.items (omega (arith, r.within, r.answers.ok.0)) in
         sym planned ∙ ap (λ k. take k r.answers.items) (sym n ∙ ap length planned)
 
-    begun_so : (result : Finish) → Holds play (choices_of r) (λ later. Done result later) → (is_open (play plan) ≡ true) × (take (length plan) r.bounds.items ≡ bounds play plan)
+    begun_so : (result : Finish) → Holds play (choices_of r) (λ later. Done result later)
+        → (is_open (play plan) ≡ true) × (take (length plan) r.bounds.items ≡ bounds play plan)
     begun_so result h =
         let taken = take (length r.bounds.items) r.answers.items in
         let s = drop (length plan) taken in
-        let front : take (length plan) taken ≡ plan = take_twice (length plan) (length r.bounds.items) r.answers.items all ∙ sym begun_plan in
+        let front : take (length plan) taken ≡ plan =
+        take_twice (length plan) (length r.bounds.items) r.answers.items all ∙ sym begun_plan in
         let is : taken ≡ plan ++ s = sym (take-append-drop (length plan) taken) ∙ ap (λ p. p ++ s) front in
         let came : play taken ≡ Done result [] = ap play (sym (append-nil taken)) ∙ h.rest [] in
         let run : IsRun play (plan ++ s) = ap is_whole (ap play (sym is) ∙ came) in
-        let bs : r.bounds.items ≡ bounds play plan ++ bounds_after play plan s = taken_bounds play r result h ∙ ap (bounds play) is ∙ bounds-append play [] plan s in
+        let bs : r.bounds.items ≡ bounds play plan ++ bounds_after play plan s =
+        taken_bounds play r result h ∙ ap (bounds play) is ∙ bounds-append play [] plan s in
         let n : length (bounds play plan) ≡ length plan = length-bounds play [] plan in (
           run_open play most reads plan s run,
           ap (take (length plan)) bs ∙ ap (λ k. take k (bounds play plan ++ bounds_after play plan s)) (sym n)
-              ∙ take-append-le (length (bounds play plan)) (bounds play plan) (bounds_after play plan s) (omega arith) ∙ take-length (bounds play plan),
+              ∙ take-append-le (length (bounds play plan)) (bounds play plan) (bounds_after play plan s) (omega arith)
+              ∙ take-length (bounds play plan),
         )
 
-    pub begun_opens : (e : Ending) → PlayEnds play (choices_of r) r.refused_bound steps shown e → (is_open (play plan) ≡ true) × (take (length plan) r.bounds.items ≡ bounds play plan)
+    pub begun_opens : (e : Ending) → PlayEnds play (choices_of r) r.refused_bound steps shown e
+        → (is_open (play plan) ≡ true) × (take (length plan) r.bounds.items ≡ bounds play plan)
     begun_opens endings.End h = begun_so _ h
     begun_opens endings.Stop h = begun_so _ h
     begun_opens endings.What h = begun_so _ h
@@ -137,5 +174,12 @@ module _ (play : Answers → Outcome Finish (List ℕ)) (r : Recorder) (steps : 
     begun_opens endings.NoInput h = begun_so _ h
     begun_opens endings.NoAnswer h = absurd h
     begun_opens endings.BadAnswer h =
-        let within : length r.bounds.items ≤ length r.answers.items = omega (arith, r.bounded, r.answers.ok.0, r.bounds.ok.0) in
-        absurd (omega (arith, ap length (sym planned ∙ h.plan_is), length-append (take (length r.bounds.items) r.answers.items) (h.next ∷ h.later), length-take-le (length r.bounds.items) r.answers.items within, all))
+        let within : length r.bounds.items ≤ length r.answers.items =
+        omega (arith, r.bounded, r.answers.ok.0, r.bounds.ok.0) in
+        absurd (omega (
+          arith,
+          ap length (sym planned ∙ h.plan_is),
+          length-append (take (length r.bounds.items) r.answers.items) (h.next ∷ h.later),
+          length-take-le (length r.bounds.items) r.answers.items within,
+          all,
+        ))

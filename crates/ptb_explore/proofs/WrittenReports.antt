@@ -1,6 +1,8 @@
 -- This file proves what is written once the next report was, or wasn't.
 -- Main lemmas: `one_more` and `none_next`.
-use Rattle.std.proofs.Common.{◌≡◌, ◌∙◌, ap, subst, ℕ, zero, suc, ◌+◌, ◌-◌, ◌^◌, ◌<◌, min, List, length, Bool, true, false, not, eqb, Option, Some, None, Result, Ok, Err, arith}
+use Rattle.std.proofs.Common.{◌≡◌, ◌∙◌, ap, subst, ℕ, zero, suc, ◌+◌, ◌-◌, ◌^◌, ◌<◌, min, List}
+use Rattle.std.proofs.Common.{length, Bool, true, false, not, eqb, Option, Some, None, Result, Ok}
+use Rattle.std.proofs.Common.{Err, arith}
 use Rattle.std.proofs.lemmas.Bool.{ne_eqb}
 use Rattle.std.specs.Option.{option_eq}
 use Rattle.ptb_answers.specs.declared.form.Form.{Form}
@@ -13,44 +15,66 @@ use Rattle.ptb_explore.specs.Explorations.{Exploration, play_of, most_of}
 use Rattle.ptb_explore.specs.Listing.{less_one, NextWrites, WritesList, WritesSome, WritesInto}
 use Rattle.ptb_explore.specs.Report.{report}
 use Rattle.ptb_explore.specs.RunTree.{Front, runs_after}
-use Rattle.ptb_explore.proofs.Progress.{Progress, progress_more, progress_whole, progress_last, progress_some, progress_into, fewer_left}
+use Rattle.ptb_explore.proofs.Progress.{Progress, progress_more, progress_whole, progress_last}
+use Rattle.ptb_explore.proofs.Progress.{progress_some, progress_into, fewer_left}
 
 -- a refusal of memory is no fault of the writer
-pub memory_no_write : {T P : Type 0} {x : ScreenFault} → x ≡ next.Memory → ◌≡◌ {A = Result T ScreenFault} (Err x) (Err next.Write) → P
+pub memory_no_write : {T P : Type 0} {x : ScreenFault} → x ≡ next.Memory
+    → ◌≡◌ {A = Result T ScreenFault} (Err x) (Err next.Write) → P
 memory_no_write is h = absurd cc
 
 pub memory_told : {T P : Type 0} {n k : ℕ} → ◌≡◌ {A = Result T ExploreFault} (Err (Memory n)) (Err (Write k)) → P
 memory_told h = absurd cc
 
 -- The explorer is at e, and was at `first` when the first report was to be written.
-module _ (form : Form) (first e : Exploration) (same : e ≡ record first { front = e.front; kept = e.kept; played = e.played }) where
-  pub same_after : (n : Exploration) → n ≡ record e { front = n.front; kept = n.kept; played = n.played } → n ≡ record first { front = n.front; kept = n.kept; played = n.played }
+module _ (form : Form) (first e : Exploration) (same : e ≡ record first {
+  front = e.front;
+  kept = e.kept;
+  played = e.played;
+}) where
+  pub same_after : (n : Exploration) → n ≡ record e { front = n.front; kept = n.kept; played = n.played }
+      → n ≡ record first { front = n.front; kept = n.kept; played = n.played }
   same_after n h = h ∙ ap (λ (x : Exploration). record x { front = n.front; kept = n.kept; played = n.played }) same
 
   -- what is played stays the same
-  of_first : (f : Front) (old new : Option (List ℕ)) (r : Result Bool ScreenFault) → NextWrites (play_of e) e.under (report form (play_of e)) e.front f old new r → NextWrites (play_of first) first.under (report form (play_of first)) e.front f old new r
-  of_first f old new r h = subst (λ (x : Exploration). NextWrites (play_of x) x.under (report form (play_of x)) e.front f old new r) same h
+  of_first : (f : Front) (old new : Option (List ℕ)) (r : Result Bool ScreenFault)
+      → NextWrites (play_of e) e.under (report form (play_of e)) e.front f old new r
+      → NextWrites (play_of first) first.under (report form (play_of first)) e.front f old new r
+  of_first f old new r h =
+      subst (λ (x : Exploration). NextWrites (play_of x) x.under (report form (play_of x)) e.front f old new r) same h
 
-  module _ (reads : IsReader (play_of first) (most_of first)) (list : List Answers) (remaining : Option ℕ) (old new : Option (List ℕ)) (n : ℕ) (progress : Progress (play_of first) (most_of first) first.under (report form (play_of first)) list first.front e.front remaining old new n) where
+  module _ (reads : IsReader (play_of first) (most_of first)) (list : List Answers) (remaining : Option ℕ)
+      (old new : Option (List ℕ)) (n : ℕ) (progress : Progress (play_of first) (most_of first) first.under
+      (report form (play_of first)) list first.front e.front remaining old new n) where
     -- no more are wanted
-    pub all_wanted : false ≡ not (option_eq eqb remaining (Some 0)) → WritesList (play_of first) first.under (report form (play_of first)) list first.front e.front old new n
+    pub all_wanted : false ≡ not (option_eq eqb remaining (Some 0))
+        → WritesList (play_of first) first.under (report form (play_of first)) list first.front e.front old new n
     all_wanted h = wanted remaining progress h
       where
-        wanted : (o : Option ℕ) → Progress (play_of first) (most_of first) first.under (report form (play_of first)) list first.front e.front o old new n → false ≡ not (option_eq eqb o (Some 0)) → WritesList (play_of first) first.under (report form (play_of first)) list first.front e.front old new n
+        wanted : (o : Option ℕ)
+            → Progress (play_of first) (most_of first) first.under (report form (play_of first)) list first.front
+            e.front o old new n
+            → false ≡ not (option_eq eqb o (Some 0))
+            → WritesList (play_of first) first.under (report form (play_of first)) list first.front e.front old new n
         wanted None p k =
             let wrong : false ≡ true = k in
             absurd cc
-        wanted (Some zero) p k = progress_whole (play_of first) (most_of first) reads first.under (report form (play_of first)) list first.front old e.front new n p
+        wanted (Some zero) p k = progress_whole (play_of first) (most_of first) reads first.under
+            (report form (play_of first)) list first.front old e.front new n p
         wanted (Some (suc i)) p k =
             let wrong : false ≡ true = k ∙ ap not (ne_eqb (suc i) 0 (λ none. omega (arith, none))) in
             absurd cc
 
     module _ (f : Front) (new' : Option (List ℕ)) where
       -- there is no next run
-      pub none_next : (b : Bool) → b ≡ false → NextWrites (play_of e) e.under (report form (play_of e)) e.front f new new' (Ok b) → WritesList (play_of first) first.under (report form (play_of first)) list first.front f old new' n
+      pub none_next : (b : Bool) → b ≡ false
+          → NextWrites (play_of e) e.under (report form (play_of e)) e.front f new new' (Ok b)
+          → WritesList (play_of first) first.under (report form (play_of first)) list first.front f old new' n
       none_next b is h =
-          let last = of_first f new new' (Ok false) (subst (λ (x : Bool). NextWrites (play_of e) e.under (report form (play_of e)) e.front f new new' (Ok x)) is h) in
-          rw (last.1, last.2) (progress_last (play_of first) (most_of first) reads first.under (report form (play_of first)) list first.front old e.front remaining new n progress last.0)
+          let last = of_first f new new' (Ok false) (subst (λ (x : Bool). NextWrites (play_of e) e.under
+          (report form (play_of e)) e.front f new new' (Ok x)) is h) in
+          rw (last.1, last.2) (progress_last (play_of first) (most_of first) reads first.under
+          (report form (play_of first)) list first.front old e.front remaining new n progress last.0)
 
       module _ (wanted : true ≡ not (option_eq eqb remaining (Some 0))) where
         unused : remaining ≡ Some 0 → ⊥
@@ -59,25 +83,40 @@ module _ (form : Form) (first e : Exploration) (same : e ≡ record first { fron
             absurd cc
 
         -- there was no memory for it
-        pub list_refused : (x : ScreenFault) → x ≡ next.Memory → NextWrites (play_of e) e.under (report form (play_of e)) e.front f new new' (Err x) → WritesSome (play_of first) first.under (report form (play_of first)) list first.front f old new' n
+        pub list_refused : (x : ScreenFault) → x ≡ next.Memory
+            → NextWrites (play_of e) e.under (report form (play_of e)) e.front f new new' (Err x)
+            → WritesSome (play_of first) first.under (report form (play_of first)) list first.front f old new' n
         list_refused x is h =
-            let stays = of_first f new new' (Err next.Memory) (subst (λ (y : ScreenFault). NextWrites (play_of e) e.under (report form (play_of e)) e.front f new new' (Err y)) is h) in
-            rw (stays.1, stays.2) (progress_some (play_of first) (most_of first) reads first.under (report form (play_of first)) list first.front old e.front remaining new n progress unused stays.0)
+            let stays = of_first f new new' (Err next.Memory) (subst (λ (y : ScreenFault). NextWrites
+            (play_of e) e.under (report form (play_of e)) e.front f new new' (Err y)) is h) in
+            rw (stays.1, stays.2) (progress_some (play_of first) (most_of first) reads first.under
+            (report form (play_of first)) list first.front old e.front remaining new n progress unused stays.0)
 
         -- a prefix of it was written
-        pub part_written : (x : ScreenFault) → x ≡ next.Write → NextWrites (play_of e) e.under (report form (play_of e)) e.front f new new' (Err x) → WritesInto (play_of first) first.under (report form (play_of first)) list first.front f old new' n
+        pub part_written : (x : ScreenFault) → x ≡ next.Write
+            → NextWrites (play_of e) e.under (report form (play_of e)) e.front f new new' (Err x)
+            → WritesInto (play_of first) first.under (report form (play_of first)) list first.front f old new' n
         part_written x is h =
-            let part = of_first f new new' (Err next.Write) (subst (λ (y : ScreenFault). NextWrites (play_of e) e.under (report form (play_of e)) e.front f new new' (Err y)) is h) in
-            rw part.2 (progress_into (play_of first) (most_of first) reads first.under (report form (play_of first)) list first.front old e.front remaining new new' n part.0 progress unused part.1 part.3)
+            let part = of_first f new new' (Err next.Write) (subst (λ (y : ScreenFault). NextWrites (play_of e) e.under
+            (report form (play_of e)) e.front f new new' (Err y)) is h) in
+            rw part.2 (progress_into (play_of first) (most_of first) reads first.under (report form (play_of first))
+            list first.front old e.front remaining new new' n part.0 progress unused part.1 part.3)
 
         -- it was written
-        module _ (b : Bool) (is : b ≡ true) (h : NextWrites (play_of e) e.under (report form (play_of e)) e.front f new new' (Ok b)) where
+        module _ (b : Bool) (is : b ≡ true)
+            (h : NextWrites (play_of e) e.under (report form (play_of e)) e.front f new new' (Ok b)) where
           one : NextWrites (play_of first) first.under (report form (play_of first)) e.front f new new' (Ok true)
-          one = of_first f new new' (Ok true) (subst (λ (x : Bool). NextWrites (play_of e) e.under (report form (play_of e)) e.front f new new' (Ok x)) is h)
+          one = of_first f new new' (Ok true) (subst (λ (x : Bool). NextWrites (play_of e) e.under
+              (report form (play_of e)) e.front f new new' (Ok x)) is h)
 
-          pub one_fewer : length (runs_after (play_of first) (most_of first) first.under f) < length (runs_after (play_of first) (most_of first) first.under e.front)
+          pub one_fewer : length (runs_after (play_of first) (most_of first) first.under f) < length
+              (runs_after (play_of first) (most_of first) first.under e.front)
           one_fewer = rw one.2 (fewer_left (play_of first) (most_of first) reads first.under e.front one.0 one.1)
 
-          pub one_more : (left : Option ℕ) → left ≡ less_one remaining → (m : ℕ) → m ≡ min (n + 1) (2 ^ 64 - 1) → Progress (play_of first) (most_of first) first.under (report form (play_of first)) list first.front f left old new' m
+          pub one_more : (left : Option ℕ) → left ≡ less_one remaining → (m : ℕ) → m ≡ min (n + 1) (2 ^ 64 - 1)
+              → Progress (play_of first) (most_of first) first.under (report form (play_of first)) list first.front f
+              left old new' m
           one_more left fewer m count =
-              rw fewer (progress_more (play_of first) (most_of first) reads first.under (report form (play_of first)) list first.front old e.front f remaining new new' n m one.0 progress unused one.1 one.2 one.3 count)
+              rw fewer (progress_more (play_of first) (most_of first) reads first.under
+              (report form (play_of first)) list first.front old e.front f remaining new new' n m one.0 progress
+              unused one.1 one.2 one.3 count)

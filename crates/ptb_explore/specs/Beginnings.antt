@@ -8,7 +8,8 @@
 --     split_play s              what is searched
 --     MovesTo play f f' found   the search is at the next list, or past the last
 --     FindsBeginning play f r found     r has the answers and bounds of the next list, or there is none
-use Rattle.std.specs.Prelude.{◌≡◌, ℕ, ◌≤◌, nat_lt, List, [], ◌∷◌, ◌++◌, length, take, drop, Bool, true, false, ◌⊎◌, ◌↔◌, ℤ, Contains}
+use Rattle.std.specs.Prelude.{◌≡◌, ℕ, ◌≤◌, nat_lt, List, [], ◌∷◌, ◌++◌, length, take, drop, Bool}
+use Rattle.std.specs.Prelude.{true, false, ◌⊎◌, ◌↔◌, ℤ, Contains}
 use Rattle.std.specs.List.{flat_map}
 use Rattle.ptb_text.specs.Statements.{StoredProgram}
 use Rattle.ptb_answers.specs.Outcome.{Answers, Outcome, Done, Asks, Out, bounds}
@@ -40,14 +41,16 @@ beginnings n play = tree (stopped n play) n
 -- ---- their laws
 
 abbrev pub IsBeginning : {A W : Type 0} → ℕ → (Answers → Outcome A W) → Answers → Type 0
-IsBeginning {W = W} n play u = (IsRun play u × (length u ≤ n)) ⊎ ((length u ≡ n) × ((bound : ℤ) × (w : W) × (play u ≡ Asks bound w)))
+IsBeginning {W = W} n play u = (IsRun play u × (length u ≤ n))
+    ⊎ ((length u ≡ n) × ((bound : ℤ) × (w : W) × (play u ≡ Asks bound w)))
 
 pub record BeginningLaws {A W : Type 0} (play : Answers → Outcome A W) (most n : ℕ) : Type 0 where
   -- they are these and no others, in rising order
   pub lists : (u : Answers) → Contains (beginnings n play) u ↔ IsBeginning n play u
   pub order : IsRising (beginnings n play)
   -- none begins with another
-  pub apart : (u later : Answers) (k : ℤ) → Contains (beginnings n play) u → Contains (beginnings n play) (u ++ k ∷ later) → ⊥
+  pub apart : (u later : Answers) (k : ℤ) → Contains (beginnings n play) u
+      → Contains (beginnings n play) (u ++ k ∷ later) → ⊥
   -- the reports of the runs that begin with the first list, the second and so on are those of all runs
   pub whole_text :
       (report : Answers → List ℕ)

@@ -115,7 +115,8 @@ ratio_text f = decimals f.numerator ++ codes "/" ++ decimals f.denominator
 
 abbrev pub row_text : Row → List ℕ
 row_text row =
-    codes "CHANCE " ++ ratio_text row.chance ++ field (decimals row.runs) ++ field (ending_word row.result.ending) ++ field (decimals (length row.result.line)) ++ codes "\n"
+    codes "CHANCE " ++ ratio_text row.chance ++ field (decimals row.runs) ++ field (ending_word row.result.ending)
+    ++ field (decimals (length row.result.line)) ++ codes "\n"
     ++ row.result.line ++ codes "\n"
 
 abbrev pub table_text : List Row → List ℕ

@@ -6,16 +6,21 @@
 --     KeepsCopy before m taken shown lines old new    what keeping one more leaves of the copies
 --     GoesBack most old new                  those that took more answers than this are dropped
 --     AreTakenBy p input rules a n           by the n-th command, and no earlier one, all of the answers a are taken
---     AreCopies p input rules t w ks         the copies, the oldest first, are of a run with the answers t that showed w
+--     AreCopies p input rules t w ks         the copies, the oldest first, are of a run with the answers t that showed
+--                                            w
 --     Agrees play n plan answers bounds      a plan begins with n of the answers, whose bounds are right
 --     KeptRun                                what contracts see of a copy
 --     kept_runs answers ks                   what contracts see of the copies of a run with these answers
 --     kept_steps answers runs                the steps of the newest that these answers begin with
---     AreBeginnings m answers runs           each took a beginning of the answers, longer than that of the one before it
+--     AreBeginnings m answers runs           each took a beginning of the answers, longer than that of the one before
+--                                            it
 --     ArePlaces p input rules runs           the steps of each are those of the command that took its last answer
 --     play_limit                             more commands than one play can add
---     PlaysOn common old played steps new    so many steps are played after a run that continues from what is left of the copies
-use Rattle.std.specs.Prelude.{◌≡◌, ℕ, ◌+◌, ◌-◌, ◌^◌, min, ◌<◌, ◌≤◌, List, [], ◌∷◌, ◌++◌, length, take, drop, map, false, if◌then◌else◌, ◌⊎◌, Option, Some, None, option_map, ℤ}
+--     PlaysOn common old played steps new    so many steps are played after a run that continues from what is left of
+--                                            the copies
+use Rattle.std.specs.Prelude.{◌≡◌, ℕ, ◌+◌, ◌-◌, ◌^◌, min, ◌<◌, ◌≤◌, List, [], ◌∷◌, ◌++◌, length}
+use Rattle.std.specs.Prelude.{take, drop, map, false, if◌then◌else◌, ◌⊎◌, Option, Some, None}
+use Rattle.std.specs.Prelude.{option_map, ℤ}
 use Rattle.std.specs.List.{AllByRecursion}
 use Rattle.ptb_answers.specs.declared.rules.Rules.{Rules}
 use Rattle.ptb_text.specs.Statements.{StoredProgram}
@@ -59,7 +64,8 @@ with_room ks = drop (length ks + 1 - 64) ks
 -- the new one is kept only where more answers were taken than before, and where it isn't refused memory
 abbrev pub KeepsCopy : ℕ → Configuration → ℕ → ℕ → ℕ → List KeptCopy → List KeptCopy → Type 0
 KeepsCopy before m taken shown lines old new =
-    (new ≡ old) ⊎ (new ≡ with_room old) ⊎ ((k : KeptCopy) × (before < taken) × IsCopyOf m taken shown lines k × (new ≡ with_room old ++ k ∷ []))
+    (new ≡ old) ⊎ (new ≡ with_room old)
+    ⊎ ((k : KeptCopy) × (before < taken) × IsCopyOf m taken shown lines k × (new ≡ with_room old ++ k ∷ []))
 
 -- those that are dropped had taken more answers, and the newest that is left had not
 pub record GoesBack (most : ℕ) (old new : List KeptCopy) : Type 0 where
@@ -70,11 +76,13 @@ pub record GoesBack (most : ℕ) (old new : List KeptCopy) : Type 0 where
 abbrev pub GoesBackTo : ℕ → List KeptCopy → List KeptCopy → Option KeptCopy → Type 0
 GoesBackTo most old new None = GoesBack most old [] × (new ≡ [])
 GoesBackTo most old new (Some j) =
-    GoesBack most old new × ((front : List KeptCopy) × (k : KeptCopy) × (new ≡ front ++ k ∷ []) × (k.taken ≤ most) × IsSameCopy k j)
+    GoesBack most old new × ((front : List KeptCopy) × (k : KeptCopy) × (new ≡ front ++ k ∷ []) × (k.taken ≤ most)
+    × IsSameCopy k j)
 
 -- the same, of what is left alone
 abbrev pub WentBack : ℕ → List KeptCopy → List KeptCopy → Type 0
-WentBack most old left = GoesBack most old left × ((left ≡ []) ⊎ ((front : List KeptCopy) × (k : KeptCopy) × (left ≡ front ++ k ∷ []) × (k.taken ≤ most)))
+WentBack most old left = GoesBack most old left
+    × ((left ≡ []) ⊎ ((front : List KeptCopy) × (k : KeptCopy) × (left ≡ front ++ k ∷ []) × (k.taken ≤ most)))
 
 -- the steps of the newest, or of none
 abbrev pub last_steps_of : ℕ → List KeptCopy → ℕ
@@ -108,14 +116,16 @@ module _ (p : StoredProgram) (input : List (List ℕ)) (rules : Rules) where
   -- each took a beginning of the answers, longer than that of the copy before it, and showed a prefix of the bytes
   abbrev pub KeptFrom : Answers → List ℕ → ℕ → ℕ → List KeptCopy → Type 0
   KeptFrom t w m n [] = (m ≤ length t) × (n ≤ length w)
-  KeptFrom t w m n (k ∷ ks) = (m < k.taken) × (n ≤ k.shown) × StandsAt k (take k.taken t) (take k.shown w) × KeptFrom t w k.taken k.shown ks
+  KeptFrom t w m n (k ∷ ks) = (m < k.taken) × (n ≤ k.shown) × StandsAt k (take k.taken t) (take k.shown w)
+      × KeptFrom t w k.taken k.shown ks
 
   -- each took an answer
   abbrev pub AreCopies : Answers → List ℕ → List KeptCopy → Type 0
   AreCopies t w ks = KeptFrom t w 0 0 ks
 
 abbrev pub Agrees : {A W : Type 0} → (Answers → Outcome A W) → ℕ → Answers → Answers → List ℤ → Type 0
-Agrees play n plan answers bounded = (n ≤ length answers) × (take n plan ≡ take n answers) × (take n bounded ≡ take n (bounds play answers))
+Agrees play n plan answers bounded = (n ≤ length answers) × (take n plan ≡ take n answers)
+    × (take n bounded ≡ take n (bounds play answers))
 
 -- ---- what contracts see of copies
 
@@ -138,7 +148,8 @@ kept_steps answers runs = newest_steps 0 answers runs
 abbrev pub AreBeginnings : ℕ → Answers → List KeptRun → Type 0
 AreBeginnings m answers [] = Unit {0}
 AreBeginnings m answers (k ∷ runs) =
-    (m < length k.answers) × (k.answers ≡ take (length k.answers) answers) × AreBeginnings (length k.answers) answers runs
+    (m < length k.answers) × (k.answers ≡ take (length k.answers) answers)
+    × AreBeginnings (length k.answers) answers runs
 
 abbrev pub ArePlaces : StoredProgram → List (List ℕ) → Rules → List KeptRun → Type 0
 ArePlaces p input rules runs = AllByRecursion (λ k. AreTakenBy p input rules k.answers k.steps) runs
@@ -154,4 +165,5 @@ abbrev pub play_limit : ℕ
 play_limit = 4294967296
 
 abbrev pub PlaysOn : ℕ → List KeptCopy → ℕ → ℕ → ℕ → Type 0
-PlaysOn common old played steps new = (left : List KeptCopy) × WentBack common old left × (new ≡ more_played played (steps - last_steps left))
+PlaysOn common old played steps new = (left : List KeptCopy) × WentBack common old left
+    × (new ≡ more_played played (steps - last_steps left))

@@ -13,7 +13,8 @@
 --     IsPlayed play a n            the run of these answers has so many steps
 --     IsAdded play a old new       its steps were added to those played
 --     NextPlays ..                 how many steps were played after the next run
-use Rattle.std.specs.Prelude.{◌≡◌, ℕ, ◌+◌, ◌-◌, ◌<◌, ◌≤◌, List, [], Bool, true, false, Option, Some, None, Result, Ok, Err}
+use Rattle.std.specs.Prelude.{◌≡◌, ℕ, ◌+◌, ◌-◌, ◌<◌, ◌≤◌, List, [], Bool, true, false, Option, Some}
+use Rattle.std.specs.Prelude.{None, Result, Ok, Err}
 use Rattle.std.specs.declared.alloc.AllocError.{AllocError}
 use Rattle.std.specs.Borrow.{Bor}
 use Rattle.ptb_text.specs.Statements.{StoredProgram}
@@ -67,7 +68,12 @@ abbrev pub game_of : Runner → Answers → Outcome Finish (List ℕ)
 game_of r = play r.player r.lines.now r.rules
 
 abbrev pub IsSameGame : Runner → Runner → Type 0
-IsSameGame old new = new ≡ record old { trial = new.trial; report = new.report; copies = new.copies; played = new.played }
+IsSameGame old new = new ≡ record old {
+  trial = new.trial;
+  report = new.report;
+  copies = new.copies;
+  played = new.played;
+}
 
 -- ---- reports
 
@@ -90,7 +96,8 @@ played_after kept played r = more_played played (r.steps - kept_steps r.answers.
 
 -- it is at the run whose report is lent; the count doesn't fall
 pub record FoundNext (old : Exploration) (r : Report) (new : Exploration) : Type 0 where
-  pub now : new ≡ record old { front = At r.answers.items; kept = new.kept; played = played_after old.kept old.played r }
+  pub now : new ≡ record old
+      { front = At r.answers.items; kept = new.kept; played = played_after old.kept old.played r }
   pub kept : AreBeginnings 0 r.answers.items new.kept
   pub rises : old.played ≤ new.played
 

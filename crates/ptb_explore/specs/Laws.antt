@@ -11,7 +11,8 @@ use Rattle.ptb_answers.specs.declared.form.Form.{Form}
 use Rattle.ptb_machine.specs.Play.{Finish}
 use Rattle.ptb_explore.specs.Listing.{text}
 use Rattle.ptb_explore.specs.Report.{report}
-use Rattle.ptb_explore.specs.RunTree.{Front, Start, At, Before, IsRun, IsRising, answers_to, begins_with, is_after, is_left, runs_after, tree}
+use Rattle.ptb_explore.specs.RunTree.{Front, Start, At, Before, IsRun, IsRising, answers_to}
+use Rattle.ptb_explore.specs.RunTree.{begins_with, is_after, is_left, runs_after, tree}
 
 pub record TreeLaws {A W : Type 0} (play : Answers → Outcome A W) (most : ℕ) : Type 0 where
   -- the tree has the runs and nothing else, in rising order
@@ -25,13 +26,15 @@ pub record TreeLaws {A W : Type 0} (play : Answers → Outcome A W) (most : ℕ)
 pub record ListingLaws {A W : Type 0} (play : Answers → Outcome A W) (most : ℕ) : Type 0 where
   -- after a run come those that the tree has after it
   pub behind :
-      (front back : List Answers) (r : Answers) → tree play most ≡ front ++ r ∷ back → runs_after play most [] (At r) ≡ back
+      (front back : List Answers) (r : Answers) → tree play most ≡ front ++ r ∷ back
+      → runs_after play most [] (At r) ≡ back
   -- so the reports up to a run, and those after it, are all reports
   pub whole_text :
       (report : Answers → List ℕ) (front back : List Answers) (r : Answers) → tree play most ≡ front ++ r ∷ back
       → text report (front ++ r ∷ []) ++ text report (runs_after play most [] (At r)) ≡ text report (tree play most)
   -- what a listing has left are the runs after the place where it is and nothing else, in rising order
-  pub runs : (under : Answers) (f : Front) (a : Answers) → Contains (runs_after play most under f) a ↔ (IsRun play a × (is_left under f a ≡ true))
+  pub runs : (under : Answers) (f : Front) (a : Answers)
+      → Contains (runs_after play most under f) a ↔ (IsRun play a × (is_left under f a ≡ true))
   pub order : (under : Answers) (f : Front) → IsRising (runs_after play most under f)
 
 -- a share has the runs that begin with some answers
@@ -41,14 +44,17 @@ pub record ShareLaws {A W : Type 0} (play : Answers → Outcome A W) (most : ℕ
   -- where a question comes after the answers, the reports of its shares, in the order of their answers, are all reports
   pub question :
       (report : Answers → List ℕ) (under : Answers) (n : ℤ) (w : W) (f : Front) → play under ≡ Asks n w
-      → text report (runs_after play most under f) ≡ flat_map (λ k. text report (runs_after play most (under ++ k ∷ []) f)) (answers_to n)
+      → text report (runs_after play most under f)
+      ≡ flat_map (λ k. text report (runs_after play most (under ++ k ∷ []) f)) (answers_to n)
   -- some run begins with answers where they are one, or where a question comes after them, and nowhere else
-  pub beginning : (under : Answers) → (is_open (play under) ≡ true) ↔ ((a : Answers) × IsRun play a × (begins_with a under ≡ true))
+  pub beginning : (under : Answers)
+      → (is_open (play under) ≡ true) ↔ ((a : Answers) × IsRun play a × (begins_with a under ≡ true))
   -- the share of a run is that run
   pub run : (a : Answers) → IsRun play a → runs_after play most a Start ≡ a ∷ []
   -- where one list is before another, their shares have no run in common
   pub apart :
-      (u v a : Answers) (f g : Front) → Before u v → Contains (runs_after play most u f) a → Contains (runs_after play most v g) a → ⊥
+      (u v a : Answers) (f g : Front) → Before u v → Contains (runs_after play most u f) a
+      → Contains (runs_after play most v g) a → ⊥
 
 -- every answer that the program reads is a number of 16 bits
 abbrev pub AreNumbers : Answers → Type 0
@@ -62,5 +68,6 @@ pub record ReportLaws (play : Answers → Outcome Finish (List ℕ)) (most : ℕ
       → report form play a ≡ report form play b → a ≡ b
   -- and where one list is before another, their shares have no report in common
   pub apart :
-      (form : Form) (u v a b : Answers) (f g : Front) → Before u v → Contains (runs_after play most u f) a → Contains (runs_after play most v g) b
+      (form : Form) (u v a b : Answers) (f g : Front) → Before u v → Contains (runs_after play most u f) a
+      → Contains (runs_after play most v g) b
       → AreNumbers a → AreNumbers b → report form play a ≡ report form play b → ⊥

@@ -1,10 +1,12 @@
--- This file defines what a listing of the runs that begin with `under` leaves. `report` gives the text of the report of a run.
+-- This file defines what a listing of the runs that begin with `under` leaves. `report` gives the text of the report
+-- of a run.
 --     text report list                  the reports of a list of runs, one after the other
 --     front_after f list                     where a listing is after a list of runs
 --     less_one n                        how many may still be written after one more
 --     NextWrites ..                     what the writing of the next report leaves
 --     WritesRuns ..                     what the writing of a list of reports leaves
-use Rattle.std.specs.Prelude.{◌≡◌, ℕ, ◌-◌, ◌^◌, List, [], ◌∷◌, ◌++◌, length, min, Bool, true, false, ◌⊎◌, Option, Some, None, Result, Ok, Err}
+use Rattle.std.specs.Prelude.{◌≡◌, ℕ, ◌-◌, ◌^◌, List, [], ◌∷◌, ◌++◌, length, min, Bool, true, false}
+use Rattle.std.specs.Prelude.{◌⊎◌, Option, Some, None, Result, Ok, Err}
 use Rattle.std.specs.Io.KnownBytes.{Appends}
 use Rattle.std.specs.List.{flat_map}
 use Rattle.ptb_text.specs.Device.{TakesSome}
@@ -34,10 +36,12 @@ count_of list = min (length list) (2 ^ 64 - 1)
 module _ {A W : Type 0} (play : Answers → Outcome A W) (under : Answers) (report : Answers → List ℕ) where
   -- its report was written, or no run is left, or one is left and nothing was written, or a prefix of its report was
   abbrev pub NextWrites : Front → Front → Option (List ℕ) → Option (List ℕ) → Result Bool ScreenFault → Type 0
-  NextWrites f f' old new (Ok true) = (a : Answers) × IsNextRun play under f a × (f' ≡ At a) × Appends old new (report a)
+  NextWrites f f' old new (Ok true) = (a : Answers) × IsNextRun play under f a × (f' ≡ At a)
+      × Appends old new (report a)
   NextWrites f f' old new (Ok false) = IsLast play under f × (f' ≡ End) × (new ≡ old)
   NextWrites f f' old new (Err next.Memory) = (IsLast play under f → ⊥) × (f' ≡ f) × (new ≡ old)
-  NextWrites f f' old new (Err next.Write) = (a : Answers) × IsNextRun play under f a × (f' ≡ At a) × TakesSome old new (report a)
+  NextWrites f f' old new (Err next.Write) = (a : Answers) × IsNextRun play under f a × (f' ≡ At a)
+      × TakesSome old new (report a)
 
   -- the reports of the complete list were written; it is after the list, or past the last run
   pub record WritesList (list : List Answers) (f f' : Front) (old new : Option (List ℕ)) (n : ℕ) : Type 0 where
@@ -68,7 +72,8 @@ module _ {A W : Type 0} (play : Answers → Outcome A W) (under : Answers) (repo
     pub count : n ≡ count_of beginning
     pub front : f' ≡ At at
 
-  abbrev pub WritesRuns : List Answers → Front → Front → Option (List ℕ) → Option (List ℕ) → Result ℕ ExploreFault → Type 0
+  abbrev pub WritesRuns : List Answers → Front → Front → Option (List ℕ) → Option (List ℕ) → Result ℕ ExploreFault
+      → Type 0
   WritesRuns list f f' old new (Ok n) = WritesList list f f' old new n
   WritesRuns list f f' old new (Err (Memory n)) = WritesSome list f f' old new n
   WritesRuns list f f' old new (Err (Write n)) = WritesInto list f f' old new n

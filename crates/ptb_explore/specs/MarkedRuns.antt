@@ -25,4 +25,5 @@ IsMarkedRun play list = IsRun play (answers_of list) × (states_bounds list (bou
 
 -- a run begins with the answers where they are one, or a question comes after them
 abbrev pub IsMarkedBeginning : {A W : Type 0} → (Answers → Outcome A W) → List Marked → Type 0
-IsMarkedBeginning play list = (is_open (play (answers_of list)) ≡ true) × (states_bounds list (bounds play (answers_of list)) ≡ true)
+IsMarkedBeginning play list = (is_open (play (answers_of list)) ≡ true)
+    × (states_bounds list (bounds play (answers_of list)) ≡ true)

@@ -3,15 +3,18 @@
 --     IsQuestion play items bound             after these items a run asks for an answer from 1 to the bound
 --     IsAskedFor play list item m bound       a run begins with the items before m, and asks for m with this bound
 --     IsItemMismatch play list mismatch       the first item of the list that does not fit
---     IsRunMismatch play under list mismatch  that the list begins otherwise than another, or the same, or that one item is missing
---     TakesItems play list bounds n           the first n items are taken, and the first of the bounds are those of their questions
+--     IsRunMismatch play under list mismatch  that the list begins otherwise than another, or the same, or that one
+--                                             item is missing
+--     TakesItems play list bounds n           the first n items are taken, and the first of the bounds are those of
+--                                             their questions
 --     MismatchLaws play                       there is one mismatch exactly where a list is no run, or begins none
 use Rattle.std.specs.Prelude.{◌≡◌, ℕ, ◌+◌, ◌≤◌, List, ◌∷◌, ◌++◌, length, take, true, false, Option, ℤ, ◌↔◌}
 use Rattle.ptb_answers.specs.Outcome.{Answers, Outcome, Asks, is_answer, is_open, bounds}
 use Rattle.ptb_answers.specs.declared.form.Marked.{Marked}
 use Rattle.ptb_answers.specs.AnswerText.{answers_of, with_bound}
 use Rattle.ptb_explore.specs.declared.mismatch.Mismatch.{Mismatch}
-use Rattle.ptb_explore.specs.declared.mismatch.Mismatch.TheVariants.{OutOfRange, OtherBound, NoQuestion, Missing, NotUnder}
+use Rattle.ptb_explore.specs.declared.mismatch.Mismatch.TheVariants.{OutOfRange, OtherBound}
+use Rattle.ptb_explore.specs.declared.mismatch.Mismatch.TheVariants.{NoQuestion, Missing, NotUnder}
 use Rattle.ptb_explore.specs.MarkedRuns.{IsMarkedRun, IsMarkedBeginning}
 use Rattle.ptb_explore.specs.RunTree.{begins_with}
 
@@ -90,8 +93,11 @@ module _ {A W : Type 0} (play : Answers → Outcome A W) where
 
 -- A list is no run, or begins none, exactly where there is a mismatch, and there is one alone.
 pub record MismatchLaws {A W : Type 0} (play : Answers → Outcome A W) : Type 0 where
-  pub beginning : (list : List Marked) → (IsMarkedBeginning play list → ⊥) ↔ ((m : Mismatch) × IsItemMismatch play list m)
-  pub one_beginning : (list : List Marked) (m n : Mismatch) → IsItemMismatch play list m → IsItemMismatch play list n → m ≡ n
+  pub beginning : (list : List Marked)
+      → (IsMarkedBeginning play list → ⊥) ↔ ((m : Mismatch) × IsItemMismatch play list m)
+  pub one_beginning : (list : List Marked) (m n : Mismatch) → IsItemMismatch play list m → IsItemMismatch play list n
+      → m ≡ n
   pub run : (under list : List Marked)
       → (IsMarkedRun play list × IsUnder under list → ⊥) ↔ ((m : Mismatch) × IsRunMismatch play under list m)
-  pub one_run : (under list : List Marked) (m n : Mismatch) → IsRunMismatch play under list m → IsRunMismatch play under list n → m ≡ n
+  pub one_run : (under list : List Marked) (m n : Mismatch) → IsRunMismatch play under list m
+      → IsRunMismatch play under list n → m ≡ n

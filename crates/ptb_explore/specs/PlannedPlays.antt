@@ -1,7 +1,8 @@
 -- This file defines the result of a run that is played with the answers of a plan, and 1 to each question after them.
 --     Holds play c left                      what a chooser holds, and what of the play is left to be done
 --     NextIsOutside play c bound             the plan's next answer is outside the bound of its question
---     PlayEnds play c bound steps shown ending    the play has this ending; the bound is that of the question where an answer is outside it
+--     PlayEnds play c bound steps shown ending    the play has this ending; the bound is that of the question where an
+--                                                 answer is outside it
 --     run_from p rules S                     what is left of a run from the state S on
 --     limited rules n                        the same rules with the limit n
 --     IsRunPrefix p input rules c shown left m    with what a chooser holds, a run has come to where a machine is
@@ -38,7 +39,8 @@ module _ {A W : Type 0} (play : Answers → Outcome A W) where
 abbrev pub PlayEnds : (Answers → Outcome Finish (List ℕ)) → Choices → ℤ → ℕ → List ℕ → Ending → Type 0
 PlayEnds play c bound steps shown endings.NoAnswer = ⊥
 PlayEnds play c bound steps shown endings.BadAnswer = NextIsOutside play c bound
-PlayEnds play c bound steps shown ending = Holds play c (λ later. Done (record { ending = ending; steps = steps; shown = shown }) later)
+PlayEnds play c bound steps shown ending =
+    Holds play c (λ later. Done (record { ending = ending; steps = steps; shown = shown }) later)
 
 -- ---- a run that is underway
 
@@ -50,7 +52,8 @@ abbrev pub limited : Rules → ℕ → Rules
 limited rules n = record rules { limit = n }
 
 -- a run was begun, and with what the chooser holds it has come to where the machine is
-pub record IsRunPrefix (p : StoredProgram) (input : List (List ℕ)) (rules : Rules) (c : Choices) (shown : List ℕ) (left : List (List ℕ)) (m : Configuration) : Type 0 where
+pub record IsRunPrefix (p : StoredProgram) (input : List (List ℕ)) (rules : Rules) (c : Choices) (shown : List ℕ)
+    (left : List (List ℕ)) (m : Configuration) : Type 0 where
   pub state : State
   pub represents : Represents p.lines m state
   pub shown_is : state.shown ≡ shown

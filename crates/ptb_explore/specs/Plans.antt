@@ -1,15 +1,22 @@
 -- This file defines plans: the first answers of the next run, which continues with the least answers.
---     IsPlan play under front plan                what continues from the plan with ones and is a run is the next run that is left
+--     IsPlan play under front plan                what continues from the plan with ones and is a run is the next run
+--                                                 that is left
 --     IsLastBelow floor answers bounds i          the last answer from a place on that can be raised is the one at i
---     PlansNext under position answers bounds plan o    the plan raises that answer by one and drops those after it; `under` stays
+--     PlansNext under position answers bounds plan o    the plan raises that answer by one and drops those after it;
+--                                                       `under` stays
 --     HasPlan under position answers bounds       there is such a plan
---     IsPosition play under position answers bounds     where it is at a run, it is that of the answers, with these bounds
+--     IsPosition play under position answers bounds     where it is at a run, it is that of the answers, with these
+--                                                       bounds
 --     stopping_plan n plan                        the plan, ones up to n answers, and then no answer
 --     IsFresh recorder                            all that a recorder holds is a plan
---     IsTakenAlone planned stated recorder        all answers of a plan were taken and no more, with the bounds that are stated
+--     IsTakenAlone planned stated recorder        all answers of a plan were taken and no more, with the bounds that
+--                                                 are stated
 --     IsTaken planned stated recorder             the same, and more may have been taken
---     PlanEndsWith play plan answers bounds result      the plan and then ones are a run, with these bounds and this result
-use Rattle.std.specs.Prelude.{◌≡◌, ℕ, ◌-◌, ◌<◌, ◌≤◌, List, [], ◌∷◌, ◌++◌, length, take, replicate, true, Option, Some, None, ℤ, pos, ◌+ℤ◌, ◌<ℤ◌, ◌≤ℤ◌, slice_index_or, vec_len}
+--     PlanEndsWith play plan answers bounds result      the plan and then ones are a run, with these bounds and this
+--                                                       result
+use Rattle.std.specs.Prelude.{◌≡◌, ℕ, ◌-◌, ◌<◌, ◌≤◌, List, [], ◌∷◌, ◌++◌, length, take, replicate}
+use Rattle.std.specs.Prelude.{true, Option, Some, None, ℤ, pos, ◌+ℤ◌, ◌<ℤ◌, ◌≤ℤ◌, slice_index_or}
+use Rattle.std.specs.Prelude.{vec_len}
 use Rattle.std.specs.List.{AllByRecursion}
 use Rattle.ptb_answers.specs.Outcome.{Answers, Outcome, Done, is_open, bounds}
 use Rattle.ptb_answers.specs.declared.form.Marked.{Marked}
@@ -23,7 +30,8 @@ use Rattle.ptb_explore.specs.RunTree.{Front, Start, At, End, IsRun, IsNextRun, b
 abbrev pub AllOnes : Answers → Type 0
 AllOnes answers = AllByRecursion (λ k. k ≡ pos 1) answers
 
-pub record IsPlan {A W : Type 0} (play : Answers → Outcome A W) (under : Answers) (front : Front) (plan : Answers) : Type 0 where
+pub record IsPlan {A W : Type 0} (play : Answers → Outcome A W) (under : Answers) (front : Front)
+    (plan : Answers) : Type 0 where
   pub opens : is_open (play plan) ≡ true
   pub next : (ones : Answers) → AllOnes ones → IsRun play (plan ++ ones) → IsNextRun play under front (plan ++ ones)
 
@@ -47,12 +55,14 @@ abbrev pub PlansNext : Answers → Position → Answers → List ℤ → Answers
 PlansNext under AtStart answers bounds plan None = ⊥
 PlansNext under AtStart answers bounds plan (Some i) = (i ≡ 0) × (plan ≡ under)
 PlansNext under AtRun answers bounds plan None = AreAtBounds (length under) answers bounds
-PlansNext under AtRun answers bounds plan (Some i) = IsLastBelow (length under) answers bounds i × (plan ≡ take i answers ++ (slice_index_or answers i (pos 0) +ℤ pos 1) ∷ [])
+PlansNext under AtRun answers bounds plan (Some i) = IsLastBelow (length under) answers bounds i
+    × (plan ≡ take i answers ++ (slice_index_or answers i (pos 0) +ℤ pos 1) ∷ [])
 PlansNext under AtEnd answers bounds plan None = Unit {0}
 PlansNext under AtEnd answers bounds plan (Some i) = ⊥
 
 abbrev pub HasPlan : Answers → Position → Answers → List ℤ → Type 0
-HasPlan under position answers bounds = (plan : Answers) × (i : ℕ) × PlansNext under position answers bounds plan (Some i)
+HasPlan under position answers bounds = (plan : Answers) × (i : ℕ)
+    × PlansNext under position answers bounds plan (Some i)
 
 -- ---- where a listing is
 
@@ -64,7 +74,8 @@ front_at AtEnd answers = End
 -- each run of the listing begins with `under`
 abbrev pub IsPosition : {A W : Type 0} → (Answers → Outcome A W) → Answers → Position → Answers → List ℤ → Type 0
 IsPosition play under AtStart answers their_bounds = is_open (play under) ≡ true
-IsPosition play under AtRun answers their_bounds = IsRun play answers × (their_bounds ≡ bounds play answers) × (begins_with answers under ≡ true)
+IsPosition play under AtRun answers their_bounds = IsRun play answers × (their_bounds ≡ bounds play answers)
+    × (begins_with answers under ≡ true)
 IsPosition play under AtEnd answers their_bounds = Unit {0}
 
 -- ---- a plan that is played
@@ -86,7 +97,8 @@ pub record IsTaken (planned : ℕ) (stated : List Marked) (r : Recorder) : Type 
   pub taken : planned ≤ length r.bounds.items
   pub states : states_bounds stated r.bounds.items ≡ true
 
-pub record PlanEndsWith {A W : Type 0} (play : Answers → Outcome A W) (plan answers : Answers) (their_bounds : List ℤ) (result : A) : Type 0 where
+pub record PlanEndsWith {A W : Type 0} (play : Answers → Outcome A W) (plan answers : Answers) (their_bounds : List ℤ)
+    (result : A) : Type 0 where
   pub ones : Answers
   pub all_ones : AllOnes ones
   pub answers_are : answers ≡ plan ++ ones

@@ -1,6 +1,7 @@
 -- This file defines what a recorder holds, and why it gives no answer.
 --     choices_of r                 a recorder as a chooser: its plan, what it gave, and with which bounds
---     RefusedByPlan c bound z n    it pauses at a question with bound n, which it keeps where its answer is out of range
+--     RefusedByPlan c bound z n    it pauses at a question with bound n, which it keeps where its answer is out of
+--                                  range
 use Rattle.std.specs.Prelude.{◌≡◌, List, ◌∷◌, ◌++◌, length, take, false, Some, ℤ}
 use Rattle.ptb_answers.specs.declared.pause.Pause.{Pause}
 use Rattle.ptb_answers.specs.declared.pause.Pause.TheVariants.{Ended, OutOfRange, Memory}
@@ -18,5 +19,6 @@ choices_of r = record {
 -- never for want of answers; as out of range only where the plan's next answer is
 abbrev pub RefusedByPlan : Choices → ℤ → Pause → ℤ → Type 0
 RefusedByPlan c bound Ended n = ⊥
-RefusedByPlan c bound (OutOfRange g) n = ((rest : List ℤ) × (c.plan ≡ c.taken ++ g ∷ rest)) × (is_answer n g ≡ false) × (bound ≡ n)
+RefusedByPlan c bound (OutOfRange g) n = ((rest : List ℤ) × (c.plan ≡ c.taken ++ g ∷ rest)) × (is_answer n g ≡ false)
+    × (bound ≡ n)
 RefusedByPlan c bound Memory n = Unit {0}

@@ -9,7 +9,8 @@
 --     runs_left play most under front n    the first n of them, or all
 --     IsNextRun play under front a     a is a run that is left, and none that is left is before it
 --     IsLast play under front          no run is left
-use Rattle.std.specs.Prelude.{◌≡◌, ℕ, zero, suc, List, [], ◌∷◌, ◌++◌, take, map, Bool, true, false, ◌&&◌, ◌||◌, Option, Some, None, ℤ, pos, negsuc, int_lt}
+use Rattle.std.specs.Prelude.{◌≡◌, ℕ, zero, suc, List, [], ◌∷◌, ◌++◌, take, map, Bool, true, false}
+use Rattle.std.specs.Prelude.{◌&&◌, ◌||◌, Option, Some, None, ℤ, pos, negsuc, int_lt}
 use Rattle.std.specs.Ordering.{int_eq}
 use Rattle.std.specs.List.{filter, flat_map, range_with_len, AllByRecursion}
 use Rattle.ptb_answers.specs.Outcome.{Answers, Outcome, Done, Asks, Out, is_whole}
@@ -92,7 +93,8 @@ runs_left play most under front first = first_of first (runs_after play most und
 
 -- ---- the next run
 
-pub record IsNextRun {A W : Type 0} (play : Answers → Outcome A W) (under : Answers) (front : Front) (a : Answers) : Type 0 where
+pub record IsNextRun {A W : Type 0} (play : Answers → Outcome A W) (under : Answers) (front : Front)
+    (a : Answers) : Type 0 where
   pub run : IsRun play a
   pub left : is_left under front a ≡ true
   pub first : (b : Answers) → IsRun play b → is_left under front b ≡ true → Before b a → ⊥

@@ -1,4 +1,5 @@
--- This file defines what the writing of a sample leaves, and states the laws of samples. `report` gives the text of the report of a run.
+-- This file defines what the writing of a sample leaves, and states the laws of samples. `report` gives the text of
+-- the report of a run.
 --     WritesRun report a old new r         the report of the run a was written, or nothing, or a prefix of it
 --     WritesSample report list old new r   the reports of these runs were written, or those of the first of them
 --     PlaysDrawn play first s f            the run whose answers a chooser has drawn ends so
@@ -57,7 +58,8 @@ module _ (report : Answers → List ℕ) where
 -- ---- one run
 
 -- a chooser that began with the generator `first` has drawn the answers of a run that ends so, and keeps their bounds
-pub record PlaysDrawn (play : Answers → Outcome Finish (List ℕ)) (first : Lcg) (s : SeededAnswers) (f : Finish) : Type 0 where
+pub record PlaysDrawn (play : Answers → Outcome Finish (List ℕ)) (first : Lcg) (s : SeededAnswers)
+    (f : Finish) : Type 0 where
   pub first_is : s.first ≡ first
   pub outcome : play (drawn_from first s.bounds) ≡ Done f []
   pub bounds_are : s.bounds ≡ bounds play (drawn_from first s.bounds)
@@ -75,9 +77,12 @@ pub record SampleLaws {A W : Type 0} (play : Answers → Outcome A W) (most : �
   pub first :
       (g : Lcg) (a : Answers) (n : ℕ) → IsDrawnFrom g play a
       → sampled_runs most play g (suc n) ≡ a ∷ sampled_runs most play (generator_after g (length a)) n
-  -- the generator's words, one after the other, draw the answers of all runs: no word is left out, and none serves two answers
-  pub words : (g : Lcg) (n : ℕ) → concatenated (sampled_runs most play g n) ≡ drawn_from g (flat_map (bounds play) (sampled_runs most play g n))
+  -- the generator's words, one after the other, draw the answers of all runs: no word is left out, and none serves
+  -- two answers
+  pub words : (g : Lcg) (n : ℕ)
+      → concatenated (sampled_runs most play g n) ≡ drawn_from g (flat_map (bounds play) (sampled_runs most play g n))
   -- so a sample continues where a shorter one ends
   pub more :
       (g : Lcg) (m n : ℕ)
-      → sampled_runs most play g (m + n) ≡ sampled_runs most play g m ++ sampled_runs most play (generator_after g (length (concatenated (sampled_runs most play g m)))) n
+      → sampled_runs most play g (m + n) ≡ sampled_runs most play g m ++ sampled_runs most play
+      (generator_after g (length (concatenated (sampled_runs most play g m)))) n

@@ -1,6 +1,7 @@
 -- This file proves that the marks of what is read lie within its text.
 -- Main lemmas: `value_faults` and `target_faults`.
-use Rattle.std.proofs.Common.{◌≡◌, ℕ, ◌≤◌, Bool, true, false, cond, List, [], ◌∷◌, refl, arith, ℤ, pos, Result, Ok, Err, length, subst}
+use Rattle.std.proofs.Common.{◌≡◌, ℕ, ◌≤◌, Bool, true, false, cond, List, [], ◌∷◌, refl, arith, ℤ}
+use Rattle.std.proofs.Common.{pos, Result, Ok, Err, length, subst}
 use Rattle.std.specs.Prelude.{int_le, if◌then◌else◌}
 use Rattle.ptb_words.specs.declared.word.Number.TheVariants.{TooBig}
 use Rattle.ptb_words.specs.declared.word.Table.TheVariants.{Functions}
@@ -11,15 +12,20 @@ use Rattle.ptb_expr.specs.declared.fault.FaultKind.{FaultKind}
 use Rattle.ptb_expr.specs.declared.fault.FaultKind.TheVariants.{What, How}
 use Rattle.ptb_expr.specs.declared.store.Target.{Target}
 use Rattle.ptb_expr.specs.declared.store.Target.TheVariants as targets
-use Rattle.ptb_answers.specs.Outcome.{Answers, Outcome, Done, Asks, Out, go_on, unless_error, ◌>>=◌, success, failure, answer, is_answer}
+use Rattle.ptb_answers.specs.Outcome.{Answers, Outcome, Done, Asks, Out, go_on, unless_error, ◌>>=◌}
+use Rattle.ptb_answers.specs.Outcome.{success, failure, answer, is_answer}
 use Rattle.ptb_expr.specs.Store.{Cells, index_of, element_of, map_ok}
 use Rattle.ptb_expr.specs.Tree.{Tree, Num, Var, Size, Elem, Rnd, Abs, Neg, Bin, Bad, Unclosed}
-use Rattle.ptb_expr.specs.Value.{Work, fault, or_fault, operation, negation, absolute_value, random_number, value, target_of}
+use Rattle.ptb_expr.specs.Value.{Work, fault, or_fault, operation, negation, absolute_value}
+use Rattle.ptb_expr.specs.Value.{random_number, value, target_of}
 use Rattle.ptb_expr.specs.Reading.{Reading, Whole, Malformed, item_of, node_over, expression, variable_tree}
-use Rattle.ptb_expr.specs.Spells.{Part, Expr, Sum, First, MoreSum, Product, MoreProduct, Factor, Variable, Paren, Spells}
+use Rattle.ptb_expr.specs.Spells.{Part, Expr, Sum, First, MoreSum, Product, MoreProduct, Factor}
+use Rattle.ptb_expr.specs.Spells.{Variable, Paren, Spells}
 use Rattle.ptb_expr.specs.Spells as spells
 use Rattle.ptb_expr.specs.Marks.{MarksWithin}
-use Rattle.ptb_expr.proofs.SpelledTrees.{product_operator_ahead, sum_operator_ahead, comparison_ahead, ahead, expression_spelled, variable_tree_spelled}
+use Rattle.ptb_expr.proofs.SpelledTrees.{product_operator_ahead, sum_operator_ahead}
+use Rattle.ptb_expr.proofs.SpelledTrees.{comparison_ahead, ahead, expression_spelled}
+use Rattle.ptb_expr.proofs.SpelledTrees.{variable_tree_spelled}
 
 -- ---- faults
 
@@ -27,30 +33,39 @@ use Rattle.ptb_expr.proofs.SpelledTrees.{product_operator_ahead, sum_operator_ah
 pub record FaultsWithin {A : Type 0} (n : ℕ) (m : Work A) : Type 0 where
   pub by : (a rest : Answers) (e : Fault) → m a ≡ Done (Err e) rest → e.mark ≤ n
 
-bind_go : {A B : Type 0} (n : ℕ) (k : A → Work B) (o : Outcome (Result A Fault) (Unit {0})) → ((rest : Answers) (e : Fault) → o ≡ Done (Err e) rest → e.mark ≤ n) → ((v : A) → FaultsWithin n (k v)) → (rest : Answers) (e : Fault) → go_on o (unless_error k) ≡ Done (Err e) rest → e.mark ≤ n
+bind_go : {A B : Type 0} (n : ℕ) (k : A → Work B) (o : Outcome (Result A Fault) (Unit {0}))
+    → ((rest : Answers) (e : Fault) → o ≡ Done (Err e) rest → e.mark ≤ n) → ((v : A) → FaultsWithin n (k v))
+    → (rest : Answers) (e : Fault) → go_on o (unless_error k) ≡ Done (Err e) rest → e.mark ≤ n
 bind_go n k (Done (Ok v) a) h g rest e d = (g v).by a rest e d
 bind_go n k (Done (Err x) a) h g rest e d = let q : x ≡ e = cc in h a e (let p : a ≡ a = refl in cc)
 bind_go n k (Asks m w) h g rest e d = absurd (cc d)
 bind_go n k (Out m w) h g rest e d = absurd (cc d)
 
-bind_within : {A B : Type 0} (n : ℕ) (m : Work A) (k : A → Work B) → FaultsWithin n m → ((v : A) → FaultsWithin n (k v)) → FaultsWithin n (m >>= k)
+bind_within : {A B : Type 0} (n : ℕ) (m : Work A) (k : A → Work B) → FaultsWithin n m → ((v : A) → FaultsWithin n (k v))
+    → FaultsWithin n (m >>= k)
 bind_within n m k h g = record { by = λ a rest e d. bind_go n k (m a) (h.by a) g rest e d }
 
 success_within : {A : Type 0} (n : ℕ) (v : A) → FaultsWithin n (success v)
 success_within n v = record { by = λ a rest e d. absurd (cc d) }
 
-failure_within : {A : Type 0} (n : ℕ) (kind : FaultKind) (m : ℕ) → m ≤ n → FaultsWithin {A = A} n (failure (fault kind m))
-failure_within n kind m h = record { by = λ a rest e d. let q : fault kind m ≡ e = cc in subst (λ (x : Fault). x.mark ≤ n) q h }
+failure_within : {A : Type 0} (n : ℕ) (kind : FaultKind) (m : ℕ) → m ≤ n
+    → FaultsWithin {A = A} n (failure (fault kind m))
+failure_within n kind m h = record {
+  by = λ a rest e d. let q : fault kind m ≡ e = cc in
+      subst (λ (x : Fault). x.mark ≤ n) q h;
+}
 
 or_fault_within : {A : Type 0} (n : ℕ) (r : Result A FaultKind) (m : ℕ) → m ≤ n → FaultsWithin n (or_fault r m)
 or_fault_within n (Ok v) m h = success_within n v
 or_fault_within n (Err kind) m h = failure_within n kind m h
 
-answer_go : (n k : ℤ) (b : Bool) (a rest : Answers) (e : Fault) → go_on {W = Unit {0}} (cond b (Done k a) (Out n tt)) success ≡ Done (Err e) rest → ⊥
+answer_go : (n k : ℤ) (b : Bool) (a rest : Answers) (e : Fault)
+    → go_on {W = Unit {0}} (cond b (Done k a) (Out n tt)) success ≡ Done (Err e) rest → ⊥
 answer_go n k true a rest e d = cc d
 answer_go n k false a rest e d = cc d
 
-answer_never : (n : ℤ) (a rest : Answers) (e : Fault) → go_on {W = Unit {0}} (answer n tt a) success ≡ Done (Err e) rest → ⊥
+answer_never : (n : ℤ) (a rest : Answers) (e : Fault) → go_on {W = Unit {0}} (answer n tt a) success ≡ Done (Err e) rest
+    → ⊥
 unfolding answer
 answer_never n [] rest e d = cc d
 answer_never n (k ∷ a) rest e d = answer_go n k (is_answer n k) a rest e d
@@ -68,23 +83,29 @@ unfolding value
 value_within n c (Num v) h = success_within n v
 value_within n c (Var x) h = success_within n _
 value_within n c Size h = success_within n c.size
-value_within n c (Elem x m) h = bind_within n (value c x) _ (value_within n c x h.0) (λ i. or_fault_within n (element_of c i) m h.1)
+value_within n c (Elem x m) h = bind_within n (value c x) _ (value_within n c x h.0)
+    (λ i. or_fault_within n (element_of c i) m h.1)
 value_within n c (Rnd x m) h = bind_within n (value c x) _ (value_within n c x h.0) (λ v. random_within n v m h.1)
-value_within n c (Abs x m) h = bind_within n (value c x) _ (value_within n c x h.0) (λ v. or_fault_within n (absolute_value v) m h.1)
-value_within n c (Neg x m) h = bind_within n (value c x) _ (value_within n c x h.0) (λ v. or_fault_within n (negation v) m h.1)
+value_within n c (Abs x m) h = bind_within n (value c x) _ (value_within n c x h.0)
+    (λ v. or_fault_within n (absolute_value v) m h.1)
+value_within n c (Neg x m) h = bind_within n (value c x) _ (value_within n c x h.0)
+    (λ v. or_fault_within n (negation v) m h.1)
 value_within n c (Bin op x y m) h =
     bind_within n (value c x) _ (value_within n c x h.0) (λ v.
     bind_within n (value c y) _ (value_within n c y h.1) (λ w. or_fault_within n (operation op v w) m h.2))
 value_within n c (Bad kind m) h = failure_within n kind m h
-value_within n c (Unclosed x m) h = bind_within n (value c x) _ (value_within n c x h.0) (λ v. failure_within n What m h.1)
+value_within n c (Unclosed x m) h =
+    bind_within n (value c x) _ (value_within n c x h.0) (λ v. failure_within n What m h.1)
 
-other_within : (n : ℕ) (c : Cells) (x : Tree) → MarksWithin n x → FaultsWithin {A = Target} n (value c x >>= λ v. failure (fault What 0))
+other_within : (n : ℕ) (c : Cells) (x : Tree) → MarksWithin n x
+    → FaultsWithin {A = Target} n (value c x >>= λ v. failure (fault What 0))
 other_within n c x h = bind_within n (value c x) _ (value_within n c x h) (λ v. failure_within n What 0 (omega arith))
 
 target_within : (n : ℕ) (c : Cells) (x : Tree) → MarksWithin n x → FaultsWithin n (target_of c x)
 unfolding target_of
 target_within n c (Var x) h = success_within n _
-target_within n c (Elem x m) h = bind_within n (value c x) _ (value_within n c x h.0) (λ i. or_fault_within n (map_ok targets.Element (index_of c.size i)) m h.1)
+target_within n c (Elem x m) h = bind_within n (value c x) _ (value_within n c x h.0)
+    (λ i. or_fault_within n (map_ok targets.Element (index_of c.size i)) m h.1)
 target_within n c (Num v) h = other_within n c (Num v) h
 target_within n c Size h = other_within n c Size h
 target_within n c (Rnd x m) h = other_within n c (Rnd x m) h
@@ -94,10 +115,12 @@ target_within n c (Bin op x y m) h = other_within n c (Bin op x y m) h
 target_within n c (Bad kind m) h = other_within n c (Bad kind m) h
 target_within n c (Unclosed x m) h = other_within n c (Unclosed x m) h
 
-pub value_faults : (n : ℕ) (c : Cells) (x : Tree) (a rest : Answers) (e : Fault) → MarksWithin n x → value c x a ≡ Done (Err e) rest → e.mark ≤ n
+pub value_faults : (n : ℕ) (c : Cells) (x : Tree) (a rest : Answers) (e : Fault) → MarksWithin n x
+    → value c x a ≡ Done (Err e) rest → e.mark ≤ n
 value_faults n c x a rest e h d = (value_within n c x h).by a rest e d
 
-pub target_faults : (n : ℕ) (c : Cells) (x : Tree) (a rest : Answers) (e : Fault) → MarksWithin n x → target_of c x a ≡ Done (Err e) rest → e.mark ≤ n
+pub target_faults : (n : ℕ) (c : Cells) (x : Tree) (a rest : Answers) (e : Fault) → MarksWithin n x
+    → target_of c x a ≡ Done (Err e) rest → e.mark ≤ n
 target_faults n c x a rest e h d = (target_within n c x h).by a rest e d
 
 -- ---- what is read
@@ -107,7 +130,9 @@ module _ (laws : FindingLaws) (t : List ℕ) where
   Marked r = MarksWithin (length t) (item_of r)
 
   -- a node whose mark, or that of its malformed part, lies within
-  node_marked : (node : Tree → ℕ → Tree) (i m : ℕ) (r : Reading Tree) → ((x : Tree) (k : ℕ) → MarksWithin (length t) x → k ≤ length t → MarksWithin (length t) (node x k)) → m ≤ length t → ((x : Tree) (k : ℕ) → r ≡ Whole x k → k ≤ length t) → Marked r → Marked (node_over node m r)
+  node_marked : (node : Tree → ℕ → Tree) (i m : ℕ) (r : Reading Tree)
+      → ((x : Tree) (k : ℕ) → MarksWithin (length t) x → k ≤ length t → MarksWithin (length t) (node x k))
+      → m ≤ length t → ((x : Tree) (k : ℕ) → r ≡ Whole x k → k ≤ length t) → Marked r → Marked (node_over node m r)
   node_marked node i m (Whole x k) f h g d = f x k d (g x k refl)
   node_marked node i m (Malformed x) f h g d = f x m d h
 
@@ -118,13 +143,17 @@ module _ (laws : FindingLaws) (t : List ℕ) where
   IsBefore _ = Unit {0}
 
   paren_end : (i : ℕ) (r : Reading Tree) → Spells t Paren i r → (x : Tree) (k : ℕ) → r ≡ Whole x k → k ≤ length t
-  paren_end i r d x k e = let h : LiesAhead t i k = ahead laws t Paren i (Whole x k) (subst (Spells t Paren i) e d) in h.within
+  paren_end i r d x k e = let h : LiesAhead t i k = ahead laws t Paren i (Whole x k) (subst (Spells t Paren i) e d) in
+      h.within
 
   product_end : (i : ℕ) (r : Reading Tree) → Spells t Product i r → (x : Tree) (k : ℕ) → r ≡ Whole x k → k ≤ length t
-  product_end i r d x k e = let h : LiesAhead t i k = ahead laws t Product i (Whole x k) (subst (Spells t Product i) e d) in h.within
+  product_end i r d x k e = let h : LiesAhead t i k =
+      ahead laws t Product i (Whole x k) (subst (Spells t Product i) e d) in
+      h.within
 
   sum_end : (i : ℕ) (r : Reading Tree) → Spells t Sum i r → (x : Tree) (k : ℕ) → r ≡ Whole x k → k ≤ length t
-  sum_end i r d x k e = let h : LiesAhead t i k = ahead laws t Sum i (Whole x k) (subst (Spells t Sum i) e d) in h.within
+  sum_end i r d x k e = let h : LiesAhead t i k = ahead laws t Sum i (Whole x k) (subst (Spells t Sum i) e d) in
+      h.within
 
   marked : (part : Part) (i : ℕ) (r : Reading Tree) → Spells t part i r → i ≤ length t → IsBefore part → Marked r
   marked part i r (spells.sum_alone {j = j} {x = x} d e) low b = marked Sum i (Whole x j) d low tt
@@ -140,7 +169,8 @@ module _ (laws : FindingLaws) (t : List ℕ) where
   marked part i r (spells.minus_sign {j = j} {r = q} e h) low b =
       let a = laws.token 45 t i j e in
       node_marked Neg i j q (λ y l p q. (p, q)) a.within (product_end j q h) (marked Product j q h a.within tt)
-  marked part i r (spells.plus_sign {j = j} e f h) low b = let a = laws.token 43 t i j f in marked Product j r h a.within tt
+  marked part i r (spells.plus_sign {j = j} e f h) low b = let a = laws.token 43 t i j f in
+      marked Product j r h a.within tt
   marked part i r (spells.no_sign e f h) low b = marked Product i r h low tt
   marked part i r (spells.sum_end e) low b = b
   marked part i r (spells.sum_more {k = k} {l = l} {x = x} {y = y} {op = op} e d h) low b =
@@ -179,12 +209,14 @@ module _ (laws : FindingLaws) (t : List ℕ) where
       let a = laws.token 64 t i j f in
       node_marked Elem i j q (λ y l p q. (p, q)) a.within (paren_end j q h) (marked Paren j q h a.within tt)
   marked part i r (spells.no_variable e f) low b = low
-  marked part i r (spells.closed {j = j} {k = k} {x = x} e d f) low b = let a = laws.token 40 t i j e in marked Expr j (Whole x k) d a.within tt
+  marked part i r (spells.closed {j = j} {k = k} {x = x} e d f) low b = let a = laws.token 40 t i j e in
+      marked Expr j (Whole x k) d a.within tt
   marked part i r (spells.unclosed {j = j} {k = k} {x = x} e d f) low b =
       let a = laws.token 40 t i j e in
       let z : LiesAhead t j k = ahead laws t Expr j (Whole x k) d in
       (marked Expr j (Whole x k) d a.within tt, z.within)
-  marked part i r (spells.inside_malformed {j = j} {x = x} e d) low b = let a = laws.token 40 t i j e in marked Expr j (Malformed x) d a.within tt
+  marked part i r (spells.inside_malformed {j = j} {x = x} e d) low b = let a = laws.token 40 t i j e in
+      marked Expr j (Malformed x) d a.within tt
   marked part i r (spells.not_opened e) low b = low
 
   pub expression_marks : (i : ℕ) → i ≤ length t → MarksWithin (length t) (item_of (expression t i))

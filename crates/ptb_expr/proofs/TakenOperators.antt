@@ -1,13 +1,17 @@
 -- This file proves which operator stands where a byte stands next.
 -- Main lemma: `number_alone`.
-use Rattle.std.proofs.Common.{◌≡◌, ℕ, ◌+◌, ◌≤◌, ◌∙◌, Bool, true, false, List, refl, ap, eqb, leb, sym, Option, Some, None, arith}
+use Rattle.std.proofs.Common.{◌≡◌, ℕ, ◌+◌, ◌≤◌, ◌∙◌, Bool, true, false, List, refl, ap, eqb, leb}
+use Rattle.std.proofs.Common.{sym, Option, Some, None, arith}
 use Rattle.std.specs.Prelude.{IsFalse, ◌&&◌, if◌then◌else◌}
 use Rattle.std.proofs.lemmas.Bool.{ne_eqb, and_parts, false≢true, leb-true, lt-leb}
 use Rattle.ptb_words.specs.declared.word.Table.TheVariants.{Functions}
 use Rattle.ptb_words.specs.Digits.{is_digit}
-use Rattle.ptb_words.specs.Words.{past_blanks, next_byte_at, letter_at, number_at, is_number, token_at, pair_at, word_at}
+use Rattle.ptb_words.specs.Words.{past_blanks, next_byte_at, letter_at, number_at, is_number}
+use Rattle.ptb_words.specs.Words.{token_at, pair_at, word_at}
 use Rattle.ptb_words.specs.Finding.{StandsNext, FindingLaws, is_next, past_byte}
-use Rattle.ptb_expr.specs.declared.operator.Operator.TheVariants.{Plus, Minus, Multiply, Divide, GreaterEqual, NotEqual, Greater, Equals, LessEqual, Less}
+use Rattle.ptb_expr.specs.declared.operator.Operator.TheVariants.{Plus, Minus, Multiply, Divide}
+use Rattle.ptb_expr.specs.declared.operator.Operator.TheVariants.{GreaterEqual, NotEqual, Greater}
+use Rattle.ptb_expr.specs.declared.operator.Operator.TheVariants.{Equals, LessEqual, Less}
 use Rattle.ptb_expr.specs.Operators.{product_operator, sum_operator, comparison}
 
 -- no byte stands next that is c
@@ -28,7 +32,8 @@ pub no_product_operator_end : (t : List ℕ) (i : ℕ) → StandsNext t i None �
 unfolding product_operator
 no_product_operator_end t i s = rw (s.token 42, s.token 47) refl
 
-pub no_product_operator : (t : List ℕ) (i b : ℕ) → StandsNext t i (Some b) → (b ≡ 42 → ⊥) → (b ≡ 47 → ⊥) → product_operator t i ≡ None
+pub no_product_operator : (t : List ℕ) (i b : ℕ) → StandsNext t i (Some b) → (b ≡ 42 → ⊥) → (b ≡ 47 → ⊥)
+    → product_operator t i ≡ None
 unfolding product_operator
 no_product_operator t i b s f g = rw (s.token 42, s.token 47, other_byte 42 b f, other_byte 47 b g) refl
 
@@ -46,7 +51,8 @@ pub no_sum_operator_end : (t : List ℕ) (i : ℕ) → StandsNext t i None → s
 unfolding sum_operator
 no_sum_operator_end t i s = rw (s.token 43, s.token 45) refl
 
-pub no_sum_operator : (t : List ℕ) (i b : ℕ) → StandsNext t i (Some b) → (b ≡ 43 → ⊥) → (b ≡ 45 → ⊥) → sum_operator t i ≡ None
+pub no_sum_operator : (t : List ℕ) (i b : ℕ) → StandsNext t i (Some b) → (b ≡ 43 → ⊥) → (b ≡ 45 → ⊥)
+    → sum_operator t i ≡ None
 unfolding sum_operator
 no_sum_operator t i b s f g = rw (s.token 43, s.token 45, other_byte 43 b f, other_byte 45 b g) refl
 
@@ -56,7 +62,8 @@ pub at_least_next : (t : List ℕ) (i j : ℕ) → pair_at 62 61 t i ≡ Some j 
 unfolding comparison
 at_least_next t i j e = rw e refl
 
-pub at_most_next : (t : List ℕ) (i j : ℕ) → StandsNext t i (Some 60) → pair_at 60 61 t i ≡ Some j → comparison t i ≡ Some (LessEqual, j)
+pub at_most_next : (t : List ℕ) (i j : ℕ) → StandsNext t i (Some 60) → pair_at 60 61 t i ≡ Some j
+    → comparison t i ≡ Some (LessEqual, j)
 unfolding comparison
 at_most_next t i j s e = rw (s.pair 62 61 refl, s.token 35, s.token 62, s.token 61, e) refl
 
@@ -64,7 +71,8 @@ pub not_equal_next : (t : List ℕ) (i : ℕ) → StandsNext t i (Some 35) → c
 unfolding comparison
 not_equal_next t i s = rw (s.pair 62 61 refl, s.token 35) refl
 
-pub above_next : (t : List ℕ) (i : ℕ) → StandsNext t i (Some 62) → pair_at 62 61 t i ≡ None → comparison t i ≡ Some (Greater, past_byte t i)
+pub above_next : (t : List ℕ) (i : ℕ) → StandsNext t i (Some 62) → pair_at 62 61 t i ≡ None
+    → comparison t i ≡ Some (Greater, past_byte t i)
 unfolding comparison
 above_next t i s e = rw (e, s.token 35, s.token 62) refl
 
@@ -72,7 +80,8 @@ pub equals_next : (t : List ℕ) (i : ℕ) → StandsNext t i (Some 61) → comp
 unfolding comparison
 equals_next t i s = rw (s.pair 62 61 refl, s.token 35, s.token 62, s.token 61) refl
 
-pub below_next : (t : List ℕ) (i : ℕ) → StandsNext t i (Some 60) → pair_at 60 61 t i ≡ None → comparison t i ≡ Some (Less, past_byte t i)
+pub below_next : (t : List ℕ) (i : ℕ) → StandsNext t i (Some 60) → pair_at 60 61 t i ≡ None
+    → comparison t i ≡ Some (Less, past_byte t i)
 unfolding comparison
 below_next t i s e = rw (s.pair 62 61 refl, s.token 35, s.token 62, s.token 61, e, s.token 60) refl
 
@@ -80,19 +89,32 @@ pub no_comparison_end : (t : List ℕ) (i : ℕ) → StandsNext t i None → com
 unfolding comparison
 no_comparison_end t i s = rw (s.pair 62 61 refl, s.token 35, s.token 62, s.token 61, s.pair 60 61 refl, s.token 60) refl
 
-pub no_comparison : (t : List ℕ) (i b : ℕ) → StandsNext t i (Some b) → (b ≡ 62 → ⊥) → (b ≡ 60 → ⊥) → (b ≡ 35 → ⊥) → (b ≡ 61 → ⊥) → comparison t i ≡ None
+pub no_comparison : (t : List ℕ) (i b : ℕ) → StandsNext t i (Some b) → (b ≡ 62 → ⊥) → (b ≡ 60 → ⊥) → (b ≡ 35 → ⊥)
+    → (b ≡ 61 → ⊥) → comparison t i ≡ None
 unfolding comparison
 no_comparison t i b s above below unequal equal =
     let no_above : IsFalse (is_next (λ d. eqb 62 d) (Some b)) = other_byte 62 b above in
     let no_below : IsFalse (is_next (λ d. eqb 60 d) (Some b)) = other_byte 60 b below in
-    rw (s.pair 62 61 no_above, s.token 35, s.token 62, s.token 61, s.pair 60 61 no_below, s.token 60, other_byte 35 b unequal, other_byte 62 b above, other_byte 61 b equal, other_byte 60 b below) refl
+    rw (
+      s.pair 62 61 no_above,
+      s.token 35,
+      s.token 62,
+      s.token 61,
+      s.pair 60 61 no_below,
+      s.token 60,
+      other_byte 35 b unequal,
+      other_byte 62 b above,
+      other_byte 61 b equal,
+      other_byte 60 b below,
+    ) refl
 
 -- ---- functions
 
 pub no_function_end : (t : List ℕ) (i : ℕ) → StandsNext t i None → word_at Functions t i ≡ None
 no_function_end t i s = s.word Functions refl
 
-pub no_function : (t : List ℕ) (i b : ℕ) → StandsNext t i (Some b) → (b ≡ 82 → ⊥) → (b ≡ 65 → ⊥) → (b ≡ 83 → ⊥) → word_at Functions t i ≡ None
+pub no_function : (t : List ℕ) (i b : ℕ) → StandsNext t i (Some b) → (b ≡ 82 → ⊥) → (b ≡ 65 → ⊥) → (b ≡ 83 → ⊥)
+    → word_at Functions t i ≡ None
 no_function t i b s r a z = s.word Functions (rw (ne_eqb b 82 r, ne_eqb b 65 a, ne_eqb b 83 z) refl)
 
 -- ---- numbers
@@ -113,10 +135,14 @@ digit_alone t i (Some b) s h =
     let high : b ≤ 57 = leb-true b 57 range.1 in
     record {
       no_function = no_function t i b s (λ e. omega (arith, e)) (λ e. omega (arith, e)) (λ e. omega (arith, e));
-      no_letter = s.letter ∙ ap (λ (x : Bool). if x && leb b 90 then Some (b, past_blanks t (past_blanks t i + 1)) else None) (lt-leb 65 b (omega arith));
-      no_element = s.token 64 ∙ ap (λ (x : Bool). if x then Some (past_byte t i) else None) (ne_eqb 64 b (λ e. omega (arith, e)));
-      no_minus = s.token 45 ∙ ap (λ (x : Bool). if x then Some (past_byte t i) else None) (ne_eqb 45 b (λ e. omega (arith, e)));
-      no_plus = s.token 43 ∙ ap (λ (x : Bool). if x then Some (past_byte t i) else None) (ne_eqb 43 b (λ e. omega (arith, e)));
+      no_letter = s.letter ∙ ap (λ (x : Bool). if x && leb b 90 then Some (b, past_blanks t (past_blanks t i + 1)) else
+          None) (lt-leb 65 b (omega arith));
+      no_element = s.token 64 ∙ ap (λ (x : Bool). if x then Some (past_byte t i) else None)
+          (ne_eqb 64 b (λ e. omega (arith, e)));
+      no_minus = s.token 45 ∙ ap (λ (x : Bool). if x then Some (past_byte t i) else None)
+          (ne_eqb 45 b (λ e. omega (arith, e)));
+      no_plus = s.token 43 ∙ ap (λ (x : Bool). if x then Some (past_byte t i) else None)
+          (ne_eqb 43 b (λ e. omega (arith, e)));
     }
 
 pub number_alone : FindingLaws → (t : List ℕ) (i : ℕ) → is_number (number_at t i).0 ≡ true → IsAlone t i

@@ -1,6 +1,7 @@
 -- This file proves that no part of an expression is spelled in two ways: what is spelled is what is read.
 -- Main lemma: `unique`.
-use Rattle.std.proofs.Common.{◌≡◌, ℕ, zero, suc, ◌<◌, ◌≤◌, List, ◌∙◌, sym, ap, refl, arith, ℤ, Option, Some, None, length}
+use Rattle.std.proofs.Common.{◌≡◌, ℕ, zero, suc, ◌<◌, ◌≤◌, List, ◌∙◌, sym, ap, refl, arith, ℤ}
+use Rattle.std.proofs.Common.{Option, Some, None, length}
 use Rattle.ptb_words.specs.declared.word.Number.TheVariants.{Absent, Value, TooBig}
 use Rattle.ptb_words.specs.declared.word.Table.TheVariants.{Functions}
 use Rattle.ptb_words.specs.declared.word.Word.TheVariants.{RndKw, AbsKw, SizeKw}
@@ -10,34 +11,46 @@ use Rattle.ptb_expr.specs.declared.fault.FaultKind.TheVariants.{How}
 use Rattle.ptb_expr.specs.declared.operator.Operator.{Operator}
 use Rattle.ptb_expr.specs.Operators.{product_operator, sum_operator, comparison}
 use Rattle.ptb_expr.specs.Tree.{Tree, Num, Var, Size, Elem, Rnd, Abs, Neg, Bin, Bad, Unclosed}
-use Rattle.ptb_expr.specs.Reading.{Reading, Whole, Malformed, node_over, missing_part, more, paren, variable_or, variable, plain, factor, product, first_product, sum, expr_with, expr}
-use Rattle.ptb_expr.specs.Spells.{Part, Expr, Sum, First, MoreSum, Product, MoreProduct, Factor, Variable, Paren, Spells}
+use Rattle.ptb_expr.specs.Reading.{Reading, Whole, Malformed, node_over, missing_part, more, paren}
+use Rattle.ptb_expr.specs.Reading.{variable_or, variable, plain, factor, product, first_product}
+use Rattle.ptb_expr.specs.Reading.{sum, expr_with, expr}
+use Rattle.ptb_expr.specs.Spells.{Part, Expr, Sum, First, MoreSum, Product, MoreProduct, Factor}
+use Rattle.ptb_expr.specs.Spells.{Variable, Paren, Spells}
 use Rattle.ptb_expr.specs.Spells as spells
-use Rattle.ptb_expr.proofs.SpelledTrees.{rest, falls, product_operator_ahead, sum_operator_ahead, comparison_ahead, ahead}
+use Rattle.ptb_expr.proofs.SpelledTrees.{rest, falls, product_operator_ahead, sum_operator_ahead}
+use Rattle.ptb_expr.proofs.SpelledTrees.{comparison_ahead, ahead}
 
 -- ---- a list
 
-more_end : (operator : ℕ → Option (Operator × ℕ)) (read : ℕ → Reading Tree) (m : ℕ) (x : Tree) (j : ℕ) → operator j ≡ None → more operator read m x j ≡ Whole x j
+more_end : (operator : ℕ → Option (Operator × ℕ)) (read : ℕ → Reading Tree) (m : ℕ) (x : Tree) (j : ℕ)
+    → operator j ≡ None → more operator read m x j ≡ Whole x j
 unfolding more
 more_end operator read zero x j e = refl
 more_end operator read (suc m) x j e = rw e refl
 
-more_more : (operator : ℕ → Option (Operator × ℕ)) (read : ℕ → Reading Tree) (m : ℕ) (x y : Tree) (op : Operator) (j k l : ℕ) → operator j ≡ Some (op, k) → Whole y l ≡ read k → more operator read (suc m) x j ≡ more operator read m (Bin op x y l) l
+more_more : (operator : ℕ → Option (Operator × ℕ)) (read : ℕ → Reading Tree) (m : ℕ) (x y : Tree) (op : Operator)
+    (j k l : ℕ)
+    → operator j ≡ Some (op, k) → Whole y l ≡ read k
+    → more operator read (suc m) x j ≡ more operator read m (Bin op x y l) l
 unfolding more
 more_more operator read m x y op j k l e d = rw (e, sym d) refl
 
-more_malformed : (operator : ℕ → Option (Operator × ℕ)) (read : ℕ → Reading Tree) (m : ℕ) (x y : Tree) (op : Operator) (j k : ℕ) → operator j ≡ Some (op, k) → Malformed y ≡ read k → more operator read (suc m) x j ≡ Malformed (Bin op x y k)
+more_malformed : (operator : ℕ → Option (Operator × ℕ)) (read : ℕ → Reading Tree) (m : ℕ) (x y : Tree) (op : Operator)
+    (j k : ℕ)
+    → operator j ≡ Some (op, k) → Malformed y ≡ read k → more operator read (suc m) x j ≡ Malformed (Bin op x y k)
 unfolding more
 more_malformed operator read m x y op j k e d = rw (e, sym d) refl
 
 -- ---- each branch of each part
 
 module _ (t : List ℕ) (within : ℕ → Reading Tree) where
-  expr_alone : (i j : ℕ) (x : Tree) → Whole x j ≡ sum t within i → comparison t j ≡ None → Whole x j ≡ expr_with t within i
+  expr_alone : (i j : ℕ) (x : Tree) → Whole x j ≡ sum t within i → comparison t j ≡ None
+      → Whole x j ≡ expr_with t within i
   unfolding expr_with
   expr_alone i j x d e = rw (sym d, e) refl
 
-  expr_compared : (i j k : ℕ) (x : Tree) (op : Operator) → Whole x j ≡ sum t within i → comparison t j ≡ Some (op, k) → node_over (Bin op x) k (sum t within k) ≡ expr_with t within i
+  expr_compared : (i j k : ℕ) (x : Tree) (op : Operator) → Whole x j ≡ sum t within i → comparison t j ≡ Some (op, k)
+      → node_over (Bin op x) k (sum t within k) ≡ expr_with t within i
   unfolding expr_with
   expr_compared i j k x op d e = rw (sym d, e) refl
 
@@ -45,7 +58,8 @@ module _ (t : List ℕ) (within : ℕ → Reading Tree) where
   unfolding expr_with
   expr_malformed i x d = rw (sym d) refl
 
-  sum_whole : (i j : ℕ) (x : Tree) → Whole x j ≡ first_product t within i → more (sum_operator t) (product t within) (length t) x j ≡ sum t within i
+  sum_whole : (i j : ℕ) (x : Tree) → Whole x j ≡ first_product t within i
+      → more (sum_operator t) (product t within) (length t) x j ≡ sum t within i
   unfolding sum
   sum_whole i j x d = rw (sym d) refl
 
@@ -57,15 +71,18 @@ module _ (t : List ℕ) (within : ℕ → Reading Tree) where
   unfolding first_product
   first_minus i j e = rw e refl
 
-  first_plus : (i j : ℕ) → token_at 45 t i ≡ None → token_at 43 t i ≡ Some j → product t within j ≡ first_product t within i
+  first_plus : (i j : ℕ) → token_at 45 t i ≡ None → token_at 43 t i ≡ Some j
+      → product t within j ≡ first_product t within i
   unfolding first_product
   first_plus i j e f = rw (e, f) refl
 
-  first_plain : (i : ℕ) → token_at 45 t i ≡ None → token_at 43 t i ≡ None → product t within i ≡ first_product t within i
+  first_plain : (i : ℕ) → token_at 45 t i ≡ None → token_at 43 t i ≡ None
+      → product t within i ≡ first_product t within i
   unfolding first_product
   first_plain i e f = rw (e, f) refl
 
-  product_whole : (i j : ℕ) (x : Tree) → Whole x j ≡ factor t within i → more (product_operator t) (factor t within) (length t) x j ≡ product t within i
+  product_whole : (i j : ℕ) (x : Tree) → Whole x j ≡ factor t within i
+      → more (product_operator t) (factor t within) (length t) x j ≡ product t within i
   unfolding product
   product_whole i j x d = rw (sym d) refl
 
@@ -73,11 +90,13 @@ module _ (t : List ℕ) (within : ℕ → Reading Tree) where
   unfolding product
   product_malformed i x d = rw (sym d) refl
 
-  factor_rnd : (i j : ℕ) → word_at Functions t i ≡ Some (RndKw, j) → node_over Rnd j (paren t within j) ≡ factor t within i
+  factor_rnd : (i j : ℕ) → word_at Functions t i ≡ Some (RndKw, j)
+      → node_over Rnd j (paren t within j) ≡ factor t within i
   unfolding factor
   factor_rnd i j e = rw e refl
 
-  factor_abs : (i j : ℕ) → word_at Functions t i ≡ Some (AbsKw, j) → node_over Abs j (paren t within j) ≡ factor t within i
+  factor_abs : (i j : ℕ) → word_at Functions t i ≡ Some (AbsKw, j)
+      → node_over Abs j (paren t within j) ≡ factor t within i
   unfolding factor
   factor_abs i j e = rw e refl
 
@@ -85,29 +104,35 @@ module _ (t : List ℕ) (within : ℕ → Reading Tree) where
   unfolding factor
   factor_size i j e = rw e refl
 
-  factor_letter : (i : ℕ) (b : ℕ × ℕ) → word_at Functions t i ≡ None → letter_at t i ≡ Some b → variable t within i ≡ factor t within i
+  factor_letter : (i : ℕ) (b : ℕ × ℕ) → word_at Functions t i ≡ None → letter_at t i ≡ Some b
+      → variable t within i ≡ factor t within i
   unfolding factor plain variable variable_or
   factor_letter i b e f = rw (e, f) refl
 
   -- with an element both are read, whether a letter stands there or not
-  element_or : (o : Option (ℕ × ℕ)) (i j : ℕ) (d : Reading Tree) → letter_at t i ≡ o → token_at 64 t i ≡ Some j → variable t within i ≡ variable_or t within d i
+  element_or : (o : Option (ℕ × ℕ)) (i j : ℕ) (d : Reading Tree) → letter_at t i ≡ o → token_at 64 t i ≡ Some j
+      → variable t within i ≡ variable_or t within d i
   unfolding variable variable_or
   element_or None i j d e f = rw (e, f) refl
   element_or (Some b) i j d e f = rw e refl
 
-  factor_element : (i j : ℕ) → word_at Functions t i ≡ None → token_at 64 t i ≡ Some j → variable t within i ≡ factor t within i
+  factor_element : (i j : ℕ) → word_at Functions t i ≡ None → token_at 64 t i ≡ Some j
+      → variable t within i ≡ factor t within i
   unfolding factor plain
   factor_element i j e f = rw e (element_or (letter_at t i) i j _ refl f)
 
-  factor_number : (i j : ℕ) (v : ℤ) → word_at Functions t i ≡ None → letter_at t i ≡ None → token_at 64 t i ≡ None → number_at t i ≡ (Value v, j) → Whole (Num v) j ≡ factor t within i
+  factor_number : (i j : ℕ) (v : ℤ) → word_at Functions t i ≡ None → letter_at t i ≡ None → token_at 64 t i ≡ None
+      → number_at t i ≡ (Value v, j) → Whole (Num v) j ≡ factor t within i
   unfolding factor plain variable_or
   factor_number i j v e f g h = rw (e, f, g, h) refl
 
-  factor_too_big : (i j : ℕ) → word_at Functions t i ≡ None → letter_at t i ≡ None → token_at 64 t i ≡ None → number_at t i ≡ (TooBig, j) → Malformed (Bad How j) ≡ factor t within i
+  factor_too_big : (i j : ℕ) → word_at Functions t i ≡ None → letter_at t i ≡ None → token_at 64 t i ≡ None
+      → number_at t i ≡ (TooBig, j) → Malformed (Bad How j) ≡ factor t within i
   unfolding factor plain variable_or
   factor_too_big i j e f g h = rw (e, f, g, h) refl
 
-  factor_paren : (i j : ℕ) → word_at Functions t i ≡ None → letter_at t i ≡ None → token_at 64 t i ≡ None → number_at t i ≡ (Absent, j) → paren t within i ≡ factor t within i
+  factor_paren : (i j : ℕ) → word_at Functions t i ≡ None → letter_at t i ≡ None → token_at 64 t i ≡ None
+      → number_at t i ≡ (Absent, j) → paren t within i ≡ factor t within i
   unfolding factor plain variable_or
   factor_paren i j e f g h = rw (e, f, g, h) refl
 
@@ -115,7 +140,8 @@ module _ (t : List ℕ) (within : ℕ → Reading Tree) where
   unfolding variable variable_or
   variable_letter i b j e = rw e refl
 
-  variable_element : (i j : ℕ) → letter_at t i ≡ None → token_at 64 t i ≡ Some j → node_over Elem j (paren t within j) ≡ variable t within i
+  variable_element : (i j : ℕ) → letter_at t i ≡ None → token_at 64 t i ≡ Some j
+      → node_over Elem j (paren t within j) ≡ variable t within i
   unfolding variable variable_or
   variable_element i j e f = rw (e, f) refl
 
@@ -123,15 +149,18 @@ module _ (t : List ℕ) (within : ℕ → Reading Tree) where
   unfolding variable variable_or
   variable_missing i e f = rw (e, f) refl
 
-  paren_closed : (i j k l : ℕ) (x : Tree) → token_at 40 t i ≡ Some j → Whole x k ≡ within j → token_at 41 t k ≡ Some l → Whole x l ≡ paren t within i
+  paren_closed : (i j k l : ℕ) (x : Tree) → token_at 40 t i ≡ Some j → Whole x k ≡ within j → token_at 41 t k ≡ Some l
+      → Whole x l ≡ paren t within i
   unfolding paren
   paren_closed i j k l x e d f = rw (e, sym d, f) refl
 
-  paren_unclosed : (i j k : ℕ) (x : Tree) → token_at 40 t i ≡ Some j → Whole x k ≡ within j → token_at 41 t k ≡ None → Malformed (Unclosed x k) ≡ paren t within i
+  paren_unclosed : (i j k : ℕ) (x : Tree) → token_at 40 t i ≡ Some j → Whole x k ≡ within j → token_at 41 t k ≡ None
+      → Malformed (Unclosed x k) ≡ paren t within i
   unfolding paren
   paren_unclosed i j k x e d f = rw (e, sym d, f) refl
 
-  paren_malformed : (i j : ℕ) (x : Tree) → token_at 40 t i ≡ Some j → Malformed x ≡ within j → Malformed x ≡ paren t within i
+  paren_malformed : (i j : ℕ) (x : Tree) → token_at 40 t i ≡ Some j → Malformed x ≡ within j
+      → Malformed x ≡ paren t within i
   unfolding paren
   paren_malformed i j x e d = rw (e, sym d) refl
 
@@ -156,30 +185,42 @@ module _ (laws : FindingLaws) (t : List ℕ) where
   abbrev IsRead : Part → ℕ → Reading Tree → Type 0
   IsRead part i r = (n m : ℕ) → rest laws t i ≤ n → rest laws t i ≤ m → r ≡ read n m part i
 
-  inside : (i j : ℕ) (r : Reading Tree) → rest laws t j < rest laws t i → IsRead Expr j r → (n : ℕ) → rest laws t i ≤ n → r ≡ expr t n j
+  inside : (i j : ℕ) (r : Reading Tree) → rest laws t j < rest laws t i → IsRead Expr j r → (n : ℕ) → rest laws t i ≤ n
+      → r ≡ expr t n j
   unfolding expr
   inside i j r less h zero low = absurd (omega arith)
   inside i j r less h (suc n) low = h n n (omega arith) (omega arith)
 
-  goes : (operator : ℕ → Option (Operator × ℕ)) (reads : ℕ → Reading Tree) (x y : Tree) (op : Operator) (r : Reading Tree) (j k l m : ℕ) → rest laws t l < rest laws t j → rest laws t j ≤ m → operator j ≡ Some (op, k) → Whole y l ≡ reads k → ((m : ℕ) → rest laws t l ≤ m → r ≡ more operator reads m (Bin op x y l) l) → r ≡ more operator reads m x j
+  goes : (operator : ℕ → Option (Operator × ℕ)) (reads : ℕ → Reading Tree) (x y : Tree) (op : Operator)
+      (r : Reading Tree) (j k l m : ℕ)
+      → rest laws t l < rest laws t j → rest laws t j ≤ m → operator j ≡ Some (op, k) → Whole y l ≡ reads k
+      → ((m : ℕ) → rest laws t l ≤ m → r ≡ more operator reads m (Bin op x y l) l) → r ≡ more operator reads m x j
   goes operator reads x y op r j k l zero less low e d h = absurd (omega arith)
-  goes operator reads x y op r j k l (suc m) less low e d h = h m (omega arith) ∙ sym (more_more operator reads m x y op j k l e d)
+  goes operator reads x y op r j k l (suc m) less low e d h =
+      h m (omega arith) ∙ sym (more_more operator reads m x y op j k l e d)
 
-  spoils : (operator : ℕ → Option (Operator × ℕ)) (reads : ℕ → Reading Tree) (x y : Tree) (op : Operator) (j k m : ℕ) → rest laws t k < rest laws t j → rest laws t j ≤ m → operator j ≡ Some (op, k) → Malformed y ≡ reads k → Malformed (Bin op x y k) ≡ more operator reads m x j
+  spoils : (operator : ℕ → Option (Operator × ℕ)) (reads : ℕ → Reading Tree) (x y : Tree) (op : Operator) (j k m : ℕ)
+      → rest laws t k < rest laws t j → rest laws t j ≤ m → operator j ≡ Some (op, k) → Malformed y ≡ reads k
+      → Malformed (Bin op x y k) ≡ more operator reads m x j
   spoils operator reads x y op j k zero less low e d = absurd (omega arith)
   spoils operator reads x y op j k (suc m) less low e d = sym (more_malformed operator reads m x y op j k e d)
 
   is_read : (part : Part) (i : ℕ) (r : Reading Tree) → Spells t part i r → IsRead part i r
-  is_read part i r (spells.sum_alone {j = j} {x = x} d e) = λ n m p q. expr_alone t (expr t n) i j x (is_read Sum i (Whole x j) d n m p q) e
+  is_read part i r (spells.sum_alone {j = j} {x = x} d e) =
+      λ n m p q. expr_alone t (expr t n) i j x (is_read Sum i (Whole x j) d n m p q) e
   is_read part i r (spells.compared {j = j} {k = k} {x = x} {op = op} {r = s} d e h) = λ n m p q.
       let a : rest laws t j < rest laws t i = falls laws t i j (ahead laws t Sum i (Whole x j) d) in
       let b : rest laws t k < rest laws t j = falls laws t j k (comparison_ahead laws t j op k e) in
-      ap (node_over (Bin op x) k) (is_read Sum k s h n m (omega arith) (omega arith)) ∙ expr_compared t (expr t n) i j k x op (is_read Sum i (Whole x j) d n m p q) e
-  is_read part i r (spells.sum_malformed {x = x} d) = λ n m p q. expr_malformed t (expr t n) i x (is_read Sum i (Malformed x) d n m p q)
+      ap (node_over (Bin op x) k) (is_read Sum k s h n m (omega arith) (omega arith))
+      ∙ expr_compared t (expr t n) i j k x op (is_read Sum i (Whole x j) d n m p q) e
+  is_read part i r (spells.sum_malformed {x = x} d) =
+      λ n m p q. expr_malformed t (expr t n) i x (is_read Sum i (Malformed x) d n m p q)
   is_read part i r (spells.sum {j = j} {x = x} d h) = λ n m p q.
       let a : rest laws t j < rest laws t i = falls laws t i j (ahead laws t First i (Whole x j) d) in
-      is_read (MoreSum x) j r h n (length t) (omega arith) (omega arith) ∙ sum_whole t (expr t n) i j x (is_read First i (Whole x j) d n m p q)
-  is_read part i r (spells.first_malformed {x = x} d) = λ n m p q. sum_malformed t (expr t n) i x (is_read First i (Malformed x) d n m p q)
+      is_read (MoreSum x) j r h n (length t) (omega arith) (omega arith)
+      ∙ sum_whole t (expr t n) i j x (is_read First i (Whole x j) d n m p q)
+  is_read part i r (spells.first_malformed {x = x} d) =
+      λ n m p q. sum_malformed t (expr t n) i x (is_read First i (Malformed x) d n m p q)
   is_read part i r (spells.minus_sign {j = j} {r = s} e h) = λ n m p q.
       let a : rest laws t j < rest laws t i = falls laws t i j (laws.token 45 t i j e) in
       ap (node_over Neg j) (is_read Product j s h n m (omega arith) (omega arith)) ∙ first_minus t (expr t n) i j e
@@ -187,26 +228,34 @@ module _ (laws : FindingLaws) (t : List ℕ) where
       let a : rest laws t j < rest laws t i = falls laws t i j (laws.token 43 t i j f) in
       is_read Product j r h n m (omega arith) (omega arith) ∙ first_plus t (expr t n) i j e f
   is_read part i r (spells.no_sign e f h) = λ n m p q. is_read Product i r h n m p q ∙ first_plain t (expr t n) i e f
-  is_read part i r (spells.sum_end {x = x} e) = λ n m p q. sym (more_end (sum_operator t) (product t (expr t n)) m x i e)
+  is_read part i r (spells.sum_end {x = x} e) =
+      λ n m p q. sym (more_end (sum_operator t) (product t (expr t n)) m x i e)
   is_read part i r (spells.sum_more {k = k} {l = l} {x = x} {y = y} {op = op} e d h) = λ n m p q.
       let a : rest laws t k < rest laws t i = falls laws t i k (sum_operator_ahead laws t i op k e) in
       let b : rest laws t l < rest laws t k = falls laws t k l (ahead laws t Product k (Whole y l) d) in
-      goes (sum_operator t) (product t (expr t n)) x y op r i k l m (omega arith) q e (is_read Product k (Whole y l) d n m (omega arith) (omega arith)) (λ m q. is_read (MoreSum (Bin op x y l)) l r h n m (omega arith) q)
+      goes (sum_operator t) (product t (expr t n)) x y op r i k l m (omega arith) q e (is_read Product k (Whole y l) d n
+      m (omega arith) (omega arith)) (λ m q. is_read (MoreSum (Bin op x y l)) l r h n m (omega arith) q)
   is_read part i r (spells.product_malformed {k = k} {x = x} {y = y} {op = op} e d) = λ n m p q.
       let a : rest laws t k < rest laws t i = falls laws t i k (sum_operator_ahead laws t i op k e) in
-      spoils (sum_operator t) (product t (expr t n)) x y op i k m a q e (is_read Product k (Malformed y) d n m (omega arith) (omega arith))
+      spoils (sum_operator t) (product t (expr t n)) x y op i k m a q e
+      (is_read Product k (Malformed y) d n m (omega arith) (omega arith))
   is_read part i r (spells.product {j = j} {x = x} d h) = λ n m p q.
       let a : rest laws t j < rest laws t i = falls laws t i j (ahead laws t Factor i (Whole x j) d) in
-      is_read (MoreProduct x) j r h n (length t) (omega arith) (omega arith) ∙ product_whole t (expr t n) i j x (is_read Factor i (Whole x j) d n m p q)
-  is_read part i r (spells.first_factor_malformed {x = x} d) = λ n m p q. product_malformed t (expr t n) i x (is_read Factor i (Malformed x) d n m p q)
-  is_read part i r (spells.product_end {x = x} e) = λ n m p q. sym (more_end (product_operator t) (factor t (expr t n)) m x i e)
+      is_read (MoreProduct x) j r h n (length t) (omega arith) (omega arith)
+      ∙ product_whole t (expr t n) i j x (is_read Factor i (Whole x j) d n m p q)
+  is_read part i r (spells.first_factor_malformed {x = x} d) =
+      λ n m p q. product_malformed t (expr t n) i x (is_read Factor i (Malformed x) d n m p q)
+  is_read part i r (spells.product_end {x = x} e) =
+      λ n m p q. sym (more_end (product_operator t) (factor t (expr t n)) m x i e)
   is_read part i r (spells.product_more {k = k} {l = l} {x = x} {y = y} {op = op} e d h) = λ n m p q.
       let a : rest laws t k < rest laws t i = falls laws t i k (product_operator_ahead laws t i op k e) in
       let b : rest laws t l < rest laws t k = falls laws t k l (ahead laws t Factor k (Whole y l) d) in
-      goes (product_operator t) (factor t (expr t n)) x y op r i k l m (omega arith) q e (is_read Factor k (Whole y l) d n m (omega arith) (omega arith)) (λ m q. is_read (MoreProduct (Bin op x y l)) l r h n m (omega arith) q)
+      goes (product_operator t) (factor t (expr t n)) x y op r i k l m (omega arith) q e (is_read Factor k (Whole y l) d
+      n m (omega arith) (omega arith)) (λ m q. is_read (MoreProduct (Bin op x y l)) l r h n m (omega arith) q)
   is_read part i r (spells.factor_malformed {k = k} {x = x} {y = y} {op = op} e d) = λ n m p q.
       let a : rest laws t k < rest laws t i = falls laws t i k (product_operator_ahead laws t i op k e) in
-      spoils (product_operator t) (factor t (expr t n)) x y op i k m a q e (is_read Factor k (Malformed y) d n m (omega arith) (omega arith))
+      spoils (product_operator t) (factor t (expr t n)) x y op i k m a q e
+      (is_read Factor k (Malformed y) d n m (omega arith) (omega arith))
   is_read part i r (spells.rnd {j = j} {r = s} e h) = λ n m p q.
       let a : rest laws t j < rest laws t i = falls laws t i j (laws.word Functions t i RndKw j e) in
       ap (node_over Rnd j) (is_read Paren j s h n m (omega arith) (omega arith)) ∙ factor_rnd t (expr t n) i j e
@@ -214,22 +263,29 @@ module _ (laws : FindingLaws) (t : List ℕ) where
       let a : rest laws t j < rest laws t i = falls laws t i j (laws.word Functions t i AbsKw j e) in
       ap (node_over Abs j) (is_read Paren j s h n m (omega arith) (omega arith)) ∙ factor_abs t (expr t n) i j e
   is_read part i r (spells.size {j = j} e) = λ n m p q. factor_size t (expr t n) i j e
-  is_read part i r (spells.letter_variable {b = b} e f h) = λ n m p q. is_read Variable i r h n m p q ∙ factor_letter t (expr t n) i b e f
-  is_read part i r (spells.element_variable {j = j} e f h) = λ n m p q. is_read Variable i r h n m p q ∙ factor_element t (expr t n) i j e f
+  is_read part i r (spells.letter_variable {b = b} e f h) = λ n m p q. is_read Variable i r h n m p q
+      ∙ factor_letter t (expr t n) i b e f
+  is_read part i r (spells.element_variable {j = j} e f h) = λ n m p q. is_read Variable i r h n m p q
+      ∙ factor_element t (expr t n) i j e f
   is_read part i r (spells.number {j = j} {v = v} e f g h) = λ n m p q. factor_number t (expr t n) i j v e f g h
   is_read part i r (spells.number_too_big {j = j} e f g h) = λ n m p q. factor_too_big t (expr t n) i j e f g h
-  is_read part i r (spells.paren {j = j} e f g h d) = λ n m p q. is_read Paren i r d n m p q ∙ factor_paren t (expr t n) i j e f g h
+  is_read part i r (spells.paren {j = j} e f g h d) = λ n m p q. is_read Paren i r d n m p q
+      ∙ factor_paren t (expr t n) i j e f g h
   is_read part i r (spells.letter {j = j} {b = b} e) = λ n m p q. variable_letter t (expr t n) i b j e
   is_read part i r (spells.element {j = j} {r = s} e f h) = λ n m p q.
       let a : rest laws t j < rest laws t i = falls laws t i j (laws.token 64 t i j f) in
-      ap (node_over Elem j) (is_read Paren j s h n m (omega arith) (omega arith)) ∙ variable_element t (expr t n) i j e f
+      ap (node_over Elem j) (is_read Paren j s h n m (omega arith) (omega arith))
+      ∙ variable_element t (expr t n) i j e f
   is_read part i r (spells.no_variable e f) = λ n m p q. variable_missing t (expr t n) i e f
   is_read part i r (spells.closed {j = j} {k = k} {l = l} {x = x} e d f) = λ n m p q.
-      paren_closed t (expr t n) i j k l x e (inside i j (Whole x k) (falls laws t i j (laws.token 40 t i j e)) (is_read Expr j (Whole x k) d) n p) f
+      paren_closed t (expr t n) i j k l x e
+      (inside i j (Whole x k) (falls laws t i j (laws.token 40 t i j e)) (is_read Expr j (Whole x k) d) n p) f
   is_read part i r (spells.unclosed {j = j} {k = k} {x = x} e d f) = λ n m p q.
-      paren_unclosed t (expr t n) i j k x e (inside i j (Whole x k) (falls laws t i j (laws.token 40 t i j e)) (is_read Expr j (Whole x k) d) n p) f
+      paren_unclosed t (expr t n) i j k x e
+      (inside i j (Whole x k) (falls laws t i j (laws.token 40 t i j e)) (is_read Expr j (Whole x k) d) n p) f
   is_read part i r (spells.inside_malformed {j = j} {x = x} e d) = λ n m p q.
-      paren_malformed t (expr t n) i j x e (inside i j (Malformed x) (falls laws t i j (laws.token 40 t i j e)) (is_read Expr j (Malformed x) d) n p)
+      paren_malformed t (expr t n) i j x e
+      (inside i j (Malformed x) (falls laws t i j (laws.token 40 t i j e)) (is_read Expr j (Malformed x) d) n p)
   is_read part i r (spells.not_opened e) = λ n m p q. paren_missing t (expr t n) i e
 
   pub unique : (part : Part) (i : ℕ) (r s : Reading Tree) → Spells t part i r → Spells t part i s → r ≡ s

@@ -15,12 +15,14 @@ zeros_after m n xs within zeros =
     rw (drop-drop (m - n) n xs, at, left) at behind
 
 -- a value that is stored in front of a place leaves what is behind it
-pub zeros_stored : (m n i : ℕ) (v : ℤ) (xs : List ℤ) → n ≤ m → i + 1 ≤ m → IsZeroFrom n xs → IsZeroFrom m (slice_set xs i v)
+pub zeros_stored : (m n i : ℕ) (v : ℤ) (xs : List ℤ) → n ≤ m → i + 1 ≤ m → IsZeroFrom n xs
+    → IsZeroFrom m (slice_set xs i v)
 zeros_stored m n i v xs within before zeros =
     rw (drop-set-lt m xs i v (omega (arith, before)), length-set xs i v) (zeros_after m n xs within zeros)
 
 -- what is in front is all that must be taken over
-pub zeros_copied : (m n k : ℕ) (xs ys : List ℤ) → n ≤ m → k ≤ m → IsZeroFrom n xs → IsZeroFrom k ys → length xs ≡ length ys
+pub zeros_copied : (m n k : ℕ) (xs ys : List ℤ) → n ≤ m → k ≤ m → IsZeroFrom n xs → IsZeroFrom k ys
+    → length xs ≡ length ys
     → take m ys ++ drop m xs ≡ ys
 zeros_copied m n k xs ys a b zeros others same =
     rw (zeros_after m n xs a zeros, same) (rw (zeros_after m k ys b others) at (take-append-drop m ys))

@@ -1,5 +1,6 @@
 -- This file defines what is found where an expression is evaluated while it is read.
---     ReadsValue c t part i j v     the part of the grammar goes from i to j in the text t, and has the value v with the cells c
+--     ReadsValue c t part i j v     the part of the grammar goes from i to j in the text t, and has the value v with
+--                                   the cells c
 --     GivesValue part c a b v       the same for the part between two states of a cursor
 use Rattle.std.specs.Prelude.{◌≡◌, ℕ, List, ℤ}
 use Rattle.ptb_words.specs.CursorState.{CursorState}

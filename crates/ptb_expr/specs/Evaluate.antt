@@ -1,11 +1,13 @@
 -- This file defines what `evaluate` and `target` promise.
 --     expression_there s, variable_there s           what is read of the expression, and of the variable, at a cursor
 --     expression_value c s, variable_target c s      what it comes to
---     Evaluates refused f c d result                 f was worked out between two states of a chooser, and came to the result
+--     Evaluates refused f c d result                 f was worked out between two states of a chooser, and came to the
+--                                                    result
 --     IsWhole r j                                    what was read is whole, and j is the place after it
 --     IsTarget c v                                   a value can be stored there
 --     IsMarkedWithin t result                        a fault is marked inside the text
---     IsEvaluated .. c a b old new result            the expression at a cursor, at a and then at b, comes to the result
+--     IsEvaluated .. c a b old new result            the expression at a cursor, at a and then at b, comes to the
+--                                                    result
 use Rattle.std.specs.Prelude.{◌≡◌, ℕ, ◌≤◌, List, length, ℤ, Result, Ok, Err, IfOk}
 use Rattle.ptb_words.specs.CursorState.{CursorState, bytes_left}
 use Rattle.ptb_words.specs.Finding.{LiesAhead}
@@ -41,7 +43,8 @@ WorkComes refused f c d (Ok v) = Reaches f c d (success v)
 WorkComes refused f c d (Err (stops.Fault e)) = Reaches f c d (failure e)
 WorkComes refused f c d (Err (stops.Pause z)) = Pauses refused f c d z
 
-pub record Evaluates {V : Type 0} (refused : Pause → ℤ → Type 0) (f : Work V) (c d : Choices) (result : Result V Stop) : Type 0 where
+pub record Evaluates {V : Type 0} (refused : Pause → ℤ → Type 0) (f : Work V) (c d : Choices)
+    (result : Result V Stop) : Type 0 where
   pub gives : WorkComes refused f c d result
 
 abbrev pub IsWhole : {A : Type 0} → Reading A → ℕ → Type 0
@@ -58,7 +61,8 @@ IsMarkedWithin t (Err (stops.Fault e)) = e.mark ≤ length t
 IsMarkedWithin t (Err (stops.Pause z)) = Unit {0}
 
 -- the cells are c, the cursor is at a and then at b, and the chooser is old and then new
-pub record IsEvaluated {C : Type 0} (chooser : choosers.Ghosts C) (c : Cells) (a b : CursorState) (old new : C) (result : Result ℤ Stop) : Type 0 where
+pub record IsEvaluated {C : Type 0} (chooser : choosers.Ghosts C) (c : Cells) (a b : CursorState) (old new : C)
+    (result : Result ℤ Stop) : Type 0 where
   pub text : b.text ≡ a.text
   pub value : Evaluates (chooser.refused new) (expression_value c a) (chooser.choices old) (chooser.choices new) result
   pub spelled : Spells a.text Expr a.place (expression_there a)

@@ -24,5 +24,7 @@ MarksWithin n (Unclosed x m) = MarksWithin n x × (m ≤ n)
 pub record MarkLaws : Type 0 where
   pub expression_marks : (t : List ℕ) (i : ℕ) → i ≤ length t → MarksWithin (length t) (item_of (expression t i))
   pub variable_marks : (t : List ℕ) (i : ℕ) → i ≤ length t → MarksWithin (length t) (item_of (variable_tree t i))
-  pub value_faults : (n : ℕ) (c : Cells) (x : Tree) (a rest : Answers) (e : Fault) → MarksWithin n x → value c x a ≡ Done (Err e) rest → e.mark ≤ n
-  pub target_faults : (n : ℕ) (c : Cells) (x : Tree) (a rest : Answers) (e : Fault) → MarksWithin n x → target_of c x a ≡ Done (Err e) rest → e.mark ≤ n
+  pub value_faults : (n : ℕ) (c : Cells) (x : Tree) (a rest : Answers) (e : Fault) → MarksWithin n x
+      → value c x a ≡ Done (Err e) rest → e.mark ≤ n
+  pub target_faults : (n : ℕ) (c : Cells) (x : Tree) (a rest : Answers) (e : Fault) → MarksWithin n x
+      → target_of c x a ≡ Done (Err e) rest → e.mark ≤ n

@@ -1,8 +1,11 @@
 -- This file defines how operators are written.
---     product_operator, sum_operator, comparison     the operator of this kind at a place of a text, and the place after it
+--     product_operator, sum_operator, comparison     the operator of this kind at a place of a text, and the place
+--                                                    after it
 use Rattle.std.specs.Prelude.{ℕ, List, Option, option_map}
 use Rattle.ptb_expr.specs.declared.operator.Operator.{Operator}
-use Rattle.ptb_expr.specs.declared.operator.Operator.TheVariants.{Plus, Minus, Multiply, Divide, GreaterEqual, NotEqual, Greater, Equals, LessEqual, Less}
+use Rattle.ptb_expr.specs.declared.operator.Operator.TheVariants.{Plus, Minus, Multiply, Divide}
+use Rattle.ptb_expr.specs.declared.operator.Operator.TheVariants.{GreaterEqual, NotEqual, Greater}
+use Rattle.ptb_expr.specs.declared.operator.Operator.TheVariants.{Equals, LessEqual, Less}
 use Rattle.std.specs.Option.{option_or}
 use Rattle.ptb_words.specs.Words.{token_at, pair_at}
 

@@ -7,7 +7,8 @@
 --     paren    = "(" expr ")"
 --     variable = letter | "@" paren
 --
---     expression t i, variable_tree t i        the reading of an expression, and of a variable, at place i of the text t
+--     expression t i, variable_tree t i        the reading of an expression, and of a variable, at place i of the text
+--                                              t
 use Rattle.std.specs.Prelude.{ℕ, zero, suc, List, length, ℤ, Option, Some, None}
 use Rattle.ptb_words.specs.declared.word.Number.{Number}
 use Rattle.ptb_words.specs.declared.word.Number.TheVariants.{Absent, Value, TooBig}

@@ -3,7 +3,9 @@
 --     index_of size i                                    the index i of the array, if there is such an element
 --     element_of c i, with_element c i v                 the element there
 --     empty_cells size                                   all of them 0
-use Rattle.std.specs.Prelude.{ℕ, ◌+◌, ◌-◌, ◌/◌, List, ℤ, pos, ◌*ℤ◌, Result, Ok, Err, if◌then◌else◌, int_lt, slice_index_or, slice_set, unsigned_abs, replicate, ◌≡◌, drop, length}
+use Rattle.std.specs.Prelude.{ℕ, ◌+◌, ◌-◌, ◌/◌, List, ℤ, pos, ◌*ℤ◌, Result, Ok, Err, if◌then◌else◌}
+use Rattle.std.specs.Prelude.{int_lt, slice_index_or, slice_set, unsigned_abs, replicate, ◌≡◌, drop}
+use Rattle.std.specs.Prelude.{length}
 use Rattle.ptb_expr.specs.declared.fault.FaultKind.{FaultKind}
 use Rattle.ptb_expr.specs.declared.fault.FaultKind.TheVariants.{How, Sorry}
 

@@ -1,12 +1,16 @@
--- This file defines what an expression is worth. The left operand comes first, and hands on the answers that it didn't take.
+-- This file defines what an expression is worth. The left operand comes first, and hands on the answers that it
+-- didn't take.
 --     value c x                the value of the tree x, with the cells c
 --     target_of c x            what the tree of a variable names: a letter, or an element whose index is worked out
 --     operation op v w         what an operator gives
 --     chosen n                 an answer from 1 to n
-use Rattle.std.specs.Prelude.{ℕ, Bool, not, ◌&&◌, ℤ, pos, ◌+ℤ◌, ◌-ℤ◌, ◌*ℤ◌, Result, Ok, Err, if◌then◌else◌, int_lt, int_le, int_div, unsigned_abs, neg_ℤ}
+use Rattle.std.specs.Prelude.{ℕ, Bool, not, ◌&&◌, ℤ, pos, ◌+ℤ◌, ◌-ℤ◌, ◌*ℤ◌, Result, Ok, Err}
+use Rattle.std.specs.Prelude.{if◌then◌else◌, int_lt, int_le, int_div, unsigned_abs, neg_ℤ}
 use Rattle.std.specs.Ordering.{int_eq}
 use Rattle.ptb_expr.specs.declared.operator.Operator.{Operator}
-use Rattle.ptb_expr.specs.declared.operator.Operator.TheVariants.{Plus, Minus, Multiply, Divide, GreaterEqual, NotEqual, Greater, Equals, LessEqual, Less}
+use Rattle.ptb_expr.specs.declared.operator.Operator.TheVariants.{Plus, Minus, Multiply, Divide}
+use Rattle.ptb_expr.specs.declared.operator.Operator.TheVariants.{GreaterEqual, NotEqual, Greater}
+use Rattle.ptb_expr.specs.declared.operator.Operator.TheVariants.{Equals, LessEqual, Less}
 use Rattle.ptb_expr.specs.declared.store.Target.{Target}
 use Rattle.ptb_expr.specs.declared.store.Target.TheVariants as targets
 use Rattle.ptb_expr.specs.declared.fault.Fault.{Fault}

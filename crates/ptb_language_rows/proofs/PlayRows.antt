@@ -2,7 +2,8 @@
 -- Main lemmas: `answer_rows`, `loop_rows` and `fault_rows`.
 use Rattle.std.specs.Prelude.{refl}
 use Rattle.ptb_language_rows.proofs.OnPrograms.{on_programs}
-use Rattle.ptb_language_rows.specs.PlayRows.{AnswerRows, PrintRows, InputRows, LoopRows, FaultRows, ArrayRows, LongRows, StepRows}
+use Rattle.ptb_language_rows.specs.PlayRows.{AnswerRows, PrintRows, InputRows, LoopRows, FaultRows}
+use Rattle.ptb_language_rows.specs.PlayRows.{ArrayRows, LongRows, StepRows}
 
 pub answer_rows : AnswerRows
 unfolding on_programs

@@ -37,4 +37,25 @@ run_rows = record {
 
 pub report_rows : ReportRows
 unfolding on_programs
-report_rows = record { none = refl; one_answer = refl; two_answers = refl; no_steps_left = refl; no_newline_shown = refl; one_bound = refl; two_bounds = refl; no_bounds = refl; some_bounds = refl; fault = refl; fault_with_bounds = refl; greatest = refl; greatest_with_bound = refl; right_bounds = refl; right_first = refl; right_last = refl; wrong_first = refl; wrong_last = refl; none_stated = refl; their_answers = refl }
+report_rows = record {
+  none = refl;
+  one_answer = refl;
+  two_answers = refl;
+  no_steps_left = refl;
+  no_newline_shown = refl;
+  one_bound = refl;
+  two_bounds = refl;
+  no_bounds = refl;
+  some_bounds = refl;
+  fault = refl;
+  fault_with_bounds = refl;
+  greatest = refl;
+  greatest_with_bound = refl;
+  right_bounds = refl;
+  right_first = refl;
+  right_last = refl;
+  wrong_first = refl;
+  wrong_last = refl;
+  none_stated = refl;
+  their_answers = refl;
+}

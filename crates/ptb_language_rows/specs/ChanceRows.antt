@@ -13,7 +13,11 @@ use Rattle.ptb_explore.specs.Chances.{chance, chances}
 -- the table of a program text on an input; none if the text is refused
 abbrev pub table_of : List ℕ → List ℕ → Rules → Option (List ℕ)
 table_of b c rules =
-    elim (program 4096 b) [ Ok p ↦ Some (chances (play (record { lines = p; memory = 4096 }) (input_lines c) rules) (most_answers (record { lines = p; memory = 4096 }) (input_lines c) rules.limit)) | Err e ↦ None ]
+    elim (program 4096 b) [
+      | Ok p ↦ Some (chances (play (record { lines = p; memory = 4096 }) (input_lines c) rules)
+          (most_answers (record { lines = p; memory = 4096 }) (input_lines c) rules.limit))
+      | Err e ↦ None
+    ]
 
 -- with a limit of so many steps
 abbrev pub within : ℕ → Rules
@@ -42,9 +46,12 @@ pub record ChanceRows : Type 0 where
   pub zero_digits : decimals 0 ≡ codes "0"
   -- tables
   pub empty_program : table_of [] [] (within 10000) ≡ Some (codes "CHANCE 1/1 1 END 0\n\n")
-  pub a_roll_in_two : table_of (codes "10 A=RND(2);IF A=2 A=RND(3)\n20 P.#1,A\n") [] (within 10000) ≡ Some (codes "CHANCE 2/3 2 END 1\n1\nCHANCE 1/6 1 END 1\n2\nCHANCE 1/6 1 END 1\n3\n")
-  pub up_to_limit : table_of (codes "10 A=RND(2)\n20 IF A=1 GOTO 10\n") [] (within 5) ≡ Some (codes "CHANCE 3/4 2 END 0\n\nCHANCE 1/4 1 LIMIT 0\n\n")
+  pub a_roll_in_two : table_of (codes "10 A=RND(2);IF A=2 A=RND(3)\n20 P.#1,A\n") [] (within 10000) ≡ Some
+      (codes "CHANCE 2/3 2 END 1\n1\nCHANCE 1/6 1 END 1\n2\nCHANCE 1/6 1 END 1\n3\n")
+  pub up_to_limit : table_of (codes "10 A=RND(2)\n20 IF A=1 GOTO 10\n") [] (within 5) ≡ Some
+      (codes "CHANCE 3/4 2 END 0\n\nCHANCE 1/4 1 LIMIT 0\n\n")
   -- results go by their endings, then by their lines
-  pub in_order : table_of (codes "10 A=RND(3);P.#1,A;IF A=1 STOP\n20 IF A=2 P.1/0\n") [] (within 100) ≡ Some (codes "CHANCE 1/3 1 END 1\n3\nCHANCE 1/3 1 STOP 1\n1\nCHANCE 1/3 1 HOW 16\n20 IF A=2 P.1/0?\n")
+  pub in_order : table_of (codes "10 A=RND(3);P.#1,A;IF A=1 STOP\n20 IF A=2 P.1/0\n") [] (within 100) ≡ Some
+      (codes "CHANCE 1/3 1 END 1\n3\nCHANCE 1/3 1 STOP 1\n1\nCHANCE 1/3 1 HOW 16\n20 IF A=2 P.1/0?\n")
   -- the last line counts, and not the lines before it
   pub last_line : table_of (codes "10 P.RND(2);P.'X'\n") [] (within 100) ≡ Some (codes "CHANCE 1/1 2 END 1\nX\n")

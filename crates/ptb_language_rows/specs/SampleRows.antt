@@ -1,5 +1,5 @@
--- This file has worked rows of samples: of the runs that a seed draws, one after the other. The words of the generators are those
--- of the reference implementation of PCG32.
+-- This file has worked rows of samples: of the runs that a seed draws, one after the other. The words of the
+-- generators are those of the reference implementation of PCG32.
 --     SampleRows     the rows
 use Rattle.std.specs.Prelude.{◌≡◌, ℕ, [], ◌∷◌, codes}
 use Rattle.rand_pcg.specs.Pcg.{pcg32}
@@ -18,10 +18,12 @@ pub record SampleRows : Type 0 where
   pub one_roll : sampled_runs 1 (worth (codes "RND(6)")) (generator_of 7) 1 ≡ one 3 ∷ []
   pub no_run : sampled_runs 1 (worth (codes "RND(6)")) (generator_of 7) 0 ≡ []
   pub least_seed : sampled_runs 1 (worth (codes "RND(6)")) (generator_of 0) 4 ≡ one 6 ∷ one 6 ∷ one 3 ∷ one 6 ∷ []
-  pub greatest_seed : sampled_runs 1 (worth (codes "RND(6)")) (generator_of 4294967295) 4 ≡ one 4 ∷ one 2 ∷ one 5 ∷ one 5 ∷ []
+  pub greatest_seed : sampled_runs 1 (worth (codes "RND(6)"))
+      (generator_of 4294967295) 4 ≡ one 4 ∷ one 2 ∷ one 5 ∷ one 5 ∷ []
   -- a run without a question uses no word
   pub no_question : sampled_runs 0 (worth (codes "7")) (generator_of 7) 2 ≡ [] ∷ [] ∷ []
   -- two answers a run: the second run has the third word and the fourth
   pub two_rolls : sampled_runs 2 (worth (codes "RND(6)*RND(100)")) (generator_of 7) 2 ≡ two 3 47 ∷ two 5 32 ∷ []
   -- runs with one answer, and with two
-  pub fewer_and_more : sampled_runs 2 (worth (codes "RND(RND(2)-1)")) (generator_of 7) 5 ≡ one 1 ∷ one 1 ∷ one 1 ∷ two 2 1 ∷ two 2 1 ∷ []
+  pub fewer_and_more : sampled_runs 2 (worth (codes "RND(RND(2)-1)"))
+      (generator_of 7) 5 ≡ one 1 ∷ one 1 ∷ one 1 ∷ two 2 1 ∷ two 2 1 ∷ []

@@ -5,27 +5,40 @@ use Rattle.std.specs.Prelude.{◌≡◌, ℕ, List, [], ◌∷◌, ◌++◌, Som
 use Rattle.ptb_text.specs.declared.fault.LoadFault.TheVariants.{NoNumber, NumberTooBig, TextTooLong, BadByte, Full}
 use Rattle.ptb_words.specs.declared.word.Table.TheVariants.{Commands, Functions, To, Step}
 use Rattle.ptb_words.specs.declared.word.Number.TheVariants.{Value, TooBig}
-use Rattle.ptb_words.specs.declared.word.Word.TheVariants.{NextKw, LetKw, IfKw, GotoKw, GosubKw, ReturnKw, RemKw, ForKw, InputKw, PrintKw, StopKw, RndKw, AbsKw, SizeKw, ToKw, StepKw}
+use Rattle.ptb_words.specs.declared.word.Word.TheVariants.{NextKw, LetKw, IfKw, GotoKw, GosubKw}
+use Rattle.ptb_words.specs.declared.word.Word.TheVariants.{ReturnKw, RemKw, ForKw, InputKw, PrintKw}
+use Rattle.ptb_words.specs.declared.word.Word.TheVariants.{StopKw, RndKw, AbsKw, SizeKw, ToKw}
+use Rattle.ptb_words.specs.declared.word.Word.TheVariants.{StepKw}
 use Rattle.ptb_text.specs.Lines.{lines, input_lines}
 use Rattle.ptb_text.specs.Statements.{program, listing}
-use Rattle.ptb_words.specs.Words.{word_at, token_at, pair_at, letter_at, number_at, quotation_at, NoQuote, OpenQuote, QuotedText}
+use Rattle.ptb_words.specs.Words.{word_at, token_at, pair_at, letter_at, number_at, quotation_at}
+use Rattle.ptb_words.specs.Words.{NoQuote, OpenQuote, QuotedText}
 
 -- a line and its newline
 abbrev pub line : List ℕ → List ℕ
 line l = l ++ 10 ∷ []
 
 pub record LoadingRows : Type 0 where
-  pub listed : program 4096 (line (codes "10 P.1") ++ line (codes "20 P.2") ++ line (codes "010" ++ 9 ∷ codes "P.3" ++ 13 ∷ []) ++ line (codes "20")) ≡ Ok ((10, codes "P.3") ∷ [])
+  pub listed : program 4096
+      (line (codes "10 P.1") ++ line (codes "20 P.2") ++ line (codes "010" ++ 9 ∷ codes "P.3" ++ 13 ∷ [])
+      ++ line (codes "20")) ≡ Ok
+      ((10, codes "P.3") ∷ [])
   pub listing : listing ((10, codes "P.3") ∷ []) ≡ line (codes "10 P.3")
   pub too_big : program 4096 (codes "32768 P.1") ≡ Err (1, NumberTooBig)
-  pub full : program 64 (line (codes "1 P.1") ++ line (codes "2 P.1") ++ line (codes "3 P.1") ++ line (codes "4 P.1") ++ line (codes "5 P.1") ++ line (codes "6 P.1") ++ line (codes "7 P.1") ++ line (codes "8 P.1") ++ line (codes "9 P.1") ++ line (codes "10 P.1") ++ line (codes "11 P.1")) ≡ Err (11, Full)
+  pub full : program 64
+      (line (codes "1 P.1") ++ line (codes "2 P.1") ++ line (codes "3 P.1") ++ line (codes "4 P.1")
+      ++ line (codes "5 P.1") ++ line (codes "6 P.1") ++ line (codes "7 P.1") ++ line (codes "8 P.1")
+      ++ line (codes "9 P.1") ++ line (codes "10 P.1") ++ line (codes "11 P.1")) ≡ Err
+      (11, Full)
   pub bad_byte : program 4096 (codes "10 P." ++ 127 ∷ []) ≡ Err (1, BadByte 6)
   pub no_number : program 4096 (codes "0 P.") ≡ Err (1, NoNumber)
   pub long_number : program 4096 (replicate 200 57 ++ codes " P.") ≡ Err (1, NumberTooBig)
   pub long_text : program 4096 (codes "10 A=" ++ replicate 254 57) ≡ Err (1, TextTooLong)
-  pub order : program 4096 (line (codes "20 P.\"B\"") ++ codes "10 P.'A',;P.") ≡ Ok ((10, codes "P.'A',;P.") ∷ (20, codes "P.\"B\"") ∷ [])
+  pub order : program 4096 (line (codes "20 P.\"B\"") ++ codes "10 P.'A',;P.") ≡ Ok
+      ((10, codes "P.'A',;P.") ∷ (20, codes "P.\"B\"") ∷ [])
   -- a replaced line costs no more, and a program may take the whole memory
-  pub replaced : program 64 (line (codes "1 " ++ replicate 61 65) ++ line (codes "1 " ++ replicate 61 66)) ≡ Ok ((1, replicate 61 66) ∷ [])
+  pub replaced : program 64 (line (codes "1 " ++ replicate 61 65) ++ line (codes "1 " ++ replicate 61 66)) ≡ Ok
+      ((1, replicate 61 66) ∷ [])
   pub one_byte_more : program 64 (codes "1 " ++ replicate 62 65) ≡ Err (1, Full)
   pub longest_text : program 4096 (codes "1 " ++ replicate 255 65) ≡ Ok ((1, replicate 255 65) ∷ [])
   pub nothing_deleted : program 4096 (codes "10") ≡ Ok []

@@ -55,19 +55,24 @@ pub record RunRows : Type 0 where
 pub record ReportRows : Type 0 where
   pub none : report_text [] (codes "END") 0 [] ≡ codes "RUN none END 0 0\n\n"
   pub one_answer : report_text (unmarked (one 1)) (codes "END") 1 (codes "     1\n") ≡ codes "RUN 1 END 1 7\n     1\n\n"
-  pub two_answers : report_text (unmarked (two 2 3)) (codes "END") 4 (codes "     3\n") ≡ codes "RUN 2,3 END 4 7\n     3\n\n"
+  pub two_answers : report_text (unmarked (two 2 3)) (codes "END") 4
+      (codes "     3\n") ≡ codes "RUN 2,3 END 4 7\n     3\n\n"
   pub no_steps_left : report_text [] (codes "LIMIT") 5 [] ≡ codes "RUN none LIMIT 5 0\n\n"
   pub no_newline_shown : report_text [] (codes "NOINPUT") 1 (codes "A:") ≡ codes "RUN none NOINPUT 1 2\nA:\n"
   -- each answer with its bound
   pub one_bound : report_text (marked (one 1) (one 2)) (codes "END") 2 [] ≡ codes "RUN 1/2 END 2 0\n\n"
-  pub two_bounds : report_text (marked (two 2 1) (two 2 3)) (codes "END") 4 (codes "     1\n") ≡ codes "RUN 2/2,1/3 END 4 7\n     1\n\n"
+  pub two_bounds : report_text (marked (two 2 1) (two 2 3)) (codes "END") 4
+      (codes "     1\n") ≡ codes "RUN 2/2,1/3 END 4 7\n     1\n\n"
   pub no_bounds : report_text (marked [] []) (codes "END") 0 [] ≡ codes "RUN none END 0 0\n\n"
   pub some_bounds : spelling (marked (one 2) (one 2) ++ unmarked (one 1)) ≡ codes "2/2,1"
   -- of a fault, and of the greatest numbers
   pub fault : report_text (unmarked (two 2 1)) (codes "HOW") 2 (codes "     1\n") ≡ codes "RUN 2,1 HOW 2 7\n     1\n\n"
-  pub fault_with_bounds : report_text (marked (two 2 1) (two 2 3)) (codes "HOW") 2 (codes "     1\n") ≡ codes "RUN 2/2,1/3 HOW 2 7\n     1\n\n"
-  pub greatest : report_text (unmarked (one 32767)) (codes "STOP") 1000000000 (codes "x") ≡ codes "RUN 32767 STOP 1000000000 1\nx\n"
-  pub greatest_with_bound : report_text (marked (one 32767) (one 32767)) (codes "STOP") 1000000000 (codes "x") ≡ codes "RUN 32767/32767 STOP 1000000000 1\nx\n"
+  pub fault_with_bounds : report_text (marked (two 2 1) (two 2 3)) (codes "HOW") 2
+      (codes "     1\n") ≡ codes "RUN 2/2,1/3 HOW 2 7\n     1\n\n"
+  pub greatest : report_text (unmarked (one 32767)) (codes "STOP") 1000000000
+      (codes "x") ≡ codes "RUN 32767 STOP 1000000000 1\nx\n"
+  pub greatest_with_bound : report_text (marked (one 32767) (one 32767)) (codes "STOP") 1000000000
+      (codes "x") ≡ codes "RUN 32767/32767 STOP 1000000000 1\nx\n"
   -- bounds that are stated of the answers of a run
   pub right_bounds : states_bounds (marked (two 2 1) (two 2 3)) (two 2 3) ≡ true
   pub right_first : states_bounds (marked (one 2) (one 2) ++ unmarked (one 1)) (two 2 3) ≡ true

@@ -31,8 +31,10 @@ drawn_first (suc most) g f (k ∷ ts) (n ∷ bs) few asked e =
     let first : k ≡ drawn_answer (pcg32 g).0 n = cc in
     let others : ts ≡ drawn_from (pcg32 g).1 bs = cc in
     let behind = drawn_first most (pcg32 g).1 (λ a. f (k ∷ a)) ts bs (few_after f most k few) asked.1 others in
-    let answered : answers_by (suc most) g f ≡ drawn_answer (pcg32 g).0 n ∷ answers_by most (pcg32 g).1 (λ a. f (drawn_answer (pcg32 g).0 n ∷ a)) =
-    ap (to_question (λ n. drawn_answer (pcg32 g).0 n ∷ answers_by most (pcg32 g).1 (λ a. f (drawn_answer (pcg32 g).0 n ∷ a)))) asked.0.1 in (
+    let answered : answers_by (suc most) g f ≡ drawn_answer (pcg32 g).0 n ∷ answers_by most (pcg32 g).1
+    (λ a. f (drawn_answer (pcg32 g).0 n ∷ a)) =
+    ap (to_question (λ n. drawn_answer (pcg32 g).0 n ∷ answers_by most (pcg32 g).1
+    (λ a. f (drawn_answer (pcg32 g).0 n ∷ a)))) asked.0.1 in (
       behind.0,
       answered ∙ ap (λ x. x ∷ answers_by most (pcg32 g).1 (λ a. f (x ∷ a))) (sym first) ∙ ap (λ l. k ∷ l) behind.1,
     )
@@ -45,7 +47,8 @@ taken_drawn : (seed : ℕ) (s t : SeededAnswers) (taken : Answers) (bounds : Lis
     → seeded_choices t ≡ with_answers taken bounds (seeded_choices s) → taken ≡ drawn_from (generator_of seed) bounds
 taken_drawn seed s t taken bounds begins e =
     let new : SeededAnswers = record { first = generator_of seed; bounds = [] } in
-    let choices : seeded_choices t ≡ with_answers taken bounds (seeded_choices new) = e ∙ ap (λ x. with_answers taken bounds (seeded_choices x)) begins in
+    let choices : seeded_choices t ≡ with_answers taken bounds (seeded_choices new) =
+    e ∙ ap (λ x. with_answers taken bounds (seeded_choices x)) begins in
     let answers : drawn_from t.first t.bounds ≡ taken = ap (λ c. c.taken) choices in
     let kept : Some t.bounds ≡ Some bounds = ap (λ c. c.kept) choices in
     let same_first : t.first ≡ generator_of seed = same_generator new t (ap (λ c. c.plan) choices) in
@@ -57,7 +60,8 @@ goes_by_seed : RunLaws → (seed : ℕ) (s t : SeededAnswers) (p : StoredProgram
     → GoesBy RefusedForMemory (seeded_choices s) (seeded_choices t) (λ lines. seeded_answers seed p lines rules) p rules
 goes_by_seed laws seed s t p rules begins lines taken bounds asked grown =
     let few = (laws.reads p lines rules).few in
-    let first = drawn_first (most_answers p lines rules.limit) (generator_of seed) (play p lines rules) taken bounds few asked (taken_drawn seed s t taken bounds begins grown) in
+    let first = drawn_first (most_answers p lines rules.limit) (generator_of seed)
+    (play p lines rules) taken bounds few asked (taken_drawn seed s t taken bounds begins grown) in
     record { rest = first.0; whole = first.1; ended = λ n h. absurd h; outside = λ k n h. absurd h }
 
 -- whatever answers are drawn from the seed, it goes by them

@@ -1,9 +1,11 @@
 -- This file proves that what a command does once its parts are done takes no answer.
 -- Main lemma: `finish_spends`.
-use Rattle.std.proofs.Common.{◌≡◌, ℕ, ◌+◌, Bool, true, false, cond, List, [], ◌∷◌, Option, Some, None, Result, Ok, Err, refl, ap, arith}
+use Rattle.std.proofs.Common.{◌≡◌, ℕ, ◌+◌, Bool, true, false, cond, List, [], ◌∷◌, Option, Some}
+use Rattle.std.proofs.Common.{None, Result, Ok, Err, refl, ap, arith}
 use Rattle.std.specs.Prelude.{ℤ, pos, neg_ℤ, ◌+ℤ◌}
 use Rattle.ptb_words.specs.declared.word.Word.{Word}
-use Rattle.ptb_words.specs.declared.word.Word.TheVariants.{NextKw, IfKw, GotoKw, GosubKw, ReturnKw, RemKw, ForKw, StopKw}
+use Rattle.ptb_words.specs.declared.word.Word.TheVariants.{NextKw, IfKw, GotoKw, GosubKw, ReturnKw}
+use Rattle.ptb_words.specs.declared.word.Word.TheVariants.{RemKw, ForKw, StopKw}
 use Rattle.ptb_text.specs.Statements.{Statements}
 use Rattle.ptb_expr.specs.declared.fault.FaultKind.{FaultKind}
 use Rattle.ptb_expr.specs.declared.fault.FaultKind.TheVariants as kinds
@@ -11,15 +13,20 @@ use Rattle.ptb_expr.specs.Store.{value_at, with_value}
 use Rattle.ptb_expr.specs.Value.{in_range}
 use Rattle.ptb_command.specs.State.{Place, Loop, Call, State}
 use Rattle.ptb_command.specs.Actions.{change}
-use Rattle.ptb_command.specs.Act.{fails, is_full, if_room, goto_action, with_call, gosub_action, return_action, without_loop, with_loop, for_action, loops_from, after_sum, is_past, loop_end, loop_turn, next_action, finish}
+use Rattle.ptb_command.specs.Act.{fails, is_full, if_room, goto_action, with_call, gosub_action}
+use Rattle.ptb_command.specs.Act.{return_action, without_loop, with_loop, for_action, loops_from}
+use Rattle.ptb_command.specs.Act.{after_sum, is_past, loop_end, loop_turn, next_action, finish}
 use Rattle.ptb_machine.proofs.Budgets.{Budget, done_budget}
-use Rattle.ptb_machine.proofs.SpentAnswers.{left_for, Spends, halt_spends, after_spends, lines_cost, later, become_spends}
+use Rattle.ptb_machine.proofs.SpentAnswers.{left_for, Spends, halt_spends, after_spends, lines_cost}
+use Rattle.ptb_machine.proofs.SpentAnswers.{later, become_spends}
 
 module _ (again : ℕ) where
-  if_room_spends : (e : ℕ) (f : State → State) → ((S : State) → (f S).lines ≡ S.lines) → Spends (later again) (if_room e f) 0
+  if_room_spends : (e : ℕ) (f : State → State) → ((S : State) → (f S).lines ≡ S.lines)
+      → Spends (later again) (if_room e f) 0
   if_room_spends e f same = record { at = λ S. by_room S (is_full S) }
     where
-      by_room : (S : State) (b : Bool) → Budget (λ a. cond b (fails kinds.Sorry e S a) (change f S a)) (0 + later again S) (left_for (later again))
+      by_room : (S : State) (b : Bool)
+          → Budget (λ a. cond b (fails kinds.Sorry e S a) (change f S a)) (0 + later again S) (left_for (later again))
       by_room S true = (halt_spends (later again) 0 _).at S
       by_room S false = (become_spends again f same).at S
 
@@ -35,14 +42,17 @@ module _ (again : ℕ) where
   unfolding left_for later
   return_spends e = record { at = λ S. by_calls S S.calls }
     where
-      by_calls : (S : State) (calls : List Call) → Budget (return_action e calls S) (0 + later again S) (left_for (later again))
+      by_calls : (S : State) (calls : List Call)
+          → Budget (return_action e calls S) (0 + later again S) (left_for (later again))
       by_calls S [] = done_budget _ _ _ (omega arith)
       by_calls S (c ∷ calls) = done_budget _ _ _ (omega arith)
 
   for_spends : (e : ℕ) (loop : Loop) → Spends (later again) (for_action e loop) 0
-  for_spends e loop = after_spends _ (change (without_loop loop.letter)) _ 0 (become_spends again _ (λ S. refl)) (λ _. if_room_spends e (with_loop loop) (λ S. refl))
+  for_spends e loop = after_spends _ (change (without_loop loop.letter)) _ 0 (become_spends again _ (λ S. refl))
+      (λ _. if_room_spends e (with_loop loop) (λ S. refl))
 
-  after_sum_lines : (next : Place) (l : Loop) (ls : List Loop) (r : Result ℤ FaultKind) (S : State) → (after_sum next l ls r S).lines ≡ S.lines
+  after_sum_lines : (next : Place) (l : Loop) (ls : List Loop) (r : Result ℤ FaultKind) (S : State)
+      → (after_sum next l ls r S).lines ≡ S.lines
   after_sum_lines next l ls (Err kind) S = refl
   after_sum_lines next l ls (Ok v) S = by_limit (is_past l v) (record S { cells = with_value S.cells l.letter v })
     where
@@ -54,11 +64,17 @@ module _ (again : ℕ) where
   unfolding left_for later
   next_spends e x next = record { at = λ S. by_loops S (loops_from x S.loops) }
     where
-      by_loops : (S : State) (ls : List Loop) → Budget (next_action e next ls S) (0 + later again S) (left_for (later again))
+      by_loops : (S : State) (ls : List Loop)
+          → Budget (next_action e next ls S) (0 + later again S) (left_for (later again))
       by_loops S [] = done_budget _ _ _ (omega arith)
-      by_loops S (l ∷ ls) = done_budget _ _ _ (omega (arith, ap (lines_cost again) (after_sum_lines next l ls (in_range (neg_ℤ (pos 32768)) (value_at S.cells l.letter +ℤ l.step)) S)))
+      by_loops S (l ∷ ls) = done_budget _ _ _ (omega (
+        arith,
+        ap (lines_cost again)
+            (after_sum_lines next l ls (in_range (neg_ℤ (pos 32768)) (value_at S.cells l.letter +ℤ l.step)) S),
+      ))
 
-  pub finish_spends : (kind : Word) (p : Statements) (q : Place) (e x : ℕ) (operands : List ℤ) → Spends (later again) (finish kind p q e x operands) 0
+  pub finish_spends : (kind : Word) (p : Statements) (q : Place) (e x : ℕ) (operands : List ℤ)
+      → Spends (later again) (finish kind p q e x operands) 0
   unfolding finish
   finish_spends RemKw p q e x operands = become_spends again _ (λ S. refl)
   finish_spends StopKw p q e x operands = halt_spends _ 0 _

@@ -15,29 +15,35 @@ use Rattle.ptb_command.specs.Stops.{ReportsMissed}
 use Rattle.ptb_machine.specs.RunDevices.{RunDevices, held, refusals}
 use Rattle.ptb_machine.specs.Runs.{IsLineOf, IsRun, IsRunToEnd, Runs, run_miss}
 
-module _ {C S L : Type 0} (chooser : choosers.Ghosts C) (screen : screens.Ghosts S) (source : sources.Ghosts L) (p : StoredProgram) (rules : Rules) (o n : RunDevices C S L) where
+module _ {C S L : Type 0} (chooser : choosers.Ghosts C) (screen : screens.Ghosts S) (source : sources.Ghosts L)
+    (p : StoredProgram) (rules : Rules) (o n : RunDevices C S L) where
   -- a run that is over
-  pub end_over : (end : RunEnd) (ending : Ending) → end.ending ≡ ending → (run : IsRun chooser screen source p rules o n (Ok ending))
+  pub end_over : (end : RunEnd) (ending : Ending) → end.ending ≡ ending
+      → (run : IsRun chooser screen source p rules o n (Ok ending))
       → IsLineOf p rules (held chooser screen source rules o []) (held chooser screen source rules n run.given) end
       → IsRunToEnd chooser screen source p rules o n (Ok end)
   end_over end ending e run line = record {
     run = record {
       given = run.given;
       gives = run.gives;
-      runs = subst (λ (x : Ending). Runs (refusals chooser screen source n) p rules (held chooser screen source rules o []) (held chooser screen source rules n run.given) (Ok x)) (sym e) run.runs;
-      missed = subst (λ (x : Ending). ReportsMissed source rules.choose o.source n.source (run_miss (Ok x))) (sym e) run.missed;
+      runs = subst (λ (x : Ending). Runs (refusals chooser screen source n) p rules (held chooser screen source rules o
+          []) (held chooser screen source rules n run.given) (Ok x)) (sym e) run.runs;
+      missed = subst (λ (x : Ending). ReportsMissed source rules.choose o.source n.source (run_miss (Ok x)))
+          (sym e) run.missed;
     };
     line = line;
   }
 
   -- a run that a fault has ended has no line
-  pub end_broken : (r : Result RunEnd RunFault) (fault : RunFault) → IsErrAnd r (λ y. y ≡ fault) → IsRun chooser screen source p rules o n (Err fault) → IsRunToEnd chooser screen source p rules o n r
+  pub end_broken : (r : Result RunEnd RunFault) (fault : RunFault) → IsErrAnd r (λ y. y ≡ fault)
+      → IsRun chooser screen source p rules o n (Err fault) → IsRunToEnd chooser screen source p rules o n r
   end_broken r fault k run =
       let q = err_from_is_err_and r k in
       subst (IsRunToEnd chooser screen source p rules o n) (sym (q.1 ∙ ap Err q.2)) (record { run = run; line = tt })
 
   -- a fault without the line
-  pub run_broken : (r : Result Ending RunFault) (fault : RunFault) → IsErrAnd r (λ y. y ≡ fault) → IsRunToEnd chooser screen source p rules o n (Err fault) → IsRun chooser screen source p rules o n r
+  pub run_broken : (r : Result Ending RunFault) (fault : RunFault) → IsErrAnd r (λ y. y ≡ fault)
+      → IsRunToEnd chooser screen source p rules o n (Err fault) → IsRun chooser screen source p rules o n r
   run_broken r fault k end =
       let q = err_from_is_err_and r k in
       subst (IsRun chooser screen source p rules o n) (sym (q.1 ∙ ap Err q.2)) end.run

@@ -43,7 +43,8 @@ use Rattle.ptb_machine.proofs.Taking.{takes_at_most, takes_within, wanted_at_fau
 use Rattle.ptb_machine.proofs.Taking.{where_err, where_ok}
 
 -- what is known of a run whose chooser refuses so and had these choices before and after
-pub record RanOn {R : Type 0} (p : StoredProgram) (rules : Rules) (refuses : Pause → ℤ → Type 0) (c d : Choices) (input : Reads R) (out : Writes) (result : Result Ending RunFault) : Type 0 where
+pub record RanOn {R : Type 0} (p : StoredProgram) (rules : Rules) (refuses : Pause → ℤ
+    → Type 0) (c d : Choices) (input : Reads R) (out : Writes) (result : Result Ending RunFault) : Type 0 where
   pub plays : (answers : List (List ℕ) → Answers) → GoesBy refuses c d answers p rules
       → PlaysWith p rules answers input out result
   pub refused : (answers : List (List ℕ) → Answers) → GoesBy refuses c d answers p rules → IsErrOf result runs.Memory
@@ -59,15 +60,22 @@ concluded P Q (Ok end) ended is each h = each end (subst (λ (x : Result RunEnd 
 concluded P Q (Err fault) ended is each h = tt
 
 -- a reader and a writer, by what their contracts say of them
-module _ {R W : Type 0} (remaining : R → Option (List ℕ)) (counted failures : R → ℕ) (contents : W → Option (List ℕ)) (written : W → ℕ) where
+module _ {R W : Type 0} (remaining : R → Option (List ℕ)) (counted failures : R → ℕ) (contents : W
+    → Option (List ℕ)) (written : W → ℕ) where
   -- the source, the reader i and the writer w before, and the source, the reader j and the writer v after
-  module _ (p : StoredProgram) (rules : Rules) (refuses : Pause → ℤ → Type 0) (noticed : Bool) (c d : Choices) (source later : ReaderLines R) (i j : R) (screen screen_later : MutBor W) (w v : W) (lines : List (List ℕ)) (ended : Result Ending RunFault)
-      (state : line_input source ≡ fresh_input) (reader : (line_reader source).now ≡ i) (gives : GivesFrom remaining counted failures source lines later)
+  module _ (p : StoredProgram) (rules : Rules) (refuses : Pause → ℤ → Type 0) (noticed : Bool) (c d : Choices)
+      (source later : ReaderLines R) (i j : R) (screen screen_later : MutBor W) (w v : W) (lines : List (List ℕ))
+      (ended : Result Ending RunFault)
+      (state : line_input source ≡ fresh_input) (reader : (line_reader source).now ≡ i)
+      (gives : GivesFrom remaining counted failures source lines later)
       (ends : (line_reader later).ghost_name ≡ (line_reader source).ghost_name → j ≡ (line_reader later).now)
       (writer : screen.now ≡ w) (writes : screen.ghost_name ≡ screen_later.ghost_name → v ≡ screen_later.now)
-      (ran : Runs (refused_by (noted noticed refuses) (Refuses (line_input later).end) (known_lines (input_of remaining counted failures later))) p rules
-      (devices c (state_of contents written screen) (most_lines (line_input source)) rules.choose []) (devices d (state_of contents written screen_later) (most_lines (line_input later)) rules.choose lines) ended)
-      (missed : UnlessMissed (Refuses (line_input later).end) (NotMissed rules.choose (asked (line_input source)) (asked (line_input later)) (most_lines (line_input later))) (run_miss ended)) where
+      (ran : Runs (refused_by (noted noticed refuses) (Refuses (line_input later).end)
+      (known_lines (input_of remaining counted failures later))) p rules
+      (devices c (state_of contents written screen) (most_lines (line_input source)) rules.choose [])
+      (devices d (state_of contents written screen_later) (most_lines (line_input later)) rules.choose lines) ended)
+      (missed : UnlessMissed (Refuses (line_input later).end) (NotMissed rules.choose (asked (line_input source))
+      (asked (line_input later)) (most_lines (line_input later))) (run_miss ended)) where
     -- the input as the source leaves it
     abbrev now : InputNow
     now = input_of remaining counted failures later
@@ -97,19 +105,24 @@ module _ {R W : Type 0} (remaining : R → Option (List ℕ)) (counted failures 
     between answers goes behind none =
         run_between contents written p rules (lines ++ behind)
         (answers (lines ++ behind)) refuses screen screen_later w v result writer writes
-        (led_run p rules answers refuses noticed c d (state_of contents written screen) (state_of contents written screen_later) (most_lines (line_input source)) (most_lines (line_input later)) lines
-        (Refuses (line_input later).end) (known_lines now) ended goes ran (none_known now) refl (fault_without_memory (line_input later).end) behind none)
+        (led_run p rules answers refuses noticed c d (state_of contents written screen) (state_of contents written
+        screen_later) (most_lines (line_input source)) (most_lines (line_input later)) lines
+        (Refuses (line_input later).end) (known_lines now) ended goes ran (none_known now) refl
+        (fault_without_memory (line_input later).end) behind none)
 
     -- where the limit stopped it
     pub has_line : (end : RunEnd)
-        → IsLineOf p rules (devices c (state_of contents written screen) (most_lines (line_input source)) rules.choose []) (devices d (state_of contents written screen_later) (most_lines (line_input later)) rules.choose lines) end
+        → IsLineOf p rules
+        (devices c (state_of contents written screen) (most_lines (line_input source)) rules.choose [])
+        (devices d (state_of contents written screen_later) (most_lines (line_input later)) rules.choose lines) end
         → (answers : List (List ℕ) → Answers) → Goes answers
         → HasLine p rules answers (reads_of remaining counted failures i j) end
     has_line end h answers goes = record {
       at_limit = λ is.
           of_input (λ ls. end.line ≡ stopping_line p ls rules (answers ls)) (asked (line_input later)) (counted i)
           (failures i) now lines
-          (led_line p rules answers refuses noticed c d (state_of contents written screen) (state_of contents written screen_later) (most_lines (line_input source)) (most_lines (line_input later)) lines
+          (led_line p rules answers refuses noticed c d (state_of contents written screen) (state_of contents written
+          screen_later) (most_lines (line_input source)) (most_lines (line_input later)) lines
           (Refuses (line_input later).end) (known_lines now) goes (none_known now) end h is) (remaining i) on;
       elsewhere = h.elsewhere;
     }
@@ -121,13 +134,15 @@ module _ {R W : Type 0} (remaining : R → Option (List ℕ)) (counted failures 
     takes answers goes behind none =
         led_run_takes p rules answers refuses noticed c d (state_of contents written screen)
         (state_of contents written screen_later) (most_lines (line_input source)) (most_lines (line_input later)) lines
-        (Refuses (line_input later).end) (known_lines now) ended goes ran (none_known now) refl (fault_without_memory (line_input later).end) behind none
+        (Refuses (line_input later).end) (known_lines now) ended goes ran (none_known now) refl
+        (fault_without_memory (line_input later).end) behind none
 
     -- and asked for one more at most where it says so
     unmissed : UnlessMissed (Refuses (line_input later).end)
         (NotMissed rules.choose 0 (asked (line_input later)) (most_lines (line_input later))) (run_miss ended)
     unmissed =
-        subst (λ (s : InputState). UnlessMissed (Refuses (line_input later).end) (NotMissed rules.choose (asked s) (asked (line_input later)) (most_lines (line_input later))) (run_miss ended))
+        subst (λ (s : InputState). UnlessMissed (Refuses (line_input later).end) (NotMissed rules.choose (asked s)
+        (asked (line_input later)) (most_lines (line_input later))) (run_miss ended))
         state missed
 
     -- the source has come to no fault
@@ -144,21 +159,28 @@ module _ {R W : Type 0} (remaining : R → Option (List ℕ)) (counted failures 
                 ended =
                     shows_input contents written p rules answers refuses w v result (asked (line_input later))
                     (counted i) (failures i) now lines (between answers goes) (remaining i) on;
-                broken_off = where_err result _ (begins_input contents written p rules answers refuses w v result (asked (line_input later)) (counted i) (failures i) now lines (between answers goes) (remaining i) on);
+                broken_off = where_err result _
+                    (begins_input contents written p rules answers refuses w v result (asked (line_input later))
+                    (counted i) (failures i) now lines (between answers goes) (remaining i) on);
                 unread = λ e. absurd (unread e);
                 asked = (
                   on.taken,
                   subst (λ (x : R). Consumes (remaining i) (remaining x) on.taken) same on.consumed,
                   reads_for p rules answers (asked (line_input later)) (counted i) (failures i) now lines
                       (takes answers goes) result
-                      (noted_within noticed rules ended (asked (line_input later)) (most_lines (line_input later)) (wanted_within (line_input later) (most_lines (line_input later)) rules ended unmissed)) (remaining i) on,
+                      (noted_within noticed rules ended (asked (line_input later)) (most_lines (line_input later))
+                      (wanted_within (line_input later) (most_lines (line_input later)) rules ended unmissed))
+                      (remaining i) on,
                 );
                 failed = none_after.failed;
                 unfailed = none_after.unfailed;
                 unspent = none_after.unspent;
               };
           refused = λ answers goes is.
-              elim ((between answers goes [] (λ _. refl)).memory is) [ inl nothing ↦ inl nothing | inr asks ↦ inr asks.0 ];
+              elim ((between answers goes [] (λ _. refl)).memory is) [
+                | inl nothing ↦ inl nothing
+                | inr asks ↦ inr asks.0
+              ];
           memory = λ answers goes is.
               stops_input contents written p rules answers refuses w v result (asked (line_input later)) (counted i)
               (failures i) now lines (between answers goes) is (remaining i) on;
@@ -190,9 +212,12 @@ module _ {R W : Type 0} (remaining : R → Option (List ℕ)) (counted failures 
       dry answers goes =
           unread_between contents written p rules (lines ++ [])
           (answers (lines ++ [])) screen screen_later w v writer writes
-          (led_run_dry p rules answers refuses noticed c d (state_of contents written screen) (state_of contents written screen_later) (most_lines (line_input source)) (most_lines (line_input later)) lines
-          (Refuses (line_input later).end) (known_lines now) ended goes ran (none_known now) (fault_without_memory (line_input later).end)
-          (NotMissed rules.choose 0 (asked (line_input later)) (most_lines (line_input later))) (fault_missed (line_input later) rules.choose fault is) unmissed)
+          (led_run_dry p rules answers refuses noticed c d (state_of contents written screen) (state_of contents written
+          screen_later) (most_lines (line_input source)) (most_lines (line_input later)) lines
+          (Refuses (line_input later).end) (known_lines now) ended goes ran (none_known now)
+          (fault_without_memory (line_input later).end)
+          (NotMissed rules.choose 0 (asked (line_input later)) (most_lines (line_input later)))
+          (fault_missed (line_input later) rules.choose fault is) unmissed)
 
       pub ran_unread : (answer : RunFault) → answer ≡ run_fault fault → IsRan (Err answer)
       ran_unread answer told =
@@ -213,9 +238,13 @@ module _ {R W : Type 0} (remaining : R → Option (List ℕ)) (counted failures 
               asked = (
                 on.taken,
                 subst (λ (x : R). Consumes (remaining i) (remaining x) on.taken) same on.consumed,
-                subst (λ (f : RunFault). IfSome (remaining i) (λ b. ReadsFor on.taken (lines_wanted rules.choose (length (input_lines b)) (lines_taken p (input_lines b) rules (answers (input_lines b))) (Err f)))) (sym told)
-                    (reads_for p rules answers (asked (line_input later)) (counted i) (failures i) now lines (takes answers goes) (Err (run_fault fault))
-                    (wanted_at_fault (line_input later) (most_lines (line_input later)) rules fault is) (remaining i) on),
+                subst (λ (f : RunFault). IfSome (remaining i)
+                    (λ b. ReadsFor on.taken (lines_wanted rules.choose (length (input_lines b))
+                    (lines_taken p (input_lines b) rules (answers (input_lines b))) (Err f)))) (sym told)
+                    (reads_for p rules answers (asked (line_input later)) (counted i) (failures i) now lines
+                    (takes answers goes) (Err (run_fault fault))
+                    (wanted_at_fault (line_input later) (most_lines (line_input later)) rules fault is)
+                    (remaining i) on),
               );
               failed = λ e. absurd (let clash : runs.Read ≡ runs.Write = cc in cc);
               unfailed = λ _. (dry answers goes).unfailed;
@@ -235,6 +264,7 @@ module _ {R W : Type 0} (remaining : R → Option (List ℕ)) (counted failures 
                   λ _. subst (λ (x : R). IsUnreadable (remaining i) (failures i) (failures x)) same
                   (is_unreadable _ _ _ _ now lines on fault is);
               unfailed = λ unread. absurd (unread (ap Err reads));
-              failed_or_given = λ _. subst (λ (x : R). HasFailed (failures i) (failures x) ⊎ GivesExactly (counted i) (counted x) (input_limit + 1)) same (failed_or_given _ _ _ _ now lines on fault is);
+              failed_or_given = λ _. subst (λ (x : R). HasFailed (failures i) (failures x) ⊎ GivesExactly (counted i)
+                  (counted x) (input_limit + 1)) same (failed_or_given _ _ _ _ now lines on fault is);
             };
           }

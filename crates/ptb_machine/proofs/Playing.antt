@@ -58,26 +58,32 @@ pub takes_all : (old new : Option (List ℕ)) (bytes : List ℕ) → Appends old
 takes_all old new bytes h = takes_beginning old new bytes bytes h ([], sym (append-nil bytes))
 
 -- what is said of a run with these answers and lines, between two states of its screen
-pub record IsPlainRun (p : StoredProgram) (rules : Rules) (lines : List (List ℕ)) (a : Answers) (refuses : Pause → ℤ → Type 0) (old new : ScreenState) (result : Result Ending RunFault) : Type 0 where
+pub record IsPlainRun (p : StoredProgram) (rules : Rules) (lines : List (List ℕ)) (a : Answers) (refuses : Pause → ℤ
+    → Type 0) (old new : ScreenState) (result : Result Ending RunFault) : Type 0 where
   pub same_borrow : new.borrow ≡ old.borrow
   pub ok : IfOk result (ShowsRun (plain p lines rules a) old.shown new.shown)
   pub beginning : TakesSome old.shown new.shown (plain p lines rules a).0
   pub failed : IsErrOf result runs.Write → HasFailed old.failures new.failures
   pub memory : IsErrOf result runs.Memory
-      → Appends old.shown new.shown [] ⊎ (((n : ℤ) × refuses pauses.Memory n) × ShowsQuestion (plain p lines rules) a old.shown new.shown)
+      → Appends old.shown new.shown []
+      ⊎ (((n : ℤ) × refuses pauses.Memory n) × ShowsQuestion (plain p lines rules) a old.shown new.shown)
   pub unfailed : (IsErrOf result runs.Write → ⊥) → new.failures ≡ old.failures
   pub unspent : IsErrOf result runs.Spent → ⊥
 
 -- what is said of a run that asked for a line on which these are all that it was given
-pub record IsUnreadRun (p : StoredProgram) (rules : Rules) (lines : List (List ℕ)) (a : Answers) (old new : ScreenState) : Type 0 where
+pub record IsUnreadRun (p : StoredProgram) (rules : Rules) (lines : List (List ℕ)) (a : Answers)
+    (old new : ScreenState) : Type 0 where
   pub same_borrow : new.borrow ≡ old.borrow
   pub shows : ShowsUnread rules.choose (plain p lines rules) a old.shown new.shown
   pub unfailed : new.failures ≡ old.failures
 
 -- a source of lines gave some, and these come after them; it says what holds after its refusals, and whether the
 -- chooser noted that it was refused memory
-module _ (p : StoredProgram) (rules : Rules) (a : Answers) (refuses : Pause → ℤ → Type 0) (noticed : Bool) (c d : Choices) (old new : ScreenState) (could can : ℕ) (given behind : List (List ℕ)) (unread : ReadFault → Type 0) (left : Option (List (List ℕ)))
-    (led : (taken : Answers) (bounds : List ℤ) → Asked (play p (given ++ behind) rules) taken bounds → d ≡ with_answers taken bounds c → IsLed refuses taken a) where
+module _ (p : StoredProgram) (rules : Rules) (a : Answers) (refuses : Pause → ℤ → Type 0) (noticed : Bool)
+    (c d : Choices) (old new : ScreenState) (could can : ℕ) (given behind : List (List ℕ)) (unread : ReadFault
+    → Type 0) (left : Option (List (List ℕ)))
+    (led : (taken : Answers) (bounds : List ℤ) → Asked (play p (given ++ behind) rules) taken bounds
+    → d ≡ with_answers taken bounds c → IsLed refuses taken a) where
   abbrev refused : Refusal → Type 0
   refused = refused_by (noted noticed refuses) unread left
 
@@ -157,7 +163,8 @@ module _ (p : StoredProgram) (rules : Rules) (a : Answers) (refuses : Pause → 
       → TakesSome old.shown new.shown (plain p lines rules a).0
   shown_before h =
       let begins = h.continues.begins (left_by new.failures h.exchange h.left h.plays).rest in
-      let all : (plain p lines rules a).0 ≡ played_bytes (h.left (left_by new.failures h.exchange h.left h.plays).rest) =
+      let all : (plain p lines rules a).0
+      ≡ played_bytes (h.left (left_by new.failures h.exchange h.left h.plays).rest) =
       plain_bytes (play p lines rules a) ∙ ap played_bytes (play_is new.failures h.exchange h.left h.plays) in
       takes_beginning old.shown new.shown h.exchange.bytes _ h.plays.exchanges.shows.shown (begins.0, all ∙ begins.1)
 
@@ -203,7 +210,8 @@ module _ (p : StoredProgram) (rules : Rules) (a : Answers) (refuses : Pause → 
       → TakesSome old.shown new.shown (plain p lines rules a).0
   begun h =
       let begins = h.continues.begins (left_by old.failures h.exchange h.left h.plays).rest in
-      let all : (plain p lines rules a).0 ≡ played_bytes (h.left (left_by old.failures h.exchange h.left h.plays).rest) =
+      let all : (plain p lines rules a).0
+      ≡ played_bytes (h.left (left_by old.failures h.exchange h.left h.plays).rest) =
       plain_bytes (play p lines rules a) ∙ ap played_bytes (play_is old.failures h.exchange h.left h.plays) in
       takes_beginning old.shown new.shown h.exchange.bytes _ h.plays.exchanges.shows.shown (begins.0, all ∙ begins.1)
 
@@ -238,12 +246,16 @@ module _ (p : StoredProgram) (rules : Rules) (a : Answers) (refuses : Pause → 
   out_of_memory e no_memory h =
       elim h [
         | inl same ↦ same
-        | inr u ↦ elim (u.broken.0.by) [ inl t ↦ absurd (let both : true ≡ false = sym t ∙ e in cc) | inr r ↦ elim r [ inl q ↦ absurd q.1 | inr q ↦ absurd (no_memory q) ] ]
+        | inr u ↦ elim (u.broken.0.by) [
+          | inl t ↦ absurd (let both : true ≡ false = sym t ∙ e in cc)
+          | inr r ↦ elim r [ inl q ↦ absurd q.1 | inr q ↦ absurd (no_memory q) ]
+        ]
       ]
 
   no_room : later ≡ before → IsPlainRun p rules lines a refuses old new (Err runs.Memory)
   no_room e =
-      let nothing : Appends old.shown new.shown [] = subst (λ held. Appends old.shown held []) (sym (ap (λ (d : Devices). d.screen.shown) e)) (Appends-nil old.shown) in
+      let nothing : Appends old.shown new.shown [] = subst (λ held. Appends old.shown held [])
+      (sym (ap (λ (d : Devices). d.screen.shown) e)) (Appends-nil old.shown) in
       record {
         same_borrow = ap (λ (d : Devices). d.screen.borrow) e;
         ok = tt;
@@ -267,12 +279,21 @@ module _ (p : StoredProgram) (rules : Rules) (a : Answers) (refuses : Pause → 
       → lines ≡ given ++ (more ++ unasked_lines p lines rules (x.answers ++ rest))
       → length given ≤ lines_taken p lines rules a
   fits x rest more e k =
-      let unasked : unasked_lines p lines rules a ≡ unasked_lines p lines rules (x.answers ++ rest) = ap (unasked_lines p lines rules) e in
-      omega (arith, ap length k, ap length unasked, length-append given (more ++ unasked_lines p lines rules (x.answers ++ rest)), length-append more (unasked_lines p lines rules (x.answers ++ rest)))
+      let unasked : unasked_lines p lines rules a ≡ unasked_lines p lines rules (x.answers ++ rest) =
+      ap (unasked_lines p lines rules) e in
+      omega (
+        arith,
+        ap length k,
+        ap length unasked,
+        length-append given (more ++ unasked_lines p lines rules
+            (x.answers ++ rest)),
+        length-append more (unasked_lines p lines rules (x.answers ++ rest)),
+      )
 
   fits_finished : (e : Ending) → IsFinished refused p rules lines before later e
       → length given ≤ lines_taken p lines rules a
-  fits_finished e h = let behind = left_by new.failures h.exchange _ h.plays in fits h.exchange behind.rest [] behind.whole (h.lines behind.rest)
+  fits_finished e h = let behind = left_by new.failures h.exchange _ h.plays in
+      fits h.exchange behind.rest [] behind.whole (h.lines behind.rest)
 
   fits_unanswered : (z : Pause) → IsUnanswered refused p rules lines before later z
       → length given ≤ lines_taken p lines rules a
@@ -328,7 +349,9 @@ module _ (p : StoredProgram) (rules : Rules) (a : Answers) (refuses : Pause → 
       → ShowsUnread choose (plain p lines rules) a old.shown new.shown
   lacks_line None is h run = run.ok
   lacks_line (Some n) is h run =
-      let none : rules.choose ≡ None = subst (λ (o : Outcome Finish (List ℕ)). HasRunEnding rules.choose o) (ap (λ (f : Answers → Outcome Finish (List ℕ)). f []) h.plays.leaves.rest) (play_ends p lines rules (h.exchange.answers ++ [])) in
+      let none : rules.choose ≡ None = subst (λ (o : Outcome Finish (List ℕ)). HasRunEnding rules.choose o)
+      (ap (λ (f : Answers → Outcome Finish (List ℕ)). f []) h.plays.leaves.rest)
+      (play_ends p lines rules (h.exchange.answers ++ [])) in
       absurd (let clash : Some n ≡ None = sym is ∙ none in cc)
 
   dry_ending : IsFinished refused p rules lines before later endings.NoInput → IsUnreadRun p rules lines a old new
@@ -391,9 +414,12 @@ module _ (p : StoredProgram) (rules : Rules) (a : Answers) (refuses : Pause → 
   run_comes e no_memory none (Err runs.Spent) h = absurd h
 
 -- where the chooser goes by these answers on whatever lines
-module _ (p : StoredProgram) (rules : Rules) (answers : List (List ℕ) → Answers) (refuses : Pause → ℤ → Type 0) (noticed : Bool) (c d : Choices) (old new : ScreenState) (could can : ℕ) (given : List (List ℕ)) (unread : ReadFault → Type 0) (left : Option (List (List ℕ)))
+module _ (p : StoredProgram) (rules : Rules) (answers : List (List ℕ) → Answers) (refuses : Pause → ℤ → Type 0)
+    (noticed : Bool) (c d : Choices) (old new : ScreenState) (could can : ℕ) (given : List (List ℕ)) (unread : ReadFault
+    → Type 0) (left : Option (List (List ℕ)))
     (result : Result Ending RunFault) (goes : GoesBy refuses c d answers p rules)
-    (h : Runs (refused_by (noted noticed refuses) unread left) p rules (devices c old could rules.choose []) (devices d new can rules.choose given) result) (over : can ≡ 0 → NoneLeft left) where
+    (h : Runs (refused_by (noted noticed refuses) unread left) p rules (devices c old could rules.choose [])
+    (devices d new can rules.choose given) result) (over : can ≡ 0 → NoneLeft left) where
   pub led_run : old.takes_memory ≡ false → (unread reads.Memory → ⊥) → (behind : List (List ℕ))
       → (NoneLeft left → behind ≡ [])
       → IsPlainRun p rules (given ++ behind) (answers (given ++ behind)) refuses old new (noted_result noticed result)
@@ -415,9 +441,12 @@ module _ (p : StoredProgram) (rules : Rules) (answers : List (List ℕ) → Answ
       (goes (given ++ [])) P never no_memory refl result missed (h [] (λ _. refl))
 
 -- the line of its end is that of the play
-module _ (p : StoredProgram) (rules : Rules) (answers : List (List ℕ) → Answers) (refuses : Pause → ℤ → Type 0) (noticed : Bool) (c d : Choices) (old new : ScreenState) (could can : ℕ) (given : List (List ℕ)) (unread : ReadFault → Type 0) (left : Option (List (List ℕ)))
+module _ (p : StoredProgram) (rules : Rules) (answers : List (List ℕ) → Answers) (refuses : Pause → ℤ → Type 0)
+    (noticed : Bool) (c d : Choices) (old new : ScreenState) (could can : ℕ) (given : List (List ℕ)) (unread : ReadFault
+    → Type 0) (left : Option (List (List ℕ)))
     (goes : GoesBy refuses c d answers p rules) (over : can ≡ 0 → NoneLeft left)
-    (end : RunEnd) (h : IsLineOf p rules (devices c old could rules.choose []) (devices d new can rules.choose given) end) where
+    (end : RunEnd) (h : IsLineOf p rules (devices c old could rules.choose [])
+    (devices d new can rules.choose given) end) where
   pub led_line : end.ending ≡ endings.Limit → (behind : List (List ℕ)) → (NoneLeft left → behind ≡ [])
       → end.line ≡ stopping_line p (given ++ behind) rules (answers (given ++ behind))
   led_line is behind none =
@@ -429,15 +458,23 @@ module _ (p : StoredProgram) (rules : Rules) (answers : List (List ℕ) → Answ
 -- a screen over a writer, by what its contract says of the writer
 abbrev pub state_of : {W : Type 0} → (W → Option (List ℕ)) → (W → ℕ) → MutBor W → ScreenState
 state_of contents failures screen =
-    record { shown = contents screen.now; failures = failures screen.now; borrow = Some screen.ghost_name; takes_memory = false }
+    record {
+      shown = contents screen.now;
+      failures = failures screen.now;
+      borrow = Some screen.ghost_name;
+      takes_memory = false;
+    }
 
 -- what is said of a plain run, between two states of its writer
-pub record IsRunBetween {W : Type 0} (contents : W → Option (List ℕ)) (failures : W → ℕ) (p : StoredProgram) (rules : Rules) (ls : List (List ℕ)) (a : Answers) (refuses : Pause → ℤ → Type 0) (w v : W) (result : Result Ending RunFault) : Type 0 where
+pub record IsRunBetween {W : Type 0} (contents : W → Option (List ℕ)) (failures : W
+    → ℕ) (p : StoredProgram) (rules : Rules) (ls : List (List ℕ)) (a : Answers) (refuses : Pause → ℤ
+    → Type 0) (w v : W) (result : Result Ending RunFault) : Type 0 where
   pub ok : IfOk result (ShowsRun (plain p ls rules a) (contents w) (contents v))
   pub beginning : TakesSome (contents w) (contents v) (plain p ls rules a).0
   pub failed : IsErrOf result runs.Write → HasFailed (failures w) (failures v)
   pub memory : IsErrOf result runs.Memory
-      → Appends (contents w) (contents v) [] ⊎ (((n : ℤ) × refuses pauses.Memory n) × ShowsQuestion (plain p ls rules) a (contents w) (contents v))
+      → Appends (contents w) (contents v) []
+      ⊎ (((n : ℤ) × refuses pauses.Memory n) × ShowsQuestion (plain p ls rules) a (contents w) (contents v))
   pub unfailed : (IsErrOf result runs.Write → ⊥) → failures v ≡ failures w
   pub unspent : IsErrOf result runs.Spent → ⊥
 
@@ -446,16 +483,25 @@ pub run_between : {W : Type 0} (contents : W → Option (List ℕ)) (failures : 
     (ls : List (List ℕ)) (a : Answers) (refuses : Pause → ℤ → Type 0)
     (screen screen_after : MutBor W) (w v : W) (result : Result Ending RunFault)
     → screen.now ≡ w → (screen.ghost_name ≡ screen_after.ghost_name → v ≡ screen_after.now)
-    → IsPlainRun p rules ls a refuses (state_of contents failures screen) (state_of contents failures screen_after) result
+    → IsPlainRun p rules ls a refuses (state_of contents failures screen) (state_of contents failures screen_after)
+    result
     → IsRunBetween contents failures p rules ls a refuses w v result
 run_between contents failures p rules ls a refuses screen screen_after w v result begins ends h =
     let same : screen.ghost_name ≡ screen_after.ghost_name = let e = h.same_borrow in cc in
     subst (λ x. IsRunBetween contents failures p rules ls a refuses x v result) begins
     (subst (λ x. IsRunBetween contents failures p rules ls a refuses screen.now x result) (sym (ends same))
-    (record { ok = h.ok; beginning = h.beginning; failed = h.failed; memory = h.memory; unfailed = h.unfailed; unspent = h.unspent }))
+    (record {
+      ok = h.ok;
+      beginning = h.beginning;
+      failed = h.failed;
+      memory = h.memory;
+      unfailed = h.unfailed;
+      unspent = h.unspent;
+    }))
 
 -- what is said of a run that couldn't read a line, between two states of its writer
-pub record IsUnreadBetween {W : Type 0} (contents : W → Option (List ℕ)) (failures : W → ℕ) (p : StoredProgram) (rules : Rules) (ls : List (List ℕ)) (a : Answers) (w v : W) : Type 0 where
+pub record IsUnreadBetween {W : Type 0} (contents : W → Option (List ℕ)) (failures : W
+    → ℕ) (p : StoredProgram) (rules : Rules) (ls : List (List ℕ)) (a : Answers) (w v : W) : Type 0 where
   pub shows : ShowsUnread rules.choose (plain p ls rules) a (contents w) (contents v)
   pub unfailed : failures v ≡ failures w
 
@@ -468,4 +514,5 @@ pub unread_between : {W : Type 0} (contents : W → Option (List ℕ)) (failures
 unread_between contents failures p rules ls a screen screen_after w v begins ends h =
     let same : screen.ghost_name ≡ screen_after.ghost_name = let e = h.same_borrow in cc in
     subst (λ x. IsUnreadBetween contents failures p rules ls a x v) begins
-    (subst (λ x. IsUnreadBetween contents failures p rules ls a screen.now x) (sym (ends same)) (record { shows = h.shows; unfailed = h.unfailed }))
+    (subst (λ x. IsUnreadBetween contents failures p rules ls a screen.now x) (sym (ends same))
+    (record { shows = h.shows; unfailed = h.unfailed }))

@@ -1,6 +1,7 @@
 -- This file proves which results a step can have.
 -- Main lemma: `result_goes`.
-use Rattle.std.proofs.Common.{◌≡◌, ◌↔◌, ◌∙◌, ℕ, Bool, true, false, List, Option, Some, None, Result, Ok, Err, is_err, inl, inr, refl, sym, ap, subst}
+use Rattle.std.proofs.Common.{◌≡◌, ◌↔◌, ◌∙◌, ℕ, Bool, true, false, List, Option, Some, None, Result}
+use Rattle.std.proofs.Common.{Ok, Err, is_err, inl, inr, refl, sym, ap, subst}
 use Rattle.ptb_expr.specs.declared.fault.Fault.{Fault}
 use Rattle.ptb_expr.specs.declared.fault.FaultKind.{FaultKind}
 use Rattle.ptb_expr.specs.declared.fault.FaultKind.TheVariants as kinds
@@ -25,18 +26,26 @@ use Rattle.ptb_machine.specs.CommandResults.{fault_of, reported, IsResultOf}
 use Rattle.ptb_machine.specs.Steps.{step_miss}
 
 -- nothing is shown where it was done, or stopped by s
-pub result_done : (o : Trace) (number : ℕ) (text : List ℕ) (done : Result (Unit {0}) Stop) (x : Unit {0}) → done ≡ Ok x → IsResultOf o o number text done (Ok None)
+pub result_done : (o : Trace) (number : ℕ) (text : List ℕ) (done : Result (Unit {0}) Stop) (x : Unit {0}) → done ≡ Ok x
+    → IsResultOf o o number text done (Ok None)
 result_done o number text done x e =
-    subst (λ (y : Result (Unit {0}) Stop). IsResultOf o o number text y (Ok None)) (sym e) (record { is = refl; same = refl })
+    subst (λ (y : Result (Unit {0}) Stop). IsResultOf o o number text y (Ok None)) (sym e)
+    (record { is = refl; same = refl })
 
-pub result_stopped : (o : Trace) (number : ℕ) (text : List ℕ) (done : Result (Unit {0}) Stop) (s : Stop) (r : Result (Option Ending) RunFault) → IsResultOf o o number text (Err s) r → done ≡ Err s → IsResultOf o o number text done r
+pub result_stopped : (o : Trace) (number : ℕ) (text : List ℕ) (done : Result (Unit {0}) Stop) (s : Stop)
+    (r : Result (Option Ending) RunFault)
+    → IsResultOf o o number text (Err s) r → done ≡ Err s → IsResultOf o o number text done r
 result_stopped o number text done s r is e =
     subst (λ (y : Result (Unit {0}) Stop). IsResultOf o o number text y r) (sym e) is
 
 -- a fault that was reported, or not
-pub result_reported : (o n : Trace) (number : ℕ) (text : List ℕ) (f : Fault) (done : Result (Unit {0}) Stop) (r : Result (Option Ending) RunFault) (shown : Result (Unit {0}) ScreenFault) → done ≡ Err (stops.Fault f) → r ≡ reported f.kind shown → IsShown o n (report_bytes o.fresh number text f) shown → IsResultOf o n number text done r
+pub result_reported : (o n : Trace) (number : ℕ) (text : List ℕ) (f : Fault) (done : Result (Unit {0}) Stop)
+    (r : Result (Option Ending) RunFault) (shown : Result (Unit {0}) ScreenFault)
+    → done ≡ Err (stops.Fault f) → r ≡ reported f.kind shown → IsShown o n (report_bytes o.fresh number text f) shown
+    → IsResultOf o n number text done r
 result_reported o n number text f done r shown e is shows =
-    subst (λ (x : Result (Unit {0}) Stop). IsResultOf o n number text x r) (sym e) (record { shown = shown; is = is; shows = shows })
+    subst (λ (x : Result (Unit {0}) Stop). IsResultOf o n number text x r) (sym e)
+    (record { shown = shown; is = is; shows = shows })
 
 -- ---- whether the run is over
 
@@ -54,7 +63,9 @@ reported_over : (kind : FaultKind) (shown : Result (Unit {0}) ScreenFault) → i
 reported_over kind (Ok x) = refl
 reported_over kind (Err x) = refl
 
-result_over : (o n : Trace) (number : ℕ) (text : List ℕ) (done : Result (Unit {0}) Stop) (r : Result (Option Ending) RunFault) → IsResultOf o n number text done r → is_over r ≡ is_err done
+result_over : (o n : Trace) (number : ℕ) (text : List ℕ) (done : Result (Unit {0}) Stop)
+    (r : Result (Option Ending) RunFault)
+    → IsResultOf o n number text done r → is_over r ≡ is_err done
 result_over o n number text (Ok x) r is = ap is_over is.is
 result_over o n number text (Err (stops.Fault f)) r is = ap is_over is.is ∙ reported_over f.kind is.shown
 result_over o n number text (Err stops.Ended) r is = ap is_over is.is
@@ -65,7 +76,9 @@ result_over o n number text (Err (stops.Pause pauses.Memory)) r is = ap is_over 
 result_over o n number text (Err (stops.DeviceFailed x)) r is = ap is_over is.is
 
 -- it goes on where the command was done
-pub result_goes : (o n : Trace) (number : ℕ) (text : List ℕ) (done : Result (Unit {0}) Stop) (r : Result (Option Ending) RunFault) → IsResultOf o n number text done r → (r ≡ Ok None ↔ is_err done ≡ false)
+pub result_goes : (o n : Trace) (number : ℕ) (text : List ℕ) (done : Result (Unit {0}) Stop)
+    (r : Result (Option Ending) RunFault)
+    → IsResultOf o n number text done r → (r ≡ Ok None ↔ is_err done ≡ false)
 result_goes o n number text done r is =
     let same = result_over o n number text done r is in
     (λ e. sym same ∙ ap is_over e, λ e. not_over r (same ∙ e))
@@ -89,7 +102,9 @@ reported_unspent kind (Ok x) = refl
 reported_unspent kind (Err screens.Memory) = refl
 reported_unspent kind (Err screens.Write) = refl
 
-not_spent : (o n : Trace) (number : ℕ) (text : List ℕ) (done : Result (Unit {0}) Stop) (r : Result (Option Ending) RunFault) → IsResultOf o n number text done r → is_spent r ≡ false
+not_spent : (o n : Trace) (number : ℕ) (text : List ℕ) (done : Result (Unit {0}) Stop)
+    (r : Result (Option Ending) RunFault)
+    → IsResultOf o n number text done r → is_spent r ≡ false
 not_spent o n number text (Ok x) r is = ap is_spent is.is
 not_spent o n number text (Err (stops.Fault f)) r is = ap is_spent is.is ∙ reported_unspent f.kind is.shown
 not_spent o n number text (Err stops.Ended) r is = ap is_spent is.is
@@ -100,14 +115,18 @@ not_spent o n number text (Err (stops.Pause pauses.Memory)) r is = ap is_spent i
 not_spent o n number text (Err (stops.DeviceFailed x)) r is = ap is_spent is.is ∙ error_unspent x
 
 -- it was not, where a command was done or stopped
-pub result_unspent : (o n : Trace) (number : ℕ) (text : List ℕ) (done : Result (Unit {0}) Stop) (r : Result (Option Ending) RunFault) → IsResultOf o n number text done r → r ≡ Err faults.Spent → ⊥
+pub result_unspent : (o n : Trace) (number : ℕ) (text : List ℕ) (done : Result (Unit {0}) Stop)
+    (r : Result (Option Ending) RunFault)
+    → IsResultOf o n number text done r → r ≡ Err faults.Spent → ⊥
 result_unspent o n number text done r is e =
     let k : true ≡ false = sym (ap is_spent e) ∙ not_spent o n number text done r is in
     absurd cc
 
 -- ---- lines that the source didn't give
 
-reported_unmissed : (refused : ReadFault → Type 0) (P : Type 0) → P → (kind : FaultKind) (shown : Result (Unit {0}) ScreenFault) → UnlessMissed refused P (step_miss (reported kind shown))
+reported_unmissed : (refused : ReadFault → Type 0) (P : Type 0) → P
+    → (kind : FaultKind) (shown : Result (Unit {0}) ScreenFault)
+    → UnlessMissed refused P (step_miss (reported kind shown))
 reported_unmissed refused P p kind shown = miss_unmissed refused P p (step_miss (reported kind shown))
 
 error_missed : (e : DeviceError) → step_miss (Err (fault_of e)) ≡ stop_miss (stops.DeviceFailed e)
@@ -115,13 +134,17 @@ error_missed errors.Memory = refl
 error_missed errors.Read = refl
 error_missed errors.Write = refl
 
-pub result_missed : (refused : ReadFault → Type 0) (P : Type 0) (o n : Trace) (number : ℕ) (text : List ℕ) (done : Result (Unit {0}) Stop) (r : Result (Option Ending) RunFault) → IsResultOf o n number text done r → UnlessMissed refused P (miss_of done) → UnlessMissed refused P (step_miss r)
+pub result_missed : (refused : ReadFault → Type 0) (P : Type 0) (o n : Trace) (number : ℕ) (text : List ℕ)
+    (done : Result (Unit {0}) Stop) (r : Result (Option Ending) RunFault)
+    → IsResultOf o n number text done r → UnlessMissed refused P (miss_of done) → UnlessMissed refused P (step_miss r)
 result_missed refused P o n number text done r is h = by_result done is h
   where
-    is_so : (x : Result (Option Ending) RunFault) → r ≡ x → UnlessMissed refused P (step_miss x) → UnlessMissed refused P (step_miss r)
+    is_so : (x : Result (Option Ending) RunFault) → r ≡ x → UnlessMissed refused P (step_miss x)
+        → UnlessMissed refused P (step_miss r)
     is_so x e u = subst (λ (y : Result (Option Ending) RunFault). UnlessMissed refused P (step_miss y)) (sym e) u
 
-    by_result : (done : Result (Unit {0}) Stop) → IsResultOf o n number text done r → UnlessMissed refused P (miss_of done) → UnlessMissed refused P (step_miss r)
+    by_result : (done : Result (Unit {0}) Stop) → IsResultOf o n number text done r
+        → UnlessMissed refused P (miss_of done) → UnlessMissed refused P (step_miss r)
     by_result (Ok x) is h = is_so _ is.is h
     by_result (Err (stops.Fault f)) is h = is_so _ is.is (reported_unmissed refused P h f.kind is.shown)
     by_result (Err stops.Ended) is h = is_so _ is.is h
@@ -129,11 +152,13 @@ result_missed refused P o n number text done r is h = by_result done is h
     by_result (Err (stops.Pause pauses.Ended)) is h = is_so _ is.is h
     by_result (Err (stops.Pause (pauses.OutOfRange k))) is h = is_so _ is.is h
     by_result (Err (stops.Pause pauses.Memory)) is h = is_so _ is.is (inl h)
-    by_result (Err (stops.DeviceFailed x)) is h = is_so _ is.is (subst (UnlessMissed refused P) (sym (error_missed x)) h)
+    by_result (Err (stops.DeviceFailed x)) is h =
+        is_so _ is.is (subst (UnlessMissed refused P) (sym (error_missed x)) h)
 
 -- ---- devices
 
 -- what holds of devices that are the same
-pub at_devices : {C S L : Type 0} (P : C → S → L → Type 0) {x : C} {y : S} {z : L} (c : C) (s : S) (l : L) → x ≡ c → y ≡ s → z ≡ l → P c s l → P x y z
+pub at_devices : {C S L : Type 0} (P : C → S → L → Type 0) {x : C} {y : S} {z : L} (c : C) (s : S) (l : L) → x ≡ c
+    → y ≡ s → z ≡ l → P c s l → P x y z
 at_devices P {x = x} {y = y} {z = z} c s l e k h p =
     subst (λ a. P a y z) (sym e) (subst (λ a. P c a z) (sym k) (subst (λ a. P c s a) (sym h) p))

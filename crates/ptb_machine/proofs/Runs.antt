@@ -1,6 +1,8 @@
 -- This file proves what a run comes to: its steps, one after the other.
 -- Main lemmas: `run_over` and `run_on`.
-use Rattle.std.proofs.Common.{◌≡◌, inr, ℕ, zero, suc, ◌+◌, ◌-◌, ◌<◌, ◌≤◌, length, Bool, true, false, List, [], ◌++◌, Option, Some, None, IfSome, Result, Ok, Err, ℤ, pos, ◌≤ℤ◌, refl, sym, ap, subst, ◌∙◌, append-nil, append_assoc, arith}
+use Rattle.std.proofs.Common.{◌≡◌, inr, ℕ, zero, suc, ◌+◌, ◌-◌, ◌<◌, ◌≤◌, length, Bool, true, false}
+use Rattle.std.proofs.Common.{List, [], ◌++◌, Option, Some, None, IfSome, Result, Ok, Err, ℤ, pos}
+use Rattle.std.proofs.Common.{◌≤ℤ◌, refl, sym, ap, subst, ◌∙◌, append-nil, append_assoc, arith}
 use Rattle.std.proofs.Math.Path.{fun_ext}
 use Rattle.std.proofs.lemmas.Bool.{false≢true}
 use Rattle.std.proofs.lemmas.List.{append_cancel_left}
@@ -16,15 +18,19 @@ use Rattle.ptb_command.specs.declared.stop.DeviceError.{DeviceError}
 use Rattle.ptb_command.specs.declared.stop.DeviceError.TheVariants as errors
 use Rattle.ptb_command.specs.State.{Place, State, first_state}
 use Rattle.ptb_command.specs.Act.{StepResult, Next, Over}
-use Rattle.ptb_machine.specs.Play.{Last, last_in, after_turn, turn, all_turns, last_state, unasked_lines, next_number, Finish, finish_of, turns, play}
+use Rattle.ptb_machine.specs.Play.{Last, last_in, after_turn, turn, all_turns, last_state}
+use Rattle.ptb_machine.specs.Play.{unasked_lines, next_number, Finish, finish_of, turns, play}
 use Rattle.ptb_command.specs.Effects.{act_state, Begins, TakesLines}
-use Rattle.ptb_command.specs.Devices.{ScreenState, Devices, with_screen, Shows, Exchange, no_exchange, both_exchanges, Exchanges, MayFollow, Refusal, nothing_refused}
+use Rattle.ptb_command.specs.Devices.{ScreenState, Devices, with_screen, Shows, Exchange}
+use Rattle.ptb_command.specs.Devices.{no_exchange, both_exchanges, Exchanges, MayFollow, Refusal}
+use Rattle.ptb_command.specs.Devices.{nothing_refused}
 use Rattle.ptb_command.specs.Traces.{Leaves}
 use Rattle.ptb_command.specs.Stops.{AsksNext, Continues, LacksLine, AsksUnanswered, IsOutOfLines, DeviceFails}
 use Rattle.ptb_answers.specs.declared.rules.Rules.{Rules}
 use Rattle.ptb_command.specs.Configuration.{Configuration}
 use Rattle.ptb_command.specs.Representation.{PlacesAre, Represents}
-use Rattle.ptb_machine.specs.PlayResults.{played_bytes, Plays, refused_answers, IsFinished, IsUnanswered, IsUnfinished, LacksInput, RunComes}
+use Rattle.ptb_machine.specs.PlayResults.{played_bytes, Plays, refused_answers, IsFinished}
+use Rattle.ptb_machine.specs.PlayResults.{IsUnanswered, IsUnfinished, LacksInput, RunComes}
 use Rattle.ptb_machine.specs.Runs.{Runs, StopsAt}
 use Rattle.ptb_machine.specs.Steps.{IsBefore, Steps, QuietTurns}
 use Rattle.ptb_machine.specs.TurnResults.{StepsTo, goes, ends, StepComes}
@@ -37,10 +43,13 @@ use Rattle.ptb_machine.proofs.Turns.{all_by_turn, turn_goes, all_change}
 -- ---- a turn, and the turns after it
 
 -- what is left of a turn, and then of the run
-abbrev pub then_turns : StoredProgram → ℕ → (State → Answers → Outcome StepResult State) → State → Answers → Outcome Last State
+abbrev pub then_turns : StoredProgram → ℕ → (State → Answers → Outcome StepResult State) → State → Answers
+    → Outcome Last State
 then_turns p limit g S a = go_on (g S a) (after_turn (all_turns p limit))
 
-turns_leave : (p : StoredProgram) (limit : ℕ) (S T : State) (g : State → Answers → Outcome StepResult State) {ts : Answers} {bs : List ℤ} → Leaves (turn p limit S) ts bs (g T) → Leaves (all_turns p limit S) ts bs (then_turns p limit g T)
+turns_leave : (p : StoredProgram) (limit : ℕ) (S T : State) (g : State → Answers → Outcome StepResult State)
+    {ts : Answers} {bs : List ℤ}
+    → Leaves (turn p limit S) ts bs (g T) → Leaves (all_turns p limit S) ts bs (then_turns p limit g T)
 turns_leave p limit S T g {ts = ts} {bs = bs} l =
     subst (λ f. Leaves f ts bs (then_turns p limit g T)) (sym (fun_ext (all_by_turn p limit S)))
     (leaves_under (λ u. go_on u (after_turn (all_turns p limit))) (λ (U : State). U) (λ k U. refl) l)
@@ -50,18 +59,29 @@ abbrev pub onto : Devices → Devices → Devices
 onto d e = record e { given = d.given ++ e.given }
 
 exchanges_onto : (d e : Devices) (x : Exchange) → Exchanges (record d { given = [] }) e x → Exchanges d (onto d e) x
-exchanges_onto d e x h = record { grown = h.grown; shows = h.shows; unfailed = h.unfailed; given = ap (λ l. d.given ++ l) h.given; falls = h.falls; same_choose = h.same_choose }
+exchanges_onto d e x h = record {
+  grown = h.grown;
+  shows = h.shows;
+  unfailed = h.unfailed;
+  given = ap (λ l. d.given ++ l) h.given;
+  falls = h.falls;
+  same_choose = h.same_choose;
+}
 
 -- the run of p with this input has come to g
-abbrev pub RunsTo : StoredProgram → Rules → Configuration → Devices → List (List ℕ) → List (List ℕ) → Devices → (State → Answers → Outcome Last State) → Type 0
+abbrev pub RunsTo : StoredProgram → Rules → Configuration → Devices → List (List ℕ) → List (List ℕ) → Devices
+    → (State → Answers → Outcome Last State) → Type 0
 RunsTo p rules m o input rest d g =
-    StepsTo p.lines m o (first_state p input rules.choose) rest (all_turns p rules.limit (first_state p input rules.choose)) d g
+    StepsTo p.lines m o (first_state p input rules.choose) rest
+    (all_turns p rules.limit (first_state p input rules.choose)) d g
 
 -- it has come to a machine, whatever lines are left
 abbrev pub HasRun : StoredProgram → Rules → Configuration → Devices → Devices → Type 0
-HasRun p rules m o d = (input rest : List (List ℕ)) → MayFollow d rest → input ≡ d.given ++ rest → RunsTo p rules m o input rest d (all_turns p rules.limit)
+HasRun p rules m o d = (input rest : List (List ℕ)) → MayFollow d rest → input ≡ d.given ++ rest
+    → RunsTo p rules m o input rest d (all_turns p rules.limit)
 
-pub run_begins : (p : StoredProgram) (rules : Rules) (m : Configuration) (o : Devices) → o.given ≡ [] → ((input : List (List ℕ)) → Represents p.lines m (first_state p input rules.choose)) → HasRun p rules m o o
+pub run_begins : (p : StoredProgram) (rules : Rules) (m : Configuration) (o : Devices) → o.given ≡ []
+    → ((input : List (List ℕ)) → Represents p.lines m (first_state p input rules.choose)) → HasRun p rules m o o
 run_begins p rules m o none first input rest _ e = record {
   exchange = no_exchange;
   exchanges = exchanges_none o;
@@ -76,7 +96,10 @@ run_begins p rules m o none first input rest _ e = record {
 }
 
 -- where the run has come to a machine, its next turn leads it on
-run_then : (p : StoredProgram) (rules : Rules) (m n : Configuration) (o d e : Devices) (input left rest : List (List ℕ)) (g : State → Answers → Outcome StepResult State) (h : RunsTo p rules m o input left d (all_turns p rules.limit)) → StepsTo p.lines n (record d { given = [] }) h.leads.state rest (turn p rules.limit h.leads.state) e g → RunsTo p rules n o input rest (onto d e) (then_turns p rules.limit g)
+run_then : (p : StoredProgram) (rules : Rules) (m n : Configuration) (o d e : Devices) (input left rest : List (List ℕ))
+    (g : State → Answers → Outcome StepResult State) (h : RunsTo p rules m o input left d (all_turns p rules.limit))
+    → StepsTo p.lines n (record d { given = [] }) h.leads.state rest (turn p rules.limit h.leads.state) e g
+    → RunsTo p rules n o input rest (onto d e) (then_turns p rules.limit g)
 run_then p rules m n o d e input left rest g h s = record {
   exchange = both_exchanges h.exchange s.exchange;
   exchanges = exchanges_then h.exchanges (exchanges_onto d e s.exchange s.exchanges);
@@ -99,28 +122,43 @@ told u = map_outcome (λ f. f) (λ (T : State). T.shown) (map_outcome finish_of 
 abbrev pub playing : (State → Answers → Outcome Last State) → State → Answers → Outcome Finish (List ℕ)
 playing g S a = told (g S a)
 
-plays_to : (p : StoredProgram) (rules : Rules) (m : Configuration) (o d : Devices) (input rest : List (List ℕ)) (g : State → Answers → Outcome Last State) (h : RunsTo p rules m o input rest d g) → Plays p rules input o d h.exchange (playing g h.leads.state)
+plays_to : (p : StoredProgram) (rules : Rules) (m : Configuration) (o d : Devices) (input rest : List (List ℕ))
+    (g : State → Answers → Outcome Last State) (h : RunsTo p rules m o input rest d g)
+    → Plays p rules input o d h.exchange (playing g h.leads.state)
 unfolding play turns
 plays_to p rules m o d input rest g h = record {
   exchanges = h.exchanges;
   leaves = leaves_under told (λ (T : State). T.shown) (λ k T. refl) h.leads.leaves;
 }
 
-plays_as : (p : StoredProgram) (rules : Rules) (input : List (List ℕ)) (o d : Devices) (x : Exchange) (f g : Answers → Outcome Finish (List ℕ)) → f ≡ g → Plays p rules input o d x f → Plays p rules input o d x g
+plays_as : (p : StoredProgram) (rules : Rules) (input : List (List ℕ)) (o d : Devices) (x : Exchange)
+    (f g : Answers → Outcome Finish (List ℕ))
+    → f ≡ g → Plays p rules input o d x f → Plays p rules input o d x g
 plays_as p rules input o d x f g e h = record { exchanges = h.exchanges; leaves = leaves_to g e h.leaves }
 
 -- the lines that are left behind those that were given are those of the last state
-lines_are : (p : StoredProgram) (rules : Rules) (m : Configuration) (o d : Devices) (input rest : List (List ℕ)) (g : State → Answers → Outcome Last State) (h : RunsTo p rules m o input rest d g) → input ≡ d.given ++ rest → (later : Answers) → (last_state (g h.leads.state later)).lines ≡ h.leads.state.lines → input ≡ d.given ++ unasked_lines p input rules (h.exchange.answers ++ later)
+lines_are : (p : StoredProgram) (rules : Rules) (m : Configuration) (o d : Devices) (input rest : List (List ℕ))
+    (g : State → Answers → Outcome Last State) (h : RunsTo p rules m o input rest d g)
+    → input ≡ d.given ++ rest → (later : Answers) → (last_state (g h.leads.state later)).lines ≡ h.leads.state.lines
+    → input ≡ d.given ++ unasked_lines p input rules (h.exchange.answers ++ later)
 lines_are p rules m o d input rest g h k later same =
-    k ∙ ap (λ l. d.given ++ l) (sym (ap (λ u. (last_state u).lines) (leaves_at h.leads.leaves later) ∙ same ∙ h.leads.lines))
+    k ∙ ap (λ l. d.given ++ l)
+    (sym (ap (λ u. (last_state u).lines) (leaves_at h.leads.leaves later) ∙ same ∙ h.leads.lines))
 
 -- it is over
-run_ends : (refused : Refusal → Type 0) (p : StoredProgram) (rules : Rules) (m : Configuration) (o d : Devices) (input rest : List (List ℕ)) (ending : Ending) (g : State → Answers → Outcome Last State) (h : RunsTo p rules m o input rest d g) → input ≡ d.given ++ rest → ((a : Answers) → g h.leads.state a ≡ Done (last_in ending h.leads.state) a) → IsFinished refused p rules input o d ending
+run_ends : (refused : Refusal → Type 0) (p : StoredProgram) (rules : Rules) (m : Configuration) (o d : Devices)
+    (input rest : List (List ℕ)) (ending : Ending) (g : State → Answers → Outcome Last State)
+    (h : RunsTo p rules m o input rest d g)
+    → input ≡ d.given ++ rest → ((a : Answers) → g h.leads.state a ≡ Done (last_in ending h.leads.state) a)
+    → IsFinished refused p rules input o d ending
 run_ends refused p rules m o d input rest ending g h k e = record {
   exchange = h.exchange;
   steps = h.leads.state.steps;
-  plays = plays_as p rules input o d h.exchange _ _ (fun_ext (λ a. ap told (e a) ∙ ap (λ (s : List ℕ). Done (record { ending = ending; steps = h.leads.state.steps; shown = s }) a) h.leads.shown)) (plays_to p rules m o d input rest g h);
-  within_limit = subst (λ (T : State). T.steps ≤ rules.limit) (ap last_state (leaves_at h.leads.leaves [] ∙ e [])) ((all_change p rules.limit (first_state p input rules.choose) (h.exchange.answers ++ [])).steps (omega arith));
+  plays = plays_as p rules input o d h.exchange _ _ (fun_ext (λ a. ap told (e a) ∙ ap (λ (s : List ℕ). Done
+      (record { ending = ending; steps = h.leads.state.steps; shown = s }) a) h.leads.shown))
+      (plays_to p rules m o d input rest g h);
+  within_limit = subst (λ (T : State). T.steps ≤ rules.limit) (ap last_state (leaves_at h.leads.leaves [] ∙ e []))
+      ((all_change p rules.limit (first_state p input rules.choose) (h.exchange.answers ++ [])).steps (omega arith));
   lines = λ a. lines_are p rules m o d input rest g h k a (ap (λ u. (last_state u).lines) (e a));
 }
 
@@ -130,7 +168,8 @@ refusal_of bound T pauses.Ended = Asks bound T
 refusal_of bound T (pauses.OutOfRange k) = Out bound T
 refusal_of bound T pauses.Memory = Asks bound T
 
-refused_at : (g : Answers → Outcome Last State) (bound : ℤ) (T : State) (z : Pause) (later : Answers) → AsksNext g bound T z → g (refused_answers z later) ≡ refusal_of bound T z
+refused_at : (g : Answers → Outcome Last State) (bound : ℤ) (T : State) (z : Pause) (later : Answers)
+    → AsksNext g bound T z → g (refused_answers z later) ≡ refusal_of bound T z
 refused_at g bound T pauses.Ended later h = h.asks
 refused_at g bound T (pauses.OutOfRange k) later h = h.outside later
 refused_at g bound T pauses.Memory later h = h.asks
@@ -146,7 +185,10 @@ played_shown (Asks k S) = refl
 played_shown (Out k S) = refl
 
 -- a question is refused
-run_waits : (refused : Refusal → Type 0) (p : StoredProgram) (rules : Rules) (m : Configuration) (o d : Devices) (input rest : List (List ℕ)) (z : Pause) → input ≡ d.given ++ rest → (w : AsksUnanswered {A = Last} refused (RunsTo p rules m o input rest) d last_state z) → IsUnanswered refused p rules input o d z
+run_waits : (refused : Refusal → Type 0) (p : StoredProgram) (rules : Rules) (m : Configuration) (o d : Devices)
+    (input rest : List (List ℕ)) (z : Pause)
+    → input ≡ d.given ++ rest → (w : AsksUnanswered {A = Last} refused (RunsTo p rules m o input rest) d last_state z)
+    → IsUnanswered refused p rules input o d z
 run_waits refused p rules m o d input rest z k w =
     let T = w.comes.leads.state in
     record {
@@ -157,34 +199,45 @@ run_waits refused p rules m o d input rest z k w =
       question = subst (λ (s : List ℕ). AsksNext (playing w.left T) w.bound s z) w.comes.leads.shown
           (asks_before told (λ (S : State). S.shown) (λ k S. refl) (λ k S. refl) (w.left T) w.bound T z (w.question T));
       refuses = w.refuses;
-      lines = λ later. lines_are p rules m o d input rest w.left w.comes k (refused_answers z later) (ap (λ u. (last_state u).lines) (refused_at (w.left T) w.bound T z later (w.question T)) ∙ refused_state w.bound T z);
+      lines = λ later. lines_are p rules m o d input rest w.left w.comes k (refused_answers z later)
+          (ap (λ u. (last_state u).lines) (refused_at (w.left T) w.bound T z later (w.question T))
+          ∙ refused_state w.bound T z);
       continues = record {
         begins = λ a.
             subst (Begins w.comes.exchange.bytes) (sym (played_shown (w.left T a)))
-            (subst (λ (s : List ℕ). Begins s (last_state (w.left T a)).shown) w.comes.leads.shown (w.continues.begins T a));
+            (subst (λ (s : List ℕ). Begins s (last_state (w.left T a)).shown) w.comes.leads.shown
+            (w.continues.begins T a));
         more_lines = λ a.
             let more = w.continues.takes T a in (
               more.0,
-              k ∙ ap (λ l. d.given ++ l) (sym w.comes.leads.lines ∙ more.1 ∙ ap (λ u. more.0 ++ (last_state u).lines) (sym (leaves_at w.comes.leads.leaves a))),
+              k ∙ ap (λ l. d.given ++ l) (sym w.comes.leads.lines ∙ more.1
+                  ∙ ap (λ u. more.0 ++ (last_state u).lines) (sym (leaves_at w.comes.leads.leaves a))),
             );
       };
     }
 
 -- the turns after a turn show more
-more_shown : (p : StoredProgram) (rules : Rules) (shown : List ℕ) (u : Outcome StepResult State) → Begins shown (act_state u).shown → Begins shown (last_state (go_on u (after_turn (all_turns p rules.limit)))).shown
-more_shown p rules shown (Done (Next S) rest) b = begins_joined shown S.shown _ b (all_change p rules.limit S rest).shown
+more_shown : (p : StoredProgram) (rules : Rules) (shown : List ℕ) (u : Outcome StepResult State)
+    → Begins shown (act_state u).shown
+    → Begins shown (last_state (go_on u (after_turn (all_turns p rules.limit)))).shown
+more_shown p rules shown (Done (Next S) rest) b =
+    begins_joined shown S.shown _ b (all_change p rules.limit S rest).shown
 more_shown p rules shown (Done (Over e S) rest) b = b
 more_shown p rules shown (Asks k S) b = b
 more_shown p rules shown (Out k S) b = b
 
 -- and take more lines
-more_taken : (p : StoredProgram) (rules : Rules) (lines : List (List ℕ)) (u : Outcome StepResult State) → TakesLines lines (act_state u).lines → TakesLines lines (last_state (go_on u (after_turn (all_turns p rules.limit)))).lines
+more_taken : (p : StoredProgram) (rules : Rules) (lines : List (List ℕ)) (u : Outcome StepResult State)
+    → TakesLines lines (act_state u).lines
+    → TakesLines lines (last_state (go_on u (after_turn (all_turns p rules.limit)))).lines
 more_taken p rules lines (Done (Next S) rest) t = takes_joined lines S.lines _ t (all_change p rules.limit S rest).lines
 more_taken p rules lines (Done (Over e S) rest) t = t
 more_taken p rules lines (Asks k S) t = t
 more_taken p rules lines (Out k S) t = t
 
-more_continues : (p : StoredProgram) (rules : Rules) (shown : State → List ℕ) (left : State → Answers → Outcome StepResult State) → Continues act_state shown left → Continues last_state shown (then_turns p rules.limit left)
+more_continues : (p : StoredProgram) (rules : Rules) (shown : State → List ℕ)
+    (left : State → Answers → Outcome StepResult State)
+    → Continues act_state shown left → Continues last_state shown (then_turns p rules.limit left)
 more_continues p rules shown left h = record {
   begins = λ S a. more_shown p rules (shown S) (left S a) (h.begins S a);
   takes = λ S a. more_taken p rules S.lines (left S a) (h.takes S a);
@@ -192,19 +245,31 @@ more_continues p rules shown left h = record {
 
 -- ---- steps, one after the other
 
-module _ (refused : Refusal → Type 0) (p : StoredProgram) (rules : Rules) (m n : Configuration) (o d e : Devices) (same : o.choose ≡ rules.choose) (falls : e.most + length e.given ≤ d.most) (h : HasRun p rules m o d) where
+module _ (refused : Refusal → Type 0) (p : StoredProgram) (rules : Rules) (m n : Configuration) (o d e : Devices)
+    (same : o.choose ≡ rules.choose) (falls : e.most + length e.given ≤ d.most) (h : HasRun p rules m o d) where
   -- the run before the step, where these lines are left after it
-  before : (input rest : List (List ℕ)) → MayFollow e rest → input ≡ (d.given ++ e.given) ++ rest → RunsTo p rules m o input (e.given ++ rest) d (all_turns p rules.limit)
+  before : (input rest : List (List ℕ)) → MayFollow e rest → input ≡ (d.given ++ e.given) ++ rest
+      → RunsTo p rules m o input (e.given ++ rest) d (all_turns p rules.limit)
   before input rest f k =
-      h input (e.given ++ rest) (λ none. no_lines e.given rest (omega (arith, falls, none)) (f (omega (arith, falls, none)))) (k ∙ append_assoc d.given e.given rest)
+      h input (e.given ++ rest) (λ none. no_lines e.given rest (omega (arith, falls, none))
+      (f (omega (arith, falls, none)))) (k ∙ append_assoc d.given e.given rest)
 
   -- and it asks for answers as the devices say
-  chosen : {input rest : List (List ℕ)} {g : State → Answers → Outcome Last State} (b : RunsTo p rules m o input rest d g) → b.leads.state.choose ≡ d.choose
+  chosen : {input rest : List (List ℕ)} {g : State → Answers → Outcome Last State}
+      (b : RunsTo p rules m o input rest d g)
+      → b.leads.state.choose ≡ d.choose
   chosen b = b.leads.choose ∙ sym (b.exchanges.same_choose ∙ same)
 
   -- so its state is one before the step
-  before_step : {input : List (List ℕ)} (rest : List (List ℕ)) (f : MayFollow e rest) (b : RunsTo p rules m o input (e.given ++ rest) d (all_turns p rules.limit)) → IsBefore p.lines m (record d { given = [] }) e b.leads.state rest
-  before_step rest f b = record { represents = b.leads.represents; lines = b.leads.lines; follow = f; choose = chosen b }
+  before_step : {input : List (List ℕ)} (rest : List (List ℕ)) (f : MayFollow e rest)
+      (b : RunsTo p rules m o input (e.given ++ rest) d (all_turns p rules.limit))
+      → IsBefore p.lines m (record d { given = [] }) e b.leads.state rest
+  before_step rest f b = record {
+    represents = b.leads.represents;
+    lines = b.leads.lines;
+    follow = f;
+    choose = chosen b;
+  }
 
   -- the run goes on
   pub run_on : Steps refused p rules.limit m n (record d { given = [] }) e (Ok None) → HasRun p rules n o (onto d e)
@@ -212,11 +277,13 @@ module _ (refused : Refusal → Type 0) (p : StoredProgram) (rules : Rules) (m n
       let b = before input rest f k in
       run_then p rules m n o d e input (e.given ++ rest) rest goes b (s b.leads.state rest (before_step rest f b))
 
-  pub run_falls : Steps refused p rules.limit m n (record d { given = [] }) e (Ok None) → rules.limit - n.steps < rules.limit - m.steps
+  pub run_falls : Steps refused p rules.limit m n (record d { given = [] }) e (Ok None)
+      → rules.limit - n.steps < rules.limit - m.steps
   run_falls s =
       let b = before ((d.given ++ e.given) ++ []) [] (λ _. refl) refl in
       let x = s b.leads.state [] (before_step [] (λ _. refl) b) in
-      let goes_on = turn_goes p rules.limit b.leads.state x.leads.state (x.exchange.answers ++ []) [] (leaves_at x.leads.leaves []) in
+      let goes_on = turn_goes p rules.limit b.leads.state x.leads.state (x.exchange.answers ++ []) []
+      (leaves_at x.leads.leaves []) in
       omega (arith, goes_on.0, goes_on.1, b.leads.represents.steps, x.leads.represents.steps)
 
   module _ (rest : List (List ℕ)) (f : MayFollow e rest) where
@@ -230,37 +297,48 @@ module _ (refused : Refusal → Type 0) (p : StoredProgram) (rules : Rules) (m n
     abbrev LastStep : Devices → (State → Answers → Outcome StepResult State) → Type 0
     LastStep f g = StepsTo p.lines n (record d { given = [] }) b.leads.state rest (turn p rules.limit b.leads.state) f g
 
-    last : (f : Devices) (g : State → Answers → Outcome StepResult State) → LastStep f g → RunsTo p rules n o whole rest (onto d f) (then_turns p rules.limit g)
+    last : (f : Devices) (g : State → Answers → Outcome StepResult State) → LastStep f g
+        → RunsTo p rules n o whole rest (onto d f) (then_turns p rules.limit g)
     last f g s = run_then p rules m n o d f whole (e.given ++ rest) rest g b s
 
     ended : (ending : Ending) → LastStep e (ends ending) → IsFinished refused p rules whole o (onto d e) ending
-    ended ending s = run_ends refused p rules n o (onto d e) whole rest ending (then_turns p rules.limit (ends ending)) (last e (ends ending) s) refl (λ a. refl)
+    ended ending s = run_ends refused p rules n o (onto d e) whole rest ending (then_turns p rules.limit (ends ending))
+        (last e (ends ending) s) refl (λ a. refl)
 
-    waited : (z : Pause) → AsksUnanswered refused LastStep e act_state z → IsUnanswered refused p rules whole o (onto d e) z
+    waited : (z : Pause) → AsksUnanswered refused LastStep e act_state z
+        → IsUnanswered refused p rules whole o (onto d e) z
     waited z w = run_waits refused p rules n o (onto d e) whole rest z refl (record {
       left = then_turns p rules.limit w.left;
       bound = w.bound;
       comes = last e w.left w.comes;
-      question = λ S. asks_before (λ u. go_on u (after_turn (all_turns p rules.limit))) (λ (T : State). T) (λ k T. refl) (λ k T. refl) (w.left S) w.bound S z (w.question S);
+      question = λ S. asks_before (λ u. go_on u (after_turn (all_turns p rules.limit))) (λ (T : State). T) (λ k T. refl)
+          (λ k T. refl) (w.left S) w.bound S z (w.question S);
       continues = more_continues p rules (λ S. S.shown) w.left w.continues;
       pause = w.pause;
       refuses = w.refuses;
     })
 
     -- what is left wants a line, and none is left
-    ends_dry : (left : State → Answers → Outcome StepResult State) (x : LastStep e left) → ((a : Answers) → left (last e left x).leads.state a ≡ Done (Over endings.NoInput (last e left x).leads.state) a) → IsFinished refused p rules whole o (onto d e) endings.NoInput
+    ends_dry : (left : State → Answers → Outcome StepResult State) (x : LastStep e left)
+        → ((a : Answers)
+        → left (last e left x).leads.state a ≡ Done (Over endings.NoInput (last e left x).leads.state) a)
+        → IsFinished refused p rules whole o (onto d e) endings.NoInput
     ends_dry left x dry =
-        run_ends refused p rules n o (onto d e) whole rest endings.NoInput (then_turns p rules.limit left) (last e left x) refl
+        run_ends refused p rules n o (onto d e) whole rest endings.NoInput (then_turns p rules.limit left)
+        (last e left x) refl
         (λ a. ap (λ u. go_on u (after_turn (all_turns p rules.limit))) (dry a))
 
-    drained : (w : IsOutOfLines refused LastStep e (Over endings.NoInput)) → rest ≡ [] → IsFinished refused p rules (d.given ++ e.given) o (onto d e) endings.NoInput
+    drained : (w : IsOutOfLines refused LastStep e (Over endings.NoInput)) → rest ≡ []
+        → IsFinished refused p rules (d.given ++ e.given) o (onto d e) endings.NoInput
     drained w none =
         subst (λ (input : List (List ℕ)). IsFinished refused p rules input o (onto d e) endings.NoInput)
         (ap (λ l. (d.given ++ e.given) ++ l) none ∙ append-nil (d.given ++ e.given))
-        (ends_dry w.left w.comes (λ a. w.dry (last e w.left w.comes).leads.state a ((last e w.left w.comes).leads.lines ∙ none)))
+        (ends_dry w.left w.comes
+        (λ a. w.dry (last e w.left w.comes).leads.state a ((last e w.left w.comes).leads.lines ∙ none)))
 
     -- a step up to a screen that showed nothing more, nor failed
-    up_to : (middle : ScreenState) (left : State → Answers → Outcome StepResult State) → Shows middle e.screen [] → e.screen.failures ≡ middle.failures → LastStep (with_screen middle e) left → LastStep e left
+    up_to : (middle : ScreenState) (left : State → Answers → Outcome StepResult State) → Shows middle e.screen []
+        → e.screen.failures ≡ middle.failures → LastStep (with_screen middle e) left → LastStep e left
     up_to middle left shows unfailed s = record {
       exchange = record s.exchange { bytes = s.exchange.bytes ++ [] };
       exchanges = record {
@@ -287,31 +365,48 @@ module _ (refused : Refusal → Type 0) (p : StoredProgram) (rules : Rules) (m n
       run_so = last (with_screen w.screen e) w.left w.comes
 
       unread : LastStep e w.left
-      unread = up_to w.screen w.left (subst (λ (bytes : List ℕ). Shows w.screen e.screen bytes) w.line.0 w.shows) w.broken.1 w.comes
+      unread = up_to w.screen w.left (subst (λ (bytes : List ℕ). Shows w.screen e.screen bytes) w.line.0 w.shows)
+          w.broken.1 w.comes
 
       same_state : (last e w.left unread).leads.state ≡ run_so.leads.state
       unfolding last run_then unread up_to
       same_state = refl
 
       shown_so : run_so.leads.state.shown ≡ run_so.exchange.bytes ++ w.bytes
-      shown_so = run_so.leads.shown ∙ sym (ap (λ l. run_so.exchange.bytes ++ l) w.line.0 ∙ append-nil run_so.exchange.bytes)
+      shown_so = run_so.leads.shown
+          ∙ sym (ap (λ l. run_so.exchange.bytes ++ l) w.line.0 ∙ append-nil run_so.exchange.bytes)
 
-      lacks : (choose : Option ℤ) → IfSome choose (λ n. pos 1 ≤ℤ n) → LacksLine choose (Over endings.NoInput) w.left run_so.leads.state → LacksInput refused p rules whole o (onto d e) choose (run_so.exchange.bytes ++ w.bytes) (playing (then_turns p rules.limit w.left) run_so.leads.state)
-      lacks None high dry = ends_dry w.left unread (λ a. subst (λ (T : State). w.left T a ≡ Done (Over endings.NoInput T) a) (sym same_state) (dry a))
-      lacks (Some k) high asks = ap (λ u. told (go_on u (after_turn (all_turns p rules.limit)))) (asks high) ∙ ap (λ (s : List ℕ). Asks k s) shown_so
+      lacks : (choose : Option ℤ) → IfSome choose (λ n. pos 1 ≤ℤ n)
+          → LacksLine choose (Over endings.NoInput) w.left run_so.leads.state
+          → LacksInput refused p rules whole o (onto d e) choose (run_so.exchange.bytes ++ w.bytes)
+          (playing (then_turns p rules.limit w.left) run_so.leads.state)
+      lacks None high dry = ends_dry w.left unread
+          (λ a. subst (λ (T : State). w.left T a ≡ Done (Over endings.NoInput T) a) (sym same_state) (dry a))
+      lacks (Some k) high asks = ap (λ u. told (go_on u (after_turn (all_turns p rules.limit)))) (asks high)
+          ∙ ap (λ (s : List ℕ). Asks k s) shown_so
 
-      unread_dry : rest ≡ [] → LacksInput refused p rules whole o (onto d e) rules.choose (run_so.exchange.bytes ++ w.bytes) (playing (then_turns p rules.limit w.left) run_so.leads.state)
+      unread_dry : rest ≡ []
+          → LacksInput refused p rules whole o (onto d e) rules.choose (run_so.exchange.bytes ++ w.bytes)
+          (playing (then_turns p rules.limit w.left) run_so.leads.state)
       unread_dry none =
-          subst (λ (choose : Option ℤ). LacksInput refused p rules whole o (onto d e) choose (run_so.exchange.bytes ++ w.bytes) (playing (then_turns p rules.limit w.left) run_so.leads.state))
+          subst (λ (choose : Option ℤ). LacksInput refused p rules whole o (onto d e) choose
+          (run_so.exchange.bytes ++ w.bytes) (playing (then_turns p rules.limit w.left) run_so.leads.state))
           run_so.leads.choose
-          (lacks run_so.leads.state.choose (subst (λ (choose : Option ℤ). IfSome choose (λ n. pos 1 ≤ℤ n)) (sym run_so.leads.choose) rules.in_range) (w.line.1 run_so.leads.state (run_so.leads.lines ∙ none)))
+          (lacks run_so.leads.state.choose (subst (λ (choose : Option ℤ). IfSome choose (λ n. pos 1 ≤ℤ n))
+          (sym run_so.leads.choose) rules.in_range)
+          (w.line.1 run_so.leads.state (run_so.leads.lines ∙ none)))
 
-    dry_by : (error : DeviceError) (w : DeviceFails refused LastStep e act_state (Over endings.NoInput) error) → error ≡ errors.Read → rest ≡ [] → LacksInput refused p rules whole o (onto d e) rules.choose ((last (with_screen w.screen e) w.left w.comes).exchange.bytes ++ w.bytes) (playing (then_turns p rules.limit w.left) (last (with_screen w.screen e) w.left w.comes).leads.state)
+    dry_by : (error : DeviceError) (w : DeviceFails refused LastStep e act_state (Over endings.NoInput) error)
+        → error ≡ errors.Read → rest ≡ []
+        → LacksInput refused p rules whole o (onto d e) rules.choose
+        ((last (with_screen w.screen e) w.left w.comes).exchange.bytes ++ w.bytes)
+        (playing (then_turns p rules.limit w.left) (last (with_screen w.screen e) w.left w.comes).leads.state)
     dry_by errors.Read w is none = unread_dry w none
     dry_by errors.Memory w is none = absurd (let clash : errors.Memory ≡ errors.Read = is in cc)
     dry_by errors.Write w is none = absurd (let clash : errors.Write ≡ errors.Read = is in cc)
 
-    broken : (error : DeviceError) → DeviceFails refused LastStep e act_state (Over endings.NoInput) error → IsUnfinished refused p rules whole o (onto d e) error
+    broken : (error : DeviceError) → DeviceFails refused LastStep e act_state (Over endings.NoInput) error
+        → IsUnfinished refused p rules whole o (onto d e) error
     broken error w =
         let x = last (with_screen w.screen e) w.left w.comes in
         let shows = shows_then o.screen w.screen e.screen x.exchange.bytes w.bytes x.exchanges.shows w.shows in
@@ -327,25 +422,32 @@ module _ (refused : Refusal → Type 0) (p : StoredProgram) (rules : Rules) (m n
               falls = x.exchanges.falls;
               same_choose = x.exchanges.same_choose;
             };
-            leaves = (plays_to p rules n o (onto d (with_screen w.screen e)) whole rest (then_turns p rules.limit w.left) x).leaves;
+            leaves = (plays_to p rules n o (onto d (with_screen w.screen e)) whole rest
+                (then_turns p rules.limit w.left) x).leaves;
           };
-          broken = has_broken_from refused refused (λ r y. y) o.screen w.screen e.screen x.exchanges.unfailed x.exchanges.shows.same_memory error w.broken;
+          broken = has_broken_from refused refused (λ r y. y) o.screen w.screen e.screen x.exchanges.unfailed
+              x.exchanges.shows.same_memory error w.broken;
           continues = record {
             begins = λ a.
-                subst (Begins (x.exchange.bytes ++ w.bytes)) (sym (played_shown (then_turns p rules.limit w.left x.leads.state a)))
+                subst (Begins (x.exchange.bytes ++ w.bytes))
+                (sym (played_shown (then_turns p rules.limit w.left x.leads.state a)))
                 (more_shown p rules (x.exchange.bytes ++ w.bytes) (w.left x.leads.state a)
-                (subst (λ (s : List ℕ). Begins (s ++ w.bytes) (act_state (w.left x.leads.state a)).shown) x.leads.shown (w.continues.begins x.leads.state a)));
+                (subst (λ (s : List ℕ). Begins (s ++ w.bytes) (act_state (w.left x.leads.state a)).shown) x.leads.shown
+                (w.continues.begins x.leads.state a)));
             more_lines = λ a.
                 let T : State = x.leads.state in
                 let more = more_taken p rules T.lines (w.left T a) (w.continues.takes T a) in (
                   more.0,
-                  ap (λ l. (d.given ++ e.given) ++ l) (sym x.leads.lines ∙ more.1 ∙ ap (λ u. more.0 ++ (last_state u).lines) (sym (leaves_at x.leads.leaves a))),
+                  ap (λ l. (d.given ++ e.given) ++ l) (sym x.leads.lines ∙ more.1
+                      ∙ ap (λ u. more.0 ++ (last_state u).lines) (sym (leaves_at x.leads.leaves a))),
                 );
           };
-          dry = λ is all. dry_by error w is (append_cancel_left (d.given ++ e.given) rest [] (all ∙ sym (append-nil (d.given ++ e.given))));
+          dry = λ is all. dry_by error w is
+              (append_cancel_left (d.given ++ e.given) rest [] (all ∙ sym (append-nil (d.given ++ e.given))));
         }
 
-    comes_ended : (ending : Ending) → StepComes refused LastStep e (Ok (Some ending)) → RunComes refused p rules rest o (onto d e) (Ok ending)
+    comes_ended : (ending : Ending) → StepComes refused LastStep e (Ok (Some ending))
+        → RunComes refused p rules rest o (onto d e) (Ok ending)
     comes_ended endings.End s = ended endings.End s
     comes_ended endings.Stop s = ended endings.Stop s
     comes_ended endings.What s = ended endings.What s
@@ -356,14 +458,16 @@ module _ (refused : Refusal → Type 0) (p : StoredProgram) (rules : Rules) (m n
     comes_ended endings.NoAnswer s = waited pauses.Ended s
     comes_ended endings.BadAnswer s = (s.0, waited (pauses.OutOfRange s.0) s.1)
 
-    comes_broken : (fault : RunFault) → (fault ≡ faults.Spent → ⊥) → StepComes refused LastStep e (Err fault) → RunComes refused p rules rest o (onto d e) (Err fault)
+    comes_broken : (fault : RunFault) → (fault ≡ faults.Spent → ⊥) → StepComes refused LastStep e (Err fault)
+        → RunComes refused p rules rest o (onto d e) (Err fault)
     comes_broken faults.Memory fresh s = inr (broken errors.Memory s)
     comes_broken faults.Read fresh s = broken errors.Read s
     comes_broken faults.Write fresh s = broken errors.Write s
     comes_broken faults.Spent fresh s = absurd (fresh refl)
 
   -- it is over
-  pub run_over : (ending : Ending) → Steps refused p rules.limit m n (record d { given = [] }) e (Ok (Some ending)) → Runs refused p rules o (onto d e) (Ok ending)
+  pub run_over : (ending : Ending) → Steps refused p rules.limit m n (record d { given = [] }) e (Ok (Some ending))
+      → Runs refused p rules o (onto d e) (Ok ending)
   run_over ending s rest f = comes_ended rest f ending (s (b rest f).leads.state rest (before_step rest f (b rest f)))
 
   -- at its limit, where this is the line of the machine's next command
@@ -372,30 +476,41 @@ module _ (refused : Refusal → Type 0) (p : StoredProgram) (rules : Rules) (m n
       → (rest : List (List ℕ)) → MayFollow e rest → StopsAt p rules ((d.given ++ e.given) ++ rest) o (onto d e) line
   run_stops line is s rest f =
       let b = before ((d.given ++ e.given) ++ rest) rest f refl in
-      let x = run_then p rules m n o d e ((d.given ++ e.given) ++ rest) (e.given ++ rest) rest (ends endings.Limit) b (s b.leads.state rest (before_step rest f b)) in
+      let x = run_then p rules m n o d e ((d.given ++ e.given) ++ rest) (e.given ++ rest) rest (ends endings.Limit) b
+      (s b.leads.state rest (before_step rest f b)) in
       record {
         exchange = x.exchange;
         left = playing (then_turns p rules.limit (ends endings.Limit)) x.leads.state;
-        plays = plays_to p rules n o (onto d e) ((d.given ++ e.given) ++ rest) rest (then_turns p rules.limit (ends endings.Limit)) x;
-        stops = λ a. is x.leads.state.place x.leads.represents.place ∙ sym (ap (λ u. next_number p.lines (last_state u).place) (leaves_at x.leads.leaves a));
+        plays = plays_to p rules n o (onto d e) ((d.given ++ e.given) ++ rest) rest
+            (then_turns p rules.limit (ends endings.Limit)) x;
+        stops = λ a. is x.leads.state.place x.leads.represents.place
+            ∙ sym (ap (λ u. next_number p.lines (last_state u).place) (leaves_at x.leads.leaves a));
       }
 
-  pub run_breaks : (fault : RunFault) → (fault ≡ faults.Spent → ⊥) → Steps refused p rules.limit m n (record d { given = [] }) e (Err fault) → Runs refused p rules o (onto d e) (Err fault)
-  run_breaks fault fresh s rest f = comes_broken rest f fault fresh (s (b rest f).leads.state rest (before_step rest f (b rest f)))
+  pub run_breaks : (fault : RunFault) → (fault ≡ faults.Spent → ⊥)
+      → Steps refused p rules.limit m n (record d { given = [] }) e (Err fault)
+      → Runs refused p rules o (onto d e) (Err fault)
+  run_breaks fault fresh s rest f =
+      comes_broken rest f fault fresh (s (b rest f).leads.state rest (before_step rest f (b rest f)))
 
 -- ---- quiet turns
 
-run_quietly : (p : StoredProgram) (rules : Rules) (n : ℕ) (old new : Configuration) (o d : Devices) → o.choose ≡ rules.choose → HasRun p rules old o d → QuietTurns p rules.limit n old new → HasRun p rules new o d
+run_quietly : (p : StoredProgram) (rules : Rules) (n : ℕ) (old new : Configuration) (o d : Devices)
+    → o.choose ≡ rules.choose → HasRun p rules old o d → QuietTurns p rules.limit n old new → HasRun p rules new o d
 run_quietly p rules zero old new o d chosen h same = subst (λ (m : Configuration). HasRun p rules m o d) (sym same) h
 run_quietly p rules (suc n) old new o d chosen h turns =
     let quiet = record d { given = [] } in
     subst (λ (given : List (List ℕ)). HasRun p rules new o (record d { given = given })) (append-nil d.given)
-    (run_on nothing_refused p rules turns.0 new o d quiet chosen (omega arith) (run_quietly p rules n old turns.0 o d chosen h turns.1) (turns.2 quiet refl))
+    (run_on nothing_refused p rules turns.0 new o d quiet chosen (omega arith)
+    (run_quietly p rules n old turns.0 o d chosen h turns.1) (turns.2 quiet refl))
 
 -- the same by a player that plays q
-pub run_advanced : (p q : StoredProgram) (rules : Rules) (n : ℕ) (old new : Configuration) (o d : Devices) → o.choose ≡ rules.choose → q ≡ p → HasRun p rules old o d → QuietTurns p rules.limit n old new → HasRun q rules new o d
+pub run_advanced : (p q : StoredProgram) (rules : Rules) (n : ℕ) (old new : Configuration) (o d : Devices)
+    → o.choose ≡ rules.choose → q ≡ p → HasRun p rules old o d → QuietTurns p rules.limit n old new
+    → HasRun q rules new o d
 run_advanced p q rules n old new o d chosen program h turns =
-    subst (λ (s : StoredProgram). HasRun s rules new o d) (sym program) (run_quietly p rules n old new o d chosen h turns)
+    subst (λ (s : StoredProgram). HasRun s rules new o d) (sym program)
+    (run_quietly p rules n old new o d chosen h turns)
 
 -- ---- at the exits of the loop
 

@@ -64,7 +64,8 @@ is_known : (n : InputNow) (xs given : List (List ℕ)) (b : Option (List ℕ)) �
 is_known n xs given None e l = absurd l
 is_known n xs given (Some y) e l = record { bytes = y; is = e; lines = l }
 
-module _ (wanted : ℕ) (c : List ℕ) (x f : ℕ) (n : InputNow) (given : List (List ℕ)) (on : ReadsOn wanted (fresh (Some c) x f) given n) where
+module _ (wanted : ℕ) (c : List ℕ) (x f : ℕ) (n : InputNow) (given : List (List ℕ))
+    (on : ReadsOn wanted (fresh (Some c) x f) given n) where
   abbrev known : IsKnown n (lines_left fresh_input c) given
   known = is_known n (lines_left fresh_input c) given n.bytes refl on.loses
 
@@ -90,7 +91,10 @@ module _ (wanted : ℕ) (c : List ℕ) (x f : ℕ) (n : InputNow) (given : List 
     split = subst (λ b. Consumes (Some c) b on.taken) known.is on.consumed
 
     going : n.state.end ≡ Ended → ⊥
-    going e = elim (on.ended e) [ inl p ↦ absurd (let clash : Open ≡ Ended = p in cc) | inr p ↦ absurd (omega (arith, p, exceeds)) ]
+    going e = elim (on.ended e) [
+      | inl p ↦ absurd (let clash : Open ≡ Ended = p in cc)
+      | inr p ↦ absurd (omega (arith, p, exceeds))
+    ]
 
     abbrev waiting : List (List ℕ)
     waiting = whole_lines (open_piece n.state) n.state.waiting
@@ -112,7 +116,8 @@ module _ (wanted : ℕ) (c : List ℕ) (x f : ℕ) (n : InputNow) (given : List 
     whole : input_lines c ≡ given ++ (waiting ++ (behind ++ last_line (last_piece None c)))
     whole =
         input_lines-cut c
-        ∙ ap (λ l. l ++ last_line (last_piece None c)) (ap (whole_lines None) all_bytes ∙ whole_lines-append None front (drop 16777216 taken ++ known.bytes) ∙ ap (λ l. l ++ behind) cut)
+        ∙ ap (λ l. l ++ last_line (last_piece None c)) (ap (whole_lines None) all_bytes
+        ∙ whole_lines-append None front (drop 16777216 taken ++ known.bytes) ∙ ap (λ l. l ++ behind) cut)
         ∙ append_assoc (given ++ waiting) behind (last_line (last_piece None c))
         ∙ append_assoc given waiting (behind ++ last_line (last_piece None c))
 
@@ -120,14 +125,17 @@ module _ (wanted : ℕ) (c : List ℕ) (x f : ℕ) (n : InputNow) (given : List 
     left_over : NoneLeft (known_lines n) → ⊥
     left_over h =
         let beyond : nat_lt (length c) 16777217 ≡ false = le-ltb (length c) 16777217 exceeds in
-        let first : take 16777216 c ≡ front ++ take (16777216 - length taken) known.bytes = ap (take 16777216) split ∙ take-split 16777216 taken known.bytes in
+        let first : take 16777216 c ≡ front ++ take (16777216 - length taken) known.bytes =
+        ap (take 16777216) split ∙ take-split 16777216 taken known.bytes in
         let more = whole_lines (last_piece None front) (take (16777216 - length taken) known.bytes) in
         let cut_lines : whole_lines None (take 16777216 c) ≡ (given ++ waiting) ++ more =
         ap (whole_lines None) first ∙ whole_lines-append None front (take (16777216 - length taken) known.bytes)
         ∙ ap (λ l. l ++ more) cut in
-        let lines : lines_left fresh_input c ≡ whole_lines None (take 16777216 c) ++ (kept_bytes (last_piece None (take 16777216 c)) ∷ []) =
+        let lines : lines_left fresh_input c ≡ whole_lines None (take 16777216 c)
+        ++ (kept_bytes (last_piece None (take 16777216 c)) ∷ []) =
         ap (λ t. lines_to_end t None (take 16777216 c)) beyond in
-        let all : whole_lines None (take 16777216 c) ++ (kept_bytes (last_piece None (take 16777216 c)) ∷ []) ≡ given ++ lines_left n.state known.bytes = sym lines ∙ known.lines in
+        let all : whole_lines None (take 16777216 c) ++ (kept_bytes (last_piece None (take 16777216 c)) ∷ [])
+        ≡ given ++ lines_left n.state known.bytes = sym lines ∙ known.lines in
         omega (
           arith,
           ap length all,
@@ -140,7 +148,11 @@ module _ (wanted : ℕ) (c : List ℕ) (x f : ℕ) (n : InputNow) (given : List 
         )
 
     long : IsBehind c given n
-    long = record { rest = waiting ++ (behind ++ last_line (last_piece None c)); whole = whole; none = λ h. absurd (left_over h) }
+    long = record {
+      rest = waiting ++ (behind ++ last_line (last_piece None c));
+      whole = whole;
+      none = λ h. absurd (left_over h);
+    }
 
   by_length : (t : Bool) → nat_lt (length c) 16777217 ≡ t → IsBehind c given n
   by_length true e = short (ltb-true (length c) 16777217 e)
@@ -179,7 +191,8 @@ fault_unread end reads.Read e = refl
 fault_unread end reads.TooLong e = refl
 fault_unread end reads.Memory e = absurd (fault_without_memory end e)
 
-module _ (wanted : ℕ) (known : Option (List ℕ)) (x f : ℕ) (n : InputNow) (given : List (List ℕ)) (on : ReadsOn wanted (fresh known x f) given n) where
+module _ (wanted : ℕ) (known : Option (List ℕ)) (x f : ℕ) (n : InputNow) (given : List (List ℕ))
+    (on : ReadsOn wanted (fresh known x f) given n) where
   pub takes_at_most : ConsumesAtMost known n.bytes 16777217
   takes_at_most = (on.taken, omega (arith, on.room), on.consumed)
 
@@ -213,7 +226,10 @@ module _ (wanted : ℕ) (known : Option (List ℕ)) (x f : ℕ) (n : InputNow) (
     pub is_unreadable : IsUnreadable known f n.failures
     is_unreadable = elim (ends_at n.state.end (faulty n.state.end fault is)) [
       | inl e ↦ elim (on.failed e) [ inl p ↦ absurd (let clash : Open ≡ Failed = p in cc) | inr p ↦ inl p ]
-      | inr e ↦ elim (on.exceeded e) [ inl p ↦ absurd (let clash : Open ≡ Exceeded = p in cc) | inr p ↦ inr (too_long p known n.bytes on.consumed) ]
+      | inr e ↦ elim (on.exceeded e) [
+        | inl p ↦ absurd (let clash : Open ≡ Exceeded = p in cc)
+        | inr p ↦ inr (too_long p known n.bytes on.consumed)
+      ]
     ]
 
     -- the reader failed, or has given one byte too many
@@ -268,7 +284,8 @@ missed_within a P few (Err runs.Spent) m k = omega (arith, few m)
 
 -- where it took k of all lines, of which so many were given; it may have missed one only where these were all
 abbrev pub WantsWithin : Rules → Result Ending RunFault → ℕ → ℕ → Type 0
-WantsWithin rules result wanted most = (given all k : ℕ) → given ≤ k → k ≤ all → (most ≡ 0 → all ≤ given) → given + wanted ≤ lines_wanted rules.choose all k result
+WantsWithin rules result wanted most = (given all k : ℕ) → given ≤ k → k ≤ all → (most ≡ 0 → all ≤ given)
+    → given + wanted ≤ lines_wanted rules.choose all k result
 
 wanted_by_choose : (a : InputState) (most : ℕ) (choose : Option ℤ) (result : Result Ending RunFault)
     → UnlessMissed (Refuses a.end) (NotMissed choose 0 (asked a) most) (run_miss result)
@@ -287,7 +304,8 @@ wanted_by_choose a most (Some n) result m given all k fits part over = by_all (k
 
   by_all : (same : Bool) → (k == all) ≡ same → given + asked a ≤ wants same
   by_all true e = omega (arith, fits, asked_one a)
-  by_all false e = let within = missed_within a ((asked a ≤ 0) ⊎ (most ≡ 0)) (few e) result m k in omega (arith, fits, within)
+  by_all false e = let within = missed_within a ((asked a ≤ 0) ⊎ (most ≡ 0)) (few e) result m k in
+      omega (arith, fits, within)
 
 pub wanted_within : (a : InputState) (most : ℕ) (rules : Rules) (result : Result Ending RunFault)
     → UnlessMissed (Refuses a.end) (NotMissed rules.choose 0 (asked a) most) (run_miss result)
@@ -325,11 +343,14 @@ fault_missed a (Some n) fault e (inr none) = by_end a.end e (omega (arith, none)
   by_end Exceeded e h = omega (arith, h)
 
 -- the answers by which a run goes may hang on its lines
-module _ (p : StoredProgram) (rules : Rules) (a : List (List ℕ) → Answers) (wanted x f : ℕ) (n : InputNow) (given : List (List ℕ))
-    (takes : (behind : List (List ℕ)) → (NoneLeft (known_lines n) → behind ≡ []) → length given ≤ lines_taken p (given ++ behind) rules (a (given ++ behind)))
+module _ (p : StoredProgram) (rules : Rules) (a : List (List ℕ) → Answers) (wanted x f : ℕ) (n : InputNow)
+    (given : List (List ℕ))
+    (takes : (behind : List (List ℕ)) → (NoneLeft (known_lines n) → behind ≡ [])
+    → length given ≤ lines_taken p (given ++ behind) rules (a (given ++ behind)))
     (result : Result Ending RunFault) (within : WantsWithin rules result wanted (most_lines n.state)) where
   pub reads_for : (known : Option (List ℕ)) (on : ReadsOn wanted (fresh known x f) given n)
-      → IfSome known (λ c. ReadsFor on.taken (lines_wanted rules.choose (length (input_lines c)) (lines_taken p (input_lines c) rules (a (input_lines c))) result))
+      → IfSome known (λ c. ReadsFor on.taken (lines_wanted rules.choose (length (input_lines c))
+      (lines_taken p (input_lines c) rules (a (input_lines c))) result))
   reads_for None on = tt
   reads_for (Some c) on = by_ahead on.ahead where
     b : IsBehind c given n
@@ -356,7 +377,14 @@ module _ (p : StoredProgram) (rules : Rules) (a : List (List ℕ) → Answers) (
     by_ahead (inl none) = inl none
     by_ahead (inr h) =
         let fewer : length (whole_lines None h.before) < length given + wanted = h.needed in
-        inr (record { before = h.before; piece = h.piece; both = h.both; some = h.some; fits = h.fits; needed = omega (arith, fewer, enough) })
+        inr (record {
+          before = h.before;
+          piece = h.piece;
+          both = h.both;
+          some = h.some;
+          fits = h.fits;
+          needed = omega (arith, fewer, enough);
+        })
 
 -- ---- a run on the lines of a reader
 
@@ -364,20 +392,27 @@ module _ (p : StoredProgram) (rules : Rules) (a : List (List ℕ) → Answers) (
 pub taken_by : {R : Type 0} (remaining : R → Option (List ℕ)) (counted failures : R → ℕ) (s t : ReaderLines R)
     (given : List (List ℕ)) (i : R)
     → line_input s ≡ fresh_input → (line_reader s).now ≡ i → GivesFrom remaining counted failures s given t
-    → ReadsOn (asked (line_input t)) (fresh (remaining i) (counted i) (failures i)) given (input_of remaining counted failures t)
+    → ReadsOn (asked (line_input t)) (fresh (remaining i) (counted i) (failures i)) given
+    (input_of remaining counted failures t)
 taken_by remaining counted failures s t given i state reader gives =
-    subst (λ r. ReadsOn (asked (line_input t)) (input_now remaining counted failures fresh_input r) given (input_of remaining counted failures t)) reader
-    (subst (λ (a : InputState). ReadsOn (asked (line_input t)) (input_now remaining counted failures a (line_reader s).now) given (input_of remaining counted failures t)) state gives.reads)
+    subst (λ r. ReadsOn (asked (line_input t)) (input_now remaining counted failures fresh_input r) given
+    (input_of remaining counted failures t)) reader
+    (subst (λ (a : InputState). ReadsOn (asked (line_input t)) (input_now remaining counted failures a
+    (line_reader s).now) given (input_of remaining counted failures t)) state gives.reads)
 
-module _ {W : Type 0} (contents : W → Option (List ℕ)) (written : W → ℕ) (p : StoredProgram) (rules : Rules) (a : List (List ℕ) → Answers) (refuses : Pause → ℤ → Type 0) (w v : W) (ended : Result Ending RunFault)
+module _ {W : Type 0} (contents : W → Option (List ℕ)) (written : W → ℕ) (p : StoredProgram) (rules : Rules)
+    (a : List (List ℕ) → Answers) (refuses : Pause → ℤ → Type 0) (w v : W) (ended : Result Ending RunFault)
     (wanted x f : ℕ) (n : InputNow) (given : List (List ℕ))
-    (between : (behind : List (List ℕ)) → (NoneLeft (known_lines n) → behind ≡ []) → IsRunBetween contents written p rules (given ++ behind) (a (given ++ behind)) refuses w v ended) where
+    (between : (behind : List (List ℕ)) → (NoneLeft (known_lines n) → behind ≡ [])
+    → IsRunBetween contents written p rules (given ++ behind) (a (given ++ behind)) refuses w v ended) where
   -- by the bytes of the input, where they are known
   pub shows_input : (known : Option (List ℕ)) → ReadsOn wanted (fresh known x f) given n
-      → IfOk ended (λ e. IfSome known (λ c. ShowsRun (plain p (input_lines c) rules (a (input_lines c))) (contents w) (contents v) e))
+      → IfOk ended (λ e. IfSome known (λ c. ShowsRun (plain p (input_lines c) rules (a (input_lines c))) (contents w)
+      (contents v) e))
   shows_input None on = nothing ended where
     nothing : (r : Result Ending RunFault)
-        → IfOk r (λ e. IfSome None (λ c. ShowsRun (plain p (input_lines c) rules (a (input_lines c))) (contents w) (contents v) e))
+        → IfOk r (λ e. IfSome None (λ c. ShowsRun (plain p (input_lines c) rules (a (input_lines c))) (contents w)
+        (contents v) e))
     nothing (Ok e) = tt
     nothing (Err fault) = tt
   shows_input (Some c) on =
@@ -394,7 +429,8 @@ module _ {W : Type 0} (contents : W → Option (List ℕ)) (written : W → ℕ)
       (between b.rest b.none).beginning
 
   pub stops_input : IsErrOf ended runs.Memory → (known : Option (List ℕ)) → ReadsOn wanted (fresh known x f) given n
-      → Appends (contents w) (contents v) [] ⊎ IfSome known (λ c. ShowsQuestion (plain p (input_lines c) rules) (a (input_lines c)) (contents w) (contents v))
+      → Appends (contents w) (contents v) [] ⊎ IfSome known
+      (λ c. ShowsQuestion (plain p (input_lines c) rules) (a (input_lines c)) (contents w) (contents v))
   stops_input is None on = inr tt
   stops_input is (Some c) on =
       let b = lines_after wanted c x f n given on in
@@ -464,7 +500,8 @@ noted_within noticed rules r wanted most within given all k fits part over =
     let enough = within given all k fits part over in omega (arith, enough, noted_lines noticed rules.choose all k r)
 
 -- where the source has come to no fault, the run doesn't say that a line could not be read
-module _ (p : StoredProgram) (rules : Rules) (refuses : Pause → ℤ → Type 0) (o n : Devices) (end : InputEnd) (left : Option (List (List ℕ))) where
+module _ (p : StoredProgram) (rules : Rules) (refuses : Pause → ℤ → Type 0) (o n : Devices) (end : InputEnd)
+    (left : Option (List (List ℕ))) where
   pub never_unread : fault_at end ≡ None → (ended : Result Ending RunFault)
       → RunComes (refused_by refuses (Refuses end) left) p rules [] o n ended → IsErrOf ended runs.Read → ⊥
   never_unread none (Ok e) h is = absurd cc

@@ -1,6 +1,7 @@
 -- This file proves how a run continues and ends that is played step by step.
 -- Main lemmas: `underway_first` and `underway_advanced`, after the record that holds before each step.
-use Rattle.std.proofs.Common.{◌≡◌, ◌+◌, ◌-◌, ◌<◌, ◌≤◌, ℕ, List, [], ◌++◌, length, Option, Some, None, Result, Ok, Err, refl, sym, ap, subst, ◌∙◌, arith}
+use Rattle.std.proofs.Common.{◌≡◌, ◌+◌, ◌-◌, ◌<◌, ◌≤◌, ℕ, List, [], ◌++◌, length, Option, Some}
+use Rattle.std.proofs.Common.{None, Result, Ok, Err, refl, sym, ap, subst, ◌∙◌, arith}
 use Rattle.ptb_text.specs.Statements.{StoredProgram}
 use Rattle.ptb_answers.specs.declared.chooser.Chooser as choosers
 use Rattle.ptb_answers.specs.declared.rules.Rules.{Rules}
@@ -22,17 +23,23 @@ use Rattle.ptb_machine.specs.declared.run_end.RunEnd.{RunEnd}
 use Rattle.ptb_machine.specs.Runs.{IsRun, IsRunToEnd, StopsAt}
 use Rattle.ptb_machine.specs.Steps.{IsTurn, QuietTurns, Steps, step_miss}
 use Rattle.ptb_machine.proofs.Ends.{end_over}
-use Rattle.ptb_machine.proofs.Runs.{HasRun, run_begins, run_advanced, run_on, run_falls, run_over, run_stops, run_breaks}
+use Rattle.ptb_machine.proofs.Runs.{HasRun, run_begins, run_advanced, run_on, run_falls, run_over}
+use Rattle.ptb_machine.proofs.Runs.{run_stops, run_breaks}
 
 -- the devices were `first` before the run, and are `now`
-pub record IsUnderway {C S L : Type 0} (chooser : choosers.Ghosts C) (screen : screens.Ghosts S) (source : sources.Ghosts L) (p : StoredProgram) (rules : Rules) (m : Configuration) (first now : RunDevices C S L) : Type 0 where
+pub record IsUnderway {C S L : Type 0} (chooser : choosers.Ghosts C) (screen : screens.Ghosts S)
+    (source : sources.Ghosts L) (p : StoredProgram) (rules : Rules) (m : Configuration)
+    (first now : RunDevices C S L) : Type 0 where
   pub given : List (List ℕ)
   pub gives : source.gives first.source given now.source
   pub run : HasRun p rules m (held chooser screen source rules first []) (held chooser screen source rules now given)
   pub missed : NotMissed rules.choose (source.missed first.source) (source.missed now.source) (source.most now.source)
 
-module _ {C S L : Type 0} (chooser : choosers.Ghosts C) (screen : screens.Ghosts S) (source : sources.Ghosts L) (rules : Rules) (first : RunDevices C S L) where
-  pub underway_first : (p : StoredProgram) (m : Configuration) → source.gives first.source [] first.source → ((input : List (List ℕ)) → Represents p.lines m (first_state p input rules.choose)) → IsUnderway chooser screen source p rules m first first
+module _ {C S L : Type 0} (chooser : choosers.Ghosts C) (screen : screens.Ghosts S) (source : sources.Ghosts L)
+    (rules : Rules) (first : RunDevices C S L) where
+  pub underway_first : (p : StoredProgram) (m : Configuration) → source.gives first.source [] first.source
+      → ((input : List (List ℕ)) → Represents p.lines m (first_state p input rules.choose))
+      → IsUnderway chooser screen source p rules m first first
   underway_first p m gives represents = record {
     given = [];
     gives = gives;
@@ -40,7 +47,9 @@ module _ {C S L : Type 0} (chooser : choosers.Ghosts C) (screen : screens.Ghosts
     missed = not_missed rules.choose _ _ _ (omega arith);
   }
 
-  pub underway_advanced : (p q : StoredProgram) (n : ℕ) (old new : Configuration) (now : RunDevices C S L) → q ≡ p → IsUnderway chooser screen source p rules old first now → QuietTurns p rules.limit n old new → IsUnderway chooser screen source q rules new first now
+  pub underway_advanced : (p q : StoredProgram) (n : ℕ) (old new : Configuration) (now : RunDevices C S L) → q ≡ p
+      → IsUnderway chooser screen source p rules old first now → QuietTurns p rules.limit n old new
+      → IsUnderway chooser screen source q rules new first now
   underway_advanced p q n old new now same u turns = record {
     given = u.given;
     gives = u.gives;
@@ -49,56 +58,83 @@ module _ {C S L : Type 0} (chooser : choosers.Ghosts C) (screen : screens.Ghosts
   }
 
   -- a player that plays q plays p
-  pub underway_as : (p q : StoredProgram) (m : Configuration) (now : RunDevices C S L) → p ≡ q → IsUnderway chooser screen source p rules m first now → IsUnderway chooser screen source q rules m first now
-  underway_as p q m now same u = subst (λ (x : StoredProgram). IsUnderway chooser screen source x rules m first now) same u
+  pub underway_as : (p q : StoredProgram) (m : Configuration) (now : RunDevices C S L) → p ≡ q
+      → IsUnderway chooser screen source p rules m first now → IsUnderway chooser screen source q rules m first now
+  underway_as p q m now same u =
+      subst (λ (x : StoredProgram). IsUnderway chooser screen source x rules m first now) same u
 
   -- a step from the machine m to n, after which the devices are `last`
-  module _ (p : StoredProgram) (m n : Configuration) (now last : RunDevices C S L) (u : IsUnderway chooser screen source p rules m first now) (r : Result (Option Ending) RunFault) (turn : IsTurn chooser screen source p rules m n now last r) (gives : source.gives first.source (u.given ++ turn.given) last.source) (falls : source.most last.source + length turn.given ≤ source.most now.source) where
-    steps_as : (x : Result (Option Ending) RunFault) → r ≡ x → Steps (refusals chooser screen source last) p rules.limit m n (held chooser screen source rules now []) (held chooser screen source rules last turn.given) x
-    steps_as x e = subst (λ (y : Result (Option Ending) RunFault). Steps (refusals chooser screen source last) p rules.limit m n (held chooser screen source rules now []) (held chooser screen source rules last turn.given) y) e turn.steps
+  module _ (p : StoredProgram) (m n : Configuration) (now last : RunDevices C S L)
+      (u : IsUnderway chooser screen source p rules m first now) (r : Result (Option Ending) RunFault)
+      (turn : IsTurn chooser screen source p rules m n now last r)
+      (gives : source.gives first.source (u.given ++ turn.given) last.source)
+      (falls : source.most last.source + length turn.given ≤ source.most now.source) where
+    steps_as : (x : Result (Option Ending) RunFault) → r ≡ x
+        → Steps (refusals chooser screen source last) p rules.limit m n (held chooser screen source rules now [])
+        (held chooser screen source rules last turn.given) x
+    steps_as x e =
+        subst (λ (y : Result (Option Ending) RunFault). Steps (refusals chooser screen source last) p rules.limit m n
+        (held chooser screen source rules now []) (held chooser screen source rules last turn.given) y) e turn.steps
 
-    missed_as : (x : Result (Option Ending) RunFault) → r ≡ x → ReportsMissed source rules.choose first.source last.source (step_miss x)
+    missed_as : (x : Result (Option Ending) RunFault) → r ≡ x
+        → ReportsMissed source rules.choose first.source last.source (step_miss x)
     missed_as x e =
-        subst (λ (y : Result (Option Ending) RunFault). ReportsMissed source rules.choose first.source last.source (step_miss y)) e
-        (missed_from (source.refused last.source) (NotMissed rules.choose (source.missed now.source) (source.missed last.source) (source.most last.source)) (NotMissed rules.choose (source.missed first.source) (source.missed last.source) (source.most last.source))
-        (λ h. not_missed_then rules.choose _ _ _ (source.most now.source) (source.most last.source) (omega (arith, falls)) u.missed h) (step_miss r) turn.missed)
+        subst (λ (y : Result (Option Ending) RunFault). ReportsMissed source rules.choose first.source last.source
+        (step_miss y)) e
+        (missed_from (source.refused last.source) (NotMissed rules.choose (source.missed now.source)
+        (source.missed last.source) (source.most last.source)) (NotMissed rules.choose
+        (source.missed first.source) (source.missed last.source) (source.most last.source))
+        (λ h. not_missed_then rules.choose _ _ _ (source.most now.source) (source.most last.source)
+        (omega (arith, falls)) u.missed h) (step_miss r) turn.missed)
 
     -- the run goes on
     pub underway_on : r ≡ Ok None → IsUnderway chooser screen source p rules n first last
     underway_on e = record {
       given = u.given ++ turn.given;
       gives = gives;
-      run = run_on (refusals chooser screen source last) p rules m n _ (held chooser screen source rules now u.given) (held chooser screen source rules last turn.given) refl falls u.run (steps_as (Ok None) e);
+      run = run_on (refusals chooser screen source last) p rules m n _ (held chooser screen source rules now u.given)
+          (held chooser screen source rules last turn.given) refl falls u.run (steps_as (Ok None) e);
       missed = missed_as (Ok None) e;
     }
 
     pub underway_falls : r ≡ Ok None → rules.limit - n.steps < rules.limit - m.steps
-    underway_falls e = run_falls (refusals chooser screen source last) p rules m n _ (held chooser screen source rules now u.given) (held chooser screen source rules last turn.given) refl falls u.run (steps_as (Ok None) e)
+    underway_falls e = run_falls (refusals chooser screen source last) p rules m n _ (held chooser screen source rules
+        now u.given) (held chooser screen source rules last turn.given) refl falls u.run (steps_as (Ok None) e)
 
     -- it is over
-    pub underway_over : (ending : Ending) → r ≡ Ok (Some ending) → IsRun chooser screen source p rules first last (Ok ending)
+    pub underway_over : (ending : Ending) → r ≡ Ok (Some ending)
+        → IsRun chooser screen source p rules first last (Ok ending)
     underway_over ending e = record {
       given = u.given ++ turn.given;
       gives = gives;
-      runs = run_over (refusals chooser screen source last) p rules m n _ (held chooser screen source rules now u.given) (held chooser screen source rules last turn.given) refl falls u.run ending (steps_as (Ok (Some ending)) e);
+      runs = run_over (refusals chooser screen source last) p rules m n _ (held chooser screen source rules now u.given)
+          (held chooser screen source rules last turn.given) refl falls u.run ending (steps_as (Ok (Some ending)) e);
       missed = missed_as (Ok (Some ending)) e;
     }
 
     -- a fault ends it
-    pub underway_broken : (fault : RunFault) → r ≡ Err fault → (fault ≡ faults.Spent → ⊥) → IsRun chooser screen source p rules first last (Err fault)
+    pub underway_broken : (fault : RunFault) → r ≡ Err fault → (fault ≡ faults.Spent → ⊥)
+        → IsRun chooser screen source p rules first last (Err fault)
     underway_broken fault e unspent = record {
       given = u.given ++ turn.given;
       gives = gives;
-      runs = run_breaks (refusals chooser screen source last) p rules m n _ (held chooser screen source rules now u.given) (held chooser screen source rules last turn.given) refl falls u.run fault unspent (steps_as (Err fault) e);
+      runs = run_breaks (refusals chooser screen source last) p rules m n _
+          (held chooser screen source rules now u.given) (held chooser screen source rules last turn.given) refl falls
+          u.run fault unspent (steps_as (Err fault) e);
       missed = missed_as (Err fault) e;
     }
 
     -- the limit ends it at this line, which is that of the machine's next command
-    pub underway_stops : (line : Option ℕ) → ((q : Option Place) → PlacesAre p.lines q n.place → line ≡ next_number p.lines q) → r ≡ Ok (Some endings.Limit)
+    pub underway_stops : (line : Option ℕ)
+        → ((q : Option Place) → PlacesAre p.lines q n.place → line ≡ next_number p.lines q)
+        → r ≡ Ok (Some endings.Limit)
         → (rest : List (List ℕ)) → MayFollow (held chooser screen source rules last turn.given) rest
-        → StopsAt p rules ((u.given ++ turn.given) ++ rest) (held chooser screen source rules first []) (held chooser screen source rules last (u.given ++ turn.given)) line
+        → StopsAt p rules ((u.given ++ turn.given) ++ rest) (held chooser screen source rules first [])
+        (held chooser screen source rules last (u.given ++ turn.given)) line
     underway_stops line is e rest follow =
-        run_stops (refusals chooser screen source last) p rules m n _ (held chooser screen source rules now u.given) (held chooser screen source rules last turn.given) refl falls u.run line is (steps_as (Ok (Some endings.Limit)) e) rest follow
+        run_stops (refusals chooser screen source last) p rules m n _ (held chooser screen source rules now u.given)
+        (held chooser screen source rules last turn.given) refl falls u.run line is
+        (steps_as (Ok (Some endings.Limit)) e) rest follow
 
     -- with the line of its end
     pub underway_ended : (end : RunEnd) (ending : Ending) → end.ending ≡ ending → r ≡ Ok (Some ending)
@@ -115,5 +151,9 @@ module _ {C S L : Type 0} (chooser : choosers.Ghosts C) (screen : screens.Ghosts
         })
 
 -- what a player of a program runs
-pub ended_as : {C S L : Type 0} (chooser : choosers.Ghosts C) (screen : screens.Ghosts S) (source : sources.Ghosts L) (rules : Rules) (p q : StoredProgram) (first last : RunDevices C S L) (r : Result RunEnd RunFault) → q ≡ p → IsRunToEnd chooser screen source q rules first last r → IsRunToEnd chooser screen source p rules first last r
-ended_as chooser screen source rules p q first last r same run = subst (λ (x : StoredProgram). IsRunToEnd chooser screen source x rules first last r) same run
+pub ended_as : {C S L : Type 0} (chooser : choosers.Ghosts C) (screen : screens.Ghosts S) (source : sources.Ghosts L)
+    (rules : Rules) (p q : StoredProgram) (first last : RunDevices C S L) (r : Result RunEnd RunFault)
+    → q ≡ p → IsRunToEnd chooser screen source q rules first last r
+    → IsRunToEnd chooser screen source p rules first last r
+ended_as chooser screen source rules p q first last r same run =
+    subst (λ (x : StoredProgram). IsRunToEnd chooser screen source x rules first last r) same run

@@ -10,15 +10,16 @@ use Rattle.ptb_command.specs.Commands.{Part, Command}
 use Rattle.ptb_command.specs.State.{State, Place, first_state, nesting, nesting_limit}
 use Rattle.ptb_command.specs.Act.{Next, input_action, parts_action, finish, command_action, with_step, act}
 use Rattle.ptb_answers.specs.declared.rules.Rules.{Rules}
-use Rattle.ptb_machine.specs.Play.{turn, after_turn, turns_within, all_turns, last_state, after_step_result, turns, play}
+use Rattle.ptb_machine.specs.Play.{turn, after_turn, turns_within, all_turns, last_state}
+use Rattle.ptb_machine.specs.Play.{after_step_result, turns, play}
 use Rattle.ptb_machine.specs.Questions.{most_answers, answers_left}
 use Rattle.ptb_command.specs.Effects.{action_state, act_state, Begins, PartChange, EndChange, CommandChange}
 use Rattle.ptb_machine.specs.RunEffects.{run_shown, run_steps, TurnChange}
 
 -- ---- what may change
 
--- Whatever comes of it, a question too: what was shown stays shown, lines are taken from the first on, a command is one step,
--- and no loop or call opens past the limit.
+-- Whatever comes of it, a question too: what was shown stays shown, lines are taken from the first on, a command is
+-- one step, and no loop or call opens past the limit.
 pub record EffectLaws : Type 0 where
   pub input :
       (said : List ℕ) (x : Tree) (prompt : List ℕ) (lines : List (List ℕ)) (S : State) (a : Answers)
@@ -44,7 +45,8 @@ pub record EffectLaws : Type 0 where
   pub all_turns :
       (p : StoredProgram) (limit : ℕ) (S : State) (a : Answers)
       → TurnChange limit S (last_state (all_turns p limit S a))
-  pub first : (p : StoredProgram) (input : List (List ℕ)) (choose : Option ℤ) → nesting (first_state p input choose) ≤ nesting_limit
+  pub first : (p : StoredProgram) (input : List (List ℕ)) (choose : Option ℤ)
+      → nesting (first_state p input choose) ≤ nesting_limit
 
 -- ---- runs
 

@@ -6,7 +6,8 @@
 --     IsLed refuses taken all    what a chooser is to answer begins with what it has answered
 --     GoesBy refuses c d answers p rules    a chooser goes by these answers on the lines of each input
 --     ShowsUnread choose run a old new    what was shown of a run that couldn't read a line
---     ShowsQuestion run all old new       with the first of these answers a run asks, and what it shows until then was shown
+--     ShowsQuestion run all old new       with the first of these answers a run asks, and what it shows until then was
+--                                         shown
 --     lines_taken p lines rules a    how many of the lines of its input a run takes
 --     lines_wanted choose all k result    how many of all lines a run wants that takes k
 --     ReadsFor taken wanted      these bytes were taken of an input for so many lines
@@ -143,19 +144,24 @@ ReadsFor taken wanted = (taken ≡ []) ⊎ IsReadFor taken wanted
 -- ---- what is promised of a run
 
 -- The program was played by these rules with these answers, which may depend on the lines of the input.
-pub record PlaysWith {R : Type 0} (p : StoredProgram) (rules : Rules) (answers : List (List ℕ) → Answers) (input : Reads R) (out : Writes) (result : Result Ending RunFault) : Type 0 where
+pub record PlaysWith {R : Type 0} (p : StoredProgram) (rules : Rules) (answers : List (List ℕ)
+    → Answers) (input : Reads R) (out : Writes) (result : Result Ending RunFault) : Type 0 where
   -- What was written is what the play on the lines of the input shows, and the ending is that of the play.
   pub ended : IfOk result
-      (λ ending. IfSome input.bytes (λ c. ShowsRun (plain p (input_lines c) rules (answers (input_lines c))) out.before out.after ending))
+      (λ ending. IfSome input.bytes
+      (λ c. ShowsRun (plain p (input_lines c) rules (answers (input_lines c))) out.before out.after ending))
   -- After a fault it is a prefix of that.
   pub broken_off : OnErr result
-      (IfSome input.bytes (λ c. TakesSome out.before out.after (plain p (input_lines c) rules (answers (input_lines c))).0))
+      (IfSome input.bytes
+      (λ c. TakesSome out.before out.after (plain p (input_lines c) rules (answers (input_lines c))).0))
   -- Where a line could not be read, it is what the play on the lines that came complete shows.
   pub unread : IsErrOf result runs.Read
-      → (taken : List ℕ) × Consumes input.bytes input.left taken × ShowsUnread rules.choose (plain p (lines_come taken) rules) (answers (lines_come taken)) out.before out.after
+      → (taken : List ℕ) × Consumes input.bytes input.left taken × ShowsUnread rules.choose
+      (plain p (lines_come taken) rules) (answers (lines_come taken)) out.before out.after
   -- The input was read on only while fewer lines were complete than the play asks for.
   pub asked : (taken : List ℕ) × Consumes input.bytes input.left taken
-      × IfSome input.bytes (λ c. ReadsFor taken (lines_wanted rules.choose (length (input_lines c)) (lines_taken p (input_lines c) rules (answers (input_lines c))) result))
+      × IfSome input.bytes (λ c. ReadsFor taken (lines_wanted rules.choose (length (input_lines c))
+      (lines_taken p (input_lines c) rules (answers (input_lines c))) result))
   -- The writer is at fault where it failed, and only there.
   pub failed : IsErrOf result runs.Write → HasFailed out.failed out.fails
   pub unfailed : ¬ IsErrOf result runs.Write → out.fails ≡ out.failed
@@ -183,7 +189,8 @@ pub record ReadsLines {R : Type 0} (input : Reads R) (result : Result Ending Run
 
 -- Where it ended at its limit, it has the number of the statement in which the next command of the play begins. No
 -- other ending has a line.
-pub record HasLine {R : Type 0} (p : StoredProgram) (rules : Rules) (answers : List (List ℕ) → Answers) (input : Reads R) (end : RunEnd) : Type 0 where
+pub record HasLine {R : Type 0} (p : StoredProgram) (rules : Rules) (answers : List (List ℕ)
+    → Answers) (input : Reads R) (end : RunEnd) : Type 0 where
   pub at_limit : end.ending ≡ endings.Limit
       → IfSome input.bytes (λ c. end.line ≡ stopping_line p (input_lines c) rules (answers (input_lines c)))
   pub elsewhere : ¬ (end.ending ≡ endings.Limit) → end.line ≡ None

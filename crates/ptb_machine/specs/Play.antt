@@ -3,7 +3,8 @@
 --     all_turns p limit S a    the last state of a run, and its ending there
 --     play p input rules a     what a run of the program p comes to with the answers a
 --     unasked_lines p input rules a    the lines of the input for which it doesn't ask
---     stopping_line p input rules a    the number of the statement in which its next command begins where it is over, or asks
+--     stopping_line p input rules a    the number of the statement in which its next command begins where it is over,
+--                                      or asks
 --     plain p input rules a    the bytes and the ending of a plain run
 use Rattle.std.specs.Prelude.{ℕ, zero, suc, ◌-◌, nat_le, Bool, true, false, List, Option, Some, None, option_map}
 use Rattle.ptb_text.specs.Statements.{Statements, StoredProgram}
@@ -93,7 +94,8 @@ next_number p place = option_map (λ (next : Place × Command). next.0.number) (
 
 -- the same at the place of its last state
 abbrev pub stopping_line : StoredProgram → List (List ℕ) → Rules → Answers → Option ℕ
-stopping_line p input rules a = next_number p.lines (last_state (all_turns p rules.limit (first_state p input rules.choose) a)).place
+stopping_line p input rules a =
+    next_number p.lines (last_state (all_turns p rules.limit (first_state p input rules.choose) a)).place
 
 -- ---- plain runs
 

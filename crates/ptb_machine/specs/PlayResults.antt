@@ -19,7 +19,8 @@ use Rattle.ptb_command.specs.declared.ending.Ending.{Ending}
 use Rattle.ptb_command.specs.declared.ending.Ending.TheVariants as endings
 use Rattle.ptb_command.specs.declared.stop.DeviceError.{DeviceError}
 use Rattle.ptb_command.specs.declared.stop.DeviceError.TheVariants as errors
-use Rattle.ptb_command.specs.Devices.{Devices, with_failures, Exchange, Exchanges, Refusal, Unanswered, NoLine, HasBroken}
+use Rattle.ptb_command.specs.Devices.{Devices, with_failures, Exchange, Exchanges, Refusal}
+use Rattle.ptb_command.specs.Devices.{Unanswered, NoLine, HasBroken}
 use Rattle.ptb_command.specs.Effects.{Begins}
 use Rattle.ptb_command.specs.Stops.{AsksNext}
 use Rattle.ptb_command.specs.Traces.{Leaves}
@@ -28,7 +29,8 @@ use Rattle.ptb_machine.specs.declared.fault.RunFault.TheVariants as faults
 use Rattle.ptb_machine.specs.Play.{Finish, play, unasked_lines}
 
 -- the play took the answers that were exchanged, each to a question with its bound
-pub record Plays (p : StoredProgram) (rules : Rules) (input : List (List ℕ)) (o n : Devices) (x : Exchange) (left : Answers → Outcome Finish (List ℕ)) : Type 0 where
+pub record Plays (p : StoredProgram) (rules : Rules) (input : List (List ℕ)) (o n : Devices) (x : Exchange)
+    (left : Answers → Outcome Finish (List ℕ)) : Type 0 where
   pub exchanges : Exchanges o n x
   pub leaves : Leaves (play p input rules) x.answers x.bounds left
 
@@ -43,7 +45,8 @@ refused_answers pauses.Ended later = []
 refused_answers (pauses.OutOfRange k) later = k ∷ later
 refused_answers pauses.Memory later = []
 
--- from devices that hold o to devices that hold n, where no lines were given before; `refused` is what holds after a refusal
+-- from devices that hold o to devices that hold n, where no lines were given before; `refused` is what holds after a
+-- refusal
 module _ (refused : Refusal → Type 0) (p : StoredProgram) (rules : Rules) (input : List (List ℕ)) (o n : Devices) where
   -- it shows these bytes and perhaps more, and asks for the lines that the source gave and perhaps for more
   pub record PlayContinues (x : Exchange) (left : Answers → Outcome Finish (List ℕ)) : Type 0 where
@@ -55,7 +58,8 @@ module _ (refused : Refusal → Type 0) (p : StoredProgram) (rules : Rules) (inp
   pub record IsFinished (ending : Ending) : Type 0 where
     pub exchange : Exchange
     pub steps : ℕ
-    pub plays : Plays p rules input o n exchange (λ a. Done (record { ending = ending; steps = steps; shown = exchange.bytes }) a)
+    pub plays : Plays p rules input o n exchange
+        (λ a. Done (record { ending = ending; steps = steps; shown = exchange.bytes }) a)
     pub within_limit : steps ≤ rules.limit
     -- the source gave the lines for which it asks, and no others
     pub lines : (a : Answers) → input ≡ n.given ++ unasked_lines p input rules (exchange.answers ++ a)
@@ -78,7 +82,8 @@ module _ (refused : Refusal → Type 0) (p : StoredProgram) (rules : Rules) (inp
   LacksInput None bytes left = IsFinished endings.NoInput
   LacksInput (Some k) bytes left = left [] ≡ Asks k bytes
 
-  -- a device has failed, or was refused memory, and no write failed before; what was shown is a prefix of what the play shows
+  -- a device has failed, or was refused memory, and no write failed before; what was shown is a prefix of what the
+  -- play shows
   pub record IsUnfinished (e : DeviceError) : Type 0 where
     pub exchange : Exchange
     pub left : Answers → Outcome Finish (List ℕ)
@@ -89,10 +94,12 @@ module _ (refused : Refusal → Type 0) (p : StoredProgram) (rules : Rules) (inp
     pub dry : e ≡ errors.Read → input ≡ n.given → LacksInput rules.choose exchange.bytes left
 
 -- a play with the lines that were given, and then these
-abbrev pub RunComes : (Refusal → Type 0) → StoredProgram → Rules → List (List ℕ) → Devices → Devices → Result Ending RunFault → Type 0
+abbrev pub RunComes : (Refusal → Type 0) → StoredProgram → Rules → List (List ℕ) → Devices → Devices
+    → Result Ending RunFault → Type 0
 RunComes refused p rules rest o n (Ok endings.NoInput) =
     refused NoLine × (rest ≡ [] → IsFinished refused p rules n.given o n endings.NoInput)
-RunComes refused p rules rest o n (Ok endings.NoAnswer) = IsUnanswered refused p rules (n.given ++ rest) o n pauses.Ended
+RunComes refused p rules rest o n (Ok endings.NoAnswer) =
+    IsUnanswered refused p rules (n.given ++ rest) o n pauses.Ended
 RunComes refused p rules rest o n (Ok endings.BadAnswer) =
     (k : ℤ) × IsUnanswered refused p rules (n.given ++ rest) o n (pauses.OutOfRange k)
 RunComes refused p rules rest o n (Ok ending) = IsFinished refused p rules (n.given ++ rest) o n ending

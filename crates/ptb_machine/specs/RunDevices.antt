@@ -25,7 +25,8 @@ lent io = run_devices io.chooser.now io.screen.now io.source.now
 -- by what their own contracts say of them
 module _ {C S L : Type 0} (chooser : choosers.Ghosts C) (screen : screens.Ghosts S) (source : sources.Ghosts L) where
   abbrev pub held : Rules → RunDevices C S L → List (List ℕ) → Devices
-  held rules d given = devices (chooser.choices d.chooser) (screen_state screen d.screen) (source.most d.source) rules.choose given
+  held rules d given = devices (chooser.choices d.chooser) (screen_state screen d.screen)
+      (source.most d.source) rules.choose given
 
   abbrev pub refusals : RunDevices C S L → Refusal → Type 0
   refusals d = refused_by (chooser.refused d.chooser) (source.refused d.source) (source.lines d.source)

@@ -1,5 +1,6 @@
 -- This file defines what a turn of a run and a whole run may change of the state in which it begins.
---     run_shown o, run_steps o         what a run has shown, and how many commands it has begun, where it is over or asks
+--     run_shown o, run_steps o         what a run has shown, and how many commands it has begun, where it is over or
+--                                      asks
 --     TurnChange limit S T             what a turn of a run may change
 use Rattle.std.specs.Prelude.{ℕ, ◌≤◌, List}
 use Rattle.ptb_answers.specs.Outcome.{Outcome, Done, Asks, Out}

@@ -35,7 +35,8 @@ abbrev pub run_miss : Result Ending RunFault → Miss
 run_miss (Ok ending) = step_miss (Ok (Some ending))
 run_miss (Err fault) = step_miss (Err fault)
 
-pub record IsRun {C S L : Type 0} (chooser : choosers.Ghosts C) (screen : screens.Ghosts S) (source : sources.Ghosts L) (p : StoredProgram) (rules : Rules) (o n : RunDevices C S L) (r : Result Ending RunFault) : Type 0 where
+pub record IsRun {C S L : Type 0} (chooser : choosers.Ghosts C) (screen : screens.Ghosts S) (source : sources.Ghosts L)
+    (p : StoredProgram) (rules : Rules) (o n : RunDevices C S L) (r : Result Ending RunFault) : Type 0 where
   -- the lines that the source gave
   pub given : List (List ℕ)
   pub gives : source.gives o.source given n.source
@@ -51,7 +52,8 @@ ending_alone (Ok end) = Ok end.ending
 ending_alone (Err fault) = Err fault
 
 -- whatever answers follow those that it took
-pub record StopsAt (p : StoredProgram) (rules : Rules) (input : List (List ℕ)) (o n : Devices) (line : Option ℕ) : Type 0 where
+pub record StopsAt (p : StoredProgram) (rules : Rules) (input : List (List ℕ)) (o n : Devices)
+    (line : Option ℕ) : Type 0 where
   pub exchange : Exchange
   pub left : Answers → Outcome Finish (List ℕ)
   pub plays : Plays p rules input o n exchange left
@@ -59,9 +61,13 @@ pub record StopsAt (p : StoredProgram) (rules : Rules) (input : List (List ℕ))
 
 -- no other ending has a line
 pub record IsLineOf (p : StoredProgram) (rules : Rules) (o n : Devices) (end : RunEnd) : Type 0 where
-  pub at_limit : end.ending ≡ endings.Limit → (rest : List (List ℕ)) → MayFollow n rest → StopsAt p rules (n.given ++ rest) o n end.line
+  pub at_limit : end.ending ≡ endings.Limit → (rest : List (List ℕ)) → MayFollow n rest
+      → StopsAt p rules (n.given ++ rest) o n end.line
   pub elsewhere : ¬ (end.ending ≡ endings.Limit) → end.line ≡ None
 
-pub record IsRunToEnd {C S L : Type 0} (chooser : choosers.Ghosts C) (screen : screens.Ghosts S) (source : sources.Ghosts L) (p : StoredProgram) (rules : Rules) (o n : RunDevices C S L) (r : Result RunEnd RunFault) : Type 0 where
+pub record IsRunToEnd {C S L : Type 0} (chooser : choosers.Ghosts C) (screen : screens.Ghosts S)
+    (source : sources.Ghosts L) (p : StoredProgram) (rules : Rules) (o n : RunDevices C S L)
+    (r : Result RunEnd RunFault) : Type 0 where
   pub run : IsRun chooser screen source p rules o n (ending_alone r)
-  pub line : IfOk r (IsLineOf p rules (held chooser screen source rules o []) (held chooser screen source rules n run.given))
+  pub line : IfOk r
+      (IsLineOf p rules (held chooser screen source rules o []) (held chooser screen source rules n run.given))

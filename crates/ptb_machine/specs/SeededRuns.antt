@@ -1,5 +1,6 @@
 -- This file defines the run that a seed makes, and states what it is.
---     IsDrawn seed play a              a is a run, and its answers are drawn from the seed for the bounds of its questions
+--     IsDrawn seed play a              a is a run, and its answers are drawn from the seed for the bounds of its
+--                                      questions
 --     seeded_answers seed p input rules     the answers of the run of a program by a seed
 --     seeded_run seed p input rules    the bytes and the ending of this run
 --     SeededLaws                       a seed draws one run of each program on each input, and no other

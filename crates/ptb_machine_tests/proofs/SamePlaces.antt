@@ -1,15 +1,21 @@
--- This file proves that a machine that fits one of two programs fits the other, whose commands stand at the same places.
+-- This file proves that a machine that fits one of two programs fits the other, whose commands stand at the same
+-- places.
 -- Main lemma: `fits_prints`.
-use Rattle.std.proofs.Common.{◌≡◌, ◌∙◌, ℕ, zero, suc, List, [], ◌∷◌, drop, slice_get, Option, Some, None, Result, Ok, refl, sym, ap, subst, arith}
+use Rattle.std.proofs.Common.{◌≡◌, ◌∙◌, ℕ, zero, suc, List, [], ◌∷◌, drop, slice_get, Option, Some}
+use Rattle.std.proofs.Common.{None, Result, Ok, refl, sym, ap, subst, arith}
 use Rattle.std.specs.Prelude.{⊤, codes}
 use Rattle.std.specs.Fmt.{digits}
 use Rattle.ptb_text.specs.declared.fault.LoadFault.{LoadFault}
 use Rattle.ptb_text.specs.Statements.{Statements, StoredProgram, after_lines}
 use Rattle.ptb_words.specs.Words.{past_blanks, spelling_in_front, word_at, bytes_at, letter_at, number_at, quotation_at}
 use Rattle.ptb_expr.specs.Operators.{product_operator, sum_operator, comparison}
-use Rattle.ptb_expr.specs.Reading.{Reading, Whole, Malformed, more, paren, variable_or, variable, plain, factor, product, first_product, sum, expr_with, expr, expression, variable_tree}
+use Rattle.ptb_expr.specs.Reading.{Reading, Whole, Malformed, more, paren, variable_or, variable}
+use Rattle.ptb_expr.specs.Reading.{plain, factor, product, first_product, sum, expr_with, expr}
+use Rattle.ptb_expr.specs.Reading.{expression, variable_tree}
 use Rattle.ptb_command.specs.Items.{items_within, items}
-use Rattle.ptb_command.specs.Commands.{Part, Command, assignment, string_at, print_item, print_parts, parts_of, command_at, command_round, commands_from, commands}
+use Rattle.ptb_command.specs.Commands.{Part, Command, assignment, string_at, print_item}
+use Rattle.ptb_command.specs.Commands.{print_parts, parts_of, command_at, command_round}
+use Rattle.ptb_command.specs.Commands.{commands_from, commands}
 use Rattle.ptb_command.specs.State.{Place, Loop, Call, text_of}
 use Rattle.ptb_command.specs.Places.{At}
 use Rattle.ptb_command.specs.declared.location.Location.{Location}
@@ -29,21 +35,26 @@ module _ (p p' : Statements) (place_on : (q : Place) (m : Location) → PlaceIs 
   places_on (Some q) None are = absurd are
   places_on (Some q) (Some m) are = place_on q m are
 
-  no_loops : (b : Location) (os : List Open) (l : Loop) (loops : List Loop) (calls : List Call) → Nested p (opens.Call b ∷ os) (l ∷ loops) calls → ⊥
+  no_loops : (b : Location) (os : List Open) (l : Loop) (loops : List Loop) (calls : List Call)
+      → Nested p (opens.Call b ∷ os) (l ∷ loops) calls → ⊥
   no_loops b os l loops calls n = n
 
-  nested_on : (os : List Open) (loops : List Loop) (calls : List Call) → Nested p os loops calls → Nested p' os loops calls
+  nested_on : (os : List Open) (loops : List Loop) (calls : List Call) → Nested p os loops calls
+      → Nested p' os loops calls
   nested_on [] [] [] n = tt
   nested_on [] [] (c ∷ calls) n = absurd n
   nested_on [] (l ∷ loops) calls n = absurd n
   nested_on (opens.Loop m ∷ os) [] calls n = absurd n
-  nested_on (opens.Loop m ∷ os) (l ∷ loops) calls n =
-      (record { letter = n.0.letter; limit = n.0.limit; step = n.0.step; back = place_on l.back m.back n.0.back }, nested_on os loops calls n.1)
+  nested_on (opens.Loop m ∷ os) (l ∷ loops) calls n = (
+    record { letter = n.0.letter; limit = n.0.limit; step = n.0.step; back = place_on l.back m.back n.0.back },
+    nested_on os loops calls n.1,
+  )
   nested_on (opens.Call b ∷ os) [] [] n = absurd n
   nested_on (opens.Call b ∷ os) [] (c ∷ calls) n = (place_on c.back b n.0, nested_on os c.loops calls n.1)
   nested_on (opens.Call b ∷ os) (l ∷ loops) calls n = absurd (no_loops b os l loops calls n)
 
-fits_on : (p p' : StoredProgram) (m : Configuration) → ((q : Place) (l : Location) → PlaceIs p.lines q l → PlaceIs p'.lines q l) → FitsProgram p m → FitsProgram p' m
+fits_on : (p p' : StoredProgram) (m : Configuration)
+    → ((q : Place) (l : Location) → PlaceIs p.lines q l → PlaceIs p'.lines q l) → FitsProgram p m → FitsProgram p' m
 fits_on p p' m on fits =
     let is = fits.represents in
     record {
@@ -90,7 +101,10 @@ first_kind [] = 0
 first_kind (c ∷ cs) = reading_kind c.parts
 
 unfoldable on_lines : ⊤
-unfolding digits after_lines past_blanks spelling_in_front word_at bytes_at letter_at number_at quotation_at product_operator sum_operator comparison more paren variable_or variable plain factor product first_product sum expr_with expr expression variable_tree items_within items assignment string_at print_item print_parts parts_of command_at command_round commands_from
+unfolding digits after_lines past_blanks spelling_in_front word_at bytes_at letter_at number_at quotation_at
+    product_operator sum_operator comparison more paren variable_or variable plain factor product first_product sum
+    expr_with expr expression variable_tree items_within items assignment string_at print_item print_parts parts_of
+    command_at command_round commands_from
 on_lines = tt
 
 none_not_one : ◌≡◌ {A = ℕ} 0 1 → ⊥
@@ -151,18 +165,25 @@ there q m is = by_statement m.statement refl
   where
     by_statement : (i : ℕ) → m.statement ≡ i → PlaceIs printing q m
     by_statement zero e =
-        let n : 10 ≡ q.number = number_there 10 q.number adds (text_of counting q.number) (sym (ap (slice_get counting) e) ∙ is.statement) in
+        let n : 10 ≡ q.number = number_there 10 q.number adds (text_of counting q.number)
+        (sym (ap (slice_get counting) e) ∙ is.statement) in
         record {
-          statement = ap (slice_get printing) e ∙ subst (λ (k : ℕ). slice_get printing 0 ≡ numbered k (text_of printing k)) n refl;
-          at = subst (λ (k : ℕ). At (text_of printing k) q.index m.at) n (print_there q.index m.at (subst (λ (k : ℕ). At (text_of counting k) q.index m.at) (sym n) is.at));
+          statement = ap (slice_get printing) e
+              ∙ subst (λ (k : ℕ). slice_get printing 0 ≡ numbered k (text_of printing k)) n refl;
+          at = subst (λ (k : ℕ). At (text_of printing k) q.index m.at) n
+              (print_there q.index m.at (subst (λ (k : ℕ). At (text_of counting k) q.index m.at) (sym n) is.at));
         }
     by_statement (suc zero) e =
-        let n : 20 ≡ q.number = number_there 20 q.number jumps (text_of counting q.number) (sym (ap (slice_get counting) e) ∙ is.statement) in
+        let n : 20 ≡ q.number = number_there 20 q.number jumps (text_of counting q.number)
+        (sym (ap (slice_get counting) e) ∙ is.statement) in
         record {
-          statement = ap (slice_get printing) e ∙ subst (λ (k : ℕ). slice_get printing 1 ≡ numbered k (text_of printing k)) n refl;
-          at = subst (λ (k : ℕ). At (text_of printing k) q.index m.at) n (subst (λ (k : ℕ). At (text_of counting k) q.index m.at) (sym n) is.at);
+          statement = ap (slice_get printing) e
+              ∙ subst (λ (k : ℕ). slice_get printing 1 ≡ numbered k (text_of printing k)) n refl;
+          at = subst (λ (k : ℕ). At (text_of printing k) q.index m.at) n
+              (subst (λ (k : ℕ). At (text_of counting k) q.index m.at) (sym n) is.at);
         }
-    by_statement (suc (suc i)) e = absurd (none_there i q.number (text_of counting q.number) (sym (ap (slice_get counting) e) ∙ is.statement))
+    by_statement (suc (suc i)) e =
+        absurd (none_there i q.number (text_of counting q.number) (sym (ap (slice_get counting) e) ∙ is.statement))
       where
         none_there : (i n : ℕ) (t : List ℕ) → slice_get counting (suc (suc i)) ≡ numbered n t → ⊥
         none_there i n t e = cc
@@ -175,10 +196,12 @@ printing_lines : (p : StoredProgram) → IsPrinting p → printing ≡ p.lines
 unfolding on_lines
 printing_lines p e = same_lines printing p.lines e
 
-pub fits_prints : (p p' : StoredProgram) (m : Configuration) → IsCounting p → IsPrinting p' → FitsProgram p m → FitsProgram p' m
+pub fits_prints : (p p' : StoredProgram) (m : Configuration) → IsCounting p → IsPrinting p' → FitsProgram p m
+    → FitsProgram p' m
 fits_prints p p' m counts prints fits = fits_on p p' m there_then fits
   where
     there_then : (q : Place) (l : Location) → PlaceIs p.lines q l → PlaceIs p'.lines q l
     there_then q l is =
-        let before : PlaceIs counting q l = subst (λ (s : Statements). PlaceIs s q l) (sym (counting_lines p counts)) is in
+        let before : PlaceIs counting q l =
+        subst (λ (s : Statements). PlaceIs s q l) (sym (counting_lines p counts)) is in
         subst (λ (s : Statements). PlaceIs s q l) (printing_lines p' prints) (there q l before)

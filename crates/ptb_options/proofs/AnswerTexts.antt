@@ -138,8 +138,10 @@ same_bound (Some n) (Some k) h g e = ap Some (same_number n k (h n refl) (g k re
 -- a text spells one item at most
 pub one_item : (m j : Marked) → IsItem m → IsItem j → item_text m ≡ item_text j → m ≡ j
 one_item m j h g e =
-    let answer = same_number m.answer j.answer h.0 g.0 (sym (item_front m h) ∙ ap (before_first (λ b. b == 47)) e ∙ item_front j g) in
-    let bound = same_bound m.bound j.bound h.1 g.1 (sym (item_after m h) ∙ ap (after_first (λ b. b == 47)) e ∙ item_after j g) in
+    let answer = same_number m.answer j.answer h.0 g.0 (sym (item_front m h) ∙ ap (before_first (λ b. b == 47)) e
+    ∙ item_front j g) in
+    let bound = same_bound m.bound j.bound h.1 g.1 (sym (item_after m h) ∙ ap (after_first (λ b. b == 47)) e
+    ∙ item_after j g) in
     ap₂ (λ (k : ℤ) (o : Option ℤ). record { answer = k; bound = o }) answer bound
 
 -- the first byte of an item is that of its answer
@@ -147,8 +149,10 @@ pub SpellsItem-first : (s : List ℕ) (m : Marked) → SpellsItem s m
     → (0 < length s) × (49 ≤ get_or s 0 0) × (get_or s 0 0 ≤ 57)
 SpellsItem-first s m h =
     let first = SpellsNumber-first (signed_decimal m.answer) m.answer (h.0.0, refl) in
-    let same : get_or s 0 0 ≡ get_or (signed_decimal m.answer) 0 0 = ap (λ (t : List ℕ). get_or t 0 0) (sym h.1) ∙ get_or_append_left (signed_decimal m.answer) (bound_text m.bound) 0 0 first.0 in
-    let long : length s ≡ length (signed_decimal m.answer) + length (bound_text m.bound) = ap length (sym h.1) ∙ length-append (signed_decimal m.answer) (bound_text m.bound) in
+    let same : get_or s 0 0 ≡ get_or (signed_decimal m.answer) 0 0 = ap (λ (t : List ℕ). get_or t 0 0) (sym h.1)
+    ∙ get_or_append_left (signed_decimal m.answer) (bound_text m.bound) 0 0 first.0 in
+    let long : length s ≡ length (signed_decimal m.answer) + length (bound_text m.bound) =
+    ap length (sym h.1) ∙ length-append (signed_decimal m.answer) (bound_text m.bound) in
     (omega (arith, first.0, long), omega (arith, same, first.1), omega (arith, same, first.1))
 
 -- ---- an item as it is read
@@ -168,7 +172,8 @@ item_of_numbers s a b k n parts h g =
 
 lacks_if : (c : ℕ) (s xs ys : List ℕ) → s ≡ xs ++ c ∷ ys → Lacks c s → ⊥
 lacks_if c s xs ys e lacks =
-    let at : get_or s (length xs) 0 ≡ c = ap (λ (t : List ℕ). get_or t (length xs) 0) e ∙ get_or_at xs c ys 0 (length xs) refl in
+    let at : get_or s (length xs) 0 ≡ c = ap (λ (t : List ℕ). get_or t (length xs) 0) e
+    ∙ get_or_at xs c ys 0 (length xs) refl in
     lacks (length xs) (omega (arith, ap length e, length-append xs (c ∷ ys))) at
 
 -- so an item whose text has no `/` is an answer alone
@@ -177,8 +182,16 @@ pub item_is_number : (s : List ℕ) (m : Marked) → Lacks 47 s → SpellsItem s
 item_is_number s m lacks h = go m.bound refl
   where
     go : (o : Option ℤ) → m.bound ≡ o → SpellsNumber s m.answer × (m ≡ without_bound m.answer)
-    go None e = ((h.0.0, sym (append-nil (signed_decimal m.answer)) ∙ ap (λ (p : Option ℤ). signed_decimal m.answer ++ bound_text p) (sym e) ∙ h.1), ap (λ (p : Option ℤ). record { answer = m.answer; bound = p }) e)
-    go (Some n) e = absurd (lacks_if 47 s (signed_decimal m.answer) (signed_decimal n) (sym h.1 ∙ ap (λ (p : Option ℤ). signed_decimal m.answer ++ bound_text p) e) lacks)
+    go None e = (
+      (
+        h.0.0,
+        sym (append-nil (signed_decimal m.answer)) ∙ ap (λ (p : Option ℤ). signed_decimal m.answer
+            ++ bound_text p) (sym e) ∙ h.1,
+      ),
+      ap (λ (p : Option ℤ). record { answer = m.answer; bound = p }) e,
+    )
+    go (Some n) e = absurd (lacks_if 47 s (signed_decimal m.answer) (signed_decimal n)
+        (sym h.1 ∙ ap (λ (p : Option ℤ). signed_decimal m.answer ++ bound_text p) e) lacks)
 
 -- and one whose text has it is what comes before it and after it
 pub item_is_numbers : (s a b : List ℕ) (m : Marked) → s ≡ a ++ 47 ∷ b → Lacks 47 a → SpellsItem s m
@@ -196,7 +209,9 @@ item_is_numbers s a b m parts lacks h = go m.bound refl
 
     go : (o : Option ℤ) → m.bound ≡ o
         → (n : ℤ) × SpellsNumber a m.answer × SpellsNumber b n × (m ≡ with_bound m.answer n)
-    go None e = absurd (lacks_if 47 s a b parts (subst (Lacks 47) (sym (append-nil (signed_decimal m.answer)) ∙ ap (λ (p : Option ℤ). signed_decimal m.answer ++ bound_text p) (sym e) ∙ h.1) (number_lacks 47 (omega arith) m.answer h.0.0)))
+    go None e = absurd (lacks_if 47 s a b parts (subst (Lacks 47) (sym (append-nil (signed_decimal m.answer))
+        ∙ ap (λ (p : Option ℤ). signed_decimal m.answer ++ bound_text p) (sym e) ∙ h.1)
+        (number_lacks 47 (omega arith) m.answer h.0.0)))
     go (Some n) e = (
       n,
       (h.0.0, answer),
@@ -248,7 +263,8 @@ one_list s [] (j ∷ b) h g = absurd (not_none s j b g (sym h.1))
 one_list s (m ∷ a) [] h g = absurd (not_none s m a h (sym g.1))
 one_list s (m ∷ a) (j ∷ b) h g =
     map-injective (m ∷ a) (j ∷ b) h.0 g.0
-    (sym (slice_split-spelling m a h.0) ∙ ap (slice_split (λ b. b == 44)) (h.1 ∙ sym g.1) ∙ slice_split-spelling j b g.0)
+    (sym (slice_split-spelling m a h.0) ∙ ap (slice_split (λ b. b == 44)) (h.1 ∙ sym g.1)
+    ∙ slice_split-spelling j b g.0)
 
 -- each word of such a text spells an item
 pub word_at : (s : List ℕ) (list : List Marked) (i : ℕ) (w : List ℕ) (d : Marked) → s ≢ codes "none" → SpellsList s list
@@ -256,9 +272,11 @@ pub word_at : (s : List ℕ) (list : List Marked) (i : ℕ) (w : List ℕ) (d : 
     → w ≡ get_or (slice_split (λ b. b == 44) s) i w → (i < length list) × SpellsItem w (get_or list i d)
 word_at s [] i w d some h lt at = absurd (some (sym h.1))
 word_at s (m ∷ list) i w d some h lt at =
-    let words : slice_split (λ b. b == 44) s ≡ map item_text (m ∷ list) = ap (slice_split (λ b. b == 44)) (sym h.1) ∙ slice_split-spelling m list h.0 in
+    let words : slice_split (λ b. b == 44) s ≡ map item_text (m ∷ list) =
+    ap (slice_split (λ b. b == 44)) (sym h.1) ∙ slice_split-spelling m list h.0 in
     let within : i < length (m ∷ list) = rw (words, length-map (m ∷ list) item_text) at lt in
-    let is_it : w ≡ item_text (get_or (m ∷ list) i d) = at ∙ ap (λ (ws : List (List ℕ)). get_or ws i w) words ∙ get_or-map item_text (m ∷ list) i d w within in
+    let is_it : w ≡ item_text (get_or (m ∷ list) i d) = at ∙ ap (λ (ws : List (List ℕ)). get_or ws i w) words
+    ∙ get_or-map item_text (m ∷ list) i d w within in
     (within, (All-get_or IsItem (m ∷ list) i d within h.0, sym is_it))
 
 pub word_of_list : (s : List ℕ) (list : List Marked) (i : ℕ) (w : List ℕ) → s ≢ codes "none" → SpellsList s list

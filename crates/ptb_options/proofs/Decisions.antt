@@ -60,7 +60,11 @@ bound_in_range (Some n) h = let least = (h n refl).0 in omega (arith, ints)
 
 -- the rules of options
 abbrev rules_of : (o : Options) → HasBound o → Rules
-rules_of o positive = record { limit = unwrap_or o.steps default_steps; choose = option_map pos o.choose; in_range = bound_in_range o.choose positive }
+rules_of o positive = record {
+  limit = unwrap_or o.steps default_steps;
+  choose = option_map pos o.choose;
+  in_range = bound_in_range o.choose positive;
+}
 
 -- o are the options of the command line, and l is how the code has them
 module _ (o l : Options) (same : l ≡ o) where
@@ -92,7 +96,12 @@ module _ (o l : Options) (same : l ≡ o) where
     decided_list size positive result fault is h =
         let e = err_from_is_err_and result is in
         let wanted : RefusesOptions l Memory = (
-          record { rules = rules_of l (subst HasBound (sym same) positive); memory = unwrap_or l.memory default_memory; mode = h.1.0; in_range = size_of l.memory _ (subst HasMemorySize (sym same) size) refl },
+          record {
+            rules = rules_of l (subst HasBound (sym same) positive);
+            memory = unwrap_or l.memory default_memory;
+            mode = h.1.0;
+            in_range = size_of l.memory _ (subst HasMemorySize (sym same) size) refl;
+          },
           record { clash = unclashed; rules = record { limit = refl; choose = refl }; memory = refl; mode = h.1.1 },
           h.1.2,
         )
@@ -105,4 +114,9 @@ module _ (o l : Options) (same : l ≡ o) where
         → Asks o (record { rules = rules; memory = memory; mode = mode; in_range = size })
     asked kept rules memory mode size given ruled held by_mode =
         subst (λ (x : Options). Asks x (record { rules = rules; memory = memory; mode = mode; in_range = size })) same
-        (record { clash = unclashed; rules = ruled; memory = held ∙ ap (λ (k : Option ℕ). unwrap_or k 4096) given; mode = by_mode })
+        (record {
+          clash = unclashed;
+          rules = ruled;
+          memory = held ∙ ap (λ (k : Option ℕ). unwrap_or k 4096) given;
+          mode = by_mode;
+        })

@@ -66,7 +66,8 @@ gathered_answers (w ∷ ws) each =
 
 -- a text whose pieces are items spells a list
 pub list_of_items : (bounds : Bounds) (s : List ℕ) → All (IsItemOf bounds) (pieces s) → IsListOf bounds s
-list_of_items Allowed s each = let found = gathered (pieces s) each in (found.0, list_of_words s found.0 found.1.each found.1.words)
+list_of_items Allowed s each = let found = gathered (pieces s) each in
+    (found.0, list_of_words s found.0 found.1.each found.1.words)
 list_of_items Refused s each =
     let found = gathered_answers (pieces s) each in
     (found.0, list_of_words s (unmarked found.0) found.1.each found.1.words)

@@ -1,6 +1,7 @@
 -- This file proves what the ways out of reading a list tell, from what its reader knows of each step.
 -- Main lemma: `has_answers`.
-use Rattle.std.proofs.Common.{◌≡◌, ◌≢◌, ◌∙◌, ap, sym, ℕ, Bool, true, false, List, [], ℤ, Option, Some, None, Result, Ok, Err, IfErr, IfOk, subst}
+use Rattle.std.proofs.Common.{◌≡◌, ◌≢◌, ◌∙◌, ap, sym, ℕ, Bool, true, false, List, [], ℤ, Option}
+use Rattle.std.proofs.Common.{Some, None, Result, Ok, Err, IfErr, IfOk, subst}
 use Rattle.std.specs.Prelude.{codes, map, nat_eq, ok_or}
 use lib.Pointwise.{pointwise}
 use Rattle.std.specs.Result.{IsErrAnd}
@@ -39,7 +40,8 @@ refused_as_list (Ok x) fault is list = absurd is
 refused_as_list (Err other) fault is list = subst IsListFault (sym is) list
 
 -- a word that spells no item has the fault of a bad list
-pub word_refused_as_list : {T U : Type 0} (found : Option T) (read : Result T UsageFault) (r : Result U UsageFault) (fault : UsageFault)
+pub word_refused_as_list : {T U : Type 0} (found : Option T) (read : Result T UsageFault) (r : Result U UsageFault)
+    (fault : UsageFault)
     → read ≡ ok_or found BadList → read ≡ Err fault → IsErrAnd r (λ y. y ≡ fault) → IfErr r IsListFault
 word_refused_as_list None read r fault told is refused =
     let same : BadList ≡ fault = cc in

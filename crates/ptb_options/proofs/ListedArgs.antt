@@ -11,7 +11,8 @@ use Rattle.ptb_options.specs.declared.command_line.ArgKind.TheVariants as kinds
 use Rattle.ptb_options.specs.CommandLine.{rule_by}
 
 -- the argument b was made by its name, and has its help
-module _ (b : Arg) (name : Bor (List ℕ)) (kind : ArgKind) (named : rule_of b ≡ new_rule name.now) (local_b : b.global ≡ false) where
+module _ (b : Arg) (name : Bor (List ℕ)) (kind : ArgKind) (named : rule_of b ≡ new_rule name.now)
+    (local_b : b.global ≡ false) where
   pub record IsRule (result : Arg) : Type 0 where
     pub rule : rule_of result ≡ rule_by name.now kind
     pub local : result.global ≡ false

@@ -71,7 +71,8 @@ list_if_given None spelled = (None, tt)
 list_if_given (Some s) spelled = let list = spelled s refl in (Some list.0, list.1)
 
 -- o are the options, all of whose lists are spelled, and v is how the code has them; a list was refused
-module _ (o v : Options) (same : v ≡ o) (all_spelled : (x : ListOption) → IsSpelled o x) (result : Result Mode UsageFault) (fault : UsageFault) (is : IsErrAnd result (λ y. y ≡ fault)) (runs : RunsIt v) where
+module _ (o v : Options) (same : v ≡ o) (all_spelled : (x : ListOption) → IsSpelled o x) (result : Result Mode
+    UsageFault) (fault : UsageFault) (is : IsErrAnd result (λ y. y ≡ fault)) (runs : RunsIt v) where
   spelled : (x : ListOption) → IsSpelled v x
   spelled x = subst (λ (z : Options). IsSpelled z x) (sym same) (all_spelled x)
 
@@ -84,15 +85,27 @@ module _ (o v : Options) (same : v ≡ o) (all_spelled : (x : ListOption) → Is
   wants_under : (f : UsageFault) → v.all ≡ true → v.shares ≡ None → RefusesIfGiven v.under f → WantsMemory v f
   wants_under BadList all unsplit h = spelled_list v.under (spelled Under) h
   wants_under Memory all unsplit h =
-      let after = list_if_given v.after (spelled After) in
-      (refl, (modes.All (Some h.0) after.0 v.first (form_of v.form), (runs, all, unsplit, h.1, after.1, refl, refl), inl h.2))
+      let after = list_if_given v.after (spelled After) in (
+        refl,
+        (
+          modes.All (Some h.0) after.0 v.first (form_of v.form),
+          (runs, all, unsplit, h.1, after.1, refl, refl),
+          inl h.2,
+        ),
+      )
   wants_under f all unsplit h = absurd h
 
   wants_after : (f : UsageFault) → v.all ≡ true → v.shares ≡ None → RefusesIfGiven v.after f → WantsMemory v f
   wants_after BadList all unsplit h = spelled_list v.after (spelled After) h
   wants_after Memory all unsplit h =
-      let under = list_if_given v.under (spelled Under) in
-      (refl, (modes.All under.0 (Some h.0) v.first (form_of v.form), (runs, all, unsplit, under.1, h.1, refl, refl), inr h.2))
+      let under = list_if_given v.under (spelled Under) in (
+        refl,
+        (
+          modes.All under.0 (Some h.0) v.first (form_of v.form),
+          (runs, all, unsplit, under.1, h.1, refl, refl),
+          inr h.2,
+        ),
+      )
   wants_after f all unsplit h = absurd h
 
   wants_answers : (f : UsageFault) → v.all ≡ false → v.seed ≡ None → RefusesAnswers v.answers f → WantsMemory v f

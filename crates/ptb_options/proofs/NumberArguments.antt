@@ -55,7 +55,8 @@ missing words place w none wrong = elim wrong.given [
 pub none_after : (words : List (List ℕ)) (i : ℕ) → ArePassed words i → length words ≤ i → HasNoWrongNumber words
 none_after words i passed all place w wrong = by_place (leb i place) refl where
   by_place : (b : Bool) → leb i place ≡ b → ⊥
-  by_place true e = missing words place w (slice_get_past words place (let le = leb-true _ _ e in omega arith)) wrong.value
+  by_place true e = missing words place w (slice_get_past words place (let le = leb-true _ _ e in
+      omega arith)) wrong.value
   by_place false e = none_before words i passed place w (let below = leb-false _ _ e in omega arith) wrong
 
 -- each place below their number has one
@@ -73,7 +74,8 @@ some_found None b told is e = absurd (false≢true (sym told ∙ is))
 some_found (Some w) b told is e = absurd cc
 
 -- an argument at a place
-module _ (words : List (List ℕ)) (i : ℕ) (word : List ℕ) (found : Option (List ℕ)) (same : Bool) (at : found ≡ slice_get words i) (is : found ≡ Some word) (told : same ≡ pointwise nat_eq word dashes)
+module _ (words : List (List ℕ)) (i : ℕ) (word : List ℕ) (found : Option (List ℕ)) (same : Bool)
+    (at : found ≡ slice_get words i) (is : found ≡ Some word) (told : same ≡ pointwise nat_eq word dashes)
     (passed : ArePassed words i) where
   here : slice_get words i ≡ Some word
   here = sym at ∙ is
@@ -100,7 +102,11 @@ module _ (words : List (List ℕ)) (i : ℕ) (word : List ℕ) (found : Option (
         → ArePassed words (i + 1)
     passed_more next follows right =
         below_more (λ (j : ℕ). 1 ≤ j → IsPassed words j) i passed
-        (λ (_ : 1 ≤ i). record { other = other; right = subst (λ (o : Option (List ℕ)). HasNoWrongValue o (slice_get words (i + 1))) (sym here) (subst (HasNoWrongValue (Some word)) follows right) })
+        (λ (_ : 1 ≤ i). record {
+          other = other;
+          right = subst (λ (o : Option (List ℕ)). HasNoWrongValue o
+              (slice_get words (i + 1))) (sym here) (subst (HasNoWrongValue (Some word)) follows right);
+        })
 
     -- or gives one, which is the first
     pub wrong_here : (wrong : Option WrongNumber) (next : Option (List ℕ)) → 1 ≤ i → next ≡ slice_get words (i + 1)

@@ -60,13 +60,16 @@ passed word name kinds.Operand told o e named =
     let parsers : ◌≡◌ {A = Option ValueParser} None (Some o.range) = ap (λ (r : Rule). r.parser) e in
     cc
 
-module _ (word : List ℕ) (args : List ListedArg) (i : ℕ) (d : ListedArg) (so_far : map rule_of_listed (take i args) ≡ take i rules) (same : map rule_of_listed args ≡ rules) (within : i < length args) where
-  unnamed_more : ((range : ValueParser) → (get_or args i d).kind ≡ kinds.Number range → word ≡ option_word (get_or args i d).name.now → ⊥)
+module _ (word : List ℕ) (args : List ListedArg) (i : ℕ) (d : ListedArg) (so_far : map rule_of_listed (take i args)
+    ≡ take i rules) (same : map rule_of_listed args ≡ rules) (within : i < length args) where
+  unnamed_more : ((range : ValueParser) → (get_or args i d).kind ≡ kinds.Number range
+      → word ≡ option_word (get_or args i d).name.now → ⊥)
       → NamesNoneBefore word i → NamesNoneBefore word (i + 1)
   unnamed_more told before =
       below_more (IsUnnamedAt word) i before
       (λ o e named.
-      let at = ap (λ (rs : List Rule). get_or rs i (number_option o.name.now o.range)) (sym same) ∙ get_or-map rule_of_listed args i d (number_option o.name.now o.range) within in
+      let at = ap (λ (rs : List Rule). get_or rs i (number_option o.name.now o.range)) (sym same)
+      ∙ get_or-map rule_of_listed args i d (number_option o.name.now o.range) within in
       passed word (get_or args i d).name.now (get_or args i d).kind told o (sym at ∙ e) named)
 
   -- so one more is none that is named: it has another name,

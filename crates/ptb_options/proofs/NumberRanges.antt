@@ -115,7 +115,8 @@ choose_option = record {
   no_version = λ e. cc;
 }
 
-module _ (name : List ℕ) (place low high : ℕ) (option : IsOption name place low high) (c : Command) (m : ArgMatches) (is_tool : app_of c ≡ tool) (p : IsParsedFrom c m) where
+module _ (name : List ℕ) (place low high : ℕ) (option : IsOption name place low high) (c : Command) (m : ArgMatches)
+    (is_tool : app_of c ≡ tool) (p : IsParsedFrom c m) where
   rules_are : map rule_of (args_of c) ≡ tool_rules
   rules_are = ap (λ a. a.top.rules) is_tool
 
@@ -140,7 +141,8 @@ module _ (name : List ℕ) (place low high : ℕ) (option : IsOption name place 
   unique : (d : Arg) (j : ℕ) (e : Arg) → j < length (args_of c)
       → bytes_eq (get_or (args_of c) j e).id.now (get_or (args_of c) place d).id.now ≡ true → j ≡ place
   unique d j e lt same =
-      let its : (get_or (args_of c) j e).id.now ≡ (get_or tool_rules j (rule_of e)).id = ap (λ r. r.id) (rule_at j e lt) in
+      let its : (get_or (args_of c) j e).id.now ≡ (get_or tool_rules j (rule_of e)).id =
+      ap (λ r. r.id) (rule_at j e lt) in
       let named : bytes_eq (get_or tool_rules j (rule_of e)).id name ≡ true = rw (its, id_is d) at same in
       option.only j (rule_of e) (omega (arith, count, lt)) named
 
@@ -151,7 +153,8 @@ module _ (name : List ℕ) (place low high : ℕ) (option : IsOption name place 
   parser_is j x lt at same =
       let named : bytes_eq x.id.now (get_or (args_of c) place x).id.now ≡ true = rw (id_is x) same in
       let kept = same_rules_by_id c m p place x within (unique x) (own x) j x lt at named in
-      ap parser_of_value (kept.parser (Signed (pos low) (pos high)) (ap (λ r. r.parser) (rule_at place x within ∙ option.there (rule_of x))))
+      ap parser_of_value (kept.parser (Signed (pos low) (pos high))
+      (ap (λ r. r.parser) (rule_at place x within ∙ option.there (rule_of x))))
 
   no_groups : groups_of p.built ≡ []
   no_groups =
@@ -183,14 +186,16 @@ module _ (name : List ℕ) (place low high : ℕ) (option : IsOption name place 
   in_range : (text : List ℕ) → IsSignedIn (pos low) (pos high) text
       → ForSome (number_in 16 (without_minus text)) (λ n. (low ≤ n) × (n ≤ high))
   in_range text h n found =
-      let read = signed_reads (Unit {0}) (ParsesUnsigned 16 10) 16 low high text (number_in 16 (without_minus text)) (number_in-reads 16 (without_minus text))
+      let read = signed_reads (Unit {0}) (ParsesUnsigned 16 10) 16 low high text (number_in 16 (without_minus text))
+      (number_in-reads 16 (without_minus text))
       (λ u x g. g) (omega (arith, option.fits)) h in
       let same : n ≡ read.0 = some_injective n read.0 (sym found ∙ read.1) in
       rw same (read.2, read.3)
 
   values_in_range : (how : Reading) (vs : List (Bor (List ℕ))) → how ≡ WithoutMinus
       → All (λ v. PassesArg p.built name v.now) vs
-      → ForSome (option_and_then (number_in 16) (option_map (λ s. read_as how s.now) (slice_get vs 0))) (λ n. (low ≤ n) × (n ≤ high))
+      → ForSome (option_and_then (number_in 16) (option_map (λ s. read_as how s.now) (slice_get vs 0)))
+      (λ n. (low ≤ n) × (n ≤ high))
   values_in_range how [] is all n found = absurd (none_is_some n found)
   values_in_range how (v ∷ vs) is all n found =
       in_range v.now (passed v.now (All-head (λ v. PassesArg p.built name v.now) v vs all)) n (rw is at found)
@@ -218,10 +223,12 @@ pub memory_in_range : (c : Command) (m : ArgMatches) → app_of c ≡ tool → I
     → ForSome (number_of 16 (codes "memory") (entries_of m)) (λ n. (64 ≤ n) × (n ≤ 32767))
 memory_in_range c m is_tool p =
     rw (← one_text-rows (found_of m) (codes "memory"))
-    (text_in_range (codes "memory") 1 64 32767 memory_option c m is_tool p (matched_of (found_of m) (codes "memory")) refl)
+    (text_in_range (codes "memory") 1 64 32767 memory_option c m is_tool p
+    (matched_of (found_of m) (codes "memory")) refl)
 
 pub choose_in_range : (c : Command) (m : ArgMatches) → app_of c ≡ tool → IsParsedFrom c m
     → ForSome (number_of 16 (codes "choose") (entries_of m)) (λ n. (1 ≤ n) × (n ≤ 32767))
 choose_in_range c m is_tool p =
     rw (← one_text-rows (found_of m) (codes "choose"))
-    (text_in_range (codes "choose") 2 1 32767 choose_option c m is_tool p (matched_of (found_of m) (codes "choose")) refl)
+    (text_in_range (codes "choose") 2 1 32767 choose_option c m is_tool p (matched_of (found_of m) (codes "choose"))
+    refl)

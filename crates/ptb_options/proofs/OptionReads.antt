@@ -51,7 +51,8 @@ module _ (bits : ℕ) (text : List ℕ) where
 
   reads_by_tests : (a b c : Bool) → nat_lt 0 (length digits) ≡ a → all_ascii_digits digits ≡ b
       → nat_lt (digits_value 10 digits) (2 ^ bits) ≡ c
-      → ReadsOne {E = Unit {0}} (ParsesUnsigned bits 10) text (if a && b && c then Some (digits_value 10 digits) else None)
+      → ReadsOne {E = Unit {0}} (ParsesUnsigned bits 10) text
+      (if a && b && c then Some (digits_value 10 digits) else None)
   reads_by_tests true true true p q r = (((ltb-true 0 (length digits) p, own.to digits q), ltb-true _ _ r), refl)
   reads_by_tests true true false p q r = (tt, λ h. false≢true (sym r ∙ lt-ltb _ _ h.1))
   reads_by_tests true false c p q r = (tt, λ h. false≢true (sym q ∙ own.from digits h.0.1))

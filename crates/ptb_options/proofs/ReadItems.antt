@@ -61,7 +61,8 @@ module _ (word : List ℕ) (a b : Bor (List ℕ)) (cut : IsSplitOnceResult 47 wo
     both =
         let parts = split_parts 47 word (Some (a, b)) cut (omega arith) in
         subst (λ (j : ℤ). SpellsItem word (with_bound (to_z w16 (of_z w16 k)) j)) (sym (kept n bound.0))
-        (subst (λ (j : ℤ). SpellsItem word (with_bound j n)) (sym (kept k answer.0)) (item_of_numbers word a.now b.now k n parts.0 answer bound))
+        (subst (λ (j : ℤ). SpellsItem word (with_bound j n)) (sym (kept k answer.0))
+        (item_of_numbers word a.now b.now k n parts.0 answer bound))
 
     pub both_only : (m : Marked) → SpellsItem word m → ((j : ℤ) → SpellsNumber a.now j → Some k ≡ Some j)
         → ((j : ℤ) → SpellsNumber b.now j → Some n ≡ Some j)

@@ -37,7 +37,8 @@ accepted o word w next value given named good wrong name same =
 
 -- ---- the argument has a `=`
 
-module _ (word : List ℕ) (next : Option (List ℕ)) (name value : Bor (List ℕ)) (split : IsSplitOnceResult 61 word (Some (name, value))) where
+module _ (word : List ℕ) (next : Option (List ℕ)) (name value : Bor (List ℕ))
+    (split : IsSplitOnceResult 61 word (Some (name, value))) where
   record IsGivenAfter (w : WrongNumber) : Type 0 where
     name_is : option_word w.option.name.now ≡ name.now
     value_is : w.value.now ≡ value.now
@@ -49,14 +50,16 @@ module _ (word : List ℕ) (next : Option (List ℕ)) (name value : Bor (List �
       let first = split_once_first 61 word (Some (name, value)) split (omega arith) in
       elim h.given [
         | inl e ↦
-            let all : word ≡ option_word w.option.name.now ++ 61 ∷ w.value.now = some_injective _ _ e ∙ append_assoc (option_word w.option.name.now) (61 ∷ []) w.value.now in
+            let all : word ≡ option_word w.option.name.now ++ 61 ∷ w.value.now =
+            some_injective _ _ e ∙ append_assoc (option_word w.option.name.now) (61 ∷ []) w.value.now in
             record {
               name_is = sym (its.before w.value.now) ∙ sym (rw all at first.1);
               value_is = sym (its.after w.value.now) ∙ sym (rw all at first.2);
             }
         | inr e ↦
             let all : word ≡ option_word w.option.name.now = some_injective _ _ e.0 in
-            let inside : position_or_len is_equals (option_word w.option.name.now) < length (option_word w.option.name.now) = rw all at first.0 in
+            let inside : position_or_len is_equals (option_word w.option.name.now)
+            < length (option_word w.option.name.now) = rw all at first.0 in
             let alone = its.alone in
             absurd (omega arith)
       ]
@@ -78,7 +81,9 @@ module _ (word : List ℕ) (next : Option (List ℕ)) (name value : Bor (List �
     wrong_after None h = tt
     wrong_after (Some w) h =
         let parts = split_parts 61 word (Some (name, value)) split (omega arith) in
-        let all : word ≡ (option_word o.name.now ++ codes "=") ++ value.now = parts.0 ∙ ap (λ (l : List ℕ). l ++ 61 ∷ value.now) named.named ∙ sym (append_assoc (option_word o.name.now) (61 ∷ []) value.now) in
+        let all : word ≡ (option_word o.name.now ++ codes "=") ++ value.now =
+        parts.0 ∙ ap (λ (l : List ℕ). l ++ 61 ∷ value.now) named.named
+        ∙ sym (append_assoc (option_word o.name.now) (61 ∷ []) value.now) in
         subst (IsWrongValue (Some word) next) (sym h.is)
         (record { rule = named.rule; given = inl (ap Some all); refused = h.refused })
 
@@ -95,9 +100,11 @@ module _ (word : List ℕ) (next : Option (List ℕ)) (split : IsSplitOnceResult
       let none = split_once_first 61 word None split (omega arith) in
       elim h.given [
         | inl e ↦
-            let all : word ≡ option_word w.option.name.now ++ 61 ∷ w.value.now = some_injective _ _ e ∙ append_assoc (option_word w.option.name.now) (61 ∷ []) w.value.now in
+            let all : word ≡ option_word w.option.name.now ++ 61 ∷ w.value.now =
+            some_injective _ _ e ∙ append_assoc (option_word w.option.name.now) (61 ∷ []) w.value.now in
             let inside = its.inside w.value.now in
-            let ends : position_or_len is_equals (option_word w.option.name.now ++ 61 ∷ w.value.now) ≡ length (option_word w.option.name.now ++ 61 ∷ w.value.now) = rw all at none in
+            let ends : position_or_len is_equals (option_word w.option.name.now ++ 61 ∷ w.value.now)
+            ≡ length (option_word w.option.name.now ++ 61 ∷ w.value.now) = rw all at none in
             absurd (omega arith)
         | inr e ↦ record { name_is = sym (some_injective _ _ e.0); value_is = e.1 }
       ]

@@ -77,7 +77,23 @@ pub record Options : Type 0 where
 
 -- an empty command line
 abbrev pub no_options : Options
-no_options = record { steps = None; memory = None; choose = None; answers = None; seed = None; all = false; under = None; after = None; first = None; shares = None; sample = None; form = None; chances = false; list = false; check = false }
+no_options = record {
+  steps = None;
+  memory = None;
+  choose = None;
+  answers = None;
+  seed = None;
+  all = false;
+  under = None;
+  after = None;
+  first = None;
+  shares = None;
+  sample = None;
+  form = None;
+  chances = false;
+  list = false;
+  check = false;
+}
 
 -- what clap found for each option
 abbrev pub entries_of : ArgMatches → List Row

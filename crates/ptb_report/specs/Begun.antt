@@ -25,7 +25,8 @@ abbrev pub items_of : List KeptItem → List Marked
 items_of kept = map item_of kept
 
 abbrev pub AreEnds : List KeptItem → Type 0
-AreEnds kept = (k : ℕ) (x : KeptItem) → k < length kept → (get_or kept k x).end ≡ length (begun (take (k + 1) (items_of kept)))
+AreEnds kept = (k : ℕ) (x : KeptItem) → k < length kept
+    → (get_or kept k x).end ≡ length (begun (take (k + 1) (items_of kept)))
 
 abbrev pub BeginsWith : List ℕ → List ℕ → Type 0
 BeginsWith text front = take (length front) text ≡ front

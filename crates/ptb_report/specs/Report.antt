@@ -1,5 +1,6 @@
 -- This file defines the text of a report and of a list of answers.
---     header items word steps size            the first line: RUN, the answers, how the run ended, its steps, how many bytes it showed
+--     header items word steps size            the first line: RUN, the answers, how the run ended, its steps, how many
+--                                             bytes it showed
 --     report_text items word steps shown      the header, what the run showed, and a newline
 --     list_line items                         a list of answers, and a newline
 --     report_ending word steps shown          what a report has after its answers
@@ -14,13 +15,15 @@ abbrev pub field : List ℕ → List ℕ
 field bytes = codes " " ++ bytes
 
 abbrev pub header : List Marked → List ℕ → ℕ → ℕ → List ℕ
-header items word steps size = codes "RUN " ++ spelling items ++ field word ++ field (decimal steps) ++ field (decimal size) ++ codes "\n"
+header items word steps size = codes "RUN " ++ spelling items ++ field word ++ field (decimal steps)
+    ++ field (decimal size) ++ codes "\n"
 
 abbrev pub report_text : List Marked → List ℕ → ℕ → List ℕ → List ℕ
 report_text items word steps shown = header items word steps (length shown) ++ shown ++ codes "\n"
 
 abbrev pub report_ending : List ℕ → ℕ → List ℕ → List ℕ
-report_ending word steps shown = field word ++ field (decimal steps) ++ field (decimal (length shown)) ++ codes "\n" ++ shown ++ codes "\n"
+report_ending word steps shown = field word ++ field (decimal steps) ++ field (decimal (length shown)) ++ codes "\n"
+    ++ shown ++ codes "\n"
 
 abbrev pub list_line : List Marked → List ℕ
 list_line items = spelling items ++ codes "\n"

@@ -1,11 +1,22 @@
 -- This file has worked rows of the whole tool and of its command line.
-use Rattle.std.specs.Prelude.{◌≡◌, ℕ, List, [], ◌∷◌, ◌++◌, Bool, true, Option, Some, None, Ok, Err, ℤ, pos, codes, flat_map, replicate, option_map, ◌≤ℤ◌}
+use Rattle.std.specs.Prelude.{◌≡◌, ℕ, List, [], ◌∷◌, ◌++◌, Bool, true, Option, Some, None, Ok, Err}
+use Rattle.std.specs.Prelude.{ℤ, pos, codes, flat_map, replicate, option_map, ◌≤ℤ◌}
 use Rattle.std.specs.Int.Signed.{le_z_yes}
 use Rattle.ptb_text.specs.declared.fault.LoadFault.TheVariants.{NoNumber, NumberTooBig, TextTooLong, Full, BadByte}
 use Rattle.clap.specs.Words.{fault_of, matches_of}
 use Rattle.clap.specs.declared.error.ErrorKind.{ErrorKind}
-use Rattle.clap.specs.declared.error.ErrorKind.TheVariants.{ArgumentConflict, DisplayHelp, UnknownArgument, ValueValidation}
-use Rattle.ptb_options.specs.declared.usage.UsageFault.TheVariants.{ListWithOther, CheckWithOther, ChancesWithOther, AfterWithoutAll, FirstWithoutAll, FormWithoutAll, UnderWithoutAll, SharesWithoutAll, SharesWithOther, SampleWithoutSeed, AnswersWithAll, SeedWithAll, SeedWithAnswers}
+use Rattle.clap.specs.declared.error.ErrorKind.TheVariants.{ArgumentConflict, DisplayHelp}
+use Rattle.clap.specs.declared.error.ErrorKind.TheVariants.{UnknownArgument, ValueValidation}
+use Rattle.ptb_options.specs.declared.usage.UsageFault.TheVariants.{ListWithOther, CheckWithOther}
+use Rattle.ptb_options.specs.declared.usage.UsageFault.TheVariants.{ChancesWithOther}
+use Rattle.ptb_options.specs.declared.usage.UsageFault.TheVariants.{AfterWithoutAll}
+use Rattle.ptb_options.specs.declared.usage.UsageFault.TheVariants.{FirstWithoutAll, FormWithoutAll}
+use Rattle.ptb_options.specs.declared.usage.UsageFault.TheVariants.{UnderWithoutAll}
+use Rattle.ptb_options.specs.declared.usage.UsageFault.TheVariants.{SharesWithoutAll}
+use Rattle.ptb_options.specs.declared.usage.UsageFault.TheVariants.{SharesWithOther}
+use Rattle.ptb_options.specs.declared.usage.UsageFault.TheVariants.{SampleWithoutSeed}
+use Rattle.ptb_options.specs.declared.usage.UsageFault.TheVariants.{AnswersWithAll, SeedWithAll}
+use Rattle.ptb_options.specs.declared.usage.UsageFault.TheVariants.{SeedWithAnswers}
 use Rattle.ptb_options.specs.AnswerLists.{SpellsList, SpellsAnswers, IsMisspelled, HasNoAnswers}
 use Rattle.ptb_options.specs.CommandLine.{tool}
 use Rattle.ptb_options.specs.Options.{default_memory, default_steps, Options, no_options, options_of, clash}
@@ -39,7 +50,8 @@ abbrev pub limited : ℕ → Request → Request
 limited steps request = record request { rules = record default_rules { limit = steps } }
 
 abbrev pub choosing : (bound : ℤ) → pos 1 ≤ℤ bound → Request → Request
-choosing bound positive request = record request { rules = record default_rules { choose = Some bound; in_range = positive } }
+choosing bound positive request =
+    record request { rules = record default_rules { choose = Some bound; in_range = positive } }
 
 -- its memory, and the least, are sizes that a program can have
 pub default_size : IsMemorySize default_memory
@@ -53,38 +65,68 @@ with_least_memory request = record request { memory = 64; in_range = least_size 
 
 -- requests with the rules and the memory of one that gives none
 abbrev pub run : List ℤ → Request
-run answers = record { rules = default_rules; memory = default_memory; mode = modes.Plain answers; in_range = default_size }
+run answers = record {
+  rules = default_rules;
+  memory = default_memory;
+  mode = modes.Plain answers;
+  in_range = default_size;
+}
 
 abbrev pub seeded : ℕ → Request
-seeded seed = record { rules = default_rules; memory = default_memory; mode = modes.Seeded seed; in_range = default_size }
+seeded seed = record {
+  rules = default_rules;
+  memory = default_memory;
+  mode = modes.Seeded seed;
+  in_range = default_size;
+}
 
 -- the lists of at most so many answers that split all runs
 abbrev pub splitting : ℕ → Form → Request
-splitting answers form = record { rules = default_rules; memory = default_memory; mode = modes.Shares answers form; in_range = default_size }
+splitting answers form = record {
+  rules = default_rules;
+  memory = default_memory;
+  mode = modes.Shares answers form;
+  in_range = default_size;
+}
 
 -- lists that split the runs
 pub record SplitRows : Type 0 where
-  pub one_answer : reply_to (splitting 1 Two) (codes "10 A=RND(2);IF A=2 B=RND(3);PRINT B") [] ≡ success (codes "1/2\n2/2\n")
-  pub two_answers : reply_to (splitting 2 Two) (codes "10 A=RND(2);IF A=2 B=RND(3);PRINT B") [] ≡ success (codes "1/2\n2/2,1/3\n2/2,2/3\n2/2,3/3\n")
-  pub form_1 : reply_to (splitting 9 One) (codes "10 A=RND(2);IF A=2 B=RND(3);PRINT B") [] ≡ success (codes "1\n2,1\n2,2\n2,3\n")
+  pub one_answer : reply_to (splitting 1 Two) (codes "10 A=RND(2);IF A=2 B=RND(3);PRINT B") [] ≡ success
+      (codes "1/2\n2/2\n")
+  pub two_answers : reply_to (splitting 2 Two) (codes "10 A=RND(2);IF A=2 B=RND(3);PRINT B") [] ≡ success
+      (codes "1/2\n2/2,1/3\n2/2,2/3\n2/2,3/3\n")
+  pub form_1 : reply_to (splitting 9 One) (codes "10 A=RND(2);IF A=2 B=RND(3);PRINT B") [] ≡ success
+      (codes "1\n2,1\n2,2\n2,3\n")
   pub no_program : reply_to (splitting 1 Two) [] [] ≡ success (codes "none\n")
   -- a list may end within a command, and a run at its limit
   pub within_command : reply_to (splitting 1 Two) (codes "10 P.RND(2)*RND(3)") [] ≡ success (codes "1/2\n2/2\n")
   pub limit : reply_to (limited 1 (splitting 2 Two)) (codes "10 A=RND(2);B=RND(2)") [] ≡ success (codes "1/2\n2/2\n")
   pub fault : reply_to (splitting 2 One) (codes "10 A=RND(2)-1;B=RND(A);C=RND(2)") [] ≡ success (codes "1\n2,1\n")
   -- the input is that of each run
-  pub rolled_input : reply_to (splitting 1 Two) (codes "10 INPUT A;PRINT RND(9)") (one_line (codes "RND(2)")) ≡ success (codes "1/2\n2/2\n")
-  pub instead_of_lines : reply_to (choosing (pos 3) (le_z_yes tt) (splitting 1 Two)) (codes "10 INPUT A,B") [] ≡ success (codes "1/3\n2/3\n3/3\n")
+  pub rolled_input : reply_to (splitting 1 Two) (codes "10 INPUT A;PRINT RND(9)") (one_line (codes "RND(2)")) ≡ success
+      (codes "1/2\n2/2\n")
+  pub instead_of_lines : reply_to (choosing (pos 3) (le_z_yes tt) (splitting 1 Two)) (codes "10 INPUT A,B") [] ≡ success
+      (codes "1/3\n2/3\n3/3\n")
   pub no_input : reply_to (splitting 1 Two) (codes "10 INPUT A;B=RND(2)") [] ≡ success (codes "none\n")
   pub refused : reply_to (splitting 1 Two) (codes "0 P.") [] ≡ refusal (notes.Load 1 NoNumber)
 
 -- so many runs that a seed draws
 abbrev pub sampling : ℕ → ℕ → Form → Request
-sampling seed runs form = record { rules = default_rules; memory = default_memory; mode = modes.Sample seed runs form; in_range = default_size }
+sampling seed runs form = record {
+  rules = default_rules;
+  memory = default_memory;
+  mode = modes.Sample seed runs form;
+  in_range = default_size;
+}
 
 -- all runs, or the first n of those behind a run
 abbrev pub all_in : Form → Option (List Marked) → Option ℕ → Request
-all_in form after first = record { rules = default_rules; memory = default_memory; mode = modes.All None after first form; in_range = default_size }
+all_in form after first = record {
+  rules = default_rules;
+  memory = default_memory;
+  mode = modes.All None after first form;
+  in_range = default_size;
+}
 
 -- in form 1
 abbrev pub all_from : Option (List ℤ) → Option ℕ → Request
@@ -109,10 +151,15 @@ mistaken bytes = record { bytes = bytes; status = 1; note = None }
 
 pub record CheckRows : Type 0 where
   pub no_mistake : reply_to check (codes "10 PRINT \"HI\"\n") [] ≡ success []
-  pub in_rising_order : reply_to check (codes "30 LET A=(3+4, X=4\n20 GOTO 412\n10 IF 0 PTINT \"X\"\n") [] ≡ mistaken (codes "WHAT?\n10 IF 0 P?TINT \"X\"\nHOW?\n20 GOTO 412?\nWHAT?\n30 LET A=(3+4?, X=4\n")
-  pub several_in_one : reply_to check (codes "10 GOSUB 99;A=32768;PRINT )\n") [] ≡ mistaken (codes "HOW?\n10 GOSUB 99?;A=32768;PRINT )\nHOW?\n10 GOSUB 99;A=32768?;PRINT )\n")
+  pub in_rising_order : reply_to check
+      (codes "30 LET A=(3+4, X=4\n20 GOTO 412\n10 IF 0 PTINT \"X\"\n") []
+      ≡ mistaken (codes "WHAT?\n10 IF 0 P?TINT \"X\"\nHOW?\n20 GOTO 412?\nWHAT?\n30 LET A=(3+4?, X=4\n")
+  pub several_in_one : reply_to check
+      (codes "10 GOSUB 99;A=32768;PRINT )\n") []
+      ≡ mistaken (codes "HOW?\n10 GOSUB 99?;A=32768;PRINT )\nHOW?\n10 GOSUB 99;A=32768?;PRINT )\n")
   pub only_in_the_text : reply_to check (codes "10 GOTO A\n20 RETURN\n") [] ≡ success []
-  pub fault_of_a_run_before_it : reply_to check (codes "10 PRINT (1/0\n") [] ≡ mistaken (codes "WHAT?\n10 PRINT (1/0?\n")
+  pub fault_of_a_run_before_it : reply_to check
+      (codes "10 PRINT (1/0\n") [] ≡ mistaken (codes "WHAT?\n10 PRINT (1/0?\n")
   pub no_program : reply_to check [] [] ≡ success []
   -- whatever the input is
   pub input_ignored : reply_to check (codes "10 INPUT A") (one_line (codes ")")) ≡ success []
@@ -124,8 +171,10 @@ chances = record { rules = default_rules; memory = default_memory; mode = modes.
 
 pub record ChanceRows : Type 0 where
   pub no_program : reply_to chances [] [] ≡ success (codes "CHANCE 1/1 1 END 0\n\n")
-  pub rolled_again : reply_to chances (codes "10 A=RND(2);IF A=2 A=RND(3)\n20 P.#1,A") [] ≡ success (codes "CHANCE 2/3 2 END 1\n1\nCHANCE 1/6 1 END 1\n2\nCHANCE 1/6 1 END 1\n3\n")
-  pub limit : reply_to (limited 5 chances) (codes "10 A=RND(2)\n20 IF A=1 GOTO 10") [] ≡ success (codes "CHANCE 3/4 2 END 0\n\nCHANCE 1/4 1 LIMIT 0\n\n")
+  pub rolled_again : reply_to chances (codes "10 A=RND(2);IF A=2 A=RND(3)\n20 P.#1,A") [] ≡ success
+      (codes "CHANCE 2/3 2 END 1\n1\nCHANCE 1/6 1 END 1\n2\nCHANCE 1/6 1 END 1\n3\n")
+  pub limit : reply_to (limited 5 chances) (codes "10 A=RND(2)\n20 IF A=1 GOTO 10") [] ≡ success
+      (codes "CHANCE 3/4 2 END 0\n\nCHANCE 1/4 1 LIMIT 0\n\n")
   -- the signs of the sums are bytes of the lines, and a minus sign comes before the digits
   pub four_tosses :
       reply_to chances (codes "10 F.I=1TO4;A=A+RND(2)*2-3;N.I;P.#1,A") []
@@ -133,14 +182,17 @@ pub record ChanceRows : Type 0 where
   pub each_ending :
       reply_to chances (codes "10 A=RND(3);P.#1,A;IF A=1 STOP\n20 IF A=2 P.1/0") []
       ≡ success (codes "CHANCE 1/3 1 END 1\n3\nCHANCE 1/3 1 STOP 1\n1\nCHANCE 1/3 1 HOW 16\n20 IF A=2 P.1/0?\n")
-  pub rolled_input : reply_to chances (codes "10 INPUT A;P.#1,A") (one_line (codes "RND(2)")) ≡ success (codes "CHANCE 1/2 1 END 1\n1\nCHANCE 1/2 1 END 1\n2\n")
-  pub instead_of_lines : reply_to (choosing (pos 2) (le_z_yes tt) chances) (codes "10 INPUT A") [] ≡ success (codes "CHANCE 1/2 1 END 3\nA:1\nCHANCE 1/2 1 END 3\nA:2\n")
+  pub rolled_input : reply_to chances (codes "10 INPUT A;P.#1,A") (one_line (codes "RND(2)")) ≡ success
+      (codes "CHANCE 1/2 1 END 1\n1\nCHANCE 1/2 1 END 1\n2\n")
+  pub instead_of_lines : reply_to (choosing (pos 2) (le_z_yes tt) chances) (codes "10 INPUT A") [] ≡ success
+      (codes "CHANCE 1/2 1 END 3\nA:1\nCHANCE 1/2 1 END 3\nA:2\n")
   pub no_input : reply_to chances (codes "10 INPUT A;P.RND(2)") [] ≡ success (codes "CHANCE 1/1 1 NOINPUT 2\nA:\n")
   pub refused : reply_to chances (codes "0 P.") [] ≡ refusal (notes.Load 1 NoNumber)
 
 -- the report of a run whose answers are 69 times 1 and then these
 abbrev pub long_report : List ℕ → List ℕ
-long_report answers = codes "RUN " ++ flat_map (λ (k : ℕ). codes "1,") (replicate 69 0) ++ answers ++ codes " END 140 0\n\n"
+long_report answers = codes "RUN " ++ flat_map (λ (k : ℕ). codes "1,") (replicate 69 0) ++ answers
+    ++ codes " END 140 0\n\n"
 
 -- a run that ends with this status
 abbrev pub run_end : List ℕ → ℕ → Reply
@@ -149,23 +201,33 @@ run_end bytes status = record { bytes = bytes; status = status; note = None }
 pub record RunRows : Type 0 where
   pub greeting : reply_to (run []) (codes "10 PRINT \"HI\"") [] ≡ success (one_line (codes "HI"))
   pub one_answer : reply_to (run (pos 2 ∷ [])) (codes "10 P.RND(2)") [] ≡ run_end (one_line (codes "     2")) 0
-  pub answers_left : reply_to (run (pos 1 ∷ pos 9 ∷ [])) (codes "10 P.RND(2)") [] ≡ run_end (one_line (codes "     1")) 0
+  pub answers_left : reply_to (run (pos 1 ∷ pos 9 ∷ [])) (codes "10 P.RND(2)") [] ≡ run_end
+      (one_line (codes "     1")) 0
   pub no_answer : reply_to (run []) (codes "10 P.RND(2)") [] ≡ run_end [] 6
   pub bad_answer : reply_to (run (pos 3 ∷ [])) (codes "10 P.RND(2)") [] ≡ run_end [] 7
   pub limit : reply_to (limited 5 (run [])) (codes "10 GOTO 10") [] ≡ run_end [] 4
-  pub fault : reply_to (run []) (codes "10 PRINT -(-32767-1)") [] ≡ run_end (text (codes "HOW?" ∷ codes "10 PRINT -(-32767-1)?" ∷ [])) 2
-  pub input : reply_to (run []) (codes "10 INPUT A") (text (codes ")" ∷ codes "5" ∷ [])) ≡ run_end (text (codes "A:)" ∷ codes "WHAT?" ∷ codes "A:5" ∷ [])) 0
-  pub no_input : reply_to (run []) (codes "10 INPUT A") (one_line (codes ")")) ≡ run_end (text (codes "A:)" ∷ codes "WHAT?" ∷ []) ++ codes "A:") 5
-  pub small_memory : reply_to (with_least_memory (run [])) (codes "10 @(28)=1") [] ≡ run_end (text (codes "SORRY" ∷ codes "10 @(28)?=1" ∷ [])) 3
+  pub fault : reply_to (run []) (codes "10 PRINT -(-32767-1)") [] ≡ run_end
+      (text (codes "HOW?" ∷ codes "10 PRINT -(-32767-1)?" ∷ [])) 2
+  pub input : reply_to (run []) (codes "10 INPUT A") (text (codes ")" ∷ codes "5" ∷ [])) ≡ run_end (text
+      (codes "A:)" ∷ codes "WHAT?" ∷ codes "A:5" ∷ [])) 0
+  pub no_input : reply_to (run []) (codes "10 INPUT A") (one_line (codes ")")) ≡ run_end (text
+      (codes "A:)" ∷ codes "WHAT?" ∷ []) ++ codes "A:") 5
+  pub small_memory : reply_to (with_least_memory (run [])) (codes "10 @(28)=1") [] ≡ run_end
+      (text (codes "SORRY" ∷ codes "10 @(28)?=1" ∷ [])) 3
 
 -- runs whose answers are drawn from a seed
 pub record SeedRows : Type 0 where
   pub only_answer : reply_to (seeded 7) (codes "10 P.RND(1)") [] ≡ run_end (one_line (codes "     1")) 0
-  pub rolls : reply_to (seeded 7) (codes "10 P.RND(6),RND(6),RND(100)") [] ≡ run_end (one_line (codes "     3     5    13")) 0
-  pub least : reply_to (seeded 0) (codes "10 P.RND(6),RND(6),RND(6)") [] ≡ run_end (one_line (codes "     6     6     3")) 0
-  pub second : reply_to (seeded 1) (codes "10 P.RND(6),RND(6),RND(6)") [] ≡ run_end (one_line (codes "     2     3     2")) 0
-  pub greatest : reply_to (seeded 4294967295) (codes "10 P.RND(6),RND(6),RND(6)") [] ≡ run_end (one_line (codes "     4     2     5")) 0
-  pub rolled_input : reply_to (seeded 7) (codes "10 INPUT A;PRINT A") (one_line (codes "RND(6)")) ≡ run_end (text (codes "A:RND(6)" ∷ codes "     3" ∷ [])) 0
+  pub rolls : reply_to (seeded 7) (codes "10 P.RND(6),RND(6),RND(100)") [] ≡ run_end
+      (one_line (codes "     3     5    13")) 0
+  pub least : reply_to (seeded 0) (codes "10 P.RND(6),RND(6),RND(6)") [] ≡ run_end
+      (one_line (codes "     6     6     3")) 0
+  pub second : reply_to (seeded 1) (codes "10 P.RND(6),RND(6),RND(6)") [] ≡ run_end
+      (one_line (codes "     2     3     2")) 0
+  pub greatest : reply_to (seeded 4294967295) (codes "10 P.RND(6),RND(6),RND(6)") [] ≡ run_end
+      (one_line (codes "     4     2     5")) 0
+  pub rolled_input : reply_to (seeded 7) (codes "10 INPUT A;PRINT A") (one_line (codes "RND(6)")) ≡ run_end
+      (text (codes "A:RND(6)" ∷ codes "     3" ∷ [])) 0
   pub no_input : reply_to (seeded 7) (codes "10 INPUT A") [] ≡ run_end (codes "A:") 5
   pub fault : reply_to (seeded 7) (codes "10 P.RND(0)") [] ≡ run_end (text (codes "HOW?" ∷ codes "10 P.RND(0)?" ∷ [])) 2
   pub limit : reply_to (limited 5 (seeded 7)) (codes "10 A=RND(2);GOTO 10") [] ≡ run_end [] 4
@@ -173,54 +235,78 @@ pub record SeedRows : Type 0 where
 
 -- answers that stand in place of missing lines
 pub record ChoiceRows : Type 0 where
-  pub each_answer : reply_to (choosing (pos 2) (le_z_yes tt) all) (codes "10 INPUT A;PRINT A") [] ≡ success (codes "RUN 1 END 2 11\nA:1\n     1\n\nRUN 2 END 2 11\nA:2\n     2\n\n")
-  pub after_faulty_line : reply_to (choosing (pos 2) (le_z_yes tt) all) (codes "10 INPUT A;PRINT A") (one_line (codes ")"))
+  pub each_answer : reply_to (choosing (pos 2) (le_z_yes tt) all) (codes "10 INPUT A;PRINT A") [] ≡ success
+      (codes "RUN 1 END 2 11\nA:1\n     1\n\nRUN 2 END 2 11\nA:2\n     2\n\n")
+  pub after_faulty_line : reply_to (choosing (pos 2) (le_z_yes tt) all) (codes "10 INPUT A;PRINT A")
+      (one_line (codes ")"))
       ≡ success (codes "RUN 1 END 2 21\nA:)\nWHAT?\nA:1\n     1\n\nRUN 2 END 2 21\nA:)\nWHAT?\nA:2\n     2\n\n")
   pub index_and_value : reply_to (choosing (pos 2) (le_z_yes tt) all) (codes "10 INPUT @(RND(2)-1)") [] ≡ success (
       codes "RUN 1,1 END 1 14\n@(RND(2)-1):1\n\n" ++ codes "RUN 1,2 END 1 14\n@(RND(2)-1):2\n\n"
       ++ codes "RUN 2,1 END 1 14\n@(RND(2)-1):1\n\n" ++ codes "RUN 2,2 END 1 14\n@(RND(2)-1):2\n\n")
-  pub no_answer : reply_to (choosing (pos 2) (le_z_yes tt) (run [])) (codes "10 INPUT A;PRINT A") [] ≡ run_end (codes "A:") 6
-  pub bad_answer : reply_to (choosing (pos 2) (le_z_yes tt) (run (pos 3 ∷ []))) (codes "10 INPUT A;PRINT A") [] ≡ run_end (codes "A:") 7
-  pub answer : reply_to (choosing (pos 2) (le_z_yes tt) (run (pos 2 ∷ []))) (codes "10 INPUT A;PRINT A") [] ≡ run_end (codes "A:2\n     2\n") 0
+  pub no_answer : reply_to (choosing (pos 2) (le_z_yes tt) (run [])) (codes "10 INPUT A;PRINT A") [] ≡ run_end
+      (codes "A:") 6
+  pub bad_answer : reply_to (choosing (pos 2) (le_z_yes tt) (run (pos 3 ∷ [])))
+      (codes "10 INPUT A;PRINT A") [] ≡ run_end (codes "A:") 7
+  pub answer : reply_to (choosing (pos 2) (le_z_yes tt) (run (pos 2 ∷ []))) (codes "10 INPUT A;PRINT A") [] ≡ run_end
+      (codes "A:2\n     2\n") 0
   -- a line that is left is taken first
-  pub line_first : reply_to (choosing (pos 9) (le_z_yes tt) (run (pos 9 ∷ []))) (codes "10 INPUT A,B;PRINT A-B") (codes "5\n") ≡ run_end (codes "A:5\nB:9\n    -4\n") 0
-  pub no_line_asked_for : reply_to (choosing (pos 9) (le_z_yes tt) all) (codes "10 PRINT 1") [] ≡ success (codes "RUN none END 1 7\n     1\n\n")
-  pub only_answer : reply_to (choosing (pos 1) (le_z_yes tt) all) (codes "10 INPUT A") [] ≡ success (codes "RUN 1 END 1 4\nA:1\n\n")
-  pub greatest : reply_to (choosing (pos 32767) (le_z_yes tt) (run (pos 32767 ∷ []))) (codes "10 INPUT A") [] ≡ run_end (codes "A:32767\n") 0
+  pub line_first : reply_to (choosing (pos 9) (le_z_yes tt) (run (pos 9 ∷ []))) (codes "10 INPUT A,B;PRINT A-B")
+      (codes "5\n") ≡ run_end (codes "A:5\nB:9\n    -4\n") 0
+  pub no_line_asked_for : reply_to (choosing (pos 9) (le_z_yes tt) all) (codes "10 PRINT 1") [] ≡ success
+      (codes "RUN none END 1 7\n     1\n\n")
+  pub only_answer : reply_to (choosing (pos 1) (le_z_yes tt) all) (codes "10 INPUT A") [] ≡ success
+      (codes "RUN 1 END 1 4\nA:1\n\n")
+  pub greatest : reply_to (choosing (pos 32767) (le_z_yes tt) (run (pos 32767 ∷ []))) (codes "10 INPUT A") [] ≡ run_end
+      (codes "A:32767\n") 0
   -- by a seed they are drawn as for RND
-  pub drawn : reply_to (choosing (pos 6) (le_z_yes tt) (seeded 7)) (codes "10 INPUT A;PRINT RND(6)") [] ≡ run_end (codes "A:3\n     5\n") 0
+  pub drawn : reply_to (choosing (pos 6) (le_z_yes tt) (seeded 7)) (codes "10 INPUT A;PRINT RND(6)") [] ≡ run_end
+      (codes "A:3\n     5\n") 0
   -- with the steps of a limit
-  pub limit : reply_to (record all { rules = record { limit = 1; choose = Some (pos 2); in_range = le_z_yes tt } }) (codes "10 INPUT A;PRINT A") [] ≡ success (codes "RUN 1 LIMIT 1 4\nA:1\n\nRUN 2 LIMIT 1 4\nA:2\n\n")
-  pub after_first : reply_to (choosing (pos 2) (le_z_yes tt) (behind (pos 1 ∷ []))) (codes "10 INPUT A;PRINT A") [] ≡ success (codes "RUN 2 END 2 11\nA:2\n     2\n\n")
-  pub first_one : reply_to (choosing (pos 2) (le_z_yes tt) (all_from None (Some 1))) (codes "10 INPUT A;PRINT A") [] ≡ success (codes "RUN 1 END 2 11\nA:1\n     1\n\n")
-  pub after_none : reply_to (choosing (pos 2) (le_z_yes tt) (behind (pos 3 ∷ []))) (codes "10 INPUT A;PRINT A") [] ≡ refusal notes.NoRun
+  pub limit : reply_to (record all { rules = record { limit = 1; choose = Some (pos 2); in_range = le_z_yes tt } })
+      (codes "10 INPUT A;PRINT A") [] ≡ success (codes "RUN 1 LIMIT 1 4\nA:1\n\nRUN 2 LIMIT 1 4\nA:2\n\n")
+  pub after_first : reply_to (choosing (pos 2) (le_z_yes tt) (behind (pos 1 ∷ [])))
+      (codes "10 INPUT A;PRINT A") [] ≡ success (codes "RUN 2 END 2 11\nA:2\n     2\n\n")
+  pub first_one : reply_to (choosing (pos 2) (le_z_yes tt) (all_from None (Some 1)))
+      (codes "10 INPUT A;PRINT A") [] ≡ success (codes "RUN 1 END 2 11\nA:1\n     1\n\n")
+  pub after_none : reply_to (choosing (pos 2) (le_z_yes tt) (behind (pos 3 ∷ [])))
+      (codes "10 INPUT A;PRINT A") [] ≡ refusal notes.NoRun
 
 -- programs that run once
 pub record ProgramRows : Type 0 where
   pub lines_in_order : reply_to (run []) (codes "20 P.\"B\"\n10 P.'A',;P.\n") [] ≡ run_end (codes "A\nB\n") 0
   pub least_number : reply_to (run []) (codes "10 PRINT -32767-1") [] ≡ run_end (codes "-32768\n") 0
-  pub rolled_input : reply_to (run (pos 1 ∷ [])) (codes "10 INPUT A;PRINT A") (codes "RND(2)\n") ≡ run_end (codes "A:RND(2)\n     1\n") 0
+  pub rolled_input : reply_to (run (pos 1 ∷ [])) (codes "10 INPUT A;PRINT A") (codes "RND(2)\n") ≡ run_end
+      (codes "A:RND(2)\n     1\n") 0
   pub loop : reply_to (run []) (codes "10 F.I=1TO3S.2;P.I,;N.I") [] ≡ run_end (codes "     1     3") 0
-  pub strings : reply_to (run []) (codes "10 PRINT 'ABC',_,\"X\",#3,7") [] ≡ run_end (codes "ABC" ++ 13 ∷ codes "X  7\n") 0
+  pub strings : reply_to (run []) (codes "10 PRINT 'ABC',_,\"X\",#3,7") [] ≡ run_end
+      (codes "ABC" ++ 13 ∷ codes "X  7\n") 0
   pub endless_calls : reply_to (run []) (codes "10 GOSUB 10") [] ≡ run_end (codes "SORRY\n10 GOSUB 10?\n") 3
-  pub product_too_great : reply_to (run []) (codes "300 B=200,C=200\n310 LET A=B*C+2\n") [] ≡ run_end (codes "HOW?\n310 LET A=B*C?+2\n") 2
-  pub index_asked_again : reply_to (run (pos 1 ∷ pos 1 ∷ [])) (codes "10 INPUT @(RND(2))") (codes ")\n5\n") ≡ run_end (codes "@(RND(2)):)\nWHAT?\n@(RND(2)):5\n") 0
+  pub product_too_great : reply_to (run []) (codes "300 B=200,C=200\n310 LET A=B*C+2\n") [] ≡ run_end
+      (codes "HOW?\n310 LET A=B*C?+2\n") 2
+  pub index_asked_again : reply_to (run (pos 1 ∷ pos 1 ∷ [])) (codes "10 INPUT @(RND(2))")
+      (codes ")\n5\n") ≡ run_end (codes "@(RND(2)):)\nWHAT?\n@(RND(2)):5\n") 0
   pub last_element : reply_to (with_least_memory (run [])) (codes "10 @(27)=1") [] ≡ run_end [] 0
   pub size : reply_to (run []) (codes "10 PRINT SIZE") [] ≡ run_end (codes "  4083\n") 0
-  pub loop_of_subroutine : reply_to (run []) (codes "10 GOS.30;N.J\n30 F.J=1TO9;R.\n") [] ≡ run_end (codes "WHAT?\n10 GOS.30;N.J?\n") 1
-  pub stop : reply_to (run []) (codes "10 GOSUB 40;P.1\n20 STOP\n40 P.2;RETURN\n") [] ≡ run_end (codes "     2\n     1\n") 0
+  pub loop_of_subroutine : reply_to (run []) (codes "10 GOS.30;N.J\n30 F.J=1TO9;R.\n") [] ≡ run_end
+      (codes "WHAT?\n10 GOS.30;N.J?\n") 1
+  pub stop : reply_to (run []) (codes "10 GOSUB 40;P.1\n20 STOP\n40 P.2;RETURN\n") [] ≡ run_end
+      (codes "     2\n     1\n") 0
   pub end_at_limit : reply_to (limited 1 (run [])) (codes "10 P.1") [] ≡ run_end (codes "     1\n") 0
   pub missing_line : reply_to (run []) (codes "10 INPUT A,B") (codes "5\n") ≡ run_end (codes "A:5\nB:") 5
 
 -- the examples of docs/LANGUAGE.md
 pub record ExampleRows : Type 0 where
   pub two_dice : reply_to (run (pos 4 ∷ pos 4 ∷ pos 1 ∷ pos 6 ∷ [])) (text (
-      codes "10 REM TWO DICE" ∷ codes "20 A=RND(6),B=RND(6);PRINT \"YOU ROLL\",#3,A,B;IF A=B GOTO 20" ∷ codes "30 PRINT \"SUM\",A+B" ∷ [])) []
+      codes "10 REM TWO DICE" ∷ codes "20 A=RND(6),B=RND(6);PRINT \"YOU ROLL\",#3,A,B;IF A=B GOTO 20"
+      ∷ codes "30 PRINT \"SUM\",A+B" ∷ [])) []
       ≡ run_end (codes "YOU ROLL  4  4\nYOU ROLL  1  6\nSUM     7\n") 0
-  pub many : reply_to (run []) (codes "10 INPUT \"HOW MANY\"N;PRINT N*N") (codes "MANY\n") ≡ run_end (codes "HOW MANY:MANY\n     0\n") 0
-  pub twelve : reply_to (run []) (codes "10 INPUT \"HOW MANY\"N;PRINT N*N") (codes "(\n12\n") ≡ run_end (codes "HOW MANY:(\nWHAT?\nHOW MANY:12\n   144\n") 0
+  pub many : reply_to (run []) (codes "10 INPUT \"HOW MANY\"N;PRINT N*N") (codes "MANY\n") ≡ run_end
+      (codes "HOW MANY:MANY\n     0\n") 0
+  pub twelve : reply_to (run []) (codes "10 INPUT \"HOW MANY\"N;PRINT N*N")
+      (codes "(\n12\n") ≡ run_end (codes "HOW MANY:(\nWHAT?\nHOW MANY:12\n   144\n") 0
   pub open_paren : reply_to (run []) (codes "10 PRINT (1+2") [] ≡ run_end (codes "WHAT?\n10 PRINT (1+2?\n") 1
-  pub blank_before_mark : reply_to (run []) (codes "10 A=1/0 ;PRINT A") [] ≡ run_end (codes "HOW?\n10 A=1/0 ?;PRINT A\n") 2
+  pub blank_before_mark : reply_to (run []) (codes "10 A=1/0 ;PRINT A") [] ≡ run_end
+      (codes "HOW?\n10 A=1/0 ?;PRINT A\n") 2
   pub no_blanks : reply_to (run []) (codes "10 FORI=1TO3;PRINTI,;NEXTI") [] ≡ run_end (codes "     1     2     3") 0
   pub blank_in_word : reply_to (run []) (codes "10 G O T O 10") [] ≡ run_end (codes "WHAT?\n10 G ?O T O 10\n") 1
 
@@ -228,13 +314,15 @@ pub record ExampleRows : Type 0 where
 abbrev pub run_of : List ℕ → ℕ → List ℤ → Option (Bool × List ℕ)
 run_of b limit a =
     elim (program default_memory b) [
-      | Ok p ↦ (let game = play (record { lines = p; memory = default_memory }) [] (record default_rules { limit = limit }) in Some (is_whole (game a), report One game a))
+      | Ok p ↦ (let game = play (record { lines = p; memory = default_memory }) []
+          (record default_rules { limit = limit }) in Some (is_whole (game a), report One game a))
       | Err fault ↦ None
     ]
 
 -- programs whose runs are many steps long, or have many answers
 pub record LongRunRows : Type 0 where
-  pub long_loop : reply_to all (codes "10 F.I=1TO200;A=I;N.I\n20 A=RND(3)\n") [] ≡ success (codes "RUN 1 END 402 0\n\nRUN 2 END 402 0\n\nRUN 3 END 402 0\n\n")
+  pub long_loop : reply_to all (codes "10 F.I=1TO200;A=I;N.I\n20 A=RND(3)\n") [] ≡ success
+      (codes "RUN 1 END 402 0\n\nRUN 2 END 402 0\n\nRUN 3 END 402 0\n\n")
   pub many_answers : reply_to all (codes "10 F.I=1TO69;A=RND(1);N.I\n20 A=RND(2),B=RND(2)\n") [] ≡ success (
       long_report (codes "1,1") ++ long_report (codes "1,2") ++ long_report (codes "2,1") ++ long_report (codes "2,2"))
   -- one of 10001 steps
@@ -244,36 +332,54 @@ pub record LongRunRows : Type 0 where
 -- all runs of programs
 pub record AllRows : Type 0 where
   pub no_program : reply_to all [] [] ≡ success (codes "RUN none END 0 0\n\n")
-  pub one_roll : reply_to all (codes "10 P.RND(2)") [] ≡ success (codes "RUN 1 END 1 7\n     1\n\nRUN 2 END 1 7\n     2\n\n")
-  pub two_rolls : reply_to all (codes "10 PRINT RND(2)*RND(2)") [] ≡ success (codes "RUN 1,1 END 1 7\n     1\n\nRUN 1,2 END 1 7\n     2\n\nRUN 2,1 END 1 7\n     2\n\nRUN 2,2 END 1 7\n     4\n\n")
-  pub roll_after_if : reply_to all (codes "10 A=RND(2);IF A=2 B=RND(3);PRINT B") [] ≡ success (codes "RUN 1 END 2 0\n\nRUN 2,1 END 4 7\n     1\n\nRUN 2,2 END 4 7\n     2\n\nRUN 2,3 END 4 7\n     3\n\n")
-  pub faulty_run : reply_to all (codes "10 A=RND(2)-1;B=RND(A)") [] ≡ success (codes "RUN 1 HOW 2 29\nHOW?\n10 A=RND(2)-1;B=RND(A)?\n\nRUN 2,1 END 2 0\n\n")
+  pub one_roll : reply_to all (codes "10 P.RND(2)") [] ≡ success
+      (codes "RUN 1 END 1 7\n     1\n\nRUN 2 END 1 7\n     2\n\n")
+  pub two_rolls : reply_to all (codes "10 PRINT RND(2)*RND(2)") [] ≡ success
+      (codes "RUN 1,1 END 1 7\n     1\n\nRUN 1,2 END 1 7\n     2\n\nRUN 2,1 END 1 7\n     2\n\nRUN 2,2 END 1 7\n     4\n\n")
+  pub roll_after_if : reply_to all (codes "10 A=RND(2);IF A=2 B=RND(3);PRINT B") [] ≡ success
+      (codes "RUN 1 END 2 0\n\nRUN 2,1 END 4 7\n     1\n\nRUN 2,2 END 4 7\n     2\n\nRUN 2,3 END 4 7\n     3\n\n")
+  pub faulty_run : reply_to all (codes "10 A=RND(2)-1;B=RND(A)") [] ≡ success
+      (codes "RUN 1 HOW 2 29\nHOW?\n10 A=RND(2)-1;B=RND(A)?\n\nRUN 2,1 END 2 0\n\n")
   pub limit : reply_to (limited 5 all) (codes "10 GOTO 10") [] ≡ success (codes "RUN none LIMIT 5 0\n\n")
-  pub limit_between : reply_to (limited 1 all) (codes "10 A=RND(2);B=RND(2)") [] ≡ success (codes "RUN 1 LIMIT 1 0\n\nRUN 2 LIMIT 1 0\n\n")
-  pub rolled_input : reply_to all (codes "10 INPUT A;PRINT A") (one_line (codes "RND(2)")) ≡ success (codes "RUN 1 END 2 16\nA:RND(2)\n     1\n\nRUN 2 END 2 16\nA:RND(2)\n     2\n\n")
+  pub limit_between : reply_to (limited 1 all) (codes "10 A=RND(2);B=RND(2)") [] ≡ success
+      (codes "RUN 1 LIMIT 1 0\n\nRUN 2 LIMIT 1 0\n\n")
+  pub rolled_input : reply_to all (codes "10 INPUT A;PRINT A") (one_line (codes "RND(2)")) ≡ success
+      (codes "RUN 1 END 2 16\nA:RND(2)\n     1\n\nRUN 2 END 2 16\nA:RND(2)\n     2\n\n")
   pub no_input : reply_to all (codes "10 INPUT A") [] ≡ success (codes "RUN none NOINPUT 1 2\nA:\n")
   pub index_asked_again : reply_to all (codes "10 INPUT @(RND(2))") (text (codes ")" ∷ codes "5" ∷ [])) ≡ success (
-      codes "RUN 1,1 END 1 30\n@(RND(2)):)\nWHAT?\n@(RND(2)):5\n\n" ++ codes "RUN 1,2 END 1 30\n@(RND(2)):)\nWHAT?\n@(RND(2)):5\n\n"
-      ++ codes "RUN 2,1 END 1 30\n@(RND(2)):)\nWHAT?\n@(RND(2)):5\n\n" ++ codes "RUN 2,2 END 1 30\n@(RND(2)):)\nWHAT?\n@(RND(2)):5\n\n")
-  pub endless_calls : reply_to all (codes "10 GOSUB 10") [] ≡ success (codes "RUN none SORRY 257 19\nSORRY\n10 GOSUB 10?\n\n")
+      codes "RUN 1,1 END 1 30\n@(RND(2)):)\nWHAT?\n@(RND(2)):5\n\n"
+      ++ codes "RUN 1,2 END 1 30\n@(RND(2)):)\nWHAT?\n@(RND(2)):5\n\n"
+      ++ codes "RUN 2,1 END 1 30\n@(RND(2)):)\nWHAT?\n@(RND(2)):5\n\n"
+      ++ codes "RUN 2,2 END 1 30\n@(RND(2)):)\nWHAT?\n@(RND(2)):5\n\n")
+  pub endless_calls : reply_to all (codes "10 GOSUB 10") [] ≡ success
+      (codes "RUN none SORRY 257 19\nSORRY\n10 GOSUB 10?\n\n")
   pub only_answer : reply_to all (codes "10 A=RND(1)") [] ≡ success (codes "RUN 1 END 1 0\n\n")
   pub end_at_limit : reply_to (limited 1 all) (codes "10 P.1") [] ≡ success (codes "RUN none END 1 7\n     1\n\n")
-  pub calls_in_loops : reply_to all (codes "10 F.I=1TO1;GOS.10") [] ≡ success (codes "RUN none SORRY 257 26\nSORRY\n10 F.I=1TO1?;GOS.10\n\n")
+  pub calls_in_loops : reply_to all (codes "10 F.I=1TO1;GOS.10") [] ≡ success
+      (codes "RUN none SORRY 257 26\nSORRY\n10 F.I=1TO1?;GOS.10\n\n")
 
 -- the runs behind one of them, and the first of them
 pub record AfterRows : Type 0 where
-  pub first_two : reply_to (all_from None (Some 2)) (codes "10 PRINT RND(2)*RND(2)") [] ≡ success (codes "RUN 1,1 END 1 7\n     1\n\nRUN 1,2 END 1 7\n     2\n\n")
-  pub two_after : reply_to (all_from (Some (pos 1 ∷ pos 1 ∷ [])) (Some 2)) (codes "10 PRINT RND(2)*RND(2)") [] ≡ success (codes "RUN 1,2 END 1 7\n     2\n\nRUN 2,1 END 1 7\n     2\n\n")
-  pub after_second : reply_to (behind (pos 2 ∷ pos 1 ∷ [])) (codes "10 A=RND(2);IF A=2 B=RND(3);PRINT B") [] ≡ success (codes "RUN 2,2 END 4 7\n     2\n\nRUN 2,3 END 4 7\n     3\n\n")
+  pub first_two : reply_to (all_from None (Some 2)) (codes "10 PRINT RND(2)*RND(2)") [] ≡ success
+      (codes "RUN 1,1 END 1 7\n     1\n\nRUN 1,2 END 1 7\n     2\n\n")
+  pub two_after : reply_to (all_from (Some (pos 1 ∷ pos 1 ∷ [])) (Some 2)) (codes "10 PRINT RND(2)*RND(2)") [] ≡ success
+      (codes "RUN 1,2 END 1 7\n     2\n\nRUN 2,1 END 1 7\n     2\n\n")
+  pub after_second : reply_to (behind (pos 2 ∷ pos 1 ∷ [])) (codes "10 A=RND(2);IF A=2 B=RND(3);PRINT B") [] ≡ success
+      (codes "RUN 2,2 END 4 7\n     2\n\nRUN 2,3 END 4 7\n     3\n\n")
   pub after_last : reply_to (behind (pos 2 ∷ pos 3 ∷ [])) (codes "10 A=RND(2);IF A=2 B=RND(3);PRINT B") [] ≡ success []
-  pub beginning_of_run : reply_to (behind (pos 2 ∷ [])) (codes "10 A=RND(2);IF A=2 B=RND(3);PRINT B") [] ≡ refusal notes.NoRun
-  pub outside : reply_to (behind (pos 2 ∷ pos 4 ∷ [])) (codes "10 A=RND(2);IF A=2 B=RND(3);PRINT B") [] ≡ refusal notes.NoRun
-  pub too_long : reply_to (behind (pos 2 ∷ pos 1 ∷ pos 1 ∷ [])) (codes "10 A=RND(2);IF A=2 B=RND(3);PRINT B") [] ≡ refusal notes.NoRun
-  pub after_shorter : reply_to (behind (pos 1 ∷ [])) (codes "10 A=RND(2);IF A=2 B=RND(3);PRINT B") [] ≡ success (codes "RUN 2,1 END 4 7\n     1\n\nRUN 2,2 END 4 7\n     2\n\nRUN 2,3 END 4 7\n     3\n\n")
+  pub beginning_of_run : reply_to (behind (pos 2 ∷ []))
+      (codes "10 A=RND(2);IF A=2 B=RND(3);PRINT B") [] ≡ refusal notes.NoRun
+  pub outside : reply_to (behind (pos 2 ∷ pos 4 ∷ []))
+      (codes "10 A=RND(2);IF A=2 B=RND(3);PRINT B") [] ≡ refusal notes.NoRun
+  pub too_long : reply_to (behind (pos 2 ∷ pos 1 ∷ pos 1 ∷ []))
+      (codes "10 A=RND(2);IF A=2 B=RND(3);PRINT B") [] ≡ refusal notes.NoRun
+  pub after_shorter : reply_to (behind (pos 1 ∷ [])) (codes "10 A=RND(2);IF A=2 B=RND(3);PRINT B") [] ≡ success
+      (codes "RUN 2,1 END 4 7\n     1\n\nRUN 2,2 END 4 7\n     2\n\nRUN 2,3 END 4 7\n     3\n\n")
   pub greatest : reply_to (behind (pos 32767 ∷ [])) (codes "10 P.RND(2)") [] ≡ refusal notes.NoRun
   pub after_only : reply_to (behind []) [] [] ≡ success []
   pub empty_list : reply_to (behind []) (codes "10 P.RND(2)") [] ≡ refusal notes.NoRun
-  pub fewer_left : reply_to (all_from (Some (pos 1 ∷ [])) (Some 5)) (codes "10 P.RND(2)") [] ≡ success (codes "RUN 2 END 1 7\n     2\n\n")
+  pub fewer_left : reply_to (all_from (Some (pos 1 ∷ [])) (Some 5)) (codes "10 P.RND(2)") [] ≡ success
+      (codes "RUN 2 END 1 7\n     2\n\n")
 
 -- all runs of a program, each answer with its bound
 abbrev pub bounds_later : List Marked → Request
@@ -282,52 +388,88 @@ bounds_later list = all_in Two (Some list) None
 -- reports with bounds, and lists to go on behind in which bounds stand
 pub record BoundRows : Type 0 where
   pub roll_after_if : reply_to (all_in Two None None) (codes "10 A=RND(2);IF A=2 B=RND(3);PRINT B") [] ≡ success (
-      codes "RUN 1/2 END 2 0\n\nRUN 2/2,1/3 END 4 7\n     1\n\n" ++ codes "RUN 2/2,2/3 END 4 7\n     2\n\nRUN 2/2,3/3 END 4 7\n     3\n\n")
-  pub after_bound : reply_to (bounds_later (with_bound (pos 2) (pos 2) ∷ without_bound (pos 1) ∷ [])) (codes "10 A=RND(2);IF A=2 B=RND(3);PRINT B") [] ≡ success (codes "RUN 2/2,2/3 END 4 7\n     2\n\nRUN 2/2,3/3 END 4 7\n     3\n\n")
-  pub other_bound : reply_to (bounds_later (with_bound (pos 2) (pos 3) ∷ with_bound (pos 1) (pos 3) ∷ [])) (codes "10 A=RND(2);IF A=2 B=RND(3);PRINT B") [] ≡ refusal notes.NoRun
-  pub bound_of_last : reply_to (bounds_later (with_bound (pos 2) (pos 2) ∷ with_bound (pos 1) (pos 2) ∷ [])) (codes "10 A=RND(2);IF A=2 B=RND(3);PRINT B") [] ≡ refusal notes.NoRun
-  pub beginning_of_run : reply_to (bounds_later (with_bound (pos 2) (pos 2) ∷ [])) (codes "10 A=RND(2);IF A=2 B=RND(3);PRINT B") [] ≡ refusal notes.NoRun
-  pub bounds_and_form_1 : reply_to (all_in One (Some (with_bound (pos 1) (pos 2) ∷ [])) None) (codes "10 P.RND(2)") [] ≡ success (codes "RUN 2 END 1 7\n     2\n\n")
+      codes "RUN 1/2 END 2 0\n\nRUN 2/2,1/3 END 4 7\n     1\n\n"
+      ++ codes "RUN 2/2,2/3 END 4 7\n     2\n\nRUN 2/2,3/3 END 4 7\n     3\n\n")
+  pub after_bound : reply_to (bounds_later (with_bound (pos 2) (pos 2) ∷ without_bound (pos 1) ∷ []))
+      (codes "10 A=RND(2);IF A=2 B=RND(3);PRINT B") [] ≡ success
+      (codes "RUN 2/2,2/3 END 4 7\n     2\n\nRUN 2/2,3/3 END 4 7\n     3\n\n")
+  pub other_bound : reply_to (bounds_later (with_bound (pos 2) (pos 3) ∷ with_bound (pos 1) (pos 3) ∷ []))
+      (codes "10 A=RND(2);IF A=2 B=RND(3);PRINT B") [] ≡ refusal notes.NoRun
+  pub bound_of_last : reply_to (bounds_later (with_bound (pos 2) (pos 2) ∷ with_bound (pos 1) (pos 2) ∷ []))
+      (codes "10 A=RND(2);IF A=2 B=RND(3);PRINT B") [] ≡ refusal notes.NoRun
+  pub beginning_of_run : reply_to (bounds_later (with_bound (pos 2) (pos 2) ∷ []))
+      (codes "10 A=RND(2);IF A=2 B=RND(3);PRINT B") [] ≡ refusal notes.NoRun
+  pub bounds_and_form_1 : reply_to (all_in One (Some (with_bound (pos 1) (pos 2) ∷ [])) None)
+      (codes "10 P.RND(2)") [] ≡ success (codes "RUN 2 END 1 7\n     2\n\n")
   pub no_answers : reply_to (all_in Two None None) [] [] ≡ success (codes "RUN none END 0 0\n\n")
   pub only_answer : reply_to (all_in Two None None) (codes "10 A=RND(1)") [] ≡ success (codes "RUN 1/1 END 1 0\n\n")
   pub after_none : reply_to (bounds_later []) [] [] ≡ success []
 
 -- runs that a seed draws, one after the other
 pub record SampleRows : Type 0 where
-  pub rolls : reply_to (sampling 7 3 Two) (codes "10 P.RND(6)") [] ≡ success (codes "RUN 3/6 END 1 7\n     3\n\n" ++ codes "RUN 5/6 END 1 7\n     5\n\n" ++ codes "RUN 5/6 END 1 7\n     5\n\n")
+  pub rolls : reply_to (sampling 7 3 Two) (codes "10 P.RND(6)") [] ≡ success
+      (codes "RUN 3/6 END 1 7\n     3\n\n" ++ codes "RUN 5/6 END 1 7\n     5\n\n"
+      ++ codes "RUN 5/6 END 1 7\n     5\n\n")
   pub form_1 : reply_to (sampling 7 1 One) (codes "10 P.RND(6)") [] ≡ success (codes "RUN 3 END 1 7\n     3\n\n")
   pub other_seed : reply_to (sampling 0 1 Two) (codes "10 P.RND(6)") [] ≡ success (codes "RUN 6/6 END 1 7\n     6\n\n")
-  pub once_and_twice : reply_to (sampling 7 4 Two) (codes "10 A=RND(2);IF A=2 B=RND(3);PRINT B") [] ≡ success (codes "RUN 1/2 END 2 0\n\n" ++ codes "RUN 1/2 END 2 0\n\n" ++ codes "RUN 1/2 END 2 0\n\n" ++ codes "RUN 2/2,1/3 END 4 7\n     1\n\n")
+  pub once_and_twice : reply_to (sampling 7 4 Two) (codes "10 A=RND(2);IF A=2 B=RND(3);PRINT B") [] ≡ success
+      (codes "RUN 1/2 END 2 0\n\n" ++ codes "RUN 1/2 END 2 0\n\n" ++ codes "RUN 1/2 END 2 0\n\n"
+      ++ codes "RUN 2/2,1/3 END 4 7\n     1\n\n")
   -- each run begins with the first line
-  pub same_lines : reply_to (sampling 7 2 One) (codes "10 INPUT A") (text (codes "RND(6)" ∷ codes "5" ∷ [])) ≡ success (codes "RUN 3 END 1 9\nA:RND(6)\n\n" ++ codes "RUN 5 END 1 9\nA:RND(6)\n\n")
-  pub instead_of_lines : reply_to (choosing (pos 6) (le_z_yes tt) (sampling 7 1 Two)) (codes "10 INPUT A") [] ≡ success (codes "RUN 3/6 END 1 4\nA:3\n\n")
+  pub same_lines : reply_to (sampling 7 2 One) (codes "10 INPUT A") (text (codes "RND(6)" ∷ codes "5" ∷ [])) ≡ success
+      (codes "RUN 3 END 1 9\nA:RND(6)\n\n" ++ codes "RUN 5 END 1 9\nA:RND(6)\n\n")
+  pub instead_of_lines : reply_to (choosing (pos 6) (le_z_yes tt) (sampling 7 1 Two)) (codes "10 INPUT A") [] ≡ success
+      (codes "RUN 3/6 END 1 4\nA:3\n\n")
   pub no_input : reply_to (sampling 7 1 Two) (codes "10 INPUT A") [] ≡ success (codes "RUN none NOINPUT 1 2\nA:\n")
-  pub limit : reply_to (limited 3 (sampling 7 1 Two)) (codes "10 A=RND(2);GOTO 10") [] ≡ success (codes "RUN 1/2,1/2 LIMIT 3 0\n\n")
-  pub no_question : reply_to (sampling 7 2 Two) [] [] ≡ success (codes "RUN none END 0 0\n\n" ++ codes "RUN none END 0 0\n\n")
+  pub limit : reply_to (limited 3 (sampling 7 1 Two)) (codes "10 A=RND(2);GOTO 10") [] ≡ success
+      (codes "RUN 1/2,1/2 LIMIT 3 0\n\n")
+  pub no_question : reply_to (sampling 7 2 Two) [] [] ≡ success
+      (codes "RUN none END 0 0\n\n" ++ codes "RUN none END 0 0\n\n")
   pub refused : reply_to (sampling 7 3 Two) (codes "0 P.") [] ≡ refusal (notes.Load 1 NoNumber)
 
 -- the runs that begin with these answers, or the first n of those behind one of them
 abbrev pub under : List Marked → Option (List Marked) → Option ℕ → Request
-under list after first = record { rules = default_rules; memory = default_memory; mode = modes.All (Some list) after first Two; in_range = default_size }
+under list after first = record {
+  rules = default_rules;
+  memory = default_memory;
+  mode = modes.All (Some list) after first Two;
+  in_range = default_size;
+}
 
 abbrev pub answers : List ℤ → List Marked
 answers list = unmarked list
 
 -- shares of a tree
 pub record ShareRows : Type 0 where
-  pub second_answer : reply_to (under (answers (pos 2 ∷ [])) None None) (codes "10 A=RND(2);IF A=2 B=RND(3);PRINT B") [] ≡ success (codes "RUN 2/2,1/3 END 4 7\n     1\n\n" ++ codes "RUN 2/2,2/3 END 4 7\n     2\n\n" ++ codes "RUN 2/2,3/3 END 4 7\n     3\n\n")
-  pub first_of_share : reply_to (under (answers (pos 2 ∷ [])) None (Some 1)) (codes "10 A=RND(2);IF A=2 B=RND(3);PRINT B") [] ≡ success (codes "RUN 2/2,1/3 END 4 7\n     1\n\n")
-  pub after_one : reply_to (under (answers (pos 2 ∷ [])) (Some (answers (pos 2 ∷ pos 1 ∷ []))) None) (codes "10 A=RND(2);IF A=2 B=RND(3);PRINT B") [] ≡ success (codes "RUN 2/2,2/3 END 4 7\n     2\n\n" ++ codes "RUN 2/2,3/3 END 4 7\n     3\n\n")
-  pub run_alone : reply_to (under (answers (pos 2 ∷ pos 3 ∷ [])) None None) (codes "10 A=RND(2);IF A=2 B=RND(3);PRINT B") [] ≡ success (codes "RUN 2/2,3/3 END 4 7\n     3\n\n")
-  pub first_answer : reply_to (under (answers (pos 1 ∷ [])) None None) (codes "10 A=RND(2);IF A=2 B=RND(3);PRINT B") [] ≡ success (codes "RUN 1/2 END 2 0\n\n")
-  pub with_bounds : reply_to (under (with_bound (pos 2) (pos 2) ∷ with_bound (pos 1) (pos 3) ∷ []) None None) (codes "10 A=RND(2);IF A=2 B=RND(3);PRINT B") [] ≡ success (codes "RUN 2/2,1/3 END 4 7\n     1\n\n")
-  pub whole : reply_to (under [] None None) (codes "10 A=RND(2);IF A=2 B=RND(3);PRINT B") [] ≡ success (codes "RUN 1/2 END 2 0\n\n" ++ codes "RUN 2/2,1/3 END 4 7\n     1\n\n" ++ codes "RUN 2/2,2/3 END 4 7\n     2\n\n" ++ codes "RUN 2/2,3/3 END 4 7\n     3\n\n")
-  pub too_long : reply_to (under (answers (pos 1 ∷ pos 1 ∷ [])) None None) (codes "10 A=RND(2);IF A=2 B=RND(3);PRINT B") [] ≡ refusal notes.NoBeginning
-  pub outside : reply_to (under (answers (pos 3 ∷ [])) None None) (codes "10 A=RND(2);IF A=2 B=RND(3);PRINT B") [] ≡ refusal notes.NoBeginning
-  pub other_bound : reply_to (under (with_bound (pos 2) (pos 3) ∷ []) None None) (codes "10 A=RND(2);IF A=2 B=RND(3);PRINT B") [] ≡ refusal notes.NoBeginning
-  pub after_another : reply_to (under (answers (pos 2 ∷ [])) (Some (answers (pos 1 ∷ []))) None) (codes "10 A=RND(2);IF A=2 B=RND(3);PRINT B") [] ≡ refusal notes.NoRun
+  pub second_answer : reply_to (under (answers (pos 2 ∷ [])) None None)
+      (codes "10 A=RND(2);IF A=2 B=RND(3);PRINT B") [] ≡ success
+      (codes "RUN 2/2,1/3 END 4 7\n     1\n\n" ++ codes "RUN 2/2,2/3 END 4 7\n     2\n\n"
+      ++ codes "RUN 2/2,3/3 END 4 7\n     3\n\n")
+  pub first_of_share : reply_to (under (answers (pos 2 ∷ [])) None (Some 1))
+      (codes "10 A=RND(2);IF A=2 B=RND(3);PRINT B") [] ≡ success (codes "RUN 2/2,1/3 END 4 7\n     1\n\n")
+  pub after_one : reply_to (under (answers (pos 2 ∷ [])) (Some (answers (pos 2 ∷ pos 1 ∷ []))) None)
+      (codes "10 A=RND(2);IF A=2 B=RND(3);PRINT B") [] ≡ success
+      (codes "RUN 2/2,2/3 END 4 7\n     2\n\n" ++ codes "RUN 2/2,3/3 END 4 7\n     3\n\n")
+  pub run_alone : reply_to (under (answers (pos 2 ∷ pos 3 ∷ [])) None None)
+      (codes "10 A=RND(2);IF A=2 B=RND(3);PRINT B") [] ≡ success (codes "RUN 2/2,3/3 END 4 7\n     3\n\n")
+  pub first_answer : reply_to (under (answers (pos 1 ∷ [])) None None)
+      (codes "10 A=RND(2);IF A=2 B=RND(3);PRINT B") [] ≡ success (codes "RUN 1/2 END 2 0\n\n")
+  pub with_bounds : reply_to (under (with_bound (pos 2) (pos 2) ∷ with_bound (pos 1) (pos 3) ∷ []) None None)
+      (codes "10 A=RND(2);IF A=2 B=RND(3);PRINT B") [] ≡ success (codes "RUN 2/2,1/3 END 4 7\n     1\n\n")
+  pub whole : reply_to (under [] None None) (codes "10 A=RND(2);IF A=2 B=RND(3);PRINT B") [] ≡ success
+      (codes "RUN 1/2 END 2 0\n\n" ++ codes "RUN 2/2,1/3 END 4 7\n     1\n\n" ++ codes "RUN 2/2,2/3 END 4 7\n     2\n\n"
+      ++ codes "RUN 2/2,3/3 END 4 7\n     3\n\n")
+  pub too_long : reply_to (under (answers (pos 1 ∷ pos 1 ∷ [])) None None)
+      (codes "10 A=RND(2);IF A=2 B=RND(3);PRINT B") [] ≡ refusal notes.NoBeginning
+  pub outside : reply_to (under (answers (pos 3 ∷ [])) None None)
+      (codes "10 A=RND(2);IF A=2 B=RND(3);PRINT B") [] ≡ refusal notes.NoBeginning
+  pub other_bound : reply_to (under (with_bound (pos 2) (pos 3) ∷ []) None None)
+      (codes "10 A=RND(2);IF A=2 B=RND(3);PRINT B") [] ≡ refusal notes.NoBeginning
+  pub after_another : reply_to (under (answers (pos 2 ∷ [])) (Some (answers (pos 1 ∷ []))) None)
+      (codes "10 A=RND(2);IF A=2 B=RND(3);PRINT B") [] ≡ refusal notes.NoRun
   -- the beginning is looked at first
-  pub neither : reply_to (under (answers (pos 3 ∷ [])) (Some (answers (pos 9 ∷ []))) None) (codes "10 A=RND(2);IF A=2 B=RND(3);PRINT B") [] ≡ refusal notes.NoBeginning
+  pub neither : reply_to (under (answers (pos 3 ∷ [])) (Some (answers (pos 9 ∷ []))) None)
+      (codes "10 A=RND(2);IF A=2 B=RND(3);PRINT B") [] ≡ refusal notes.NoBeginning
   pub empty_program : reply_to (under [] None None) [] [] ≡ success (codes "RUN none END 0 0\n\n")
 
 pub record RefusalRows : Type 0 where
@@ -344,9 +486,13 @@ pub record RefusalRows : Type 0 where
   pub second_line : reply_to list (text (codes "10 P.1" ∷ codes "P.2" ∷ [])) [] ≡ refusal (notes.Load 2 NoNumber)
 
 pub record ListingRows : Type 0 where
-  pub listing : reply_to list (text (codes "10 P.1" ∷ codes "20 P.2" ∷ (codes "010" ++ 9 ∷ codes "P.3" ++ 13 ∷ []) ∷ codes "20" ∷ [])) [] ≡ success (one_line (codes "10 P.3"))
+  pub listing : reply_to list
+      (text (codes "10 P.1" ∷ codes "20 P.2" ∷ (codes "010" ++ 9 ∷ codes "P.3" ++ 13 ∷ []) ∷ codes "20" ∷ [])) []
+      ≡ success
+      (one_line (codes "10 P.3"))
   pub empty : reply_to list [] [] ≡ success []
-  pub line_order : reply_to list (text (codes "20 P.2" ∷ codes "5 P.1" ∷ [])) [] ≡ success (text (codes "5 P.1" ∷ codes "20 P.2" ∷ []))
+  pub line_order : reply_to list (text (codes "20 P.2" ∷ codes "5 P.1" ∷ [])) [] ≡ success
+      (text (codes "5 P.1" ∷ codes "20 P.2" ∷ []))
 
 -- ---- the command line
 
@@ -369,41 +515,68 @@ pub record ClashRows : Type 0 where
   pub answers_listing : clash (options (codes "--list" ∷ codes "--answers" ∷ codes "none" ∷ [])) ≡ Some ListWithOther
   pub first_listing : clash (options (codes "--list" ∷ codes "--first" ∷ codes "3" ∷ [])) ≡ Some ListWithOther
   pub after_alone : clash (options (codes "--after" ∷ codes "0" ∷ [])) ≡ Some AfterWithoutAll
-  pub after_and_first : clash (options (codes "--first" ∷ codes "3" ∷ codes "--after" ∷ codes "0" ∷ [])) ≡ Some AfterWithoutAll
+  pub after_and_first : clash
+      (options (codes "--first" ∷ codes "3" ∷ codes "--after" ∷ codes "0" ∷ [])) ≡ Some AfterWithoutAll
   pub first_alone : clash (options (codes "--first=3" ∷ [])) ≡ Some FirstWithoutAll
   pub form_alone : clash (options (codes "--form" ∷ codes "1" ∷ [])) ≡ Some FormWithoutAll
-  pub form_and_first : clash (options (codes "--form" ∷ codes "1" ∷ codes "--first" ∷ codes "3" ∷ [])) ≡ Some FirstWithoutAll
-  pub form_and_seed : clash (options (codes "--form=2" ∷ codes "--seed" ∷ codes "7" ∷ codes "--answers" ∷ codes "1" ∷ [])) ≡ Some FormWithoutAll
+  pub form_and_first : clash
+      (options (codes "--form" ∷ codes "1" ∷ codes "--first" ∷ codes "3" ∷ [])) ≡ Some FirstWithoutAll
+  pub form_and_seed : clash
+      (options (codes "--form=2" ∷ codes "--seed" ∷ codes "7" ∷ codes "--answers" ∷ codes "1" ∷ []))
+      ≡ Some FormWithoutAll
   pub form_listing : clash (options (codes "--form" ∷ codes "2" ∷ codes "--list" ∷ [])) ≡ Some ListWithOther
   pub form_and_all : clash (options (codes "--form" ∷ codes "1" ∷ codes "--all" ∷ [])) ≡ None
   pub under_alone : clash (options (codes "--under" ∷ codes "2" ∷ [])) ≡ Some UnderWithoutAll
   pub under_and_form : clash (options (codes "--under=2" ∷ codes "--form=1" ∷ [])) ≡ Some FormWithoutAll
-  pub under_and_answers : clash (options (codes "--answers" ∷ codes "1" ∷ codes "--under" ∷ codes "2" ∷ codes "--seed=7" ∷ [])) ≡ Some UnderWithoutAll
+  pub under_and_answers : clash
+      (options (codes "--answers" ∷ codes "1" ∷ codes "--under" ∷ codes "2" ∷ codes "--seed=7" ∷ []))
+      ≡ Some UnderWithoutAll
   pub under_listing : clash (options (codes "--under" ∷ codes "2" ∷ codes "--list" ∷ [])) ≡ Some ListWithOther
-  pub under_and_all : clash (options (codes "--all" ∷ codes "--under" ∷ codes "2" ∷ codes "--after" ∷ codes "2,1" ∷ [])) ≡ None
+  pub under_and_all : clash
+      (options (codes "--all" ∷ codes "--under" ∷ codes "2" ∷ codes "--after" ∷ codes "2,1" ∷ [])) ≡ None
   pub shares_alone : clash (options (codes "--shares" ∷ codes "2" ∷ [])) ≡ Some SharesWithoutAll
-  pub shares_and_sample : clash (options (codes "--sample=3" ∷ codes "--shares" ∷ codes "2" ∷ [])) ≡ Some SharesWithoutAll
-  pub shares_and_form : clash (options (codes "--shares" ∷ codes "2" ∷ codes "--form" ∷ codes "1" ∷ [])) ≡ Some FormWithoutAll
+  pub shares_and_sample : clash
+      (options (codes "--sample=3" ∷ codes "--shares" ∷ codes "2" ∷ [])) ≡ Some SharesWithoutAll
+  pub shares_and_form : clash
+      (options (codes "--shares" ∷ codes "2" ∷ codes "--form" ∷ codes "1" ∷ [])) ≡ Some FormWithoutAll
   pub shares_and_under : clash (options (codes "--shares=2" ∷ codes "--under" ∷ codes "1" ∷ [])) ≡ Some UnderWithoutAll
-  pub shares_beside_after : clash (options (codes "--all" ∷ codes "--shares" ∷ codes "2" ∷ codes "--after" ∷ codes "1" ∷ [])) ≡ Some SharesWithOther
-  pub shares_beside_first : clash (options (codes "--first=3" ∷ codes "--all" ∷ codes "--shares" ∷ codes "2" ∷ [])) ≡ Some SharesWithOther
-  pub shares_beside_under : clash (options (codes "--all" ∷ codes "--under" ∷ codes "2" ∷ codes "--shares=2" ∷ codes "--answers" ∷ codes "1" ∷ [])) ≡ Some SharesWithOther
+  pub shares_beside_after : clash
+      (options (codes "--all" ∷ codes "--shares" ∷ codes "2" ∷ codes "--after" ∷ codes "1" ∷ [])) ≡ Some SharesWithOther
+  pub shares_beside_first : clash
+      (options (codes "--first=3" ∷ codes "--all" ∷ codes "--shares" ∷ codes "2" ∷ [])) ≡ Some SharesWithOther
+  pub shares_beside_under : clash
+      (options (codes "--all" ∷ codes "--under" ∷ codes "2" ∷ codes "--shares=2" ∷ codes "--answers" ∷ codes "1" ∷ []))
+      ≡ Some SharesWithOther
   pub shares_listing : clash (options (codes "--list" ∷ codes "--shares" ∷ codes "2" ∷ [])) ≡ Some ListWithOther
-  pub shares_and_answers : clash (options (codes "--all" ∷ codes "--shares" ∷ codes "2" ∷ codes "--answers" ∷ codes "none" ∷ [])) ≡ Some AnswersWithAll
-  pub shares_and_all : clash (options (codes "--all" ∷ codes "--shares" ∷ codes "2" ∷ codes "--form" ∷ codes "1" ∷ codes "--choose=2" ∷ [])) ≡ None
+  pub shares_and_answers : clash
+      (options (codes "--all" ∷ codes "--shares" ∷ codes "2" ∷ codes "--answers" ∷ codes "none" ∷ []))
+      ≡ Some AnswersWithAll
+  pub shares_and_all : clash
+      (options (codes "--all" ∷ codes "--shares" ∷ codes "2" ∷ codes "--form" ∷ codes "1" ∷ codes "--choose=2" ∷ []))
+      ≡ None
   pub sample_alone : clash (options (codes "--sample" ∷ codes "3" ∷ [])) ≡ Some SampleWithoutSeed
-  pub sample_and_shares : clash (options (codes "--all" ∷ codes "--shares" ∷ codes "2" ∷ codes "--sample" ∷ codes "3" ∷ codes "--answers" ∷ codes "1" ∷ [])) ≡ Some SampleWithoutSeed
-  pub sample_and_after : clash (options (codes "--sample=3" ∷ codes "--seed=7" ∷ codes "--after" ∷ codes "1" ∷ [])) ≡ Some AfterWithoutAll
-  pub sample_and_all : clash (options (codes "--all" ∷ codes "--seed" ∷ codes "7" ∷ codes "--sample" ∷ codes "3" ∷ [])) ≡ Some SeedWithAll
-  pub sample_and_answers : clash (options (codes "--seed" ∷ codes "7" ∷ codes "--sample" ∷ codes "3" ∷ codes "--answers" ∷ codes "1" ∷ [])) ≡ Some SeedWithAnswers
+  pub sample_and_shares : clash
+      (options (codes "--all" ∷ codes "--shares" ∷ codes "2" ∷ codes "--sample" ∷ codes "3" ∷ codes "--answers"
+      ∷ codes "1" ∷ [])) ≡ Some SampleWithoutSeed
+  pub sample_and_after : clash
+      (options (codes "--sample=3" ∷ codes "--seed=7" ∷ codes "--after" ∷ codes "1" ∷ [])) ≡ Some AfterWithoutAll
+  pub sample_and_all : clash
+      (options (codes "--all" ∷ codes "--seed" ∷ codes "7" ∷ codes "--sample" ∷ codes "3" ∷ [])) ≡ Some SeedWithAll
+  pub sample_and_answers : clash
+      (options (codes "--seed" ∷ codes "7" ∷ codes "--sample" ∷ codes "3" ∷ codes "--answers" ∷ codes "1" ∷ []))
+      ≡ Some SeedWithAnswers
   pub sample_listing : clash (options (codes "--sample" ∷ codes "3" ∷ codes "--list" ∷ [])) ≡ Some ListWithOther
-  pub sample_and_seed : clash (options (codes "--seed" ∷ codes "7" ∷ codes "--sample" ∷ codes "3" ∷ codes "--form=1" ∷ [])) ≡ None
+  pub sample_and_seed : clash
+      (options (codes "--seed" ∷ codes "7" ∷ codes "--sample" ∷ codes "3" ∷ codes "--form=1" ∷ [])) ≡ None
   pub answers_and_all : clash (options (codes "--all" ∷ codes "--answers" ∷ codes "none" ∷ [])) ≡ Some AnswersWithAll
   pub seed_listing : clash (options (codes "--seed" ∷ codes "7" ∷ codes "--list" ∷ [])) ≡ Some ListWithOther
-  pub seed_and_after : clash (options (codes "--seed" ∷ codes "7" ∷ codes "--after" ∷ codes "0" ∷ [])) ≡ Some AfterWithoutAll
-  pub seed_and_both : clash (options (codes "--seed=7" ∷ codes "--all" ∷ codes "--answers" ∷ codes "1" ∷ [])) ≡ Some AnswersWithAll
+  pub seed_and_after : clash
+      (options (codes "--seed" ∷ codes "7" ∷ codes "--after" ∷ codes "0" ∷ [])) ≡ Some AfterWithoutAll
+  pub seed_and_both : clash
+      (options (codes "--seed=7" ∷ codes "--all" ∷ codes "--answers" ∷ codes "1" ∷ [])) ≡ Some AnswersWithAll
   pub seed_and_all : clash (options (codes "--all" ∷ codes "--seed" ∷ codes "7" ∷ [])) ≡ Some SeedWithAll
-  pub seed_and_answers : clash (options (codes "--answers" ∷ codes "none" ∷ codes "--seed" ∷ codes "7" ∷ [])) ≡ Some SeedWithAnswers
+  pub seed_and_answers : clash
+      (options (codes "--answers" ∷ codes "none" ∷ codes "--seed" ∷ codes "7" ∷ [])) ≡ Some SeedWithAnswers
   pub seed_alone : clash (options (codes "--seed" ∷ codes "7" ∷ codes "--steps" ∷ codes "5" ∷ [])) ≡ None
   pub choice_listing : clash (options (codes "--list" ∷ codes "--choose" ∷ codes "2" ∷ [])) ≡ Some ListWithOther
   pub choice_and_all : clash (options (codes "--choose" ∷ codes "2" ∷ codes "--all" ∷ [])) ≡ None
@@ -418,11 +591,13 @@ pub record ClashRows : Type 0 where
   pub chances_listing : clash (options (codes "--chances" ∷ codes "--list" ∷ [])) ≡ Some ListWithOther
   pub chances_check : clash (options (codes "--check" ∷ codes "--chances" ∷ codes "--all" ∷ [])) ≡ Some CheckWithOther
   pub chances_and_all : clash (options (codes "--chances" ∷ codes "--all" ∷ [])) ≡ Some ChancesWithOther
-  pub chances_and_answers : clash (options (codes "--answers" ∷ codes "x" ∷ codes "--chances" ∷ [])) ≡ Some ChancesWithOther
+  pub chances_and_answers : clash
+      (options (codes "--answers" ∷ codes "x" ∷ codes "--chances" ∷ [])) ≡ Some ChancesWithOther
   pub chances_and_after : clash (options (codes "--chances" ∷ codes "--after" ∷ codes "1" ∷ [])) ≡ Some ChancesWithOther
   pub chances_and_form : clash (options (codes "--form=1" ∷ codes "--chances" ∷ [])) ≡ Some ChancesWithOther
   pub chances_and_sample : clash (options (codes "--chances" ∷ codes "--sample=3" ∷ [])) ≡ Some ChancesWithOther
-  pub chances_alone : clash (options (codes "--chances" ∷ codes "--steps" ∷ codes "5" ∷ codes "--memory=64" ∷ codes "--choose=2" ∷ [])) ≡ None
+  pub chances_alone : clash
+      (options (codes "--chances" ∷ codes "--steps" ∷ codes "5" ∷ codes "--memory=64" ∷ codes "--choose=2" ∷ [])) ≡ None
   pub check_alone : clash (options (codes "--check" ∷ codes "--steps" ∷ codes "5" ∷ codes "--memory=64" ∷ [])) ≡ None
 
 -- texts that write a list of answers, and texts that write none
@@ -448,13 +623,17 @@ pub record OptionRows : Type 0 where
   pub operand : options (codes "game.bas" ∷ []) ≡ no_options
   pub numbers : options (codes "--steps" ∷ codes "5" ∷ codes "--memory=64" ∷ codes "--first" ∷ codes "1000000000" ∷ [])
       ≡ record no_options { steps = Some 5; memory = Some 64; first = Some 1000000000 }
-  pub lists : options (codes "--after" ∷ codes "2,1" ∷ codes "--answers" ∷ [] ∷ []) ≡ record no_options { after = Some (codes "2,1"); answers = Some [] }
+  pub lists : options (codes "--after" ∷ codes "2,1" ∷ codes "--answers" ∷ [] ∷ []) ≡ record no_options
+      { after = Some (codes "2,1"); answers = Some [] }
   pub seed : options (codes "--seed" ∷ codes "4294967295" ∷ []) ≡ record no_options { seed = Some 4294967295 }
   pub choice : options (codes "--choose" ∷ codes "8" ∷ []) ≡ record no_options { choose = Some 8 }
   pub form : options (codes "--all" ∷ codes "--form" ∷ codes "1" ∷ []) ≡ record no_options { all = true; form = Some 1 }
-  pub under : options (codes "--all" ∷ codes "--under" ∷ codes "2/2" ∷ []) ≡ record no_options { all = true; under = Some (codes "2/2") }
-  pub shares : options (codes "--all" ∷ codes "--shares" ∷ codes "64" ∷ []) ≡ record no_options { all = true; shares = Some 64 }
-  pub sample : options (codes "--seed" ∷ codes "7" ∷ codes "--sample=1000000000" ∷ []) ≡ record no_options { seed = Some 7; sample = Some 1000000000 }
+  pub under : options (codes "--all" ∷ codes "--under" ∷ codes "2/2" ∷ []) ≡ record no_options
+      { all = true; under = Some (codes "2/2") }
+  pub shares : options (codes "--all" ∷ codes "--shares" ∷ codes "64" ∷ []) ≡ record no_options
+      { all = true; shares = Some 64 }
+  pub sample : options (codes "--seed" ∷ codes "7" ∷ codes "--sample=1000000000" ∷ []) ≡ record no_options
+      { seed = Some 7; sample = Some 1000000000 }
   pub switches : options (codes "--all" ∷ codes "--list" ∷ []) ≡ record no_options { all = true; list = true }
   pub check : options (codes "--check" ∷ []) ≡ record no_options { check = true }
   pub chances : options (codes "--chances" ∷ []) ≡ record no_options { chances = true }

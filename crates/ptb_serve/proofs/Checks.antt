@@ -19,7 +19,8 @@ use Rattle.ptb_serve.specs.Replies.{check_reply, check_status}
 use Rattle.ptb_serve.proofs.Mismatches.{run_refuses_none, success_refuses_none}
 use Rattle.ptb_serve.proofs.Served.{nothing_told, serves_loaded}
 
-module _ (request : Request) (p : StoredProgram) (memory : p.memory ≡ request.memory) (old new known : Option (List ℕ)) where
+module _ (request : Request) (p : StoredProgram) (memory : p.memory ≡ request.memory)
+    (old new known : Option (List ℕ)) where
   pub mistakes_served : (any : Bool) (n : ℕ) → n ≡ check_status any → WritesMistakes (mistakes p.lines) old new (Ok any)
       → n ≤ 1 → ServesProgram modes.Check request p known known old new (Ok n)
   mistakes_served any n is written within = record {

@@ -100,7 +100,8 @@ module _ (game : Answers → Outcome Finish (List ℕ)) where
   -- where a run begins with the first list, the second is what is refused
   pub unbegun_at : {T : Type 0} (under : Option (List Marked)) (list : List Marked) (r : Result T OpenFault)
       → is_share game under ≡ true
-      → ((m : Mismatch) → IsErrOf r (NotARun m) → IsMarkedRun game list → begins_with (answers_of list) (answers_under under) ≡ true → ⊥)
+      → ((m : Mismatch) → IsErrOf r (NotARun m) → IsMarkedRun game list
+      → begins_with (answers_of list) (answers_under under) ≡ true → ⊥)
       → ((m : Mismatch) → IsErrOf r (NotARun m) → IsRunMismatch game (items_of under) list m)
       → ((m : Mismatch) → IsErrOf r (NoBeginning m) → ⊥)
       → IfErr r (IsUnbegun game under (Some list))

@@ -66,9 +66,11 @@ fault_beyond faults.Spent result h e = absurd h
 ok_status : (n m : ℕ) (result : Result ℕ Note) → result ≡ Ok n → result ≡ Ok m → n ≡ m
 ok_status n m result e h = let same : Ok n ≡ Ok m = sym e ∙ h in cc
 
-module _ {R : Type 0} (mode : Mode) (request : Request) (p : StoredProgram) (answers : List (List ℕ) → Answers) (input : Reads R)
+module _ {R : Type 0} (mode : Mode) (request : Request) (p : StoredProgram) (answers : List (List ℕ)
+    → Answers) (input : Reads R)
     (known : (c : List ℕ) → IsInput mode input.bytes c → input.bytes ≡ Some c)
-    (same : (lines : List (List ℕ)) → stopping_line p lines request.rules (answers lines) ≡ line_in_mode mode p lines request.rules) where
+    (same : (lines : List (List ℕ)) → stopping_line p lines request.rules (answers lines)
+    ≡ line_in_mode mode p lines request.rules) where
   pub run_line : (ended : Result RunEnd RunFault) (result : Result ℕ Note) → IsRunStatus (ending_alone ended) result
       → IfOk ended (HasLine p request.rules answers input)
       → TellsLine mode request p input.bytes result (line_of ended)
@@ -98,7 +100,8 @@ pub line_loaded : (mode : Mode) (request : Request) (b : List ℕ) (lines : List
     (line : Option ℕ)
     → IsLoaded request.memory b p.lines → p.memory ≡ request.memory
     → line ≡ line_in_mode mode p lines request.rules
-    → IfOk (program_of_text request.memory b) (λ q. line ≡ line_in_mode mode (record { lines = q; memory = request.memory }) lines request.rules)
+    → IfOk (program_of_text request.memory b)
+    (λ q. line ≡ line_in_mode mode (record { lines = q; memory = request.memory }) lines request.rules)
 line_loaded mode request b lines p line h e is =
     let stored : record { lines = p.lines; memory = request.memory } ≡ p = ap (λ m. record p { memory = m }) (sym e) in
     rw (program_of_text-ok request.memory b p.lines h)

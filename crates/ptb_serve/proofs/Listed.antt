@@ -99,30 +99,33 @@ module _ (game : Answers → Outcome Finish (List ℕ)) (under after : Option (L
   pub front_note-loaded : (note : Note) → (note ≡ notes.OutOfMemory) ⊎ (front_note game under after ≡ Some note)
       → IsUnloaded (Some note) → ⊥
   front_note-loaded note (inl e) h = subst (λ m. IsUnloaded (Some m)) e h
-  front_note-loaded note (inr e) h = elim (note_is (is_share game under) (is_front game (answers_under under) after) note e) [
-    | inl b ↦ subst (λ m. IsUnloaded (Some m)) b h
-    | inr b ↦ subst (λ m. IsUnloaded (Some m)) b h
-  ]
+  front_note-loaded note (inr e) h =
+      elim (note_is (is_share game under) (is_front game (answers_under under) after) note e) [
+        | inl b ↦ subst (λ m. IsUnloaded (Some m)) b h
+        | inr b ↦ subst (λ m. IsUnloaded (Some m)) b h
+      ]
 
   -- of a listing that isn't begun a note says nothing else
   pub front_note-other : (note other : Note) → (note ≡ notes.OutOfMemory) ⊎ (front_note game under after ≡ Some note)
       → (other ≡ notes.OutOfMemory → ⊥) → (other ≡ notes.NoBeginning → ⊥) → (other ≡ notes.NoRun → ⊥)
       → IsErrOf {T = ℕ} (Err note) other → ⊥
   front_note-other note other (inl e) memory beginning run h = memory cc
-  front_note-other note other (inr e) memory beginning run h = elim (note_is (is_share game under) (is_front game (answers_under under) after) note e) [
-    | inl b ↦ beginning cc
-    | inr b ↦ run cc
-  ]
+  front_note-other note other (inr e) memory beginning run h =
+      elim (note_is (is_share game under) (is_front game (answers_under under) after) note e) [
+        | inl b ↦ beginning cc
+        | inr b ↦ run cc
+      ]
 
   pub front_note-silent : (first : Option ℕ) (form : Form) (held : Option (List ℕ)) (note : Note)
       → (note ≡ notes.OutOfMemory) ⊎ (front_note game under after ≡ Some note)
       → SilentBy (modes.All under after first form) (Some note) held held
   front_note-silent first form held note (inl e) =
       subst (λ m. SilentBy (modes.All under after first form) (Some m) held held) (sym e) tt
-  front_note-silent first form held note (inr e) = elim (note_is (is_share game under) (is_front game (answers_under under) after) note e) [
-    | inl b ↦ subst (λ m. SilentBy (modes.All under after first form) (Some m) held held) (sym b) (Appends-nil held)
-    | inr b ↦ subst (λ m. SilentBy (modes.All under after first form) (Some m) held held) (sym b) (Appends-nil held)
-  ]
+  front_note-silent first form held note (inr e) =
+      elim (note_is (is_share game under) (is_front game (answers_under under) after) note e) [
+        | inl b ↦ subst (λ m. SilentBy (modes.All under after first form) (Some m) held held) (sym b) (Appends-nil held)
+        | inr b ↦ subst (λ m. SilentBy (modes.All under after first form) (Some m) held held) (sym b) (Appends-nil held)
+      ]
 
 pub reports_note-loaded : (fault : ExploreFault) → IsUnloaded (Some (reports_note fault)) → ⊥
 reports_note-loaded (explores.Memory n) h = h
@@ -195,7 +198,8 @@ module _ (p : StoredProgram) (rules : Rules) (under after : Option (List Marked)
         subst (λ m. Serves (reply input) held held (outcome_of (Err m))) (sym e) (takes_nothing held _)
     serves_unbegun input note (inr e) =
         subst (λ r. Serves r held held (outcome_of (Err note))) (sym (reply-refused input note e))
-        (serves_refused input note (note_is (is_share (game input) under) (is_front (game input) (answers_under under) after) note e))
+        (serves_refused input note
+        (note_is (is_share (game input) under) (is_front (game input) (answers_under under) after) note e))
 
     -- by the bytes of the input, of which the lines are those that were read
     module _ (c : List ℕ) where
@@ -252,7 +256,16 @@ module _ (p : StoredProgram) (rules : Rules) (under after : Option (List Marked)
     -- by the bytes of the input, of which the lines are those that were read, and an explorer that went on from its
     -- front
     module _ (c : List ℕ) (input : List (List ℕ)) (is : input ≡ input_lines c) (e : Exploration) (f : Front)
-        (same : e ≡ record { program = p; input = input; rules = rules; under = answers_under under; front = first_front after; kept = e.kept; played = e.played }) (h : front_note (game input) under after ≡ None) where
+        (same : e ≡ record {
+          program = p;
+          input = input;
+          rules = rules;
+          under = answers_under under;
+          front = first_front
+              after;
+          kept = e.kept;
+          played = e.played;
+        }) (h : front_note (game input) under after ≡ None) where
       abbrev WritesFrom : Exploration → Result ℕ ExploreFault → Type 0
       WritesFrom e result =
           WritesRuns (play_of e) e.under (report form (play_of e))
@@ -294,7 +307,8 @@ on_ok (Ok n) Q q = q
 on_ok (Err note) Q q = tt
 
 -- a mode that says nothing of how much is read, and whose status is 0 or a note's
-module _ (mode : Mode) (no_check : IsCheck mode → ⊥) (request : Request) (p : StoredProgram) (i j old new : Option (List ℕ)) (result : Result ℕ Note) where
+module _ (mode : Mode) (no_check : IsCheck mode → ⊥) (request : Request) (p : StoredProgram)
+    (i j old new : Option (List ℕ)) (result : Result ℕ Note) where
   pub serves_mode :
       ((b c : List ℕ) → IsLoaded request.memory b p.lines → IsInput mode i c
       → Serves (reply_in_mode mode request b c) old new (outcome_of result))
@@ -318,7 +332,8 @@ module _ (mode : Mode) (no_check : IsCheck mode → ⊥) (request : Request) (p 
 
 -- ---- an input that is read to its end
 
-module _ (mode : Mode) (plain : IsPlainRun mode → ⊥) (needs : NeedsInput mode) (i j : Option (List ℕ)) (failed fails gave gives : ℕ) where
+module _ (mode : Mode) (plain : IsPlainRun mode → ⊥) (needs : NeedsInput mode) (i j : Option (List ℕ))
+    (failed fails gave gives : ℕ) where
   -- once its lines were read
   pub whole_reads : (result : Result ℕ Note) → IfSome i (λ c. length c ≤ input_limit)
       → ConsumesAtMost i j (input_limit + 1) → GivesAtMost gave gives (input_limit + 1)
@@ -337,7 +352,8 @@ module _ (mode : Mode) (plain : IsPlainRun mode → ⊥) (needs : NeedsInput mod
   }
 
   -- where they are not
-  module _ {T : Type 0} (fault : ReadFault) (read : IsErrOf {T = T} (Err fault) reads.Read → HasFailed failed fails) where
+  module _ {T : Type 0} (fault : ReadFault) (read : IsErrOf {T = T} (Err fault) reads.Read
+      → HasFailed failed fails) where
     unread_lines : (fault : ReadFault) → (IsErrOf {T = T} (Err fault) reads.Read → HasFailed failed fails)
         → (IsErrOf {T = T} (Err fault) reads.TooLong → IfSome i (λ c. input_limit < length c))
         → IsErrOf {T = ℕ} (Err (input_note fault)) notes.InputUnread → IsUnreadable i failed fails
@@ -373,7 +389,8 @@ module _ (mode : Mode) (plain : IsPlainRun mode → ⊥) (needs : NeedsInput mod
 
 -- ---- a listing of the program's text, which leaves the input alone
 
-module _ (request : Request) (p : StoredProgram) (memory : p.memory ≡ request.memory) (i : Option (List ℕ)) (result : Result ℕ Note) (fine : IsErrOf result notes.InputUnread → ⊥) where
+module _ (request : Request) (p : StoredProgram) (memory : p.memory ≡ request.memory) (i : Option (List ℕ))
+    (result : Result ℕ Note) (fine : IsErrOf result notes.InputUnread → ⊥) where
   pub text_serves : (old new : Option (List ℕ)) → Serves (listing_reply p) old new (outcome_of result)
       → SilentBy modes.List (outcome_of result).note old new
       → OnOk result (result ≡ Ok 0) → (IsUnloaded (outcome_of result).note → ⊥)
@@ -385,7 +402,8 @@ module _ (request : Request) (p : StoredProgram) (memory : p.memory ≡ request.
 
 -- ---- an input that is left alone
 
-pub untouched_reads : (mode : Mode) → (NeedsWholeInput mode → ⊥) → (IsPlainRun mode → ⊥) → (i : Option (List ℕ)) (failed gave : ℕ)
+pub untouched_reads : (mode : Mode) → (NeedsWholeInput mode → ⊥) → (IsPlainRun mode → ⊥)
+    → (i : Option (List ℕ)) (failed gave : ℕ)
     (result : Result ℕ Note) → (IsErrOf result notes.InputUnread → ⊥) → (RefusesListIn result → ⊥)
     → ReadsInput mode i i failed failed gave gave result
 untouched_reads mode part plain i failed gave result fine no_list = record {

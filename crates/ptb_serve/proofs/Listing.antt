@@ -33,7 +33,8 @@ use Rattle.ptb_serve.proofs.Served.{at_known, lists_loaded, nothing_told, serves
 use Rattle.ptb_serve.proofs.WholeInput.{IsDue, TellsWriter, all_due, all_written, cut_due}
 use Rattle.ptb_serve.proofs.WholeInput.{cut_silent, reports_cut, unread_due}
 
-module _ (request : Request) (p : StoredProgram) (memory : p.memory ≡ request.memory) (under after : Option (List Marked)) (first : Option ℕ) (form : Form) where
+module _ (request : Request) (p : StoredProgram) (memory : p.memory ≡ request.memory)
+    (under after : Option (List Marked)) (first : Option ℕ) (form : Form) where
   abbrev listing : Mode
   listing = modes.All under after first form
 
@@ -46,7 +47,8 @@ module _ (request : Request) (p : StoredProgram) (memory : p.memory ≡ request.
         → ServesProgram listing request p i j old new result
     listing_serves old new result due =
         serves_mode listing (λ x. x) request p i j old new result
-        (λ b c l is. serves_loaded request.memory (Some b) (runs_due request.rules under after first form c) p old new result l memory (due.served c is))
+        (λ b c l is. serves_loaded request.memory (Some b) (runs_due request.rules under after first form c) p old new
+        result l memory (due.served c is))
         (λ b. nothing_told i) (λ b. due.unread)
         (λ b c l is h. lists_loaded request b c p under after first form old new l memory (due.stopped c is h))
         due.quiet due.success due.loaded
@@ -56,7 +58,8 @@ module _ (request : Request) (p : StoredProgram) (memory : p.memory ≡ request.
         → ServesProgram listing request p i j held held (Err (input_note fault))
     unread_listed held fault =
         listing_serves held held (Err (input_note fault))
-        (unread_due listing (λ c. runs_due request.rules under after first form c p) (Fewer held held) i held (Appends-nil held) tt fault)
+        (unread_due listing (λ c. runs_due request.rules under after first form c p) (Fewer held held) i held
+        (Appends-nil held) tt fault)
 
     module _ (input : List (List ℕ)) (lines : IfSome i (λ c. input ≡ input_lines c)) where
       unbegun_listed : (held : Option (List ℕ)) (note : Note)
@@ -65,7 +68,8 @@ module _ (request : Request) (p : StoredProgram) (memory : p.memory ≡ request.
       unbegun_listed held note one =
           listing_serves held held (Err note)
           (record {
-            served = λ c is. serves_front p request.rules under after first form held c input (at_known (λ d. input ≡ input_lines d) c is lines) note one;
+            served = λ c is. serves_front p request.rules under after first form held c input
+                (at_known (λ d. input ≡ input_lines d) c is lines) note one;
             quiet = front_note-silent (play p input request.rules) under after first form held note one;
             stopped = λ _ _ _. inl (Appends-nil held);
             unread = λ _. Appends-nil held;
@@ -92,7 +96,8 @@ module _ (request : Request) (p : StoredProgram) (memory : p.memory ≡ request.
           front_note-other (play p input request.rules) under after note notes.InputUnread unbegun (λ x. absurd cc)
           (λ x. absurd cc) (λ x. absurd cc);
       failures = record {
-        unwritten = λ x. absurd (front_note-other (play p input request.rules) under after note notes.Unwritten unbegun (λ x. absurd cc) (λ x. absurd cc) (λ x. absurd cc) x);
+        unwritten = λ x. absurd (front_note-other (play p input request.rules) under after note notes.Unwritten unbegun
+            (λ x. absurd cc) (λ x. absurd cc) (λ x. absurd cc) x);
         written = λ _. refl;
       };
     }
@@ -106,7 +111,15 @@ module _ (request : Request) (p : StoredProgram) (memory : p.memory ≡ request.
 
     -- an explorer went on from its front
     module _ (old new : Option (List ℕ)) (broke breaks : ℕ) (e : Exploration) (f : Front)
-        (same : e ≡ record { program = p; input = input; rules = request.rules; under = answers_under under; front = first_front after; kept = e.kept; played = e.played })
+        (same : e ≡ record {
+          program = p;
+          input = input;
+          rules = request.rules;
+          under = answers_under under;
+          front = first_front after;
+          kept = e.kept;
+          played = e.played;
+        })
         (begun : front_note (play p input request.rules) under after ≡ None) where
       abbrev Writes : Result ℕ ExploreFault → Type 0
       Writes result =
@@ -116,20 +129,27 @@ module _ (request : Request) (p : StoredProgram) (memory : p.memory ≡ request.
       -- some reports are written
       pub listing_broken : {T : Type 0} (result : Result ℕ Note) (fault : ExploreFault)
           → IsErrAnd result (λ n. n ≡ reports_note fault) → Writes (Err fault)
-          → TellsWriter T fault broke breaks → IsServedOn listing request p input (record { before = old; after = new; failed = broke; fails = breaks }) result
+          → TellsWriter T fault broke breaks
+          → IsServedOn listing request p input (record { before = old; after = new; failed = broke; fails = breaks })
+          result
       listing_broken {T = T} result fault is writes =
-          reports_cut listing request p input (record { before = old; after = new; failed = broke; fails = breaks }) {T = T} result fault is
+          reports_cut listing request p input (record { before = old; after = new; failed = broke; fails = breaks })
+          {T = T} result fault is
           (λ i j lines. listing_serves i j old new (Err (reports_note fault))
           (cut_due listing (λ c. runs_due request.rules under after first form c p) (Fewer old new) i old new fault
-          (λ c is. serves_some p request.rules under after first form old new c input (at_known (λ d. input ≡ input_lines d) c is lines) e f same begun fault writes)
+          (λ c is. serves_some p request.rules under after first form old new c input
+          (at_known (λ d. input ≡ input_lines d) c is lines) e f same begun fault writes)
           (cut_silent listing old new tt tt fault)
-          (λ c is. lists_fewer p request.rules under after first form old new c input (at_known (λ d. input ≡ input_lines d) c is lines) e f same begun fault writes)))
+          (λ c is. lists_fewer p request.rules under after first form old new c input
+          (at_known (λ d. input ≡ input_lines d) c is lines) e f same begun fault writes)))
 
       -- all are
       pub listing_written : (n : ℕ) → Writes (Ok n) → breaks ≡ broke
-          → IsServedOn listing request p input (record { before = old; after = new; failed = broke; fails = breaks }) (Ok 0)
+          → IsServedOn listing request p input (record { before = old; after = new; failed = broke; fails = breaks })
+          (Ok 0)
       listing_written n writes =
           all_written listing request p input (record { before = old; after = new; failed = broke; fails = breaks })
           (λ i j lines. listing_serves i j old new (Ok 0)
           (all_due listing (λ c. runs_due request.rules under after first form c p) (Fewer old new) i old new
-          (λ c is. serves_reports p request.rules under after first form old new c input (at_known (λ d. input ≡ input_lines d) c is lines) e f same begun n writes) tt))
+          (λ c is. serves_reports p request.rules under after first form old new c input
+          (at_known (λ d. input ≡ input_lines d) c is lines) e f same begun n writes) tt))

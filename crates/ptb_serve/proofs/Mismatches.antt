@@ -83,7 +83,8 @@ refused_told : (request : Request) (p : StoredProgram) (known : Option (List ℕ
     → IfSome known (λ c. input ≡ input_lines c)
     → (under after : Option (List Marked)) (first : Option ℕ) (form : Form) (m : ListMismatch)
     → IsListRefused (play p input request.rules) under after m
-    → TellsMismatch (modes.All under after first form) request p known (refused_attempt m).served (refused_attempt m).mismatch
+    → TellsMismatch (modes.All under after first form) request p known (refused_attempt m).served
+    (refused_attempt m).mismatch
 refused_told request p known input lines under after first form m x = record {
   said = λ _. refl;
   noted = refl;
@@ -97,7 +98,8 @@ pub unbegun_told : (request : Request) (p : StoredProgram) (known : Option (List
     → IfSome known (λ c. input ≡ input_lines c)
     → (under after : Option (List Marked)) (first : Option ℕ) (form : Form) (why : OpenFault)
     → IsUnbegun (play p input request.rules) under after why
-    → TellsMismatch (modes.All under after first form) request p known (unbegun_attempt why).served (unbegun_attempt why).mismatch
+    → TellsMismatch (modes.All under after first form) request p known (unbegun_attempt why).served
+    (unbegun_attempt why).mismatch
 unbegun_told request p known input lines under after first form Memory x =
     none_told (modes.All under after first form) request p known (Err notes.OutOfMemory) memory_refuses_none
 unbegun_told request p known input lines under after first form (NoBeginning m) x =
@@ -131,7 +133,8 @@ pub mismatch_loaded : (mode : Mode) (request : Request) (b c : List ℕ) (p : St
     (mismatch : Option ListMismatch)
     → IsLoaded request.memory b p.lines → p.memory ≡ request.memory
     → IfSome mismatch (IsMismatchOf mode p (input_lines c) request.rules)
-    → IfOk (program_of_text request.memory b) (λ q. IfSome mismatch (IsMismatchOf mode (record { lines = q; memory = request.memory }) (input_lines c) request.rules))
+    → IfOk (program_of_text request.memory b) (λ q. IfSome mismatch
+    (IsMismatchOf mode (record { lines = q; memory = request.memory }) (input_lines c) request.rules))
 mismatch_loaded mode request b c p mismatch h e fits =
     let stored : record { lines = p.lines; memory = request.memory } ≡ p = ap (λ m. record p { memory = m }) (sym e) in
     rw (program_of_text-ok request.memory b p.lines h)

@@ -33,7 +33,8 @@ use Rattle.ptb_serve.proofs.Mismatches.{none_told, run_refuses_none, success_ref
 use Rattle.ptb_serve.proofs.PlainRuns.{Ran, plain_reads, plain_serves, run_failures, seeded_reads, seeded_serves}
 
 module _ (request : Request) (p : StoredProgram) where
-  pub record IsServedIn {R : Type 0} (input : Reads R) (out : Writes) (result : Result ℕ Note) (found : Option ListMismatch) (reached : Option ℕ) (mode : Mode) : Type 0 where
+  pub record IsServedIn {R : Type 0} (input : Reads R) (out : Writes) (result : Result ℕ Note)
+      (found : Option ListMismatch) (reached : Option ℕ) (mode : Mode) : Type 0 where
     pub serves : ServesProgram mode request p input.bytes input.left out.before out.after result
     pub reads : ReadsInput mode input.bytes input.left input.failed input.fails input.gave input.gives result
     pub failures : TellsFailures out.failed out.fails result
@@ -42,7 +43,8 @@ module _ (request : Request) (p : StoredProgram) where
     pub input_kept : (NeedsInput mode → ⊥) → input.new ≡ input.old
 
   module _ {R : Type 0} (input : Reads R) (out : Writes) where
-    module _ (end : Result RunEnd RunFault) (result : Result ℕ Note) (mode : Mode) (status : IsRunStatus (ending_alone end) result) (memory : p.memory ≡ request.memory) where
+    module _ (end : Result RunEnd RunFault) (result : Result ℕ Note) (mode : Mode)
+        (status : IsRunStatus (ending_alone end) result) (memory : p.memory ≡ request.memory) where
       abbrev r : Result Ending RunFault
       r = ending_alone end
 
@@ -66,7 +68,8 @@ module _ (request : Request) (p : StoredProgram) where
       -- a run by a seed
       pub served_seeded : (seed : ℕ) → mode ≡ modes.Seeded seed
           → Ran request p (λ lines. seeded_answers seed p lines request.rules) input out r
-          → (IsErrOf r faults.Memory → WantsMemory p request.rules (λ lines. seeded_answers seed p lines request.rules) input out)
+          → (IsErrOf r faults.Memory
+          → WantsMemory p request.rules (λ lines. seeded_answers seed p lines request.rules) input out)
           → IfOk end (HasLine p request.rules (λ lines. seeded_answers seed p lines request.rules) input)
           → IsServedIn input out result None (line_of end) mode
       served_seeded seed is ran wants line =
@@ -89,37 +92,68 @@ module _ (request : Request) (p : StoredProgram) where
         (under after : Option (List Marked)) (first : Option ℕ) (form : Form)
         → mode ≡ modes.All under after first form
         → ServesProgram (modes.All under after first form) request p input.bytes input.left out.before out.after result
-        → ReadsInput (modes.All under after first form) input.bytes input.left input.failed input.fails input.gave input.gives result
+        → ReadsInput (modes.All under after first form) input.bytes input.left input.failed input.fails input.gave
+        input.gives result
         → TellsFailures out.failed out.fails result
         → TellsMismatch (modes.All under after first form) request p input.bytes result mismatch
         → IsServedIn input out result mismatch None mode
     served_all result mismatch mode under after first form is serves reads tells said =
         subst (IsServedIn input out result mismatch None) (sym is)
-        (record { serves = serves; reads = reads; failures = tells; mismatch = said; line = none_stopped _ _ _ _ _ (λ lines. refl); input_kept = λ x. absurd (x tt) })
+        (record {
+          serves = serves;
+          reads = reads;
+          failures = tells;
+          mismatch = said;
+          line = none_stopped _ _ _ _ _ (λ lines. refl);
+          input_kept = λ x. absurd (x tt);
+        })
 
     -- the lists that split its runs
     pub served_shares : (result : Result ℕ Note) (mode : Mode) (n : ℕ) (form : Form) → mode ≡ modes.Shares n form
         → IsServed (modes.Shares n form) request p input out result → IsServedIn input out result None None mode
     served_shares result mode n form is x =
         subst (IsServedIn input out result None None) (sym is)
-        (record { serves = x.serves; reads = x.reads; failures = x.failures; mismatch = none_told _ _ _ _ _ x.no_list; line = none_stopped _ _ _ _ _ (λ lines. refl); input_kept = λ y. absurd (y tt) })
+        (record {
+          serves = x.serves;
+          reads = x.reads;
+          failures = x.failures;
+          mismatch = none_told _ _ _ _ _ x.no_list;
+          line = none_stopped _ _ _ _ _ (λ lines. refl);
+          input_kept = λ y. absurd (y tt);
+        })
 
     -- a sample of its runs
-    pub served_sample : (result : Result ℕ Note) (mode : Mode) (seed runs : ℕ) (form : Form) → mode ≡ modes.Sample seed runs form
+    pub served_sample : (result : Result ℕ Note) (mode : Mode) (seed runs : ℕ) (form : Form)
+        → mode ≡ modes.Sample seed runs form
         → IsServed (modes.Sample seed runs form) request p input out result → IsServedIn input out result None None mode
     served_sample result mode seed runs form is x =
         subst (IsServedIn input out result None None) (sym is)
-        (record { serves = x.serves; reads = x.reads; failures = x.failures; mismatch = none_told _ _ _ _ _ x.no_list; line = none_stopped _ _ _ _ _ (λ lines. refl); input_kept = λ y. absurd (y tt) })
+        (record {
+          serves = x.serves;
+          reads = x.reads;
+          failures = x.failures;
+          mismatch = none_told _ _ _ _ _ x.no_list;
+          line = none_stopped _ _ _ _ _ (λ lines. refl);
+          input_kept = λ y. absurd (y tt);
+        })
 
     -- the table of its chances
     pub served_chances : (result : Result ℕ Note) (mode : Mode) → mode ≡ modes.Chances
         → IsServed modes.Chances request p input out result → IsServedIn input out result None None mode
     served_chances result mode is x =
         subst (IsServedIn input out result None None) (sym is)
-        (record { serves = x.serves; reads = x.reads; failures = x.failures; mismatch = none_told _ _ _ _ _ x.no_list; line = none_stopped _ _ _ _ _ (λ lines. refl); input_kept = λ y. absurd (y tt) })
+        (record {
+          serves = x.serves;
+          reads = x.reads;
+          failures = x.failures;
+          mismatch = none_told _ _ _ _ _ x.no_list;
+          line = none_stopped _ _ _ _ _ (λ lines. refl);
+          input_kept = λ y. absurd (y tt);
+        })
 
   -- a listing of its text, which leaves the input alone
-  module _ {R : Type 0} (i : R) (known : Option (List ℕ)) (failed gave : ℕ) (out : Writes) (mode : Mode) (is : mode ≡ modes.List) (memory : p.memory ≡ request.memory) where
+  module _ {R : Type 0} (i : R) (known : Option (List ℕ)) (failed gave : ℕ) (out : Writes) (mode : Mode)
+      (is : mode ≡ modes.List) (memory : p.memory ≡ request.memory) where
     pub served_text : Appends out.before out.after (listing p.lines) → out.fails ≡ out.failed
         → IsServedIn (unread i known gave failed) out (Ok 0) None None mode
     served_text all unfailed =
@@ -128,7 +162,8 @@ module _ (request : Request) (p : StoredProgram) where
           serves =
               text_serves request p memory known (Ok 0) (λ x. absurd cc) out.before out.after
               (record { bytes = all; status = refl; note = refl }) tt refl (λ x. x);
-          reads = untouched_reads modes.List (λ x. x) (λ x. x) known failed gave (Ok 0) (λ x. absurd cc) (success_refuses_none 0);
+          reads = untouched_reads modes.List (λ x. x) (λ x. x) known failed gave (Ok 0) (λ x. absurd cc)
+              (success_refuses_none 0);
           failures = record { unwritten = λ x. absurd cc; written = λ _. unfailed };
           mismatch = none_told _ _ _ _ _ (success_refuses_none 0);
           line = none_stopped _ _ _ _ _ (λ lines. refl);
@@ -142,7 +177,8 @@ module _ (request : Request) (p : StoredProgram) where
     text_broken result noted some has_failed =
         let e = err_from_is_err_and result noted in
         subst (λ (m : Mode). IsServedIn (unread i known gave failed) out result None None m) (sym is)
-        (subst (λ (r : Result ℕ Note). IsServedIn (unread i known gave failed) out r None None modes.List) (sym (e.1 ∙ ap Err e.2))
+        (subst (λ (r : Result ℕ Note). IsServedIn (unread i known gave failed) out r None None modes.List)
+        (sym (e.1 ∙ ap Err e.2))
         (record {
           serves =
               text_serves request p memory known (Err notes.Unwritten) (λ x. absurd cc) out.before out.after some tt tt
@@ -163,4 +199,12 @@ module _ (request : Request) (p : StoredProgram) where
       → IsServedIn (unread i known gave failed) out result None None mode
   served_check i known failed gave out mode result is serves fine tells no_list =
       subst (IsServedIn (unread i known gave failed) out result None None) (sym is)
-      (record { serves = serves; reads = untouched_reads modes.Check (λ x. x) (λ x. x) known failed gave result fine no_list; failures = tells; mismatch = none_told _ _ _ _ _ no_list; line = none_stopped _ _ _ _ _ (λ lines. refl); input_kept = λ _. refl })
+      (record {
+        serves = serves;
+        reads = untouched_reads modes.Check (λ x. x) (λ x. x) known failed
+            gave result fine no_list;
+        failures = tells;
+        mismatch = none_told _ _ _ _ _ no_list;
+        line = none_stopped _ _ _ _ _ (λ lines. refl);
+        input_kept = λ _. refl;
+      })

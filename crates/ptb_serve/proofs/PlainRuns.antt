@@ -32,11 +32,13 @@ use Rattle.ptb_serve.proofs.Served.{serves_ended, serves_loaded, status_within, 
 use Rattle.ptb_serve.proofs.Served.{wanted_ended}
 
 -- the program was played with these answers, which may depend on the lines
-pub record Ran {R : Type 0} (request : Request) (p : StoredProgram) (answers : List (List ℕ) → Answers) (input : Reads R) (out : Writes) (r : Result Ending RunFault) : Type 0 where
+pub record Ran {R : Type 0} (request : Request) (p : StoredProgram) (answers : List (List ℕ)
+    → Answers) (input : Reads R) (out : Writes) (r : Result Ending RunFault) : Type 0 where
   pub plays : PlaysWith p request.rules answers input out r
   pub reads : ReadsLines input r
 
-module _ {R : Type 0} (request : Request) (p : StoredProgram) (answers : StoredProgram → List (List ℕ) → Answers) (input : Reads R) (out : Writes) where
+module _ {R : Type 0} (request : Request) (p : StoredProgram) (answers : StoredProgram → List (List ℕ)
+    → Answers) (input : Reads R) (out : Writes) where
   abbrev RanBy : Result Ending RunFault → Type 0
   RanBy r = Ran request p (answers p) input out r
 
@@ -61,7 +63,8 @@ module _ {R : Type 0} (request : Request) (p : StoredProgram) (answers : StoredP
   run_failures (Err faults.Spent) result h ran = absurd h
 
   -- in a mode that runs the program once, with these answers
-  module _ (mode : Mode) (is_run : IsPlainRun mode) (is_needed : NeedsInput mode) (not_whole : NeedsWholeInput mode → ⊥) where
+  module _ (mode : Mode) (is_run : IsPlainRun mode) (is_needed : NeedsInput mode) (not_whole : NeedsWholeInput mode
+      → ⊥) where
     abbrev ReadsAs : Result ℕ Note → Type 0
     ReadsAs result = ReadsInput mode input.bytes input.left input.failed input.fails input.gave input.gives result
 
@@ -115,26 +118,32 @@ module _ {R : Type 0} (request : Request) (p : StoredProgram) (answers : StoredP
         → ReadsAs result
     run_reads (Ok e) result h ran = subst ReadsAs (sym h) (reads_status (status e) e ran)
     run_reads (Err faults.Memory) result h ran =
-        subst ReadsAs (sym h) (reads_note notes.OutOfMemory faults.Memory (λ x. absurd cc) (λ x. absurd cc) (λ x. absurd cc) (λ x. absurd cc) ran)
+        subst ReadsAs (sym h) (reads_note notes.OutOfMemory faults.Memory (λ x. absurd cc) (λ x. absurd cc)
+        (λ x. absurd cc) (λ x. absurd cc) ran)
     run_reads (Err faults.Read) result h ran = subst ReadsAs (sym h) (reads_unread ran)
     run_reads (Err faults.Write) result h ran =
-        subst ReadsAs (sym h) (reads_note notes.Unwritten faults.Write (λ x. absurd cc) (λ x. absurd cc) (λ x. absurd cc) (λ x. absurd cc) ran)
+        subst ReadsAs (sym h) (reads_note notes.Unwritten faults.Write (λ x. absurd cc) (λ x. absurd cc)
+        (λ x. absurd cc) (λ x. absurd cc) ran)
     run_reads (Err faults.Spent) result h ran = absurd h
 
     -- what is written, where the mode's definitions are those of a run with these answers
     module _ (memory : p.memory ≡ request.memory)
         (is_input : (c : List ℕ) → IsInput mode input.bytes c → input.bytes ≡ Some c)
         (same_reply : (c : List ℕ) → program_reply_in_mode mode request.rules c p ≡ run_reply (run (input_lines c)))
-        (same_taken : (b c : List ℕ) (outcome : Outcome) → ReadsBy request (λ q lines. lines_taken q lines request.rules (answers q lines)) b c input.left outcome → ReadsForRun mode request b c input.left outcome)
+        (same_taken : (b c : List ℕ) (outcome : Outcome) → ReadsBy request (λ q lines. lines_taken q lines request.rules
+        (answers q lines)) b c input.left outcome → ReadsForRun mode request b c input.left outcome)
         (same_unread : (b : List ℕ) → (taken : List ℕ) × Consumes input.bytes input.left taken
-        × EndsUnread request.rules.choose (program_reply request.memory b (λ q. run_reply (plain q (lines_come taken) request.rules (answers q (lines_come taken)))))
-        (λ a. program_reply request.memory b (λ q. run_reply (plain q (lines_come taken) request.rules a))) out.before out.after → ServesUnread mode request input.bytes input.left b out.before out.after) where
+        × EndsUnread request.rules.choose (program_reply request.memory b
+        (λ q. run_reply (plain q (lines_come taken) request.rules (answers q (lines_come taken)))))
+        (λ a. program_reply request.memory b (λ q. run_reply (plain q (lines_come taken) request.rules a))) out.before
+        out.after → ServesUnread mode request input.bytes input.left b out.before out.after) where
       abbrev ServesAs : Result ℕ Note → Type 0
       ServesAs result = ServesProgram mode request p input.bytes input.left out.before out.after result
 
       loaded_run : (b c : List ℕ) (result : Result ℕ Note) → IsLoaded request.memory b p.lines
           → Serves (run_reply (run (input_lines c))) out.before out.after (outcome_of result)
-          → Serves (program_reply request.memory b (program_reply_in_mode mode request.rules c)) out.before out.after (outcome_of result)
+          → Serves (program_reply request.memory b (program_reply_in_mode mode request.rules c)) out.before out.after
+          (outcome_of result)
       loaded_run b c result l s =
           serves_loaded request.memory (Some b)
           (program_reply_in_mode mode request.rules c) p out.before out.after result l memory
@@ -147,7 +156,8 @@ module _ {R : Type 0} (request : Request) (p : StoredProgram) (answers : StoredP
           each_known
           (λ c. ReadsBy request (λ q lines. lines_taken q lines request.rules (answers q lines)) b c input.left outcome)
           (λ c. ReadsForRun mode request b c input.left outcome) input.bytes (λ c. same_taken b c outcome)
-          (reads_loaded request (λ q lines. lines_taken q lines request.rules (answers q lines)) (Some b) input.bytes input.left p outcome r l memory wanted ran.plays.asked)
+          (reads_loaded request (λ q lines. lines_taken q lines request.rules (answers q lines))
+          (Some b) input.bytes input.left p outcome r l memory wanted ran.plays.asked)
 
       serves_status : (e : Ending) → RanBy (Ok e) → SilentBy mode None out.before out.after → ServesAs (Ok (status e))
       serves_status e ran quiet = record {
@@ -166,14 +176,19 @@ module _ {R : Type 0} (request : Request) (p : StoredProgram) (answers : StoredP
 
       -- a note of a run that is broken off, which serves whatever begins so
       serves_note : (fault : RunFault) (note : Note)
-          → ((reply : Reply) → TakesSome out.before out.after reply.bytes → Serves reply out.before out.after (outcome_of (Err note)))
+          → ((reply : Reply) → TakesSome out.before out.after reply.bytes
+          → Serves reply out.before out.after (outcome_of (Err note)))
           → ((k : ℕ) → ending_wanted k (Err fault) ≡ outcome_wanted k (outcome_of (Err note)))
-          → ((b : List ℕ) → IsLoaded request.memory b p.lines → IsErrOf {T = ℕ} (Err note) notes.InputUnread → ServesUnread mode request input.bytes input.left b out.before out.after)
+          → ((b : List ℕ) → IsLoaded request.memory b p.lines → IsErrOf {T = ℕ} (Err note) notes.InputUnread
+          → ServesUnread mode request input.bytes input.left b out.before out.after)
           → RanBy (Err fault) → SilentBy mode (Some note) out.before out.after → (IsUnloaded (Some note) → ⊥)
-          → ((b c : List ℕ) → IsLoaded request.memory b p.lines → IsInput mode input.bytes c → IsErrOf {T = ℕ} (Err note) notes.OutOfMemory → StopsForMemory mode request b c out.before out.after)
+          → ((b c : List ℕ) → IsLoaded request.memory b p.lines → IsInput mode input.bytes c
+          → IsErrOf {T = ℕ} (Err note) notes.OutOfMemory → StopsForMemory mode request b c out.before out.after)
           → ServesAs (Err note)
       serves_note fault note broken wanted unread ran quiet loaded stopped = record {
-        served = λ b c l is. loaded_run b c (Err note) l (broken (run_reply (run (input_lines c))) (at_known (λ d. TakesSome out.before out.after (run (input_lines d)).0) c (is_input c is) ran.plays.broken_off));
+        served = λ b c l is. loaded_run b c (Err note) l (broken (run_reply (run (input_lines c)))
+            (at_known (λ d. TakesSome out.before out.after (run (input_lines d)).0) c
+            (is_input c is) ran.plays.broken_off));
         taken = λ b l. taken_run b (Err fault) (outcome_of (Err note)) l wanted ran;
         unread = unread;
         silent = quiet;
@@ -187,10 +202,12 @@ module _ {R : Type 0} (request : Request) (p : StoredProgram) (answers : StoredP
       unread_run : RanBy (Err faults.Read) → (b : List ℕ) → IsLoaded request.memory b p.lines
           → ServesUnread mode request input.bytes input.left b out.before out.after
       unread_run ran b l =
-          same_unread b (unread_loaded request.memory request.rules.choose (λ q lines. plain q lines request.rules) answers p input.bytes input.left out.before out.after (Some b) l memory (ran.plays.unread refl))
+          same_unread b (unread_loaded request.memory request.rules.choose (λ q lines. plain q lines request.rules)
+          answers p input.bytes input.left out.before out.after (Some b) l memory (ran.plays.unread refl))
 
       abbrev StopsBy : Result Ending RunFault → Type 0
-      StopsBy r = (b c : List ℕ) → IsLoaded request.memory b p.lines → IsInput mode input.bytes c → IsErrOf r faults.Memory → StopsForMemory mode request b c out.before out.after
+      StopsBy r = (b c : List ℕ) → IsLoaded request.memory b p.lines → IsInput mode input.bytes c
+          → IsErrOf r faults.Memory → StopsForMemory mode request b c out.before out.after
 
       pub run_serves : (r : Result Ending RunFault) (result : Result ℕ Note) → IsRunStatus r result → RanBy r
           → SilentBy mode (outcome_of result).note out.before out.after → StopsBy r → ServesAs result
@@ -199,13 +216,19 @@ module _ {R : Type 0} (request : Request) (p : StoredProgram) (answers : StoredP
           (serves_status e ran (subst (λ x. SilentBy mode (outcome_of x).note out.before out.after) h quiet))
       run_serves (Err faults.Memory) result h ran quiet stopped =
           subst ServesAs (sym h)
-          (serves_note faults.Memory notes.OutOfMemory (λ _ t. t) (λ k. refl) (λ b l x. absurd cc) ran (subst (λ x. SilentBy mode (outcome_of x).note out.before out.after) h quiet) (λ x. x) (λ b c l i _. stopped b c l i refl))
+          (serves_note faults.Memory notes.OutOfMemory (λ _ t. t) (λ k. refl) (λ b l x. absurd cc) ran
+          (subst (λ x. SilentBy mode (outcome_of x).note out.before out.after) h quiet) (λ x. x)
+          (λ b c l i _. stopped b c l i refl))
       run_serves (Err faults.Read) result h ran quiet stopped =
           subst ServesAs (sym h)
-          (serves_note faults.Read notes.InputUnread (λ _ t. t) (λ k. refl) (λ b l _. unread_run ran b l) ran (subst (λ x. SilentBy mode (outcome_of x).note out.before out.after) h quiet) (λ x. x) (λ b c _ _ x. absurd cc))
+          (serves_note faults.Read notes.InputUnread (λ _ t. t) (λ k. refl) (λ b l _. unread_run ran b l) ran
+          (subst (λ x. SilentBy mode (outcome_of x).note out.before out.after) h quiet) (λ x. x)
+          (λ b c _ _ x. absurd cc))
       run_serves (Err faults.Write) result h ran quiet stopped =
           subst ServesAs (sym h)
-          (serves_note faults.Write notes.Unwritten (λ _ t. t) (λ k. refl) (λ b l x. absurd cc) ran (subst (λ x. SilentBy mode (outcome_of x).note out.before out.after) h quiet) (λ x. x) (λ b c _ _ x. absurd cc))
+          (serves_note faults.Write notes.Unwritten (λ _ t. t) (λ k. refl) (λ b l x. absurd cc) ran
+          (subst (λ x. SilentBy mode (outcome_of x).note out.before out.after) h quiet) (λ x. x)
+          (λ b c _ _ x. absurd cc))
       run_serves (Err faults.Spent) result h ran quiet stopped = absurd h
 
 -- ---- when nothing was written
@@ -238,7 +261,8 @@ seeded_silent seed old new (Err faults.Spent) result h = absurd h
 
 -- ---- in both modes
 
-module _ {R : Type 0} (request : Request) (p : StoredProgram) (input : Reads R) (out : Writes) (r : Result Ending RunFault) (result : Result ℕ Note) (h : IsRunStatus r result) where
+module _ {R : Type 0} (request : Request) (p : StoredProgram) (input : Reads R) (out : Writes)
+    (r : Result Ending RunFault) (result : Result ℕ Note) (h : IsRunStatus r result) where
   module _ (a : Answers) (ran : Ran request p (λ _. a) input out r) where
     pub plain_reads : ReadsInput
         (modes.Plain a) input.bytes input.left input.failed input.fails input.gave input.gives result
@@ -260,17 +284,24 @@ module _ {R : Type 0} (request : Request) (p : StoredProgram) (input : Reads R) 
 
     -- memory is refused before anything is shown, or at a question
     stops : p.memory ≡ request.memory
-        → (IsErrOf r faults.Memory → WantsMemory p request.rules (λ lines. seeded_answers seed p lines request.rules) input out)
+        → (IsErrOf r faults.Memory
+        → WantsMemory p request.rules (λ lines. seeded_answers seed p lines request.rules) input out)
         → (b c : List ℕ) → IsLoaded request.memory b p.lines → input.bytes ≡ Some c → IsErrOf r faults.Memory
         → StopsForMemory (modes.Seeded seed) request b c out.before out.after
     stops memory wants b c l is x =
         asks_loaded request b c p seed out.before out.after l memory
-        (elim (wants x) [ inl nothing ↦ inl nothing | inr shown ↦ inr (at_known (λ d. AsksForMore p (input_lines d) request.rules seed out.before out.after) c is shown) ])
+        (elim (wants x) [
+          | inl nothing ↦ inl nothing
+          | inr shown ↦ inr (at_known
+              (λ d. AsksForMore p (input_lines d) request.rules seed out.before out.after) c is shown)
+        ])
 
     pub seeded_serves : p.memory ≡ request.memory
-        → (IsErrOf r faults.Memory → WantsMemory p request.rules (λ lines. seeded_answers seed p lines request.rules) input out)
+        → (IsErrOf r faults.Memory
+        → WantsMemory p request.rules (λ lines. seeded_answers seed p lines request.rules) input out)
         → ServesProgram (modes.Seeded seed) request p input.bytes input.left out.before out.after result
     seeded_serves memory wants =
         run_serves request p (λ q lines. seeded_answers seed q lines request.rules) input out (modes.Seeded seed) tt tt
         (λ x. x) memory (λ c is. is) (λ c. refl)
-        (λ b c outcome x. x) (λ b x. x) r result h ran (seeded_silent seed out.before out.after r result h) (stops memory wants)
+        (λ b c outcome x. x) (λ b x. x) r result h ran (seeded_silent seed out.before out.after r result h)
+        (stops memory wants)

@@ -42,12 +42,14 @@ nothing_said memory (Some b) = by_text (program_of_text memory b) where
   by_text (Ok p) = tt
   by_text (Err e) = tt
 
-pub record Told {P R : Type 0} (request : Request) (text : Reads P) (input : Reads R) (out : Writes) (outcome : Outcome) : Type 0 where
+pub record Told {P R : Type 0} (request : Request) (text : Reads P) (input : Reads R) (out : Writes)
+    (outcome : Outcome) : Type 0 where
   pub served : Served request text input out outcome
   pub reads : ReadsOnlyWhatIsAsked request text input outcome
   pub fails : FailsLoudly text input out outcome
 
-module _ {P R : Type 0} (request : Request) (text : Reads P) (consumed : ConsumesAtMost text.bytes text.left (program_limit + 1)) (given : GivesAtMost text.gave text.gives (program_limit + 1)) where
+module _ {P R : Type 0} (request : Request) (text : Reads P) (consumed : ConsumesAtMost text.bytes text.left
+    (program_limit + 1)) (given : GivesAtMost text.gave text.gives (program_limit + 1)) where
   -- the program p was loaded
   pub told_loaded : (input : Reads R) (out : Writes) (outcome : Outcome) (result : Result ℕ Note)
       (mismatch : Option ListMismatch) (line : Option ℕ) (p : StoredProgram)
@@ -82,12 +84,16 @@ module _ {P R : Type 0} (request : Request) (text : Reads P) (consumed : Consume
           mismatch_noted = noted_outcome result mismatch said.noted;
           mismatch = λ c i.
               each_known (λ b. IsLoaded request.memory b p.lines)
-              (λ b. IfOk (program_of_text request.memory b) (λ q. IfSome mismatch (IsMismatchOf request.mode (record { lines = q; memory = request.memory }) (input_lines c) request.rules))) text.bytes
+              (λ b. IfOk (program_of_text request.memory b) (λ q. IfSome mismatch (IsMismatchOf request.mode
+              (record { lines = q; memory = request.memory }) (input_lines c) request.rules)))
+              text.bytes
               (λ b l. mismatch_loaded request.mode request b c p mismatch l memory (said.fits c i)) loaded;
           line = λ h c i.
               each_known (λ b. IsLoaded request.memory b p.lines)
-              (λ b. IfOk (program_of_text request.memory b) (λ q. line ≡ line_in_mode request.mode (record { lines = q; memory = request.memory }) (input_lines c) request.rules)) text.bytes
-              (λ b l. line_loaded request.mode request b (input_lines c) p line l memory (stopped.at_limit (served_at_limit result h) c i)) loaded;
+              (λ b. IfOk (program_of_text request.memory b) (λ q. line ≡ line_in_mode request.mode
+              (record { lines = q; memory = request.memory }) (input_lines c) request.rules)) text.bytes
+              (λ b l. line_loaded request.mode request b (input_lines c) p line l memory
+              (stopped.at_limit (served_at_limit result h) c i)) loaded;
           no_line = λ h. stopped.elsewhere (λ e. h (status_at_limit result e));
           unread =
               λ h. each_known (λ b. IsLoaded request.memory b p.lines)
@@ -98,7 +104,8 @@ module _ {P R : Type 0} (request : Request) (text : Reads P) (consumed : Consume
           load_first = loaded_unrefused request.memory text.bytes p.lines _ loaded;
           unloaded = λ h. absurd (serves.loaded h);
           unneeded = λ h. (kept h, λ e. reads.unneeded h (outcome_of-note result notes.InputUnread e));
-          for_run = each_known (λ b. IsLoaded request.memory b p.lines) (λ b. IfSome input.bytes (λ c. ReadsForRun request.mode request b c input.left (outcome_of result))) text.bytes serves.taken loaded;
+          for_run = each_known (λ b. IsLoaded request.memory b p.lines) (λ b. IfSome input.bytes (λ c. ReadsForRun
+              request.mode request b c input.left (outcome_of result))) text.bytes serves.taken loaded;
           run_within = λ h. outcome_of-none result _ (reads.taken_within h);
           whole_within = λ h. outcome_of-none result _ (reads.within h);
           no_beginning_within = λ h. reads.no_beginning_within (outcome_of-note result notes.NoBeginning h);
@@ -131,8 +138,10 @@ module _ {P R : Type 0} (request : Request) (text : Reads P) (consumed : Consume
       → ((e.1 ≡ loads.Read → ⊥) → text.fails ≡ text.failed)
       → Told request text (unread i known gave failed) (unwritten held broke) outcome
   told_unloaded i known gave failed held broke outcome note e is noted refused too_long given_too_long read unfailed =
-      let other : (n : Note) → (IsUnloaded (Some n) → ⊥) → (n ≡ notes.OutOfMemory → ⊥) → Some (load_note e) ≡ Some n → ⊥ = load_note-other e in
-      let no_input : Some (load_note e) ≡ Some notes.InputUnread → ⊥ = other notes.InputUnread (λ x. x) (λ x. absurd cc) in
+      let other : (n : Note) → (IsUnloaded (Some n) → ⊥) → (n ≡ notes.OutOfMemory → ⊥) → Some (load_note e) ≡ Some n
+      → ⊥ = load_note-other e in
+      let no_input : Some (load_note e) ≡ Some notes.InputUnread
+      → ⊥ = other notes.InputUnread (λ x. x) (λ x. absurd cc) in
       subst (Told request text (unread i known gave failed) (unwritten held broke))
       (sym (is ∙ ap (λ (n : Note). outcome_of (Err n)) noted))
       (record {
@@ -149,7 +158,10 @@ module _ {P R : Type 0} (request : Request) (text : Reads P) (consumed : Consume
           checked = λ _ h. absurd cc;
           silent = load_note-silent request.mode held e;
           stopped = λ _ c _. stops_unloaded request.mode request text.bytes c held;
-          mismatch_said = λ h. absurd (elim h [ inl x ↦ other notes.NoBeginning (λ u. u) (λ y. absurd cc) x | inr x ↦ other notes.NoRun (λ u. u) (λ y. absurd cc) x ]);
+          mismatch_said = λ h. absurd (elim h [
+            | inl x ↦ other notes.NoBeginning (λ u. u) (λ y. absurd cc) x
+            | inr x ↦ other notes.NoRun (λ u. u) (λ y. absurd cc) x
+          ]);
           unread = λ h. absurd (no_input h);
           mismatch_noted = tt;
           mismatch = λ c _. nothing_said request.memory text.bytes;

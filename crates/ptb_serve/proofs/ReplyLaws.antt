@@ -76,10 +76,13 @@ accepted : (memory : ℕ) (b : List ℕ) (next : StoredProgram → Reply) (p : S
     → program_reply memory b next ≡ next (record { lines = p; memory = memory })
 accepted memory b next p h = ap (reply_or_refusal next memory) h
 
-module _ (p : StoredProgram) (c : List ℕ) (rules : Rules) (tree : TreeLaws (play p (input_lines c) rules) (most_answers p (input_lines c) rules.limit))
-    (laws : ListingLaws (play p (input_lines c) rules) (most_answers p (input_lines c) rules.limit)) (share : ShareLaws (play p (input_lines c) rules) (most_answers p (input_lines c) rules.limit))
+module _ (p : StoredProgram) (c : List ℕ) (rules : Rules)
+    (tree : TreeLaws (play p (input_lines c) rules) (most_answers p (input_lines c) rules.limit))
+    (laws : ListingLaws (play p (input_lines c) rules) (most_answers p (input_lines c) rules.limit))
+    (share : ShareLaws (play p (input_lines c) rules) (most_answers p (input_lines c) rules.limit))
     (reports : ReportLaws (play p (input_lines c) rules) (most_answers p (input_lines c) rules.limit))
-    (reads : IsReader (play p (input_lines c) rules) (most_answers p (input_lines c) rules.limit)) (drawn : SeededLaws) (samples : SampleLaws (play p (input_lines c) rules) (most_answers p (input_lines c) rules.limit))
+    (reads : IsReader (play p (input_lines c) rules) (most_answers p (input_lines c) rules.limit)) (drawn : SeededLaws)
+    (samples : SampleLaws (play p (input_lines c) rules) (most_answers p (input_lines c) rules.limit))
     (beginnings : (n : ℕ) → BeginningLaws (play p (input_lines c) rules) (most_answers p (input_lines c) rules.limit) n)
     (tables : TableLaws (play p (input_lines c) rules) (most_answers p (input_lines c) rules.limit)) where
   abbrev game : Answers → Outcome Finish (List ℕ)
@@ -103,14 +106,16 @@ module _ (p : StoredProgram) (c : List ℕ) (rules : Rules) (tree : TreeLaws (pl
 
   -- the share of no answers is the whole
   whole_reply : (after : Option (List Marked)) (first : Option ℕ) (form : Form)
-      → all_reply p (input_lines c) rules (Some []) after first form ≡ all_reply p (input_lines c) rules None after first form
+      → all_reply p (input_lines c) rules (Some []) after first form
+      ≡ all_reply p (input_lines c) rules None after first form
   whole_reply after first form = by_note (front_note game None after) refl
     where
       same : front_note game (Some []) after ≡ front_note game None after
       same = ap (λ t. note_of t (is_front game [] after)) (share_true game [] (reads.begins, refl))
 
       by_note : (o : Option Note) → front_note game None after ≡ o
-          → all_reply p (input_lines c) rules (Some []) after first form ≡ all_reply p (input_lines c) rules None after first form
+          → all_reply p (input_lines c) rules (Some []) after first form
+          ≡ all_reply p (input_lines c) rules None after first form
       by_note None e =
           reply-listed p rules (Some []) after first form (input_lines c) (same ∙ e)
           ∙ sym (reply-listed p rules None after first form (input_lines c) e)
@@ -148,8 +153,10 @@ module _ (p : StoredProgram) (c : List ℕ) (rules : Rules) (tree : TreeLaws (pl
 
   run_replies : (reply : Mode → Reply) → ((a : Answers) → reply (modes.Plain a) ≡ plain_reply rules a c p)
       → ((seed : ℕ) → reply (modes.Seeded seed) ≡ seeded_reply rules seed c p)
-      → ((under after : Option (List Marked)) (first : Option ℕ) (form : Form) → reply (modes.All under after first form) ≡ all_reply p (input_lines c) rules under after first form)
-      → ((seed runs : ℕ) (form : Form) → reply (modes.Sample seed runs form) ≡ sample_reply p (input_lines c) rules seed runs form)
+      → ((under after : Option (List Marked)) (first : Option ℕ) (form : Form)
+      → reply (modes.All under after first form) ≡ all_reply p (input_lines c) rules under after first form)
+      → ((seed runs : ℕ) (form : Form)
+      → reply (modes.Sample seed runs form) ≡ sample_reply p (input_lines c) rules seed runs form)
       → ((n : ℕ) (form : Form) → reply (modes.Shares n form) ≡ shares_reply p (input_lines c) rules n form)
       → reply modes.Chances ≡ chances_reply p (input_lines c) rules
       → RunReplies game (most_answers p (input_lines c) rules.limit) reply
@@ -182,7 +189,8 @@ module _ (p : StoredProgram) (c : List ℕ) (rules : Rules) (tree : TreeLaws (pl
         all (Some under) (Some list) first form
         ∙ reply-refused p rules (Some under) (Some list) first form (input_lines c) notes.NoRun
         (no_front game (Some under) list (share_true game under b) none);
-    shares = share_replies p c rules reads laws share reply all (λ after first form. all (Some []) after first form ∙ whole_reply after first form ∙ sym (all None after first form));
+    shares = share_replies p c rules reads laws share reply all (λ after first form. all (Some []) after first form
+        ∙ whole_reply after first form ∙ sym (all None after first form));
     split = λ n. splits_runs p c rules reads laws share reply all n (beginnings n) (λ form. lists n form);
     reports = reports;
     run_report = λ form a f ends. ap (report_of (items_in form a (bounds game a))) ends;
@@ -217,12 +225,18 @@ module _ (p : Statements) where
 -- ---- all of them
 
 pub reply_laws : RunLaws → SeededLaws
-    → ((p : StoredProgram) (input : List (List ℕ)) (rules : Rules) → TreeLaws (play p input rules) (most_answers p input rules.limit))
-    → ((p : StoredProgram) (input : List (List ℕ)) (rules : Rules) → ListingLaws (play p input rules) (most_answers p input rules.limit))
-    → ((p : StoredProgram) (input : List (List ℕ)) (rules : Rules) → ShareLaws (play p input rules) (most_answers p input rules.limit))
-    → ((p : StoredProgram) (input : List (List ℕ)) (rules : Rules) → ReportLaws (play p input rules) (most_answers p input rules.limit))
-    → ((p : StoredProgram) (input : List (List ℕ)) (rules : Rules) → SampleLaws (play p input rules) (most_answers p input rules.limit))
-    → ((p : StoredProgram) (input : List (List ℕ)) (rules : Rules) (n : ℕ) → BeginningLaws (play p input rules) (most_answers p input rules.limit) n)
+    → ((p : StoredProgram) (input : List (List ℕ)) (rules : Rules)
+    → TreeLaws (play p input rules) (most_answers p input rules.limit))
+    → ((p : StoredProgram) (input : List (List ℕ)) (rules : Rules)
+    → ListingLaws (play p input rules) (most_answers p input rules.limit))
+    → ((p : StoredProgram) (input : List (List ℕ)) (rules : Rules)
+    → ShareLaws (play p input rules) (most_answers p input rules.limit))
+    → ((p : StoredProgram) (input : List (List ℕ)) (rules : Rules)
+    → ReportLaws (play p input rules) (most_answers p input rules.limit))
+    → ((p : StoredProgram) (input : List (List ℕ)) (rules : Rules)
+    → SampleLaws (play p input rules) (most_answers p input rules.limit))
+    → ((p : StoredProgram) (input : List (List ℕ)) (rules : Rules) (n : ℕ)
+    → BeginningLaws (play p input rules) (most_answers p input rules.limit) n)
     → ((play : Answers → Outcome Finish (List ℕ)) (most : ℕ) → IsReader play most → TableLaws play most) → CheckLaws
     → ReplyLaws
 reply_laws runs drawn tree laws share reports samples beginnings tables checks = record {
@@ -231,11 +245,15 @@ reply_laws runs drawn tree laws share reports samples beginnings tables checks =
   accepted = λ memory size rules b c p h.
       run_replies (record { lines = p; memory = memory }) c rules
       (tree (record { lines = p; memory = memory }) (input_lines c) rules)
-      (laws (record { lines = p; memory = memory }) (input_lines c) rules) (share (record { lines = p; memory = memory }) (input_lines c) rules)
+      (laws (record { lines = p; memory = memory }) (input_lines c) rules)
+      (share (record { lines = p; memory = memory }) (input_lines c) rules)
       (reports (record { lines = p; memory = memory }) (input_lines c) rules)
-      (runs.reads (record { lines = p; memory = memory }) (input_lines c) rules) drawn (samples (record { lines = p; memory = memory }) (input_lines c) rules)
+      (runs.reads (record { lines = p; memory = memory }) (input_lines c) rules) drawn
+      (samples (record { lines = p; memory = memory }) (input_lines c) rules)
       (beginnings (record { lines = p; memory = memory }) (input_lines c) rules)
-      (tables (play (record { lines = p; memory = memory }) (input_lines c) rules) (most_answers (record { lines = p; memory = memory }) (input_lines c) rules.limit) (runs.reads (record { lines = p; memory = memory }) (input_lines c) rules)) _
+      (tables (play (record { lines = p; memory = memory }) (input_lines c) rules)
+      (most_answers (record { lines = p; memory = memory }) (input_lines c) rules.limit)
+      (runs.reads (record { lines = p; memory = memory }) (input_lines c) rules)) _
       (λ a. accepted memory b (plain_reply rules a c) p h)
       (λ seed. accepted memory b (seeded_reply rules seed c) p h)
       (λ under after first form. accepted memory b (λ p. all_reply p (input_lines c) rules under after first form) p h)

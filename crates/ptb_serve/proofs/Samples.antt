@@ -34,7 +34,8 @@ use Rattle.ptb_serve.proofs.WholeInput.{reports_cut, unread_due}
 
 -- ---- what was written
 
-module _ (p : StoredProgram) (request : Request) (seed runs : ℕ) (form : Form) (input : List (List ℕ)) (old new : Option (List ℕ)) where
+module _ (p : StoredProgram) (request : Request) (seed runs : ℕ) (form : Form) (input : List (List ℕ))
+    (old new : Option (List ℕ)) where
   abbrev due : List Answers
   due = runs_drawn (play p input request.rules) (most_answers p input request.rules.limit) seed runs
 
@@ -47,7 +48,8 @@ module _ (p : StoredProgram) (request : Request) (seed runs : ℕ) (form : Form)
   cut_served (explores.Memory n) w =
       takes_beginning old new _ _ w.bytes
       (text-beginning (report form (play p input request.rules)) due w.beginning w.rest w.split)
-  cut_served (explores.Write n) w = takes_beginning old new _ _ w.bytes (text-into (report form (play p input request.rules)) due w.beginning w.at w.rest w.part w.remainder w.split w.cut)
+  cut_served (explores.Write n) w = takes_beginning old new _ _ w.bytes (text-into
+      (report form (play p input request.rules)) due w.beginning w.at w.rest w.part w.remainder w.split w.cut)
 
   fewer_sampled : (fault : ExploreFault) → Writes (Err fault)
       → IsErrOf {T = ℕ} (Err (reports_note fault)) notes.OutOfMemory
@@ -63,7 +65,8 @@ module _ (p : StoredProgram) (request : Request) (seed runs : ℕ) (form : Form)
 
 -- ---- how it is served
 
-module _ (request : Request) (p : StoredProgram) (memory : p.memory ≡ request.memory) (seed runs : ℕ) (form : Form) where
+module _ (request : Request) (p : StoredProgram) (memory : p.memory ≡ request.memory) (seed runs : ℕ)
+    (form : Form) where
   abbrev sample : Mode
   sample = modes.Sample seed runs form
 
@@ -78,7 +81,8 @@ module _ (request : Request) (p : StoredProgram) (memory : p.memory ≡ request.
         → IsDue sample reply (Fewer old new) i old new result → ServesProgram sample request p i j old new result
     sample_serves old new result due =
         serves_mode sample (λ x. x) request p i j old new result
-        (λ b c l is. serves_loaded request.memory (Some b) (λ q. sample_reply q (input_lines c) request.rules seed runs form) p old new result l memory (due.served c is))
+        (λ b c l is. serves_loaded request.memory (Some b) (λ q. sample_reply q
+        (input_lines c) request.rules seed runs form) p old new result l memory (due.served c is))
         (λ b. nothing_told i) (λ b. due.unread)
         (λ b c l is h. samples_loaded request b c p seed runs form old new l memory (due.stopped c is h))
         due.quiet due.success due.loaded
@@ -87,23 +91,33 @@ module _ (request : Request) (p : StoredProgram) (memory : p.memory ≡ request.
     pub unread_sampled : (held : Option (List ℕ)) (fault : ReadFault)
         → ServesProgram sample request p i j held held (Err (input_note fault))
     unread_sampled held fault =
-        sample_serves held held (Err (input_note fault)) (unread_due sample reply (Fewer held held) i held (Appends-nil held) tt fault)
+        sample_serves held held (Err (input_note fault))
+        (unread_due sample reply (Fewer held held) i held (Appends-nil held) tt fault)
 
   -- they were read, and are `input`
   module _ (input : List (List ℕ)) (old new : Option (List ℕ)) (broke breaks : ℕ) where
     pub sample_written : Writes p request seed runs form input old new (Ok tt) → breaks ≡ broke
-        → IsServedOn sample request p input (record { before = old; after = new; failed = broke; fails = breaks }) (Ok 0)
+        → IsServedOn sample request p input (record { before = old; after = new; failed = broke; fails = breaks })
+        (Ok 0)
     sample_written w =
         all_written sample request p input (record { before = old; after = new; failed = broke; fails = breaks })
         (λ i j lines. sample_serves i j old new (Ok 0) (all_due sample reply (Fewer old new) i old new
-        (at_lines (λ l. Serves (sample_reply p l request.rules seed runs form) old new (outcome_of (Ok 0))) input i lines (record { bytes = w; status = refl; note = refl })) tt))
+        (at_lines (λ l. Serves (sample_reply p l request.rules seed runs form) old new (outcome_of (Ok 0))) input i
+        lines (record { bytes = w; status = refl; note = refl })) tt))
 
     pub sample_broken : {T : Type 0} (result : Result ℕ Note) (fault : ExploreFault)
         → IsErrAnd result (λ n. n ≡ reports_note fault) → Writes p request seed runs form input old new (Err fault)
-        → TellsWriter T fault broke breaks → IsServedOn sample request p input (record { before = old; after = new; failed = broke; fails = breaks }) result
+        → TellsWriter T fault broke breaks
+        → IsServedOn sample request p input (record { before = old; after = new; failed = broke; fails = breaks })
+        result
     sample_broken {T = T} result fault is w =
-        reports_cut sample request p input (record { before = old; after = new; failed = broke; fails = breaks }) {T = T} result fault is
-        (λ i j lines. sample_serves i j old new (Err (reports_note fault)) (cut_due sample reply (Fewer old new) i old new fault
-        (at_lines (λ l. Serves (sample_reply p l request.rules seed runs form) old new (outcome_of (Err (reports_note fault)))) input i lines (cut_served p request seed runs form input old new fault w))
+        reports_cut sample request p input (record { before = old; after = new; failed = broke; fails = breaks })
+        {T = T} result fault is
+        (λ i j lines. sample_serves i j old new (Err (reports_note fault))
+        (cut_due sample reply (Fewer old new) i old new fault
+        (at_lines (λ l. Serves (sample_reply p l request.rules seed runs form) old new
+        (outcome_of (Err (reports_note fault)))) input i lines
+        (cut_served p request seed runs form input old new fault w))
         (cut_silent sample old new tt tt fault)
-        (λ c is refused. at_lines (λ l. SamplesFewerOf p l request.rules seed runs form old new) input i lines (fewer_sampled p request seed runs form input old new fault w refused) c is)))
+        (λ c is refused. at_lines (λ l. SamplesFewerOf p l request.rules seed runs form old new) input i lines
+        (fewer_sampled p request seed runs form input old new fault w refused) c is)))

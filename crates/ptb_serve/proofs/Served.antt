@@ -80,7 +80,16 @@ nothing_told (Some b) = tt
 
 -- a reader and a writer that are left alone
 abbrev pub unread : {R : Type 0} → R → Option (List ℕ) → ℕ → ℕ → Reads R
-unread r known given failures = record { old = r; new = r; bytes = known; left = known; gave = given; gives = given; failed = failures; fails = failures }
+unread r known given failures = record {
+  old = r;
+  new = r;
+  bytes = known;
+  left = known;
+  gave = given;
+  gives = given;
+  failed = failures;
+  fails = failures;
+}
 
 abbrev pub unwritten : Option (List ℕ) → ℕ → Writes
 unwritten held failures = record { before = held; after = held; failed = failures; fails = failures }
@@ -159,7 +168,8 @@ serves_unloaded memory (Some b) next held e h l = unloaded_fault memory next hel
 pub serves_refusal : (memory : ℕ) (known : Option (List ℕ)) (next : StoredProgram → Reply) (old new : Option (List ℕ))
     (result : Result ℕ Note)
     → IfSome known (λ b. Serves (program_reply memory b next) old new (outcome_of result))
-    → IfSome known (λ b. IfErr (program_of_text memory b) (λ e. Serves (refusal (notes.Load e.0 e.1)) old new (outcome_of result)))
+    → IfSome known
+    (λ b. IfErr (program_of_text memory b) (λ e. Serves (refusal (notes.Load e.0 e.1)) old new (outcome_of result)))
 serves_refusal memory None next old new result h = tt
 serves_refusal memory (Some b) next old new result h = by_text (program_of_text memory b) h where
   by_text : (r : Result Statements (ℕ × LoadFault))
@@ -330,7 +340,8 @@ pub lists_loaded : (request : Request) (b c : List ℕ) (p : StoredProgram) (und
 lists_loaded request b c p under after first form old new h e lists =
     let stored : record { lines = p.lines; memory = request.memory } ≡ p = ap (λ m. record p { memory = m }) (sym e) in
     rw (program_of_text-ok request.memory b p.lines h)
-    (subst (λ q. Appends old new [] ⊎ ListsFewerOf q (input_lines c) request.rules under after first form old new) (sym stored) lists)
+    (subst (λ q. Appends old new [] ⊎ ListsFewerOf q (input_lines c) request.rules under after first form old new)
+    (sym stored) lists)
 
 -- the lists that split the runs of a loaded program
 pub splits_loaded : (request : Request) (b c : List ℕ) (p : StoredProgram) (n : ℕ) (form : Form)
@@ -352,7 +363,8 @@ pub samples_loaded : (request : Request) (b c : List ℕ) (p : StoredProgram) (s
 samples_loaded request b c p seed runs form old new h e samples =
     let stored : record { lines = p.lines; memory = request.memory } ≡ p = ap (λ m. record p { memory = m }) (sym e) in
     rw (program_of_text-ok request.memory b p.lines h)
-    (subst (λ q. Appends old new [] ⊎ SamplesFewerOf q (input_lines c) request.rules seed runs form old new) (sym stored) samples)
+    (subst (λ q. Appends old new [] ⊎ SamplesFewerOf q (input_lines c) request.rules seed runs form old new)
+    (sym stored) samples)
 
 -- a run of a loaded program by a seed
 pub asks_loaded : (request : Request) (b c : List ℕ) (p : StoredProgram) (seed : ℕ) (old new : Option (List ℕ))
@@ -378,7 +390,8 @@ status_within endings.NoAnswer = omega arith
 status_within endings.BadAnswer = omega arith
 
 -- the result of a run on the lines of an input
-module _ (run : List (List ℕ) → List ℕ × Ending) (known : Option (List ℕ)) (c : List ℕ) (old new : Option (List ℕ)) where
+module _ (run : List (List ℕ) → List ℕ × Ending) (known : Option (List ℕ)) (c : List ℕ)
+    (old new : Option (List ℕ)) where
   abbrev due : Reply
   due = run_reply (run (input_lines c))
 
@@ -392,7 +405,8 @@ module _ (run : List (List ℕ) → List ℕ × Ending) (known : Option (List �
 -- ---- an input that can't be read
 
 -- on the lines that came complete a run ends for want of a line, or asks for an answer
-module _ (memory : ℕ) (choose : Option ℤ) (run : StoredProgram → List (List ℕ) → Answers → List ℕ × Ending) (given : StoredProgram → List (List ℕ) → Answers) (p : StoredProgram) (i j old new : Option (List ℕ)) where
+module _ (memory : ℕ) (choose : Option ℤ) (run : StoredProgram → List (List ℕ) → Answers → List ℕ × Ending)
+    (given : StoredProgram → List (List ℕ) → Answers) (p : StoredProgram) (i j old new : Option (List ℕ)) where
   abbrev unread_run : StoredProgram → List (List ℕ) → Reply
   unread_run q lines = run_reply (run q lines (given q lines))
 
@@ -403,7 +417,8 @@ module _ (memory : ℕ) (choose : Option ℤ) (run : StoredProgram → List (Lis
       record { begins = h.0; asked = h.1.0; bytes = h.1.1.bytes; status = sym (ap status h.1.1.ending) }
 
   pub unread_loaded : (known : Option (List ℕ)) → IfSome known (λ b. IsLoaded memory b p.lines) → p.memory ≡ memory
-      → (taken : List ℕ) × Consumes i j taken × ShowsUnread choose (run p (lines_come taken)) (given p (lines_come taken)) old new
+      → (taken : List ℕ) × Consumes i j taken × ShowsUnread choose (run p (lines_come taken))
+      (given p (lines_come taken)) old new
       → IfSome known (λ b. (taken : List ℕ) × Consumes i j taken
       × EndsUnread choose (program_reply memory b (λ q. unread_run q (lines_come taken)))
       (λ a. program_reply memory b (λ q. run_reply (run q (lines_come taken) a))) old new)
@@ -427,7 +442,8 @@ reads_nothing : (request : Request) (count : StoredProgram → List (List ℕ) �
 reads_nothing request count b None outcome = tt
 reads_nothing request count b (Some c) outcome = by_text (program_of_text request.memory b) where
   by_text : (t : Result Statements (ℕ × LoadFault)) → IfOk t (λ p. (taken : List ℕ) × Consumes (Some c) (Some c) taken
-      × ReadsFor taken (wanted_by request.rules.choose (length (input_lines c)) (count (record { lines = p; memory = request.memory }) (input_lines c)) outcome))
+      × ReadsFor taken (wanted_by request.rules.choose (length (input_lines c))
+      (count (record { lines = p; memory = request.memory }) (input_lines c)) outcome))
   by_text (Ok p) = ([], refl, inl refl)
   by_text (Err e) = tt
 
@@ -457,7 +473,8 @@ pub reads_loaded : (request : Request) (count : StoredProgram → List (List ℕ
     (program known left : Option (List ℕ)) (p : StoredProgram) (outcome : Outcome) (result : Result Ending RunFault)
     → IfSome program (λ b. IsLoaded request.memory b p.lines) → p.memory ≡ request.memory
     → ((k : ℕ) → ending_wanted k result ≡ outcome_wanted k outcome)
-    → (taken : List ℕ) × Consumes known left taken × IfSome known (λ c. ReadsFor taken (lines_wanted request.rules.choose (length (input_lines c)) (count p (input_lines c)) result))
+    → (taken : List ℕ) × Consumes known left taken × IfSome known (λ c. ReadsFor taken
+    (lines_wanted request.rules.choose (length (input_lines c)) (count p (input_lines c)) result))
     → IfSome program (λ b. IfSome known (λ c. ReadsBy request count b c left outcome))
 reads_loaded request count None known left p outcome result h e same r = tt
 reads_loaded request count (Some b) None left p outcome result h e same r = tt
@@ -468,7 +485,8 @@ reads_loaded request count (Some b) (Some c) left p outcome result h e same r =
       r.0,
       r.1,
       subst (λ q. ReadsFor r.0 (wanted_by request.rules.choose all (count q (input_lines c)) outcome)) (sym stored)
-          (subst (ReadsFor r.0) (wanted_same result outcome same request.rules.choose all (count p (input_lines c))) r.2),
+          (subst (ReadsFor r.0) (wanted_same result outcome same request.rules.choose all (count p (input_lines c)))
+          r.2),
     )
 
 pub wanted_ended : (e : Ending) (n : ℕ) → n ≡ status e → (k : ℕ)

@@ -45,7 +45,8 @@ same_branches f g m (suc n) same =
 -- texts that are the same for each answer are so for all of them
 same_answers : (f g : ℤ → List ℕ) (n : ℤ) → ((k : ℤ) → is_answer n k ≡ true → f k ≡ g k)
     → flat_map f (answers_to n) ≡ flat_map g (answers_to n)
-same_answers f g (pos n) same = same_branches f g 1 n (λ k l u. same (pos k) (and_from (int_le (pos 1) (pos k)) (int_le (pos k) (pos n)) (le-leb 1 k l) (le-leb k n (omega arith))))
+same_answers f g (pos n) same = same_branches f g 1 n (λ k l u. same (pos k)
+    (and_from (int_le (pos 1) (pos k)) (int_le (pos k) (pos n)) (le-leb 1 k l) (le-leb k n (omega arith))))
 same_answers f g (negsuc n) same = refl
 
 -- ---- one answer more
@@ -60,7 +61,8 @@ bounds_more : (list : List Marked) (bs : List ℤ) (k n : ℤ) → states_bounds
 bounds_more [] [] k n h = refl
 bounds_more [] (b ∷ bs) k n h = refl
 bounds_more (m ∷ list) [] k n h = absurd cc
-bounds_more (m ∷ list) (b ∷ bs) k n h = let p = both_parts (is_bound m.bound b) (states_bounds list bs) h in both_true (is_bound m.bound b) _ p.0 (bounds_more list bs k n p.1)
+bounds_more (m ∷ list) (b ∷ bs) k n h = let p = both_parts (is_bound m.bound b) (states_bounds list bs) h in
+    both_true (is_bound m.bound b) _ p.0 (bounds_more list bs k n p.1)
 
 -- ---- the items of a line
 
@@ -108,10 +110,13 @@ all_left (a ∷ list) = ap (λ l. a ∷ l) (all_left list)
 
 -- ---- the replies
 
-module _ (p : StoredProgram) (c : List ℕ) (rules : Rules) (reads : IsReader (play p (input_lines c) rules) (most_answers p (input_lines c) rules.limit))
-    (listing : ListingLaws (play p (input_lines c) rules) (most_answers p (input_lines c) rules.limit)) (share : ShareLaws (play p (input_lines c) rules) (most_answers p (input_lines c) rules.limit))
+module _ (p : StoredProgram) (c : List ℕ) (rules : Rules)
+    (reads : IsReader (play p (input_lines c) rules) (most_answers p (input_lines c) rules.limit))
+    (listing : ListingLaws (play p (input_lines c) rules) (most_answers p (input_lines c) rules.limit))
+    (share : ShareLaws (play p (input_lines c) rules) (most_answers p (input_lines c) rules.limit))
     (reply : Mode → Reply)
-    (all : (under after : Option (List Marked)) (first : Option ℕ) (form : Form) → reply (modes.All under after first form) ≡ all_reply p (input_lines c) rules under after first form) where
+    (all : (under after : Option (List Marked)) (first : Option ℕ) (form : Form)
+    → reply (modes.All under after first form) ≡ all_reply p (input_lines c) rules under after first form) where
   abbrev game : Answers → Outcome Finish (List ℕ)
   game = play p (input_lines c) rules
 
@@ -139,10 +144,13 @@ module _ (p : StoredProgram) (c : List ℕ) (rules : Rules) (reads : IsReader (p
 
   question : (under : List Marked) (n : ℤ) (shown : List ℕ) (form : Form) → IsMarkedBeginning game under
       → game (answers_of under) ≡ Asks n shown
-      → reply (modes.All (Some under) None None form) ≡ success (flat_map (λ k. (reply (modes.All (Some (under ++ without_bound k ∷ [])) None None form)).bytes) (answers_to n))
+      → reply (modes.All (Some under) None None form) ≡ success (flat_map
+      (λ k. (reply (modes.All (Some (under ++ without_bound k ∷ [])) None None form)).bytes) (answers_to n))
   question under n shown form b asks =
-      let more : (k : ℤ) → is_answer n k ≡ true → share_text form (answers_of under ++ k ∷ []) ≡ (reply (modes.All (Some (under ++ without_bound k ∷ [])) None None form)).bytes =
-      λ k i. ap (share_text form) (sym (answers_more under k)) ∙ sym (ap (λ (r : Reply). r.bytes) (reply_share (under ++ without_bound k ∷ []) form (begins_more under n k shown b asks i))) in
+      let more : (k : ℤ) → is_answer n k ≡ true → share_text form (answers_of under ++ k ∷ [])
+      ≡ (reply (modes.All (Some (under ++ without_bound k ∷ [])) None None form)).bytes =
+      λ k i. ap (share_text form) (sym (answers_more under k)) ∙ sym (ap (λ (r : Reply). r.bytes)
+      (reply_share (under ++ without_bound k ∷ []) form (begins_more under n k shown b asks i))) in
       reply_share under form b
       ∙ ap success (share.question (report form game) (answers_of under) n shown Start asks ∙ same_answers _ _ n more)
 
@@ -153,7 +161,8 @@ module _ (p : StoredProgram) (c : List ℕ) (rules : Rules) (reads : IsReader (p
       reply_share a form (ap is_open ends.1, r.1) ∙ ap success
       (ap (text (report form game)) (share.run (answers_of a) r.0) ∙ append-nil (report form game (answers_of a)))
 
-  pub share_replies : ((after : Option (List Marked)) (first : Option ℕ) (form : Form) → reply (modes.All (Some []) after first form) ≡ reply (modes.All None after first form))
+  pub share_replies : ((after : Option (List Marked)) (first : Option ℕ) (form : Form)
+      → reply (modes.All (Some []) after first form) ≡ reply (modes.All None after first form))
       → ShareReplies game reply
   share_replies whole = record {
     beginning = λ under. ((share.beginning under).1, (share.beginning under).0);
@@ -189,13 +198,16 @@ module _ (p : StoredProgram) (c : List ℕ) (rules : Rules) (reads : IsReader (p
     each_share : (form shown : Form) (u : Answers) → IsIn u (beginnings n game)
         → share_text shown u ≡ (reply (modes.All (Some (items form u)) None None shown)).bytes
     each_share form shown u i =
-        ap (share_text shown) (sym (items_are form u)) ∙ sym (ap (λ (r : Reply). r.bytes) (reply_share (items form u) shown (marks form u (in_contained u (beginnings n game) i))))
+        ap (share_text shown) (sym (items_are form u)) ∙ sym (ap (λ (r : Reply). r.bytes)
+        (reply_share (items form u) shown (marks form u (in_contained u (beginnings n game) i))))
 
     joined : (form shown : Form)
-        → reply (modes.All None None None shown) ≡ success (flat_map (λ u. (reply (modes.All (Some (items form u)) None None shown)).bytes) (beginnings n game))
+        → reply (modes.All None None None shown) ≡ success
+        (flat_map (λ u. (reply (modes.All (Some (items form u)) None None shown)).bytes) (beginnings n game))
     joined form shown =
         all None None None shown ∙ reply-listed p rules None None None shown (input_lines c) refl
-        ∙ ap success (ap (text (report shown game)) (all_left (tree game (most_answers p (input_lines c) rules.limit))) ∙ sym (laws.whole_text (report shown game)) ∙ same_each _ _ (beginnings n game) (each_share form shown))
+        ∙ ap success (ap (text (report shown game)) (all_left (tree game (most_answers p (input_lines c) rules.limit)))
+        ∙ sym (laws.whole_text (report shown game)) ∙ same_each _ _ (beginnings n game) (each_share form shown))
 
     pub splits_runs : ((form : Form) → reply (modes.Shares n form) ≡ shares_reply p (input_lines c) rules n form)
         → SplitsRuns game n reply

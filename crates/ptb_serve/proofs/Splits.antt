@@ -50,7 +50,8 @@ pub begun_with : (p : StoredProgram) (input : List (List ℕ)) (rules : Rules) (
 begun_with p input rules n m same s h =
     h ∙ ap (λ (k : ℕ). record { program = p; input = input; rules = rules; most = k; front = Start }) same
 
-module _ (p : StoredProgram) (request : Request) (n : ℕ) (form : Form) (input : List (List ℕ)) (old new : Option (List ℕ)) where
+module _ (p : StoredProgram) (request : Request) (n : ℕ) (form : Form) (input : List (List ℕ))
+    (old new : Option (List ℕ)) where
   abbrev due : List Answers
   due = beginnings n (play p input request.rules)
 
@@ -110,7 +111,8 @@ module _ (request : Request) (p : StoredProgram) (memory : p.memory ≡ request.
         → IsDue shares reply (Fewer old new) i old new result → ServesProgram shares request p i j old new result
     shares_serve old new result due =
         serves_mode shares (λ x. x) request p i j old new result
-        (λ b c l is. serves_loaded request.memory (Some b) (λ q. shares_reply q (input_lines c) request.rules n form) p old new result l memory (due.served c is))
+        (λ b c l is. serves_loaded request.memory (Some b) (λ q. shares_reply q (input_lines c) request.rules n form) p
+        old new result l memory (due.served c is))
         (λ b. nothing_told i) (λ b. due.unread)
         (λ b c l is h. splits_loaded request b c p n form old new l memory (due.stopped c is h))
         due.quiet due.success due.loaded
@@ -119,10 +121,17 @@ module _ (request : Request) (p : StoredProgram) (memory : p.memory ≡ request.
     pub unread_split : (held : Option (List ℕ)) (fault : ReadFault)
         → ServesProgram shares request p i j held held (Err (input_note fault))
     unread_split held fault =
-        shares_serve held held (Err (input_note fault)) (unread_due shares reply (Fewer held held) i held (Appends-nil held) tt fault)
+        shares_serve held held (Err (input_note fault))
+        (unread_due shares reply (Fewer held held) i held (Appends-nil held) tt fault)
 
   -- a search went on from its front, and is dropped
-  module _ (input : List (List ℕ)) (s : Splitting) (f : Front) (same : s ≡ record { program = p; input = input; rules = request.rules; most = n; front = Start }) (old new : Option (List ℕ)) (broke breaks : ℕ) where
+  module _ (input : List (List ℕ)) (s : Splitting) (f : Front) (same : s ≡ record {
+    program = p;
+    input = input;
+    rules = request.rules;
+    most = n;
+    front = Start;
+  }) (old new : Option (List ℕ)) (broke breaks : ℕ) where
     abbrev WritesFrom : Splitting → Result ℕ ExploreFault → Type 0
     WritesFrom x r =
         WritesRuns (stopped x.most (split_play x)) [] (beginning_line form (split_play x))
@@ -132,31 +141,48 @@ module _ (request : Request) (p : StoredProgram) (memory : p.memory ≡ request.
     written_from r w = subst (λ x. WritesFrom x r) same w
 
     pub shares_written : (k : ℕ) → WritesFrom s (Ok k) → breaks ≡ broke
-        → IsServedOn shares request p input (record { before = old; after = new; failed = broke; fails = breaks }) (Ok 0)
+        → IsServedOn shares request p input (record { before = old; after = new; failed = broke; fails = breaks })
+        (Ok 0)
     shares_written k w =
         all_written shares request p input (record { before = old; after = new; failed = broke; fails = breaks })
         (λ i j lines. shares_serve i j old new (Ok 0) (all_due shares reply (Fewer old new) i old new
-        (at_lines (λ l. Serves (shares_reply p l request.rules n form) old new (outcome_of (Ok 0))) input i lines (all_served p request n form input old new f k (written_from (Ok k) w))) tt))
+        (at_lines (λ l. Serves (shares_reply p l request.rules n form) old new (outcome_of (Ok 0))) input i lines
+        (all_served p request n form input old new f k (written_from (Ok k) w))) tt))
 
     pub shares_broken : {T : Type 0} (result : Result ℕ Note) (fault : ExploreFault)
         → IsErrAnd result (λ m. m ≡ reports_note fault) → WritesFrom s (Err fault)
-        → TellsWriter T fault broke breaks → IsServedOn shares request p input (record { before = old; after = new; failed = broke; fails = breaks }) result
+        → TellsWriter T fault broke breaks
+        → IsServedOn shares request p input (record { before = old; after = new; failed = broke; fails = breaks })
+        result
     shares_broken {T = T} result fault is w =
-        reports_cut shares request p input (record { before = old; after = new; failed = broke; fails = breaks }) {T = T} result fault is
-        (λ i j lines. shares_serve i j old new (Err (reports_note fault)) (cut_due shares reply (Fewer old new) i old new fault
-        (at_lines (λ l. Serves (shares_reply p l request.rules n form) old new (outcome_of (Err (reports_note fault)))) input i lines (cut_served p request n form input old new f fault (written_from (Err fault) w)))
+        reports_cut shares request p input (record { before = old; after = new; failed = broke; fails = breaks })
+        {T = T} result fault is
+        (λ i j lines. shares_serve i j old new (Err (reports_note fault))
+        (cut_due shares reply (Fewer old new) i old new fault
+        (at_lines (λ l. Serves (shares_reply p l request.rules n form) old new (outcome_of (Err (reports_note fault))))
+        input i lines (cut_served p request n form input old new f fault (written_from (Err fault) w)))
         (cut_silent shares old new tt tt fault)
-        (λ c is refused. at_lines (λ l. SplitsFewerOf p l request.rules n form old new) input i lines (fewer_split p request n form input old new f fault (written_from (Err fault) w) refused) c is)))
+        (λ c is refused. at_lines (λ l. SplitsFewerOf p l request.rules n form old new) input i lines
+        (fewer_split p request n form input old new f fault (written_from (Err fault) w) refused) c is)))
 
   -- there was no memory to begin the search
   pub shares_unbegun : (input : List (List ℕ)) (held : Option (List ℕ)) (broke : ℕ) (result : Result ℕ Note)
-      → IsErrAnd result (λ m. m ≡ notes.OutOfMemory) → IsServedOn shares request p input (record { before = held; after = held; failed = broke; fails = broke }) result
+      → IsErrAnd result (λ m. m ≡ notes.OutOfMemory)
+      → IsServedOn shares request p input (record { before = held; after = held; failed = broke; fails = broke }) result
   shares_unbegun input held broke result is =
-      subst (IsServedOn shares request p input (record { before = held; after = held; failed = broke; fails = broke })) (sym (gives_err result notes.OutOfMemory is))
+      subst (IsServedOn shares request p input (record { before = held; after = held; failed = broke; fails = broke }))
+      (sym (gives_err result notes.OutOfMemory is))
       (record {
         serves = λ known left lines.
             shares_serve known left held held (Err notes.OutOfMemory)
-            (record { served = λ c _. takes_nothing held _; quiet = tt; stopped = λ _ _ _. inl (Appends-nil held); unread = λ x. absurd cc; success = tt; loaded = λ x. x });
+            (record {
+              served = λ c _. takes_nothing held _;
+              quiet = tt;
+              stopped = λ _ _ _. inl (Appends-nil held);
+              unread = λ x. absurd cc;
+              success = tt;
+              loaded = λ x. x;
+            });
         read = λ x. absurd cc;
         failures = record { unwritten = λ x. absurd cc; written = λ _. refl };
         no_list = run_refuses_none (Err faults.Memory) (Err notes.OutOfMemory) refl;

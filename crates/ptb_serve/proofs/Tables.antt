@@ -38,52 +38,69 @@ module _ (request : Request) (p : StoredProgram) (memory : p.memory ≡ request.
 
   module _ (i j : Option (List ℕ)) where
     table_serves : (old new : Option (List ℕ)) (result : Result ℕ Note)
-        → IsDue modes.Chances reply (λ c. Unit {0}) i old new result → ServesProgram modes.Chances request p i j old new result
+        → IsDue modes.Chances reply (λ c. Unit {0}) i old new result
+        → ServesProgram modes.Chances request p i j old new result
     table_serves old new result due =
         serves_mode modes.Chances (λ x. x) request p i j old new result
-        (λ b c l is. serves_loaded request.memory (Some b) (λ q. chances_reply q (input_lines c) request.rules) p old new result l memory (due.served c is))
+        (λ b c l is. serves_loaded request.memory (Some b) (λ q. chances_reply q (input_lines c) request.rules) p old
+        new result l memory (due.served c is))
         (λ b. nothing_told i) (λ b. due.unread) (λ b c _ _ _. tt) due.quiet due.success due.loaded
 
     pub unread_table : (held : Option (List ℕ)) (fault : ReadFault)
         → ServesProgram modes.Chances request p i j held held (Err (input_note fault))
     unread_table held fault =
-        table_serves held held (Err (input_note fault)) (unread_due modes.Chances reply (λ c. Unit {0}) i held (Appends-nil held) (Appends-nil held) fault)
+        table_serves held held (Err (input_note fault))
+        (unread_due modes.Chances reply (λ c. Unit {0}) i held (Appends-nil held) (Appends-nil held) fault)
 
     module _ (input : List (List ℕ)) (lines : IfSome i (λ c. input ≡ input_lines c)) (old new : Option (List ℕ)) where
       on_lines : (result : Result ℕ Note) → Serves (chances_reply p input request.rules) old new (outcome_of result)
           → (c : List ℕ) → i ≡ Some c → Serves (reply c) old new (outcome_of result)
-      on_lines result = at_lines (λ l. Serves (chances_reply p l request.rules) old new (outcome_of result)) input i lines
+      on_lines result = at_lines (λ l. Serves (chances_reply p l request.rules) old new (outcome_of result)) input i
+          lines
 
       table_written : Appends old new (due input) → ServesProgram modes.Chances request p i j old new (Ok 0)
       table_written all =
           table_serves old new (Ok 0)
-          (all_due modes.Chances reply (λ c. Unit {0}) i old new (on_lines (Ok 0) (record { bytes = all; status = refl; note = refl })) tt)
+          (all_due modes.Chances reply (λ c. Unit {0}) i old new
+          (on_lines (Ok 0) (record { bytes = all; status = refl; note = refl })) tt)
 
       table_stopped : (note : Note) → Serves (chances_reply p input request.rules) old new (outcome_of (Err note))
           → SilentBy modes.Chances (Some note) old new → (IsErrOf {T = ℕ} (Err note) notes.InputUnread → ⊥)
           → (IsUnloaded (Some note) → ⊥) → ServesProgram modes.Chances request p i j old new (Err note)
       table_stopped note served quiet fine loaded =
           table_serves old new (Err note)
-          (record { served = on_lines (Err note) served; quiet = quiet; stopped = λ _ _ _. inr tt; unread = λ x. absurd (fine x); success = tt; loaded = loaded })
+          (record {
+            served = on_lines (Err note) served;
+            quiet = quiet;
+            stopped = λ _ _ _. inr tt;
+            unread = λ x. absurd (fine x);
+            success = tt;
+            loaded = loaded;
+          })
 
       table_refused : new ≡ old → ServesProgram modes.Chances request p i j old new (Err notes.OutOfMemory)
       table_refused kept =
           table_stopped notes.OutOfMemory (subst (λ n. TakesSome old n (due input)) (sym kept) (takes_nothing old _))
           (subst (λ n. Appends old n []) (sym kept) (Appends-nil old)) (λ x. absurd cc) (λ x. x)
 
-      table_cut : TakesSome old new (due input) → ServesProgram modes.Chances request p i j old new (Err notes.Unwritten)
+      table_cut : TakesSome old new (due input)
+          → ServesProgram modes.Chances request p i j old new (Err notes.Unwritten)
       table_cut some = table_stopped notes.Unwritten some tt (λ x. absurd cc) (λ x. x)
 
   module _ (input : List (List ℕ)) (old new : Option (List ℕ)) (broke breaks : ℕ) where
-    pub chances_written : Appends old new (due input) → breaks ≡ broke → IsServedOn modes.Chances request p input (record { before = old; after = new; failed = broke; fails = breaks }) (Ok 0)
+    pub chances_written : Appends old new (due input) → breaks ≡ broke
+        → IsServedOn modes.Chances request p input
+        (record { before = old; after = new; failed = broke; fails = breaks }) (Ok 0)
     chances_written all =
-        all_written modes.Chances request p input (record { before = old; after = new; failed = broke; fails = breaks }) (λ i j lines. table_written i j input lines old new all)
+        all_written modes.Chances request p input (record { before = old; after = new; failed = broke; fails = breaks })
+        (λ i j lines. table_written i j input lines old new all)
 
     broken_by : {T : Type 0} (fault : ScreenFault) → (IsErrOf {T = T} (Err fault) tables.Memory → new ≡ old)
         → (IsErrOf {T = T} (Err fault) tables.Write → TakesSome old new (due input))
         → (IsErrOf {T = T} (Err fault) tables.Write → HasFailed broke breaks)
         → ((IsErrOf {T = T} (Err fault) tables.Write → ⊥) → breaks ≡ broke)
-        → IsServedOn modes.Chances request p input (record { before = old; after = new; failed = broke; fails = breaks }) (Err (chances_note fault))
+        → IsServedOn modes.Chances request p input
+        (record { before = old; after = new; failed = broke; fails = breaks }) (Err (chances_note fault))
     broken_by tables.Memory kept some failed unfailed = record {
       serves = λ known left lines. table_refused known left input lines old new (kept refl);
       read = λ x. absurd cc;
@@ -103,7 +120,13 @@ module _ (request : Request) (p : StoredProgram) (memory : p.memory ≡ request.
         → (IsErrOf {T = T} (Err fault) tables.Write → TakesSome old new (due input))
         → (IsErrOf {T = T} (Err fault) tables.Write → HasFailed broke breaks)
         → ((IsErrOf {T = T} (Err fault) tables.Write → ⊥) → breaks ≡ broke)
-        → IsServedOn modes.Chances request p input (record { before = old; after = new; failed = broke; fails = breaks }) result
+        → IsServedOn modes.Chances request p input
+        (record { before = old; after = new; failed = broke; fails = breaks }) result
     chances_broken {T = T} result fault is kept some failed unfailed =
-        subst (IsServedOn modes.Chances request p input (record { before = old; after = new; failed = broke; fails = breaks })) (sym (gives_err result (chances_note fault) is))
+        subst (IsServedOn modes.Chances request p input (record {
+          before = old;
+          after = new;
+          failed = broke;
+          fails = breaks;
+        })) (sym (gives_err result (chances_note fault) is))
         (broken_by {T = T} fault kept some failed unfailed)

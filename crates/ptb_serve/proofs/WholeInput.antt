@@ -47,7 +47,8 @@ pub lines_read : (mode : Mode) → (IsPlainRun mode → ⊥) → NeedsInput mode
     → (IsErrOf result notes.InputUnread → ⊥)
     → ReadsInput mode input.bytes input.left input.failed input.fails input.gave input.gives result
 lines_read mode plain needs {input = i} result r done sound fine =
-    whole_reads mode plain needs i.bytes i.left i.failed i.fails i.gave i.gives result (r.within done) r.consumed r.given
+    whole_reads mode plain needs i.bytes i.left i.failed i.fails i.gave i.gives result
+    (r.within done) r.consumed r.given
     (r.unfailed sound) fine
 
 -- what holds of the lines that were read holds of those of the bytes, where they are known
@@ -78,7 +79,8 @@ cut_silent mode old new refused unwritten (explores.Write n) = unwritten
 
 -- ---- what a mode writes for the bytes of an input: its reply, or less where memory is refused
 
-pub record IsDue (mode : Mode) (reply : List ℕ → Reply) (Fewer : List ℕ → Type 0) (i old new : Option (List ℕ)) (result : Result ℕ Note) : Type 0 where
+pub record IsDue (mode : Mode) (reply : List ℕ → Reply) (Fewer : List ℕ
+    → Type 0) (i old new : Option (List ℕ)) (result : Result ℕ Note) : Type 0 where
   pub served : (c : List ℕ) → i ≡ Some c → Serves (reply c) old new (outcome_of result)
   pub quiet : SilentBy mode (outcome_of result).note old new
   pub stopped : (c : List ℕ) → i ≡ Some c → IsErrOf result notes.OutOfMemory → Appends old new [] ⊎ Fewer c
@@ -138,13 +140,16 @@ module _ (mode : Mode) (request : Request) (p : StoredProgram) where
       (held : Option (List ℕ)) (broke : ℕ) (note : Note) (fault : ReadFault)
       → ((known left : Option (List ℕ)) → ServesProgram mode request p known left held held (Err (input_note fault)))
       → note ≡ input_note fault
-      → ReadsUpTo input_limit input complete (IsErrOf {T = T} (Err fault) reads.TooLong) (IsErrOf {T = T} (Err fault) reads.Read)
+      → ReadsUpTo input_limit input complete (IsErrOf {T = T} (Err fault) reads.TooLong)
+      (IsErrOf {T = T} (Err fault) reads.Read)
       → IsServed mode request p input (record { before = held; after = held; failed = broke; fails = broke }) (Err note)
   unread_served plain needs {T = T} {input = i} held broke note fault serves is r =
-      subst (λ (n : Note). IsServed mode request p i (record { before = held; after = held; failed = broke; fails = broke }) (Err n)) (sym is)
+      subst (λ (n : Note). IsServed mode request p i
+      (record { before = held; after = held; failed = broke; fails = broke }) (Err n)) (sym is)
       (record {
         serves = serves i.bytes i.left;
-        reads = whole_unread mode plain needs i.bytes i.left i.failed i.fails i.gave i.gives {T = T} fault r.has_failed r.longer
+        reads = whole_unread mode plain needs i.bytes i.left i.failed i.fails i.gave i.gives
+            {T = T} fault r.has_failed r.longer
             r.given_longer r.unfailed r.consumed r.given;
         failures = record { unwritten = λ x. absurd (input_note-written fault x); written = λ _. refl };
         no_list = unread_refuses_none (input_note fault) fault refl;
@@ -184,6 +189,9 @@ module _ (mode : Mode) (request : Request) (p : StoredProgram) where
         (record {
           serves = serves;
           read = reports_note-read fault;
-          failures = record { unwritten = reports_note-failed {T = T} fault writer.0; written = λ x. writer.1 (reports_note-write {T = T} fault x) };
+          failures = record {
+            unwritten = reports_note-failed {T = T} fault writer.0;
+            written = λ x. writer.1 (reports_note-write {T = T} fault x);
+          };
           no_list = reports_refuse_none fault;
         })

@@ -61,9 +61,11 @@ unbegun_attempt (NoBeginning m) = refused_attempt (Under m)
 unbegun_attempt (NotARun m) = refused_attempt (After m)
 unbegun_attempt Memory = record { served = Err notes.OutOfMemory; mismatch = None; line = None }
 
-abbrev pub IsListRefused : (Answers → Outcome Finish (List ℕ)) → Option (List Marked) → Option (List Marked) → ListMismatch
+abbrev pub IsListRefused : (Answers → Outcome Finish (List ℕ)) → Option (List Marked) → Option (List Marked)
+    → ListMismatch
     → Type 0
-IsListRefused game under after m = (front_note game under after ≡ Some (mismatch_note m)) × IsMismatchIn game under after m
+IsListRefused game under after m = (front_note game under after ≡ Some (mismatch_note m))
+    × IsMismatchIn game under after m
 
 abbrev pub IsUnbegun : (Answers → Outcome Finish (List ℕ)) → Option (List Marked) → Option (List Marked) → OpenFault
     → Type 0

@@ -6,7 +6,8 @@
 --     RefusesListIn result        a list is refused
 --     IsServed mode ..            all of these of a mode that begins with no list
 --     IsServedOn mode ..          the same of lines that were read
---     TellsMismatch mode ..       what is said of a list goes with its note, and is so; and it is said with each such note
+--     TellsMismatch mode ..       what is said of a list goes with its note, and is so; and it is said with each such
+--                                 note
 --     line_of ended               the line at which the limit stopped a run
 --     line_in_mode mode p lines rules     the same of the play on these lines
 --     TellsLine mode ..           where the limit stopped a run, the line is that of the play
@@ -49,7 +50,8 @@ IsRunStatus (Err faults.Spent) result = ⊥
 
 -- the input is `known` before and `left` after, and what is written goes from `old` to `new`; b is a text of which p
 -- is the program
-pub record ServesProgram (mode : Mode) (request : Request) (p : StoredProgram) (known left old new : Option (List ℕ)) (result : Result ℕ Note) : Type 0 where
+pub record ServesProgram (mode : Mode) (request : Request) (p : StoredProgram) (known left old new : Option (List ℕ))
+    (result : Result ℕ Note) : Type 0 where
   pub served : (b c : List ℕ) → IsLoaded request.memory b p.lines → IsInput mode known c
       → Serves (reply_in_mode mode request b c) old new (outcome_of result)
   pub taken : (b : List ℕ) → IsLoaded request.memory b p.lines
@@ -66,7 +68,8 @@ pub record ServesProgram (mode : Mode) (request : Request) (p : StoredProgram) (
   pub loaded : IsUnloaded (outcome_of result).note → ⊥
 
 -- the reader had failed so often and given so many bytes before, and after
-pub record ReadsInput (mode : Mode) (known left : Option (List ℕ)) (failed fails gave gives : ℕ) (result : Result ℕ Note) : Type 0 where
+pub record ReadsInput (mode : Mode) (known left : Option (List ℕ)) (failed fails gave gives : ℕ)
+    (result : Result ℕ Note) : Type 0 where
   pub within : NeedsWholeInput mode → OnOk result (IfSome known (λ c. length c ≤ input_limit))
   pub taken_within : IsPlainRun mode → OnOk result (ConsumesAtMost known left input_limit)
   pub no_beginning_within : IsErrOf result notes.NoBeginning → IfSome known (λ c. length c ≤ input_limit)
@@ -87,21 +90,24 @@ abbrev pub RefusesListIn : Result ℕ Note → Type 0
 RefusesListIn result = IsErrOf result notes.NoBeginning ⊎ IsErrOf result notes.NoRun
 
 -- all that is due of a mode that begins with no list
-pub record IsServed {R : Type 0} (mode : Mode) (request : Request) (p : StoredProgram) (input : Reads R) (output : Writes) (result : Result ℕ Note) : Type 0 where
+pub record IsServed {R : Type 0} (mode : Mode) (request : Request) (p : StoredProgram) (input : Reads R)
+    (output : Writes) (result : Result ℕ Note) : Type 0 where
   pub serves : ServesProgram mode request p input.bytes input.left output.before output.after result
   pub reads : ReadsInput mode input.bytes input.left input.failed input.fails input.gave input.gives result
   pub failures : TellsFailures output.failed output.fails result
   pub no_list : RefusesListIn result → ⊥
 
 -- the same of the lines of an input that was read
-pub record IsServedOn (mode : Mode) (request : Request) (p : StoredProgram) (lines : List (List ℕ)) (output : Writes) (result : Result ℕ Note) : Type 0 where
+pub record IsServedOn (mode : Mode) (request : Request) (p : StoredProgram) (lines : List (List ℕ)) (output : Writes)
+    (result : Result ℕ Note) : Type 0 where
   pub serves : (known left : Option (List ℕ)) → IfSome known (λ c. lines ≡ input_lines c)
       → ServesProgram mode request p known left output.before output.after result
   pub read : IsErrOf result notes.InputUnread → ⊥
   pub failures : TellsFailures output.failed output.fails result
   pub no_list : RefusesListIn result → ⊥
 
-pub record TellsMismatch (mode : Mode) (request : Request) (p : StoredProgram) (known : Option (List ℕ)) (result : Result ℕ Note) (mismatch : Option ListMismatch) : Type 0 where
+pub record TellsMismatch (mode : Mode) (request : Request) (p : StoredProgram) (known : Option (List ℕ))
+    (result : Result ℕ Note) (mismatch : Option ListMismatch) : Type 0 where
   pub said : RefusesListIn result → IsSome mismatch
   pub noted : IfSome mismatch (λ m. IsErrOf result (mismatch_note m))
   pub fits : (c : List ℕ) → IsInput mode known c → IfSome mismatch (IsMismatchOf mode p (input_lines c) request.rules)
@@ -120,7 +126,8 @@ line_in_mode modes.List p lines rules = None
 line_in_mode modes.Check p lines rules = None
 line_in_mode modes.Chances p lines rules = None
 
-pub record TellsLine (mode : Mode) (request : Request) (p : StoredProgram) (known : Option (List ℕ)) (result : Result ℕ Note) (line : Option ℕ) : Type 0 where
+pub record TellsLine (mode : Mode) (request : Request) (p : StoredProgram) (known : Option (List ℕ))
+    (result : Result ℕ Note) (line : Option ℕ) : Type 0 where
   pub at_limit : result ≡ Ok (status endings.Limit) → (c : List ℕ) → IsInput mode known c
       → line ≡ line_in_mode mode p (input_lines c) request.rules
   -- nothing else has a line

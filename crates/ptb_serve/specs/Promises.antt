@@ -28,7 +28,8 @@ module _ {P R : Type 0} (request : Request) (text : Reads P) (input : Reads R) w
         → IfSome text.bytes (λ b. Serves (reply_to request b c) out.before out.after outcome)
     -- A text that is refused is refused whatever the input is.
     pub refusal : IfSome text.bytes
-        (λ b. IfErr (program_of_text request.memory b) (λ e. Serves (refusal (notes.Load e.0 e.1)) out.before out.after outcome))
+        (λ b. IfErr (program_of_text request.memory b)
+        (λ e. Serves (refusal (notes.Load e.0 e.1)) out.before out.after outcome))
     -- A note of a refusal has the line and the fault of the text's first refusal.
     pub refused_at : TellsRefusal request.memory text.bytes outcome.note
     -- Each note has its own status, 64 or more. Without a note the status is at most 7,
@@ -55,17 +56,20 @@ module _ {P R : Type 0} (request : Request) (text : Reads P) (input : Reads R) w
         → IsSome outcome.mismatch
     pub mismatch_noted : IfSome outcome.mismatch (λ m. outcome.note ≡ Some (mismatch_note m))
     pub mismatch : (c : List ℕ) → IsInput request.mode input.bytes c
-        → IfSome text.bytes (λ b. IfOk (program_of_text request.memory b) (λ p. IfSome outcome.mismatch (IsMismatchOf request.mode (record { lines = p; memory = request.memory }) (input_lines c) request.rules)))
+        → IfSome text.bytes (λ b. IfOk (program_of_text request.memory b) (λ p. IfSome outcome.mismatch (IsMismatchOf
+        request.mode (record { lines = p; memory = request.memory }) (input_lines c) request.rules)))
     -- Where the limit stopped a run, the line is the number of the statement in which its next command begins. There
     -- is no line with any other status.
     pub line : outcome.status ≡ 4 → (c : List ℕ) → IsInput request.mode input.bytes c
-        → IfSome text.bytes (λ b. IfOk (program_of_text request.memory b) (λ p. outcome.line ≡ line_in_mode request.mode (record { lines = p; memory = request.memory }) (input_lines c) request.rules))
+        → IfSome text.bytes (λ b. IfOk (program_of_text request.memory b) (λ p. outcome.line ≡ line_in_mode request.mode
+        (record { lines = p; memory = request.memory }) (input_lines c) request.rules))
     pub no_line : ¬ (outcome.status ≡ 4) → outcome.line ≡ None
 
   pub record ReadsOnlyWhatIsAsked (outcome : Outcome) : Type 0 where
     -- The text is loaded first: where it is refused, the input is left alone, and is not at fault.
     pub load_first : IfSome text.bytes
-        (λ b. IfErr (program_of_text request.memory b) (λ _. (input.new ≡ input.old) × ¬ (outcome.note ≡ Some notes.InputUnread)))
+        (λ b. IfErr (program_of_text request.memory b) (λ _. (input.new ≡ input.old)
+        × ¬ (outcome.note ≡ Some notes.InputUnread)))
     -- So it is where the text could not be read, or is noted as refused,
     pub unloaded : IsUnloaded outcome.note → input.new ≡ input.old
     -- and where the request needs no input.
@@ -88,7 +92,8 @@ module _ {P R : Type 0} (request : Request) (text : Reads P) (input : Reads R) w
     pub input_consumed : ConsumesAtMost input.bytes input.left (input_limit + 1)
     pub input_given : GivesAtMost input.gave input.gives (input_limit + 1)
 
-pub record FailsLoudly {P R : Type 0} (text : Reads P) (input : Reads R) (out : Writes) (outcome : Outcome) : Type 0 where
+pub record FailsLoudly {P R : Type 0} (text : Reads P) (input : Reads R) (out : Writes)
+    (outcome : Outcome) : Type 0 where
   -- The text is noted as unread where its reader failed, and only there.
   pub text_failed : outcome.note ≡ Some notes.ProgramUnread → HasFailed text.failed text.fails
   pub text_unfailed : ¬ (outcome.note ≡ Some notes.ProgramUnread) → text.fails ≡ text.failed

@@ -137,7 +137,10 @@ listed_runs game most under after first form = text (report form game) (runs_due
 unfoldable pub runs_reply : (Answers → Outcome Finish (List ℕ)) → ℕ → Option (List Marked) → Option (List Marked)
     → Option ℕ → Form → Reply
 runs_reply game most under after first form =
-    elim (front_note game under after) [ None ↦ success (listed_runs game most under after first form) | Some note ↦ refusal note ]
+    elim (front_note game under after) [
+      | None ↦ success (listed_runs game most under after first form)
+      | Some note ↦ refusal note
+    ]
 
 -- the runs of a program on these input lines
 abbrev pub all_reply : StoredProgram → List (List ℕ) → Rules → Option (List Marked) → Option (List Marked) → Option ℕ
@@ -160,7 +163,8 @@ runs_drawn game most seed runs = sampled_runs most game (generator_of seed) runs
 
 -- their reports
 abbrev pub sample_reply : StoredProgram → List (List ℕ) → Rules → ℕ → ℕ → Form → Reply
-sample_reply p input rules seed runs form = success (text (report form (play p input rules)) (runs_drawn (play p input rules) (most_answers p input rules.limit) seed runs))
+sample_reply p input rules seed runs form = success (text (report form (play p input rules))
+    (runs_drawn (play p input rules) (most_answers p input rules.limit) seed runs))
 
 -- ---- the chances
 

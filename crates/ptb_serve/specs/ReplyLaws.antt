@@ -1,10 +1,14 @@
 -- This file states the laws of replies.
---     ListsRuns play IsListed reply    the replies to a listing are the reports of these runs, or of the first n of them
---     RunsBySeed seed play reply       the reply to a run by a seed is that to one plain run, whose answers are drawn from the seed
---     SamplesBySeed seed play n reply  the replies to a sample are the reports of n runs that are drawn by the words of the seed's generator
+--     ListsRuns play IsListed reply    the replies to a listing are the reports of these runs, or of the first n of
+--                                      them
+--     RunsBySeed seed play reply       the reply to a run by a seed is that to one plain run, whose answers are drawn
+--                                      from the seed
+--     SamplesBySeed seed play n reply  the replies to a sample are the reports of n runs that are drawn by the words of
+--                                      the seed's generator
 --     ShareReplies play reply          the replies to the shares of a tree: to the runs that begin with some answers
 --     line_items form play u           the answers of a list, in a form
---     SplitsRuns play n reply          the reply to `--shares n` is a line for each list that splits the runs; the replies to their shares are the reply to all runs
+--     SplitsRuns play n reply          the reply to `--shares n` is a line for each list that splits the runs; the
+--                                      replies to their shares are the reply to all runs
 --     RunReplies play most reply       what the replies are where a program is run, once or with all answers
 --     ChecksText p reply               the reply to a check of the program p
 --     TellsChances play most reply     the reply to `--chances` is the table of all results that runs have
@@ -44,7 +48,8 @@ use Rattle.ptb_machine.specs.SeededRuns.{IsDrawn}
 use Rattle.ptb_serve.specs.Replies.{Reply, refusal, success, run_reply, program_of_text, reply_to}
 
 -- All replies of a listing come from one list of runs, whatever number of them is asked for, and in whatever form.
-pub record ListsRuns (play : Answers → Outcome Finish (List ℕ)) (IsListed : Answers → Type 0) (reply : Option ℕ → Form → Reply) : Type 0 where
+pub record ListsRuns (play : Answers → Outcome Finish (List ℕ)) (IsListed : Answers → Type 0) (reply : Option ℕ → Form
+    → Reply) : Type 0 where
   pub runs : List Answers
   -- each is before all that follow it, so none is there twice
   pub rising : IsRising runs
@@ -65,7 +70,8 @@ pub record RunsBySeed (seed : ℕ) (play : Answers → Outcome Finish (List ℕ)
   pub same : reply (modes.Seeded seed) ≡ reply (modes.Plain answers)
 
 -- A seed draws runs one after the other, each by the words that the runs before it left.
-pub record SamplesBySeed (seed : ℕ) (play : Answers → Outcome Finish (List ℕ)) (n : ℕ) (reply : Form → Reply) : Type 0 where
+pub record SamplesBySeed (seed : ℕ) (play : Answers → Outcome Finish (List ℕ)) (n : ℕ) (reply : Form
+    → Reply) : Type 0 where
   pub runs : List Answers
   pub count : length runs ≡ n
   pub members : (a : Answers) → Contains runs a → IsRun play a
@@ -98,7 +104,8 @@ pub record ShareReplies (play : Answers → Outcome Finish (List ℕ)) (reply : 
   -- one after the other
   pub question : (under : List Marked) (n : ℤ) (shown : List ℕ) (form : Form) → IsMarkedBeginning play under
       → play (answers_of under) ≡ Asks n shown
-      → reply (modes.All (Some under) None None form) ≡ success (flat_map (λ k. (reply (modes.All (Some (under ++ without_bound k ∷ [])) None None form)).bytes) (answers_to n))
+      → reply (modes.All (Some under) None None form) ≡ success (flat_map
+      (λ k. (reply (modes.All (Some (under ++ without_bound k ∷ [])) None None form)).bytes) (answers_to n))
   -- the share of a run is its report
   pub run : (a : List Marked) (form : Form) → IsMarkedRun play a
       → reply (modes.All (Some a) None None form) ≡ success (report form play (answers_of a))
@@ -136,17 +143,20 @@ pub record RunReplies (play : Answers → Outcome Finish (List ℕ)) (most : ℕ
   -- after a run that is named, exactly the runs that it is before; bounds that are stated of it are those of its
   -- questions
   pub runs_after : (list : List Marked) → IsMarkedRun play list
-      → ListsRuns play (λ a. IsRun play a × Before (answers_of list) a) (λ first form. reply (modes.All None (Some list) first form))
+      → ListsRuns play (λ a. IsRun play a × Before (answers_of list) a)
+      (λ first form. reply (modes.All None (Some list) first form))
   -- where what is named is no run, or a bound is another, nothing is written, and the note and its status say so
   pub no_run : (list : List Marked) (first : Option ℕ) (form : Form) → (IsMarkedRun play list → ⊥)
       → reply (modes.All None (Some list) first form) ≡ refusal notes.NoRun
   -- of the runs that begin with some answers, the same: all of them
   pub share : (under : List Marked) → IsMarkedBeginning play under
-      → ListsRuns play (λ a. IsRun play a × (begins_with a (answers_of under) ≡ true)) (λ first form. reply (modes.All (Some under) None first form))
+      → ListsRuns play (λ a. IsRun play a × (begins_with a (answers_of under) ≡ true))
+      (λ first form. reply (modes.All (Some under) None first form))
   -- or those after one of them that is named
   pub share_after : (under list : List Marked) → IsMarkedBeginning play under → IsMarkedRun play list
       → begins_with (answers_of list) (answers_of under) ≡ true
-      → ListsRuns play (λ a. IsRun play a × Before (answers_of list) a × (begins_with a (answers_of under) ≡ true)) (λ first form. reply (modes.All (Some under) (Some list) first form))
+      → ListsRuns play (λ a. IsRun play a × Before (answers_of list) a × (begins_with a (answers_of under) ≡ true))
+      (λ first form. reply (modes.All (Some under) (Some list) first form))
   -- where no run begins so, or a bound is another, nothing is written, whatever run is named, and the note and its
   -- status say so
   pub no_beginning : (under : List Marked) (after : Option (List Marked)) (first : Option ℕ) (form : Form)
@@ -210,8 +220,10 @@ pub record ReplyLaws : Type 0 where
   -- It has the chance of this result in lowest terms, where each answer to a question is equally likely, and the
   -- number of its runs.
   pub accepted :
-      (memory : ℕ) (size : IsMemorySize memory) (rules : Rules) (b c : List ℕ) (p : Statements) → program_of_text memory b ≡ Ok p
-      → RunReplies (play (record { lines = p; memory = memory }) (input_lines c) rules) (most_answers (record { lines = p; memory = memory }) (input_lines c) rules.limit)
+      (memory : ℕ) (size : IsMemorySize memory) (rules : Rules) (b c : List ℕ) (p : Statements)
+      → program_of_text memory b ≡ Ok p
+      → RunReplies (play (record { lines = p; memory = memory }) (input_lines c) rules)
+      (most_answers (record { lines = p; memory = memory }) (input_lines c) rules.limit)
       (λ mode. reply_to (record { rules = rules; memory = memory; mode = mode; in_range = size }) b c)
   -- the reply to a listing of a text that is accepted is the listing of its lines
   pub listed : (r : Request) (b c : List ℕ) (p : Statements) → program_of_text r.memory b ≡ Ok p → r.mode ≡ modes.List

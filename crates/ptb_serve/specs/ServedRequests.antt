@@ -10,7 +10,8 @@
 --     TellsLength old new note          a text is noted as too long where one byte too many was given
 --     SilentBy mode note old new        nothing was written, unless what was due was broken off
 --     WritesFewer report due old new    the reports of the first of these runs were written, and fewer than all
---     StopsForMemory mode ..            what was written of a listing, of a sample, or of a run by a seed, where memory was refused
+--     StopsForMemory mode ..            what was written of a listing, of a sample, or of a run by a seed, where memory
+--                                       was refused
 --     EndsUnread choose reply others old new    what was written of the reply to a run that couldn't read a line
 --     ServesUnread mode ..              what was written where the input could not be read
 --     wanted_by choose all k outcome    how many of all lines a run wanted that takes k
@@ -88,7 +89,8 @@ chances_note tables.Write = notes.Unwritten
 -- ---- how a request is served
 
 -- the writer got all bytes of the reply, where they are known, and the status and the note are the reply's
-pub record IsReply (reply : Reply) (old new : Option (List ℕ)) (written_status : ℕ) (written_note : Option Note) : Type 0 where
+pub record IsReply (reply : Reply) (old new : Option (List ℕ)) (written_status : ℕ)
+    (written_note : Option Note) : Type 0 where
   pub bytes : Appends old new reply.bytes
   pub status : written_status ≡ reply.status
   pub note : written_note ≡ reply.note
@@ -161,10 +163,17 @@ AsksForMore p input rules seed old new = ShowsQuestion (plain p input rules) (se
 -- to a question
 abbrev pub StopsForMemory : Mode → Request → List ℕ → List ℕ → Option (List ℕ) → Option (List ℕ) → Type 0
 StopsForMemory (modes.Plain a) request b c old new = Unit {0}
-StopsForMemory (modes.Seeded seed) request b c old new = IfOk (program_of_text request.memory b) (λ p. Appends old new [] ⊎ AsksForMore (record { lines = p; memory = request.memory }) (input_lines c) request.rules seed old new)
-StopsForMemory (modes.All under after first form) request b c old new = IfOk (program_of_text request.memory b) (λ p. Appends old new [] ⊎ ListsFewerOf (record { lines = p; memory = request.memory }) (input_lines c) request.rules under after first form old new)
-StopsForMemory (modes.Shares answers form) request b c old new = IfOk (program_of_text request.memory b) (λ p. Appends old new [] ⊎ SplitsFewerOf (record { lines = p; memory = request.memory }) (input_lines c) request.rules answers form old new)
-StopsForMemory (modes.Sample seed runs form) request b c old new = IfOk (program_of_text request.memory b) (λ p. Appends old new [] ⊎ SamplesFewerOf (record { lines = p; memory = request.memory }) (input_lines c) request.rules seed runs form old new)
+StopsForMemory (modes.Seeded seed) request b c old new = IfOk (program_of_text request.memory b) (λ p. Appends old new
+    [] ⊎ AsksForMore (record { lines = p; memory = request.memory }) (input_lines c) request.rules seed old new)
+StopsForMemory (modes.All under after first form) request b c old new =
+    IfOk (program_of_text request.memory b) (λ p. Appends old new [] ⊎ ListsFewerOf
+    (record { lines = p; memory = request.memory }) (input_lines c) request.rules under after first form old new)
+StopsForMemory (modes.Shares answers form) request b c old new =
+    IfOk (program_of_text request.memory b) (λ p. Appends old new [] ⊎ SplitsFewerOf
+    (record { lines = p; memory = request.memory }) (input_lines c) request.rules answers form old new)
+StopsForMemory (modes.Sample seed runs form) request b c old new =
+    IfOk (program_of_text request.memory b) (λ p. Appends old new [] ⊎ SamplesFewerOf
+    (record { lines = p; memory = request.memory }) (input_lines c) request.rules seed runs form old new)
 StopsForMemory modes.List request b c old new = Unit {0}
 StopsForMemory modes.Check request b c old new = Unit {0}
 StopsForMemory modes.Chances request b c old new = Unit {0}
@@ -283,7 +292,8 @@ abbrev pub ReadsByNote : Request → (StoredProgram → List (List ℕ) → ℕ)
     → ℕ → Type 0
 ReadsByNote request count b c left note number =
     IfOk (program_of_text request.memory b) (λ p. (taken : List ℕ) × Consumes (Some c) left taken
-    × ReadsFor taken (note_wanted_by request.rules.choose (length (input_lines c)) (count (record { lines = p; memory = request.memory }) (input_lines c)) note number))
+    × ReadsFor taken (note_wanted_by request.rules.choose (length (input_lines c))
+    (count (record { lines = p; memory = request.memory }) (input_lines c)) note number))
 
 abbrev pub ReadsBy : Request → (StoredProgram → List (List ℕ) → ℕ) → List ℕ → List ℕ → Option (List ℕ) → Outcome
     → Type 0

@@ -37,7 +37,8 @@ all_with_text [] n text all one = both _ _ one refl
 all_with_text (s ∷ p) n text all one =
     let first = (both_true _ _ all).0 in
     let others = (both_true _ _ all).1 in
-    elim (nat_cmp n s.0) as (λ o. nat_cmp n s.0 ≡ o → list_all is_statement (by_order o ((n, text) ∷ s ∷ p) ((s.0, text) ∷ p) (s ∷ put nat_cmp n text p)) ≡ true) [
+    elim (nat_cmp n s.0) as (λ o. nat_cmp n s.0 ≡ o → list_all is_statement
+    (by_order o ((n, text) ∷ s ∷ p) ((s.0, text) ∷ p) (s ∷ put nat_cmp n text p)) ≡ true) [
       | Less ↦ λ e. both _ _ one all
       | Equal ↦ λ e. both _ _ (ap (λ k. is_statement (k, text)) (sym (same_from_equal n s.0 e)) ∙ one) others
       | Greater ↦ λ e. both _ _ first (all_with_text p n text others one)
@@ -98,7 +99,13 @@ Enters-ok q old new lines memory fits =
 
 pub Enters-full : (q : Statements) (old : StoredProgram) → old.memory < cost q
     → Enters (if_room old.memory q) old old (Err Full)
-Enters-full q old over = record { ok = tt; refused = λ _. grind (arith, nat_tests); memory_last = λ no_line_fault. absurd (no_line_fault tt); err = refl; memory = refl }
+Enters-full q old over = record {
+  ok = tt;
+  refused = λ _. grind (arith, nat_tests);
+  memory_last = λ no_line_fault. absurd (no_line_fault tt);
+  err = refl;
+  memory = refl;
+}
 
 pub Enters-memory : (q : Statements) (old new : StoredProgram) (f : LoadFault) → f ≡ Memory → new ≡ old
     → cost q ≤ old.memory → Enters (if_room old.memory q) old new (Err f)

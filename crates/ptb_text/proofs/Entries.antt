@@ -88,7 +88,12 @@ with_text-place (s ∷ p) n (suc i) text at =
 
 pub without_number-gap : (p : Statements) (n i : ℕ) → IsGapFor p n i → without_number p n ≡ p
 without_number-gap [] n i gap = refl
-without_number-gap (s ∷ p) n zero gap = grind (arith, nat_tests, gap.greater_after 0 (omega arith) (omega arith), without_number-gap p n 0 (IsGapFor-later s p n gap))
+without_number-gap (s ∷ p) n zero gap = grind (
+  arith,
+  nat_tests,
+  gap.greater_after 0 (omega arith) (omega arith),
+  without_number-gap p n 0 (IsGapFor-later s p n gap),
+)
 without_number-gap (s ∷ p) n (suc i) gap =
     grind (arith, nat_tests, gap.smaller_before 0 (omega arith), without_number-gap p n i (IsGapFor-tail s p n i gap))
 

@@ -34,7 +34,8 @@ gathers_same {a} {b} {s} {t} {p} e g = subst (λ z. Gathers a b z p) e g
 gathers_some : (a b : Option (List ℕ)) (s p : List ℕ) → Gathers a b s p → TakesSome a b s
 gathers_some a b s p g =
     let l : length s ≡ length g.front + length p = ap length g.whole ∙ length-append g.front p in
-    let t : take (length g.front) s ≡ g.front = ap (take (length g.front)) g.whole ∙ take-append-le (length g.front) g.front p (omega arith) ∙ take-length g.front in
+    let t : take (length g.front) s ≡ g.front = ap (take (length g.front)) g.whole
+    ∙ take-append-le (length g.front) g.front p (omega arith) ∙ take-length g.front in
     (length g.front, omega arith, subst (Appends a b) (sym t) g.growth)
 
 some_gathers : (a b : Option (List ℕ)) (s : List ℕ) → (t : TakesSome a b s) → Gathers a b s (drop t.0 s)
@@ -74,11 +75,14 @@ all_more a b c s p x g t =
 
 -- ---- one piece after the other: s, and then a piece for each of xs, of which i are done; x is the next piece
 
-module _ {X : Type 0} (f : X → List ℕ) (xs : List X) (i : ℕ) (d : X) (within : i < length xs) (x : List ℕ) (next : x ≡ f (get_or xs i d)) (a b c : Option (List ℕ)) (s p : List ℕ) (so_far : Gathers a b (s ++ flat_map f (take i xs)) p) where
+module _ {X : Type 0} (f : X → List ℕ) (xs : List X) (i : ℕ) (d : X) (within : i < length xs)
+    (x : List ℕ) (next : x ≡ f (get_or xs i d)) (a b c : Option (List ℕ)) (s p : List ℕ)
+    (so_far : Gathers a b (s ++ flat_map f (take i xs)) p) where
   pieces_more : (s ++ flat_map f (take i xs)) ++ x ≡ s ++ flat_map f (take (i + 1) xs)
   pieces_more =
       append_assoc s (flat_map f (take i xs)) x
-      ∙ ap (λ z. s ++ z) (ap (λ z. flat_map f (take i xs) ++ z) (next ∙ sym (append-nil (f (get_or xs i d)))) ∙ sym (ap (flat_map f) (take_more xs i d within) ∙ flat_map-append f (take i xs) (get_or xs i d ∷ [])))
+      ∙ ap (λ z. s ++ z) (ap (λ z. flat_map f (take i xs) ++ z) (next ∙ sym (append-nil (f (get_or xs i d))))
+      ∙ sym (ap (flat_map f) (take_more xs i d within) ∙ flat_map-append f (take i xs) (get_or xs i d ∷ [])))
 
   pieces_all : (s ++ flat_map f (take (i + 1) xs)) ++ flat_map f (drop (i + 1) xs) ≡ s ++ flat_map f xs
   pieces_all =
@@ -92,6 +96,7 @@ module _ {X : Type 0} (f : X → List ℕ) (xs : List X) (i : ℕ) (d : X) (with
 
   pub some_piece : TakesSome b c (p ++ x) → TakesSome a c (s ++ flat_map f xs)
   some_piece t =
-      let upto : TakesSome a c (s ++ flat_map f (take (i + 1) xs)) = subst (TakesSome a c) pieces_more (some_after a b c (s ++ flat_map f (take i xs)) p x so_far t) in
+      let upto : TakesSome a c (s ++ flat_map f (take (i + 1) xs)) =
+      subst (TakesSome a c) pieces_more (some_after a b c (s ++ flat_map f (take i xs)) p x so_far t) in
       subst (TakesSome a c) pieces_all
       (some_more a c (s ++ flat_map f (take (i + 1) xs)) (flat_map f (drop (i + 1) xs)) upto)

@@ -58,7 +58,8 @@ numbered : (t : List ℕ) (p : Statements) (memory n : ℕ) → 0 < length t →
 numbered [] p memory n some is low high = absurd (omega arith)
 numbered (b ∷ bs) p memory n some is low high = grind (arith, nat_tests)
 
-module _ (line t : List ℕ) (clean : position (λ b. not (is_printable b)) line ≡ None) (trimmed : t ≡ trim_start line) where
+module _ (line t : List ℕ) (clean : position (λ b. not (is_printable b)) line ≡ None)
+    (trimmed : t ≡ trim_start line) where
   by_trimmed : (p : Statements) (memory : ℕ) → after_line p memory line ≡ after_trimmed p memory t
   by_trimmed p memory = ap (λ o. unless_bad_byte o p memory line) clean ∙ ap (after_trimmed p memory) (sym trimmed)
 
@@ -76,7 +77,9 @@ module _ (line t : List ℕ) (clean : position (λ b. not (is_printable b)) line
   after_number n some is low high = record {
     low = low;
     high = high;
-    printable = list_all-drop is_printable (prefix_len is_blank (after_digits t)) (after_digits t) (list_all-drop is_printable (prefix_len is_digit t) t (rw trimmed (list_all-drop is_printable (prefix_len is_blank line) line (list_all-from_none is_printable line clean))));
+    printable = list_all-drop is_printable (prefix_len is_blank (after_digits t)) (after_digits t)
+        (list_all-drop is_printable (prefix_len is_digit t) t (rw trimmed (list_all-drop is_printable
+        (prefix_len is_blank line) line (list_all-from_none is_printable line clean))));
     no_blank_in_front = ap length (trim_start-trimmed (after_digits t));
     after_the_number = ap (λ u. trim_start (after_digits u)) trimmed;
     enters = λ p memory. by_trimmed p memory ∙ numbered t p memory n some is low high;
@@ -102,7 +105,8 @@ after_trimmed-fault p memory (b ∷ bs) =
     let n = digits_value (digits_of (b ∷ bs)) in
     let t = trim_start (after_digits (b ∷ bs)) in
     chosen (n == 0) (Err NoNumber) (if nat_lt number_limit n then Err NumberTooBig else after_statement p memory n t) tt
-    (chosen (nat_lt number_limit n) (Err NumberTooBig) (after_statement p memory n t) tt (after_statement-fault p memory n t))
+    (chosen (nat_lt number_limit n) (Err NumberTooBig) (after_statement p memory n t) tt
+    (after_statement-fault p memory n t))
 
 unless_bad_byte-fault : (o : Option ℕ) (p : Statements) (memory : ℕ) (line : List ℕ)
     → IfErr (unless_bad_byte o p memory line) IsLineFault
@@ -162,7 +166,8 @@ none_in_front line e = drop_all (past_blanks line 0) line (leb-true _ _ e)
 -- what a number in front is: none, or what the digits there write
 number_cases : (line : List ℕ) (n : Number) (j : ℕ) → number_at line 0 ≡ (n, j)
     → ((prefix_len is_digit (in_front line) ≡ 0) × (n ≡ Absent))
-    ⊎ ((small_number (digits_value (digits_of (in_front line))) ≡ n) × (past_blanks line (past_blanks line 0 + prefix_len is_digit (in_front line)) ≡ j))
+    ⊎ ((small_number (digits_value (digits_of (in_front line))) ≡ n)
+    × (past_blanks line (past_blanks line 0 + prefix_len is_digit (in_front line)) ≡ j))
 unfolding number_at
 number_cases line n j e = go (k == 0) refl e
   where
@@ -226,7 +231,8 @@ pub record HasNumber (line : List ℕ) (v : ℤ) (j : ℕ) : Type 0 where
   pub text : drop j line ≡ trim_start (after_digits (in_front line))
 
 behind : (line : List ℕ)
-    → drop (past_blanks line (past_blanks line 0 + prefix_len is_digit (in_front line))) line ≡ trim_start (after_digits (in_front line))
+    → drop (past_blanks line (past_blanks line 0 + prefix_len is_digit (in_front line))) line
+    ≡ trim_start (after_digits (in_front line))
 unfolding past_blanks
 behind line =
     let k = prefix_len is_digit (in_front line) in
@@ -263,18 +269,28 @@ after_short p memory n [] some short = absurd (omega arith)
 after_short p memory n (b ∷ bs) some short = grind (arith, nat_tests)
 
 module _ (line : List ℕ) (p : StoredProgram) where
-  module _ (n : ℕ) (t : List ℕ) (numbered : IsNumbered line n t) (empty : Bool) (tested : empty ≡ (length t == 0)) (not_empty : empty ≡ false) where
+  module _ (n : ℕ) (t : List ℕ) (numbered : IsNumbered line n t) (empty : Bool) (tested : empty ≡ (length t == 0))
+      (not_empty : empty ≡ false) where
     has_text : HasText line
     has_text = subst (λ (u : List ℕ). 0 < length u) numbered.after_the_number (some_bytes t empty tested not_empty)
 
     -- its text is stored
     module _ (short : length t ≤ text_limit) where
       pub line_statement : is_statement (n, t) ≡ true
-      line_statement = grind (arith, nat_tests, numbered.low, numbered.high, numbered.printable, numbered.no_blank_in_front, some_bytes t empty tested not_empty)
+      line_statement = grind (
+        arith,
+        nat_tests,
+        numbered.low,
+        numbered.high,
+        numbered.printable,
+        numbered.no_blank_in_front,
+        some_bytes t empty tested not_empty,
+      )
 
       pub line_stored : (new : StoredProgram) (result : Result (Unit {0}) LoadFault)
           → Enters (if_room p.memory (with_text p.lines n t)) p new result → IsEntered line p new result
       line_stored new result enters = record {
-        enters = subst (λ (w : Result Statements LoadFault). Enters w p new result) (sym (numbered.enters p.lines p.memory ∙ after_short p.lines p.memory n t (some_bytes t empty tested not_empty) short)) enters;
+        enters = subst (λ (w : Result Statements LoadFault). Enters w p new result) (sym (numbered.enters p.lines
+            p.memory ∙ after_short p.lines p.memory n t (some_bytes t empty tested not_empty) short)) enters;
         memory_text = λ _. has_text;
       }

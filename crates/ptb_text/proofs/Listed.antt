@@ -166,7 +166,8 @@ after_line-entry p memory n t facts fits =
     let digits : digits_of line ≡ ds = ap (λ k. take k line) size ∙ take-append_seam ds (32 ∷ t) in
     let behind : after_digits line ≡ 32 ∷ t = ap (λ k. drop k line) size ∙ drop-append_seam ds (32 ∷ t) in
     let some : 0 < length line = omega (arith, is.some, length-append ds (32 ∷ t)) in
-    let numbered = after_number line line clean (sym (trim_start-digits ds (32 ∷ t) is.all_digits is.some)) n some (ap digits_value digits ∙ is.value) facts.low facts.high in
+    let numbered = after_number line line clean (sym (trim_start-digits ds (32 ∷ t) is.all_digits is.some)) n some
+    (ap digits_value digits ∙ is.value) facts.low facts.high in
     numbered.enters p memory
     ∙ ap (after_statement p memory n) (ap trim_start behind ∙ trim_start-after_blank t facts.text)
     ∙ store_text p memory n t facts.text.not_empty facts.text.short fits
@@ -183,11 +184,13 @@ with_text-behind p s rest sorted =
     let gap : IsGapFor p s.0 (length p) = record {
       in_range = omega arith;
       smaller_before = λ j before.
-          let there : statement_number all j ≡ statement_number p j = ap (λ t. t.0) (get_or_append_left p (s ∷ rest) (0, []) j before) in
+          let there : statement_number all j ≡ statement_number p j =
+          ap (λ t. t.0) (get_or_append_left p (s ∷ rest) (0, []) j before) in
           omega (arith, rising all sorted j (length p) before (omega arith));
       greater_after = λ j after within. absurd (omega arith);
     } in
-    let insert_at : insert (p ++ []) (length p) s ≡ p ++ insert [] (length p - length p) s = insert-append_right p [] (length p) (length p) s refl (omega arith) in
+    let insert_at : insert (p ++ []) (length p) s ≡ p ++ insert [] (length p - length p) s =
+    insert-append_right p [] (length p) (length p) s refl (omega arith) in
     let none : length p - length p ≡ 0 = omega arith in
     with_text-gap p s.0 (length p) s.1 gap ∙ ap (λ q. insert q (length p) s) (sym (append-nil p)) ∙ insert_at
     ∙ ap (λ k. p ++ insert [] k s) none
@@ -195,7 +198,8 @@ with_text-behind p s rest sorted =
 accepted_first : (line : List ℕ) (rest : List (List ℕ)) (k : ℕ) (p q : Statements) (memory : ℕ)
     → after_line p memory line ≡ Ok q → after_lines (line ∷ rest) k p memory ≡ after_lines rest (k + 1) q memory
 unfolding after_lines
-accepted_first line rest k p q memory e = ap (λ r. elim r as (λ _. Result Statements (ℕ × LoadFault)) [ Ok p' ↦ after_lines rest (k + 1) p' memory | Err fault ↦ Err (k, fault) ]) e
+accepted_first line rest k p q memory e = ap (λ r. elim r as (λ _. Result Statements (ℕ × LoadFault))
+    [ Ok p' ↦ after_lines rest (k + 1) p' memory | Err fault ↦ Err (k, fault) ]) e
 
 none_left : (k : ℕ) (p : Statements) (memory : ℕ) → after_lines [] k p memory ≡ Ok p
 unfolding after_lines
@@ -217,7 +221,8 @@ entries_entered p (s ∷ rest) k memory is fits =
     let parts = both_true _ _ is in
     let stored = with_text-behind p s rest parts.0 in
     let others : (p ++ s ∷ []) ++ rest ≡ p ++ s ∷ rest = append_assoc p (s ∷ []) rest in
-    let facts = StatementFacts-from_test s.0 s.1 (both_true _ _ (both_true _ _ (sym (list_all-append is_statement p (s ∷ rest)) ∙ parts.1)).1).0 in
+    let facts = StatementFacts-from_test s.0 s.1
+    (both_true _ _ (both_true _ _ (sym (list_all-append is_statement p (s ∷ rest)) ∙ parts.1)).1).0 in
     let costs : cost (p ++ s ∷ []) ≤ memory = omega (arith, cost-front p s rest) in
     let one = after_line-entry p memory s.0 s.1 facts (rw stored costs) in
     accepted_first (entry s) (map entry rest) k p (with_text p s.0 s.1) memory one
@@ -238,4 +243,5 @@ pub listing-drop : (p : Statements) (i : ℕ) (s : ℕ × List ℕ) → slice_ge
     → listing (drop i p) ≡ line_of s ++ listing (drop (i + 1) p)
 listing-drop [] i s there = cc
 listing-drop (t ∷ p) zero s there = let same : t ≡ s = cc in ap (λ q. line_of q ++ listing p) same
-listing-drop (t ∷ p) (suc i) s there = let next : suc i + 1 ≡ suc (i + 1) = omega arith in rw next (listing-drop p i s there)
+listing-drop (t ∷ p) (suc i) s there = let next : suc i + 1 ≡ suc (i + 1) = omega arith in
+    rw next (listing-drop p i s there)

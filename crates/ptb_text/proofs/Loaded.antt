@@ -26,21 +26,33 @@ Lines = List (List ℕ)
 pub after_lines-append : (ds es : Lines) (k : ℕ) (p q : Statements) (memory : ℕ) → after_lines ds k p memory ≡ Ok q
     → after_lines (ds ++ es) k p memory ≡ after_lines es (k + length ds) q memory
 unfolding after_lines
-after_lines-append [] es k p q memory e = let same : p ≡ q = cc in let here : k + 0 ≡ k = omega arith in rw (here, same) refl
+after_lines-append [] es k p q memory e = let same : p ≡ q = cc in let here : k + 0 ≡ k = omega arith in
+    rw (here, same) refl
 after_lines-append (d ∷ ds) es k p q memory e =
     by_first (λ p' h. after_lines-append ds es (k + 1) p' q memory h) (after_line p memory d) e
   where
-    by_first : ((p' : Statements) → after_lines ds (k + 1) p' memory ≡ Ok q → after_lines (ds ++ es) (k + 1) p' memory ≡ after_lines es ((k + 1) + length ds) q memory)
+    by_first : ((p' : Statements) → after_lines ds (k + 1) p' memory ≡ Ok q
+        → after_lines (ds ++ es) (k + 1) p' memory ≡ after_lines es ((k + 1) + length ds) q memory)
         → (r : Result Statements LoadFault)
-        → elim r as (λ _. Result Statements (ℕ × LoadFault)) [ Ok p' ↦ after_lines ds (k + 1) p' memory | Err fault ↦ Err (k, fault) ] ≡ Ok q
-        → elim r as (λ _. Result Statements (ℕ × LoadFault)) [ Ok p' ↦ after_lines (ds ++ es) (k + 1) p' memory | Err fault ↦ Err (k, fault) ] ≡ after_lines es (k + suc (length ds)) q memory
-    by_first others (Ok p') h = let place : k + suc (length ds) ≡ (k + 1) + length ds = omega arith in rw place (others p' h)
+        → elim r as (λ _. Result Statements (ℕ × LoadFault)) [
+          | Ok p' ↦ after_lines ds (k + 1) p' memory
+          | Err fault ↦ Err (k, fault)
+        ] ≡ Ok q
+        → elim r as (λ _. Result Statements (ℕ × LoadFault)) [
+          | Ok p' ↦ after_lines (ds ++ es) (k + 1) p' memory
+          | Err fault ↦ Err (k, fault)
+        ] ≡ after_lines es (k + suc (length ds)) q memory
+    by_first others (Ok p') h = let place : k + suc (length ds) ≡ (k + 1) + length ds = omega arith in
+        rw place (others p' h)
     by_first others (Err fault) h = cc
 
 -- one line alone
 one_line : (line : List ℕ) (k : ℕ) (p : Statements) (memory : ℕ) (r : Result Statements LoadFault)
     → after_line p memory line ≡ r
-    → after_lines (line ∷ []) k p memory ≡ elim r as (λ _. Result Statements (ℕ × LoadFault)) [ Ok q ↦ Ok q | Err fault ↦ Err (k, fault) ]
+    → after_lines (line ∷ []) k p memory ≡ elim r as (λ _. Result Statements (ℕ × LoadFault)) [
+      | Ok q ↦ Ok q
+      | Err fault ↦ Err (k, fault)
+    ]
 unfolding after_lines
 one_line line k p memory r e =
     ap (λ r. elim r as (λ _. Result Statements (ℕ × LoadFault)) [ Ok q ↦ Ok q | Err fault ↦ Err (k, fault) ]) e
@@ -48,7 +60,8 @@ one_line line k p memory r e =
 refused_first : (line : List ℕ) (rest : Lines) (k : ℕ) (p : Statements) (memory : ℕ) (f : LoadFault)
     → after_line p memory line ≡ Err f → after_lines (line ∷ rest) k p memory ≡ Err (k, f)
 unfolding after_lines
-refused_first line rest k p memory f e = ap (λ r. elim r as (λ _. Result Statements (ℕ × LoadFault)) [ Ok q ↦ after_lines rest (k + 1) q memory | Err fault ↦ Err (k, fault) ]) e
+refused_first line rest k p memory f e = ap (λ r. elim r as (λ _. Result Statements (ℕ × LoadFault))
+    [ Ok q ↦ after_lines rest (k + 1) q memory | Err fault ↦ Err (k, fault) ]) e
 
 -- n lines were accepted, and a line and others are left
 module _ (all : Lines) (n : ℕ) (line : List ℕ) (rest : Lines) (left : line ∷ rest ≡ drop n all) where
@@ -92,7 +105,8 @@ module _ (all : Lines) (n : ℕ) (line : List ℕ) (rest : Lines) (left : line �
     -- or it is the first that is refused
     pub refused : (f : LoadFault) → after_line p memory line ≡ Err f → after_lines all 1 [] memory ≡ Err (n + 1, f)
     refused f e =
-        let whole = ap (λ ls. after_lines ls 1 [] memory) (sym (take-append-drop n all) ∙ ap (λ r. take n all ++ r) (sym left)) in
+        let whole = ap (λ ls. after_lines ls 1 [] memory)
+        (sym (take-append-drop n all) ∙ ap (λ r. take n all ++ r) (sym left)) in
         let place : 1 + length (take n all) ≡ n + 1 = omega (arith, count) in
         whole ∙ after_lines-append (take n all) (line ∷ rest) 1 [] p memory so_far
         ∙ refused_first line rest _ p memory f e ∙ ap (λ k. Err (k, f)) place
@@ -101,7 +115,8 @@ module _ (all : Lines) (n : ℕ) (line : List ℕ) (rest : Lines) (left : line �
 pub all_accepted : (all : Lines) (n memory : ℕ) (p : Statements) → [] ≡ drop n all
     → after_lines (take n all) 1 [] memory ≡ Ok p → after_lines all 1 [] memory ≡ Ok p
 all_accepted all n memory p none so_far =
-    let whole : take n all ≡ all = sym (append-nil (take n all)) ∙ ap (λ r. take n all ++ r) none ∙ take-append-drop n all in
+    let whole : take n all ≡ all = sym (append-nil (take n all)) ∙ ap (λ r. take n all ++ r) none
+    ∙ take-append-drop n all in
     rw whole at so_far
 
 -- before the first line
@@ -112,7 +127,8 @@ none_entered memory p none = ap Ok (sym none)
 -- ---- a whole text, whose bytes may be known
 
 -- the lines that are entered are those of the text
-module _ (known : Option (List ℕ)) (text spaced : List ℕ) (memory : ℕ) (is : IfSome known (λ b. b ≡ text)) (written_over : spaced ≡ map tab_as_space text) where
+module _ (known : Option (List ℕ)) (text spaced : List ℕ) (memory : ℕ) (is : IfSome known (λ b. b ≡ text))
+    (written_over : spaced ≡ map tab_as_space text) where
   same_lines : lines spaced ≡ program_lines text
   same_lines = ap lines written_over ∙ lines-spaces text
 
@@ -179,7 +195,8 @@ only_memory e only f is other = sym is ∙ only (subst (λ (g : LoadFault). ¬ I
 -- ---- what loading a text results in
 
 -- the text could not be read
-module _ (memory : ℕ) (known : Option (List ℕ)) (e : ℕ × LoadFault) (whole : e.0 ≡ 0) (no_line : ¬ IsLineFault e.1) where
+module _ (memory : ℕ) (known : Option (List ℕ)) (e : ℕ × LoadFault) (whole : e.0 ≡ 0)
+    (no_line : ¬ IsLineFault e.1) where
   unloaded : Loads memory known (Err e)
   unloaded = record {
     size = tt;
@@ -212,7 +229,9 @@ unread_sure {U} e r is none =
     subst (λ (r : Result U (ℕ × LoadFault)). ¬ FailsToLoad r Read) (sym (p.1 ∙ ap Err p.2)) none
 
 -- the text was read, and its lines were entered
-module _ (known : Option (List ℕ)) (memory : ℕ) (text spaced : List ℕ) (is : IfSome known (λ b. b ≡ text)) (written_over : spaced ≡ map tab_as_space text) (short : length text ≤ program_limit) (room : ℕ) (same : room ≡ memory) where
+module _ (known : Option (List ℕ)) (memory : ℕ) (text spaced : List ℕ) (is : IfSome known (λ b. b ≡ text))
+    (written_over : spaced ≡ map tab_as_space text) (short : length text ≤ program_limit) (room : ℕ)
+    (same : room ≡ memory) where
   pub loaded : (result : Result StoredProgram (ℕ × LoadFault)) → IfOk result (λ p. p.memory ≡ room)
       → IfOk result (λ p. after_lines (lines spaced) 1 [] room ≡ Ok p.lines)
       → IfErr result (λ e. IsLineFault e.1 → after_lines (lines spaced) 1 [] room ≡ Err e)
@@ -238,7 +257,8 @@ module _ (known : Option (List ℕ)) (memory : ℕ) (text spaced : List ℕ) (is
         (subst (λ (m : ℕ). IsLineFault e.1 → after_lines (lines spaced) 1 [] m ≡ Err e) same refusal);
     too_long = λ h. absurd (not_too_long (only_memory e (λ h. (accepts h).0) TooLong h (λ l. l)));
     unread = λ h. absurd (not_read (only_memory e (λ h. (accepts h).0) Read h (λ l. l)));
-    memory_last = AcceptsLines-from_lines known text spaced memory is written_over (Err e) (subst (λ (m : ℕ). ¬ IsLineFault e.1 → (e.1 ≡ Memory) × IsOk (after_lines (take e.0 (lines spaced)) 1 [] m)) same accepts);
+    memory_last = AcceptsLines-from_lines known text spaced memory is written_over (Err e) (subst (λ (m : ℕ). ¬
+        IsLineFault e.1 → (e.1 ≡ Memory) × IsOk (after_lines (take e.0 (lines spaced)) 1 [] m)) same accepts);
     memory_line = StoresTextAt-from_lines known text spaced memory is written_over (Err e) short stores;
   }
 

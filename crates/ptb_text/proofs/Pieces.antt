@@ -18,7 +18,8 @@ use Rattle.ptb_text.specs.Lines.{pieces, onto_first, lines, program_lines, tab_a
 no_tab : (b : ℕ) → b ≢ 9 → tab_as_space b ≡ b
 no_tab b differs = grind (arith, nat_tests)
 
-module _ (xs ys : List ℕ) (i : ℕ) (in_range : i < length xs) (so_far : ys ≡ map tab_as_space (take i xs) ++ drop i xs) where
+module _ (xs ys : List ℕ) (i : ℕ) (in_range : i < length xs)
+    (so_far : ys ≡ map tab_as_space (take i xs) ++ drop i xs) where
   same_length : length ys ≡ length xs
   same_length = ap length so_far ∙ simp (length-append, length-map, length-take, length-drop) (omega arith)
 
@@ -53,7 +54,9 @@ pieces-cut : (t : List ℕ) → piece_len t < length t
     → pieces t ≡ take (piece_len t) t ∷ pieces (drop (suc (piece_len t)) t)
 pieces-cut [] short = absurd (omega arith)
 pieces-cut (b ∷ bs) short =
-    elim (b == 10) as (λ c. cond (not c) (1 + piece_len bs) 0 < suc (length bs) → cond c ([] ∷ pieces bs) (onto_first b (pieces bs)) ≡ take (cond (not c) (1 + piece_len bs) 0) (b ∷ bs) ∷ pieces (drop (suc (cond (not c) (1 + piece_len bs) 0)) (b ∷ bs))) [
+    elim (b == 10) as (λ c. cond (not c) (1 + piece_len bs) 0 < suc (length bs)
+    → cond c ([] ∷ pieces bs) (onto_first b (pieces bs)) ≡ take (cond (not c) (1 + piece_len bs) 0) (b ∷ bs)
+    ∷ pieces (drop (suc (cond (not c) (1 + piece_len bs) 0)) (b ∷ bs))) [
       | true ↦ λ _. refl
       | false ↦ λ h. rw one-add (ap (onto_first b) (pieces-cut bs (omega arith)))
     ] short
@@ -66,7 +69,8 @@ pieces-whole (b ∷ []) some all =
       | false ↦ λ _. refl
     ] all
 pieces-whole (b ∷ d ∷ bs) some all =
-    elim (b == 10) as (λ c. suc (suc (length bs)) ≤ cond (not c) (1 + piece_len (d ∷ bs)) 0 → cond c ([] ∷ pieces (d ∷ bs)) (onto_first b (pieces (d ∷ bs))) ≡ (b ∷ d ∷ bs) ∷ []) [
+    elim (b == 10) as (λ c. suc (suc (length bs)) ≤ cond (not c) (1 + piece_len (d ∷ bs)) 0
+    → cond c ([] ∷ pieces (d ∷ bs)) (onto_first b (pieces (d ∷ bs))) ≡ (b ∷ d ∷ bs) ∷ []) [
       | true ↦ λ h. absurd (omega arith)
       | false ↦ λ h. ap (onto_first b) (pieces-whole (d ∷ bs) (omega arith) (omega arith))
     ] all
@@ -107,7 +111,8 @@ pieces-map [] = refl
 pieces-map (b ∷ bs) =
     ap (λ c. cond c ([] ∷ pieces (without_tabs bs)) (onto_first (tab_as_space b) (pieces (without_tabs bs))))
     (newline_stays b)
-    ∙ elim (b == 10) as (λ c. cond c ([] ∷ pieces (without_tabs bs)) (onto_first (tab_as_space b) (pieces (without_tabs bs))) ≡ map without_tabs (cond c ([] ∷ pieces bs) (onto_first b (pieces bs)))) [
+    ∙ elim (b == 10) as (λ c. cond c ([] ∷ pieces (without_tabs bs)) (onto_first (tab_as_space b)
+    (pieces (without_tabs bs))) ≡ map without_tabs (cond c ([] ∷ pieces bs) (onto_first b (pieces bs)))) [
       | true ↦ ap (λ ls. [] ∷ ls) (pieces-map bs)
       | false ↦ ap (onto_first (tab_as_space b)) (pieces-map bs) ∙ onto_first-map b (pieces bs)
     ]
@@ -122,7 +127,8 @@ strip-map l =
     ∙ ap (λ b. b == 13) (get_or-map tab_as_space l (length l - 1) 0) ∙ return_stays last in
     ap (λ c. cond c (take (length (without_tabs l) - 1) (without_tabs l)) (without_tabs l)) same
     ∙ ap (λ n. cond (last == 13) (take n (without_tabs l)) (without_tabs l)) size
-    ∙ elim (last == 13) as (λ c. cond c (take (length l - 1) (without_tabs l)) (without_tabs l) ≡ without_tabs (cond c (take (length l - 1) l) l)) [
+    ∙ elim (last == 13) as (λ c. cond c (take (length l - 1) (without_tabs l)) (without_tabs l)
+    ≡ without_tabs (cond c (take (length l - 1) l) l)) [
       | true ↦ take-map tab_as_space (length l - 1) l
       | false ↦ refl
     ]

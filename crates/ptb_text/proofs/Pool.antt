@@ -60,7 +60,8 @@ module _ (pool : List ℕ) where
       let sum = lengths-cons s ss in
       let size : length (text_in pool s) ≡ s.length = length-text pool s (omega (arith, here)) in
       let others = entries-from_laid_out (place + s.length) ss behind (omega arith) in
-      let first : s ≡ record { number = s.number; place = place; length = length (text_in pool s) } = λ i. record { number = s.number; place = here i; length = sym size i } in
+      let first : s ≡ record { number = s.number; place = place; length = length (text_in pool s) } =
+      λ i. record { number = s.number; place = here i; length = sym size i } in
       λ i. first i ∷ (others ∙ ap (λ k. entries (place + k) (map (shown pool) ss)) (sym size)) i
 
   pub texts-from_laid_out : (place : ℕ) (ss : List Statement) → ss ≡ laid_out place ss
@@ -81,8 +82,10 @@ module _ (pool : List ℕ) where
   shown-entries place [] rest = refl
   shown-entries place (s ∷ p) rest =
       let size : place + length s.1 - place ≡ length s.1 = omega arith in
-      let text : slice_range pool place (place + length s.1) ≡ s.1 = ap (λ k. take k (drop place pool)) size ∙ ap (take (length s.1)) rest ∙ take-append_seam s.1 (texts p) in
-      let behind : drop (place + length s.1) pool ≡ texts p = sym (drop-drop (length s.1) place pool) ∙ ap (drop (length s.1)) rest ∙ drop-append_seam s.1 (texts p) in
+      let text : slice_range pool place (place + length s.1) ≡ s.1 =
+      ap (λ k. take k (drop place pool)) size ∙ ap (take (length s.1)) rest ∙ take-append_seam s.1 (texts p) in
+      let behind : drop (place + length s.1) pool ≡ texts p = sym (drop-drop (length s.1) place pool)
+      ∙ ap (drop (length s.1)) rest ∙ drop-append_seam s.1 (texts p) in
       λ i. (s.0, text i) ∷ shown-entries (place + length s.1) p behind i
 
 pub laid_out-entries : (b a : ℕ) (p : Statements) → laid_out b (entries a p) ≡ entries b p
@@ -139,7 +142,8 @@ pub record IsEntry (p : Statements) (i : ℕ) (s : Statement) : Type 0 where
   pub within : s.place + s.length ≤ texts_length p
 
 IsEntry-at : (a : ℕ) (p : Statements) (i : ℕ) (s : Statement) → i < length p → s ≡ get_or (entries a p) i s
-    → (s.number ≡ statement_number p i) × (s.place ≡ a + texts_length (take i p)) × (s.length ≡ length (get_or p i (0, [])).1) × (s.place + s.length ≡ a + texts_length (take (suc i) p))
+    → (s.number ≡ statement_number p i) × (s.place ≡ a + texts_length (take i p))
+    × (s.length ≡ length (get_or p i (0, [])).1) × (s.place + s.length ≡ a + texts_length (take (suc i) p))
 IsEntry-at a [] i s in_range read = absurd (omega arith)
 IsEntry-at a (t ∷ p) zero s in_range read =
     let place : s.place ≡ a = ap (λ e. e.place) read in
@@ -147,15 +151,25 @@ IsEntry-at a (t ∷ p) zero s in_range read =
     let one = texts_length-cons t [] in
     (ap (λ e. e.number) read, omega (arith, place), size, omega (arith, place, size, one))
 IsEntry-at a (t ∷ p) (suc i) s in_range read =
-    let others = IsEntry-at (a + length t.1) p i s (omega arith) read in
-    (others.0, omega (arith, others.1, texts_length-cons t (take i p)), others.2, omega (arith, others.3, texts_length-cons t (take (suc i) p)))
+    let others = IsEntry-at (a + length t.1) p i s (omega arith) read in (
+      others.0,
+      omega (arith, others.1, texts_length-cons t (take i p)),
+      others.2,
+      omega (arith, others.3, texts_length-cons t (take (suc i) p)),
+    )
 
 pub IsEntry-read : (p : Statements) (i : ℕ) (s : Statement) → i < length p → s ≡ get_or (entries 0 p) i s
     → IsEntry p i s
 IsEntry-read p i s in_range read =
     let facts = IsEntry-at 0 p i s in_range read in
     let whole = sum_by-take-drop (λ t. length t.1) p (suc i) in
-    record { number_is = facts.0; place_is = omega (arith, facts.1); length_is = facts.2; end_is = omega (arith, facts.3); within = omega (arith, facts.3, whole) }
+    record {
+      number_is = facts.0;
+      place_is = omega (arith, facts.1);
+      length_is = facts.2;
+      end_is = omega (arith, facts.3);
+      within = omega (arith, facts.3, whole);
+    }
 
 -- ---- an edit: the statements in front of a place stay, and those from there on are laid out anew
 
@@ -167,26 +181,35 @@ module _ (p : Statements) (i place : ℕ) (here : place ≡ texts_length (take i
       ∙ sym (entries-append 0 (take i p) q)
 
   pub entries-insert : (n b : ℕ) (t : List ℕ) → i ≤ length p →
-      (let ss = insert (entries 0 p) i (record { number = n; place = b; length = length t }) in take i ss ++ laid_out place (drop i ss)) ≡ entries 0 (insert p i (n, t))
+      (let ss = insert (entries 0 p) i (record { number = n; place = b; length = length t }) in
+      take i ss ++ laid_out place (drop i ss)) ≡ entries 0 (insert p i (n, t))
   entries-insert n b t in_range =
       let all = entries 0 p in
       let s : Statement = record { number = n; place = b; length = length t } in
       let count : length (take i all) ≡ i = length-take i all ∙ omega (arith, length-entries 0 p) in
       let front : take i (insert all i s) ≡ take i all = take_at (take i all) (s ∷ drop i all) i count in
       let back : drop i (insert all i s) ≡ s ∷ drop i all = drop_at (take i all) (s ∷ drop i all) i count in
-      let laid : laid_out place (s ∷ drop i all) ≡ entries place ((n, t) ∷ drop i p) = ap (λ ss. record { number = n; place = place; length = length t } ∷ ss) (laid_out-drop (place + length t) 0 i p) in
+      let laid : laid_out place (s ∷ drop i all) ≡ entries place ((n, t) ∷ drop i p) = ap (λ ss. record {
+        number = n;
+        place = place;
+        length = length t;
+      } ∷ ss) (laid_out-drop (place + length t) 0 i p) in
       ap (λ r. r ++ laid_out place (drop i (insert all i s))) front ∙ ap (λ r. take i all ++ laid_out place r) back
       ∙ ap (λ r. take i all ++ r) laid ∙ front_and ((n, t) ∷ drop i p)
 
   pub entries-set : (n b : ℕ) (t : List ℕ) → i < length p →
-      (let ss = set (entries 0 p) i (record { number = n; place = b; length = length t }) in take i ss ++ laid_out place (drop i ss)) ≡ entries 0 (set p i (n, t))
+      (let ss = set (entries 0 p) i (record { number = n; place = b; length = length t }) in
+      take i ss ++ laid_out place (drop i ss)) ≡ entries 0 (set p i (n, t))
   entries-set n b t in_range =
       let all = entries 0 p in
       let s : Statement = record { number = n; place = b; length = length t } in
       let front : take i (set all i s) ≡ take i all = take-set all i s in
       let next : i + 1 ≡ suc i = omega arith in
-      let back : drop i (set all i s) ≡ s ∷ drop (suc i) all = drop-set all i s (omega (arith, length-entries 0 p)) ∙ ap (λ k. s ∷ drop k all) next in
-      let laid : laid_out place (s ∷ drop (suc i) all) ≡ entries place ((n, t) ∷ drop (suc i) p) = ap (λ ss. record { number = n; place = place; length = length t } ∷ ss) (laid_out-drop (place + length t) 0 (suc i) p) in
+      let back : drop i (set all i s) ≡ s ∷ drop (suc i) all = drop-set all i s (omega (arith, length-entries 0 p))
+      ∙ ap (λ k. s ∷ drop k all) next in
+      let laid : laid_out place (s ∷ drop (suc i) all) ≡ entries place ((n, t) ∷ drop (suc i) p) =
+      ap (λ ss. record { number = n; place = place; length = length t } ∷ ss)
+      (laid_out-drop (place + length t) 0 (suc i) p) in
       ap (λ r. r ++ laid_out place (drop i (set all i s))) front ∙ ap (λ r. take i all ++ laid_out place r) back
       ∙ ap (λ r. take i all ++ r) laid
       ∙ front_and ((n, t) ∷ drop (suc i) p) ∙ ap (entries 0) (sym (set_split p i (n, t) in_range))
@@ -234,7 +257,8 @@ moved place s = record { number = s.number; place = place; length = s.length }
 
 pub next_moved : (start place : ℕ) (ss : List Statement) (k : ℕ) (d : Statement) → k < length ss
     → place ≡ start + lengths (take k ss)
-    → (let all = laid_out start (take k ss) ++ drop k ss in set all k (moved place (get_or all k d))) ≡ laid_out start (take (k + 1) ss) ++ drop (k + 1) ss
+    → (let all = laid_out start (take k ss) ++ drop k ss in
+    set all k (moved place (get_or all k d))) ≡ laid_out start (take (k + 1) ss) ++ drop (k + 1) ss
 next_moved start place [] k d in_range here = absurd (omega arith)
 next_moved start place (s ∷ ss) zero d in_range here =
     let same : place ≡ start = omega (arith, here) in
@@ -258,7 +282,8 @@ pub part_laid : (ss part : List Statement) (i start : ℕ) → part ≡ laid_out
     → take i ss ++ (part ++ drop (length ss - i) (drop i ss)) ≡ take i ss ++ laid_out start (drop i ss)
 part_laid ss part i start is =
     let size = length-drop i ss in
-    let whole : take (length ss - i) (drop i ss) ≡ drop i ss = take_all (length ss - i) (drop i ss) (omega (arith, size)) in
+    let whole : take (length ss - i) (drop i ss) ≡ drop i ss =
+    take_all (length ss - i) (drop i ss) (omega (arith, size)) in
     let none : drop (length ss - i) (drop i ss) ≡ [] = drop_all (length ss - i) (drop i ss) (omega (arith, size)) in
     ap (λ r. take i ss ++ r) (ap (λ r. part ++ r) none ∙ append-nil part ∙ is ∙ ap (laid_out start) whole)
 
@@ -268,11 +293,13 @@ length-laid_out start (s ∷ ss) = ap suc (length-laid_out (start + s.length) ss
 
 pub laid_items : (v : Vec Statement) (ss part : List Statement) (i start : ℕ) → ss ≡ v.items → length ss ≡ v.len
     → part ≡ laid_out start (take (length ss - i) (drop i ss))
-    → (with_items v (take i ss ++ (part ++ drop (length ss - i) (drop i ss)))).items ≡ take i v.items ++ laid_out start (drop i v.items)
+    → (with_items v (take i ss ++ (part ++ drop (length ss - i) (drop i ss)))).items
+    ≡ take i v.items ++ laid_out start (drop i v.items)
 laid_items v ss part i start same count is =
     let laid = part_laid ss part i start is in
     let size = length-append (take i ss) (laid_out start (drop i ss)) in
-    let whole : length (take i ss ++ laid_out start (drop i ss)) ≡ length ss = omega (arith, size, length-laid_out start (drop i ss), length-drop i ss, length-take i ss) in
+    let whole : length (take i ss ++ laid_out start (drop i ss)) ≡ length ss =
+    omega (arith, size, length-laid_out start (drop i ss), length-drop i ss, length-take i ss) in
     with_items_is v _ (ap length laid ∙ whole ∙ count) ∙ laid
     ∙ ap (λ all. take i all ++ laid_out start (drop i all)) same
 

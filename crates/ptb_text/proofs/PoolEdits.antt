@@ -27,20 +27,32 @@ pub put_items : {T E : Type 0} (bytes t : List ℕ) (start end : ℕ) → start 
     → (cut : List ℕ) (v : Vec ℕ) (r : Result T E) (x : T) → v.items ≡ (if is_ok r then cut ++ t else cut)
     → cut ≡ remove_range bytes start end → r ≡ Ok x
     → (all new : List ℕ) → all ≡ v.items → length all ≡ v.len
-    → (let part = take (length all - start) (drop start all) in new ≡ drop (length part - length t) part ++ take (length part - length t) part)
-    → (with_items v (take start all ++ (new ++ drop (length all - start) (drop start all)))).items ≡ splice bytes start end t
+    → (let part = take (length all - start) (drop start all) in
+    new ≡ drop (length part - length t) part ++ take (length part - length t) part)
+    → (with_items v (take start all ++ (new ++ drop (length all - start) (drop start all)))).items
+    ≡ splice bytes start end t
 put_items bytes t start end order within cut v r x more cut_is ok all new same count after =
     let f = take start bytes in
     let q = drop end bytes in
-    let whole : all ≡ f ++ (q ++ t) = same ∙ extended r x v.items (cut ++ t) cut more ok ∙ ap (λ l. l ++ t) cut_is ∙ append_assoc f q t in
+    let whole : all ≡ f ++ (q ++ t) = same ∙ extended r x v.items (cut ++ t) cut more ok ∙ ap (λ l. l ++ t) cut_is
+    ∙ append_assoc f q t in
     let size : length f ≡ start = length-take start bytes ∙ omega (arith, order, within) in
     let front : take start all ≡ f = ap (take start) whole ∙ take_at f (q ++ t) start size in
     let back : drop start all ≡ q ++ t = ap (drop start) whole ∙ drop_at f (q ++ t) start size in
-    let part : take (length all - start) (drop start all) ≡ q ++ t = take_all (length all - start) (drop start all) (omega (arith, length-drop start all)) ∙ back in
-    let none : drop (length all - start) (drop start all) ≡ [] = drop_all (length all - start) (drop start all) (omega (arith, length-drop start all)) in
+    let part : take (length all - start) (drop start all) ≡ q ++ t =
+    take_all (length all - start) (drop start all) (omega (arith, length-drop start all)) ∙ back in
+    let none : drop (length all - start) (drop start all) ≡ [] =
+    drop_all (length all - start) (drop start all) (omega (arith, length-drop start all)) in
     let there : new ≡ t ++ q = turned q t (take (length all - start) (drop start all)) new part after in
     let put : take start all ++ (new ++ drop (length all - start) (drop start all)) ≡ f ++ (t ++ q) =
     ap (λ l. take start all ++ (new ++ l)) none ∙ ap (λ l. take start all ++ l) (append-nil new ∙ there)
     ∙ ap (λ l. l ++ (t ++ q)) front in
-    let long : length (f ++ (t ++ q)) ≡ length all = omega (arith, length-append f (t ++ q), length-append t q, ap length whole, length-append f (q ++ t), length-append q t) in
+    let long : length (f ++ (t ++ q)) ≡ length all = omega (
+      arith,
+      length-append f (t ++ q),
+      length-append t q,
+      ap length whole,
+      length-append f (q ++ t),
+      length-append q t,
+    ) in
     with_items_is v _ (ap length put ∙ long ∙ count) ∙ put

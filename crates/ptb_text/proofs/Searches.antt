@@ -67,7 +67,11 @@ pub searched : (pool : List ℕ) (ss : List Statement) → is_sorted nat_cmp (ma
 searched pool [] sorted n (Ok i) in_range equal = absurd (omega arith)
 searched pool [] sorted n (Err i) in_range parted = record {
   found = tt;
-  absent = record { in_range = in_range; smaller_before = λ j before. absurd (omega arith); greater_after = λ j after within. absurd (omega arith) };
+  absent = record {
+    in_range = in_range;
+    smaller_before = λ j before. absurd (omega arith);
+    greater_after = λ j after within. absurd (omega arith);
+  };
 }
 searched pool (s ∷ ss) sorted n (Ok i) in_range equal =
     record { found = IsAt-place pool (s ∷ ss) sorted i n s in_range (same_from_equal _ n (equal s)); absent = tt }
@@ -92,7 +96,11 @@ searched pool (s ∷ ss) sorted n (Err i) in_range parted =
 pub IsGapFor-end : (pool : List ℕ) (ss : List Statement) → is_sorted nat_cmp (map (shown pool) ss) ≡ true
     → (n : ℕ) (last : Option Statement) → last ≡ slice_get ss (length ss - 1) → IfSome last (λ s. s.number < n)
     → IsGapFor (map (shown pool) ss) n (length ss)
-IsGapFor-end pool [] sorted n last is above = record { in_range = omega arith; smaller_before = λ j before. absurd (omega arith); greater_after = λ j after within. absurd (omega arith) }
+IsGapFor-end pool [] sorted n last is above = record {
+  in_range = omega arith;
+  smaller_before = λ j before. absurd (omega arith);
+  greater_after = λ j after within. absurd (omega arith);
+}
 IsGapFor-end pool (s ∷ ss) sorted n None is above =
     let there = slice_get-get_or (s ∷ ss) (length (s ∷ ss) - 1) s (omega arith) in
     cc
@@ -102,6 +110,11 @@ IsGapFor-end pool (s ∷ ss) sorted n (Some last) is above =
     let same = get_or_from_slice_get all (length all - 1) last s (sym is) in
     record {
       in_range = omega arith;
-      smaller_before = λ j before. omega (arith, number_shown pool all j s (omega arith), numbers_rise pool all sorted j (length all - 1) s (omega arith) (omega arith), ap (λ t. t.number) same);
+      smaller_before = λ j before. omega (
+        arith,
+        number_shown pool all j s (omega arith),
+        numbers_rise pool all sorted j (length all - 1) s (omega arith) (omega arith),
+        ap (λ t. t.number) same,
+      );
       greater_after = λ j after within. absurd (omega arith);
     }

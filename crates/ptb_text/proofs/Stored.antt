@@ -113,7 +113,8 @@ IsEntry-shown f p shows kept i s in_range read =
 
 -- ---- the fields after an edit
 
-module _ (f g : Inside) (p : Statements) (layout : IsLayout f p) (i place : ℕ) (here : place ≡ texts_length (take i p)) (ss : List Statement) (laid : g.statements.items ≡ take i ss ++ laid_out place (drop i ss)) where
+module _ (f g : Inside) (p : Statements) (layout : IsLayout f p) (i place : ℕ) (here : place ≡ texts_length (take i p))
+    (ss : List Statement) (laid : g.statements.items ≡ take i ss ++ laid_out place (drop i ss)) where
   pub IsLayout-remove : (end : ℕ) → i < length p → end ≡ texts_length (take (suc i) p)
       → ss ≡ remove f.statements.items i → g.pool.items ≡ remove_range f.pool.items place end → IsLayout g (remove p i)
   IsLayout-remove end in_range there edit pool = record {

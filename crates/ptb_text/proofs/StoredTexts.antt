@@ -47,7 +47,8 @@ laid_from v ss part at pool memory = record {
 }
 
 -- the program with the new text has a size, which its memory has room for or has not
-module _ (f : Inside) (p : StoredProgram) (shows : stored_program f ≡ p) (n : ℕ) (t : List ℕ) (size : ℕ) (costs : cost (with_text p.lines n t) ≡ size) where
+module _ (f : Inside) (p : StoredProgram) (shows : stored_program f ≡ p) (n : ℕ) (t : List ℕ) (size : ℕ)
+    (costs : cost (with_text p.lines n t) ≡ size) where
   pub store_full : f.memory < size → Enters (if_room p.memory (with_text p.lines n t)) p p (Err Full)
   store_full over = Enters-full (with_text p.lines n t) p (omega (arith, costs, over, memory_shown f p shows))
 
@@ -55,7 +56,8 @@ module _ (f : Inside) (p : StoredProgram) (shows : stored_program f ≡ p) (n : 
   store_fits room = omega (arith, costs, room, memory_shown f p shows)
 
   -- it stays where a growth is refused
-  pub store_refused : size ≤ f.memory → (g : Inside) → g.statements.items ≡ f.statements.items → g.pool.items ≡ f.pool.items
+  pub store_refused : size ≤ f.memory → (g : Inside) → g.statements.items ≡ f.statements.items
+      → g.pool.items ≡ f.pool.items
       → g.memory ≡ f.memory → Enters (if_room p.memory (with_text p.lines n t)) p (stored_program g) (Err Memory)
   store_refused room g items pool memory =
       Enters-memory (with_text p.lines n t) p (stored_program g) Memory refl
@@ -68,17 +70,23 @@ module _ (f : Inside) (p : StoredProgram) (shows : stored_program f ≡ p) (kept
     insert_size = cost-with_text_gap p.lines n at t gap ∙ ap (λ m. m + (length t + 3)) (sym counted)
 
     module _ (room : k + (length t + 3) ≤ f.memory) where
-      module _ (v : Vec Statement) (ss part : List Statement) (pool : Vec ℕ) (place : ℕ) (here : place ≡ texts_length (take at p.lines))
-          (same : ss ≡ v.items) (count : length ss ≡ v.len) (laid : part ≡ laid_out place (take (length ss - at) (drop at ss)))
-          (before : List Statement) (edit : v.items ≡ insert before at (record { number = n; place = place; length = length t })) (unchanged : before ≡ f.statements.items)
-          (bytes : List ℕ) (from end : ℕ) (put : pool.items ≡ splice bytes from end t) (same_bytes : bytes ≡ f.pool.items) (begins : from ≡ place) (ends : end ≡ place) where
+      module _ (v : Vec Statement) (ss part : List Statement) (pool : Vec ℕ) (place : ℕ)
+          (here : place ≡ texts_length (take at p.lines))
+          (same : ss ≡ v.items) (count : length ss ≡ v.len)
+          (laid : part ≡ laid_out place (take (length ss - at) (drop at ss)))
+          (before : List Statement) (edit : v.items ≡ insert before at
+          (record { number = n; place = place; length = length t })) (unchanged : before ≡ f.statements.items)
+          (bytes : List ℕ) (from end : ℕ) (put : pool.items ≡ splice bytes from end t)
+          (same_bytes : bytes ≡ f.pool.items) (begins : from ≡ place) (ends : end ≡ place) where
         insert_layout : IsLayout (laid_from v ss part at pool f.memory) (with_text p.lines n t)
         insert_layout =
             let s : Statement = record { number = n; place = place; length = length t } in
             subst (IsLayout (laid_from v ss part at pool f.memory)) (sym (with_text-gap p.lines n at t gap))
-            (IsLayout-insert f (laid_from v ss part at pool f.memory) p.lines (IsLayout-from_kept f p shows kept) at place here v.items (laid_items v ss part at place same count laid) n t s refl gap.in_range
+            (IsLayout-insert f (laid_from v ss part at pool f.memory) p.lines (IsLayout-from_kept f p shows kept) at
+            place here v.items (laid_items v ss part at place same count laid) n t s refl gap.in_range
             (edit ∙ ap (λ all. insert all at s) unchanged)
-            (put ∙ ap (λ all. splice all from end t) same_bytes ∙ ap (λ m. splice f.pool.items m end t) begins ∙ ap (λ m. splice f.pool.items place m t) ends))
+            (put ∙ ap (λ all. splice all from end t) same_bytes ∙ ap (λ m. splice f.pool.items m end t) begins
+            ∙ ap (λ m. splice f.pool.items place m t) ends))
 
         pub insert_kept : is_statement (n, t) ≡ true → IsKept (laid_from v ss part at pool f.memory)
         insert_kept is =
@@ -94,41 +102,57 @@ module _ (f : Inside) (p : StoredProgram) (shows : stored_program f ≡ p) (kept
             (memory_shown f p shows) (store_fits f p shows n t (k + (length t + 3)) insert_size room)
 
   -- a text takes the place of another
-  module _ (n at : ℕ) (t : List ℕ) (there : IsAt p.lines n at) (k : ℕ) (counted : k ≡ cost p.lines) (old : Statement) (read : old ≡ get_or f.statements.items at old) (len : ℕ) (long : len ≡ old.length) where
+  module _ (n at : ℕ) (t : List ℕ) (there : IsAt p.lines n at) (k : ℕ) (counted : k ≡ cost p.lines) (old : Statement)
+      (read : old ≡ get_or f.statements.items at old) (len : ℕ) (long : len ≡ old.length) where
     replace_entry : IsEntry p.lines at old
     replace_entry = IsEntry-shown f p shows kept at old there.in_range read
 
     pub replace_size : cost (with_text p.lines n t) ≡ k - len + length t
-    replace_size = omega (arith, replace_entry.length_is, one_cost-le-cost p.lines at there.in_range, cost-with_text_place p.lines n at t there, long, counted)
+    replace_size = omega (
+      arith,
+      replace_entry.length_is,
+      one_cost-le-cost p.lines at there.in_range,
+      cost-with_text_place p.lines n at t there,
+      long,
+      counted,
+    )
 
     pub replace_cost : len ≤ k
     replace_cost = omega (arith, replace_entry.length_is, one_cost-le-cost p.lines at there.in_range, long, counted)
 
     module _ (room : k - len + length t ≤ f.memory) where
       module _ (ss part : List Statement) (pool : Vec ℕ)
-          (same : ss ≡ (with_item f.statements at (record { number = n; place = old.place; length = length t })).items) (count : length ss ≡ (with_item f.statements at (record { number = n; place = old.place; length = length t })).len)
+          (same : ss ≡ (with_item f.statements at (record { number = n; place = old.place; length = length t })).items)
+          (count : length ss
+          ≡ (with_item f.statements at (record { number = n; place = old.place; length = length t })).len)
           (laid : part ≡ laid_out old.place (take (length ss - at) (drop at ss)))
-          (bytes : List ℕ) (from end : ℕ) (put : pool.items ≡ splice bytes from end t) (same_bytes : bytes ≡ f.pool.items) (begins : from ≡ old.place) (ends : end ≡ old.place + old.length) where
+          (bytes : List ℕ) (from end : ℕ) (put : pool.items ≡ splice bytes from end t) (same_bytes : bytes
+          ≡ f.pool.items) (begins : from ≡ old.place) (ends : end ≡ old.place + old.length) where
         replace_layout : IsLayout
-            (laid_from (with_item f.statements at (record { number = n; place = old.place; length = length t })) ss part at pool f.memory)
+            (laid_from (with_item f.statements at (record { number = n; place = old.place; length = length t })) ss part
+            at pool f.memory)
             (with_text p.lines n t)
         replace_layout =
             let s : Statement = record { number = n; place = old.place; length = length t } in
             let g = laid_from (with_item f.statements at s) ss part at pool f.memory in
             subst (IsLayout g) (sym (with_text-place p.lines n at t there))
-            (IsLayout-set f g p.lines (IsLayout-from_kept f p shows kept) at old.place replace_entry.place_is (set f.statements.items at s) (laid_items (with_item f.statements at s) ss part at old.place same count laid) n t s refl end there.in_range
+            (IsLayout-set f g p.lines (IsLayout-from_kept f p shows kept) at old.place replace_entry.place_is
+            (set f.statements.items at s) (laid_items (with_item f.statements at s) ss part at old.place same
+            count laid) n t s refl end there.in_range
             (ends ∙ replace_entry.end_is) refl
             (put ∙ ap (λ all. splice all from end t) same_bytes ∙ ap (λ m. splice f.pool.items m end t) begins))
 
         pub replace_kept : is_statement (n, t) ≡ true
-            → IsKept (laid_from (with_item f.statements at (record { number = n; place = old.place; length = length t })) ss part at pool f.memory)
+            → IsKept (laid_from (with_item f.statements at
+            (record { number = n; place = old.place; length = length t })) ss part at pool f.memory)
         replace_kept is =
             IsKept-from_layout _ (with_text p.lines n t) replace_layout
             (is_program-with_text p.lines n t (is_program_shown f p shows kept) is)
             (omega (arith, replace_size, room)) kept.sound.memory_size
 
         pub replace_enters : Enters (if_room p.memory (with_text p.lines n t)) p
-            (stored_program (laid_from (with_item f.statements at (record { number = n; place = old.place; length = length t })) ss part at pool f.memory))
+            (stored_program (laid_from (with_item f.statements at
+            (record { number = n; place = old.place; length = length t })) ss part at pool f.memory))
             (Ok tt)
         replace_enters =
             Enters-ok (with_text p.lines n t) p _ (lines_shown _ (with_text p.lines n t) replace_layout)

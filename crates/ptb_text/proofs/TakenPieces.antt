@@ -37,9 +37,14 @@ pub gathers_fault : {a b : Option (List ℕ)} {bytes rest : List ℕ} (c : Optio
 gathers_fault {a} {b} {bytes} {rest} c before now =
     let front = before.front in
     let m = now.0 in
-    let same : take (length front + m) bytes ≡ front ++ take m rest = ap (take (length front + m)) before.whole ∙ take-append-add front rest m in
-    let size : length bytes ≡ length front + length rest = ap length before.whole ∙ length-append front rest in
-    (length front + m, omega (arith, now.1), subst (Appends a c) (sym same) (Appends-trans a b c front (take m rest) before.growth now.2))
+    let same : take (length front + m) bytes ≡ front ++ take m rest =
+    ap (take (length front + m)) before.whole ∙ take-append-add front rest m in
+    let size : length bytes ≡ length front + length rest = ap length before.whole ∙ length-append front rest in (
+      length front + m,
+      omega (arith, now.1),
+      subst (Appends a c) (sym same)
+          (Appends-trans a b c front (take m rest) before.growth now.2),
+    )
 
 -- ---- what is taken without failing
 
@@ -47,13 +52,15 @@ rest_within : {a b : Option (List ℕ)} {bytes rest : List ℕ} → Gathers a b 
 rest_within {a} {b} {bytes} {rest} before = omega (arith, ap length before.whole, length-append before.front rest)
 
 -- a writer that took all bytes but the rest
-module _ (first now : ℕ → Type 0) {a b : Option (List ℕ)} {bytes rest : List ℕ} (before : Gathers a b bytes rest) (sure : (k : ℕ) → length bytes ≤ k → first k → now (k - (length bytes - length rest))) where
+module _ (first now : ℕ → Type 0) {a b : Option (List ℕ)} {bytes rest : List ℕ} (before : Gathers a b bytes rest)
+    (sure : (k : ℕ) → length bytes ≤ k → first k → now (k - (length bytes - length rest))) where
   -- it takes n bytes of the rest
   pub sure_more : (next : ℕ → Type 0) (n : ℕ) → n ≤ length rest
       → ((k : ℕ) → length rest ≤ k → now k → (0 < length rest → 0 < n) × next (k - n))
       → (k : ℕ) → length bytes ≤ k → first k → next (k - (length bytes - length (take (length rest - n) (drop n rest))))
   sure_more next n some takes k within was =
-      let left : length (take (length rest - n) (drop n rest)) ≡ length rest - n = omega (arith, length-take (length rest - n) (drop n rest), length-drop n rest) in
+      let left : length (take (length rest - n) (drop n rest)) ≡ length rest - n =
+      omega (arith, length-take (length rest - n) (drop n rest), length-drop n rest) in
       let size : length rest ≤ length bytes = rest_within before in
       let took = (takes (k - (length bytes - length rest)) (omega (arith, size, within)) (sure k within was)).1 in
       subst next (omega (arith, left, size, some, within)) took

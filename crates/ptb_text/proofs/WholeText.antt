@@ -66,14 +66,17 @@ module _ {R : Type 0} (input : Reads R) where
     within = λ h. absurd (omega arith);
     given_within = λ h. absurd (omega arith);
     longer = λ _. longer input.bytes input.left text.items program_limit (omega (arith, size, told, over)) taken;
-    given_longer = λ _. let all : vec_len text ≡ program_limit + 1 = omega (arith, bound, told, over) in subst (GivesExactly input.gave input.gives) all (counted.exactly (omega (arith, told, over)));
+    given_longer = λ _. let all : vec_len text ≡ program_limit + 1 = omega (arith, bound, told, over) in
+        subst (GivesExactly input.gave input.gives) all (counted.exactly (omega (arith, told, over)));
     has_failed = λ e. absurd cc;
     unfailed = λ _. unfailed;
     later = omega (arith, unfailed);
   }
 
   -- what was read before
-  module _ (bytes : Option (List ℕ)) (failures given : ℕ) (text : Vec ℕ) (size : text.len ≡ length text.items) (bound : vec_len text ≤ 1048577) (unfailed : failures ≡ input.failed) (counted : IsCountedUpTo input.gave given (vec_len text)) (taken : Consumes input.bytes bytes text.items) where
+  module _ (bytes : Option (List ℕ)) (failures given : ℕ) (text : Vec ℕ) (size : text.len ≡ length text.items)
+      (bound : vec_len text ≤ 1048577) (unfailed : failures ≡ input.failed)
+      (counted : IsCountedUpTo input.gave given (vec_len text)) (taken : Consumes input.bytes bytes text.items) where
     -- a read failed
     pub text_failed : Keeps bytes input.left → (given ≤ given_limit) × (input.gives ≡ given)
         → (failures ≤ failure_limit) × (input.fails ≡ min (failures + 1) failure_limit)
@@ -93,8 +96,11 @@ module _ {R : Type 0} (input : Reads R) where
     }
 
     -- a read gave so many bytes, into a buffer with so much room
-    module _ (k room : ℕ) (buf piece : List ℕ) (tested : ℕ) (was : tested ≡ vec_len text) (under : tested ≤ 1048576) (len : ℕ) (told : len ≡ vec_len text) (left : room ≡ min 4096 (1048577 - len))
-        (fits : k ≤ length (take room piece)) (took : Consumes bytes input.left (take k buf) × (k ≡ 0 → 0 < length buf → IsAtEnd input.left)) (gives : (given ≤ given_limit) × GivesExactly given input.gives k) (counts : (failures < failure_limit) × (input.fails ≡ failures)) where
+    module _ (k room : ℕ) (buf piece : List ℕ) (tested : ℕ) (was : tested ≡ vec_len text) (under : tested ≤ 1048576)
+        (len : ℕ) (told : len ≡ vec_len text) (left : room ≡ min 4096 (1048577 - len))
+        (fits : k ≤ length (take room piece)) (took : Consumes bytes input.left (take k buf) × (k ≡ 0 → 0 < length buf
+        → IsAtEnd input.left)) (gives : (given ≤ given_limit) × GivesExactly given input.gives k)
+        (counts : (failures < failure_limit) × (input.fails ≡ failures)) where
       more : IsCountedUpTo input.gave input.gives (vec_len text + k)
       more = IsCountedUpTo_more input.gave given input.gives (vec_len text) k counted gives.0 gives.1
 
@@ -102,13 +108,30 @@ module _ {R : Type 0} (input : Reads R) where
       same = counts.1 ∙ unfailed
 
       consumed : ConsumesAtMost input.bytes input.left (program_limit + 1)
-      consumed = (text.items ++ take k buf, omega (arith, length-append text.items (take k buf), length-take k buf, size, told, was, under, left, fits, length-take room piece), Consumes-trans input.bytes bytes input.left text.items (take k buf) taken took.0)
+      consumed = (
+        text.items ++ take k buf,
+        omega (
+          arith,
+          length-append text.items (take k buf),
+          length-take k buf,
+          size,
+          told,
+          was,
+          under,
+          left,
+          fits,
+          length-take room piece,
+        ),
+        Consumes-trans input.bytes bytes input.left text.items (take k buf) taken took.0,
+      )
 
       -- none: it has come to its end
       pub ends_text : k ≡ 0 → length piece ≡ 4096 → length buf ≡ length (take room piece) → IsWholeText text
       ends_text none there filled =
-          let at_end : IsAtEnd input.left = took.1 none (omega (arith, filled, length-take room piece, there, left, told, was, under)) in
-          let is : IfSome input.bytes (λ b. b ≡ text.items) = all_given input.bytes bytes input.left text.items (take k buf) taken took.0 at_end (take_none k buf none) in
+          let at_end : IsAtEnd input.left =
+          took.1 none (omega (arith, filled, length-take room piece, there, left, told, was, under)) in
+          let is : IfSome input.bytes (λ b. b ≡ text.items) = all_given input.bytes bytes input.left text.items
+          (take k buf) taken took.0 at_end (take_none k buf none) in
           record {
             ok = is;
             short = omega (arith, told, was, under);

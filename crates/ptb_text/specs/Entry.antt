@@ -40,7 +40,8 @@ IsLineFault Read = ⊥
 IsLineFault TooLong = ⊥
 
 -- a call that was to give this map, or this refusal
-pub record Enters (wanted : Result Statements LoadFault) (old new : StoredProgram) (result : Result (Unit {0}) LoadFault) : Type 0 where
+pub record Enters (wanted : Result Statements LoadFault) (old new : StoredProgram)
+    (result : Result (Unit {0}) LoadFault) : Type 0 where
   pub ok : OnOk result (wanted ≡ Ok new.lines)
   pub refused : IfErr result (λ f. IsLineFault f → wanted ≡ Err f)
   pub memory_last : IfErr result (λ f. ¬ IsLineFault f → (f ≡ Memory) × IsOk wanted)

@@ -9,7 +9,8 @@
 --     IsSound p, IsText t                            what every stored program keeps, and each of its texts
 --     after_line p memory line                       the map after a line is entered, or why the line is refused
 --     text_after_number line, HasText line          the text that a line is to store; it has one
---     program memory b                               the map that a whole text gives, or which source line is refused first, and why
+--     program memory b                               the map that a whole text gives, or which source line is refused
+--                                                    first, and why
 --     listing p                                      the program as text
 --     is_program p                                   whether a list of pairs is such a map
 use Rattle.std.specs.Prelude.{◌≡◌, ℕ, ◌+◌, ◌-◌, ◌<◌, ◌≤◌, ℤ, pos, negsuc, IsTrue, Bool, not, ◌&&◌}

@@ -24,7 +24,16 @@ pub record Reads (R : Type 0) : Type 0 where
 
 abbrev pub reads_of : {R : Type 0} → (R → Option (List ℕ)) → (R → ℕ) → (R → ℕ) → R → R → Reads R
 reads_of remaining given failures old new =
-    record { old = old; new = new; bytes = remaining old; left = remaining new; gave = given old; gives = given new; failed = failures old; fails = failures new }
+    record {
+      old = old;
+      new = new;
+      bytes = remaining old;
+      left = remaining new;
+      gave = given old;
+      gives = given new;
+      failed = failures old;
+      fails = failures new;
+    }
 
 pub record Writes : Type 0 where
   -- the bytes that the writer had, and has; none where nobody knows them

@@ -52,7 +52,8 @@ pub bytes_ahead : (c : ℕ) (s t : List ℕ) (i j : ℕ) → bytes_at (c ∷ s) 
 unfolding bytes_at
 bytes_ahead c s t i j e =
     let h = cond_some _ _ _ e in
-    subst (λ n. LiesAhead t i n) h.1 (ahead t i (past_blanks t i) (length (c ∷ s)) (past_blanks_from t i) (omega arith) (starts_within (c ∷ s) t (past_blanks t i) (omega arith) h.0))
+    subst (λ n. LiesAhead t i n) h.1 (ahead t i (past_blanks t i) (length (c ∷ s)) (past_blanks_from t i) (omega arith)
+    (starts_within (c ∷ s) t (past_blanks t i) (omega arith) h.0))
 
 -- ---- a letter
 
@@ -68,7 +69,8 @@ pub letter_ahead : (t : List ℕ) (i c j : ℕ) → letter_at t i ≡ Some (c, j
 unfolding letter_at
 letter_ahead t i c j e =
     let h = letter_parts t (past_blanks t i) (next_byte_at t i) c j e in
-    subst (λ n. LiesAhead t i n) h.2 (ahead t i (past_blanks t i) 1 (past_blanks_from t i) (omega arith) (omega (arith, slice_get_within t (past_blanks t i) c h.0)))
+    subst (λ n. LiesAhead t i n) h.2 (ahead t i (past_blanks t i) 1 (past_blanks_from t i) (omega arith)
+    (omega (arith, slice_get_within t (past_blanks t i) c h.0)))
 
 pub letter_range : (t : List ℕ) (i c j : ℕ) → letter_at t i ≡ Some (c, j) → (65 ≤ c) × (c ≤ 90)
 unfolding letter_at
@@ -93,7 +95,9 @@ small_number_value n v e = go (leb n 32767) refl e
 -- what a number at i is: none, or the digits there
 pub number_cases : (t : List ℕ) (i : ℕ) (n : Number) (j : ℕ) → number_at t i ≡ (n, j)
     → ((prefix_len is_digit (drop (past_blanks t i) t) ≡ 0) × (n ≡ Absent) × (j ≡ i))
-    ⊎ ((0 < prefix_len is_digit (drop (past_blanks t i) t)) × (small_number (digits_value (take (prefix_len is_digit (drop (past_blanks t i) t)) (drop (past_blanks t i) t))) ≡ n) × (past_blanks t (past_blanks t i + prefix_len is_digit (drop (past_blanks t i) t)) ≡ j))
+    ⊎ ((0 < prefix_len is_digit (drop (past_blanks t i) t)) × (small_number
+    (digits_value (take (prefix_len is_digit (drop (past_blanks t i) t)) (drop (past_blanks t i) t))) ≡ n)
+    × (past_blanks t (past_blanks t i + prefix_len is_digit (drop (past_blanks t i) t)) ≡ j))
 unfolding number_at
 number_cases t i n j e = go (eqb k 0) refl e
   where
@@ -113,7 +117,9 @@ pub number_ahead : (t : List ℕ) (i : ℕ) (n : Number) (j : ℕ) → number_at
     → LiesAhead t i j
 number_ahead t i n j e some = elim (number_cases t i n j e) [
   | inl h ↦ absurd (false≢true (sym (ap is_number h.1) ∙ some))
-  | inr h ↦ subst (λ m. LiesAhead t i m) h.2 (ahead t i (past_blanks t i) (prefix_len is_digit (drop (past_blanks t i) t)) (past_blanks_from t i) h.0 (omega (arith, h.0, prefix_len-le-length is_digit (drop (past_blanks t i) t), length-drop (past_blanks t i) t)))
+  | inr h ↦ subst (λ m. LiesAhead t i m) h.2
+      (ahead t i (past_blanks t i) (prefix_len is_digit (drop (past_blanks t i) t)) (past_blanks_from t i) h.0 (omega
+      (arith, h.0, prefix_len-le-length is_digit (drop (past_blanks t i) t), length-drop (past_blanks t i) t)))
 ]
 
 pub no_number : (t : List ℕ) (i j : ℕ) → number_at t i ≡ (Absent, j) → j ≡ i
@@ -189,8 +195,10 @@ first_word_ahead table (x ∷ ws) t i b w j h all e =
     go None o others e = others e
     go (Some s) o others e =
         let found = spelling_has x.1 (drop b t) s all.0.0 o in
-        let parts = some_pair_parts x.0 w (past_blanks t (b + length s)) j e in
-        (subst (λ n. LiesAhead t i n) parts.1 (ahead t i b (length s) h found.0 (starts_within s t b found.0 found.1)), subst (IsWordOf table) parts.0 all.0.1)
+        let parts = some_pair_parts x.0 w (past_blanks t (b + length s)) j e in (
+          subst (λ n. LiesAhead t i n) parts.1 (ahead t i b (length s) h found.0 (starts_within s t b found.0 found.1)),
+          subst (IsWordOf table) parts.0 all.0.1,
+        )
 
 pub word_ahead : (table : Table) (t : List ℕ) (i : ℕ) (w : Word) (j : ℕ) → word_at table t i ≡ Some (w, j)
     → LiesAhead t i j × IsWordOf table w
@@ -210,14 +218,16 @@ quotation_up_to_ahead t i b q s j h e = go (position (λ c. c == q) (drop b t)) 
     go (Some k) o e =
         let found = cond_some _ _ _ o in
         let end : past_blanks t (b + k + 1) ≡ j = cc in
-        subst (λ n. LiesAhead t i n) end (ahead t i (b + k) 1 (omega arith) (omega arith) (omega (arith, ltb-true _ _ found.0, found.1, length-drop b t)))
+        subst (λ n. LiesAhead t i n) end (ahead t i (b + k) 1 (omega arith) (omega arith)
+        (omega (arith, ltb-true _ _ found.0, found.1, length-drop b t)))
 
 pub quotation_ahead : (t : List ℕ) (i : ℕ) (s : List ℕ) (j : ℕ) → quotation_at t i ≡ QuotedText s j → LiesAhead t i j
 unfolding quotation_at
 quotation_ahead t i s j e = go (next_byte_at t i) e
   where
     there : (c : Bool) (q : ℕ)
-        → cond c (quotation_up_to t (past_blanks t i + 1) (position (λ c. c == q) (drop (past_blanks t i + 1) t))) NoQuote ≡ QuotedText s j
+        → cond c (quotation_up_to t (past_blanks t i + 1) (position (λ c. c == q) (drop (past_blanks t i + 1) t)))
+        NoQuote ≡ QuotedText s j
         → LiesAhead t i j
     there true q e = quotation_up_to_ahead t i (past_blanks t i + 1) q s j (omega (arith, past_blanks_from t i)) e
     there false q e = absurd cc
@@ -259,7 +269,9 @@ number_by t i b there = go (is_digit b) refl
     go : (v : Bool) → is_digit b ≡ v → is_number (number_at t i).0 ≡ v
     go false n = ap (λ (x : Number × ℕ). is_number x.0) (no_number_by t i b there n)
     go true y = elim (number_cases t i (number_at t i).0 (number_at t i).1 refl) [
-      | inl h ↦ let one : prefix_len is_digit (drop (past_blanks t i) t) ≡ 1 + prefix_len is_digit (drop (past_blanks t i + 1) t) = rw (there, y) refl in absurd (omega (arith, h.0))
+      | inl h ↦ let one : prefix_len is_digit (drop (past_blanks t i) t)
+          ≡ 1 + prefix_len is_digit (drop (past_blanks t i + 1) t) = rw (there, y) refl in
+          absurd (omega (arith, h.0))
       | inr h ↦ ap is_number (sym h.1) ∙ small_number_is _
     ]
 

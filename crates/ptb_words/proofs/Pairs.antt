@@ -12,7 +12,12 @@ pub pair_there : (c d : ℕ) (t : List ℕ) (i : ℕ) → past_blanks t i + 1 < 
 unfolding bytes_at
 pair_there c d t i h e f =
     let first : past_blanks t i < length t = omega arith in
-    rw (drop_more t (past_blanks t i) 0 first, drop_more t (past_blanks t i + 1) 0 h, eq-eqb c (get_or t (past_blanks t i) 0) (sym e), eq-eqb d (get_or t (past_blanks t i + 1) 0) (sym f)) refl
+    rw (
+      drop_more t (past_blanks t i) 0 first,
+      drop_more t (past_blanks t i + 1) 0 h,
+      eq-eqb c (get_or t (past_blanks t i) 0) (sym e),
+      eq-eqb d (get_or t (past_blanks t i + 1) 0) (sym f),
+    ) refl
 
 pub pair_other : (c d : ℕ) (t : List ℕ) (i : ℕ) → past_blanks t i < length t → (get_or t (past_blanks t i) 0 ≡ c → ⊥)
     → bytes_at (c ∷ d ∷ []) t i ≡ None
@@ -25,7 +30,14 @@ pub pair_other_second : (c d : ℕ) (t : List ℕ) (i : ℕ) → past_blanks t i
 unfolding bytes_at
 pair_other_second c d t i h n =
     let first : past_blanks t i < length t = omega arith in
-    rw (drop_more t (past_blanks t i) 0 first, drop_more t (past_blanks t i + 1) 0 h, ne_eqb d (get_or t (past_blanks t i + 1) 0) (λ e. n (sym e))) (elim (eqb c (get_or t (past_blanks t i) 0)) as (λ v. ◌≡◌ {A = Option ℕ} (cond (v && false) (Some (past_blanks t (past_blanks t i + 2))) None) None) [ true ↦ refl | false ↦ refl ])
+    rw (
+      drop_more t (past_blanks t i) 0 first,
+      drop_more t (past_blanks t i + 1) 0 h,
+      ne_eqb d
+          (get_or t (past_blanks t i + 1) 0) (λ e. n (sym e)),
+    ) (elim (eqb c (get_or t (past_blanks t i) 0)) as
+    (λ v. ◌≡◌ {A = Option ℕ} (cond (v && false) (Some (past_blanks t (past_blanks t i + 2))) None) None)
+    [ true ↦ refl | false ↦ refl ])
 
 pair_end : (c d : ℕ) (t : List ℕ) (i : ℕ) → length t ≤ past_blanks t i → bytes_at (c ∷ d ∷ []) t i ≡ None
 unfolding bytes_at
@@ -34,7 +46,12 @@ pair_end c d t i h = rw (drop_all (past_blanks t i) t h) refl
 pair_last : (c d : ℕ) (t : List ℕ) (i : ℕ) → past_blanks t i < length t → length t ≤ past_blanks t i + 1
     → bytes_at (c ∷ d ∷ []) t i ≡ None
 unfolding bytes_at
-pair_last c d t i h last = rw (drop_more t (past_blanks t i) 0 h, drop_all (past_blanks t i + 1) t last) (elim (eqb c (get_or t (past_blanks t i) 0)) as (λ v. ◌≡◌ {A = Option ℕ} (cond (v && false) (Some (past_blanks t (past_blanks t i + 2))) None) None) [ true ↦ refl | false ↦ refl ])
+pair_last c d t i h last = rw (drop_more t (past_blanks t i) 0 h, drop_all (past_blanks t i + 1) t last)
+    (elim (eqb c (get_or t (past_blanks t i) 0)) as (λ v. ◌≡◌ {A = Option ℕ}
+    (cond (v && false) (Some (past_blanks t (past_blanks t i + 2))) None) None) [ true ↦ refl | false ↦ refl ])
 
 pub pair_cut : (c d : ℕ) (t : List ℕ) (i : ℕ) → length t ≤ past_blanks t i + 1 → bytes_at (c ∷ d ∷ []) t i ≡ None
-pair_cut c d t i h = elim (cases_lt (past_blanks t i) (length t)) [ inl first ↦ pair_last c d t i first h | inr end ↦ pair_end c d t i end ]
+pair_cut c d t i h = elim (cases_lt (past_blanks t i) (length t)) [
+  | inl first ↦ pair_last c d t i first h
+  | inr end ↦ pair_end c d t i end
+]

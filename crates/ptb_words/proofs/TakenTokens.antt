@@ -63,7 +63,8 @@ quotation_open t x i n q same at byte quote found =
     rw (byte, quote, there) refl
 
 pub quoted_piece : (t x : List ℕ) (i n k : ℕ) → x ≡ t → n ≡ past_blanks t i → k < length (behind x (n + 1))
-    → take k (behind x (n + 1)) ≡ slice_range t (past_blanks t i + 1) (past_blanks t i + 1 + length (take k (behind x (n + 1))))
+    → take k (behind x (n + 1)) ≡ slice_range t (past_blanks t i + 1)
+    (past_blanks t i + 1 + length (take k (behind x (n + 1))))
 quoted_piece t x i n k same at h =
     let size : length (take k (behind x (n + 1))) ≡ k = length-take-le k (behind x (n + 1)) (omega arith) in
     let part : past_blanks t i + 1 + k - (past_blanks t i + 1) ≡ k = omega arith in

@@ -132,7 +132,8 @@ spelt_word (c ∷ cs) p [] some h = rw (abbreviations_end c cs) refl
 spelt_word (c ∷ cs) p (b ∷ s) some h =
     let letters = and_parts (not (c == 46)) (has_no_period cs) h in
     elim (cases_eq b c) [
-      | inl e ↦ rw (eq-eqb b c e) (spelt_endings cs s (p + 1) letters.1 ∙ one_longer p c (in_front s (endings cs)) ∙ ap (λ o. option_map (λ w. p + length w) o) (sym (spellings_same c b cs s e)))
+      | inl e ↦ rw (eq-eqb b c e) (spelt_endings cs s (p + 1) letters.1 ∙ one_longer p c (in_front s (endings cs))
+          ∙ ap (λ o. option_map (λ w. p + length w) o) (sym (spellings_same c b cs s e)))
       | inr n ↦ rw (ne_eqb b c n) (ap (λ o. option_map (λ w. p + length w) o) (sym (spellings_other c b cs s n)))
     ]
 
@@ -188,7 +189,8 @@ first_word_begins ((k, c ∷ cs) ∷ ws) t i b s h e =
     let letters = and_parts (has_letter (k, c ∷ cs)) (list_all has_letter ws) h in
     let others = first_word_begins ws t i b s letters.1 e in
     elim (cases_eq b c) [
-      | inl q ↦ rw (eq-eqb b c q) (ap (λ o. option_or (option_map (λ s. (k, past_blanks t (i + length s))) (spelling_in_front (c ∷ cs) (drop i t))) o) others)
+      | inl q ↦ rw (eq-eqb b c q) (ap (λ o. option_or (option_map (λ s. (k, past_blanks t (i + length s)))
+          (spelling_in_front (c ∷ cs) (drop i t))) o) others)
       | inr n ↦ rw (ne_eqb b c n, e, spelling_other c b cs s n) others
     ]
 
@@ -247,12 +249,14 @@ finds_second v w t place None s one two same = record {
   ahead = (two refl).ahead;
 }
 finds_second v w t place (Some x) s one two same =
-    let found : FindsWord (v ∷ w ∷ []) t place (Some x) = record { first = or_first _ _ _ one.first; ahead = one.ahead } in
+    let found : FindsWord (v ∷ w ∷ []) t place (Some x) =
+    record { first = or_first _ _ _ one.first; ahead = one.ahead } in
     subst (λ r. FindsWord (v ∷ w ∷ []) t place r) (sym (same x refl)) found
 
 -- where two words of a table begin with a byte, the second is tried where the first isn't found
 pub begins_either : (table : Table) (b : ℕ) (v w : Entry) (t : List ℕ) (place : ℕ) (r s : Option (Word × ℕ))
-    → filter (begins b) (words table) ≡ v ∷ w ∷ [] → place < length t → get_or t place 0 ≡ b → FindsWord (v ∷ []) t place r
+    → filter (begins b) (words table) ≡ v ∷ w ∷ [] → place < length t → get_or t place 0 ≡ b
+    → FindsWord (v ∷ []) t place r
     → (r ≡ None → FindsWord (w ∷ []) t place s) → ((x : Word × ℕ) → r ≡ Some x → s ≡ Some x)
     → FindsWord (words table) t place s
 begins_either table b v w t place r s are h e one two same =

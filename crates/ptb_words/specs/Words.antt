@@ -45,8 +45,10 @@ Entry = Word × List ℕ
 -- the words of a table, in the order in which they are tried
 abbrev pub words : Table → List Entry
 words Commands =
-    (NextKw, codes "NEXT") ∷ (LetKw, codes "LET") ∷ (IfKw, codes "IF") ∷ (GotoKw, codes "GOTO") ∷ (GosubKw, codes "GOSUB")
-    ∷ (ReturnKw, codes "RETURN") ∷ (RemKw, codes "REM") ∷ (ForKw, codes "FOR") ∷ (InputKw, codes "INPUT") ∷ (PrintKw, codes "PRINT")
+    (NextKw, codes "NEXT") ∷ (LetKw, codes "LET") ∷ (IfKw, codes "IF") ∷ (GotoKw, codes "GOTO")
+    ∷ (GosubKw, codes "GOSUB")
+    ∷ (ReturnKw, codes "RETURN") ∷ (RemKw, codes "REM") ∷ (ForKw, codes "FOR") ∷ (InputKw, codes "INPUT")
+    ∷ (PrintKw, codes "PRINT")
     ∷ (StopKw, codes "STOP") ∷ []
 words Functions = (RndKw, codes "RND") ∷ (AbsKw, codes "ABS") ∷ (SizeKw, codes "SIZE") ∷ []
 words To = (ToKw, codes "TO") ∷ []
@@ -105,7 +107,8 @@ IsWordOf Step w = w ≡ StepKw
 
 -- the place after these bytes, if they stand together at i
 unfoldable pub bytes_at : List ℕ → List ℕ → ℕ → Option ℕ
-bytes_at s t i = let b = past_blanks t i in if starts_with nat_eq (drop b t) s then Some (past_blanks t (b + length s)) else None
+bytes_at s t i = let b = past_blanks t i in
+    if starts_with nat_eq (drop b t) s then Some (past_blanks t (b + length s)) else None
 
 abbrev pub token_at : ℕ → List ℕ → ℕ → Option ℕ
 token_at c t i = bytes_at (c ∷ []) t i

@@ -18,14 +18,16 @@ returns-then-not-terminals-clause-draws g c = elim c.then-not-terminals.branch [
   | then-not-terminals-via-else-not-terminals+then-not-terminals-2 w ↦
       no_seed_for_output c.args.console.now.terminals.input _ _ _ (search rules)
   | then-not-terminals-via-else-not-terminals+else-not-terminals-2+then-is_some w ↦
-      let found = same_presence _ w.get_str.result _ (first_of-get_str c.args.matches.now (codes "answers") w.get_str.result w.get_str.ensures) in
+      let found = same_presence _ w.get_str.result _
+      (first_of-get_str c.args.matches.now (codes "answers") w.get_str.result w.get_str.ensures) in
       no_seed_for_answers c.args.console.now.terminals.input c.args.console.now.terminals.output _ _
       (sym (w.if-is_some.ensures ∙ found))
 ]
 
 pub returns-in-Plain-clause-draws : goal.returns-in-Plain-clause-draws
 returns-in-Plain-clause-draws g c =
-    let found = same_presence _ c.get_str.result _ (first_of-get_str c.args.matches.now (codes "answers") c.get_str.result c.get_str.ensures) in
+    let found = same_presence _ c.get_str.result _
+    (first_of-get_str c.args.matches.now (codes "answers") c.get_str.result c.get_str.ensures) in
     let answered : is_answered c.args.mode.now ≡ true = rw c.in-Plain.is refl in
     seed_for_none c.args.console.now.terminals.input c.args.console.now.terminals.output _ _ (search rules)
     (search rules) (sym (c.if-is_some.ensures ∙ found)) answered

@@ -9,4 +9,6 @@ pub returns-clause-path : goal.returns-clause-path
 returns-clause-path g c = first_of-get_str c.args.matches.now (codes "program") c.get_str.result c.get_str.ensures
 
 pub returns-clause-asks : goal.returns-clause-asks
-returns-clause-asks g c = rw c.by_seed.ensures (asks_at c.args.console.now.terminals (options_of (entries_of c.args.matches.now)) c.in_ok-request.request c.draw_seed-drawn.result c.in_ok-request.ensures.ok c.draw_seed-drawn.ensures.draws c.draw_seed-drawn.ensures.small)
+returns-clause-asks g c = rw c.by_seed.ensures (asks_at c.args.console.now.terminals
+    (options_of (entries_of c.args.matches.now)) c.in_ok-request.request c.draw_seed-drawn.result
+    c.in_ok-request.ensures.ok c.draw_seed-drawn.ensures.draws c.draw_seed-drawn.ensures.small)

@@ -13,4 +13,6 @@ returns g c =
     let game = play c.args.program.now c.args.lines.now c.args.rules in
     let most = most_answers c.args.program.now c.args.lines.now c.args.rules.limit in
     c.in_ok-text.ensures.text
-    ∙ ap table_text (table_is game (tree game most) (all_positive game most (c.run_laws.ensures.reads c.args.program.now c.args.lines.now c.args.rules)) c.in_ok-tally.tally c.in_ok-tally.ensures c.in_ok-text.ensures.rising)
+    ∙ ap table_text (table_is game (tree game most)
+    (all_positive game most (c.run_laws.ensures.reads c.args.program.now c.args.lines.now c.args.rules))
+    c.in_ok-tally.tally c.in_ok-tally.ensures c.in_ok-text.ensures.rising)

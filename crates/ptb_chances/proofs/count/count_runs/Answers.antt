@@ -15,7 +15,8 @@ plans-init g c =
     let most = most_answers p input by.limit in
     let x = c.in_ok-work.ensures in
     let same : c.in_ok-player.player ≡ p = c.in_ok-player.ensures in
-    let first : Accounted p input by most [] (first_standing x.0 ∷ []) = accounted_first p input by most x.0 x.2 (rw same at (x.3 input by.choose)) (c.run_laws.ensures.reads p input by) in
+    let first : Accounted p input by most [] (first_standing x.0 ∷ []) = accounted_first p input by most x.0 x.2
+    (rw same at (x.3 input by.choose)) (c.run_laws.ensures.reads p input by) in
     record {
       player = same;
       lines = ap (λ (s : LineList). s.lines) c.new-3.ensures;
@@ -31,14 +32,19 @@ settle-requires g c =
     let most = most_answers p input by.limit in
     let l = c.plans in
     let i = l.invariant in
-    rw (i.player, i.lines, i.rules) (accounted_next p input by most l.counting.tally (standings l.counting.work) (standings c.next.new.self) (planned c.next.new.self.place c.in-Some.plan) c.in-Some.ensures.some i.accounted)
+    rw (i.player, i.lines, i.rules)
+    (accounted_next p input by most l.counting.tally (standings l.counting.work) (standings c.next.new.self)
+    (planned c.next.new.self.place c.in-Some.plan) c.in-Some.ensures.some i.accounted)
 
 pub plans-smaller : goal.plans-smaller
 plans-smaller g c =
     let l = c.plans in
     let i = l.invariant in
-    less_there c.args.program.now l.counting.stage.player c.args.lines.now l.counting.stage.console.source.lines c.args.rules l.counting.stage.rules (standings l.counting.work) (standings c.next.new.self) (standings c.settle.new.self.work)
-    (planned c.next.new.self.place c.in-Some.plan) i.player i.lines i.rules c.in-Some.ensures.some c.in_ok-settle.ensures.less
+    less_there c.args.program.now l.counting.stage.player c.args.lines.now l.counting.stage.console.source.lines
+    c.args.rules l.counting.stage.rules (standings l.counting.work) (standings c.next.new.self)
+    (standings c.settle.new.self.work)
+    (planned c.next.new.self.place c.in-Some.plan) i.player i.lines i.rules c.in-Some.ensures.some
+    c.in_ok-settle.ensures.less
 
 pub plans-preserved : goal.plans-preserved
 plans-preserved g c =
@@ -60,4 +66,5 @@ returns-in_default g c =
     let l = c.plans in
     let i = l.invariant in
     let none : standings l.counting.work ≡ [] = search rules in
-    accounted_last p input by most l.counting.tally (subst (λ (ws : List Standing). Accounted p input by most l.counting.tally ws) none i.accounted)
+    accounted_last p input by most l.counting.tally
+    (subst (λ (ws : List Standing). Accounted p input by most l.counting.tally ws) none i.accounted)

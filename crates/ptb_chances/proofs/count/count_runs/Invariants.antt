@@ -9,8 +9,10 @@ invariant-plans g l = record {
   player : l.counting.stage.player ≡ l.fn.program;
   lines : l.counting.stage.console.source.lines ≡ l.fn.lines;
   rules : l.counting.stage.rules ≡ l.fn.rules;
-  accounted : Accounted l.fn.program l.fn.lines l.fn.rules (most_answers l.fn.program l.fn.lines l.fn.rules.limit) l.counting.tally (standings l.counting.work);
+  accounted : Accounted l.fn.program l.fn.lines l.fn.rules
+      (most_answers l.fn.program l.fn.lines l.fn.rules.limit) l.counting.tally (standings l.counting.work);
 }
 
 abbrev pub decreases-plans : goal.decreases-plans
-decreases-plans g l = load l.fn.rules.limit (most_answers l.fn.program l.fn.lines l.fn.rules.limit) (standings l.counting.work)
+decreases-plans g l = load l.fn.rules.limit (most_answers l.fn.program l.fn.lines l.fn.rules.limit)
+    (standings l.counting.work)

@@ -9,4 +9,5 @@ pub loop-last-init : goal.loop-last-init
 loop-last-init c = last_after_empty (lines c.args.text.now)
 
 pub loop-last-preserved : goal.loop-last-preserved
-loop-last-preserved c = ap (λ ls. last_line (c.loop-last.last.now ∷ ls)) (sym c.split_line.ensures.lines) ∙ c.loop-last.invariant
+loop-last-preserved c = ap (λ ls. last_line (c.loop-last.last.now ∷ ls)) (sym c.split_line.ensures.lines)
+    ∙ c.loop-last.invariant

@@ -1,9 +1,12 @@
 -- This file answers that a plan is played step by step, and what comes of it.
-use Rattle.std.proofs.Common.{◌≡◌, take, drop, length, refl, rules, sym, ap, ◌∙◌, arith, true, Ok, Err, Some, None, FitsSigned, w16, to_z-of_z}
+use Rattle.std.proofs.Common.{◌≡◌, take, drop, length, refl, rules, sym, ap, ◌∙◌, arith, true, Ok}
+use Rattle.std.proofs.Common.{Err, Some, None, FitsSigned, w16, to_z-of_z}
 use Rattle.ptb_answers.specs.Outcome.{is_open}
 use Rattle.ptb_explore.specs.PlannedPlays.{run_from}
 use Rattle.ptb_chances.specs.Planned.{choices_of}
-use Rattle.ptb_chances.proofs.PlaySteps.{advanced, came_by, none_follow, never_out, never_unread, never_unwritten, plays_by, step_came, step_plays, step_plan, taken_within}
+use Rattle.ptb_chances.proofs.PlaySteps.{advanced, came_by, none_follow, never_out, never_unread}
+use Rattle.ptb_chances.proofs.PlaySteps.{never_unwritten, plays_by, step_came, step_plays}
+use Rattle.ptb_chances.proofs.PlaySteps.{step_plan, taken_within}
 use Rattle.ptb_chances.proofs.Picked.{whole}
 use Rattle.ptb_chances.proofs.plays.play_plan.Goals as goal
 
@@ -15,49 +18,78 @@ commands-preserved c =
     let turn = c.step.ensures.step.turn in
     let turns = c.advance.ensures.turns in
     let o = c.requires.opens in
-    let u = advanced c.run_laws.ensures l.player c.args.rules c.advance.new.self turns.0 o.0 l.machine c.advance.new.machine (choices_of l.plan).taken l.console.screen _ c.advance.ensures.program (i.came o.0 o.1) turns.1.1 in
+    let u = advanced c.run_laws.ensures l.player c.args.rules c.advance.new.self turns.0 o.0 l.machine
+    c.advance.new.machine (choices_of l.plan).taken l.console.screen _ c.advance.ensures.program
+    (i.came o.0 o.1) turns.1.1 in
     record {
       program = c.step.ensures.program ∙ (c.advance.ensures.program ∙ i.program);
-      answers = step_plan c.run_laws.ensures c.advance.new.self c.args.rules o.0 _ _ (choices_of l.plan) c.step.new.chooser _ _ turn.given _ _ _ _ _ u turn.gives.first (none_follow c.step.new.source) turn.steps None is ∙ i.answers;
+      answers = step_plan c.run_laws.ensures c.advance.new.self c.args.rules o.0 _ _
+          (choices_of l.plan) c.step.new.chooser _ _ turn.given _ _ _ _ _ u turn.gives.first
+          (none_follow c.step.new.source) turn.steps None is ∙ i.answers;
       same_lines = turn.gives.same_lines ∙ i.same_lines;
-      within = rw (← i.same_lines) (taken_within l.console.source c.step.new.source turn.given turn.gives (rw i.same_lines i.within));
+      within = rw (← i.same_lines) (taken_within l.console.source c.step.new.source turn.given turn.gives
+          (rw i.same_lines i.within));
       unspent = c.step.ensures.step.spends.0 is;
       steps = omega (arith, i.steps, turns.1.0, (c.step.ensures.step.begun is).1);
       came = λ S h.
-          let v = advanced c.run_laws.ensures l.player c.args.rules c.advance.new.self turns.0 S l.machine c.advance.new.machine (choices_of l.plan).taken l.console.screen _ c.advance.ensures.program (i.came S h) turns.1.1 in
+          let v = advanced c.run_laws.ensures l.player c.args.rules c.advance.new.self turns.0 S l.machine
+          c.advance.new.machine (choices_of l.plan).taken l.console.screen _ c.advance.ensures.program
+          (i.came S h) turns.1.1 in
           came_by c.advance.new.self c.step.new.self c.args.rules S _ _ _ _ _ _ (sym c.step.ensures.program) refl refl
-          (step_came c.run_laws.ensures c.advance.new.self c.args.rules S _ _ (choices_of l.plan) (choices_of c.step.new.chooser) _ _ turn.given _ _ _ _ _ _ is v turn.gives.first (none_follow c.step.new.source) turn.steps);
+          (step_came c.run_laws.ensures c.advance.new.self c.args.rules S _ _ (choices_of l.plan)
+          (choices_of c.step.new.chooser) _ _ turn.given _ _ _ _ _ _ is v turn.gives.first
+          (none_follow c.step.new.source) turn.steps);
     }
 
 pub ended-requires : goal.ended-requires
 ended-requires c = λ bad.
     let l = c.commands in
     let i = l.invariant in
-    let is : c.step.result ≡ Ok (Some c.in-Ok-Some.ending) = c.in-Ok-Some.is ∙ ap Ok (c.in-Ok-Some.field-0-is ∙ ap Some c.in-Ok-Some.ending-is) in
+    let is : c.step.result ≡ Ok (Some c.in-Ok-Some.ending) =
+    c.in-Ok-Some.is ∙ ap Ok (c.in-Ok-Some.field-0-is ∙ ap Some c.in-Ok-Some.ending-is) in
     let turn = c.step.ensures.step.turn in
     let turns = c.advance.ensures.turns in
     let o = c.requires.opens in
-    let u = advanced c.run_laws.ensures l.player c.args.rules c.advance.new.self turns.0 o.0 l.machine c.advance.new.machine (choices_of l.plan).taken l.console.screen _ c.advance.ensures.program (i.came o.0 o.1) turns.1.1 in
-    let plan = step_plan c.run_laws.ensures c.advance.new.self c.args.rules o.0 _ _ (choices_of l.plan) c.step.new.chooser _ _ turn.given _ _ _ _ _ u turn.gives.first (none_follow c.step.new.source) turn.steps (Some c.in-Ok-Some.ending) is in
-    let opens : is_open (run_from c.advance.new.self c.args.rules o.0 c.step.new.chooser.answers) ≡ true = rw (c.advance.ensures.program ∙ i.program, plan ∙ i.answers) o.2 in
-    never_out c.run_laws.ensures c.advance.new.self c.args.rules o.0 _ _ (choices_of l.plan) c.step.new.chooser _ _ turn.given _ _ _ _ _ u turn.gives.first (none_follow c.step.new.source) turn.steps opens (is ∙ ap (λ e. Ok (Some e)) bad)
+    let u = advanced c.run_laws.ensures l.player c.args.rules c.advance.new.self turns.0 o.0 l.machine
+    c.advance.new.machine (choices_of l.plan).taken l.console.screen _ c.advance.ensures.program
+    (i.came o.0 o.1) turns.1.1 in
+    let plan = step_plan c.run_laws.ensures c.advance.new.self c.args.rules o.0 _ _
+    (choices_of l.plan) c.step.new.chooser _ _ turn.given _ _ _ _ _ u turn.gives.first
+    (none_follow c.step.new.source) turn.steps (Some c.in-Ok-Some.ending) is in
+    let opens : is_open (run_from c.advance.new.self c.args.rules o.0 c.step.new.chooser.answers) ≡ true =
+    rw (c.advance.ensures.program ∙ i.program, plan ∙ i.answers) o.2 in
+    never_out c.run_laws.ensures c.advance.new.self c.args.rules o.0 _ _ (choices_of l.plan) c.step.new.chooser
+    _ _ turn.given _ _ _ _ _ u turn.gives.first (none_follow c.step.new.source) turn.steps opens
+    (is ∙ ap (λ e. Ok (Some e)) bad)
 
 pub returns-in-Ok-Some-clause-plays : goal.returns-in-Ok-Some-clause-plays
 returns-in-Ok-Some-clause-plays c = λ S h.
     let l = c.commands in
     let i = l.invariant in
-    let is : c.step.result ≡ Ok (Some c.in-Ok-Some.ending) = c.in-Ok-Some.is ∙ ap Ok (c.in-Ok-Some.field-0-is ∙ ap Some c.in-Ok-Some.ending-is) in
+    let is : c.step.result ≡ Ok (Some c.in-Ok-Some.ending) =
+    c.in-Ok-Some.is ∙ ap Ok (c.in-Ok-Some.field-0-is ∙ ap Some c.in-Ok-Some.ending-is) in
     let turn = c.step.ensures.step.turn in
     let turns = c.advance.ensures.turns in
-    let v = advanced c.run_laws.ensures l.player c.args.rules c.advance.new.self turns.0 S l.machine c.advance.new.machine (choices_of l.plan).taken l.console.screen _ c.advance.ensures.program (i.came S h) turns.1.1 in
-    let plan = step_plan c.run_laws.ensures c.advance.new.self c.args.rules S _ _ (choices_of l.plan) c.step.new.chooser _ _ turn.given _ _ _ _ _ v turn.gives.first (none_follow c.step.new.source) turn.steps (Some c.in-Ok-Some.ending) is in
+    let v = advanced c.run_laws.ensures l.player c.args.rules c.advance.new.self turns.0 S l.machine
+    c.advance.new.machine (choices_of l.plan).taken l.console.screen _ c.advance.ensures.program
+    (i.came S h) turns.1.1 in
+    let plan = step_plan c.run_laws.ensures c.advance.new.self c.args.rules S _ _
+    (choices_of l.plan) c.step.new.chooser _ _ turn.given _ _ _ _ _ v turn.gives.first
+    (none_follow c.step.new.source) turn.steps (Some c.in-Ok-Some.ending) is in
     let o = c.requires.opens in
-    let u = advanced c.run_laws.ensures l.player c.args.rules c.advance.new.self turns.0 o.0 l.machine c.advance.new.machine (choices_of l.plan).taken l.console.screen _ c.advance.ensures.program (i.came o.0 o.1) turns.1.1 in
-    let opens : is_open (run_from c.advance.new.self c.args.rules o.0 c.step.new.chooser.answers) ≡ true = rw (c.advance.ensures.program ∙ i.program, plan ∙ i.answers) o.2 in
+    let u = advanced c.run_laws.ensures l.player c.args.rules c.advance.new.self turns.0 o.0 l.machine
+    c.advance.new.machine (choices_of l.plan).taken l.console.screen _ c.advance.ensures.program
+    (i.came o.0 o.1) turns.1.1 in
+    let opens : is_open (run_from c.advance.new.self c.args.rules o.0 c.step.new.chooser.answers) ≡ true =
+    rw (c.advance.ensures.program ∙ i.program, plan ∙ i.answers) o.2 in
     let fits : FitsSigned w16 c.step.new.chooser.refused_bound = search rules in
-    let x = step_plays c.run_laws.ensures c.advance.new.self c.args.rules S _ _ (choices_of l.plan) c.step.new.chooser _ _ turn.given _ _ _ _ _ v turn.gives.first (none_follow c.step.new.source) turn.steps
-    c.in-Ok-Some.ending c.args.player.now c.args.plan.now.answers _ (c.advance.ensures.program ∙ i.program) (plan ∙ i.answers)
-    (λ bad. never_out c.run_laws.ensures c.advance.new.self c.args.rules o.0 _ _ (choices_of l.plan) c.step.new.chooser _ _ turn.given _ _ _ _ _ u turn.gives.first (none_follow c.step.new.source) turn.steps opens (is ∙ ap (λ e. Ok (Some e)) bad))
+    let x = step_plays c.run_laws.ensures c.advance.new.self c.args.rules S _ _ (choices_of l.plan) c.step.new.chooser _
+    _ turn.given _ _ _ _ _ v turn.gives.first (none_follow c.step.new.source) turn.steps
+    c.in-Ok-Some.ending c.args.player.now c.args.plan.now.answers _ (c.advance.ensures.program ∙ i.program)
+    (plan ∙ i.answers)
+    (λ bad. never_out c.run_laws.ensures c.advance.new.self c.args.rules o.0 _ _
+    (choices_of l.plan) c.step.new.chooser _ _ turn.given _ _ _ _ _ u turn.gives.first
+    (none_follow c.step.new.source) turn.steps opens (is ∙ ap (λ e. Ok (Some e)) bad))
     is (rw (to_z-of_z fits) at (rw c.refused_bound.ensures at c.ended.ensures)) in
     plays_by _ _ _ _ _ _ _ _ _ _ (ap (drop c.step.new.source.taken) (turn.gives.same_lines ∙ i.same_lines)) x
 
@@ -65,13 +97,15 @@ pub returns-in-Ok-Some-clause-within : goal.returns-in-Ok-Some-clause-within
 returns-in-Ok-Some-clause-within c =
     let i = c.commands.invariant in
     let turn = c.step.ensures.step.turn in
-    rw (← i.same_lines) (taken_within c.commands.console.source c.step.new.source turn.given turn.gives (rw i.same_lines i.within))
+    rw (← i.same_lines) (taken_within c.commands.console.source c.step.new.source turn.given turn.gives
+    (rw i.same_lines i.within))
 
 pub returns-then-is_used_up-clause-within : goal.returns-then-is_used_up-clause-within
 returns-then-is_used_up-clause-within c =
     let i = c.commands.invariant in
     let turn = c.step.ensures.step.turn in
-    rw (← i.same_lines) (taken_within c.commands.console.source c.step.new.source turn.given turn.gives (rw i.same_lines i.within))
+    rw (← i.same_lines) (taken_within c.commands.console.source c.step.new.source turn.given turn.gives
+    (rw i.same_lines i.within))
 
 pub returns-then-is_used_up-clause-plays : goal.returns-then-is_used_up-clause-plays
 returns-then-is_used_up-clause-plays c = λ S h.
@@ -80,12 +114,18 @@ returns-then-is_used_up-clause-plays c = λ S h.
     let is : c.step.result ≡ Ok None = c.in-Ok-None.is ∙ ap Ok c.in-Ok-None.field-0-is in
     let turn = c.step.ensures.step.turn in
     let turns = c.advance.ensures.turns in
-    let v = advanced c.run_laws.ensures l.player c.args.rules c.advance.new.self turns.0 S l.machine c.advance.new.machine (choices_of l.plan).taken l.console.screen _ c.advance.ensures.program (i.came S h) turns.1.1 in
-    let plan = step_plan c.run_laws.ensures c.advance.new.self c.args.rules S _ _ (choices_of l.plan) c.step.new.chooser _ _ turn.given _ _ _ _ _ v turn.gives.first (none_follow c.step.new.source) turn.steps None is in
+    let v = advanced c.run_laws.ensures l.player c.args.rules c.advance.new.self turns.0 S l.machine
+    c.advance.new.machine (choices_of l.plan).taken l.console.screen _ c.advance.ensures.program
+    (i.came S h) turns.1.1 in
+    let plan = step_plan c.run_laws.ensures c.advance.new.self c.args.rules S _ _ (choices_of l.plan) c.step.new.chooser
+    _ _ turn.given _ _ _ _ _ v turn.gives.first (none_follow c.step.new.source) turn.steps None is in
     let given : c.step.new.chooser.given ≡ length c.step.new.chooser.answers = search rules in
-    came_by c.advance.new.self c.args.player.now c.args.rules S _ _ _ _ _ _ (c.advance.ensures.program ∙ i.program) (ap (λ n. take n c.step.new.chooser.answers) given ∙ whole c.step.new.chooser.answers ∙ plan ∙ i.answers)
+    came_by c.advance.new.self c.args.player.now c.args.rules S _ _ _ _ _ _ (c.advance.ensures.program ∙ i.program)
+    (ap (λ n. take n c.step.new.chooser.answers) given ∙ whole c.step.new.chooser.answers ∙ plan ∙ i.answers)
     (ap (drop c.step.new.source.taken) (turn.gives.same_lines ∙ i.same_lines))
-    (step_came c.run_laws.ensures c.advance.new.self c.args.rules S _ _ (choices_of l.plan) (choices_of c.step.new.chooser) _ _ turn.given _ _ _ _ _ _ is v turn.gives.first (none_follow c.step.new.source) turn.steps)
+    (step_came c.run_laws.ensures c.advance.new.self c.args.rules S _ _ (choices_of l.plan)
+    (choices_of c.step.new.chooser) _ _ turn.given _ _ _ _ _ _ is v turn.gives.first
+    (none_follow c.step.new.source) turn.steps)
 
 pub unreachable-requires : goal.unreachable-requires
 unreachable-requires c =
@@ -93,8 +133,12 @@ unreachable-requires c =
     let turn = c.step.ensures.step.turn in
     let turns = c.advance.ensures.turns in
     let o = c.requires.opens in
-    let u = advanced c.run_laws.ensures l.player c.args.rules c.advance.new.self turns.0 o.0 l.machine c.advance.new.machine (choices_of l.plan).taken l.console.screen _ c.advance.ensures.program (l.invariant.came o.0 o.1) turns.1.1 in
-    never_unread c.run_laws.ensures c.advance.new.self c.args.rules o.0 _ _ (choices_of l.plan) c.step.new.chooser _ _ turn.given _ _ _ _ _ u turn.gives.first (none_follow c.step.new.source) turn.steps (c.in-Err-Read.is ∙ ap Err c.in-Err-Read.field-0-is)
+    let u = advanced c.run_laws.ensures l.player c.args.rules c.advance.new.self turns.0 o.0 l.machine
+    c.advance.new.machine (choices_of l.plan).taken l.console.screen _ c.advance.ensures.program
+    (l.invariant.came o.0 o.1) turns.1.1 in
+    never_unread c.run_laws.ensures c.advance.new.self c.args.rules o.0 _ _ (choices_of l.plan)
+    c.step.new.chooser _ _ turn.given _ _ _ _ _ u turn.gives.first (none_follow c.step.new.source) turn.steps
+    (c.in-Err-Read.is ∙ ap Err c.in-Err-Read.field-0-is)
 
 pub unreachable-requires-in-Err-Write : goal.unreachable-requires-in-Err-Write
 unreachable-requires-in-Err-Write c =
@@ -102,5 +146,9 @@ unreachable-requires-in-Err-Write c =
     let turn = c.step.ensures.step.turn in
     let turns = c.advance.ensures.turns in
     let o = c.requires.opens in
-    let u = advanced c.run_laws.ensures l.player c.args.rules c.advance.new.self turns.0 o.0 l.machine c.advance.new.machine (choices_of l.plan).taken l.console.screen _ c.advance.ensures.program (l.invariant.came o.0 o.1) turns.1.1 in
-    never_unwritten c.run_laws.ensures c.advance.new.self c.args.rules o.0 _ _ (choices_of l.plan) c.step.new.chooser _ _ turn.given _ _ _ _ _ u turn.gives.first (none_follow c.step.new.source) turn.steps (c.in-Err-Write.is ∙ ap Err c.in-Err-Write.field-0-is)
+    let u = advanced c.run_laws.ensures l.player c.args.rules c.advance.new.self turns.0 o.0 l.machine
+    c.advance.new.machine (choices_of l.plan).taken l.console.screen _ c.advance.ensures.program
+    (l.invariant.came o.0 o.1) turns.1.1 in
+    never_unwritten c.run_laws.ensures c.advance.new.self c.args.rules o.0 _ _
+    (choices_of l.plan) c.step.new.chooser _ _ turn.given _ _ _ _ _ u turn.gives.first
+    (none_follow c.step.new.source) turn.steps (c.in-Err-Write.is ∙ ap Err c.in-Err-Write.field-0-is)

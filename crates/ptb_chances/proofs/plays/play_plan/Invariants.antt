@@ -13,8 +13,11 @@ invariant-commands l = record {
   within : l.console.source.taken ≤ length l.fn.console.source.lines;
   unspent : l.machine.spent ≡ false;
   steps : l.fn.machine.steps ≤ l.machine.steps;
-  came : (S : State) → StandsAt l.fn.player l.rules l.fn.machine (drop l.fn.console.source.taken l.fn.console.source.lines) l.fn.console.screen S
-      → Came l.player l.rules S (take l.plan.given l.plan.answers) l.machine (drop l.console.source.taken l.console.source.lines) l.console.screen;
+  came : (S : State)
+      → StandsAt l.fn.player l.rules l.fn.machine (drop l.fn.console.source.taken l.fn.console.source.lines)
+      l.fn.console.screen S
+      → Came l.player l.rules S (take l.plan.given l.plan.answers) l.machine
+      (drop l.console.source.taken l.console.source.lines) l.console.screen;
 }
 
 -- each step is below the rules

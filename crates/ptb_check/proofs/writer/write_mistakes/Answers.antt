@@ -13,10 +13,12 @@ returns-in_err-any-clause-writes g c =
     let p = c.args.program.now.lines in
     let at = c.loop-at.at in
     let within : at < length p = omega (arith, c.loop-at-test.true, c.len-at-end.ensures.value) in
-    let left = statement_left p p at c.line_at-number.result.0 c.line_at-number.result.1.now within c.line_at-number.ensures.there in
+    let left = statement_left p p at c.line_at-number.result.0 c.line_at-number.result.1.now within
+    c.line_at-number.ensures.there in
     let same : to_z w16 (of_z w16 c.line_at-number.result.0) ≡ c.line_at-number.result.0 = search rules in
     let value = c.unsigned_abs-number.ensures.value ∙ ap unsigned_abs same in
-    let number = subst (λ (n : ℕ). flat_map (statement_mistakes p) (drop at p) ≡ statement_mistakes p (n, c.line_at-number.result.1.now) ++ flat_map (statement_mistakes p) (drop (at + 1) p)) (sym value) left in
+    let number = subst (λ (n : ℕ). flat_map (statement_mistakes p) (drop at p) ≡ statement_mistakes p
+    (n, c.line_at-number.result.1.now) ++ flat_map (statement_mistakes p) (drop (at + 1) p)) (sym value) left in
     let e = err_from_is_err_and c.from_residual.result c.from_residual.ensures.1 in
     rw e.1 (not_written _ _ e.0 _ _ number c.loop-at.invariant.written c.in_err-any.ensures.writes)
 
@@ -25,10 +27,12 @@ loop-at-preserved g c =
     let p = c.args.program.now.lines in
     let at = c.loop-at.at in
     let within : at < length p = omega (arith, c.loop-at-test.true, c.len-at-end.ensures.value) in
-    let left = statement_left p p at c.line_at-number.result.0 c.line_at-number.result.1.now within c.line_at-number.ensures.there in
+    let left = statement_left p p at c.line_at-number.result.0 c.line_at-number.result.1.now within
+    c.line_at-number.ensures.there in
     let same : to_z w16 (of_z w16 c.line_at-number.result.0) ≡ c.line_at-number.result.0 = search rules in
     let value = c.unsigned_abs-number.ensures.value ∙ ap unsigned_abs same in
-    let number = subst (λ (n : ℕ). flat_map (statement_mistakes p) (drop at p) ≡ statement_mistakes p (n, c.line_at-number.result.1.now) ++ flat_map (statement_mistakes p) (drop (at + 1) p)) (sym value) left in
+    let number = subst (λ (n : ℕ). flat_map (statement_mistakes p) (drop at p) ≡ statement_mistakes p
+    (n, c.line_at-number.result.1.now) ++ flat_map (statement_mistakes p) (drop (at + 1) p)) (sym value) left in
     record {
       unfailed = c.in_ok-any.ensures.unfailed ∙ c.loop-at.invariant.unfailed;
       written = more_written _ c.in_ok-any.field-0 _ _ number c.loop-at.invariant.written c.in_ok-any.ensures.writes;

@@ -9,13 +9,17 @@ joined : (w d s t q r n : List ℕ) → w ++ (d ++ (s ++ (t ++ (q ++ (r ++ (n ++
 joined w d s t q r n = simp (append_assoc, append-nil)
 
 in_parts : (none word number before after : List ℕ) → none ≡ []
-    → none ++ (word ++ (number ++ (codes " " ++ (before ++ (codes "?" ++ (after ++ (codes "\n" ++ []))))))) ≡ word ++ number ++ codes " " ++ before ++ codes "?" ++ after ++ newline
+    → none ++ (word ++ (number ++ (codes " " ++ (before ++ (codes "?" ++ (after ++ (codes "\n" ++ [])))))))
+    ≡ word ++ number ++ codes " " ++ before ++ codes "?" ++ after ++ newline
 in_parts none word number before after empty =
-    ap (λ (x : List ℕ). x ++ (word ++ (number ++ (codes " " ++ (before ++ (codes "?" ++ (after ++ (codes "\n" ++ [])))))))) empty
+    ap (λ (x : List ℕ). x
+    ++ (word ++ (number ++ (codes " " ++ (before ++ (codes "?" ++ (after ++ (codes "\n" ++ [])))))))) empty
     ∙ joined word number (codes " ") before (codes "?") after (codes "\n")
 
 pub returns-in-Ok-clause-ok : goal.returns-in-Ok-clause-ok
-returns-in-Ok-clause-ok g c = subst (Appends _ _) (in_parts _ c.args.word.now c.args.number.now c.args.before.now c.args.after.now c.new-report.ensures) c.in-Ok.ensures.ok
+returns-in-Ok-clause-ok g c = subst (Appends _ _) (in_parts _ c.args.word.now c.args.number.now c.args.before.now
+    c.args.after.now c.new-report.ensures) c.in-Ok.ensures.ok
 
 pub returns-in-Err-clause-fault : goal.returns-in-Err-clause-fault
-returns-in-Err-clause-fault g c = subst (TakesSome _ _) (in_parts _ c.args.word.now c.args.number.now c.args.before.now c.args.after.now c.new-report.ensures) c.in-Err.ensures.fault
+returns-in-Err-clause-fault g c = subst (TakesSome _ _) (in_parts _ c.args.word.now c.args.number.now c.args.before.now
+    c.args.after.now c.new-report.ensures) c.in-Err.ensures.fault

@@ -19,10 +19,13 @@ returns-in_err-any-clause-writes g c =
     let i = c.commands.cursor.place in
     let same : u ≡ t = c.commands.invariant.text in
     let code = subst (λ v. IsTranslated v i c.take_command-more.new.room) same c.take_command-more.ensures.code in
-    let others = others_left (commands_from u i) (command_at u i) _ c.take_command-more.result c.take_command-more.ensures.more c.take_command-more.ensures.last in
-    let left : commands_from t i ≡ command_at t i ∷ others.0 = subst (λ v. commands_from v i ≡ command_at v i ∷ others.0) same others.1 in
+    let others = others_left (commands_from u i) (command_at u i) _ c.take_command-more.result
+    c.take_command-more.ensures.more c.take_command-more.ensures.last in
+    let left : commands_from t i ≡ command_at t i ∷ others.0 =
+    subst (λ v. commands_from v i ≡ command_at v i ∷ others.0) same others.1 in
     let e = err_from_is_err_and c.from_residual.result c.from_residual.ensures.1 in
-    rw e.1 (not_written _ _ e.0 _ (mistakes_from p n t others.0) (mistakes_left p n t i others.0 left) c.commands.invariant.written (c.in_err-any.ensures.writes i code))
+    rw e.1 (not_written _ _ e.0 _ (mistakes_from p n t others.0) (mistakes_left p n t i others.0 left)
+    c.commands.invariant.written (c.in_err-any.ensures.writes i code))
 
 -- no command is left
 pub returns-then-not-more-clause-writes : goal.returns-then-not-more-clause-writes
@@ -35,8 +38,10 @@ returns-then-not-more-clause-writes g c =
     let same : u ≡ t = c.commands.invariant.text in
     let code = subst (λ v. IsTranslated v i c.take_command-more.new.room) same c.take_command-more.ensures.code in
     let no : IsFalse c.take_command-more.result = grind arith in
-    let left : commands_from t i ≡ command_at t i ∷ [] = subst (λ v. commands_from v i ≡ command_at v i ∷ []) same (c.take_command-more.ensures.last no) in
-    all_written refl (more_written _ c.in_ok-any.field-0 _ [] (mistakes_left p n t i [] left) c.commands.invariant.written (c.in_ok-any.ensures.writes i code))
+    let left : commands_from t i ≡ command_at t i ∷ [] =
+    subst (λ v. commands_from v i ≡ command_at v i ∷ []) same (c.take_command-more.ensures.last no) in
+    all_written refl (more_written _ c.in_ok-any.field-0 _ [] (mistakes_left p n t i [] left)
+    c.commands.invariant.written (c.in_ok-any.ensures.writes i code))
 
 pub returns-clause-writes : goal.returns-clause-writes
 returns-clause-writes g c =
@@ -44,7 +49,8 @@ returns-clause-writes g c =
     let n = c.args.number in
     let t = c.args.text.now in
     let i = c.commands.cursor.place in
-    let over = subst (λ v. is_over v i ≡ true) c.commands.invariant.text (sym c.at_end.ensures ∙ c.commands-test.false) in
+    let over = subst (λ v. is_over v i ≡ true) c.commands.invariant.text
+    (sym c.at_end.ensures ∙ c.commands-test.false) in
     all_written
     (ap (mistakes_from p n t) (no_command_left c.command_laws.ensures t i over)) c.commands.invariant.written
 
@@ -60,7 +66,8 @@ commands-preserved g c =
     let same : u ≡ t = c.commands.invariant.text in
     let code = subst (λ v. IsTranslated v i c.take_command-more.new.room) same c.take_command-more.ensures.code in
     let yes : IsTrue c.take_command-more.result = grind arith in
-    let left : commands_from t i ≡ command_at t i ∷ commands_from t j = subst (λ v. commands_from v i ≡ command_at v i ∷ commands_from v j) same (c.take_command-more.ensures.more yes) in
+    let left : commands_from t i ≡ command_at t i ∷ commands_from t j = subst
+    (λ v. commands_from v i ≡ command_at v i ∷ commands_from v j) same (c.take_command-more.ensures.more yes) in
     record {
       text = c.take_command-more.ensures.text ∙ same;
       unfailed = c.in_ok-any.ensures.unfailed ∙ c.commands.invariant.unfailed;

@@ -12,7 +12,8 @@ invariant-commands g l = record {
   unfailed : g.W.Write.failures l.writer ≡ g.W.Write.failures l.initial.writer;
   written :
       IsWrittenUpTo (g.W.Write.contents l.initial.writer) (g.W.Write.contents l.writer) l.any
-      (statement_mistakes l.program.lines (l.number, l.text)) (mistakes_from l.program.lines l.number l.text (commands_from l.text l.cursor.place));
+      (statement_mistakes l.program.lines (l.number, l.text))
+      (mistakes_from l.program.lines l.number l.text (commands_from l.text l.cursor.place));
 }
 
 abbrev pub decreases-commands : goal.decreases-commands

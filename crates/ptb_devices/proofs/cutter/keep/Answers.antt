@@ -5,7 +5,8 @@ use Rattle.ptb_devices.proofs.CutLines.{with_byte-full, with_byte-kept, with_byt
 use Rattle.ptb_devices.proofs.cutter.keep.Goals as goal
 
 pub returns-then-is_full : goal.returns-then-is_full
-returns-then-is_full c = sym (with_byte-full _ c.args.byte (eqb-true _ _ (sym c.is_full.ensures.value ∙ c.if-is_full.true)))
+returns-then-is_full c =
+    sym (with_byte-full _ c.args.byte (eqb-true _ _ (sym c.is_full.ensures.value ∙ c.if-is_full.true)))
 
 pub returns-in-Some : goal.returns-in-Some
 returns-in-Some c =

@@ -7,7 +7,8 @@ use Rattle.ptb_devices.proofs.whole_input.push_whole.Goals as goal
 pub loop-count-preserved : goal.loop-count-preserved
 loop-count-preserved c =
     let pushed : c.push.new.self.items ≡ c.loop-count.lines.items ++ kept_bytes c.take_line.new.self ∷ [] =
-    c.in_ok-push.ensures.items ∙ ap (λ (l : List ℕ). c.loop-count.lines.items ++ l ∷ []) (c.in_ok-from_kept.ensures ∙ c.kept.ensures.value) in
+    c.in_ok-push.ensures.items ∙ ap (λ (l : List ℕ). c.loop-count.lines.items ++ l ∷ [])
+    (c.in_ok-from_kept.ensures ∙ c.kept.ensures.value) in
     rw (pushed, c.clear.ensures) (AddsUpTo_more _ _ _ _ _ _ _ _ _ refl c.loop-count.invariant c.in-Some.ensures.whole)
 
 pub returns : goal.returns

@@ -15,7 +15,9 @@ use Rattle.ptb_explore.proofs.StoppedPlans.{beginning_agrees, plan_fits}
 use Rattle.ptb_explore.proofs.beginnings.find_beginning.Goals as goal
 
 pub plan_next-requires : goal.plan_next-requires
-plan_next-requires c = λ e. rw (c.deref.ensures.value, c.deref-2.ensures.value) (position_lengths (stopped c.args.most (play c.args.runner.now.player c.args.runner.now.lines.now c.args.runner.now.rules)) _ _ _ _ c.requires.position e)
+plan_next-requires c = λ e. rw (c.deref.ensures.value, c.deref-2.ensures.value) (position_lengths
+    (stopped c.args.most (play c.args.runner.now.player c.args.runner.now.lines.now c.args.runner.now.rules)) _ _ _
+    _ c.requires.position e)
 
 pub returns-in-None-clause-next : goal.returns-in-None-clause-next
 returns-in-None-clause-next c =
@@ -23,8 +25,11 @@ returns-in-None-clause-next c =
     let reads = c.run_laws.ensures.reads c.args.runner.now.player c.args.runner.now.lines.now c.args.runner.now.rules in
     let most = most_answers c.args.runner.now.player c.args.runner.now.lines.now c.args.runner.now.rules.limit in
     let report = c.args.runner.now.report in
-    let plans : PlansNext [] c.args.position report.answers.items report.bounds.items c.plan_next.new.trial.answers.items None = rw (← c.deref.ensures.value, ← c.deref-2.ensures.value, ← c.in-None.is) c.in_ok-plan_next.ensures.plan in
-    last_plan (stopped c.args.most game) c.args.most (stopped_reads game c.args.most most reads) [] c.args.position report.answers.items c.plan_next.new.trial.answers.items report.bounds.items c.requires.position plans
+    let plans : PlansNext [] c.args.position report.answers.items
+    report.bounds.items c.plan_next.new.trial.answers.items None =
+    rw (← c.deref.ensures.value, ← c.deref-2.ensures.value, ← c.in-None.is) c.in_ok-plan_next.ensures.plan in
+    last_plan (stopped c.args.most game) c.args.most (stopped_reads game c.args.most most reads) [] c.args.position
+    report.answers.items c.plan_next.new.trial.answers.items report.bounds.items c.requires.position plans
 
 pub play_beginning-requires : goal.play_beginning-requires
 play_beginning-requires c =
@@ -33,15 +38,21 @@ play_beginning-requires c =
     let most = most_answers c.args.runner.now.player c.args.runner.now.lines.now c.args.runner.now.rules.limit in
     let report = c.args.runner.now.report in
     let plan = c.plan_next.new.trial.answers.items in
-    let plans : PlansNext [] c.args.position report.answers.items report.bounds.items plan (Some c.in-Some.common) = rw (← c.deref.ensures.value, ← c.deref-2.ensures.value, ← c.in-Some.is) c.in_ok-plan_next.ensures.plan in
-    let fits = plan_fits game most reads c.args.most c.args.position report.answers.items plan report.bounds.items c.in-Some.common c.requires.position plans in
+    let plans : PlansNext [] c.args.position report.answers.items report.bounds.items plan (Some c.in-Some.common) =
+    rw (← c.deref.ensures.value, ← c.deref-2.ensures.value, ← c.in-Some.is) c.in_ok-plan_next.ensures.plan in
+    let fits = plan_fits game most reads c.args.most c.args.position report.answers.items plan report.bounds.items
+    c.in-Some.common c.requires.position plans in
     record {
       fresh = on_some_at c.in-Some.is c.in_ok-plan_next.ensures.fresh;
       within = fits.0;
       common = fits.1;
-      opens = (next_plan (stopped c.args.most game) c.args.most (stopped_reads game c.args.most most reads) [] c.args.position report.answers.items plan report.bounds.items c.in-Some.common c.requires.position plans).opens;
-      agrees = beginning_agrees game most reads c.args.most c.args.position report.answers.items plan report.bounds.items c.in-Some.common c.requires.position plans;
-      copies = position_copies c.args.runner.now.player c.args.runner.now.lines.now c.args.runner.now.rules c.args.position c.args.runner.now.report c.args.runner.now.copies.kept.items c.requires.copies;
+      opens = (next_plan (stopped c.args.most game) c.args.most (stopped_reads game c.args.most most reads)
+          [] c.args.position report.answers.items plan report.bounds.items c.in-Some.common c.requires.position
+          plans).opens;
+      agrees = beginning_agrees game most reads c.args.most c.args.position report.answers.items plan
+          report.bounds.items c.in-Some.common c.requires.position plans;
+      copies = position_copies c.args.runner.now.player c.args.runner.now.lines.now c.args.runner.now.rules
+          c.args.position c.args.runner.now.report c.args.runner.now.copies.kept.items c.requires.copies;
     }
 
 pub returns-in_ok-play_beginning-in-Some-clause-next : goal.returns-in_ok-play_beginning-in-Some-clause-next
@@ -51,10 +62,15 @@ returns-in_ok-play_beginning-in-Some-clause-next c =
     let most = most_answers c.args.runner.now.player c.args.runner.now.lines.now c.args.runner.now.rules.limit in
     let report = c.args.runner.now.report in
     let plan = c.plan_next.new.trial.answers.items in
-    let plans : PlansNext [] c.args.position report.answers.items report.bounds.items plan (Some c.in-Some.common) = rw (← c.deref.ensures.value, ← c.deref-2.ensures.value, ← c.in-Some.is) c.in_ok-plan_next.ensures.plan in
-    let next = next_plan (stopped c.args.most game) c.args.most (stopped_reads game c.args.most most reads) [] c.args.position report.answers.items plan report.bounds.items c.in-Some.common c.requires.position plans in
-    let run = c.in_ok-play_beginning-in-Some.ensures.ends in
-    (plan_ends (stopped c.args.most game) c.args.most (stopped_reads game c.args.most most reads) [] (front_at c.args.position report.answers.items) plan _ _ _ next run, run.bounds_are)
+    let plans : PlansNext [] c.args.position report.answers.items report.bounds.items plan (Some c.in-Some.common) =
+    rw (← c.deref.ensures.value, ← c.deref-2.ensures.value, ← c.in-Some.is) c.in_ok-plan_next.ensures.plan in
+    let next = next_plan (stopped c.args.most game) c.args.most (stopped_reads game c.args.most most reads)
+    [] c.args.position report.answers.items plan report.bounds.items c.in-Some.common c.requires.position plans in
+    let run = c.in_ok-play_beginning-in-Some.ensures.ends in (
+      plan_ends (stopped c.args.most game) c.args.most (stopped_reads game c.args.most most reads) []
+          (front_at c.args.position report.answers.items) plan _ _ _ next run,
+      run.bounds_are,
+    )
 
 pub returns-in_ok-play_beginning-in-Some-clause-ended : goal.returns-in_ok-play_beginning-in-Some-clause-ended
 returns-in_ok-play_beginning-in-Some-clause-ended c = λ last.
@@ -63,17 +79,23 @@ returns-in_ok-play_beginning-in-Some-clause-ended c = λ last.
     let most = most_answers c.args.runner.now.player c.args.runner.now.lines.now c.args.runner.now.rules.limit in
     let report = c.args.runner.now.report in
     let plan = c.plan_next.new.trial.answers.items in
-    let plans : PlansNext [] c.args.position report.answers.items report.bounds.items plan (Some c.in-Some.common) = rw (← c.deref.ensures.value, ← c.deref-2.ensures.value, ← c.in-Some.is) c.in_ok-plan_next.ensures.plan in
-    let next = next_plan (stopped c.args.most game) c.args.most (stopped_reads game c.args.most most reads) [] c.args.position report.answers.items plan report.bounds.items c.in-Some.common c.requires.position plans in
-    plan_left (stopped c.args.most game) c.args.most (stopped_reads game c.args.most most reads) [] (front_at c.args.position report.answers.items) plan next last
+    let plans : PlansNext [] c.args.position report.answers.items report.bounds.items plan (Some c.in-Some.common) =
+    rw (← c.deref.ensures.value, ← c.deref-2.ensures.value, ← c.in-Some.is) c.in_ok-plan_next.ensures.plan in
+    let next = next_plan (stopped c.args.most game) c.args.most (stopped_reads game c.args.most most reads)
+    [] c.args.position report.answers.items plan report.bounds.items c.in-Some.common c.requires.position plans in
+    plan_left (stopped c.args.most game) c.args.most (stopped_reads game c.args.most most reads) []
+    (front_at c.args.position report.answers.items) plan next last
 
 pub returns-in_ok-play_beginning-in-Some-clause-played : goal.returns-in_ok-play_beginning-in-Some-clause-played
 returns-in_ok-play_beginning-in-Some-clause-played c =
     let report = c.args.runner.now.report in
     let plan = c.plan_next.new.trial.answers.items in
-    let plans : PlansNext [] c.args.position report.answers.items report.bounds.items plan (Some c.in-Some.common) = rw (← c.deref.ensures.value, ← c.deref-2.ensures.value, ← c.in-Some.is) c.in_ok-plan_next.ensures.plan in
+    let plans : PlansNext [] c.args.position report.answers.items report.bounds.items plan (Some c.in-Some.common) =
+    rw (← c.deref.ensures.value, ← c.deref-2.ensures.value, ← c.in-Some.is) c.in_ok-plan_next.ensures.plan in
     let run = c.in_ok-play_beginning-in-Some.ensures.ends in
-    next_played c.args.runner.now.player c.args.runner.now.lines.now c.args.runner.now.rules [] c.args.position report plan run.ones _ c.in-Some.common c.args.runner.now.copies.kept.items _ _ _ plans c.requires.copies run.answers_are c.in_ok-play_beginning-in-Some.ensures.played
+    next_played c.args.runner.now.player c.args.runner.now.lines.now c.args.runner.now.rules
+    [] c.args.position report plan run.ones _ c.in-Some.common c.args.runner.now.copies.kept.items _ _ _ plans
+    c.requires.copies run.answers_are c.in_ok-play_beginning-in-Some.ensures.played
 
 pub returns-in_ok-play_beginning-in-Some-clause-copies : goal.returns-in_ok-play_beginning-in-Some-clause-copies
 returns-in_ok-play_beginning-in-Some-clause-copies c = λ _. c.in_ok-play_beginning-in-Some.ensures.copies
@@ -86,12 +108,16 @@ returns-in_err-plan_next c = record {
   bounds = on_err_always _ refl;
   ended = λ last.
       let game = play c.args.runner.now.player c.args.runner.now.lines.now c.args.runner.now.rules in
-      let reads = c.run_laws.ensures.reads c.args.runner.now.player c.args.runner.now.lines.now c.args.runner.now.rules in
+      let reads = c.run_laws.ensures.reads c.args.runner.now.player c.args.runner.now.lines.now
+      c.args.runner.now.rules in
       let most = most_answers c.args.runner.now.player c.args.runner.now.lines.now c.args.runner.now.rules.limit in
       let report = c.args.runner.now.report in
-      let has : HasPlan [] c.args.position report.answers.items report.bounds.items = rw (← c.deref.ensures.value, ← c.deref-2.ensures.value) c.in_err-plan_next.ensures.refused in
-      let next = next_plan (stopped c.args.most game) c.args.most (stopped_reads game c.args.most most reads) [] c.args.position report.answers.items has.0 report.bounds.items has.1 c.requires.position has.2 in
-      plan_left (stopped c.args.most game) c.args.most (stopped_reads game c.args.most most reads) [] (front_at c.args.position report.answers.items) has.0 next last;
+      let has : HasPlan [] c.args.position report.answers.items report.bounds.items =
+      rw (← c.deref.ensures.value, ← c.deref-2.ensures.value) c.in_err-plan_next.ensures.refused in
+      let next = next_plan (stopped c.args.most game) c.args.most (stopped_reads game c.args.most most reads)
+      [] c.args.position report.answers.items has.0 report.bounds.items has.1 c.requires.position has.2 in
+      plan_left (stopped c.args.most game) c.args.most (stopped_reads game c.args.most most reads) []
+      (front_at c.args.position report.answers.items) has.0 next last;
   copies = IfOk-from_err _ _ c.from_residual.ensures.0;
   played = IfOk-from_err _ _ c.from_residual.ensures.0;
 }
@@ -104,13 +130,17 @@ returns-in_err-play_beginning-in-Some c = record {
   bounds = on_err_always _ c.in_err-play_beginning-in-Some.ensures.bounds;
   ended = λ last.
       let game = play c.args.runner.now.player c.args.runner.now.lines.now c.args.runner.now.rules in
-      let reads = c.run_laws.ensures.reads c.args.runner.now.player c.args.runner.now.lines.now c.args.runner.now.rules in
+      let reads = c.run_laws.ensures.reads c.args.runner.now.player c.args.runner.now.lines.now
+      c.args.runner.now.rules in
       let most = most_answers c.args.runner.now.player c.args.runner.now.lines.now c.args.runner.now.rules.limit in
       let report = c.args.runner.now.report in
       let plan = c.plan_next.new.trial.answers.items in
-      let plans : PlansNext [] c.args.position report.answers.items report.bounds.items plan (Some c.in-Some.common) = rw (← c.deref.ensures.value, ← c.deref-2.ensures.value, ← c.in-Some.is) c.in_ok-plan_next.ensures.plan in
-      let next = next_plan (stopped c.args.most game) c.args.most (stopped_reads game c.args.most most reads) [] c.args.position report.answers.items plan report.bounds.items c.in-Some.common c.requires.position plans in
-      plan_left (stopped c.args.most game) c.args.most (stopped_reads game c.args.most most reads) [] (front_at c.args.position report.answers.items) plan next last;
+      let plans : PlansNext [] c.args.position report.answers.items report.bounds.items plan (Some c.in-Some.common) =
+      rw (← c.deref.ensures.value, ← c.deref-2.ensures.value, ← c.in-Some.is) c.in_ok-plan_next.ensures.plan in
+      let next = next_plan (stopped c.args.most game) c.args.most (stopped_reads game c.args.most most reads)
+      [] c.args.position report.answers.items plan report.bounds.items c.in-Some.common c.requires.position plans in
+      plan_left (stopped c.args.most game) c.args.most (stopped_reads game c.args.most most reads) []
+      (front_at c.args.position report.answers.items) plan next last;
   copies = IfOk-from_err _ _ c.from_residual-in_err-play_beginning-in-Some.ensures.0;
   played = IfOk-from_err _ _ c.from_residual-in_err-play_beginning-in-Some.ensures.0;
 }

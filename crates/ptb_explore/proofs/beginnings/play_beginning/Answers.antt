@@ -1,4 +1,5 @@
--- This file answers that a plan that stops is played to the next list, and that the copies that are kept are of its play.
+-- This file answers that a plan that stops is played to the next list, and that the copies that are kept are of its
+-- play.
 use Rattle.std.proofs.Common.{◌≡◌, ◌∙◌, arith, ap, refl, take, length}
 use Rattle.std.proofs.lemmas.Result.{IfOk-from_err}
 use Rattle.ptb_machine.specs.Play.{play}
@@ -20,7 +21,9 @@ stop_after-requires c = record {
 pub play_plan-requires : goal.play_plan-requires
 play_plan-requires c = record {
   fresh = record { none_given = c.in_ok-stop_after.ensures.bounds; all_planned = c.in_ok-stop_after.ensures.planned };
-  agrees = stopping_agrees (play c.args.runner.now.player c.args.runner.now.lines.now c.args.runner.now.rules) c.args.most c.args.common c.args.runner.now.trial.answers.items c.args.runner.now.report.answers.items _ c.args.runner.now.report.bounds.items c.requires.common
+  agrees = stopping_agrees (play c.args.runner.now.player c.args.runner.now.lines.now c.args.runner.now.rules)
+      c.args.most c.args.common c.args.runner.now.trial.answers.items c.args.runner.now.report.answers.items _
+      c.args.runner.now.report.bounds.items c.requires.common
       c.in_ok-stop_after.ensures.answers c.requires.agrees;
   copies = c.requires.copies;
 }
@@ -33,9 +36,17 @@ returns-clause-ends c =
     let report = c.play_plan.new.self.report in
     let trial = c.play_plan.new.self.trial in
     let given : trial.bounds.len ≡ length trial.bounds.items = trial.bounds.ok.0 in
-    let run = beginning_ends (play p input rules) (most_answers p input rules.limit) (c.run_laws.ensures.reads p input rules) c.args.most c.args.runner.now.trial.answers.items c.requires.within c.requires.opens
-    trial (c.in_ok-play_plan.ensures.plan ∙ c.in_ok-stop_after.ensures.answers) report.steps report.transcript.items report.ending c.in_ok-play_plan.ensures.ends in
-    rw (c.hand_over.ensures.answers, c.hand_over.ensures.bounds, c.keep_given.ensures.answers, c.keep_given.ensures.bounds, given) run
+    let run = beginning_ends (play p input rules) (most_answers p input rules.limit) (c.run_laws.ensures.reads p input
+    rules) c.args.most c.args.runner.now.trial.answers.items c.requires.within c.requires.opens
+    trial (c.in_ok-play_plan.ensures.plan ∙ c.in_ok-stop_after.ensures.answers) report.steps report.transcript.items
+    report.ending c.in_ok-play_plan.ensures.ends in
+    rw (
+      c.hand_over.ensures.answers,
+      c.hand_over.ensures.bounds,
+      c.keep_given.ensures.answers,
+      c.keep_given.ensures.bounds,
+      given,
+    ) run
 
 pub returns-clause-copies : goal.returns-clause-copies
 returns-clause-copies c =
@@ -44,8 +55,10 @@ returns-clause-copies c =
     let report = c.play_plan.new.self.report in
     let trial = c.play_plan.new.self.trial in
     let given : trial.bounds.len ≡ length trial.bounds.items = trial.bounds.ok.0 in
-    kept_same p p input input c.args.runner.now.rules (choices_of trial).taken _ report.transcript.items _ c.play_plan.new.self.copies.kept.items _ refl refl
-    (c.hand_over.ensures.answers ∙ c.keep_given.ensures.answers ∙ ap (λ n. take n trial.answers.items) given) refl refl c.in_ok-play_plan.ensures.copies
+    kept_same p p input input c.args.runner.now.rules (choices_of trial).taken _ report.transcript.items _
+    c.play_plan.new.self.copies.kept.items _ refl refl
+    (c.hand_over.ensures.answers ∙ c.keep_given.ensures.answers ∙ ap (λ n. take n trial.answers.items) given) refl refl
+    c.in_ok-play_plan.ensures.copies
 
 pub returns-in_err-stop_after : goal.returns-in_err-stop_after
 returns-in_err-stop_after c = record {

@@ -12,7 +12,9 @@ invariant-loop-written g l =
     record {
       same : l.beginnings ≡ record first { front = l.beginnings.front };
       unfailed : g.W.Write.failures l.writer ≡ g.W.Write.failures l.fn.writer;
-      progress : Progress (game_of first) first.most [] (beginning_line l.fn.form (split_play first)) (runs_left (game_of first) first.most [] first.front None) first.front l.beginnings.front None (g.W.Write.contents l.fn.writer) (g.W.Write.contents l.writer) l.written;
+      progress : Progress (game_of first) first.most [] (beginning_line l.fn.form (split_play first))
+          (runs_left (game_of first) first.most [] first.front None) first.front l.beginnings.front None
+          (g.W.Write.contents l.fn.writer) (g.W.Write.contents l.writer) l.written;
     }
 
 -- fewer lists are left after each line

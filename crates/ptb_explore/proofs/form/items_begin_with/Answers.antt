@@ -15,7 +15,8 @@ loop-k-preserved c =
     let k = c.loop-k.k in
     let list_fits : FitsSigned w16 (get_or list k none).answer = search rules in
     let under_fits : FitsSigned w16 (get_or under k none).answer = search rules in
-    let same : (get_or list k none).answer ≡ (get_or under k none).answer = sym (to_z-of_z list_fits) ∙ ap (to_z w16) c.if-list-k.false ∙ to_z-of_z under_fits in
+    let same : (get_or list k none).answer ≡ (get_or under k none).answer =
+    sym (to_z-of_z list_fits) ∙ ap (to_z w16) c.if-list-k.false ∙ to_z-of_z under_fits in
     same_answer list under k none c.loop-k-test.true (omega (arith, c.if-list-under.false)) same ∙ c.loop-k.invariant
 
 pub returns-then-list-under : goal.returns-then-list-under

@@ -10,12 +10,17 @@ abbrev pub invariant-loop-form : goal.invariant-loop-form
 invariant-loop-form g l =
     let play = play_of l.fn.explorer in
     record {
-      same : l.explorer ≡ record l.fn.explorer { front = l.explorer.front; kept = l.explorer.kept; played = l.explorer.played };
+      same : l.explorer ≡ record l.fn.explorer
+          { front = l.explorer.front; kept = l.explorer.kept; played = l.explorer.played };
       rises : l.fn.explorer.played ≤ l.explorer.played;
       unfailed : g.W.Write.failures l.writer ≡ g.W.Write.failures l.fn.writer;
-      progress : Progress play (most_of l.fn.explorer) l.fn.explorer.under (report l.fn.form play) (runs_left play (most_of l.fn.explorer) l.fn.explorer.under l.fn.explorer.front l.fn.first) l.fn.explorer.front l.explorer.front l.remaining (g.W.Write.contents l.fn.writer) (g.W.Write.contents l.writer) l.written;
+      progress : Progress play (most_of l.fn.explorer) l.fn.explorer.under (report l.fn.form play)
+          (runs_left play (most_of l.fn.explorer) l.fn.explorer.under l.fn.explorer.front l.fn.first)
+          l.fn.explorer.front l.explorer.front l.remaining
+          (g.W.Write.contents l.fn.writer) (g.W.Write.contents l.writer) l.written;
     }
 
 -- fewer runs are left after each report
 abbrev pub decreases-loop-form : goal.decreases-loop-form
-decreases-loop-form g l = length (runs_after (play_of l.fn.explorer) (most_of l.fn.explorer) l.fn.explorer.under l.explorer.front)
+decreases-loop-form g l =
+    length (runs_after (play_of l.fn.explorer) (most_of l.fn.explorer) l.fn.explorer.under l.explorer.front)

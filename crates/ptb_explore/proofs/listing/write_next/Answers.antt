@@ -8,7 +8,8 @@ use Rattle.ptb_explore.proofs.listing.write_next.Goals as goal
 pub write-requires : goal.write-requires
 write-requires g c =
     let run = c.in-Ok-Some.run'.now in
-    let reports : Reports (play_of c.args.explorer.now) run = rw c.in-Ok-Some.field-0-is at c.in-Ok-Some.ensures.report in
+    let reports : Reports (play_of c.args.explorer.now) run =
+    rw c.in-Ok-Some.field-0-is at c.in-Ok-Some.ensures.report in
     let their : run.bounds.items ≡ bounds (play_of c.args.explorer.now) run.answers.items = reports.bounds_are in
     sym (length-bounds (play_of c.args.explorer.now) [] run.answers.items) ∙ ap length (sym their)
 

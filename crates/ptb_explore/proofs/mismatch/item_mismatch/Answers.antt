@@ -1,5 +1,6 @@
 -- This file answers that the first item that does not fit is found, and why it does not.
-use Rattle.std.proofs.Common.{rules, ◌≡◌, ◌⊎◌, inl, inr, subst, arith, ◌<◌, ◌≤◌, ℤ, pos, length, take, true, get_or, FitsSigned, w16, to_z, of_z, to_z-of_z}
+use Rattle.std.proofs.Common.{rules, ◌≡◌, ◌⊎◌, inl, inr, subst, arith, ◌<◌, ◌≤◌, ℤ, pos, length}
+use Rattle.std.proofs.Common.{take, true, get_or, FitsSigned, w16, to_z, of_z, to_z-of_z}
 use Rattle.std.proofs.lemmas.Bool.{cases_lt}
 use Rattle.ptb_answers.specs.declared.form.Marked.{Marked}
 use Rattle.ptb_answers.specs.AnswerText.{without_bound}
@@ -18,21 +19,28 @@ pub returns-then-is_some-clause-mismatch : goal.returns-then-is_some-clause-mism
 returns-then-is_some-clause-mismatch c = λ game most steps shown reads h.
     let trial = c.args.trial.now in
     let list = c.args.list.now in
-    let taken : ((c.min-taken.result ≡ length list) × (length list ≤ length trial.bounds.items)) ⊎ ((c.min-taken.result ≡ length trial.bounds.items) × (length trial.bounds.items < length list)) = elim (cases_lt (length trial.bounds.items) (length list)) [
+    let taken : ((c.min-taken.result ≡ length list) × (length list ≤ length trial.bounds.items))
+    ⊎ ((c.min-taken.result ≡ length trial.bounds.items) × (length trial.bounds.items < length list)) =
+    elim (cases_lt (length trial.bounds.items) (length list)) [
       | inl less ↦ inr (omega (arith, c.min-taken.ensures, c.len.ensures, trial.bounds.ok.0, less), less)
       | inr all ↦ inl (omega (arith, c.min-taken.ensures, c.len.ensures, trial.bounds.ok.0, all), omega (arith, all))
     ] in
     c.bound_mismatch-found.ensures.mismatch game most reads
-    (rw c.deref.ensures.value (takes_items game trial steps shown most reads list c.requires c.min-taken.result taken c.args.ending h))
+    (rw c.deref.ensures.value
+    (takes_items game trial steps shown most reads list c.requires c.min-taken.result taken c.args.ending h))
 
 pub returns-then-eq-clause-mismatch : goal.returns-then-eq-clause-mismatch
 returns-then-eq-clause-mismatch c = λ game most steps shown reads h.
     let trial = c.args.trial.now in
     let list = c.args.list.now in
-    let n : c.min-taken.result ≡ length trial.bounds.items = omega (arith, c.min-taken.ensures, c.len.ensures, trial.bounds.ok.0, c.if-taken-list.false) in
-    let less : length trial.bounds.items < length list = omega (arith, c.min-taken.ensures, c.len.ensures, trial.bounds.ok.0, c.if-taken-list.false) in
-    let found = if_none_at (none_is c.bound_mismatch-found.result c.if-is_some.ensures) c.bound_mismatch-found.ensures.states in
-    let states : states_bounds (take (length trial.bounds.items) list) trial.bounds.items ≡ true = rw (n, c.deref.ensures.value) at found in
+    let n : c.min-taken.result ≡ length trial.bounds.items =
+    omega (arith, c.min-taken.ensures, c.len.ensures, trial.bounds.ok.0, c.if-taken-list.false) in
+    let less : length trial.bounds.items < length list =
+    omega (arith, c.min-taken.ensures, c.len.ensures, trial.bounds.ok.0, c.if-taken-list.false) in
+    let found = if_none_at (none_is c.bound_mismatch-found.result c.if-is_some.ensures)
+    c.bound_mismatch-found.ensures.states in
+    let states : states_bounds (take (length trial.bounds.items) list) trial.bounds.items ≡ true =
+    rw (n, c.deref.ensures.value) at found in
     let is : c.args.ending ≡ endings.BadAnswer = search (rules, c.eq.ensures, c.if-eq.true) in
     let outside = subst (PlayEnds game (choices_of trial) trial.refused_bound steps shown) is h in
     let answer : ℤ = (get_or list c.min-taken.result none).answer in
@@ -40,15 +48,20 @@ returns-then-eq-clause-mismatch c = λ game most steps shown reads h.
     let bound_fits : FitsSigned w16 trial.refused_bound = search rules in
     let answer_is : to_z w16 (of_z w16 answer) ≡ answer = to_z-of_z answer_fits in
     let bound_is : to_z w16 (of_z w16 trial.refused_bound) ≡ trial.refused_bound = to_z-of_z bound_fits in
-    rw (answer_is, bound_is, n) (stops_outside game trial steps shown most reads list c.requires less none states outside)
+    rw (answer_is, bound_is, n)
+    (stops_outside game trial steps shown most reads list c.requires less none states outside)
 
 pub returns-clause-mismatch : goal.returns-clause-mismatch
 returns-clause-mismatch c = λ game most steps shown reads h.
     let trial = c.args.trial.now in
     let list = c.args.list.now in
-    let n : c.min-taken.result ≡ length trial.bounds.items = omega (arith, c.min-taken.ensures, c.len.ensures, trial.bounds.ok.0, c.if-taken-list.false) in
-    let less : length trial.bounds.items < length list = omega (arith, c.min-taken.ensures, c.len.ensures, trial.bounds.ok.0, c.if-taken-list.false) in
-    let found = if_none_at (none_is c.bound_mismatch-found.result c.if-is_some.ensures) c.bound_mismatch-found.ensures.states in
-    let states : states_bounds (take (length trial.bounds.items) list) trial.bounds.items ≡ true = rw (n, c.deref.ensures.value) at found in
+    let n : c.min-taken.result ≡ length trial.bounds.items =
+    omega (arith, c.min-taken.ensures, c.len.ensures, trial.bounds.ok.0, c.if-taken-list.false) in
+    let less : length trial.bounds.items < length list =
+    omega (arith, c.min-taken.ensures, c.len.ensures, trial.bounds.ok.0, c.if-taken-list.false) in
+    let found = if_none_at (none_is c.bound_mismatch-found.result c.if-is_some.ensures)
+    c.bound_mismatch-found.ensures.states in
+    let states : states_bounds (take (length trial.bounds.items) list) trial.bounds.items ≡ true =
+    rw (n, c.deref.ensures.value) at found in
     let other : c.args.ending ≡ endings.BadAnswer → ⊥ = search (rules, c.eq.ensures, c.if-eq.false) in
     rw n (stops_over game trial steps shown most reads list c.requires less none states c.args.ending other h)

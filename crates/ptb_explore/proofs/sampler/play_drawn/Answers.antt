@@ -4,7 +4,8 @@ use Rattle.ptb_answers.specs.Seeds.{RefusedForMemory, drawn_from, seeded_choices
 use Rattle.ptb_command.specs.State.{first_state}
 use Rattle.ptb_devices.specs.Sources.{LineList}
 use Rattle.ptb_machine.specs.Play.{play}
-use Rattle.ptb_explore.proofs.RunPrefix.{advanced, step_goes, run_prefix_at_first, none_follow, never_unread, never_unwritten}
+use Rattle.ptb_explore.proofs.RunPrefix.{advanced, step_goes, run_prefix_at_first, none_follow}
+use Rattle.ptb_explore.proofs.RunPrefix.{never_unread, never_unwritten}
 use Rattle.ptb_explore.proofs.DrawnRuns.{drawn_ends, plays_drawn}
 use Rattle.ptb_explore.proofs.sampler.play_drawn.Goals as goal
 
@@ -19,8 +20,12 @@ steps-init c =
       plan = refl;
       same_lines = ap (λ (s : LineList). s.lines) c.new-source.ensures;
       unspent = c.requires.unspent;
-      fits = record { state = first_state c.args.player.now input c.args.rules.choose; represents = c.requires.first input c.args.rules.choose };
-      run_prefix = rw (c.new-source.ensures, c.requires.shown) (run_prefix_at_first c.args.player.now input c.args.rules (seeded_choices chooser) c.args.machine.now taken kept (c.requires.first input c.args.rules.choose));
+      fits = record {
+        state = first_state c.args.player.now input c.args.rules.choose;
+        represents = c.requires.first input c.args.rules.choose;
+      };
+      run_prefix = rw (c.new-source.ensures, c.requires.shown) (run_prefix_at_first c.args.player.now input c.args.rules
+          (seeded_choices chooser) c.args.machine.now taken kept (c.requires.first input c.args.rules.choose));
     }
 
 pub step-requires : goal.step-requires
@@ -33,8 +38,12 @@ steps-preserved c =
     let is : c.step.result ≡ Ok None = c.in-Ok-None.is ∙ ap Ok c.in-Ok-None.field-0-is in
     let turn = c.step.ensures.step.turn in
     let turns = c.advance.ensures.turns in
-    let u = advanced c.run_laws.ensures l.player c.args.lines.now c.args.rules c.advance.new.self turns.0 l.machine c.advance.new.machine (seeded_choices l.chooser) l.screen _ c.advance.ensures.program l.invariant.run_prefix turns.1.1 in
-    let x = step_goes c.run_laws.ensures c.advance.new.self c.args.lines.now c.args.rules _ _ (seeded_choices l.chooser) (seeded_choices c.step.new.chooser) _ _ turn.given _ _ _ _ _ _ is u turn.gives.first (none_follow c.step.new.source) turn.steps in
+    let u = advanced c.run_laws.ensures l.player c.args.lines.now c.args.rules c.advance.new.self turns.0 l.machine
+    c.advance.new.machine (seeded_choices l.chooser) l.screen _ c.advance.ensures.program l.invariant.run_prefix
+    turns.1.1 in
+    let x = step_goes c.run_laws.ensures c.advance.new.self c.args.lines.now c.args.rules _ _
+    (seeded_choices l.chooser) (seeded_choices c.step.new.chooser) _ _ turn.given _ _ _ _ _ _ is u turn.gives.first
+    (none_follow c.step.new.source) turn.steps in
     record {
       program = c.step.ensures.program ∙ (c.advance.ensures.program ∙ i.program);
       plan = x.0 ∙ i.plan;
@@ -52,26 +61,40 @@ returns-in-Ok-Some-clause-drawn c =
     let turn = c.step.ensures.step.turn in
     let is = c.in-Ok-Some.is ∙ ap Ok (c.in-Ok-Some.field-0-is ∙ ap Some c.in-Ok-Some.ending-is) in
     let turns = c.advance.ensures.turns in
-    let u = advanced c.run_laws.ensures l.player input c.args.rules c.advance.new.self turns.0 l.machine c.advance.new.machine (seeded_choices l.chooser) l.screen _ c.advance.ensures.program l.invariant.run_prefix turns.1.1 in
-    let x = drawn_ends c.run_laws.ensures c.advance.new.self input c.args.rules _ _ (seeded_choices l.chooser) (seeded_choices c.step.new.chooser) _ _ turn.given _ _ _ _ u c.in-Ok-Some.ending _ is turn.gives.first (none_follow c.step.new.source) turn.steps in
-    rw (← (c.advance.ensures.program ∙ i.program)) (plays_drawn (play c.advance.new.self input c.args.rules) c.args.chooser.now c.step.new.chooser _ (x.0 ∙ i.plan) x.1)
+    let u = advanced c.run_laws.ensures l.player input c.args.rules c.advance.new.self turns.0 l.machine
+    c.advance.new.machine (seeded_choices l.chooser) l.screen _ c.advance.ensures.program l.invariant.run_prefix
+    turns.1.1 in
+    let x = drawn_ends c.run_laws.ensures c.advance.new.self input c.args.rules _ _ (seeded_choices l.chooser)
+    (seeded_choices c.step.new.chooser) _ _ turn.given _ _ _ _ u c.in-Ok-Some.ending _ is turn.gives.first
+    (none_follow c.step.new.source) turn.steps in
+    rw (← (c.advance.ensures.program ∙ i.program)) (plays_drawn (play c.advance.new.self input c.args.rules)
+    c.args.chooser.now c.step.new.chooser _ (x.0 ∙ i.plan) x.1)
 
 pub unreachable-requires : goal.unreachable-requires
 unreachable-requires c =
     let turn = c.step.ensures.step.turn in
     let turns = c.advance.ensures.turns in
-    let u = advanced c.run_laws.ensures c.steps.player c.args.lines.now c.args.rules c.advance.new.self turns.0 c.steps.machine c.advance.new.machine (seeded_choices c.steps.chooser) c.steps.screen _ c.advance.ensures.program c.steps.invariant.run_prefix turns.1.1 in
-    never_unread c.run_laws.ensures c.advance.new.self c.args.lines.now c.args.rules RefusedForMemory _ _ _ _ _ _ turn.given _ _ _ _ _ u turn.gives.first (none_follow c.step.new.source) turn.steps (c.in-Err-Read.is ∙ ap Err c.in-Err-Read.field-0-is)
+    let u = advanced c.run_laws.ensures c.steps.player c.args.lines.now c.args.rules c.advance.new.self
+    turns.0 c.steps.machine c.advance.new.machine (seeded_choices c.steps.chooser) c.steps.screen _
+    c.advance.ensures.program c.steps.invariant.run_prefix turns.1.1 in
+    never_unread c.run_laws.ensures c.advance.new.self c.args.lines.now c.args.rules RefusedForMemory
+    _ _ _ _ _ _ turn.given _ _ _ _ _ u turn.gives.first (none_follow c.step.new.source) turn.steps
+    (c.in-Err-Read.is ∙ ap Err c.in-Err-Read.field-0-is)
 
 pub unreachable-requires-in-Err-Write : goal.unreachable-requires-in-Err-Write
 unreachable-requires-in-Err-Write c =
     let turn = c.step.ensures.step.turn in
     let turns = c.advance.ensures.turns in
-    let u = advanced c.run_laws.ensures c.steps.player c.args.lines.now c.args.rules c.advance.new.self turns.0 c.steps.machine c.advance.new.machine (seeded_choices c.steps.chooser) c.steps.screen _ c.advance.ensures.program c.steps.invariant.run_prefix turns.1.1 in
-    never_unwritten c.run_laws.ensures c.advance.new.self c.args.lines.now c.args.rules RefusedForMemory _ _ _ _ _ _ turn.given _ _ _ _ _ u turn.gives.first (none_follow c.step.new.source) turn.steps (c.in-Err-Write.is ∙ ap Err c.in-Err-Write.field-0-is)
+    let u = advanced c.run_laws.ensures c.steps.player c.args.lines.now c.args.rules c.advance.new.self
+    turns.0 c.steps.machine c.advance.new.machine (seeded_choices c.steps.chooser) c.steps.screen _
+    c.advance.ensures.program c.steps.invariant.run_prefix turns.1.1 in
+    never_unwritten c.run_laws.ensures c.advance.new.self c.args.lines.now c.args.rules RefusedForMemory
+    _ _ _ _ _ _ turn.given _ _ _ _ _ u turn.gives.first (none_follow c.step.new.source) turn.steps
+    (c.in-Err-Write.is ∙ ap Err c.in-Err-Write.field-0-is)
 
 pub unreachable-requires-in-Err-Spent : goal.unreachable-requires-in-Err-Spent
 unreachable-requires-in-Err-Spent c =
-    let over : c.advance.new.machine.spent ≡ true = c.step.ensures.step.spent.0 (c.in-Err-Spent.is ∙ ap Err c.in-Err-Spent.field-0-is) in
+    let over : c.advance.new.machine.spent ≡ true =
+    c.step.ensures.step.spent.0 (c.in-Err-Spent.is ∙ ap Err c.in-Err-Spent.field-0-is) in
     let going : c.advance.new.machine.spent ≡ false = c.advance.ensures.spent ∙ c.steps.invariant.unspent in
     cc

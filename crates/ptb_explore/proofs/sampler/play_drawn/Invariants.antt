@@ -12,7 +12,8 @@ invariant-steps l = record {
   same_lines : l.source.lines ≡ l.fn.lines;
   unspent : l.machine.spent ≡ false;
   fits : FitsProgram l.player l.machine;
-  run_prefix : IsRunPrefix l.player l.fn.lines l.rules (seeded_choices l.chooser) l.screen (drop l.source.taken l.source.lines) l.machine;
+  run_prefix : IsRunPrefix l.player l.fn.lines l.rules (seeded_choices l.chooser) l.screen
+      (drop l.source.taken l.source.lines) l.machine;
 }
 
 -- each step is below the limit

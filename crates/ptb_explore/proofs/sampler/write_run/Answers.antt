@@ -20,14 +20,18 @@ returns-in-Ok-write-clause-writes g c =
     let game = play p lines c.args.rules in
     let most = most_answers p lines c.args.rules.limit in
     subst (Appends (g.W.Write.contents c.args.writer.now) (g.W.Write.contents c.write.new.out))
-    (written_is game most (c.run_laws.ensures.reads p lines c.args.rules) c.args.sampler.now.chooser.first c.play_next.new.sampler.chooser _ c.in-Ok.ensures.drawn c.args.form _ _ _ _ _ c.answers.ensures c.bounds.ensures c.word.ensures c.steps.ensures c.bytes.ensures)
+    (written_is game most (c.run_laws.ensures.reads p lines c.args.rules) c.args.sampler.now.chooser.first
+    c.play_next.new.sampler.chooser _ c.in-Ok.ensures.drawn c.args.form _ _ _ _ _ c.answers.ensures
+    c.bounds.ensures c.word.ensures c.steps.ensures c.bytes.ensures)
     c.in-Ok-write.ensures.ok
 
 pub returns-in-Ok-write-clause-leaves : goal.returns-in-Ok-write-clause-leaves
 returns-in-Ok-write-clause-leaves g c =
     let p = c.args.sampler.now.player in
     let lines = c.args.lines.now in
-    c.forget.ensures ∙ words_left (play p lines c.args.rules) (most_answers p lines c.args.rules.limit) (c.run_laws.ensures.reads p lines c.args.rules) c.args.sampler.now.chooser.first c.play_next.new.sampler.chooser _ c.in-Ok.ensures.drawn
+    c.forget.ensures ∙ words_left (play p lines c.args.rules) (most_answers p lines c.args.rules.limit)
+    (c.run_laws.ensures.reads p lines c.args.rules) c.args.sampler.now.chooser.first c.play_next.new.sampler.chooser
+    _ c.in-Ok.ensures.drawn
 
 pub returns-in-Err-clause-writes : goal.returns-in-Err-clause-writes
 returns-in-Err-clause-writes g c =
@@ -36,5 +40,7 @@ returns-in-Err-clause-writes g c =
     let game = play p lines c.args.rules in
     let most = most_answers p lines c.args.rules.limit in
     subst (TakesSome (g.W.Write.contents c.args.writer.now) (g.W.Write.contents c.write.new.out))
-    (written_is game most (c.run_laws.ensures.reads p lines c.args.rules) c.args.sampler.now.chooser.first c.play_next.new.sampler.chooser _ c.in-Ok.ensures.drawn c.args.form _ _ _ _ _ c.answers.ensures c.bounds.ensures c.word.ensures c.steps.ensures c.bytes.ensures)
+    (written_is game most (c.run_laws.ensures.reads p lines c.args.rules) c.args.sampler.now.chooser.first
+    c.play_next.new.sampler.chooser _ c.in-Ok.ensures.drawn c.args.form _ _ _ _ _ c.answers.ensures
+    c.bounds.ensures c.word.ensures c.steps.ensures c.bytes.ensures)
     c.in-Err.ensures.fault

@@ -20,14 +20,18 @@ loop-remaining-preserved g c =
     let rules = c.args.rules in
     let game = play p lines rules in
     let most = most_answers p lines rules.limit in
-    let left = left_by lines rules l.sampler.player p l.sampler.chooser.first c.write_run.new.sampler.chooser i.program c.in-Ok.ensures.leaves in
+    let left = left_by lines rules l.sampler.player p l.sampler.chooser.first c.write_run.new.sampler.chooser i.program
+    c.in-Ok.ensures.leaves in
     record {
       program = c.in-Ok.ensures.program ∙ i.program;
       fresh = ap (λ (s : SeededAnswers). s.bounds) left;
       fewer = omega (arith, i.fewer);
       unfailed = c.in-Ok.ensures.unfailed (λ f. cc) ∙ i.unfailed;
-      sampled = sampled_next game most (report c.args.sample.form game) c.args.sampler.now.chooser.first c.args.sample.runs _ l.sampler.chooser.first _ l.remaining _ _ _ c.loop-remaining-test.true refl i.sampled
-          (ap (λ (s : SeededAnswers). s.first) left) (run_of lines rules l.sampler.player p l.sampler.chooser.first c.args.sample.form (g.W.Write.contents l.writer) (g.W.Write.contents c.write_run.new.writer) (Ok tt) i.program c.in-Ok.ensures.writes);
+      sampled = sampled_next game most (report c.args.sample.form game) c.args.sampler.now.chooser.first
+          c.args.sample.runs _ l.sampler.chooser.first _ l.remaining _ _ _ c.loop-remaining-test.true refl i.sampled
+          (ap (λ (s : SeededAnswers). s.first) left) (run_of lines rules l.sampler.player p l.sampler.chooser.first
+          c.args.sample.form (g.W.Write.contents l.writer) (g.W.Write.contents c.write_run.new.writer)
+          (Ok tt) i.program c.in-Ok.ensures.writes);
     }
 
 pub returns-in-Err-Memory-clause-writes : goal.returns-in-Err-Memory-clause-writes
@@ -39,10 +43,17 @@ returns-in-Err-Memory-clause-writes g c =
     let game = play p lines rules in
     let most = most_answers p lines rules.limit in
     let none : g.W.Write.contents c.write_run.new.writer ≡ g.W.Write.contents l.writer =
-    subst (λ (e : ScreenFault). WritesRun (report c.args.sample.form game) (answers_by most l.sampler.chooser.first game) (g.W.Write.contents l.writer) (g.W.Write.contents c.write_run.new.writer) (Err e)) c.in-Err-Memory.field-0-is
-    (run_of lines rules l.sampler.player p l.sampler.chooser.first c.args.sample.form (g.W.Write.contents l.writer) (g.W.Write.contents c.write_run.new.writer) (Err c.in-Err-Memory.field-0) l.invariant.program c.in-Err-Memory.ensures.writes) in
-    subst (λ (b : Option (List ℕ)). WritesFirst (report c.args.sample.form game) (sampled_runs most game c.args.sampler.now.chooser.first c.args.sample.runs) (g.W.Write.contents c.args.writer.now) b c.from.result) (sym none)
-    (sampled_some game most (report c.args.sample.form game) c.args.sampler.now.chooser.first c.args.sample.runs _ l.sampler.chooser.first _ l.remaining _ c.loop-remaining-test.true l.invariant.sampled c.from.ensures)
+    subst (λ (e : ScreenFault). WritesRun (report c.args.sample.form game)
+    (answers_by most l.sampler.chooser.first game) (g.W.Write.contents l.writer)
+    (g.W.Write.contents c.write_run.new.writer) (Err e)) c.in-Err-Memory.field-0-is
+    (run_of lines rules l.sampler.player p l.sampler.chooser.first c.args.sample.form (g.W.Write.contents l.writer)
+    (g.W.Write.contents c.write_run.new.writer) (Err c.in-Err-Memory.field-0) l.invariant.program
+    c.in-Err-Memory.ensures.writes) in
+    subst (λ (b : Option (List ℕ)). WritesFirst (report c.args.sample.form game)
+    (sampled_runs most game c.args.sampler.now.chooser.first c.args.sample.runs)
+    (g.W.Write.contents c.args.writer.now) b c.from.result) (sym none)
+    (sampled_some game most (report c.args.sample.form game) c.args.sampler.now.chooser.first c.args.sample.runs _
+    l.sampler.chooser.first _ l.remaining _ c.loop-remaining-test.true l.invariant.sampled c.from.ensures)
 
 pub returns-in-Err-Write-clause-writes : goal.returns-in-Err-Write-clause-writes
 returns-in-Err-Write-clause-writes g c =
@@ -53,9 +64,15 @@ returns-in-Err-Write-clause-writes g c =
     let game = play p lines rules in
     let most = most_answers p lines rules.limit in
     let part =
-    subst (λ (e : ScreenFault). WritesRun (report c.args.sample.form game) (answers_by most l.sampler.chooser.first game) (g.W.Write.contents l.writer) (g.W.Write.contents c.write_run.new.writer) (Err e)) c.in-Err-Write.field-0-is
-    (run_of lines rules l.sampler.player p l.sampler.chooser.first c.args.sample.form (g.W.Write.contents l.writer) (g.W.Write.contents c.write_run.new.writer) (Err c.in-Err-Write.field-0) l.invariant.program c.in-Err-Write.ensures.writes) in
-    sampled_part game most (report c.args.sample.form game) c.args.sampler.now.chooser.first c.args.sample.runs _ l.sampler.chooser.first _ l.remaining _ _ c.loop-remaining-test.true l.invariant.sampled c.from-in-Err-Write.ensures part
+    subst (λ (e : ScreenFault). WritesRun (report c.args.sample.form game)
+    (answers_by most l.sampler.chooser.first game) (g.W.Write.contents l.writer)
+    (g.W.Write.contents c.write_run.new.writer) (Err e)) c.in-Err-Write.field-0-is
+    (run_of lines rules l.sampler.player p l.sampler.chooser.first c.args.sample.form (g.W.Write.contents l.writer)
+    (g.W.Write.contents c.write_run.new.writer) (Err c.in-Err-Write.field-0) l.invariant.program
+    c.in-Err-Write.ensures.writes) in
+    sampled_part game most (report c.args.sample.form game) c.args.sampler.now.chooser.first c.args.sample.runs
+    _ l.sampler.chooser.first _ l.remaining _ _ c.loop-remaining-test.true l.invariant.sampled
+    c.from-in-Err-Write.ensures part
 
 pub returns-in-Err-Write-clause-unfailed : goal.returns-in-Err-Write-clause-unfailed
 returns-in-Err-Write-clause-unfailed g c = λ none. absurd (none _ refl)

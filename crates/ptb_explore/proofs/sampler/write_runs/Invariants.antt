@@ -14,7 +14,9 @@ invariant-loop-remaining g l =
       fresh : l.sampler.chooser.bounds ≡ [];
       fewer : l.remaining ≤ l.fn.sample.runs;
       unfailed : g.W.Write.failures l.writer ≡ g.W.Write.failures l.fn.writer;
-      sampled : Sampled game (most_answers l.fn.sampler.player l.fn.lines l.fn.rules.limit) (report l.fn.sample.form game) l.fn.sampler.chooser.first l.fn.sample.runs l.sampler.chooser.first l.remaining (g.W.Write.contents l.fn.writer) (g.W.Write.contents l.writer);
+      sampled : Sampled game (most_answers l.fn.sampler.player l.fn.lines l.fn.rules.limit)
+          (report l.fn.sample.form game) l.fn.sampler.chooser.first l.fn.sample.runs l.sampler.chooser.first l.remaining
+          (g.W.Write.contents l.fn.writer) (g.W.Write.contents l.writer);
     }
 
 abbrev pub decreases-loop-remaining : goal.decreases-loop-remaining

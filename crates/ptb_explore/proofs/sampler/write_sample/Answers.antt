@@ -8,16 +8,25 @@ use Rattle.ptb_explore.proofs.sampler.write_sample.Goals as goal
 
 pub returns-then-runs-eq0-clause-laws : goal.returns-then-runs-eq0-clause-laws
 returns-then-runs-eq0-clause-laws g c =
-    sample_laws (play c.args.program.now c.args.lines.now c.args.rules) (most_answers c.args.program.now c.args.lines.now c.args.rules.limit) (c.run_laws.ensures.reads c.args.program.now c.args.lines.now c.args.rules)
+    sample_laws (play c.args.program.now c.args.lines.now c.args.rules)
+    (most_answers c.args.program.now c.args.lines.now c.args.rules.limit)
+    (c.run_laws.ensures.reads c.args.program.now c.args.lines.now c.args.rules)
 
 pub returns-in-Ok-clause-laws : goal.returns-in-Ok-clause-laws
 returns-in-Ok-clause-laws g c =
-    sample_laws (play c.args.program.now c.args.lines.now c.args.rules) (most_answers c.args.program.now c.args.lines.now c.args.rules.limit) (c.run_laws.ensures.reads c.args.program.now c.args.lines.now c.args.rules)
+    sample_laws (play c.args.program.now c.args.lines.now c.args.rules)
+    (most_answers c.args.program.now c.args.lines.now c.args.rules.limit)
+    (c.run_laws.ensures.reads c.args.program.now c.args.lines.now c.args.rules)
 
 pub returns-in-Err-clause-laws : goal.returns-in-Err-clause-laws
 returns-in-Err-clause-laws g c =
-    sample_laws (play c.args.program.now c.args.lines.now c.args.rules) (most_answers c.args.program.now c.args.lines.now c.args.rules.limit) (c.run_laws.ensures.reads c.args.program.now c.args.lines.now c.args.rules)
+    sample_laws (play c.args.program.now c.args.lines.now c.args.rules)
+    (most_answers c.args.program.now c.args.lines.now c.args.rules.limit)
+    (c.run_laws.ensures.reads c.args.program.now c.args.lines.now c.args.rules)
 
 pub returns-in-Err-clause-writes : goal.returns-in-Err-clause-writes
 returns-in-Err-clause-writes g c =
-    refused_at_first (play c.args.program.now c.args.lines.now c.args.rules) (most_answers c.args.program.now c.args.lines.now c.args.rules.limit) (report c.args.sample.form (play c.args.program.now c.args.lines.now c.args.rules)) (generator_of c.args.sample.seed) c.args.sample.runs _ (λ none. c.if-runs-eq0.false none)
+    refused_at_first (play c.args.program.now c.args.lines.now c.args.rules)
+    (most_answers c.args.program.now c.args.lines.now c.args.rules.limit)
+    (report c.args.sample.form (play c.args.program.now c.args.lines.now c.args.rules))
+    (generator_of c.args.sample.seed) c.args.sample.runs _ (λ none. c.if-runs-eq0.false none)

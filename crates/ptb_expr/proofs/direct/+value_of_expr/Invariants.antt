@@ -27,7 +27,8 @@ abbrev pub invariant-value_of_product-loop-operator : goal.invariant-value_of_pr
 invariant-value_of_product-loop-operator l = record {
   text : l.cursor.text ≡ l.fn.cursor.text;
   fewer : bytes_left l.cursor ≤ bytes_left l.fn.cursor;
-  valued : (t : List ℕ) → l.fn.cursor.text ≡ t → ValueUpTo l.fn.store t Product MoreProduct l.fn.cursor.place l.cursor.place l.value;
+  valued : (t : List ℕ) → l.fn.cursor.text ≡ t
+      → ValueUpTo l.fn.store t Product MoreProduct l.fn.cursor.place l.cursor.place l.value;
 }
 
 abbrev pub decreases-value_of_product-loop-operator : goal.decreases-value_of_product-loop-operator
@@ -37,7 +38,8 @@ abbrev pub invariant-value_of_sum-loop-operator : goal.invariant-value_of_sum-lo
 invariant-value_of_sum-loop-operator l = record {
   text : l.cursor.text ≡ l.fn.cursor.text;
   fewer : bytes_left l.cursor ≤ bytes_left l.fn.cursor;
-  valued : (t : List ℕ) → l.fn.cursor.text ≡ t → ValueUpTo l.fn.store t Sum MoreSum l.fn.cursor.place l.cursor.place l.value;
+  valued : (t : List ℕ) → l.fn.cursor.text ≡ t
+      → ValueUpTo l.fn.store t Sum MoreSum l.fn.cursor.place l.cursor.place l.value;
 }
 
 abbrev pub decreases-value_of_sum-loop-operator : goal.decreases-value_of_sum-loop-operator

@@ -12,7 +12,10 @@ returns g c =
     let t = c.args.cursor.now.text in
     let i = c.args.cursor.now.place in
     let spelled = c.spelling_laws.ensures.expression_spelled t i in
-    let code = coded c.spelling_laws.ensures t Expr i c.read_expr.new.cursor.place (expression t i) c.read_expr.new.steps c.read_expr.result spelled (rw c.clear.ensures at (if_read c.read_expr.result _ _ c.read_expr.ensures.reads (λ h. h t refl))) (λ none. rw c.clear.ensures at (c.read_expr.ensures.fails none t refl)) in
+    let code = coded c.spelling_laws.ensures t Expr i c.read_expr.new.cursor.place
+    (expression t i) c.read_expr.new.steps c.read_expr.result spelled
+    (rw c.clear.ensures at (if_read c.read_expr.result _ _ c.read_expr.ensures.reads (λ h. h t refl)))
+    (λ none. rw c.clear.ensures at (c.read_expr.ensures.fails none t refl)) in
     let value = worked_out _ _ _ _ _ _ _ _ code c.run.ensures in
     let whole = is_whole_then _ _ _ _ _ _ _ _ code c.run.ensures in record {
       text = c.read_expr.ensures.text;
@@ -21,5 +24,6 @@ returns g c =
       whole = whole;
       ahead = where_whole (expression t i) _ _ _ whole (c.spelling_laws.ensures.expression_ahead t i _);
       left = c.read_expr.ensures.left;
-      mark = λ low. where_faulty _ t _ _ _ _ value (λ a rest e. c.mark_laws.ensures.value_faults _ c.args.store.now (item_of (expression t i)) a rest e (c.mark_laws.ensures.expression_marks t i low));
+      mark = λ low. where_faulty _ t _ _ _ _ value (λ a rest e. c.mark_laws.ensures.value_faults _ c.args.store.now
+          (item_of (expression t i)) a rest e (c.mark_laws.ensures.expression_marks t i low));
     }

@@ -1,4 +1,5 @@
--- This file proves goals of `apply`: what a sum and a difference give, and the rest by short searches, so that a planted bug is refused soon.
+-- This file proves goals of `apply`: what a sum and a difference give, and the rest by short searches, so that a
+-- planted bug is refused soon.
 use Rattle.std.proofs.Common.{arith, rules, ◌≡◌, ◌∙◌, ap, ℤ, pos, neg_ℤ, ◌+ℤ◌, ◌-ℤ◌}
 use Rattle.std.proofs.lemmas.Grind.{common_steps}
 use Rattle.std.proofs.lemmas.Int.{ints}
@@ -20,11 +21,13 @@ difference_held a b f g = omega (arith, ints)
 
 pub returns-in-Plus : goal.returns-in-Plus
 returns-in-Plus c =
-    rw c.in-Plus.is (c.in_range.ensures ∙ ap (in_range (neg_ℤ (pos 32768))) (sum_held c.args.left c.args.right c.ranges.left c.ranges.right))
+    rw c.in-Plus.is (c.in_range.ensures ∙ ap (in_range (neg_ℤ (pos 32768)))
+    (sum_held c.args.left c.args.right c.ranges.left c.ranges.right))
 
 pub returns-in-Minus : goal.returns-in-Minus
 returns-in-Minus c =
-    rw c.in-Minus.is (c.in_range-in-Minus.ensures ∙ ap (in_range (neg_ℤ (pos 32768))) (difference_held c.args.left c.args.right c.ranges.left c.ranges.right))
+    rw c.in-Minus.is (c.in_range-in-Minus.ensures ∙ ap (in_range (neg_ℤ (pos 32768)))
+    (difference_held c.args.left c.args.right c.ranges.left c.ranges.right))
 
 pub returns-in-Some-checked_div : goal.returns-in-Some-checked_div
 returns-in-Some-checked_div c = search rules

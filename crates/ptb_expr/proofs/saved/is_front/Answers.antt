@@ -22,5 +22,6 @@ returns-then-eq c = λ n within.
 pub returns-else-eq : goal.returns-else-eq
 returns-else-eq c = λ n within. (
   λ same. absurd (true≢false (sym same ∙ c.if-eq.false)),
-  λ same. (slice_eq-Decides Decides-int_eq _ _ _ c.eq.ensures).1 (same_front c.args.front.now c.args.values.now n c.requires same),
+  λ same. (slice_eq-Decides Decides-int_eq _ _ _ c.eq.ensures).1
+      (same_front c.args.front.now c.args.values.now n c.requires same),
 )

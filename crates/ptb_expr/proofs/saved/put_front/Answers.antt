@@ -27,4 +27,5 @@ returns c =
     let i = c.zeros.invariant in
     let over : c.zeros.at ≡ c.max-end.result = omega (arith, c.zeros-test.false, i.within) in
     let longer : length c.args.front.now ≤ c.max-end.result = omega (arith, i.longer, i.within) in
-    all_put c.args.front.now c.zeros.values c.max-end.result (length c.args.values.now) longer i.fits i.same_length (rw over at i.put) i.zeros
+    all_put c.args.front.now c.zeros.values c.max-end.result (length c.args.values.now) longer i.fits i.same_length
+    (rw over at i.put) i.zeros

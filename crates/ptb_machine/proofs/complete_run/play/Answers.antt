@@ -7,7 +7,8 @@ use Rattle.ptb_command.specs.State.{Place}
 use Rattle.ptb_machine.specs.Play.{next_number}
 use Rattle.ptb_machine.proofs.Ends.{end_broken}
 use Rattle.ptb_machine.proofs.Runs.{not_spent}
-use Rattle.ptb_machine.proofs.Underway.{underway_first, underway_advanced, underway_as, underway_on, underway_falls, underway_broken, underway_ended, ended_as}
+use Rattle.ptb_machine.proofs.Underway.{underway_first, underway_advanced, underway_as, underway_on}
+use Rattle.ptb_machine.proofs.Underway.{underway_falls, underway_broken, underway_ended, ended_as}
 use Rattle.ptb_machine.proofs.complete_run.play.Goals as goal
 
 pub steps-init : goal.steps-init
@@ -28,12 +29,16 @@ step-requires g c = record { fits = rw c.advance.ensures.program c.advance.ensur
 pub returns-in_err-ending : goal.returns-in_err-ending
 returns-in_err-ending g c =
     let turns = c.advance.ensures.turns in
-    let u = underway_advanced g.C.Chooser g.S.Screen g.L.LineSource c.args.rules _ c.steps.player c.advance.new.self turns.0 c.steps.machine c.advance.new.machine _ c.advance.ensures.program c.steps.invariant.3 turns.1.1 in
+    let u = underway_advanced g.C.Chooser g.S.Screen g.L.LineSource c.args.rules _ c.steps.player c.advance.new.self
+    turns.0 c.steps.machine c.advance.new.machine _ c.advance.ensures.program c.steps.invariant.3 turns.1.1 in
     let step = c.in_err-ending.ensures.step in
-    ended_as g.C.Chooser g.S.Screen g.L.LineSource c.args.rules c.args.player.now c.advance.new.self _ _ _ (c.advance.ensures.program ∙ c.steps.invariant.0)
-    (end_broken g.C.Chooser g.S.Screen g.L.LineSource c.advance.new.self c.args.rules _ _ _ c.in_err-ending.field-0.0 c.from_residual.ensures.1
+    ended_as g.C.Chooser g.S.Screen g.L.LineSource c.args.rules c.args.player.now c.advance.new.self _ _ _
+    (c.advance.ensures.program ∙ c.steps.invariant.0)
+    (end_broken g.C.Chooser g.S.Screen g.L.LineSource c.advance.new.self c.args.rules _ _ _ c.in_err-ending.field-0.0
+    c.from_residual.ensures.1
     (underway_broken g.C.Chooser g.S.Screen g.L.LineSource c.args.rules _ c.advance.new.self _ _ _ _ u _ step.turn
-    (g.met.L.LineSource.gives_more _ _ _ _ _ u.gives step.turn.gives) (g.met.L.LineSource.falls _ _ _ step.turn.gives) _ refl
+    (g.met.L.LineSource.gives_more _ _ _ _ _ u.gives step.turn.gives) (g.met.L.LineSource.falls _ _ _ step.turn.gives) _
+    refl
     (not_spent _ _ (c.advance.ensures.spent ∙ c.steps.invariant.2) (λ k. step.spent.0 (ap Err k)))))
 
 pub end-requires : goal.end-requires
@@ -44,29 +49,35 @@ end-requires g c =
 pub returns-in-Some : goal.returns-in-Some
 returns-in-Some g c =
     let turns = c.advance.ensures.turns in
-    let u = underway_advanced g.C.Chooser g.S.Screen g.L.LineSource c.args.rules _ c.steps.player c.advance.new.self turns.0 c.steps.machine c.advance.new.machine _ c.advance.ensures.program c.steps.invariant.3 turns.1.1 in
+    let u = underway_advanced g.C.Chooser g.S.Screen g.L.LineSource c.args.rules _ c.steps.player c.advance.new.self
+    turns.0 c.steps.machine c.advance.new.machine _ c.advance.ensures.program c.steps.invariant.3 turns.1.1 in
     let step = c.in_ok-ending.ensures in
     let turn = step.step.turn in
-    ended_as g.C.Chooser g.S.Screen g.L.LineSource c.args.rules c.args.player.now c.advance.new.self _ _ _ (c.advance.ensures.program ∙ c.steps.invariant.0)
+    ended_as g.C.Chooser g.S.Screen g.L.LineSource c.args.rules c.args.player.now c.advance.new.self _ _ _
+    (c.advance.ensures.program ∙ c.steps.invariant.0)
     (underway_ended g.C.Chooser g.S.Screen g.L.LineSource c.args.rules _ c.advance.new.self _ _ _ _ u _ turn
     (g.met.L.LineSource.gives_more _ _ _ _ _ u.gives turn.gives) (g.met.L.LineSource.falls _ _ _ turn.gives)
     c.end.result c.in-Some.ending c.end.ensures.ending (ap Ok c.in-Some.is)
-    (subst (λ (p : StoredProgram). c.in-Some.ending ≡ endings.Limit → (q : Option Place) → PlacesAre p.lines q c.step.new.machine.place → c.end.result.line ≡ next_number p.lines q) step.program c.end.ensures.limit)
+    (subst (λ (p : StoredProgram). c.in-Some.ending ≡ endings.Limit → (q : Option Place) → PlacesAre p.lines q
+    c.step.new.machine.place → c.end.result.line ≡ next_number p.lines q) step.program c.end.ensures.limit)
     c.end.ensures.other)
 
 pub steps-smaller : goal.steps-smaller
 steps-smaller g c =
     let turns = c.advance.ensures.turns in
-    let u = underway_advanced g.C.Chooser g.S.Screen g.L.LineSource c.args.rules _ c.steps.player c.advance.new.self turns.0 c.steps.machine c.advance.new.machine _ c.advance.ensures.program c.steps.invariant.3 turns.1.1 in
+    let u = underway_advanced g.C.Chooser g.S.Screen g.L.LineSource c.args.rules _ c.steps.player c.advance.new.self
+    turns.0 c.steps.machine c.advance.new.machine _ c.advance.ensures.program c.steps.invariant.3 turns.1.1 in
     let turn = c.in_ok-ending.ensures.step.turn in
     let falls = underway_falls g.C.Chooser g.S.Screen g.L.LineSource c.args.rules _ c.advance.new.self _ _ _ _ u _ turn
-    (g.met.L.LineSource.gives_more _ _ _ _ _ u.gives turn.gives) (g.met.L.LineSource.falls _ _ _ turn.gives) (ap Ok c.in_default.is) in
+    (g.met.L.LineSource.gives_more _ _ _ _ _ u.gives turn.gives) (g.met.L.LineSource.falls _ _ _ turn.gives)
+    (ap Ok c.in_default.is) in
     omega (arith, falls, turns.1.0)
 
 pub steps-preserved : goal.steps-preserved
 steps-preserved g c =
     let turns = c.advance.ensures.turns in
-    let u = underway_advanced g.C.Chooser g.S.Screen g.L.LineSource c.args.rules _ c.steps.player c.advance.new.self turns.0 c.steps.machine c.advance.new.machine _ c.advance.ensures.program c.steps.invariant.3 turns.1.1 in
+    let u = underway_advanced g.C.Chooser g.S.Screen g.L.LineSource c.args.rules _ c.steps.player c.advance.new.self
+    turns.0 c.steps.machine c.advance.new.machine _ c.advance.ensures.program c.steps.invariant.3 turns.1.1 in
     let step = c.in_ok-ending.ensures in
     let turn = step.step.turn in (
       step.program ∙ (c.advance.ensures.program ∙ c.steps.invariant.0),
@@ -74,5 +85,6 @@ steps-preserved g c =
       step.step.spends.0 (ap Ok c.in_default.is),
       underway_as g.C.Chooser g.S.Screen g.L.LineSource c.args.rules _ c.advance.new.self _ _ _ (sym step.program)
           (underway_on g.C.Chooser g.S.Screen g.L.LineSource c.args.rules _ c.advance.new.self _ _ _ _ u _ turn
-          (g.met.L.LineSource.gives_more _ _ _ _ _ u.gives turn.gives) (g.met.L.LineSource.falls _ _ _ turn.gives) (ap Ok c.in_default.is)),
+          (g.met.L.LineSource.gives_more _ _ _ _ _ u.gives turn.gives) (g.met.L.LineSource.falls _ _ _ turn.gives)
+          (ap Ok c.in_default.is)),
     )

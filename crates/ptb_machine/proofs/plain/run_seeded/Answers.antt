@@ -10,4 +10,5 @@ returns-in_err-end g c =
     rw (same.1 ∙ ap Err same.2) (record { plays = run.plays; memory = run.memory; reads = run.reads; laws = run.laws })
 
 pub returns : goal.returns
-returns g c = let run = c.in_ok-end.ensures in record { plays = run.plays; memory = run.memory; reads = run.reads; laws = run.laws }
+returns g c = let run = c.in_ok-end.ensures in
+    record { plays = run.plays; memory = run.memory; reads = run.reads; laws = run.laws }

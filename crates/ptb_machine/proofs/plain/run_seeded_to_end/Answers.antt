@@ -7,7 +7,8 @@ pub returns : goal.returns
 returns g c =
     let run = c.run_on_input.ensures in
     let goes =
-    goes_by_drawn c.run_laws.ensures c.seeded_laws.ensures c.args.seed c.new-chooser.result.chooser c.run_on_input.new.chooser.chooser c.args.program.now c.args.rules
+    goes_by_drawn c.run_laws.ensures c.seeded_laws.ensures c.args.seed c.new-chooser.result.chooser
+    c.run_on_input.new.chooser.chooser c.args.program.now c.args.rules
     (c.new-chooser.ensures.chooser ∙ c.new.ensures)
     in
     record {

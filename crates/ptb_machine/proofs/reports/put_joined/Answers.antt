@@ -9,13 +9,15 @@ returns-in-Ok g c d cells = shown_same _ _ _ _ _ (c.as_slice.ensures.value ∙ c
 pub returns-in_err-put : goal.returns-in_err-put
 returns-in_err-put g c d cells =
     three_shown _ _ c.args.first.now c.args.second.now c.args.third.now _
-    (unshown_first _ _ _ _ (c.args.second.now ++ c.args.third.now) _ _ refl c.from_residual.ensures.1 (c.in_err-put.ensures d cells))
+    (unshown_first _ _ _ _ (c.args.second.now ++ c.args.third.now) _ _ refl c.from_residual.ensures.1
+    (c.in_err-put.ensures d cells))
 
 pub returns-in_err-put-2 : goal.returns-in_err-put-2
 returns-in_err-put-2 g c d cells =
     three_shown _ _ c.args.first.now c.args.second.now c.args.third.now _
     (shown_then _ _ _ (c.args.second.now ++ c.args.third.now) _ refl (c.in_ok-put.ensures d cells)
-    (unshown_first _ _ _ _ c.args.third.now _ _ refl c.from_residual-in_err-put-2.ensures.1 (c.in_err-put-2.ensures d cells)))
+    (unshown_first _ _ _ _ c.args.third.now _ _ refl c.from_residual-in_err-put-2.ensures.1
+    (c.in_err-put-2.ensures d cells)))
 
 pub returns : goal.returns
 returns g c d cells =

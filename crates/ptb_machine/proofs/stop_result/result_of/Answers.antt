@@ -17,7 +17,8 @@ returns-in_err-report-in-Err-Fault g c = record {
       let result = err_from_is_err_and _ c.from_residual.ensures.1 in
       result_reported _ _ n text c.in-Err-Fault.fault c.args.done _ (Err c.in_err-report-in-Err-Fault.field-0.0)
       (c.in-Err-Fault.is ∙ ap Err (rw c.in-Err-Fault.is at c.in-Err-Fault.field-0-is)) (result.1 ∙ ap Err result.2)
-      (rw (number, line.1) at (c.in_err-report-in-Err-Fault.ensures (io_devices g.C.Chooser.choices g.S.Screen g.L.LineSource.most c.args.io.now given) cells));
+      (rw (number, line.1) at (c.in_err-report-in-Err-Fault.ensures
+      (io_devices g.C.Chooser.choices g.S.Screen g.L.LineSource.most c.args.io.now given) cells));
   chooser = refl;
   same = record { chooser = refl; screen = refl; source = refl; rules = refl };
 }
@@ -29,8 +30,10 @@ returns-in_ok-report-in-Err-Fault g c = record {
       let line = c.line_at-number.ensures.there n text at in
       let number = c.unsigned_abs.ensures.value ∙ ap unsigned_abs (same ∙ line.0) in
       result_reported _ _ n text c.in-Err-Fault.fault c.args.done _ (Ok tt)
-      (c.in-Err-Fault.is ∙ ap Err (rw c.in-Err-Fault.is at c.in-Err-Fault.field-0-is)) (ap (λ e. Ok (Some e)) c.ending_of.ensures)
-      (rw (number, line.1) at (c.in_ok-report-in-Err-Fault.ensures (io_devices g.C.Chooser.choices g.S.Screen g.L.LineSource.most c.args.io.now given) cells));
+      (c.in-Err-Fault.is ∙ ap Err (rw c.in-Err-Fault.is at c.in-Err-Fault.field-0-is))
+      (ap (λ e. Ok (Some e)) c.ending_of.ensures)
+      (rw (number, line.1) at (c.in_ok-report-in-Err-Fault.ensures
+      (io_devices g.C.Chooser.choices g.S.Screen g.L.LineSource.most c.args.io.now given) cells));
   chooser = refl;
   same = record { chooser = refl; screen = refl; source = refl; rules = refl };
 }
@@ -45,7 +48,8 @@ returns-in-Ok g c = record {
 pub returns-in-Err-Ended : goal.returns-in-Err-Ended
 returns-in-Err-Ended g c = record {
   comes = λ given cells n text at.
-      result_stopped _ _ _ _ stops.Ended _ (record { is = refl; same = refl }) (c.in-Err-Ended.is ∙ ap Err (rw c.in-Err-Ended.is at c.in-Err-Ended.field-0-is));
+      result_stopped _ _ _ _ stops.Ended _ (record { is = refl; same = refl })
+      (c.in-Err-Ended.is ∙ ap Err (rw c.in-Err-Ended.is at c.in-Err-Ended.field-0-is));
   chooser = refl;
   same = record { chooser = refl; screen = refl; source = refl; rules = refl };
 }
@@ -53,7 +57,8 @@ returns-in-Err-Ended g c = record {
 pub returns-in-Err-NoInput : goal.returns-in-Err-NoInput
 returns-in-Err-NoInput g c = record {
   comes = λ given cells n text at.
-      result_stopped _ _ _ _ stops.NoInput _ (record { is = refl; same = refl }) (c.in-Err-NoInput.is ∙ ap Err (rw c.in-Err-NoInput.is at c.in-Err-NoInput.field-0-is));
+      result_stopped _ _ _ _ stops.NoInput _ (record { is = refl; same = refl })
+      (c.in-Err-NoInput.is ∙ ap Err (rw c.in-Err-NoInput.is at c.in-Err-NoInput.field-0-is));
   chooser = refl;
   same = record { chooser = refl; screen = refl; source = refl; rules = refl };
 }
@@ -63,7 +68,8 @@ returns-in-Err-Pause-Ended g c = record {
   comes = λ given cells n text at.
       let stop = rw c.in-Err-Pause-Ended.is at c.in-Err-Pause-Ended.field-0-is in
       let pause = rw (c.in-Err-Pause-Ended.is, stop) at c.in-Err-Pause-Ended.field-0-0-is in
-      result_stopped _ _ _ _ (stops.Pause pauses.Ended) _ (record { is = refl; same = refl }) (c.in-Err-Pause-Ended.is ∙ ap Err (stop ∙ ap stops.Pause pause));
+      result_stopped _ _ _ _ (stops.Pause pauses.Ended) _ (record { is = refl; same = refl })
+      (c.in-Err-Pause-Ended.is ∙ ap Err (stop ∙ ap stops.Pause pause));
   chooser = refl;
   same = record { chooser = refl; screen = refl; source = refl; rules = refl };
 }
@@ -73,7 +79,8 @@ returns-in-Err-Pause-OutOfRange g c = record {
   comes = λ given cells n text at.
       let stop = rw c.in-Err-Pause-OutOfRange.is at c.in-Err-Pause-OutOfRange.field-0-is in
       let pause = rw (c.in-Err-Pause-OutOfRange.is, stop) at c.in-Err-Pause-OutOfRange.field-0-0-is in
-      result_stopped _ _ _ _ (stops.Pause (pauses.OutOfRange c.in-Err-Pause-OutOfRange.field-0-0-0)) _ (record { is = refl; same = refl }) (c.in-Err-Pause-OutOfRange.is ∙ ap Err (stop ∙ ap stops.Pause pause));
+      result_stopped _ _ _ _ (stops.Pause (pauses.OutOfRange c.in-Err-Pause-OutOfRange.field-0-0-0)) _
+      (record { is = refl; same = refl }) (c.in-Err-Pause-OutOfRange.is ∙ ap Err (stop ∙ ap stops.Pause pause));
   chooser = refl;
   same = record { chooser = refl; screen = refl; source = refl; rules = refl };
 }
@@ -83,7 +90,8 @@ returns-in-Err-Pause-Memory g c = record {
   comes = λ given cells n text at.
       let stop = rw c.in-Err-Pause-Memory.is at c.in-Err-Pause-Memory.field-0-is in
       let pause = rw (c.in-Err-Pause-Memory.is, stop) at c.in-Err-Pause-Memory.field-0-0-is in
-      result_stopped _ _ _ _ (stops.Pause pauses.Memory) _ (record { is = refl; same = refl }) (c.in-Err-Pause-Memory.is ∙ ap Err (stop ∙ ap stops.Pause pause));
+      result_stopped _ _ _ _ (stops.Pause pauses.Memory) _ (record { is = refl; same = refl })
+      (c.in-Err-Pause-Memory.is ∙ ap Err (stop ∙ ap stops.Pause pause));
   chooser = refl;
   same = record { chooser = refl; screen = refl; source = refl; rules = refl };
 }
@@ -91,7 +99,9 @@ returns-in-Err-Pause-Memory g c = record {
 pub returns-in-Err-DeviceFailed : goal.returns-in-Err-DeviceFailed
 returns-in-Err-DeviceFailed g c = record {
   comes = λ given cells n text at.
-      result_stopped _ _ _ _ (stops.DeviceFailed c.in-Err-DeviceFailed.error) _ (record { is = ap Err c.fault_of.ensures; same = refl }) (c.in-Err-DeviceFailed.is ∙ ap Err (rw c.in-Err-DeviceFailed.is at c.in-Err-DeviceFailed.field-0-is));
+      result_stopped _ _ _ _ (stops.DeviceFailed c.in-Err-DeviceFailed.error) _
+      (record { is = ap Err c.fault_of.ensures; same = refl })
+      (c.in-Err-DeviceFailed.is ∙ ap Err (rw c.in-Err-DeviceFailed.is at c.in-Err-DeviceFailed.field-0-is));
   chooser = refl;
   same = record { chooser = refl; screen = refl; source = refl; rules = refl };
 }

@@ -5,12 +5,14 @@ use Rattle.ptb_options.specs.declared.usage.UsageFault.TheVariants.{BadList, Mem
 use Rattle.ptb_options.specs.declared.mistakes.Bounds.TheVariants.{Refused}
 use Rattle.ptb_options.proofs.AnswerTexts.{one_list_of_answers}
 use Rattle.ptb_options.proofs.ListFaults.{found_is_none, none_found}
-use Rattle.ptb_options.proofs.ListReturns.{has_answers, passed_on, read_is_bad, read_is_memory, refused_as_list, refused_is_read}
+use Rattle.ptb_options.proofs.ListReturns.{has_answers, passed_on, read_is_bad, read_is_memory}
+use Rattle.ptb_options.proofs.ListReturns.{refused_as_list, refused_is_read}
 use Rattle.ptb_options.proofs.answers.parse_answers.Goals as goal
 
 pub returns-then-is_some-clause-bad : goal.returns-then-is_some-clause-bad
 returns-then-is_some-clause-bad c bad list spells =
-    found_is_none Refused c.args.text.now c.list_mistake.result c.is_some.result c.is_some.ensures c.if-is_some.true c.list_mistake.ensures.some (list, spells)
+    found_is_none Refused c.args.text.now c.list_mistake.result c.is_some.result c.is_some.ensures c.if-is_some.true
+    c.list_mistake.ensures.some (list, spells)
 
 pub returns-then-is_some-clause-one : goal.returns-then-is_some-clause-one
 returns-then-is_some-clause-one c = one_list_of_answers c.args.text.now
@@ -22,8 +24,13 @@ returns-in_err-parse_items c = record {
       λ e list spells. c.in_err-parse_items.ensures.bad
       (passed_on c.from_residual.result _ BadList c.from_residual.ensures.1 e) list spells;
   memory = λ e.
-      let list = c.list_mistake.ensures.none (none_found c.list_mistake.result c.is_some.result c.is_some.ensures c.if-is_some.false) in
-      (list.0, list.1, has_answers c.args.text.now list.0 (c.in_err-parse_items.ensures.memory (passed_on c.from_residual.result _ Memory c.from_residual.ensures.1 e)) list.1);
+      let list = c.list_mistake.ensures.none
+      (none_found c.list_mistake.result c.is_some.result c.is_some.ensures c.if-is_some.false) in (
+        list.0,
+        list.1,
+        has_answers c.args.text.now list.0 (c.in_err-parse_items.ensures.memory
+            (passed_on c.from_residual.result _ Memory c.from_residual.ensures.1 e)) list.1,
+      );
   fault = refused_as_list c.from_residual.result _ c.from_residual.ensures.1 c.in_err-parse_items.ensures.fault;
   one = one_list_of_answers c.args.text.now;
 }

@@ -19,7 +19,8 @@ none_is_some x e = cc
 
 pub returns-then-eq : goal.returns-then-eq
 returns-then-eq g c = record {
-  ok = none_is_items g.T.ListItem.marked c.args.text.now c.eq.result c.new-items.result.items c.eq.ensures c.if-eq.true c.new-items.ensures.items;
+  ok = none_is_items g.T.ListItem.marked c.args.text.now c.eq.result c.new-items.result.items c.eq.ensures c.if-eq.true
+      c.new-items.ensures.items;
   bad = read_is_bad c.new-items.result;
   memory = read_is_memory c.new-items.result;
   fault = tt;
@@ -33,7 +34,8 @@ loop-word-preserved g c =
     let read : c.parse.result ≡ Some item = c.ok_or.ensures.ok_part ∙ ap result_ok c.in_ok-item.was in
     let spells : SpellsItem c.in-Some.word.now (f item) = rw read at c.parse.ensures.some in
     record {
-      words = rw (pushed, map-append f c.loop-word.items.items (item ∷ [])) (more_words c.loop-word.yielded (map f c.loop-word.items.items) c.in-Some.word (f item) c.loop-word.invariant.words spells.1);
+      words = rw (pushed, map-append f c.loop-word.items.items (item ∷ [])) (more_words c.loop-word.yielded
+          (map f c.loop-word.items.items) c.in-Some.word (f item) c.loop-word.invariant.words spells.1);
       each =
           rw (pushed, map-append f c.loop-word.items.items (item ∷ []))
           (All-push IsItem (map f c.loop-word.items.items) (f item) c.loop-word.invariant.each spells.0);
@@ -46,14 +48,17 @@ returns-in_err-item g c = record {
       let text = c.args.text.now in
       let same = c.into_iter-word-iterator.ensures.into_iter_gives in
       let split = c.split-word-items.ensures in
-      let words = YieldsList-from_str_split 44 text (lit< tt) (ap split_text same ∙ split.text) (ap split_has_more same ∙ split.has_more) (ap split_pattern same ∙ split.pattern) in
-      let turn = YieldsList-turn words c.loop-word.yielded _ c.loop-word.yielded_by _ _ c.in-Some.word c.in-Some.is c.next.ensures.steps in
+      let words = YieldsList-from_str_split 44 text (lit< tt) (ap split_text same ∙ split.text)
+      (ap split_has_more same ∙ split.has_more) (ap split_pattern same ∙ split.pattern) in
+      let turn = YieldsList-turn words c.loop-word.yielded _ c.loop-word.yielded_by _ _ c.in-Some.word c.in-Some.is
+      c.next.ensures.steps in
       let some = some_text text c.eq.result c.eq.ensures c.if-eq.false in
       let spelled = word_of_items g.T.ListItem.marked text items _ c.in-Some.word.now some spells turn.0 turn.1 in
       let read = c.parse.ensures.only spelled.0 spelled.1 in
       none_is_some spelled.0 (sym (c.ok_or.ensures.ok_part ∙ ap result_ok c.in_err-item.was) ∙ read);
   memory = λ refused. some_text c.args.text.now c.eq.result c.eq.ensures c.if-eq.false;
-  fault = word_refused_as_list c.parse.result c.ok_or.result c.from_residual.result _ c.ok_or.ensures.value c.in_err-item.was c.from_residual.ensures.1;
+  fault = word_refused_as_list c.parse.result c.ok_or.result c.from_residual.result _ c.ok_or.ensures.value
+      c.in_err-item.was c.from_residual.ensures.1;
 }
 
 pub returns-in_err-push : goal.returns-in_err-push
@@ -70,8 +75,10 @@ returns g c = record {
       let text = c.args.text.now in
       let same = c.into_iter-word-iterator.ensures.into_iter_gives in
       let split = c.split-word-items.ensures in
-      let words = YieldsList-from_str_split 44 text (lit< tt) (ap split_text same ∙ split.text) (ap split_has_more same ∙ split.has_more) (ap split_pattern same ∙ split.pattern) in
-      let all = YieldsList-end words c.loop-word.yielded _ c.loop-word.yielded_by _ _ c.in-None.is c.next.ensures.steps in
+      let words = YieldsList-from_str_split 44 text (lit< tt) (ap split_text same ∙ split.text)
+      (ap split_has_more same ∙ split.has_more) (ap split_pattern same ∙ split.pattern) in
+      let all = YieldsList-end words c.loop-word.yielded _ c.loop-word.yielded_by _ _ c.in-None.is
+      c.next.ensures.steps in
       list_of_words text (map g.T.ListItem.marked c.loop-word.items.items) c.loop-word.invariant.each
       (sym all.0 ∙ c.loop-word.invariant.words);
   bad = read_is_bad c.loop-word.items;

@@ -37,7 +37,8 @@ loop-listed-init c =
 
 pub loop-listed-preserved : goal.loop-listed-preserved
 loop-listed-preserved c =
-    one_more c.loop-listed.command c.in_ok-command.command c.arg.result _ c.loop-listed.listed-index _ c.loop-listed-test.true c.loop-listed.invariant
+    one_more c.loop-listed.command c.in_ok-command.command c.arg.result _ c.loop-listed.listed-index _
+    c.loop-listed-test.true c.loop-listed.invariant
     c.arg.ensures.rule c.arg.ensures.local c.in_ok-command.ensures
 
 pub returns : goal.returns

@@ -19,7 +19,8 @@ entries_by_app a t words m found e simple = (found (ap is_simple e ∙ simple)).
 pub returns-clause-entries : goal.returns-clause-entries
 returns-clause-entries g c =
     IfOk-weaker c.try_get_matches_from.result _ _
-    (λ m found. entries_by_app _ tool (map g.S.AsStr.text c.args.words.now) m found c.in_ok-command.ensures is_simple-tool)
+    (λ m found. entries_by_app _ tool (map g.S.AsStr.text c.args.words.now) m found c.in_ok-command.ensures
+    is_simple-tool)
     c.try_get_matches_from.ensures.matches
 
 pub returns-clause-memory : goal.returns-clause-memory

@@ -8,7 +8,8 @@ use Rattle.ptb_options.proofs.decision.decide.Goals as goal
 -- the options clash
 pub returns-in-Some : goal.returns-in-Some
 returns-in-Some c =
-    let told = decided_clash _ c.of-line.result c.of-line.ensures c.clash.result c.in-Some.fault c.clash.ensures c.in-Some.is in
+    let told = decided_clash _ c.of-line.result c.of-line.ensures c.clash.result c.in-Some.fault c.clash.ensures
+    c.in-Some.is in
     record { ok = told.ok; fault = told.fault }
 
 -- they don't
@@ -26,12 +27,15 @@ mode-requires-clause-spelled c =
 pub returns-then-is_some : goal.returns-then-is_some
 returns-then-is_some c =
     let found = list_found c.misspelled.result c.is_some.result c.is_some.ensures c.if-is_some.true in
-    let told = decided_misspelled _ c.of-line.result c.of-line.ensures c.clash.result c.clash.ensures c.in_default.is found.0 (rw found.1 at c.misspelled.ensures.some) in
+    let told = decided_misspelled _ c.of-line.result c.of-line.ensures c.clash.result c.clash.ensures c.in_default.is
+    found.0 (rw found.1 at c.misspelled.ensures.some) in
     record { ok = told.ok; fault = told.fault }
 
 pub returns-in_err-mode : goal.returns-in_err-mode
 returns-in_err-mode c =
-    let told = decided_list _ c.of-line.result c.of-line.ensures c.clash.result c.clash.ensures c.in_default.is c.requires.memory c.requires.bound c.from_residual.result c.in_err-mode.field-0.0 c.from_residual.ensures.1 c.in_err-mode.ensures.fault in
+    let told = decided_list _ c.of-line.result c.of-line.ensures c.clash.result c.clash.ensures c.in_default.is
+    c.requires.memory c.requires.bound c.from_residual.result c.in_err-mode.field-0.0 c.from_residual.ensures.1
+    c.in_err-mode.ensures.fault in
     record { ok = told.ok; fault = told.fault }
 
 pub returns : goal.returns
@@ -39,6 +43,7 @@ returns c =
     let kept = ap (λ (o : Options). o.memory) c.line.view_is in
     record {
       ok = asked _ c.of-line.result c.of-line.ensures c.clash.result c.clash.ensures c.in_default.is
-          c.line.inside.memory c.rules.result c.unwrap_or.result c.in_ok-mode.field-0 _ kept c.rules.ensures c.unwrap_or.ensures c.in_ok-mode.ensures.ok;
+          c.line.inside.memory c.rules.result c.unwrap_or.result c.in_ok-mode.field-0 _ kept c.rules.ensures
+          c.unwrap_or.ensures c.in_ok-mode.ensures.ok;
       fault = tt;
     }

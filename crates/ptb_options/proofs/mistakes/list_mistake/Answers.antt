@@ -15,8 +15,10 @@ overflow_add-item c =
     let text = c.args.text.now in
     let same = c.into_iter-word-iterator.ensures.into_iter_gives in
     let split = c.split-word-items.ensures in
-    let words = YieldsList-from_str_split 44 text (lit< tt) (ap split_text same ∙ split.text) (ap split_has_more same ∙ split.has_more) (ap split_pattern same ∙ split.pattern) in
-    let turn = YieldsList-turn words c.loop-word.yielded _ c.loop-word.yielded_by _ _ c.in-Some.word c.in-Some.is c.next.ensures.steps in
+    let words = YieldsList-from_str_split 44 text (lit< tt) (ap split_text same ∙ split.text)
+    (ap split_has_more same ∙ split.has_more) (ap split_pattern same ∙ split.pattern) in
+    let turn = YieldsList-turn words c.loop-word.yielded _ c.loop-word.yielded_by _ _ c.in-Some.word c.in-Some.is
+    c.next.ensures.steps in
     let all = length-slice_split (λ b. b == 44) text in
     let few = count_by-le-length (λ b. b == 44) text in
     omega (arith, turn.0, all, few, c.loop-word.invariant.counted)
@@ -38,8 +40,10 @@ returns-in-Some-item_fault-clause-some c =
     let text = c.args.text.now in
     let same = c.into_iter-word-iterator.ensures.into_iter_gives in
     let split = c.split-word-items.ensures in
-    let words = YieldsList-from_str_split 44 text (lit< tt) (ap split_text same ∙ split.text) (ap split_has_more same ∙ split.has_more) (ap split_pattern same ∙ split.pattern) in
-    let turn = YieldsList-turn words c.loop-word.yielded _ c.loop-word.yielded_by _ _ c.in-Some.word c.in-Some.is c.next.ensures.steps in
+    let words = YieldsList-from_str_split 44 text (lit< tt) (ap split_text same ∙ split.text)
+    (ap split_has_more same ∙ split.has_more) (ap split_pattern same ∙ split.pattern) in
+    let turn = YieldsList-turn words c.loop-word.yielded _ c.loop-word.yielded_by _ _ c.in-Some.word c.in-Some.is
+    c.next.ensures.steps in
     let so_far = YieldsList-so_far words c.loop-word.yielded _ c.loop-word.yielded_by in
     mistake_at c.args.bounds text c.loop-word.yielded c.in-Some.word c.loop-word.item c.in-Some-item_fault.fault
     (some_text text c.eq.result c.eq.ensures c.if-eq.false)
@@ -50,6 +54,7 @@ returns-clause-none c _ =
     let text = c.args.text.now in
     let same = c.into_iter-word-iterator.ensures.into_iter_gives in
     let split = c.split-word-items.ensures in
-    let words = YieldsList-from_str_split 44 text (lit< tt) (ap split_text same ∙ split.text) (ap split_has_more same ∙ split.has_more) (ap split_pattern same ∙ split.pattern) in
+    let words = YieldsList-from_str_split 44 text (lit< tt) (ap split_text same ∙ split.text)
+    (ap split_has_more same ∙ split.has_more) (ap split_pattern same ∙ split.pattern) in
     let all = YieldsList-end words c.loop-word.yielded _ c.loop-word.yielded_by _ _ c.in-None.is c.next.ensures.steps in
     list_of_items c.args.bounds text (rw (← all.0) c.loop-word.invariant.items)

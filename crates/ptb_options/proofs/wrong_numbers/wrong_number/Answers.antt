@@ -11,7 +11,9 @@ loop-i-preserved g c =
     passed_more (map g.S.AsStr.text c.args.words.now) c.loop-i.i c.in_ok-word.word.now
     (option_copied c.text_at.result) c.eq.result c.text_at.ensures
     (ap option_copied c.in_ok-word.was) c.eq.ensures c.loop-i.invariant
-    c.if-eq.false (option_copied c.text_at-in-loop-i.result) c.text_at-in-loop-i.ensures (c.wrong_value-wrong.ensures.none (none_found c.wrong_value-wrong.result c.is_some.result c.is_some.ensures c.if-is_some.false))
+    c.if-eq.false (option_copied c.text_at-in-loop-i.result) c.text_at-in-loop-i.ensures
+    (c.wrong_value-wrong.ensures.none
+    (none_found c.wrong_value-wrong.result c.is_some.result c.is_some.ensures c.if-is_some.false))
 
 pub returns-then-is_some : goal.returns-then-is_some
 returns-then-is_some g c = record {
@@ -19,7 +21,8 @@ returns-then-is_some g c = record {
       wrong_here (map g.S.AsStr.text c.args.words.now) c.loop-i.i c.in_ok-word.word.now
       (option_copied c.text_at.result) c.eq.result c.text_at.ensures
       (ap option_copied c.in_ok-word.was) c.eq.ensures c.loop-i.invariant
-      c.if-eq.false c.wrong_value-wrong.result (option_copied c.text_at-in-loop-i.result) c.loop-i.auto.i c.text_at-in-loop-i.ensures c.wrong_value-wrong.ensures.some;
+      c.if-eq.false c.wrong_value-wrong.result (option_copied c.text_at-in-loop-i.result) c.loop-i.auto.i
+      c.text_at-in-loop-i.ensures c.wrong_value-wrong.ensures.some;
   none = some_found c.wrong_value-wrong.result c.is_some.result c.is_some.ensures c.if-is_some.true;
 }
 
@@ -34,7 +37,8 @@ pub returns-in_err-word-clause-none : goal.returns-in_err-word-clause-none
 returns-in_err-word-clause-none g c = λ _.
     let words = map g.S.AsStr.text c.args.words.now in
     let all = length-map c.args.words.now g.S.AsStr.text in
-    absurd (there_is words c.loop-i.i (option_copied c.text_at.result) (omega arith) c.text_at.ensures (ap option_copied c.in_err-word.was))
+    absurd (there_is words c.loop-i.i (option_copied c.text_at.result) (omega arith) c.text_at.ensures
+    (ap option_copied c.in_err-word.was))
 
 pub returns-clause-none : goal.returns-clause-none
 returns-clause-none g c = λ _.

@@ -6,7 +6,8 @@ use Rattle.ptb_options.proofs.WrongValues.{accepted_after, accepted_next, last, 
 use Rattle.ptb_options.proofs.wrong_numbers.wrong_value.Goals as goal
 
 pub wrong_for-requires-in-None : goal.wrong_for-requires-in-None
-wrong_for-requires-in-None c = number_range c.in_ok-number_option-in-None.field-0.name.now c.in_ok-number_option-in-None.field-0.range c.in_ok-number_option-in-None.ensures.some.rule
+wrong_for-requires-in-None c = number_range c.in_ok-number_option-in-None.field-0.name.now
+    c.in_ok-number_option-in-None.field-0.range c.in_ok-number_option-in-None.ensures.some.rule
 
 pub returns-in_err-number_option-in-Some-clause-none : goal.returns-in_err-number_option-in-Some-clause-none
 returns-in_err-number_option-in-Some-clause-none c = λ _.
@@ -20,15 +21,19 @@ returns-in_err-next-in-None-clause-none c =
 
 pub returns-in_ok-number_option-in-Some-clause-some : goal.returns-in_ok-number_option-in-Some-clause-some
 returns-in_ok-number_option-in-Some-clause-some c =
-    wrong_after c.args.word.now (option_copied c.args.next) c.in-Some.name c.in-Some.value c.in-Some.ensures.cases c.in_ok-number_option-in-Some.field-0 c.in_ok-number_option-in-Some.ensures.some
+    wrong_after c.args.word.now (option_copied c.args.next) c.in-Some.name c.in-Some.value c.in-Some.ensures.cases
+    c.in_ok-number_option-in-Some.field-0 c.in_ok-number_option-in-Some.ensures.some
     c.wrong_for.result c.wrong_for.ensures.some
 
 pub returns-in_ok-number_option-in-Some-clause-none : goal.returns-in_ok-number_option-in-Some-clause-none
 returns-in_ok-number_option-in-Some-clause-none c = λ none.
-    accepted_after c.args.word.now (option_copied c.args.next) c.in-Some.name c.in-Some.value c.in-Some.ensures.cases c.in_ok-number_option-in-Some.field-0 c.in_ok-number_option-in-Some.ensures.some
+    accepted_after c.args.word.now (option_copied c.args.next) c.in-Some.name c.in-Some.value c.in-Some.ensures.cases
+    c.in_ok-number_option-in-Some.field-0 c.in_ok-number_option-in-Some.ensures.some
     (c.wrong_for.ensures.none none)
 
 pub returns-in_ok-next-in-None-clause-none : goal.returns-in_ok-next-in-None-clause-none
 returns-in_ok-next-in-None-clause-none c = λ none.
-    accepted_next c.args.word.now (option_copied c.args.next) c.in-None.ensures.cases c.in_ok-number_option-in-None.field-0 c.in_ok-next-in-None.field-0.now (ap option_copied c.in_ok-next-in-None.was)
+    accepted_next c.args.word.now (option_copied c.args.next) c.in-None.ensures.cases
+    c.in_ok-number_option-in-None.field-0 c.in_ok-next-in-None.field-0.now
+    (ap option_copied c.in_ok-next-in-None.was)
     c.in_ok-number_option-in-None.ensures.some (c.wrong_for-in-None.ensures.none none)

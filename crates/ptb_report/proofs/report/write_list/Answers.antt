@@ -8,15 +8,20 @@ use Rattle.ptb_report.proofs.report.write_list.Goals as goal
 pub returns-in_err-put_answers : goal.returns-in_err-put_answers
 returns-in_err-put_answers g c = record {
   ok = IfOk-from_err _ _ c.from_residual.ensures.0;
-  fault = on_err_always _ (list_fails (items_in c.args.form c.args.answers.now c.args.bounds.now) _ _ c.new-pending.ensures _ c.in_err-put_answers.ensures.fault);
+  fault = on_err_always _ (list_fails (items_in c.args.form c.args.answers.now c.args.bounds.now) _ _
+      c.new-pending.ensures _ c.in_err-put_answers.ensures.fault);
   failed = on_err_always _ (c.in_err-put_answers.ensures.failed);
   unfailed = IfOk-from_err _ _ c.from_residual.ensures.0;
 }
 
 pub returns : goal.returns
 returns g c = record {
-  ok = line_written (items_in c.args.form c.args.answers.now c.args.bounds.now) _ _ c.new-pending.ensures _ _ c.in_ok-put_answers.ensures.ok _ c.finish.result c.finish.ensures.ok;
-  fault = line_fails (items_in c.args.form c.args.answers.now c.args.bounds.now) _ _ c.new-pending.ensures _ _ c.in_ok-put_answers.ensures.ok _ c.finish.result c.finish.ensures.fault;
-  failed = on_err_weaker c.finish.result (failed_after _ _ _ c.in_ok-put_answers.ensures.unfailed) c.finish.ensures.failed;
-  unfailed = on_ok_weaker c.finish.result (λ same. same ∙ c.in_ok-put_answers.ensures.unfailed) c.finish.ensures.unfailed;
+  ok = line_written (items_in c.args.form c.args.answers.now c.args.bounds.now) _ _ c.new-pending.ensures _ _
+      c.in_ok-put_answers.ensures.ok _ c.finish.result c.finish.ensures.ok;
+  fault = line_fails (items_in c.args.form c.args.answers.now c.args.bounds.now) _ _ c.new-pending.ensures _ _
+      c.in_ok-put_answers.ensures.ok _ c.finish.result c.finish.ensures.fault;
+  failed = on_err_weaker c.finish.result (failed_after _ _ _ c.in_ok-put_answers.ensures.unfailed)
+      c.finish.ensures.failed;
+  unfailed = on_ok_weaker c.finish.result (λ same. same ∙ c.in_ok-put_answers.ensures.unfailed)
+      c.finish.ensures.unfailed;
 }

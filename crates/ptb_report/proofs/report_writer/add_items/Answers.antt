@@ -11,7 +11,8 @@ use Rattle.ptb_report.proofs.report_writer.add_items.Goals as goal
 
 pub returns-then-room-lt-ITEM_ROOM-clause-begins : goal.returns-then-room-lt-ITEM_ROOM-clause-begins
 returns-then-room-lt-ITEM_ROOM-clause-begins c =
-    begins_kept (items_in c.args.form c.args.answers.now c.args.bounds.now) c.loop-k.k c.loop-k.text c.loop-k.kept.items c.loop-k.invariant.text c.loop-k.invariant.items c.loop-k.invariant.most
+    begins_kept (items_in c.args.form c.args.answers.now c.args.bounds.now) c.loop-k.k c.loop-k.text c.loop-k.kept.items
+    c.loop-k.invariant.text c.loop-k.invariant.items c.loop-k.invariant.most
 
 pub loop-k-preserved : goal.loop-k-preserved
 loop-k-preserved c =
@@ -21,24 +22,37 @@ loop-k-preserved c =
     let bounds = c.args.bounds.now in
     let items = items_in form answers bounds in
     let m : Marked = in_form form (get_or answers k (pos 0)) (get_or bounds k (pos 0)) in
-    let within : k < length items = omega (arith, c.loop-k-test.true, length-items_in form answers bounds c.requires.same) in
-    let next : m ≡ get_or items k m = sym (item_at form answers bounds k (pos 0) (pos 0) m c.requires.same c.loop-k-test.true) in
+    let within : k < length items =
+    omega (arith, c.loop-k-test.true, length-items_in form answers bounds c.requires.same) in
+    let next : m ≡ get_or items k m =
+    sym (item_at form answers bounds k (pos 0) (pos 0) m c.requires.same c.loop-k-test.true) in
     let same : item_of (record { answer = _; bound = c.bound_in-bound.result; end = c.len.result }) ≡ m =
-    is_in_form form (get_or answers k (pos 0)) _ (get_or bounds k (pos 0)) _ c.bound_in-bound.result (search rules) (search rules) c.bound_in-bound.ensures in
+    is_in_form form (get_or answers k (pos 0)) _ (get_or bounds k (pos 0)) _ c.bound_in-bound.result (search rules)
+    (search rules) c.bound_in-bound.ensures in
     let text = text_added items k m within next c.loop-k.text c.add_item.new.text c.loop-k.invariant.text
-    (c.add_item.ensures ∙ ap (λ (x : Marked). c.loop-k.text ++ ((if k == 0 then [] else codes ",") ++ item_text x)) same) in
+    (c.add_item.ensures ∙ ap (λ (x : Marked). c.loop-k.text ++ ((if k == 0 then [] else codes ",") ++ item_text x))
+    same) in
     record {
       text = text;
-      items = items_kept items k m within next c.loop-k.kept.items c.keep_item.new.kept.items _ c.keep_item.ensures same c.loop-k.invariant.items c.loop-k.invariant.most;
-      most = most_kept items k m within next c.loop-k.kept.items c.keep_item.new.kept.items _ c.keep_item.ensures same c.loop-k.invariant.items c.loop-k.invariant.most;
-      ends = ends_kept items k m within next c.loop-k.kept.items c.keep_item.new.kept.items _ c.keep_item.ensures same c.loop-k.invariant.items c.loop-k.invariant.most c.loop-k.invariant.ends (c.len.ensures.value ∙ ap length text);
+      items = items_kept items k m within next c.loop-k.kept.items c.keep_item.new.kept.items _ c.keep_item.ensures same
+          c.loop-k.invariant.items c.loop-k.invariant.most;
+      most = most_kept items k m within next c.loop-k.kept.items c.keep_item.new.kept.items _ c.keep_item.ensures same
+          c.loop-k.invariant.items c.loop-k.invariant.most;
+      ends = ends_kept items k m within next c.loop-k.kept.items c.keep_item.new.kept.items _
+          c.keep_item.ensures same c.loop-k.invariant.items c.loop-k.invariant.most c.loop-k.invariant.ends
+          (c.len.ensures.value ∙ ap length text);
     }
 
 pub returns-clause-begins : goal.returns-clause-begins
 returns-clause-begins c =
-    begins_kept (items_in c.args.form c.args.answers.now c.args.bounds.now) c.loop-k.k c.loop-k.text c.loop-k.kept.items c.loop-k.invariant.text c.loop-k.invariant.items c.loop-k.invariant.most
+    begins_kept (items_in c.args.form c.args.answers.now c.args.bounds.now) c.loop-k.k c.loop-k.text c.loop-k.kept.items
+    c.loop-k.invariant.text c.loop-k.invariant.items c.loop-k.invariant.most
 
 pub returns-clause-all : goal.returns-clause-all
 returns-clause-all c _ =
     let items = items_in c.args.form c.args.answers.now c.args.bounds.now in
-    c.loop-k.invariant.text ∙ ap begun (take_all c.loop-k.k items (omega (arith, c.loop-k-test.false, length-items_in c.args.form c.args.answers.now c.args.bounds.now c.requires.same)))
+    c.loop-k.invariant.text ∙ ap begun (take_all c.loop-k.k items (omega (
+      arith,
+      c.loop-k-test.false,
+      length-items_in c.args.form c.args.answers.now c.args.bounds.now c.requires.same,
+    )))

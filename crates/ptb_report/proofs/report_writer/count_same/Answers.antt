@@ -18,11 +18,16 @@ loop-k-preserved c =
     let m : Marked = in_form form (get_or answers k (pos 0)) (get_or bounds k (pos 0)) in
     let is : get_or (items_of c.args.items.now) k m ≡ m =
     get_or-map item_of c.args.items.now k _ m c.if-k-items.false ∙ c.if-not-is_item.ensures refl
-    ∙ is_in_form form (get_or answers k (pos 0)) _ (get_or bounds k (pos 0)) _ c.bound_in.result (search rules) (search rules) c.bound_in.ensures in
-    let of : get_or (items_of c.args.items.now) k m ≡ get_or items k m = is ∙ sym (item_at form answers bounds k (pos 0) (pos 0) m c.requires c.loop-k-test.true) in
+    ∙ is_in_form form (get_or answers k (pos 0)) _ (get_or bounds k (pos 0)) _ c.bound_in.result (search rules)
+    (search rules) c.bound_in.ensures in
+    let of : get_or (items_of c.args.items.now) k m ≡ get_or items k m =
+    is ∙ sym (item_at form answers bounds k (pos 0) (pos 0) m c.requires c.loop-k-test.true) in
     record {
       within = search rules;
-      same = take_more (items_of c.args.items.now) k m (omega (arith, c.if-k-items.false, length-items_of c.args.items.now))
-          ∙ ap (λ z. z ++ get_or (items_of c.args.items.now) k m ∷ []) c.loop-k.invariant.same ∙ ap (λ z. take k items ++ z ∷ []) of
-          ∙ sym (take_more items k m (omega (arith, c.loop-k-test.true, length-items_in form answers bounds c.requires)));
+      same = take_more (items_of c.args.items.now) k m
+          (omega (arith, c.if-k-items.false, length-items_of c.args.items.now))
+          ∙ ap (λ z. z ++ get_or (items_of c.args.items.now) k m ∷ []) c.loop-k.invariant.same
+          ∙ ap (λ z. take k items ++ z ∷ []) of
+          ∙ sym
+          (take_more items k m (omega (arith, c.loop-k-test.true, length-items_in form answers bounds c.requires)));
     }

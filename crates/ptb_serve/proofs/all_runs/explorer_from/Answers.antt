@@ -23,9 +23,11 @@ pub returns-in-Some-clause-explorer : goal.returns-in-Some-clause-explorer
 returns-in-Some-clause-explorer c =
     let front = At (answers_of c.as_slice.result.now) in
     rw c.in-Some.is
-    (subst (λ l. IfOk c.go_to.result (λ e. e ≡ exploration c.args.program.now c.args.lines.now c.args.rules (answers_under c.args.under.now) (At (answers_of l)) e.kept e.played)) c.as_slice.ensures
+    (subst (λ l. IfOk c.go_to.result (λ e. e ≡ exploration c.args.program.now c.args.lines.now c.args.rules
+    (answers_under c.args.under.now) (At (answers_of l)) e.kept e.played)) c.as_slice.ensures
     (IfOk-weaker c.go_to.result _ _
-    (λ e there. there ∙ ap (λ (x : Exploration). record x { front = front; kept = e.kept; played = e.played }) c.in_ok-explorer.ensures.explorer) c.go_to.ensures.there))
+    (λ e there. there ∙ ap (λ (x : Exploration). record x { front = front; kept = e.kept; played = e.played })
+    c.in_ok-explorer.ensures.explorer) c.go_to.ensures.there))
 
 pub returns-in-Some-clause-begun : goal.returns-in-Some-clause-begun
 returns-in-Some-clause-begun c =
@@ -33,8 +35,10 @@ returns-in-Some-clause-begun c =
     let under = c.args.under.now in
     rw c.in-Some.is
     (subst (λ l. OnOk c.go_to.result (front_note game under (Some l) ≡ None)) c.as_slice.ensures
-    (on_ok_both c.go_to.result (λ r b. ap₂ note_of c.in_ok-explorer.ensures.begins (front_true game (answers_under under) c.as_slice.result.now r b))
-    (rw c.in_ok-explorer.ensures.explorer at c.go_to.ensures.run) (rw c.in_ok-explorer.ensures.explorer at c.go_to.ensures.begins)))
+    (on_ok_both c.go_to.result (λ r b. ap₂ note_of c.in_ok-explorer.ensures.begins
+    (front_true game (answers_under under) c.as_slice.result.now r b))
+    (rw c.in_ok-explorer.ensures.explorer at c.go_to.ensures.run)
+    (rw c.in_ok-explorer.ensures.explorer at c.go_to.ensures.begins)))
 
 pub returns-in-Some-clause-unbegun : goal.returns-in-Some-clause-unbegun
 returns-in-Some-clause-unbegun c =
@@ -44,4 +48,5 @@ returns-in-Some-clause-unbegun c =
     rw c.in-Some.is
     (subst (λ l. IfErr c.go_to.result (IsUnbegun game under (Some l))) c.as_slice.ensures
     (unbegun_at game under c.as_slice.result.now c.go_to.result c.in_ok-explorer.ensures.begins
-    (rw c.in_ok-explorer.ensures.explorer at c.go_to.ensures.not_a_run) (why (items_of under) (items_answers under)) c.go_to.ensures.kind))
+    (rw c.in_ok-explorer.ensures.explorer at c.go_to.ensures.not_a_run) (why (items_of under) (items_answers under))
+    c.go_to.ensures.kind))

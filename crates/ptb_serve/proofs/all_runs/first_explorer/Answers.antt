@@ -11,11 +11,13 @@ pub returns-in-Some-clause-begins : goal.returns-in-Some-clause-begins
 returns-in-Some-clause-begins c =
     let game = play c.args.program.now c.args.lines.now c.args.rules in
     rw c.in-Some.is
-    (on_ok_weaker c.under.result (λ b. subst (λ l. is_share game (Some l) ≡ true) c.as_slice.ensures (share_true game c.as_slice.result.now b)) c.under.ensures.beginning)
+    (on_ok_weaker c.under.result (λ b. subst (λ l. is_share game (Some l) ≡ true) c.as_slice.ensures
+    (share_true game c.as_slice.result.now b)) c.under.ensures.beginning)
 
 pub returns-in-Some-clause-unbegun : goal.returns-in-Some-clause-unbegun
 returns-in-Some-clause-unbegun c = λ after.
     let game = play c.args.program.now c.args.lines.now c.args.rules in
     rw c.in-Some.is
     (subst (λ l. IfErr c.under.result (IsUnbegun game (Some l) after)) c.as_slice.ensures
-    (unbegun_under game c.as_slice.result.now c.under.result c.under.ensures.no_beginning c.under.ensures.mismatch c.under.ensures.kind after))
+    (unbegun_under game c.as_slice.result.now c.under.result c.under.ensures.no_beginning c.under.ensures.mismatch
+    c.under.ensures.kind after))

@@ -9,11 +9,19 @@ use Rattle.ptb_serve.proofs.all_runs.list_runs.Goals as goal
 -- the lines can't be read
 pub returns-in-Err : goal.returns-in-Err
 returns-in-Err g c =
-    let told = unread_served (modes.All c.args.under.now c.args.after.now c.args.first c.args.form) c.args.request.now c.args.program.now (λ x. x) tt
+    let told = unread_served (modes.All c.args.under.now c.args.after.now c.args.first c.args.form) c.args.request.now
+    c.args.program.now (λ x. x) tt
     (g.W.Write.contents c.args.out.now) (g.W.Write.failures c.args.out.now) c.from.result c.in-Err.fault
-    (λ known left. unread_listed c.args.request.now c.args.program.now c.requires.memory c.args.under.now c.args.after.now c.args.first c.args.form known left (g.W.Write.contents c.args.out.now) c.in-Err.fault)
+    (λ known left. unread_listed c.args.request.now c.args.program.now c.requires.memory c.args.under.now
+    c.args.after.now c.args.first c.args.form known left (g.W.Write.contents c.args.out.now) c.in-Err.fault)
     c.from.ensures c.in-Err.ensures.reads in
-    rw c.without_mismatch.ensures (record { serves = told.serves; reads = told.reads; failures = told.failures; mismatch = none_told _ _ _ _ _ (unread_refuses_none c.from.result c.in-Err.fault c.from.ensures); no_line = refl })
+    rw c.without_mismatch.ensures (record {
+      serves = told.serves;
+      reads = told.reads;
+      failures = told.failures;
+      mismatch = none_told _ _ _ _ _ (unread_refuses_none c.from.result c.in-Err.fault c.from.ensures);
+      no_line = refl;
+    })
 
 -- they are
 pub returns-in-Ok-clause-serves : goal.returns-in-Ok-clause-serves
@@ -21,7 +29,8 @@ returns-in-Ok-clause-serves g c = c.list_runs_on.ensures.serves _ _ (rw c.deref.
 
 pub returns-in-Ok-clause-reads : goal.returns-in-Ok-clause-reads
 returns-in-Ok-clause-reads g c =
-    lines_read (modes.All c.args.under.now c.args.after.now c.args.first c.args.form) (λ x. x) tt c.list_runs_on.result.served c.in-Ok.ensures.reads refl (no_fault _ _) c.list_runs_on.ensures.read
+    lines_read (modes.All c.args.under.now c.args.after.now c.args.first c.args.form)
+    (λ x. x) tt c.list_runs_on.result.served c.in-Ok.ensures.reads refl (no_fault _ _) c.list_runs_on.ensures.read
 
 pub returns-in-Ok-clause-mismatch : goal.returns-in-Ok-clause-mismatch
 returns-in-Ok-clause-mismatch g c = c.list_runs_on.ensures.mismatch _ (rw c.deref.ensures.value c.in-Ok.ensures.lines)

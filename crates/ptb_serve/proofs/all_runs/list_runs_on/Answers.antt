@@ -14,12 +14,20 @@ pub returns-in-Ok-write_reports : goal.returns-in-Ok-write_reports
 returns-in-Ok-write_reports g c =
     let writes = c.in-Ok-write_reports.ensures in
     let listed =
-    listing_written c.args.request.now c.args.program.now c.requires.memory c.args.under.now c.args.after.now c.args.first c.args.form c.args.lines.now
-    (g.W.Write.contents c.args.out.now) (g.W.Write.contents c.write_reports.new.out) (g.W.Write.failures c.args.out.now) (g.W.Write.failures c.write_reports.new.out)
+    listing_written c.args.request.now c.args.program.now c.requires.memory c.args.under.now c.args.after.now
+    c.args.first c.args.form c.args.lines.now
+    (g.W.Write.contents c.args.out.now) (g.W.Write.contents c.write_reports.new.out) (g.W.Write.failures c.args.out.now)
+    (g.W.Write.failures c.write_reports.new.out)
     c.in-Ok.explorer writes.writes.0 c.in-Ok.ensures.explorer c.in-Ok.ensures.begun
     _ writes.writes.1 (writes.unfailed (λ n. no_fault _ _))
     in
-    rw c.without_mismatch.ensures (record { serves = listed.serves; read = listed.read; failures = listed.failures; mismatch = λ known _. none_told _ _ _ known _ (success_refuses_none 0); no_line = refl })
+    rw c.without_mismatch.ensures (record {
+      serves = listed.serves;
+      read = listed.read;
+      failures = listed.failures;
+      mismatch = λ known _. none_told _ _ _ known _ (success_refuses_none 0);
+      no_line = refl;
+    })
 
 -- some are
 pub returns-in-Err-write_reports : goal.returns-in-Err-write_reports
@@ -27,8 +35,10 @@ returns-in-Err-write_reports g c =
     let writes = c.in-Err-write_reports.ensures in
     let fault = c.in-Err-write_reports.broken in
     let listed =
-    listing_broken c.args.request.now c.args.program.now c.requires.memory c.args.under.now c.args.after.now c.args.first c.args.form c.args.lines.now
-    (g.W.Write.contents c.args.out.now) (g.W.Write.contents c.write_reports.new.out) (g.W.Write.failures c.args.out.now) (g.W.Write.failures c.write_reports.new.out)
+    listing_broken c.args.request.now c.args.program.now c.requires.memory c.args.under.now c.args.after.now
+    c.args.first c.args.form c.args.lines.now
+    (g.W.Write.contents c.args.out.now) (g.W.Write.contents c.write_reports.new.out) (g.W.Write.failures c.args.out.now)
+    (g.W.Write.failures c.write_reports.new.out)
     c.in-Ok.explorer writes.writes.0 c.in-Ok.ensures.explorer c.in-Ok.ensures.begun
     (Err c.from.result) fault c.from.ensures writes.writes.1 (writes.failed, writes.unfailed)
     in
@@ -46,13 +56,15 @@ returns-in-Err-write_reports g c =
 pub returns-in-Err : goal.returns-in-Err
 returns-in-Err g c =
     let listed =
-    listing_unbegun c.args.request.now c.args.program.now c.requires.memory c.args.under.now c.args.after.now c.args.first c.args.form c.args.lines.now
+    listing_unbegun c.args.request.now c.args.program.now c.requires.memory c.args.under.now c.args.after.now
+    c.args.first c.args.form c.args.lines.now
     (g.W.Write.contents c.args.out.now) (g.W.Write.failures c.args.out.now) c.in-Err.why c.in-Err.ensures.unbegun
     in
     rw c.unbegun.ensures (record {
       serves = listed.serves;
       read = listed.read;
       failures = listed.failures;
-      mismatch = λ known lines. unbegun_told c.args.request.now c.args.program.now known c.args.lines.now lines c.args.under.now c.args.after.now c.args.first c.args.form c.in-Err.why c.in-Err.ensures.unbegun;
+      mismatch = λ known lines. unbegun_told c.args.request.now c.args.program.now known c.args.lines.now lines
+          c.args.under.now c.args.after.now c.args.first c.args.form c.in-Err.why c.in-Err.ensures.unbegun;
       no_line = unbegun_line c.in-Err.why;
     })

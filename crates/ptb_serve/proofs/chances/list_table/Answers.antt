@@ -10,7 +10,8 @@ pub returns-in-Err : goal.returns-in-Err
 returns-in-Err g c =
     unread_served modes.Chances c.args.request.now c.args.program.now (λ x. x) tt
     (g.W.Write.contents c.args.out.now) (g.W.Write.failures c.args.out.now) c.from.result c.in-Err.fault
-    (λ known left. unread_table c.args.request.now c.args.program.now c.requires.memory known left (g.W.Write.contents c.args.out.now) c.in-Err.fault)
+    (λ known left. unread_table c.args.request.now c.args.program.now c.requires.memory known left
+    (g.W.Write.contents c.args.out.now) c.in-Err.fault)
     c.from.ensures c.in-Err.ensures.reads
 
 -- they are

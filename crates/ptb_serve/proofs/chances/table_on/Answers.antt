@@ -9,7 +9,8 @@ pub returns-in_err-write_chances : goal.returns-in_err-write_chances
 returns-in_err-write_chances g c =
     let writes = c.in_err-write_chances.ensures in
     chances_broken c.args.request.now c.args.program.now c.requires.memory c.args.lines.now
-    (g.W.Write.contents c.args.out.now) (g.W.Write.contents c.write_chances.new.writer) (g.W.Write.failures c.args.out.now) (g.W.Write.failures c.write_chances.new.writer)
+    (g.W.Write.contents c.args.out.now) (g.W.Write.contents c.write_chances.new.writer)
+    (g.W.Write.failures c.args.out.now) (g.W.Write.failures c.write_chances.new.writer)
     c.from_residual.result c.in_err-write_chances.field-0.0 c.from_residual.ensures.1
     (λ h. ap g.W.Write.contents (writes.memory h)) writes.prefix writes.failed writes.unfailed
 
@@ -18,5 +19,6 @@ pub returns : goal.returns
 returns g c =
     let writes = c.in_ok-write_chances.ensures in
     chances_written c.args.request.now c.args.program.now c.requires.memory c.args.lines.now
-    (g.W.Write.contents c.args.out.now) (g.W.Write.contents c.write_chances.new.writer) (g.W.Write.failures c.args.out.now) (g.W.Write.failures c.write_chances.new.writer)
+    (g.W.Write.contents c.args.out.now) (g.W.Write.contents c.write_chances.new.writer)
+    (g.W.Write.failures c.args.out.now) (g.W.Write.failures c.write_chances.new.writer)
     writes.written (writes.unfailed (no_fault _ _))

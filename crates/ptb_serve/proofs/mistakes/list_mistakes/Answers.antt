@@ -8,7 +8,8 @@ pub returns-in_err-any : goal.returns-in_err-any
 returns-in_err-any g c =
     let told =
     check_broken c.args.program.now (g.W.Write.contents c.args.out.now) (g.W.Write.contents c.write_mistakes.new.writer)
-    (g.W.Write.failures c.args.out.now) (g.W.Write.failures c.write_mistakes.new.writer) c.from_residual.result c.in_err-any.field-0.0 c.from_residual.ensures.1 c.in_err-any.ensures.writes c.in_err-any.ensures.failed
+    (g.W.Write.failures c.args.out.now) (g.W.Write.failures c.write_mistakes.new.writer) c.from_residual.result
+    c.in_err-any.field-0.0 c.from_residual.ensures.1 c.in_err-any.ensures.writes c.in_err-any.ensures.failed
     in
     record { serves = told.serves; read = told.read; failures = told.failures; no_list = told.no_list }
 
@@ -17,7 +18,8 @@ returns-then-any g c =
     let told =
     check_written c.args.program.now (g.W.Write.contents c.args.out.now)
     (g.W.Write.contents c.write_mistakes.new.writer)
-    (g.W.Write.failures c.args.out.now) (g.W.Write.failures c.write_mistakes.new.writer) c.in_ok-any.any 1 (ap check_status (sym c.if-any.true)) (omega arith) c.in_ok-any.ensures.writes c.in_ok-any.ensures.unfailed
+    (g.W.Write.failures c.args.out.now) (g.W.Write.failures c.write_mistakes.new.writer) c.in_ok-any.any 1
+    (ap check_status (sym c.if-any.true)) (omega arith) c.in_ok-any.ensures.writes c.in_ok-any.ensures.unfailed
     in
     record { serves = told.serves; read = told.read; failures = told.failures; no_list = told.no_list }
 
@@ -26,6 +28,7 @@ returns g c =
     let told =
     check_written c.args.program.now (g.W.Write.contents c.args.out.now)
     (g.W.Write.contents c.write_mistakes.new.writer)
-    (g.W.Write.failures c.args.out.now) (g.W.Write.failures c.write_mistakes.new.writer) c.in_ok-any.any 0 (ap check_status (sym c.if-any.false)) (omega arith) c.in_ok-any.ensures.writes c.in_ok-any.ensures.unfailed
+    (g.W.Write.failures c.args.out.now) (g.W.Write.failures c.write_mistakes.new.writer) c.in_ok-any.any 0
+    (ap check_status (sym c.if-any.false)) (omega arith) c.in_ok-any.ensures.writes c.in_ok-any.ensures.unfailed
     in
     record { serves = told.serves; read = told.read; failures = told.failures; no_list = told.no_list }

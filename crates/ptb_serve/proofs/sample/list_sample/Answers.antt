@@ -8,13 +8,16 @@ use Rattle.ptb_serve.proofs.sample.list_sample.Goals as goal
 -- the lines can't be read
 pub returns-in-Err : goal.returns-in-Err
 returns-in-Err g c =
-    unread_served (modes.Sample c.args.sample.seed c.args.sample.runs c.args.sample.form) c.args.request.now c.args.program.now (λ x. x) tt
+    unread_served (modes.Sample c.args.sample.seed c.args.sample.runs c.args.sample.form) c.args.request.now
+    c.args.program.now (λ x. x) tt
     (g.W.Write.contents c.args.out.now) (g.W.Write.failures c.args.out.now) c.from.result c.in-Err.fault
-    (λ known left. unread_sampled c.args.request.now c.args.program.now c.requires.memory c.args.sample.seed c.args.sample.runs c.args.sample.form known left (g.W.Write.contents c.args.out.now) c.in-Err.fault)
+    (λ known left. unread_sampled c.args.request.now c.args.program.now c.requires.memory c.args.sample.seed
+    c.args.sample.runs c.args.sample.form known left (g.W.Write.contents c.args.out.now) c.in-Err.fault)
     c.from.ensures c.in-Err.ensures.reads
 
 -- they are
 pub returns-in-Ok : goal.returns-in-Ok
 returns-in-Ok g c =
-    lines_served (modes.Sample c.args.sample.seed c.args.sample.runs c.args.sample.form) c.args.request.now c.args.program.now (λ x. x) tt _ c.sample_lines.result c.sample_lines.ensures
+    lines_served (modes.Sample c.args.sample.seed c.args.sample.runs c.args.sample.form) c.args.request.now
+    c.args.program.now (λ x. x) tt _ c.sample_lines.result c.sample_lines.ensures
     c.in-Ok.ensures.reads refl (no_fault _ _) (rw c.deref.ensures.value c.in-Ok.ensures.lines)

@@ -7,14 +7,19 @@ use Rattle.ptb_serve.proofs.sample.sample_lines.Goals as goal
 pub returns-in_err-write_sample : goal.returns-in_err-write_sample
 returns-in_err-write_sample g c =
     let writes = c.in_err-write_sample.ensures in
-    sample_broken c.args.request.now c.args.program.now c.requires.memory c.args.sample.seed c.args.sample.runs c.args.sample.form c.args.lines.now
-    (g.W.Write.contents c.args.out.now) (g.W.Write.contents c.write_sample.new.writer) (g.W.Write.failures c.args.out.now) (g.W.Write.failures c.write_sample.new.writer)
-    c.from_residual.result c.in_err-write_sample.field-0.0 c.from_residual.ensures.1 writes.writes (writes.failed, writes.unfailed)
+    sample_broken c.args.request.now c.args.program.now c.requires.memory c.args.sample.seed c.args.sample.runs
+    c.args.sample.form c.args.lines.now
+    (g.W.Write.contents c.args.out.now) (g.W.Write.contents c.write_sample.new.writer)
+    (g.W.Write.failures c.args.out.now) (g.W.Write.failures c.write_sample.new.writer)
+    c.from_residual.result c.in_err-write_sample.field-0.0 c.from_residual.ensures.1 writes.writes
+    (writes.failed, writes.unfailed)
 
 -- all are
 pub returns : goal.returns
 returns g c =
     let writes = c.in_ok-write_sample.ensures in
-    sample_written c.args.request.now c.args.program.now c.requires.memory c.args.sample.seed c.args.sample.runs c.args.sample.form c.args.lines.now
-    (g.W.Write.contents c.args.out.now) (g.W.Write.contents c.write_sample.new.writer) (g.W.Write.failures c.args.out.now) (g.W.Write.failures c.write_sample.new.writer)
+    sample_written c.args.request.now c.args.program.now c.requires.memory c.args.sample.seed c.args.sample.runs
+    c.args.sample.form c.args.lines.now
+    (g.W.Write.contents c.args.out.now) (g.W.Write.contents c.write_sample.new.writer)
+    (g.W.Write.failures c.args.out.now) (g.W.Write.failures c.write_sample.new.writer)
     writes.writes (writes.unfailed (λ n. no_fault _ _))

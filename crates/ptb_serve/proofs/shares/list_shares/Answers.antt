@@ -10,11 +10,13 @@ pub returns-in-Err : goal.returns-in-Err
 returns-in-Err g c =
     unread_served (modes.Shares c.args.answers c.args.form) c.args.request.now c.args.program.now (λ x. x) tt
     (g.W.Write.contents c.args.out.now) (g.W.Write.failures c.args.out.now) c.from.result c.in-Err.fault
-    (λ known left. unread_split c.args.request.now c.args.program.now c.requires.memory c.args.answers c.args.form known left (g.W.Write.contents c.args.out.now) c.in-Err.fault)
+    (λ known left. unread_split c.args.request.now c.args.program.now c.requires.memory c.args.answers c.args.form known
+    left (g.W.Write.contents c.args.out.now) c.in-Err.fault)
     c.from.ensures c.in-Err.ensures.reads
 
 -- they are
 pub returns-in-Ok : goal.returns-in-Ok
 returns-in-Ok g c =
-    lines_served (modes.Shares c.args.answers c.args.form) c.args.request.now c.args.program.now (λ x. x) tt _ c.share_lines.result c.share_lines.ensures
+    lines_served (modes.Shares c.args.answers c.args.form) c.args.request.now c.args.program.now
+    (λ x. x) tt _ c.share_lines.result c.share_lines.ensures
     c.in-Ok.ensures.reads refl (no_fault _ _) (rw c.deref.ensures.value c.in-Ok.ensures.lines)

@@ -17,13 +17,15 @@ returns-then-is_all_blank c =
 
 pub returns-in-TooBig : goal.returns-in-TooBig
 returns-in-TooBig c =
-    after_too_big c.args.line.now (in_front c.args.line.now) (sym c.in_default.ensures.value) (in_front-trim_start c.args.line.now)
+    after_too_big c.args.line.now (in_front c.args.line.now) (sym c.in_default.ensures.value)
+    (in_front-trim_start c.args.line.now)
     (some_in_front c.args.line.now (sym c.is_all_blank.ensures ∙ c.if-is_all_blank.false))
     (number_too_big c.args.line.now _ (found _ _ _ _ c.number_in_front-number.ensures.value c.in-TooBig.is))
 
 pub returns-in-Absent : goal.returns-in-Absent
 returns-in-Absent c =
-    after_no_number c.args.line.now (in_front c.args.line.now) (sym c.in_default.ensures.value) (in_front-trim_start c.args.line.now)
+    after_no_number c.args.line.now (in_front c.args.line.now) (sym c.in_default.ensures.value)
+    (in_front-trim_start c.args.line.now)
     (some_in_front c.args.line.now (sym c.is_all_blank.ensures ∙ c.if-is_all_blank.false))
     (number_absent c.args.line.now _ (found _ _ _ _ c.number_in_front-number.ensures.value c.in-Absent.is))
 
@@ -46,4 +48,6 @@ returns c =
     let ev = to_z-of_z w16 c.in-Value.number (search rules) in
     let is = c.unsigned_abs-number.ensures.value ∙ ap unsigned_abs (ev ∙ sym parts.value) in
     let text = take_all (length line - place) (drop place line) (omega (arith, length-drop place line)) ∙ parts.text in
-    rw text (after_number line (in_front line) (sym c.in_default.ensures.value) (in_front-trim_start line) _ (some_in_front line (sym c.is_all_blank.ensures ∙ c.if-is_all_blank.false)) (sym is) (omega arith) (omega (arith, is, parts.high)))
+    rw text (after_number line (in_front line) (sym c.in_default.ensures.value) (in_front-trim_start line) _
+    (some_in_front line (sym c.is_all_blank.ensures ∙ c.if-is_all_blank.false)) (sym is) (omega arith)
+    (omega (arith, is, parts.high)))

@@ -18,7 +18,8 @@ returns-in_err-map_err g c =
     record {
       ok = OnOk-error _ _ c.from_residual.result is;
       fault = OnErr-error _ _ c.from_residual.result is (piece_fault _ _ _ next c.loop-at.invariant.taken some);
-      failed = OnErr-error _ _ c.from_residual.result is (subst (λ (k : ℕ). HasFailed k (g.W.Write.failures c.write_line.new.writer)) c.loop-at.invariant.unfailed failed);
+      failed = OnErr-error _ _ c.from_residual.result is (subst (λ (k : ℕ). HasFailed k
+          (g.W.Write.failures c.write_line.new.writer)) c.loop-at.invariant.unfailed failed);
       unfailed = OnOk-error _ _ c.from_residual.result is;
       reloads = GivesProgram-listing;
     }

@@ -15,8 +15,10 @@ in_pieces none digits text number empty is =
 
 pub returns-clause-ok : goal.returns-clause-ok
 returns-clause-ok g c =
-    on_ok_weaker c.finish.result (λ e. subst (Appends _ _) (in_pieces _ _ c.args.text.now c.args.number c.requires (c.as_bytes-digits.ensures.value ∙ c.format.ensures.text)) e) c.finish.ensures.ok
+    on_ok_weaker c.finish.result (λ e. subst (Appends _ _) (in_pieces _ _ c.args.text.now c.args.number c.requires
+    (c.as_bytes-digits.ensures.value ∙ c.format.ensures.text)) e) c.finish.ensures.ok
 
 pub returns-clause-fault : goal.returns-clause-fault
 returns-clause-fault g c =
-    on_err_weaker c.finish.result (λ e. subst (TakesSome _ _) (in_pieces _ _ c.args.text.now c.args.number c.requires (c.as_bytes-digits.ensures.value ∙ c.format.ensures.text)) e) c.finish.ensures.fault
+    on_err_weaker c.finish.result (λ e. subst (TakesSome _ _) (in_pieces _ _ c.args.text.now c.args.number c.requires
+    (c.as_bytes-digits.ensures.value ∙ c.format.ensures.text)) e) c.finish.ensures.fault

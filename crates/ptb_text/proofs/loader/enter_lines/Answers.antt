@@ -26,8 +26,11 @@ pub returns-in-Err-clause-memory_last : goal.returns-in-Err-clause-memory_last
 returns-in-Err-clause-memory_last c other_fault =
     let first = left (goal.at.returns-in-Err-clause-memory_last c).After-split_line in
     let e = c.in-Err.ensures.memory_last other_fault in
-    let ok = rw c.loop-rest.invariant.memory at e.1 in
-    (e.0, acceptable (lines c.args.text.now) c.loop-rest.entered c.split_line.result.0.now (lines c.split_line.result.1.now) first c.args.program.memory _ c.loop-rest.invariant.so_far ok)
+    let ok = rw c.loop-rest.invariant.memory at e.1 in (
+      e.0,
+      acceptable (lines c.args.text.now) c.loop-rest.entered c.split_line.result.0.now
+          (lines c.split_line.result.1.now) first c.args.program.memory _ c.loop-rest.invariant.so_far ok,
+    )
 
 pub returns-in-Err-clause-memory_line : goal.returns-in-Err-clause-memory_line
 returns-in-Err-clause-memory_line c memory_fault =

@@ -14,7 +14,8 @@ returns-in_err-text g c =
     let given = c.from_residual.ensures.1 in
     record {
       loads = unread_loads c.args.memory _ _ e.whole.0 e.whole.1 c.from_residual.result given;
-      reads = unread_reads (reads_of g.R.Read.remaining g.R.Read.given g.R.Read.failures c.args.reader.now c.program_text.new.reader) _ c.from_residual.result given e.reads;
+      reads = unread_reads (reads_of g.R.Read.remaining g.R.Read.given g.R.Read.failures c.args.reader.now
+          c.program_text.new.reader) _ c.from_residual.result given e.reads;
       sure = λ reliable. unread_sure _ c.from_residual.result given (e.sure reliable);
     }
 
@@ -34,7 +35,9 @@ returns g c =
       loads =
           loaded _ c.args.memory c.in_ok-text.text.items c.deref.result.now e.ok
           (spaces g (goal.at.returns g c).After-enter_lines) (omega (arith, e.short, c.in_ok-text.text.ok.0))
-          c.new.result.memory (ap (λ p. p.memory) c.new.ensures) c.enter_lines.result lines.memory lines.ok lines.refused lines.memory_last lines.memory_line;
-      reads = loaded_reads (reads_of g.R.Read.remaining g.R.Read.given g.R.Read.failures c.args.reader.now c.program_text.new.reader) c.in_ok-text.text e.reads _ c.enter_lines.result lines.memory_last;
+          c.new.result.memory (ap (λ p. p.memory) c.new.ensures) c.enter_lines.result lines.memory lines.ok
+          lines.refused lines.memory_last lines.memory_line;
+      reads = loaded_reads (reads_of g.R.Read.remaining g.R.Read.given g.R.Read.failures c.args.reader.now
+          c.program_text.new.reader) c.in_ok-text.text e.reads _ c.enter_lines.result lines.memory_last;
       sure = λ _. loaded_sure _ c.enter_lines.result lines.memory_last;
     }

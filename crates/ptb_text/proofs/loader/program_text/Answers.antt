@@ -33,7 +33,9 @@ returns-in_default g c =
       ok = tt;
       short = tt;
       whole = (refl, λ h. h);
-      reads = text_failed (reads_of g.R.Read.remaining g.R.Read.given g.R.Read.failures c.args.reader.now c.read.new.self) _ _ _ p.text p.text.ok.0 p.invariant.bound p.invariant.unfailed p.invariant.given p.invariant.taken e.bytes e.given e.count;
+      reads = text_failed (reads_of g.R.Read.remaining g.R.Read.given g.R.Read.failures c.args.reader.now
+          c.read.new.self) _ _ _ p.text p.text.ok.0 p.invariant.bound p.invariant.unfailed p.invariant.given
+          p.invariant.taken e.bytes e.given e.count;
       sure = λ reliable. absurd (never_fails (e.sure (p.invariant.sure reliable)).0);
     }
 
@@ -45,8 +47,10 @@ returns-then-taken-eq0 g c =
     let input = reads_of g.R.Read.remaining g.R.Read.given g.R.Read.failures c.args.reader.now c.read.new.self in
     let told =
     ends_text input _ _ _ p.text p.text.ok.0 p.invariant.bound p.invariant.unfailed p.invariant.given p.invariant.taken
-    c.in-Ok.taken c.min-room.result c.read.new.buf p.piece c.len.result c.len.ensures c.loop-piece-test.true c.len-in-loop-piece.result c.len-in-loop-piece.ensures c.min-room.ensures
-    c.in-Ok.ensures.room c.in-Ok.ensures.bytes c.in-Ok.ensures.given c.in-Ok.ensures.count c.if-taken-eq0.true there c.read.auto.buf
+    c.in-Ok.taken c.min-room.result c.read.new.buf p.piece c.len.result c.len.ensures c.loop-piece-test.true
+    c.len-in-loop-piece.result c.len-in-loop-piece.ensures c.min-room.ensures
+    c.in-Ok.ensures.room c.in-Ok.ensures.bytes c.in-Ok.ensures.given c.in-Ok.ensures.count c.if-taken-eq0.true there
+    c.read.auto.buf
     in
     record { ok = told.ok; short = told.short; whole = tt; reads = told.reads; sure = λ _. λ h. h }
 
@@ -59,8 +63,10 @@ returns-then-is_err g c =
       short = tt;
       whole = (refl, λ h. h);
       reads =
-          text_unkept (reads_of g.R.Read.remaining g.R.Read.given g.R.Read.failures c.args.reader.now c.read.new.self) _ _ _ p.text p.text.ok.0 p.invariant.bound p.invariant.unfailed p.invariant.given p.invariant.taken
-          c.in-Ok.taken c.min-room.result c.read.new.buf p.piece c.len.result c.len.ensures c.loop-piece-test.true c.len-in-loop-piece.result c.len-in-loop-piece.ensures c.min-room.ensures
+          text_unkept (reads_of g.R.Read.remaining g.R.Read.given g.R.Read.failures c.args.reader.now c.read.new.self) _
+          _ _ p.text p.text.ok.0 p.invariant.bound p.invariant.unfailed p.invariant.given p.invariant.taken
+          c.in-Ok.taken c.min-room.result c.read.new.buf p.piece c.len.result c.len.ensures c.loop-piece-test.true
+          c.len-in-loop-piece.result c.len-in-loop-piece.ensures c.min-room.ensures
           c.in-Ok.ensures.room c.in-Ok.ensures.bytes c.in-Ok.ensures.given c.in-Ok.ensures.count;
       sure = λ _. λ h. absurd cc;
     }
@@ -73,6 +79,8 @@ returns g c =
       ok = tt;
       short = tt;
       whole = (refl, λ h. h);
-      reads = text_too_long (reads_of g.R.Read.remaining g.R.Read.given g.R.Read.failures c.args.reader.now p.reader) p.text p.text.ok.0 p.invariant.bound p.invariant.unfailed p.invariant.given p.invariant.taken c.len.result c.len.ensures c.loop-piece-test.false;
+      reads = text_too_long (reads_of g.R.Read.remaining g.R.Read.given g.R.Read.failures c.args.reader.now p.reader)
+          p.text p.text.ok.0 p.invariant.bound p.invariant.unfailed p.invariant.given p.invariant.taken c.len.result
+          c.len.ensures c.loop-piece-test.false;
       sure = λ _. λ h. absurd cc;
     }

@@ -9,7 +9,8 @@ pub returns-in-Some-clause-lines : goal.returns-in-Some-clause-lines
 returns-in-Some-clause-lines c =
     let t = c.args.text.now in
     let end = c.in-Some.end in
-    let behind : take (length t - (end + 1)) (drop (end + 1) t) ≡ drop (end + 1) t = between_to_end t (end + 1) (length t) (omega arith) in
+    let behind : take (length t - (end + 1)) (drop (end + 1) t) ≡ drop (end + 1) t =
+    between_to_end t (end + 1) (length t) (omega arith) in
     lines-cut t end (sym c.in-Some.ensures.value)
     ∙ ap (λ l. l ∷ lines (drop (end + 1) t)) (sym c.strip_carriage_return.ensures)
     ∙ ap (λ r. c.strip_carriage_return.result.now ∷ lines r) (sym behind)

@@ -7,6 +7,8 @@ use Rattle.ptb_text.proofs.loader.tabs_to_spaces.Goals.{then-byte-eq9, else-byte
 pub loop-byte-preserved : goal.loop-byte-preserved
 loop-byte-preserved c =
     elim c.if-byte-eq9.branch [
-      | then-byte-eq9 w ↦ w.text-is ∙ spaces_more c.args.text.now c.loop-byte.text c.loop-byte.byte-index c.loop-byte-test.true c.loop-byte.invariant w.if-byte-eq9.true
-      | else-byte-eq9 w ↦ w.text-is ∙ spaces_same c.args.text.now c.loop-byte.text c.loop-byte.byte-index c.loop-byte-test.true c.loop-byte.invariant w.if-byte-eq9.false
+      | then-byte-eq9 w ↦ w.text-is ∙ spaces_more c.args.text.now c.loop-byte.text c.loop-byte.byte-index
+          c.loop-byte-test.true c.loop-byte.invariant w.if-byte-eq9.true
+      | else-byte-eq9 w ↦ w.text-is ∙ spaces_same c.args.text.now c.loop-byte.text c.loop-byte.byte-index
+          c.loop-byte-test.true c.loop-byte.invariant w.if-byte-eq9.false
     ]

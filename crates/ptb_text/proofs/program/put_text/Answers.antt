@@ -20,4 +20,6 @@ pub returns : goal.returns
 returns c =
     put_items c.args.pool.now.items c.args.text.now c.args.start c.args.end c.requires.order
     (omega (arith, c.requires.within, c.args.pool.now.ok.0)) _
-    c.extend_from_slice.new.self c.extend_from_slice.result tt c.extend_from_slice.ensures.items (search rules fits 50 depth 2) c.unwrap.ensures c.deref_mut.result.now c.rotate_right.new.self c.deref_mut.ensures.value c.deref_mut.ensures.len c.rotate_right.ensures.after
+    c.extend_from_slice.new.self c.extend_from_slice.result tt c.extend_from_slice.ensures.items
+    (search rules fits 50 depth 2) c.unwrap.ensures c.deref_mut.result.now c.rotate_right.new.self
+    c.deref_mut.ensures.value c.deref_mut.ensures.len c.rotate_right.ensures.after

@@ -49,17 +49,20 @@ returns-in-76 c = record {
 
 pub returns-in-73-clause-value : goal.returns-in-73-clause-value
 returns-in-73-clause-value c =
-    begins_either Commands 73 _ (InputKw, codes "INPUT") _ _ _ _ refl c.requires c.in-73.is c.spelled_word-found_if.ensures.value
+    begins_either Commands 73 _ (InputKw, codes "INPUT") _ _ _ _ refl c.requires c.in-73.is
+    c.spelled_word-found_if.ensures.value
     (search rules fits 50 depth 2) (search rules fits 50 depth 2)
 
 pub returns-in-71-clause-value : goal.returns-in-71-clause-value
 returns-in-71-clause-value c =
-    begins_either Commands 71 _ (GosubKw, codes "GOSUB") _ _ _ _ refl c.requires c.in-71.is c.spelled_word-found_goto.ensures.value
+    begins_either Commands 71 _ (GosubKw, codes "GOSUB") _ _ _ _ refl c.requires c.in-71.is
+    c.spelled_word-found_goto.ensures.value
     (search rules fits 50 depth 2) (search rules fits 50 depth 2)
 
 pub returns-in-82-clause-value : goal.returns-in-82-clause-value
 returns-in-82-clause-value c =
-    begins_either Commands 82 _ (RemKw, codes "REM") _ _ _ _ refl c.requires c.in-82.is c.spelled_word-found_return.ensures.value
+    begins_either Commands 82 _ (RemKw, codes "REM") _ _ _ _ refl c.requires c.in-82.is
+    c.spelled_word-found_return.ensures.value
     (search rules fits 50 depth 2) (search rules fits 50 depth 2)
 
 pub returns-in-70 : goal.returns-in-70

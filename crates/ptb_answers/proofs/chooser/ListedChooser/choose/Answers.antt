@@ -35,5 +35,7 @@ returns-then-answer-lt1-clause-outside c =
 
 pub returns-then-answer-lt1-clause-refused : goal.returns-then-answer-lt1-clause-refused
 returns-then-answer-lt1-clause-refused c =
-    let fits : FitsSigned w16 (get_or c.self.inside.answers.now c.self.inside.given (pos 0)) = search rules in
-    (next_is c.args.self.now c.self.inside.answers.now c.self.inside.given c.self.view_is (omega arith) fits, returns-then-answer-lt1-clause-outside c)
+    let fits : FitsSigned w16 (get_or c.self.inside.answers.now c.self.inside.given (pos 0)) = search rules in (
+      next_is c.args.self.now c.self.inside.answers.now c.self.inside.given c.self.view_is (omega arith) fits,
+      returns-then-answer-lt1-clause-outside c,
+    )

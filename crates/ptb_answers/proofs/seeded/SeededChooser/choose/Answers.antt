@@ -6,7 +6,9 @@ use Rattle.ptb_answers.proofs.seeded.SeededChooser.choose.Goals as goal
 
 pub invariant_of-self-2 : goal.invariant_of-self-2
 invariant_of-self-2 c =
-    drawn_next c.self.inside.first c.self.inside.bounds.items c.self.inside.answers.items c.self.inside.generator c.self.invariant c.args.bound c.ranges.bound c.push.result c.push.new.self.items c.push.ensures.items c.if-is_err.ensures.negation
+    drawn_next c.self.inside.first c.self.inside.bounds.items c.self.inside.answers.items c.self.inside.generator
+    c.self.invariant c.args.bound c.ranges.bound c.push.result c.push.new.self.items c.push.ensures.items
+    c.if-is_err.ensures.negation
     c.next_word.result c.next_word.new.self c.next_word.ensures c.drawn_answer-answer.result
     (record { sfits = c.drawn_answer-answer.type_inv }) c.drawn_answer-answer.ensures
     c.push-2.result c.push-2.new.self.items c.push-2.ensures.items c.if-is_err-2.ensures.negation c.len-last.result
@@ -14,7 +16,9 @@ invariant_of-self-2 c =
 
 pub returns-clause-grown : goal.returns-clause-grown
 returns-clause-grown c =
-    grown_by_next c.self.inside.first c.self.inside.bounds.items c.self.inside.answers.items c.self.inside.generator c.self.invariant c.args.bound c.ranges.bound c.push.result c.push.new.self.items c.push.ensures.items c.if-is_err.ensures.negation
+    grown_by_next c.self.inside.first c.self.inside.bounds.items c.self.inside.answers.items c.self.inside.generator
+    c.self.invariant c.args.bound c.ranges.bound c.push.result c.push.new.self.items c.push.ensures.items
+    c.if-is_err.ensures.negation
     c.next_word.result c.next_word.new.self c.next_word.ensures c.drawn_answer-answer.result
     (record { sfits = c.drawn_answer-answer.type_inv }) c.drawn_answer-answer.ensures
     c.args.self.now c.self.view_is

@@ -31,13 +31,18 @@ play_plan-requires-clause-opens c =
     let o = c.requires.opens in
     let program = e.player ∙ i.player in
     let by = e.rules ∙ i.rules in
-    let lines_are = ap (λ (k : Console). drop k.source.taken k.source.lines) e.console ∙ ap (drop l.self.console.source.taken) i.same_lines in
+    let lines_are = ap (λ (k : Console). drop k.source.taken k.source.lines) e.console
+    ∙ ap (drop l.self.console.source.taken) i.same_lines in
     let text_is = ap (λ (k : Console). k.screen) e.console in
     let turns = turns_named _ _ _ _ _ _ _ (sym e.player) (sym e.rules) e.turns.1.1 in
     let none : c.new-chooser.result.answers ≡ [] = search rules in
     let came = i.came o.0 o.1 in
-    let x = gone c.run_laws.ensures _ _ _ _ program by o.0 _ _ _ _ _ lines_are _ _ text_is came turns in
-    (x.state, x.stands, gone_opens c.run_laws.ensures _ _ _ _ program by o.0 _ _ _ _ _ lines_are _ _ text_is came turns c.new-chooser.result.answers none o.2)
+    let x = gone c.run_laws.ensures _ _ _ _ program by o.0 _ _ _ _ _ lines_are _ _ text_is came turns in (
+      x.state,
+      x.stands,
+      gone_opens c.run_laws.ensures _ _ _ _ program by o.0 _ _ _ _ _ lines_are _ _ text_is came turns
+          c.new-chooser.result.answers none o.2,
+    )
 
 pub commands-preserved : goal.commands-preserved
 commands-preserved c =
@@ -46,7 +51,8 @@ commands-preserved c =
     let e = c.advance.ensures in
     let program = e.player ∙ i.player in
     let by = e.rules ∙ i.rules in
-    let lines_are = ap (λ (k : Console). drop k.source.taken k.source.lines) e.console ∙ ap (drop l.self.console.source.taken) i.same_lines in
+    let lines_are = ap (λ (k : Console). drop k.source.taken k.source.lines) e.console
+    ∙ ap (drop l.self.console.source.taken) i.same_lines in
     let same_lines = ap (λ (k : Console). k.source.lines) e.console ∙ i.same_lines in
     let text_is = ap (λ (k : Console). k.screen) e.console in
     let turns = turns_named _ _ _ _ _ _ _ (sym e.player) (sym e.rules) e.turns.1.1 in
@@ -63,7 +69,9 @@ commands-preserved c =
       came = λ S h.
           let came = i.came S h in
           let x = gone c.run_laws.ensures _ _ _ _ program by S _ _ _ _ _ lines_are _ _ text_is came turns in
-          gone_on c.run_laws.ensures _ _ _ _ program by S _ _ _ _ _ lines_are _ _ text_is came turns c.new-chooser.result.answers _ _ _ _ none (ap (drop c.play_plan.new.console.source.taken) same_lines) (plays x.state x.stands);
+          gone_on c.run_laws.ensures _ _ _ _ program by S _ _ _ _ _ lines_are _ _ text_is came turns
+          c.new-chooser.result.answers _ _ _ _ none (ap (drop c.play_plan.new.console.source.taken) same_lines)
+          (plays x.state x.stands);
     }
 
 pub returns-in-Over-clause-goes : goal.returns-in-Over-clause-goes
@@ -73,14 +81,16 @@ returns-in-Over-clause-goes c = λ S h.
     let e = c.advance.ensures in
     let program = e.player ∙ i.player in
     let by = e.rules ∙ i.rules in
-    let lines_are = ap (λ (k : Console). drop k.source.taken k.source.lines) e.console ∙ ap (drop l.self.console.source.taken) i.same_lines in
+    let lines_are = ap (λ (k : Console). drop k.source.taken k.source.lines) e.console
+    ∙ ap (drop l.self.console.source.taken) i.same_lines in
     let text_is = ap (λ (k : Console). k.screen) e.console in
     let turns = turns_named _ _ _ _ _ _ _ (sym e.player) (sym e.rules) e.turns.1.1 in
     let none : c.new-chooser.result.answers ≡ [] = search rules in
     let plays = rw c.in-Over.is at c.in_ok-played.ensures.plays in
     let came = i.came S h in
     let x = gone c.run_laws.ensures _ _ _ _ program by S _ _ _ _ _ lines_are _ _ text_is came turns in
-    gone_over c.run_laws.ensures _ _ _ _ program by S _ _ _ _ _ lines_are _ _ text_is came turns c.new-chooser.result.answers _ _ _ none (plays x.state x.stands)
+    gone_over c.run_laws.ensures _ _ _ _ program by S _ _ _ _ _ lines_are _ _ text_is came turns
+    c.new-chooser.result.answers _ _ _ none (plays x.state x.stands)
 
 pub returns-in-Asks-clause-goes : goal.returns-in-Asks-clause-goes
 returns-in-Asks-clause-goes c = λ S h.
@@ -90,9 +100,11 @@ returns-in-Asks-clause-goes c = λ S h.
     let noted = c.in_ok-advance.ensures in
     let program = e.player ∙ i.player in
     let by = e.rules ∙ i.rules in
-    let lines_are = ap (λ (k : Console). drop k.source.taken k.source.lines) e.console ∙ ap (drop l.self.console.source.taken) i.same_lines in
+    let lines_are = ap (λ (k : Console). drop k.source.taken k.source.lines) e.console
+    ∙ ap (drop l.self.console.source.taken) i.same_lines in
     let text_is = ap (λ (k : Console). k.screen) e.console in
     let turns = turns_named _ _ _ _ _ _ _ (sym e.player) (sym e.rules) e.turns.1.1 in
     let rest = lines_are ∙ ap (λ n. drop n c.args.self.now.console.source.lines) (sym noted.taken) in
     let end = subst (λ (s : List ℕ). SameEnd s c.advance.new.self.before.shown.items) (sym text_is) noted.shown in
-    gone_waits c.run_laws.ensures _ _ _ _ program by S _ _ _ _ _ lines_are _ _ text_is (i.came S h) turns _ _ _ noted.machine rest end
+    gone_waits c.run_laws.ensures _ _ _ _ program by S _ _ _ _ _ lines_are _ _ text_is
+    (i.came S h) turns _ _ _ noted.machine rest end

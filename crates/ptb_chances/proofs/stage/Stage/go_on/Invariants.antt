@@ -13,8 +13,11 @@ invariant-commands l = record {
   within : l.self.console.source.taken ≤ length l.fn.self.console.source.lines;
   unspent : l.self.trial.spent ≡ false;
   steps : l.fn.self.rules.limit - l.self.trial.steps ≤ l.fn.self.rules.limit - l.fn.self.trial.steps;
-  came : (S : State) → StandsAt l.fn.self.player l.fn.self.rules l.fn.self.trial (drop l.fn.self.console.source.taken l.fn.self.console.source.lines) l.fn.self.console.screen S
-      → Came l.fn.self.player l.fn.self.rules S [] l.self.trial (drop l.self.console.source.taken l.fn.self.console.source.lines) l.self.console.screen;
+  came : (S : State)
+      → StandsAt l.fn.self.player l.fn.self.rules l.fn.self.trial
+      (drop l.fn.self.console.source.taken l.fn.self.console.source.lines) l.fn.self.console.screen S
+      → Came l.fn.self.player l.fn.self.rules S [] l.self.trial
+      (drop l.self.console.source.taken l.fn.self.console.source.lines) l.self.console.screen;
 }
 
 -- each step is below the rules

@@ -10,8 +10,12 @@ go_on-requires-clause-opens c =
     let plays = (rw c.in-Goes.is at c.in_ok-played.ensures.plays).1 in
     let lines_are = ap (drop c.start.new.self.console.source.taken) e.same_lines in
     let came = plays o.0 o.1 in
-    let x = named _ _ _ _ e.player e.rules o.0 c.args.plan.now.answers.items _ _ _ lines_are _ came in
-    (x.state, x.stands, plan_opens _ _ _ _ e.player e.rules o.0 c.args.plan.now.answers.items _ _ _ lines_are _ came o.2)
+    let x = named _ _ _ _ e.player e.rules o.0 c.args.plan.now.answers.items _ _ _ lines_are _ came in (
+      x.state,
+      x.stands,
+      plan_opens _ _ _ _ e.player e.rules o.0 c.args.plan.now.answers.items _ _ _ lines_are _ came
+          o.2,
+    )
 
 pub returns-in-Some-clause-plays : goal.returns-in-Some-clause-plays
 returns-in-Some-clause-plays c = (
@@ -23,7 +27,8 @@ returns-in-Some-clause-plays c = (
       let came = plays S h in
       let x = named _ _ _ _ e.player e.rules S c.args.plan.now.answers.items _ _ _ lines_are _ came in
       let goes = rw c.in-Some.is at c.in_ok-over.ensures.goes in
-      plan_over _ _ _ _ e.player e.rules S c.args.plan.now.answers.items _ _ _ lines_are _ came _ _ (goes x.state x.stands),
+      plan_over _ _ _ _ e.player e.rules S c.args.plan.now.answers.items _ _ _ lines_are _ came _ _
+      (goes x.state x.stands),
 )
 
 pub returns-in-None-clause-plays : goal.returns-in-None-clause-plays
@@ -36,7 +41,8 @@ returns-in-None-clause-plays c = (
       let came = plays S h in
       let x = named _ _ _ _ e.player e.rules S c.args.plan.now.answers.items _ _ _ lines_are _ came in
       let goes = rw c.in-None.is at c.in_ok-over.ensures.goes in
-      plan_waits _ _ _ _ e.player e.rules S c.args.plan.now.answers.items _ _ _ lines_are _ came _ _ _ _ (ap (drop c.go_on.new.self.before.taken) e.same_lines) (goes x.state x.stands),
+      plan_waits _ _ _ _ e.player e.rules S c.args.plan.now.answers.items _ _ _ lines_are _ came _ _ _ _
+      (ap (drop c.go_on.new.self.before.taken) e.same_lines) (goes x.state x.stands),
 )
 
 pub returns-in-Over-clause-plays : goal.returns-in-Over-clause-plays

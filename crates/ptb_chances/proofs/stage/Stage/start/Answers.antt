@@ -11,11 +11,13 @@ returns-clause-plays c = (
       let taken : c.go.new.self.taken ≡ c.args.place.now.taken = search rules in
       let lines : c.go.new.self.lines ≡ c.args.self.now.console.source.lines = search rules in
       let shown : c.args.place.now.shown.items ≡ c.from_vec.result = search rules in
-      let left : drop c.args.place.now.taken c.args.self.now.console.source.lines ≡ drop c.go.new.self.taken c.go.new.self.lines = rw (taken, lines) refl in
+      let left : drop c.args.place.now.taken c.args.self.now.console.source.lines
+      ≡ drop c.go.new.self.taken c.go.new.self.lines = rw (taken, lines) refl in
       let plan : c.new-chooser.result.answers ≡ c.args.plan.now.answers.items = search rules in
       let plays = c.in_ok-played.ensures.plays S (stands_by _ _ S _ _ _ _ _ _ machine left shown h) in
       rw (← plan, ← lines) plays,
 )
 
 pub returns-clause-within : goal.returns-clause-within
-returns-clause-within c = let lines : c.go.new.self.lines ≡ c.args.self.now.console.source.lines = search rules in rw (← lines) c.in_ok-played.ensures.within
+returns-clause-within c = let lines : c.go.new.self.lines ≡ c.args.self.now.console.source.lines = search rules in
+    rw (← lines) c.in_ok-played.ensures.within

@@ -10,5 +10,7 @@ returns-clause-added c =
     let bound : FitsSigned w16 c.args.bound = search rules in
     let answer : FitsSigned w16 c.args.answer = search rules in
     let same = rw (to_z-of_z bound, to_z-of_z answer) at (c.in_ok-answered.ensures self.place) in
-    subst (λ (w : Standing). Takes (map (planned self.place) c.push.new.self.items ++ states_left self) w (standings self)) same
-    (takes_last (planned self.place) self.plans.items c.push.new.self.items c.in_ok-answered.answered (states_left self) c.in_ok-push.ensures.items)
+    subst (λ (w : Standing). Takes (map (planned self.place) c.push.new.self.items ++ states_left self) w
+    (standings self)) same
+    (takes_last (planned self.place) self.plans.items c.push.new.self.items c.in_ok-answered.answered
+    (states_left self) c.in_ok-push.ensures.items)

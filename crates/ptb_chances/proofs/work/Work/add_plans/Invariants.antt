@@ -9,7 +9,8 @@ invariant-loop-answer l = record {
   place : l.self.place ≡ l.fn.self.place;
   low : pos 0 ≤ℤ l.answer;
   high : l.answer ≤ℤ l.bound;
-  puts : PutsAnswers (planned l.fn.self.place l.fn.plan) l.bound (unsigned_abs l.answer) (standings l.fn.self) (standings l.self);
+  puts : PutsAnswers (planned l.fn.self.place l.fn.plan) l.bound (unsigned_abs l.answer) (standings l.fn.self)
+      (standings l.self);
 }
 
 abbrev pub decreases-loop-answer : goal.decreases-loop-answer

@@ -16,6 +16,7 @@ returns-in_err-show g c = record {
 
 pub returns : goal.returns
 returns g c = record {
-  comes = λ given cells. second_comes c.args.name.now (58 ∷ []) nothing_refused _ (c.in_ok-show.ensures.comes given cells) c.show-2.result (c.show-2.ensures.comes given cells);
+  comes = λ given cells. second_comes c.args.name.now (58 ∷ []) nothing_refused _
+      (c.in_ok-show.ensures.comes given cells) c.show-2.result (c.show-2.ensures.comes given cells);
   same = devices_then c.show.ensures.same c.show-2.ensures.same;
 }

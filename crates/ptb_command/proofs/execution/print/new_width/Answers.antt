@@ -19,8 +19,10 @@ pub returns : goal.returns
 returns g c = record {
   comes = λ d fresh due x rest w operands at.
       let same : to_z w16 (of_z w16 c.in_ok-value.value) ≡ c.in_ok-value.value = search rules in
-      let n = with_due due (trace (with_choices (g.C.Chooser.choices c.short_value.new.chooser) d) fresh c.args.store.now) in
-      width_comes _ _ n rest w operands n x c.args.mark c.in_ok-value.value _ same (c.in_ok-value.ensures.comes x d fresh due at)
+      let n = with_due due
+      (trace (with_choices (g.C.Chooser.choices c.short_value.new.chooser) d) fresh c.args.store.now) in
+      width_comes _ _ n rest w operands n x c.args.mark c.in_ok-value.value _ same
+      (c.in_ok-value.ensures.comes x d fresh due at)
       c.width_of.result (rw c.from.ensures at (c.width_of.ensures n));
   valued = λ x at none k. c.in_ok-value.ensures.valued x at none refl;
 }

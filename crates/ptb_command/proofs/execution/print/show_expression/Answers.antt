@@ -14,7 +14,8 @@ returns-in_err-value g c = record {
   comes = λ given x rest operands at.
       comes_err _ _ _ _ _ _ _ c.from_residual.ensures.1
       (show_value_stops rest c.args.output.now.width operands _ _ _ x _
-      (c.in_err-value.ensures.comes x (io_devices g.C.Chooser.choices g.S.Screen g.L.LineSource.most c.args.io.now given) c.args.io.now.fresh c.args.output.now.pending at));
+      (c.in_err-value.ensures.comes x (io_devices g.C.Chooser.choices g.S.Screen g.L.LineSource.most c.args.io.now
+      given) c.args.io.now.fresh c.args.output.now.pending at));
   valued = λ x at none. ok_never _ _ _ c.from_residual.ensures.1;
   same = record { chooser = refl; screen = refl; source = refl; rules = refl };
 }
@@ -24,7 +25,8 @@ returns g c = record {
   comes = λ given x rest operands at.
       let same : to_z w16 (of_z w16 c.in_ok-value.value) ≡ c.in_ok-value.value = search rules in
       show_comes _ _ _ rest c.args.output.now.width operands (Show x) _ x c.in_ok-value.value _ refl same
-      (c.in_ok-value.ensures.comes x (io_devices g.C.Chooser.choices g.S.Screen g.L.LineSource.most c.args.io.now given) c.args.io.now.fresh c.args.output.now.pending at)
+      (c.in_ok-value.ensures.comes x (io_devices g.C.Chooser.choices g.S.Screen g.L.LineSource.most c.args.io.now given)
+      c.args.io.now.fresh c.args.output.now.pending at)
       c.show_value.result (c.show_value.ensures.comes given c.args.store.now);
   valued = λ x at none k. c.in_ok-value.ensures.valued x at none refl;
   same = devices_then (record { chooser = refl; screen = refl; source = refl; rules = refl }) c.show_value.ensures.same;

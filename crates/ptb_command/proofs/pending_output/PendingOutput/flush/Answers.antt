@@ -5,4 +5,5 @@ use Rattle.ptb_command.proofs.pending_output.PendingOutput.flush.Goals as goal
 
 pub returns-clause-comes : goal.returns-clause-comes
 returns-clause-comes g c d cells =
-    flush_comes _ _ _ c.args.self.now _ c.show-result.result (shown_as _ _ _ _ _ c.as_slice.ensures (c.show-result.ensures d cells))
+    flush_comes _ _ _ c.args.self.now _ c.show-result.result
+    (shown_as _ _ _ _ _ c.as_slice.ensures (c.show-result.ensures d cells))

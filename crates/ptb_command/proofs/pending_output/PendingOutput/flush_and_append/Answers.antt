@@ -11,7 +11,8 @@ returns-in_err-flush g c d cells =
 
 pub returns-then-try_append : goal.returns-then-try_append
 returns-then-try_append g c d cells =
-    flushed_gathered _ _ _ _ _ _ c.flush.ensures.empty _ (c.if-try_append.ensures.taken refl) (c.in_ok-flush.ensures.comes d cells)
+    flushed_gathered _ _ _ _ _ _ c.flush.ensures.empty _ (c.if-try_append.ensures.taken refl)
+    (c.in_ok-flush.ensures.comes d cells)
 
 pub returns : goal.returns
 returns g c d cells =

@@ -8,6 +8,8 @@ pub returns : goal.returns
 returns c =
     let mine : c.as_slice-opens.result.now ≡ c.self.inside.opens.items = c.as_slice-opens.ensures.value in
     let theirs : c.as_slice-others.result.now ≡ c.other.inside.opens.items = c.as_slice-others.ensures.value in (
-      λ same. sym c.self.view_is ∙ ap (λ (l : List Open). reverse l) (sym mine ∙ c.same_opens.ensures.0 same ∙ theirs) ∙ c.other.view_is,
-      λ same. c.same_opens.ensures.1 (mine ∙ same_reverse _ _ (c.self.view_is ∙ same ∙ sym c.other.view_is) ∙ sym theirs),
+      λ same. sym c.self.view_is ∙ ap (λ (l : List Open). reverse l) (sym mine ∙ c.same_opens.ensures.0 same ∙ theirs)
+          ∙ c.other.view_is,
+      λ same. c.same_opens.ensures.1 (mine ∙ same_reverse _ _ (c.self.view_is ∙ same ∙ sym c.other.view_is)
+          ∙ sym theirs),
     )

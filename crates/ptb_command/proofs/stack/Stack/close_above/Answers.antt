@@ -12,9 +12,11 @@ returns c =
       c.in-Some.field-0-1,
       (
         reverse below,
-        sym (ap (loop_of c.args.letter) (ap (λ (xs : List Open). reverse xs) c.as_slice.ensures.value ∙ c.self.view_is)) ∙ c.in-Some.ensures.found,
+        sym (ap (loop_of c.args.letter) (ap (λ (xs : List Open). reverse xs) c.as_slice.ensures.value ∙ c.self.view_is))
+            ∙ c.in-Some.ensures.found,
         ap (λ (xs : List Open). reverse xs)
-            (c.truncate.ensures.items ∙ ap (λ (xs : List Open). take (c.in-Some.below + 1) xs) (sym c.as_slice.ensures.value) ∙ c.in-Some.ensures.there)
+            (c.truncate.ensures.items ∙ ap (λ (xs : List Open). take (c.in-Some.below + 1) xs)
+            (sym c.as_slice.ensures.value) ∙ c.in-Some.ensures.there)
             ∙ reverse_push below (opens.Loop c.in-Some.field-0-1),
       ),
     )

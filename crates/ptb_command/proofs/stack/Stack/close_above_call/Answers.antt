@@ -12,6 +12,8 @@ returns c =
     let below = take c.in-Some.below c.as_slice.result.now in
     call_brought c.args.self.now _ (reverse below) c.in-Some.field-0-1
     (ap (λ (xs : List Open). reverse xs)
-    (c.truncate.ensures.items ∙ ap (λ (xs : List Open). take (c.in-Some.below + 1) xs) (sym c.as_slice.ensures.value) ∙ c.in-Some.ensures.there)
+    (c.truncate.ensures.items ∙ ap (λ (xs : List Open). take (c.in-Some.below + 1) xs) (sym c.as_slice.ensures.value)
+    ∙ c.in-Some.ensures.there)
     ∙ reverse_push below (opens.Call c.in-Some.field-0-1))
-    (sym (ap call_of (ap (λ (xs : List Open). reverse xs) c.as_slice.ensures.value ∙ c.self.view_is)) ∙ c.in-Some.ensures.found)
+    (sym (ap call_of (ap (λ (xs : List Open). reverse xs) c.as_slice.ensures.value ∙ c.self.view_is))
+    ∙ c.in-Some.ensures.found)

@@ -9,7 +9,8 @@ pub returns-in_default : goal.returns-in_default
 returns-in_default c =
     let s = c.levels.self-inside.opens.items in
     let k = c.levels.k in
-    let whole = ap (λ (xs : List Open). reverse xs) (sym (take-append-drop k s)) ∙ reverse-append (take k s) (drop k s) in
+    let whole = ap (λ (xs : List Open). reverse xs) (sym (take-append-drop k s))
+    ∙ reverse-append (take k s) (drop k s) in
     grind (arith, common_steps)
 
 pub levels-init : goal.levels-init

@@ -7,7 +7,8 @@ pub loop-i-init : goal.loop-i-init
 loop-i-init c = CutsUpTo_none _ _
 
 pub loop-i-preserved : goal.loop-i-preserved
-loop-i-preserved c = rw c.take.ensures (CutsUpTo_more _ _ _ _ c.loop-i-test.true c.if-byte-eq10.false c.loop-i.invariant)
+loop-i-preserved c =
+    rw c.take.ensures (CutsUpTo_more _ _ _ _ c.loop-i-test.true c.if-byte-eq10.false c.loop-i.invariant)
 
 pub returns-then-byte-eq10-clause-whole : goal.returns-then-byte-eq10-clause-whole
 returns-then-byte-eq10-clause-whole c = CutsUpTo_end _ _ _ _ c.loop-i-test.true c.if-byte-eq10.true c.loop-i.invariant

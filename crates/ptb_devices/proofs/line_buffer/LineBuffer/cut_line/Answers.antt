@@ -1,5 +1,6 @@
 -- This file answers what is left to prove of `LineBuffer::cut_line`.
-use Rattle.std.proofs.Common.{◌≡◌, ◌≤◌, ◌+◌, ◌-◌, ◌∷◌, [], None, true, length, take, drop, slice_range, sym, ap, subst, ◌∙◌, arith, length-take, length-drop}
+use Rattle.std.proofs.Common.{◌≡◌, ◌≤◌, ◌+◌, ◌-◌, ◌∷◌, [], None, true, length, take, drop}
+use Rattle.std.proofs.Common.{slice_range, sym, ap, subst, ◌∙◌, arith, length-take, length-drop}
 use Rattle.ptb_devices.specs.CutLines.{kept_bytes, Cuts}
 use Rattle.ptb_devices.specs.Inputs.{InputState}
 use Rattle.ptb_devices.proofs.ContinuedReads.{slice_range-front}
@@ -13,14 +14,26 @@ returns-in-Some c =
     let count = c.in-Some.count in
     let waiting = slice_range items from to in
     let bytes : c.between.result.now ≡ waiting = c.between.ensures in
-    let long : length waiting ≡ to - from = omega (arith, length-take (to - from) (drop from items), length-drop from items, c.self.invariant.in_buffer, c.self.invariant.ordered) in
+    let long : length waiting ≡ to - from = omega (
+      arith,
+      length-take (to - from) (drop from items),
+      length-drop from items,
+      c.self.invariant.in_buffer,
+      c.self.invariant.ordered,
+    ) in
     let size : count ≤ to - from = omega (arith, c.in-Some.ensures.size.1, ap length bytes, long) in
     let same : c.self.inside.cutter ≡ c.args.self.now.piece = ap (λ s. s.piece) c.self.view_is in
     record {
       front = take count waiting;
-      whole = sym (ap (λ s. s.waiting) c.self.view_is) ∙ slice_range-front items from to count (omega (arith, size, c.self.invariant.ordered));
+      whole = sym (ap (λ s. s.waiting) c.self.view_is) ∙ slice_range-front items from to count
+          (omega (arith, size, c.self.invariant.ordered));
       some = omega (arith, length-take count waiting, long, size, c.in-Some.ensures.size.0);
       cut = subst (λ p. Cuts p (take count waiting) (kept_bytes c.take_line.new.self ∷ []) None) same
-          (subst (λ l. Cuts c.self.inside.cutter (take count l) (kept_bytes c.take_line.new.self ∷ []) None) bytes c.in-Some.ensures.whole);
-      rest = ap (λ (s : InputState). record s { piece = c.take_line.new.self; is_given = true; waiting = slice_range items (from + count) to }) c.self.view_is;
+          (subst (λ l. Cuts c.self.inside.cutter (take count l) (kept_bytes c.take_line.new.self ∷ []) None) bytes
+          c.in-Some.ensures.whole);
+      rest = ap (λ (s : InputState). record s {
+        piece = c.take_line.new.self;
+        is_given = true;
+        waiting = slice_range items (from + count) to;
+      }) c.self.view_is;
     }

@@ -6,4 +6,5 @@ use Rattle.ptb_devices.proofs.lines.Line.clean.Goals as goal
 
 pub loop-byte-preserved : goal.loop-byte-preserved
 loop-byte-preserved c =
-    ap kept_bytes c.take.ensures ∙ ap (λ k. with_byte k (get_or c.args.bytes.now c.loop-byte.byte-index 0)) c.loop-byte.invariant ∙ sym (clean_line-take _ _ c.loop-byte-test.true)
+    ap kept_bytes c.take.ensures ∙ ap (λ k. with_byte k (get_or c.args.bytes.now c.loop-byte.byte-index 0))
+    c.loop-byte.invariant ∙ sym (clean_line-take _ _ c.loop-byte-test.true)

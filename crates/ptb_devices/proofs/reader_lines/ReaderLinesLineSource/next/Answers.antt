@@ -3,7 +3,9 @@ use Rattle.std.proofs.Common.{◌∙◌, refl, ap}
 use Rattle.ptb_devices.specs.Inputs.{InputState, fault_at}
 use Rattle.ptb_devices.specs.Readers.{input_of, line_input}
 use Rattle.std.proofs.lemmas.Result.{err_from_is_err_and}
-use Rattle.ptb_devices.proofs.GivenLines.{cut_asked, last_asked, line_given, all_cut, read_on, last_given, none_given, none_more, none_left_before, fault_reads, drained, true_or_false}
+use Rattle.ptb_devices.proofs.GivenLines.{cut_asked, last_asked, line_given, all_cut, read_on}
+use Rattle.ptb_devices.proofs.GivenLines.{last_given, none_given, none_more, none_left_before}
+use Rattle.ptb_devices.proofs.GivenLines.{fault_reads, drained, true_or_false}
 use Rattle.ptb_devices.proofs.ContinuedReads.{ReadsOn_forget}
 use Rattle.ptb_devices.proofs.reader_lines.ReaderLinesLineSource.next.Goals as goal
 
@@ -12,7 +14,8 @@ loop-self-init g c = record {
   unfinished = ap (λ s. s.is_given) c.forget_given.ensures;
   same_fault = ap (λ (s : InputState). fault_at s.end) c.forget_given.ensures;
   same_borrow = refl;
-  reads = rw c.forget_given.ensures (ReadsOn_forget 1 (input_of g.R.Read.remaining g.R.Read.given g.R.Read.failures c.args.self.now));
+  reads = rw c.forget_given.ensures
+      (ReadsOn_forget 1 (input_of g.R.Read.remaining g.R.Read.given g.R.Read.failures c.args.self.now));
 }
 
 pub returns-in_err-fill : goal.returns-in_err-fill
@@ -51,11 +54,13 @@ returns-then-give_last g c =
           record {
             same_borrow = c.loop-self.invariant.same_borrow;
             reads = rw c.kept.ensures.value
-                (last_given _ _ (read_on _ _ cut _ on) given none ended _ c.give_last.result c.give_last.ensures.given c.if-give_last.true (c.give_last.ensures.begun.0 c.if-give_last.true));
+                (last_given _ _ (read_on _ _ cut _ on) given none ended _ c.give_last.result c.give_last.ensures.given
+                c.if-give_last.true (c.give_last.ensures.begun.0 c.if-give_last.true));
           },
           tt,
           tt,
-          last_asked _ _ (read_on _ _ cut _ on) given none ended _ c.give_last.result c.give_last.ensures.given c.if-give_last.true _,
+          last_asked _ _ (read_on _ _ cut _ on) given none ended _ c.give_last.result c.give_last.ensures.given
+              c.if-give_last.true _,
           tt,
         ),
       ),
@@ -69,9 +74,11 @@ returns-then-not-branch g c =
     let given = c.in_ok-fill.ensures.same_piece.1 ∙ ap (λ s. s.is_given) c.loop-self-test.ensures.rest in
     let ended = c.in_ok-fill.ensures.end c.if-not-branch.true in
     let none = drained _ _ on (ap (λ s. s.waiting) c.loop-self-test.ensures.rest) ended in
-    let last = none_given _ _ (read_on _ _ cut _ on) given none ended _ c.give_last.result c.give_last.ensures.given c.if-give_last.false
+    let last = none_given _ _ (read_on _ _ cut _ on) given none ended _ c.give_last.result c.give_last.ensures.given
+    c.if-give_last.false
     (λ h. true_or_false c.if-give_last.false (c.give_last.ensures.begun.1 h)) in
-    let more = none_more _ _ (read_on _ _ cut _ on) given none ended _ c.give_last.result c.give_last.ensures.given c.if-give_last.false
+    let more = none_more _ _ (read_on _ _ cut _ on) given none ended _ c.give_last.result c.give_last.ensures.given
+    c.if-give_last.false
     (λ h. true_or_false c.if-give_last.false (c.give_last.ensures.begun.1 h)) in (
       (
         refl,
@@ -86,14 +93,16 @@ loop-self-preserved g c =
     let cut = all_cut _ _ c.loop-self.invariant.reads _ c.loop-self.invariant.unfinished c.loop-self-test.ensures in
     record {
       unfinished = c.in_ok-fill.ensures.same_piece.1 ∙ ap (λ s. s.is_given) c.loop-self-test.ensures.rest;
-      same_fault = c.in_ok-fill.ensures.same_fault ∙ ap (λ (s : InputState). fault_at s.end) c.loop-self-test.ensures.rest ∙ c.loop-self.invariant.same_fault;
+      same_fault = c.in_ok-fill.ensures.same_fault
+          ∙ ap (λ (s : InputState). fault_at s.end) c.loop-self-test.ensures.rest ∙ c.loop-self.invariant.same_fault;
       same_borrow = c.loop-self.invariant.same_borrow;
       reads = read_on _ _ cut _ c.in_ok-fill.ensures.on;
     }
 
 pub returns : goal.returns
 returns g c =
-    let given = line_given _ _ c.loop-self.invariant.reads _ c.loop-self.invariant.unfinished c.loop-self-test.ensures in (
+    let given = line_given _ _ c.loop-self.invariant.reads _ c.loop-self.invariant.unfinished
+    c.loop-self-test.ensures in (
       (
         refl,
         λ _. tt,

@@ -10,7 +10,8 @@ invariant-loop-self g l = record {
   unfinished : (line_input l.self).is_given ≡ false;
   same_fault : fault_at (line_input l.self).end ≡ fault_at (line_input l.fn.self).end;
   same_borrow : (line_reader l.self).ghost_name ≡ (line_reader l.fn.self).ghost_name;
-  reads : ReadsOn 1 (input_of g.R.Read.remaining g.R.Read.given g.R.Read.failures l.fn.self) [] (input_of g.R.Read.remaining g.R.Read.given g.R.Read.failures l.self);
+  reads : ReadsOn 1 (input_of g.R.Read.remaining g.R.Read.given g.R.Read.failures l.fn.self) []
+      (input_of g.R.Read.remaining g.R.Read.given g.R.Read.failures l.self);
 }
 
 abbrev pub decreases-loop-self : goal.decreases-loop-self

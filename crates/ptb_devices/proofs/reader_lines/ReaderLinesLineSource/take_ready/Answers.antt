@@ -6,11 +6,19 @@ use Rattle.ptb_devices.proofs.GivenLines.{taken_ready}
 use Rattle.ptb_devices.proofs.reader_lines.ReaderLinesLineSource.take_ready.Goals as goal
 
 pub returns-then-not-is_open : goal.returns-then-not-is_open
-returns-then-not-is_open g c =
-    ((refl, λ _. tt, (record { same_borrow = refl; reads = ReadsOn_none _ _ }, omega arith)), record { after = tt; short = tt })
+returns-then-not-is_open g c = (
+  (refl, λ _. tt, (record { same_borrow = refl; reads = ReadsOn_none _ _ }, omega arith)),
+  record { after = tt; short = tt },
+)
 
 pub returns : goal.returns
 returns g c =
-    let taken = taken_ready (input_of g.R.Read.remaining g.R.Read.given g.R.Read.failures c.args.self.now) _ c.take_whole.follows.lender-at-none c.take_whole.result
-    (c.is_open.ensures c.if-not-is_open.false) c.forget_given.ensures c.take_whole.follows.holds-at-none in
-    ((refl, λ _. tt, (record { same_borrow = refl; reads = taken.0 }, taken.1)), record { after = tt; short = c.take_whole.ensures.short })
+    let taken = taken_ready (input_of g.R.Read.remaining g.R.Read.given g.R.Read.failures c.args.self.now) _
+    c.take_whole.follows.lender-at-none c.take_whole.result
+    (c.is_open.ensures c.if-not-is_open.false) c.forget_given.ensures c.take_whole.follows.holds-at-none in (
+      (refl, λ _. tt, (record { same_borrow = refl; reads = taken.0 }, taken.1)),
+      record {
+        after = tt;
+        short = c.take_whole.ensures.short;
+      },
+    )

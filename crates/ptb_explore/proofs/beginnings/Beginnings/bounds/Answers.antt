@@ -5,4 +5,5 @@ use Rattle.ptb_explore.proofs.beginnings.Beginnings.bounds.Goals as goal
 
 pub returns : goal.returns
 returns c = λ u at.
-    c.deref.ensures.value ∙ bounds_of_search c.run_laws.ensures c.args.self.now _ c.self.view_is c.self.inside.position c.self.inside.runner.report.answers.items u c.self.inside.runner.report.bounds.items c.self.invariant.0 refl at
+    c.deref.ensures.value ∙ bounds_of_search c.run_laws.ensures c.args.self.now _ c.self.view_is c.self.inside.position
+    c.self.inside.runner.report.answers.items u c.self.inside.runner.report.bounds.items c.self.invariant.0 refl at

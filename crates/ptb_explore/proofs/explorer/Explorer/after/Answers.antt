@@ -1,4 +1,5 @@
--- This file answers that answers without bounds are a run as their list is, and that the runs of the program have their laws.
+-- This file answers that answers without bounds are a run as their list is, and that the runs of the program have
+-- their laws.
 use Rattle.std.proofs.Common.{◌∙◌, ap}
 use Rattle.ptb_answers.specs.AnswerText.{answers_of}
 use Rattle.ptb_machine.specs.Play.{play}
@@ -13,7 +14,8 @@ returns-clause-after c =
 
 pub returns-clause-run : goal.returns-clause-run
 returns-clause-run c =
-    unmarked_run_ok (play c.args.program.now c.args.lines.now c.args.rules) c.args.answers.now _ (c.deref.ensures.value ∙ c.in_ok-list.ensures) c.after_marked.result c.after_marked.ensures.run
+    unmarked_run_ok (play c.args.program.now c.args.lines.now c.args.rules) c.args.answers.now _
+    (c.deref.ensures.value ∙ c.in_ok-list.ensures) c.after_marked.result c.after_marked.ensures.run
 
 pub returns-clause-kept : goal.returns-clause-kept
 returns-clause-kept c =
@@ -27,7 +29,8 @@ returns-clause-played c =
 
 pub returns-clause-not_a_run : goal.returns-clause-not_a_run
 returns-clause-not_a_run c = λ m fault run.
-    c.after_marked.ensures.not_a_run m fault (unmarked_run (play c.args.program.now c.args.lines.now c.args.rules) c.args.answers.now _ (c.deref.ensures.value ∙ c.in_ok-list.ensures) run)
+    c.after_marked.ensures.not_a_run m fault (unmarked_run (play c.args.program.now c.args.lines.now c.args.rules)
+    c.args.answers.now _ (c.deref.ensures.value ∙ c.in_ok-list.ensures) run)
 
 pub returns-clause-mismatch : goal.returns-clause-mismatch
 returns-clause-mismatch c =

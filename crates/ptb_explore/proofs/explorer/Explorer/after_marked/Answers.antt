@@ -19,7 +19,8 @@ returns-clause-kept c = c.go_to.ensures.kept
 pub returns-clause-played : goal.returns-clause-played
 returns-clause-played c =
     let added = rw c.in_ok-start.ensures.start at c.go_to.ensures.played in
-    IfOk-weaker c.go_to.result _ _ (λ e h. added_alone (play c.args.program.now c.args.lines.now c.args.rules) (answers_of c.args.list.now) 0 e.played refl h) added
+    IfOk-weaker c.go_to.result _ _ (λ e h. added_alone (play c.args.program.now c.args.lines.now c.args.rules)
+    (answers_of c.args.list.now) 0 e.played refl h) added
 
 pub returns-clause-not_a_run : goal.returns-clause-not_a_run
 returns-clause-not_a_run c = λ m fault run.

@@ -1,4 +1,5 @@
--- This file answers that an explorer is at the run of a list, if its bounds are as they are stated and it begins as each run does.
+-- This file answers that an explorer is at the run of a list, if its bounds are as they are stated and it begins as
+-- each run does.
 use Rattle.std.proofs.Common.{◌≡◌, ◌∙◌, [], ap, sym, subst, refl, true}
 use Rattle.ptb_answers.specs.AnswerText.{answers_of}
 use Rattle.ptb_machine.specs.Questions.{most_answers}
@@ -17,8 +18,10 @@ pub invariant_of-self : goal.invariant_of-self
 invariant_of-self c =
     let e = c.self.inside in
     let ran = c.in_ok-check_run.ensures in
-    let begins = ap (λ l. begins_with (answers_of c.args.list.now) (answers_of l)) (sym c.deref.ensures.value) ∙ sym c.items_begin_with.ensures ∙ c.if-not-items_begin_with.false in
-    at_run e.runner c.check_run.new.self c.check_run.ensures.same c.args.list.now e.under.items ran.run ran.answers ran.bounds begins ran.copies
+    let begins = ap (λ l. begins_with (answers_of c.args.list.now) (answers_of l)) (sym c.deref.ensures.value)
+    ∙ sym c.items_begin_with.ensures ∙ c.if-not-items_begin_with.false in
+    at_run e.runner c.check_run.new.self c.check_run.ensures.same c.args.list.now e.under.items ran.run ran.answers
+    ran.bounds begins ran.copies
 
 pub returns : goal.returns
 returns c =
@@ -27,15 +30,25 @@ returns c =
     let new = c.check_run.new.self in
     let under = answers_of e.under.items in
     let kept = kept_runs new.report.answers.items new.copies.kept.items in
-    let is : Exploration = exploration new.player new.lines.now new.rules under (At new.report.answers.items) kept new.played in
+    let is : Exploration = exploration new.player new.lines.now new.rules under
+    (At new.report.answers.items) kept new.played in
     let begins = sym c.items_begin_with.ensures ∙ c.if-not-items_begin_with.false in
     record {
-      there = subst (λ (x : Exploration). is ≡ record x { front = At (answers_of c.args.list.now); kept = kept; played = new.played }) c.self.view_is
-          (gone_view e.runner new c.check_run.ensures.same under (front_at e.position e.runner.report.answers.items) c.args.list.now ran.answers kept (kept_runs e.runner.report.answers.items e.runner.copies.kept.items) new.played e.runner.played);
+      there = subst (λ (x : Exploration). is ≡ record x {
+        front = At (answers_of c.args.list.now);
+        kept = kept;
+        played = new.played;
+      }) c.self.view_is
+          (gone_view e.runner new c.check_run.ensures.same under
+          (front_at e.position e.runner.report.answers.items) c.args.list.now ran.answers kept
+          (kept_runs e.runner.report.answers.items e.runner.copies.kept.items) new.played e.runner.played);
       run = subst (λ (x : Exploration). IsMarkedRun (play_of x) c.args.list.now) c.self.view_is ran.run;
-      begins = subst (λ (x : Exploration). begins_with (answers_of c.args.list.now) x.under ≡ true) c.self.view_is (rw c.deref.ensures.value at begins);
-      kept = gone_kept e.runner.player e.runner.lines.now e.runner.rules (answers_of c.args.list.now) _ _ _ ran.answers ran.copies;
-      played = subst (λ (x : Exploration). IsAdded (play_of x) (answers_of c.args.list.now) x.played c.check_run.new.self.played) c.self.view_is ran.played;
+      begins = subst (λ (x : Exploration). begins_with (answers_of c.args.list.now) x.under ≡ true) c.self.view_is
+          (rw c.deref.ensures.value at begins);
+      kept = gone_kept e.runner.player e.runner.lines.now e.runner.rules (answers_of c.args.list.now) _ _ _ ran.answers
+          ran.copies;
+      played = subst (λ (x : Exploration). IsAdded (play_of x) (answers_of c.args.list.now) x.played
+          c.check_run.new.self.played) c.self.view_is ran.played;
       not_a_run = λ _ fault _ _. ok_no_err fault;
       mismatch = λ _ _ _ fault. ok_no_err fault;
       kind = λ _ fault. ok_no_err fault;
@@ -46,7 +59,8 @@ pub returns-in_err-check_run-clause-not_a_run : goal.returns-in_err-check_run-cl
 returns-in_err-check_run-clause-not_a_run c = λ m fault run _.
     let r = c.self.inside.runner in
     subst (λ (x : Exploration). IsMarkedRun (play_of x) c.args.list.now → ⊥) c.self.view_is
-    (λ is. run_closes (game_of r) (most_answers r.player r.lines.now r.rules.limit) (c.run_laws.ensures.reads r.player r.lines.now r.rules) [] c.args.list.now m
+    (λ is. run_closes (game_of r) (most_answers r.player r.lines.now r.rules.limit)
+    (c.run_laws.ensures.reads r.player r.lines.now r.rules) [] c.args.list.now m
     (c.in_err-check_run.ensures.mismatch m (passed_on _ _ _ c.from_residual.ensures.1 fault)) is refl) run
 
 pub returns-in_err-check_run-clause-mismatch : goal.returns-in_err-check_run-clause-mismatch
@@ -54,11 +68,15 @@ returns-in_err-check_run-clause-mismatch c = λ under is m fault.
     let e = c.self.inside in
     let r = e.runner in
     let begins : begins_with (answers_of c.args.list.now) (answers_of e.under.items) ≡ true =
-    ap (λ l. begins_with (answers_of c.args.list.now) (answers_of l)) (sym c.deref.ensures.value) ∙ sym c.items_begin_with.ensures ∙ c.if-not-items_begin_with.false in
-    subst (λ (x : Exploration). answers_of under ≡ x.under → IsRunMismatch (play_of x) under c.args.list.now m) c.self.view_is
-    (λ same. alone_is_under (game_of r) (most_answers r.player r.lines.now r.rules.limit) (c.run_laws.ensures.reads r.player r.lines.now r.rules) under c.args.list.now m
+    ap (λ l. begins_with (answers_of c.args.list.now) (answers_of l)) (sym c.deref.ensures.value)
+    ∙ sym c.items_begin_with.ensures ∙ c.if-not-items_begin_with.false in
+    subst (λ (x : Exploration). answers_of under ≡ x.under
+    → IsRunMismatch (play_of x) under c.args.list.now m) c.self.view_is
+    (λ same. alone_is_under (game_of r) (most_answers r.player r.lines.now r.rules.limit)
+    (c.run_laws.ensures.reads r.player r.lines.now r.rules) under c.args.list.now m
     (ap (begins_with (answers_of c.args.list.now)) same ∙ begins)
     (c.in_err-check_run.ensures.mismatch m (passed_on _ _ _ c.from_residual.ensures.1 fault))) is
 
 pub returns-in_err-check_run-clause-kind : goal.returns-in_err-check_run-clause-kind
-returns-in_err-check_run-clause-kind c = λ m fault. c.in_err-check_run.ensures.kind m (passed_on _ _ _ c.from_residual.ensures.1 fault)
+returns-in_err-check_run-clause-kind c =
+    λ m fault. c.in_err-check_run.ensures.kind m (passed_on _ _ _ c.from_residual.ensures.1 fault)

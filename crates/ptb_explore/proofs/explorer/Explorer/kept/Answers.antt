@@ -9,12 +9,14 @@ use Rattle.ptb_explore.proofs.explorer.Explorer.kept.Goals as goal
 pub returns-clause-front : goal.returns-clause-front
 returns-clause-front c =
     let e = c.self.inside in
-    subst (λ (x : Exploration). AreKeptAt x.front x.kept) c.self.view_is (kept_at e.runner.player e.runner.lines.now e.runner.rules e.position e.runner.report e.runner.copies.kept.items c.self.invariant.1)
+    subst (λ (x : Exploration). AreKeptAt x.front x.kept) c.self.view_is (kept_at e.runner.player e.runner.lines.now
+    e.runner.rules e.position e.runner.report e.runner.copies.kept.items c.self.invariant.1)
 
 pub returns-clause-places : goal.returns-clause-places
 returns-clause-places c =
     let e = c.self.inside in
-    subst (λ (x : Exploration). ArePlaces x.program x.input x.rules x.kept) c.self.view_is (places_at e.runner.player e.runner.lines.now e.runner.rules e.position e.runner.report e.runner.copies.kept.items c.self.invariant.1)
+    subst (λ (x : Exploration). ArePlaces x.program x.input x.rules x.kept) c.self.view_is (places_at e.runner.player
+    e.runner.lines.now e.runner.rules e.position e.runner.report e.runner.copies.kept.items c.self.invariant.1)
 
 pub returns-clause-number : goal.returns-clause-number
 returns-clause-number c = grind (arith, common_steps)

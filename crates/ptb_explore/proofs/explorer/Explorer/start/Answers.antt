@@ -13,7 +13,8 @@ invariant_of-result c =
 pub returns-clause-start : goal.returns-clause-start
 returns-clause-start c =
     let none : c.new-2.result.items ≡ [] = search rules in
-    opened_first c.args.program.now c.args.lines.now c.args.rules c.in_ok-new.field-0 c.in_ok-new.ensures.program c.in_ok-new.ensures.lines c.in_ok-new.ensures.rules c.in_ok-new.ensures.none c.in_ok-new.ensures.played _ none _
+    opened_first c.args.program.now c.args.lines.now c.args.rules c.in_ok-new.field-0 c.in_ok-new.ensures.program
+    c.in_ok-new.ensures.lines c.in_ok-new.ensures.rules c.in_ok-new.ensures.none c.in_ok-new.ensures.played _ none _
 
 pub returns-clause-laws : goal.returns-clause-laws
 returns-clause-laws c = program_laws c.run_laws.ensures c.args.program.now c.args.lines.now c.args.rules

@@ -47,12 +47,16 @@ returns-in_err-check_beginning c =
       under = IfOk-from_err _ _ c.from_residual-in_err-check_beginning.ensures.0;
       beginning = IfOk-from_err _ _ c.from_residual-in_err-check_beginning.ensures.0;
       played = IfOk-from_err _ _ c.from_residual-in_err-check_beginning.ensures.0;
-      no_beginning = λ m fault. mismatch_closes (play p input rules) (most_answers p input rules.limit) (c.run_laws.ensures.reads p input rules) c.args.list.now m
+      no_beginning = λ m fault. mismatch_closes (play p input rules) (most_answers p input rules.limit)
+          (c.run_laws.ensures.reads p input rules) c.args.list.now m
           (subst (λ (g : Answers → Outcome Finish _). IsItemMismatch g c.args.list.now m) game
-          (c.in_err-check_beginning.ensures.mismatch m (passed_on _ _ _ c.from_residual-in_err-check_beginning.ensures.1 fault)));
+          (c.in_err-check_beginning.ensures.mismatch m
+          (passed_on _ _ _ c.from_residual-in_err-check_beginning.ensures.1 fault)));
       mismatch = λ m fault. subst (λ (g : Answers → Outcome Finish _). IsItemMismatch g c.args.list.now m) game
-          (c.in_err-check_beginning.ensures.mismatch m (passed_on _ _ _ c.from_residual-in_err-check_beginning.ensures.1 fault));
-      kind = λ m fault. c.in_err-check_beginning.ensures.kind m (passed_on _ _ _ c.from_residual-in_err-check_beginning.ensures.1 fault);
+          (c.in_err-check_beginning.ensures.mismatch m
+          (passed_on _ _ _ c.from_residual-in_err-check_beginning.ensures.1 fault));
+      kind = λ m fault. c.in_err-check_beginning.ensures.kind m
+          (passed_on _ _ _ c.from_residual-in_err-check_beginning.ensures.1 fault);
       laws = program_laws c.run_laws.ensures p input rules;
     }
 
@@ -60,8 +64,11 @@ pub check_beginning-requires : goal.check_beginning-requires
 check_beginning-requires c = record { none = c.in_ok-runner.ensures.none }
 
 pub invariant_of-result : goal.invariant_of-result
-invariant_of-result c =
-    (begun_first c.in_ok-runner.runner c.check_beginning.new.self c.check_beginning.ensures.same c.args.list.now _ c.in_ok-under.ensures c.in_ok-check_beginning.ensures.beginning.0, c.in_ok-check_beginning.ensures.none)
+invariant_of-result c = (
+  begun_first c.in_ok-runner.runner c.check_beginning.new.self c.check_beginning.ensures.same c.args.list.now _
+      c.in_ok-under.ensures c.in_ok-check_beginning.ensures.beginning.0,
+  c.in_ok-check_beginning.ensures.none,
+)
 
 pub returns : goal.returns
 returns c =
@@ -75,9 +82,12 @@ returns c =
     let by = ap (λ (r : Runner). r.rules) same ∙ made.rules in
     let game = opened_game p input rules c.in_ok-runner.runner made.program made.lines made.rules in
     record {
-      under = opened_view p input rules c.check_beginning.new.self program lines by c.args.list.now _ c.in_ok-under.ensures c.in_ok-check_beginning.ensures.none _ _ refl;
-      beginning = subst (λ (g : Answers → Outcome Finish _). IsMarkedBeginning g c.args.list.now) game c.in_ok-check_beginning.ensures.beginning;
-      played = opened_played _ _ game (answers_of c.args.list.now) _ _ made.played c.in_ok-check_beginning.ensures.played;
+      under = opened_view p input rules c.check_beginning.new.self program lines by c.args.list.now _
+          c.in_ok-under.ensures c.in_ok-check_beginning.ensures.none _ _ refl;
+      beginning = subst (λ (g : Answers → Outcome Finish _). IsMarkedBeginning g c.args.list.now) game
+          c.in_ok-check_beginning.ensures.beginning;
+      played = opened_played _ _ game (answers_of c.args.list.now) _ _ made.played
+          c.in_ok-check_beginning.ensures.played;
       no_beginning = λ _ fault _. ok_no_err fault;
       mismatch = λ _ fault. ok_no_err fault;
       kind = λ _ fault. ok_no_err fault;

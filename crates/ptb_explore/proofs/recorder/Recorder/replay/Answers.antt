@@ -1,5 +1,6 @@
 -- This file answers that the plan so far is that of a list's front.
-use Rattle.std.proofs.Common.{rules, ◌∙◌, ap, sym, ℤ, List, [], ◌∷◌, ◌++◌, take, take_all, pos, get_or, FitsSigned, w16, to_z-of_z}
+use Rattle.std.proofs.Common.{rules, ◌∙◌, ap, sym, ℤ, List, [], ◌∷◌, ◌++◌, take, take_all, pos}
+use Rattle.std.proofs.Common.{get_or, FitsSigned, w16, to_z-of_z}
 use Rattle.std.proofs.lemmas.List.{map-append, take_more}
 use Rattle.ptb_answers.specs.declared.form.Marked.{Marked}
 use Rattle.ptb_answers.specs.AnswerText.{answers_of, without_bound}
@@ -16,10 +17,12 @@ loop-item-preserved c =
       answers = c.in_ok-push.ensures.items
           ∙ ap (λ (n : ℤ). l.self.answers.items ++ n ∷ []) (to_z-of_z fits)
           ∙ ap (λ (a : List ℤ). a ++ item.answer ∷ []) l.invariant.answers
-          ∙ sym (ap answers_of (take_more list k (without_bound (pos 0)) c.loop-item-test.true) ∙ map-append (λ (m : Marked). m.answer) (take k list) (item ∷ []));
+          ∙ sym (ap answers_of (take_more list k (without_bound (pos 0)) c.loop-item-test.true)
+          ∙ map-append (λ (m : Marked). m.answer) (take k list) (item ∷ []));
       planned = c.len-self.ensures;
       bounds = l.invariant.bounds;
     }
 
 pub returns-clause-answers : goal.returns-clause-answers
-returns-clause-answers c = c.loop-item.invariant.answers ∙ ap answers_of (take_all c.loop-item.item-index c.args.list.now c.loop-item-test.false)
+returns-clause-answers c = c.loop-item.invariant.answers
+    ∙ ap answers_of (take_all c.loop-item.item-index c.args.list.now c.loop-item-test.false)

@@ -1,4 +1,5 @@
--- This file answers that a run begins with a list exactly where all of its answers are taken, and its bounds are as they are stated.
+-- This file answers that a run begins with a list exactly where all of its answers are taken, and its bounds are as
+-- they are stated.
 use Rattle.std.proofs.Common.{◌≡◌, ◌≤◌, ◌<◌, ◌∙◌, [], length, ap, sym, subst, arith}
 use Rattle.ptb_answers.specs.Outcome.{Answers}
 use Rattle.ptb_machine.specs.Play.{Finish}
@@ -34,8 +35,10 @@ returns-in-None-clause-beginning c =
     let new = c.play_from_start.new.self.trial in
     let are = c.in_ok-replay.ensures.answers in
     let is = if_none_at c.in-None.is c.item_mismatch.ensures.taken in
-    let all : length plan ≤ length new.bounds.items = omega (arith, is.taken, ap length are, answers_length c.args.list.now) in
-    let begun = begun_opens game new _ c.play_from_start.new.self.report.transcript.items most reads plan c.in_ok-ending.ensures.plan all _ c.in_ok-ending.ensures.ends in (
+    let all : length plan ≤ length new.bounds.items =
+    omega (arith, is.taken, ap length are, answers_length c.args.list.now) in
+    let begun = begun_opens game new _ c.play_from_start.new.self.report.transcript.items most reads plan
+    c.in_ok-ending.ensures.plan all _ c.in_ok-ending.ensures.ends in (
       list_opens old.player old.lines.now old.rules c.args.list.now plan are begun.0,
       begun_stated old.player old.lines.now old.rules c.args.list.now plan are new.bounds.items begun.1 is.states,
     )
@@ -53,13 +56,18 @@ returns-in-None-clause-played c = λ a first f over.
     let ends = c.in_ok-ending.ensures.ends in
     let are = c.in_ok-replay.ensures.answers in
     let is = if_none_at c.in-None.is c.item_mismatch.ensures.taken in
-    let all : length plan ≤ length new.bounds.items = omega (arith, is.taken, ap length are, answers_length c.args.list.now) in
+    let all : length plan ≤ length new.bounds.items =
+    omega (arith, is.taken, ap length are, answers_length c.args.list.now) in
     let begun = begun_opens game new _ shown most reads plan planned all _ ends in
     let end = open_ends game new _ shown most reads plan planned begun.0 _ ends in
-    let next = plan_ends game most reads plan Start plan new.answers.items new.bounds.items _ (start_plan game most reads plan begun.0) end in
-    let same : a ≡ new.answers.items = next_same game most reads plan Start a new.answers.items (subst (λ (b : Answers). IsNextRun game b Start a) (sym are) first) next in
-    let finish : _ ≡ f = result_is _ f [] [] (sym end.outcome ∙ ap game (sym same) ∙ over) in
-    (c.in_ok-ending.ensures.played ∙ ap (λ (x : Finish). more_played old.played x.steps) finish, subst (λ (x : Finish). x.steps < play_limit) finish c.in_ok-ending.ensures.few)
+    let next = plan_ends game most reads plan Start plan new.answers.items new.bounds.items _
+    (start_plan game most reads plan begun.0) end in
+    let same : a ≡ new.answers.items = next_same game most reads plan Start a new.answers.items
+    (subst (λ (b : Answers). IsNextRun game b Start a) (sym are) first) next in
+    let finish : _ ≡ f = result_is _ f [] [] (sym end.outcome ∙ ap game (sym same) ∙ over) in (
+      c.in_ok-ending.ensures.played ∙ ap (λ (x : Finish). more_played old.played x.steps) finish,
+      subst (λ (x : Finish). x.steps < play_limit) finish c.in_ok-ending.ensures.few,
+    )
 
 pub returns-in-Some-clause-mismatch : goal.returns-in-Some-clause-mismatch
 returns-in-Some-clause-mismatch c = λ m fault.
@@ -67,4 +75,6 @@ returns-in-Some-clause-mismatch c = λ m fault.
     let game = game_of old in
     let reads = c.run_laws.ensures.reads old.player old.lines.now old.rules in
     same_misfit (IsItemMismatch game c.args.list.now) _ m fault
-    (if_some_at _ c.in-Some.is (c.item_mismatch.ensures.mismatch game (most_answers old.player old.lines.now old.rules.limit) _ c.play_from_start.new.self.report.transcript.items reads c.in_ok-ending.ensures.ends))
+    (if_some_at _ c.in-Some.is
+    (c.item_mismatch.ensures.mismatch game (most_answers old.player old.lines.now old.rules.limit) _
+    c.play_from_start.new.self.report.transcript.items reads c.in_ok-ending.ensures.ends))

@@ -40,18 +40,23 @@ returns c =
     let count : length plan ≡ length c.args.list.now = ap length are ∙ answers_length c.args.list.now in
     let taken : length new.bounds.items ≡ length plan = is.taken ∙ sym count in
     let alone : length new.answers.items ≡ length plan = is.alone ∙ sym count in
-    let whole = whole_plan game new _ shown most reads plan c.in_ok-ending.ensures.plan taken alone _ c.in_ok-ending.ensures.ends in
+    let whole = whole_plan game new _ shown most reads plan c.in_ok-ending.ensures.plan taken alone _
+    c.in_ok-ending.ensures.ends in
     let their = whole.2 ∙ ap (bounds game) are in
     record {
       same = changed c.play_from_start.new.self old _ _ _ c.play_from_start.ensures.same;
       run = (subst (IsRun game) are whole.0, ap (states_bounds c.args.list.now) (sym their) ∙ is.states);
       answers = c.hand_over.ensures.answers ∙ whole.1 ∙ are;
       bounds = c.hand_over.ensures.bounds ∙ their;
-      copies = kept_same old.player old.player old.lines.now old.lines.now old.rules (choices_of new).taken (answers_of c.args.list.now) shown _ _ _
-          refl refl (sym (all_given game new (whole.2 ∙ sym (ap (bounds game) whole.1)) ∙ whole.1 ∙ are)) refl refl c.in_ok-ending.ensures.copies;
+      copies = kept_same old.player old.player old.lines.now old.lines.now old.rules (choices_of new).taken
+          (answers_of c.args.list.now) shown _ _ _
+          refl refl (sym (all_given game new (whole.2 ∙ sym (ap (bounds game) whole.1)) ∙ whole.1 ∙ are)) refl refl
+          c.in_ok-ending.ensures.copies;
       played = λ f over.
-          let same : _ ≡ f = result_is _ f [] [] (sym whole.3 ∙ ap game are ∙ over) in
-          (c.in_ok-ending.ensures.played ∙ ap (λ (x : Finish). more_played old.played x.steps) same, subst (λ (x : Finish). x.steps < play_limit) same c.in_ok-ending.ensures.few);
+          let same : _ ≡ f = result_is _ f [] [] (sym whole.3 ∙ ap game are ∙ over) in (
+            c.in_ok-ending.ensures.played ∙ ap (λ (x : Finish). more_played old.played x.steps) same,
+            subst (λ (x : Finish). x.steps < play_limit) same c.in_ok-ending.ensures.few,
+          );
       mismatch = λ _ fault. ok_no_err fault;
       kind = λ _ fault. ok_no_err fault;
       memory = ok_no_err;
@@ -63,4 +68,6 @@ returns-in-Some-clause-mismatch c = λ m fault.
     let game = game_of old in
     let reads = c.run_laws.ensures.reads old.player old.lines.now old.rules in
     same_reason (IsRunMismatch game [] c.args.list.now) _ m fault
-    (if_some_at _ c.in-Some.is (c.run_mismatch.ensures.mismatch game (most_answers old.player old.lines.now old.rules.limit) _ c.play_from_start.new.self.report.transcript.items reads c.in_ok-ending.ensures.ends))
+    (if_some_at _ c.in-Some.is
+    (c.run_mismatch.ensures.mismatch game (most_answers old.player old.lines.now old.rules.limit) _
+    c.play_from_start.new.self.report.transcript.items reads c.in_ok-ending.ensures.ends))

@@ -30,7 +30,8 @@ returns-in_err-go_back c = record {
 pub returns-in_err-skip-in-Some : goal.returns-in_err-skip-in-Some
 returns-in_err-skip-in-Some c = record {
   same = refl;
-  plan = same_plan c.args.self.now.trial c.skip.new.self c.requires.fresh c.in_err-skip-in-Some.ensures.answers c.in_err-skip-in-Some.ensures.planned;
+  plan = same_plan c.args.self.now.trial c.skip.new.self c.requires.fresh c.in_err-skip-in-Some.ensures.answers
+      c.in_err-skip-in-Some.ensures.planned;
   same_lines = refl;
   within = IfOk-from_err _ _ c.from_residual-in_err-skip-in-Some.ensures.0;
   unspent = IfOk-from_err _ _ c.from_residual-in_err-skip-in-Some.ensures.0;
@@ -42,75 +43,127 @@ returns-in_err-skip-in-Some c = record {
 
 pub returns-in-None : goal.returns-in-None
 returns-in-None c =
-    let left = no_copies _ _ _ _ c.in-None.is c.in_ok-go_back.ensures c.begin.new.self.kept.items (ap (λ k. k.items) c.begin.ensures.kept) in record {
+    let left = no_copies _ _ _ _ c.in-None.is c.in_ok-go_back.ensures c.begin.new.self.kept.items
+    (ap (λ k. k.items) c.begin.ensures.kept) in
+    record {
       same = refl;
       plan = fresh_plan c.args.self.now.trial c.requires.fresh;
       same_lines = refl;
       within = on_ok_always c.begin.result (none_taken c.args.source.now c.requires.begins);
       unspent = c.begin.ensures.unspent;
-      run_prefix = begun_prefix c.begin.result (λ b. b.value) c.args.self.now.player c.args.source.now c.args.self.now.rules c.args.self.now.trial c.requires.fresh c.requires.begins _ c.cut.ensures c.begin.ensures.first;
-      copies = on_ok_always c.begin.result (kept_none c.args.self.now.player c.args.source.now.lines c.args.self.now.rules _ _ _ left.0);
+      run_prefix = begun_prefix c.begin.result (λ b. b.value) c.args.self.now.player c.args.source.now
+          c.args.self.now.rules c.args.self.now.trial c.requires.fresh c.requires.begins _ c.cut.ensures
+          c.begin.ensures.first;
+      copies = on_ok_always c.begin.result
+          (kept_none c.args.self.now.player c.args.source.now.lines c.args.self.now.rules _ _ _ left.0);
       back = on_ok_always c.begin.result left.1;
       steps = begun_steps c.begin.result (λ b. b.value) c.args.self.now.player _ left.0 c.begin.ensures.first;
     }
 
 pub slice_bounds-skip-end : goal.slice_bounds-skip-end
 slice_bounds-skip-end c =
-    let on = goes_on c.args.self.now.player c.args.source.now.lines c.args.self.now.rules c.args.common c.args.self.now.report.answers.items c.args.screen.now c.args.self.now.copies.kept.items c.go_back.new.self.kept.items c.in-Some.copy c.requires.copies
-    (subst (GoesBackTo c.args.common c.args.self.now.copies.kept.items c.go_back.new.self.kept.items) c.in-Some.is c.in_ok-go_back.ensures) in
-    rw c.deref.ensures.value (sym (length-take-le c.in-Some.copy.taken c.args.self.now.report.bounds.items (on_len c.args.self.now.player c.args.source.now.lines c.args.self.now.rules c.args.common c.args.self.now.trial.answers.items c.args.self.now.report.answers.items c.args.self.now.report.bounds.items c.args.screen.now c.go_back.new.self.kept.items c.in-Some.copy c.requires.agrees on)))
+    let on = goes_on c.args.self.now.player c.args.source.now.lines c.args.self.now.rules c.args.common
+    c.args.self.now.report.answers.items c.args.screen.now c.args.self.now.copies.kept.items
+    c.go_back.new.self.kept.items c.in-Some.copy c.requires.copies
+    (subst (GoesBackTo c.args.common c.args.self.now.copies.kept.items c.go_back.new.self.kept.items) c.in-Some.is
+    c.in_ok-go_back.ensures) in
+    rw c.deref.ensures.value
+    (sym (length-take-le c.in-Some.copy.taken c.args.self.now.report.bounds.items (on_len c.args.self.now.player
+    c.args.source.now.lines c.args.self.now.rules c.args.common c.args.self.now.trial.answers.items
+    c.args.self.now.report.answers.items c.args.self.now.report.bounds.items c.args.screen.now
+    c.go_back.new.self.kept.items c.in-Some.copy c.requires.agrees on)))
 
 pub cut-requires-in-Some : goal.cut-requires-in-Some
 cut-requires-in-Some c =
-    let on = goes_on c.args.self.now.player c.args.source.now.lines c.args.self.now.rules c.args.common c.args.self.now.report.answers.items c.args.screen.now c.args.self.now.copies.kept.items c.go_back.new.self.kept.items c.in-Some.copy c.requires.copies
-    (subst (GoesBackTo c.args.common c.args.self.now.copies.kept.items c.go_back.new.self.kept.items) c.in-Some.is c.in_ok-go_back.ensures) in
+    let on = goes_on c.args.self.now.player c.args.source.now.lines c.args.self.now.rules c.args.common
+    c.args.self.now.report.answers.items c.args.screen.now c.args.self.now.copies.kept.items
+    c.go_back.new.self.kept.items c.in-Some.copy c.requires.copies
+    (subst (GoesBackTo c.args.common c.args.self.now.copies.kept.items c.go_back.new.self.kept.items) c.in-Some.is
+    c.in_ok-go_back.ensures) in
     on.shown
 
 pub go-requires : goal.go-requires
 go-requires c =
-    let on = goes_on c.args.self.now.player c.args.source.now.lines c.args.self.now.rules c.args.common c.args.self.now.report.answers.items c.args.screen.now c.args.self.now.copies.kept.items c.go_back.new.self.kept.items c.in-Some.copy c.requires.copies
-    (subst (GoesBackTo c.args.common c.args.self.now.copies.kept.items c.go_back.new.self.kept.items) c.in-Some.is c.in_ok-go_back.ensures) in
+    let on = goes_on c.args.self.now.player c.args.source.now.lines c.args.self.now.rules c.args.common
+    c.args.self.now.report.answers.items c.args.screen.now c.args.self.now.copies.kept.items
+    c.go_back.new.self.kept.items c.in-Some.copy c.requires.copies
+    (subst (GoesBackTo c.args.common c.args.self.now.copies.kept.items c.go_back.new.self.kept.items) c.in-Some.is
+    c.in_ok-go_back.ensures) in
     on.stands.within
 
 pub returns-in-Some-machine-clause-within : goal.returns-in-Some-machine-clause-within
 returns-in-Some-machine-clause-within c =
-    let on = goes_on c.args.self.now.player c.args.source.now.lines c.args.self.now.rules c.args.common c.args.self.now.report.answers.items c.args.screen.now c.args.self.now.copies.kept.items c.go_back.new.self.kept.items c.in-Some.copy c.requires.copies
-    (subst (GoesBackTo c.args.common c.args.self.now.copies.kept.items c.go_back.new.self.kept.items) c.in-Some.is c.in_ok-go_back.ensures) in
+    let on = goes_on c.args.self.now.player c.args.source.now.lines c.args.self.now.rules c.args.common
+    c.args.self.now.report.answers.items c.args.screen.now c.args.self.now.copies.kept.items
+    c.go_back.new.self.kept.items c.in-Some.copy c.requires.copies
+    (subst (GoesBackTo c.args.common c.args.self.now.copies.kept.items c.go_back.new.self.kept.items) c.in-Some.is
+    c.in_ok-go_back.ensures) in
     rw c.go.ensures on.stands.within
 
 pub returns-in-Some-machine-clause-unspent : goal.returns-in-Some-machine-clause-unspent
 returns-in-Some-machine-clause-unspent c =
-    let on = goes_on c.args.self.now.player c.args.source.now.lines c.args.self.now.rules c.args.common c.args.self.now.report.answers.items c.args.screen.now c.args.self.now.copies.kept.items c.go_back.new.self.kept.items c.in-Some.copy c.requires.copies
-    (subst (GoesBackTo c.args.common c.args.self.now.copies.kept.items c.go_back.new.self.kept.items) c.in-Some.is c.in_ok-go_back.ensures) in
-    let machine_is : machine_of c.in-Some.copy ≡ Some c.in-Some-machine.machine.value = ap (option_map (λ b. b.value)) c.in-Some-machine.is in
-    rw c.in-Some-machine.is (ap (λ (m : Configuration). m.spent) (sym (stands_machine c.args.self.now.player c.args.source.now.lines c.args.self.now.rules c.in-Some.copy _ _ c.in-Some-machine.machine.value on.stands machine_is)) ∙ on.stands.unspent)
+    let on = goes_on c.args.self.now.player c.args.source.now.lines c.args.self.now.rules c.args.common
+    c.args.self.now.report.answers.items c.args.screen.now c.args.self.now.copies.kept.items
+    c.go_back.new.self.kept.items c.in-Some.copy c.requires.copies
+    (subst (GoesBackTo c.args.common c.args.self.now.copies.kept.items c.go_back.new.self.kept.items) c.in-Some.is
+    c.in_ok-go_back.ensures) in
+    let machine_is : machine_of c.in-Some.copy ≡ Some c.in-Some-machine.machine.value =
+    ap (option_map (λ b. b.value)) c.in-Some-machine.is in
+    rw c.in-Some-machine.is (ap (λ (m : Configuration). m.spent)
+    (sym (stands_machine c.args.self.now.player c.args.source.now.lines c.args.self.now.rules c.in-Some.copy _ _
+    c.in-Some-machine.machine.value on.stands machine_is)) ∙ on.stands.unspent)
 
 pub returns-in-Some-machine-clause-run_prefix : goal.returns-in-Some-machine-clause-run_prefix
 returns-in-Some-machine-clause-run_prefix c =
-    let on = goes_on c.args.self.now.player c.args.source.now.lines c.args.self.now.rules c.args.common c.args.self.now.report.answers.items c.args.screen.now c.args.self.now.copies.kept.items c.go_back.new.self.kept.items c.in-Some.copy c.requires.copies
-    (subst (GoesBackTo c.args.common c.args.self.now.copies.kept.items c.go_back.new.self.kept.items) c.in-Some.is c.in_ok-go_back.ensures) in
-    let machine_is : machine_of c.in-Some.copy ≡ Some c.in-Some-machine.machine.value = ap (option_map (λ b. b.value)) c.in-Some-machine.is in
-    let given : c.skip.new.self.bounds.items ≡ take c.in-Some.copy.taken c.args.self.now.report.bounds.items = c.in_ok-skip-in-Some.ensures.bounds ∙ ap (take c.in-Some.copy.taken) c.deref.ensures.value in
-    rw c.in-Some-machine.is (on_prefix c.args.self.now.player c.args.source.now.lines c.args.self.now.rules c.args.common c.args.self.now.trial.answers.items c.args.self.now.report.answers.items c.args.self.now.report.bounds.items c.args.screen.now c.go_back.new.self.kept.items c.in-Some.copy c.requires.agrees on c.skip.new.self.bounds.items c.skip.new.self.answers.items given c.in_ok-skip-in-Some.ensures.answers _ c.cut-in-Some.new.self c.go.new.self c.in-Some-machine.machine.value c.cut-in-Some.ensures c.go.ensures machine_is)
+    let on = goes_on c.args.self.now.player c.args.source.now.lines c.args.self.now.rules c.args.common
+    c.args.self.now.report.answers.items c.args.screen.now c.args.self.now.copies.kept.items
+    c.go_back.new.self.kept.items c.in-Some.copy c.requires.copies
+    (subst (GoesBackTo c.args.common c.args.self.now.copies.kept.items c.go_back.new.self.kept.items) c.in-Some.is
+    c.in_ok-go_back.ensures) in
+    let machine_is : machine_of c.in-Some.copy ≡ Some c.in-Some-machine.machine.value =
+    ap (option_map (λ b. b.value)) c.in-Some-machine.is in
+    let given : c.skip.new.self.bounds.items ≡ take c.in-Some.copy.taken c.args.self.now.report.bounds.items =
+    c.in_ok-skip-in-Some.ensures.bounds ∙ ap (take c.in-Some.copy.taken) c.deref.ensures.value in
+    rw c.in-Some-machine.is (on_prefix c.args.self.now.player c.args.source.now.lines c.args.self.now.rules
+    c.args.common c.args.self.now.trial.answers.items c.args.self.now.report.answers.items
+    c.args.self.now.report.bounds.items c.args.screen.now c.go_back.new.self.kept.items c.in-Some.copy
+    c.requires.agrees on c.skip.new.self.bounds.items c.skip.new.self.answers.items given
+    c.in_ok-skip-in-Some.ensures.answers _ c.cut-in-Some.new.self c.go.new.self c.in-Some-machine.machine.value
+    c.cut-in-Some.ensures c.go.ensures machine_is)
 
 pub returns-in-Some-machine-clause-copies : goal.returns-in-Some-machine-clause-copies
 returns-in-Some-machine-clause-copies c =
-    let on = goes_on c.args.self.now.player c.args.source.now.lines c.args.self.now.rules c.args.common c.args.self.now.report.answers.items c.args.screen.now c.args.self.now.copies.kept.items c.go_back.new.self.kept.items c.in-Some.copy c.requires.copies
-    (subst (GoesBackTo c.args.common c.args.self.now.copies.kept.items c.go_back.new.self.kept.items) c.in-Some.is c.in_ok-go_back.ensures) in
-    let given : c.skip.new.self.bounds.items ≡ take c.in-Some.copy.taken c.args.self.now.report.bounds.items = c.in_ok-skip-in-Some.ensures.bounds ∙ ap (take c.in-Some.copy.taken) c.deref.ensures.value in
-    on_copies c.args.self.now.player c.args.source.now.lines c.args.self.now.rules c.args.common c.args.self.now.trial.answers.items c.args.self.now.report.answers.items c.args.self.now.report.bounds.items c.args.screen.now c.go_back.new.self.kept.items c.in-Some.copy c.requires.agrees on c.skip.new.self.bounds.items c.skip.new.self.answers.items given c.in_ok-skip-in-Some.ensures.answers c.cut-in-Some.new.self c.cut-in-Some.ensures
+    let on = goes_on c.args.self.now.player c.args.source.now.lines c.args.self.now.rules c.args.common
+    c.args.self.now.report.answers.items c.args.screen.now c.args.self.now.copies.kept.items
+    c.go_back.new.self.kept.items c.in-Some.copy c.requires.copies
+    (subst (GoesBackTo c.args.common c.args.self.now.copies.kept.items c.go_back.new.self.kept.items) c.in-Some.is
+    c.in_ok-go_back.ensures) in
+    let given : c.skip.new.self.bounds.items ≡ take c.in-Some.copy.taken c.args.self.now.report.bounds.items =
+    c.in_ok-skip-in-Some.ensures.bounds ∙ ap (take c.in-Some.copy.taken) c.deref.ensures.value in
+    on_copies c.args.self.now.player c.args.source.now.lines c.args.self.now.rules c.args.common
+    c.args.self.now.trial.answers.items c.args.self.now.report.answers.items c.args.self.now.report.bounds.items
+    c.args.screen.now c.go_back.new.self.kept.items c.in-Some.copy c.requires.agrees on c.skip.new.self.bounds.items
+    c.skip.new.self.answers.items given c.in_ok-skip-in-Some.ensures.answers c.cut-in-Some.new.self
+    c.cut-in-Some.ensures
 
 pub returns-in-Some-machine-clause-steps : goal.returns-in-Some-machine-clause-steps
 returns-in-Some-machine-clause-steps c =
-    let on = goes_on c.args.self.now.player c.args.source.now.lines c.args.self.now.rules c.args.common c.args.self.now.report.answers.items c.args.screen.now c.args.self.now.copies.kept.items c.go_back.new.self.kept.items c.in-Some.copy c.requires.copies
-    (subst (GoesBackTo c.args.common c.args.self.now.copies.kept.items c.go_back.new.self.kept.items) c.in-Some.is c.in_ok-go_back.ensures) in
-    let machine_is : machine_of c.in-Some.copy ≡ Some c.in-Some-machine.machine.value = ap (option_map (λ b. b.value)) c.in-Some-machine.is in
+    let on = goes_on c.args.self.now.player c.args.source.now.lines c.args.self.now.rules c.args.common
+    c.args.self.now.report.answers.items c.args.screen.now c.args.self.now.copies.kept.items
+    c.go_back.new.self.kept.items c.in-Some.copy c.requires.copies
+    (subst (GoesBackTo c.args.common c.args.self.now.copies.kept.items c.go_back.new.self.kept.items) c.in-Some.is
+    c.in_ok-go_back.ensures) in
+    let machine_is : machine_of c.in-Some.copy ≡ Some c.in-Some-machine.machine.value =
+    ap (option_map (λ b. b.value)) c.in-Some-machine.is in
     rw c.in-Some-machine.is (sym (on.steps ∙ ap steps_or_none machine_is))
 
 pub unreachable-requires : goal.unreachable-requires
 unreachable-requires c =
-    let on = goes_on c.args.self.now.player c.args.source.now.lines c.args.self.now.rules c.args.common c.args.self.now.report.answers.items c.args.screen.now c.args.self.now.copies.kept.items c.go_back.new.self.kept.items c.in-Some.copy c.requires.copies
-    (subst (GoesBackTo c.args.common c.args.self.now.copies.kept.items c.go_back.new.self.kept.items) c.in-Some.is c.in_ok-go_back.ensures) in
+    let on = goes_on c.args.self.now.player c.args.source.now.lines c.args.self.now.rules c.args.common
+    c.args.self.now.report.answers.items c.args.screen.now c.args.self.now.copies.kept.items
+    c.go_back.new.self.kept.items c.in-Some.copy c.requires.copies
+    (subst (GoesBackTo c.args.common c.args.self.now.copies.kept.items c.go_back.new.self.kept.items) c.in-Some.is
+    c.in_ok-go_back.ensures) in
     let none : machine_of c.in-Some.copy ≡ None = ap (option_map (λ b. b.value)) c.in-None-machine.is in
     let some : machine_of c.in-Some.copy ≡ Some on.stands.machine = on.stands.machine_is in
     absurd cc
@@ -122,7 +175,8 @@ pub returns-in-Some-machine-clause-same : goal.returns-in-Some-machine-clause-sa
 returns-in-Some-machine-clause-same c = refl
 
 pub returns-in-Some-machine-clause-plan : goal.returns-in-Some-machine-clause-plan
-returns-in-Some-machine-clause-plan c = same_plan c.args.self.now.trial c.skip.new.self c.requires.fresh c.in_ok-skip-in-Some.ensures.answers c.in_ok-skip-in-Some.ensures.planned
+returns-in-Some-machine-clause-plan c = same_plan c.args.self.now.trial c.skip.new.self c.requires.fresh
+    c.in_ok-skip-in-Some.ensures.answers c.in_ok-skip-in-Some.ensures.planned
 
 pub returns-in-Some-machine-clause-same_lines : goal.returns-in-Some-machine-clause-same_lines
 returns-in-Some-machine-clause-same_lines c = ap (λ (s : LineList). s.lines) c.go.ensures

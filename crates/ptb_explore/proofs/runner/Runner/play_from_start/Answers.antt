@@ -15,9 +15,12 @@ pub play_on-requires-clause-run_prefix : goal.play_on-requires-clause-run_prefix
 play_on-requires-clause-run_prefix c =
     let trial = c.args.self.now.trial in
     let input = c.args.self.now.lines.now in
-    let taken : (choices_of trial).taken ≡ [] = ap (λ (bs : List ℤ). take (length bs) trial.answers.items) c.requires.fresh.none_given in
+    let taken : (choices_of trial).taken ≡ [] =
+    ap (λ (bs : List ℤ). take (length bs) trial.answers.items) c.requires.fresh.none_given in
     let kept : (choices_of trial).kept ≡ Some [] = ap Some c.requires.fresh.none_given in
-    rw (c.new-source.ensures, c.new-screen.ensures) (run_prefix_at_first c.args.self.now.player input c.args.self.now.rules (choices_of trial) c.in_ok-machine.machine taken kept (c.in_ok-machine.ensures.first input c.args.self.now.rules.choose))
+    rw (c.new-source.ensures, c.new-screen.ensures)
+    (run_prefix_at_first c.args.self.now.player input c.args.self.now.rules (choices_of trial)
+    c.in_ok-machine.machine taken kept (c.in_ok-machine.ensures.first input c.args.self.now.rules.choose))
 
 pub returns-clause-plan : goal.returns-clause-plan
 returns-clause-plan c = c.in_ok-ending.ensures.plan ∙ fresh_plan c.args.self.now.trial c.requires.fresh
@@ -26,15 +29,20 @@ pub returns-clause-ends : goal.returns-clause-ends
 returns-clause-ends c =
     let p = c.args.self.now.player in
     let new = choices_of c.play_on.new.self.trial in
-    let lines : c.new-source.result.lines ≡ c.args.self.now.lines.now = ap (λ (s : LineList). s.lines) c.new-source.ensures in
-    let ends = subst (λ (ls : List (List ℕ)). PlayEnds (play p ls c.args.self.now.rules) new c.play_on.new.self.trial.refused_bound c.play_on.new.machine.steps c.play_on.new.screen c.in_ok-ending.ending) lines c.in_ok-ending.ensures.ends in
+    let lines : c.new-source.result.lines ≡ c.args.self.now.lines.now =
+    ap (λ (s : LineList). s.lines) c.new-source.ensures in
+    let ends = subst (λ (ls : List (List ℕ)). PlayEnds (play p ls c.args.self.now.rules) new
+    c.play_on.new.self.trial.refused_bound c.play_on.new.machine.steps c.play_on.new.screen
+    c.in_ok-ending.ending) lines c.in_ok-ending.ensures.ends in
     rw (c.into_vec.ensures, c.steps-steps.ensures) ends
 
 pub returns-clause-copies : goal.returns-clause-copies
 returns-clause-copies c =
     let new = choices_of c.play_on.new.self.trial in
-    let lines : c.new-source.result.lines ≡ c.args.self.now.lines.now = ap (λ (s : LineList). s.lines) c.new-source.ensures in
-    let copies = subst (λ (ls : List (List ℕ)). AreCopies c.args.self.now.player ls c.args.self.now.rules new.taken c.play_on.new.screen c.play_on.new.self.copies.kept.items) lines c.in_ok-ending.ensures.copies in
+    let lines : c.new-source.result.lines ≡ c.args.self.now.lines.now =
+    ap (λ (s : LineList). s.lines) c.new-source.ensures in
+    let copies = subst (λ (ls : List (List ℕ)). AreCopies c.args.self.now.player ls c.args.self.now.rules new.taken
+    c.play_on.new.screen c.play_on.new.self.copies.kept.items) lines c.in_ok-ending.ensures.copies in
     rw c.into_vec.ensures copies
 
 pub returns-clause-same : goal.returns-clause-same

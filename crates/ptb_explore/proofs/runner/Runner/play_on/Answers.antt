@@ -1,5 +1,6 @@
 -- This file answers that a run is played step by step, how it ends, and that the copies that are kept are of it.
-use Rattle.std.proofs.Common.{◌≡◌, ◌++◌, ◌≤◌, drop, length, length-append, refl, sym, ap, subst, ◌∙◌, arith, true, false, Ok, Err, Some, None}
+use Rattle.std.proofs.Common.{◌≡◌, ◌++◌, ◌≤◌, drop, length, length-append, refl, sym, ap, subst}
+use Rattle.std.proofs.Common.{◌∙◌, arith, true, false, Ok, Err, Some, None}
 use Rattle.std.proofs.lemmas.List.{length-take-le}
 use Rattle.ptb_machine.specs.Play.{play}
 use Rattle.ptb_answers.specs.Outcome.{Answers}
@@ -8,13 +9,15 @@ use Rattle.ptb_explore.specs.Recorders.{RefusedByPlan, choices_of}
 use Rattle.ptb_explore.specs.declared.recorder.Recorder.{Recorder}
 use Rattle.ptb_explore.proofs.Limits.{taken_by}
 use Rattle.ptb_explore.proofs.Keep.{kept_longer, kept_more, kept_same}
-use Rattle.ptb_explore.proofs.RunPrefix.{advanced, step_goes, step_ends, step_extends, prefix_to, taken_within, none_follow, never_unread, never_unwritten}
+use Rattle.ptb_explore.proofs.RunPrefix.{advanced, step_goes, step_ends, step_extends, prefix_to}
+use Rattle.ptb_explore.proofs.RunPrefix.{taken_within, none_follow, never_unread, never_unwritten}
 use Rattle.ptb_explore.proofs.Runners.{stepped}
 use Rattle.ptb_explore.proofs.runner.Runner.play_on.Goals as goal
 
 -- as many answers were taken as there are bounds
 taken_length : (r : Recorder) → length (choices_of r).taken ≡ length r.bounds.items
-taken_length r = length-take-le (length r.bounds.items) r.answers.items (omega (arith, r.bounded, r.answers.ok.0, r.bounds.ok.0))
+taken_length r = length-take-le (length r.bounds.items) r.answers.items
+    (omega (arith, r.bounded, r.answers.ok.0, r.bounds.ok.0))
 
 pub step-requires : goal.step-requires
 step-requires c = record { fits = rw c.advance.ensures.program c.advance.ensures.fits }
@@ -29,29 +32,45 @@ loop-ending-preserved c =
     let old = choices_of l.self.trial in
     let new = choices_of c.step.new.chooser in
     let turns = c.advance.ensures.turns in
-    let u = advanced c.run_laws.ensures l.self.player input c.args.self.now.rules c.advance.new.self turns.0 l.machine c.advance.new.machine (choices_of l.self.trial) l.screen _ c.advance.ensures.program l.invariant.run_prefix turns.1.1 in
-    let x = step_goes c.run_laws.ensures c.advance.new.self input c.args.self.now.rules _ _ _ _ _ _ turn.given _ _ _ _ _ _ is u turn.gives.first (none_follow c.step.new.source) turn.steps in
-    let more = step_extends c.advance.new.self input c.args.self.now.rules _ _ old new _ _ turn.given _ _ _ _ _ u None _ is turn.gives.first (none_follow c.step.new.source) turn.steps in
+    let u = advanced c.run_laws.ensures l.self.player input c.args.self.now.rules c.advance.new.self turns.0 l.machine
+    c.advance.new.machine (choices_of l.self.trial) l.screen _ c.advance.ensures.program l.invariant.run_prefix
+    turns.1.1 in
+    let x = step_goes c.run_laws.ensures c.advance.new.self input c.args.self.now.rules _ _ _ _ _ _ turn.given _ _ _ _ _
+    _ is u turn.gives.first (none_follow c.step.new.source) turn.steps in
+    let more = step_extends c.advance.new.self input c.args.self.now.rules _ _ old new _ _ turn.given _ _ _ _ _ u None _
+    is turn.gives.first (none_follow c.step.new.source) turn.steps in
     let same_lines = turn.gives.same_lines ∙ i.same_lines in
-    let within : c.step.new.source.taken ≤ length input = rw (← i.same_lines) (taken_within l.source c.step.new.source turn.given turn.gives (rw i.same_lines i.within)) in
-    let before : c.len-before.result ≡ length old.taken = c.len-before.ensures ∙ l.self.trial.bounds.ok.0 ∙ sym (taken_length l.self.trial) in
-    let taken : c.len-taken.result ≡ length (old.taken ++ more.answers) = c.len-taken.ensures ∙ c.step.new.chooser.bounds.ok.0 ∙ sym (taken_length c.step.new.chooser) ∙ ap length more.taken in
-    let stands : (k : _) → _ → _ → StandsAt c.advance.new.self input c.args.self.now.rules k (old.taken ++ more.answers) (l.screen ++ more.bytes) = (λ k took copy. record {
+    let within : c.step.new.source.taken ≤ length input = rw (← i.same_lines)
+    (taken_within l.source c.step.new.source turn.given turn.gives (rw i.same_lines i.within)) in
+    let before : c.len-before.result ≡ length old.taken = c.len-before.ensures ∙ l.self.trial.bounds.ok.0
+    ∙ sym (taken_length l.self.trial) in
+    let taken : c.len-taken.result ≡ length (old.taken ++ more.answers) = c.len-taken.ensures
+    ∙ c.step.new.chooser.bounds.ok.0 ∙ sym (taken_length c.step.new.chooser) ∙ ap length more.taken in
+    let stands : (k : _) → _ → _ → StandsAt c.advance.new.self input c.args.self.now.rules k (old.taken ++ more.answers)
+    (l.screen ++ more.bytes) = (λ k took copy. record {
       machine = c.step.new.machine;
       machine_is = copy.machine;
       unspent = c.step.ensures.step.spends.0 is;
       within = omega (arith, within, copy.lines_is, c.taken-lines.ensures);
-      taken_by = subst (λ (T : Answers). AreTakenBy c.advance.new.self input c.args.self.now.rules T c.step.new.machine.steps) more.taken
-          (taken_by c.run_laws.ensures c.advance.new.self input c.args.self.now.rules _ _ old new _ _ _ _ more.answers u x.1 more.taken
+      taken_by = subst (λ (T : Answers). AreTakenBy c.advance.new.self input c.args.self.now.rules T
+          c.step.new.machine.steps) more.taken
+          (taken_by c.run_laws.ensures c.advance.new.self input c.args.self.now.rules _ _ old new _ _ _ _ more.answers u
+          x.1 more.taken
           (omega (arith, took, before, taken, length-append old.taken more.answers)) x.2.1);
-      run_prefix = prefix_to c.advance.new.self input c.args.self.now.rules new (taken_choices (play c.advance.new.self input c.args.self.now.rules) (old.taken ++ more.answers)) _ _ _ _ _ x.1 more.taken refl more.shown
-          (ap (λ n. drop n c.step.new.source.lines) (sym (copy.lines_is ∙ c.taken-lines.ensures)) ∙ ap (drop k.lines) same_lines);
+      run_prefix = prefix_to c.advance.new.self input c.args.self.now.rules new
+          (taken_choices (play c.advance.new.self input c.args.self.now.rules) (old.taken ++ more.answers)) _ _ _ _ _
+          x.1 more.taken refl more.shown
+          (ap (λ n. drop n c.step.new.source.lines) (sym (copy.lines_is ∙ c.taken-lines.ensures))
+          ∙ ap (drop k.lines) same_lines);
     }) in
-    let copies_of = kept_same l.self.player c.advance.new.self input input c.args.self.now.rules old.taken old.taken l.screen l.screen _ _ c.advance.ensures.program refl refl refl refl i.copies in
-    let copies = kept_more c.advance.new.self input c.args.self.now.rules old.taken more.answers l.screen more.bytes _ _ _ _ _ l.self.copies.kept.items c.keep.new.self.kept.items copies_of before taken
+    let copies_of = kept_same l.self.player c.advance.new.self input input c.args.self.now.rules old.taken old.taken
+    l.screen l.screen _ _ c.advance.ensures.program refl refl refl refl i.copies in
+    let copies = kept_more c.advance.new.self input c.args.self.now.rules old.taken more.answers l.screen more.bytes _ _
+    _ _ _ l.self.copies.kept.items c.keep.new.self.kept.items copies_of before taken
     (c.len-shown.ensures ∙ ap length more.shown) stands c.keep.ensures in
     record {
-      same = stepped l.self c.args.self.now c.step.new.self _ c.step.new.chooser _ c.keep.new.self (c.step.ensures.program ∙ c.advance.ensures.program) i.same;
+      same = stepped l.self c.args.self.now c.step.new.self _ c.step.new.chooser _ c.keep.new.self
+          (c.step.ensures.program ∙ c.advance.ensures.program) i.same;
       program = c.step.ensures.program ∙ (c.advance.ensures.program ∙ i.program);
       plan = x.0 ∙ i.plan;
       same_lines = same_lines;
@@ -59,24 +78,33 @@ loop-ending-preserved c =
       unspent = c.step.ensures.step.spends.0 is;
       fits = rw (← c.step.ensures.program) at c.step.ensures.step.fits;
       run_prefix = rw c.step.ensures.program x.1;
-      copies = kept_same c.advance.new.self c.step.new.self input input c.args.self.now.rules (old.taken ++ more.answers) new.taken (l.screen ++ more.bytes) c.step.new.screen _ _ c.step.ensures.program refl more.taken more.shown refl copies;
+      copies = kept_same c.advance.new.self c.step.new.self input input c.args.self.now.rules
+          (old.taken ++ more.answers) new.taken (l.screen ++ more.bytes) c.step.new.screen _ _ c.step.ensures.program
+          refl more.taken more.shown refl copies;
     }
 
 pub returns-in-Ok-Some-clause-same : goal.returns-in-Ok-Some-clause-same
 returns-in-Ok-Some-clause-same c =
-    stepped c.loop-ending.self c.args.self.now c.step.new.self _ c.step.new.chooser _ c.loop-ending.self.copies (c.step.ensures.program ∙ c.advance.ensures.program) c.loop-ending.invariant.same
+    stepped c.loop-ending.self c.args.self.now c.step.new.self _ c.step.new.chooser _ c.loop-ending.self.copies
+    (c.step.ensures.program ∙ c.advance.ensures.program) c.loop-ending.invariant.same
 
 pub returns-in-Err-Memory-clause-same : goal.returns-in-Err-Memory-clause-same
 returns-in-Err-Memory-clause-same c =
-    stepped c.loop-ending.self c.args.self.now c.step.new.self _ c.step.new.chooser _ c.loop-ending.self.copies (c.step.ensures.program ∙ c.advance.ensures.program) c.loop-ending.invariant.same
+    stepped c.loop-ending.self c.args.self.now c.step.new.self _ c.step.new.chooser _ c.loop-ending.self.copies
+    (c.step.ensures.program ∙ c.advance.ensures.program) c.loop-ending.invariant.same
 
 pub returns-in-Ok-Some-clause-plan : goal.returns-in-Ok-Some-clause-plan
 returns-in-Ok-Some-clause-plan c =
     let i = c.loop-ending.invariant in
     let turn = c.step.ensures.step.turn in
     let turns = c.advance.ensures.turns in
-    let u = advanced c.run_laws.ensures c.loop-ending.self.player c.args.source.now.lines c.args.self.now.rules c.advance.new.self turns.0 c.loop-ending.machine c.advance.new.machine (choices_of c.loop-ending.self.trial) c.loop-ending.screen _ c.advance.ensures.program c.loop-ending.invariant.run_prefix turns.1.1 in
-    let x = step_ends c.run_laws.ensures c.advance.new.self c.args.source.now.lines c.args.self.now.rules _ _ _ _ c.step.new.chooser.refused_bound _ _ turn.given _ _ _ _ c.in-Ok-Some.ending _ (c.in-Ok-Some.is ∙ ap Ok (c.in-Ok-Some.field-0-is ∙ ap Some c.in-Ok-Some.ending-is)) u turn.gives.first (none_follow c.step.new.source) turn.steps in
+    let u = advanced c.run_laws.ensures c.loop-ending.self.player c.args.source.now.lines c.args.self.now.rules
+    c.advance.new.self turns.0 c.loop-ending.machine c.advance.new.machine (choices_of c.loop-ending.self.trial)
+    c.loop-ending.screen _ c.advance.ensures.program c.loop-ending.invariant.run_prefix turns.1.1 in
+    let x = step_ends c.run_laws.ensures c.advance.new.self c.args.source.now.lines c.args.self.now.rules
+    _ _ _ _ c.step.new.chooser.refused_bound _ _ turn.given _ _ _ _ c.in-Ok-Some.ending _
+    (c.in-Ok-Some.is ∙ ap Ok (c.in-Ok-Some.field-0-is ∙ ap Some c.in-Ok-Some.ending-is)) u turn.gives.first
+    (none_follow c.step.new.source) turn.steps in
     x.0 ∙ i.plan
 
 pub returns-in-Ok-Some-clause-ends : goal.returns-in-Ok-Some-clause-ends
@@ -84,8 +112,13 @@ returns-in-Ok-Some-clause-ends c =
     let i = c.loop-ending.invariant in
     let turn = c.step.ensures.step.turn in
     let turns = c.advance.ensures.turns in
-    let u = advanced c.run_laws.ensures c.loop-ending.self.player c.args.source.now.lines c.args.self.now.rules c.advance.new.self turns.0 c.loop-ending.machine c.advance.new.machine (choices_of c.loop-ending.self.trial) c.loop-ending.screen _ c.advance.ensures.program c.loop-ending.invariant.run_prefix turns.1.1 in
-    let x = step_ends c.run_laws.ensures c.advance.new.self c.args.source.now.lines c.args.self.now.rules _ _ _ _ c.step.new.chooser.refused_bound _ _ turn.given _ _ _ _ c.in-Ok-Some.ending _ (c.in-Ok-Some.is ∙ ap Ok (c.in-Ok-Some.field-0-is ∙ ap Some c.in-Ok-Some.ending-is)) u turn.gives.first (none_follow c.step.new.source) turn.steps in
+    let u = advanced c.run_laws.ensures c.loop-ending.self.player c.args.source.now.lines c.args.self.now.rules
+    c.advance.new.self turns.0 c.loop-ending.machine c.advance.new.machine (choices_of c.loop-ending.self.trial)
+    c.loop-ending.screen _ c.advance.ensures.program c.loop-ending.invariant.run_prefix turns.1.1 in
+    let x = step_ends c.run_laws.ensures c.advance.new.self c.args.source.now.lines c.args.self.now.rules
+    _ _ _ _ c.step.new.chooser.refused_bound _ _ turn.given _ _ _ _ c.in-Ok-Some.ending _
+    (c.in-Ok-Some.is ∙ ap Ok (c.in-Ok-Some.field-0-is ∙ ap Some c.in-Ok-Some.ending-is)) u turn.gives.first
+    (none_follow c.step.new.source) turn.steps in
     rw (← (c.advance.ensures.program ∙ i.program)) x.1
 
 pub returns-in-Ok-Some-clause-copies : goal.returns-in-Ok-Some-clause-copies
@@ -97,27 +130,43 @@ returns-in-Ok-Some-clause-copies c =
     let old = choices_of l.self.trial in
     let new = choices_of c.step.new.chooser in
     let turns = c.advance.ensures.turns in
-    let u = advanced c.run_laws.ensures l.self.player input c.args.self.now.rules c.advance.new.self turns.0 l.machine c.advance.new.machine (choices_of l.self.trial) l.screen _ c.advance.ensures.program l.invariant.run_prefix turns.1.1 in
-    let more = step_extends c.advance.new.self input c.args.self.now.rules _ _ old new _ _ turn.given _ _ _ _ _ u (Some c.in-Ok-Some.ending) _ (c.in-Ok-Some.is ∙ ap Ok (c.in-Ok-Some.field-0-is ∙ ap Some c.in-Ok-Some.ending-is)) turn.gives.first (none_follow c.step.new.source) turn.steps in
-    let all = kept_longer l.self.player input c.args.self.now.rules old.taken more.answers l.screen more.bytes 0 0 l.self.copies.kept.items i.copies in
-    kept_same l.self.player c.args.self.now.player input input c.args.self.now.rules (old.taken ++ more.answers) new.taken (l.screen ++ more.bytes) c.step.new.screen _ _ (sym i.program) refl more.taken more.shown refl all
+    let u = advanced c.run_laws.ensures l.self.player input c.args.self.now.rules c.advance.new.self turns.0 l.machine
+    c.advance.new.machine (choices_of l.self.trial) l.screen _ c.advance.ensures.program l.invariant.run_prefix
+    turns.1.1 in
+    let more = step_extends c.advance.new.self input c.args.self.now.rules _ _ old new _ _ turn.given _ _ _ _ _ u
+    (Some c.in-Ok-Some.ending) _ (c.in-Ok-Some.is ∙ ap Ok (c.in-Ok-Some.field-0-is
+    ∙ ap Some c.in-Ok-Some.ending-is)) turn.gives.first (none_follow c.step.new.source) turn.steps in
+    let all = kept_longer l.self.player input c.args.self.now.rules old.taken more.answers l.screen more.bytes 0 0
+    l.self.copies.kept.items i.copies in
+    kept_same l.self.player c.args.self.now.player input input c.args.self.now.rules (old.taken ++ more.answers)
+    new.taken (l.screen ++ more.bytes) c.step.new.screen _ _ (sym i.program) refl more.taken more.shown refl all
 
 pub unreachable-requires : goal.unreachable-requires
 unreachable-requires c =
     let turn = c.step.ensures.step.turn in
     let turns = c.advance.ensures.turns in
-    let u = advanced c.run_laws.ensures c.loop-ending.self.player c.args.source.now.lines c.args.self.now.rules c.advance.new.self turns.0 c.loop-ending.machine c.advance.new.machine (choices_of c.loop-ending.self.trial) c.loop-ending.screen _ c.advance.ensures.program c.loop-ending.invariant.run_prefix turns.1.1 in
-    never_unread c.run_laws.ensures c.advance.new.self c.args.source.now.lines c.args.self.now.rules (RefusedByPlan (choices_of c.step.new.chooser) c.step.new.chooser.refused_bound) _ _ _ _ _ _ turn.given _ _ _ _ _ u turn.gives.first (none_follow c.step.new.source) turn.steps (c.in-Err-Read.is ∙ ap Err c.in-Err-Read.field-0-is)
+    let u = advanced c.run_laws.ensures c.loop-ending.self.player c.args.source.now.lines c.args.self.now.rules
+    c.advance.new.self turns.0 c.loop-ending.machine c.advance.new.machine (choices_of c.loop-ending.self.trial)
+    c.loop-ending.screen _ c.advance.ensures.program c.loop-ending.invariant.run_prefix turns.1.1 in
+    never_unread c.run_laws.ensures c.advance.new.self c.args.source.now.lines c.args.self.now.rules (RefusedByPlan
+    (choices_of c.step.new.chooser) c.step.new.chooser.refused_bound) _ _ _ _ _ _ turn.given _ _ _ _ _ u
+    turn.gives.first (none_follow c.step.new.source) turn.steps (c.in-Err-Read.is ∙ ap Err c.in-Err-Read.field-0-is)
 
 pub unreachable-requires-in-Err-Write : goal.unreachable-requires-in-Err-Write
 unreachable-requires-in-Err-Write c =
     let turn = c.step.ensures.step.turn in
     let turns = c.advance.ensures.turns in
-    let u = advanced c.run_laws.ensures c.loop-ending.self.player c.args.source.now.lines c.args.self.now.rules c.advance.new.self turns.0 c.loop-ending.machine c.advance.new.machine (choices_of c.loop-ending.self.trial) c.loop-ending.screen _ c.advance.ensures.program c.loop-ending.invariant.run_prefix turns.1.1 in
-    never_unwritten c.run_laws.ensures c.advance.new.self c.args.source.now.lines c.args.self.now.rules (RefusedByPlan (choices_of c.step.new.chooser) c.step.new.chooser.refused_bound) _ _ _ _ _ _ turn.given _ _ _ _ _ u turn.gives.first (none_follow c.step.new.source) turn.steps (c.in-Err-Write.is ∙ ap Err c.in-Err-Write.field-0-is)
+    let u = advanced c.run_laws.ensures c.loop-ending.self.player c.args.source.now.lines c.args.self.now.rules
+    c.advance.new.self turns.0 c.loop-ending.machine c.advance.new.machine (choices_of c.loop-ending.self.trial)
+    c.loop-ending.screen _ c.advance.ensures.program c.loop-ending.invariant.run_prefix turns.1.1 in
+    never_unwritten c.run_laws.ensures c.advance.new.self c.args.source.now.lines c.args.self.now.rules
+    (RefusedByPlan (choices_of c.step.new.chooser) c.step.new.chooser.refused_bound) _ _ _
+    _ _ _ turn.given _ _ _ _ _ u turn.gives.first (none_follow c.step.new.source) turn.steps
+    (c.in-Err-Write.is ∙ ap Err c.in-Err-Write.field-0-is)
 
 pub unreachable-requires-in-Err-Spent : goal.unreachable-requires-in-Err-Spent
 unreachable-requires-in-Err-Spent c =
-    let over : c.advance.new.machine.spent ≡ true = c.step.ensures.step.spent.0 (c.in-Err-Spent.is ∙ ap Err c.in-Err-Spent.field-0-is) in
+    let over : c.advance.new.machine.spent ≡ true =
+    c.step.ensures.step.spent.0 (c.in-Err-Spent.is ∙ ap Err c.in-Err-Spent.field-0-is) in
     let going : c.advance.new.machine.spent ≡ false = c.advance.ensures.spent ∙ c.loop-ending.invariant.unspent in
     cc

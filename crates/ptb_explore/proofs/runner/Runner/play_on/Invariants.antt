@@ -15,8 +15,10 @@ invariant-loop-ending l = record {
   within : l.source.taken ≤ length l.fn.source.lines;
   unspent : l.machine.spent ≡ false;
   fits : FitsProgram l.self.player l.machine;
-  run_prefix : IsRunPrefix l.self.player l.fn.source.lines l.fn.self.rules (choices_of l.self.trial) l.screen (drop l.source.taken l.source.lines) l.machine;
-  copies : AreCopies l.self.player l.fn.source.lines l.fn.self.rules (choices_of l.self.trial).taken l.screen l.self.copies.kept.items;
+  run_prefix : IsRunPrefix l.self.player l.fn.source.lines l.fn.self.rules (choices_of l.self.trial) l.screen
+      (drop l.source.taken l.source.lines) l.machine;
+  copies : AreCopies l.self.player l.fn.source.lines l.fn.self.rules
+      (choices_of l.self.trial).taken l.screen l.self.copies.kept.items;
 }
 
 -- each step is below the rules

@@ -15,15 +15,18 @@ use Rattle.ptb_explore.proofs.Runners.{copies_stay, counted, game_is, still_same
 use Rattle.ptb_explore.proofs.runner.Runner.play_plan.Goals as goal
 
 pub returns-clause-same : goal.returns-clause-same
-returns-clause-same c = counted c.play_counted-ending.new.self c.go_back-machine.new.self c.args.self.now _ _ _ c.play_counted-ending.ensures.same c.go_back-machine.ensures.same
+returns-clause-same c = counted c.play_counted-ending.new.self c.go_back-machine.new.self c.args.self.now _ _ _
+    c.play_counted-ending.ensures.same c.go_back-machine.ensures.same
 
 pub returns-clause-answers : goal.returns-clause-answers
 returns-clause-answers c =
-    ap (λ (r : Runner). r.report.answers.items) c.play_counted-ending.ensures.same ∙ ap (λ (r : Runner). r.report.answers.items) c.go_back-machine.ensures.same
+    ap (λ (r : Runner). r.report.answers.items) c.play_counted-ending.ensures.same
+    ∙ ap (λ (r : Runner). r.report.answers.items) c.go_back-machine.ensures.same
 
 pub returns-clause-bounds : goal.returns-clause-bounds
 returns-clause-bounds c =
-    ap (λ (r : Runner). r.report.bounds.items) c.play_counted-ending.ensures.same ∙ ap (λ (r : Runner). r.report.bounds.items) c.go_back-machine.ensures.same
+    ap (λ (r : Runner). r.report.bounds.items) c.play_counted-ending.ensures.same
+    ∙ ap (λ (r : Runner). r.report.bounds.items) c.go_back-machine.ensures.same
 
 pub returns-clause-plan : goal.returns-clause-plan
 returns-clause-plan c = c.in_ok-self.ensures.plan ∙ c.in_ok-machine.ensures.plan
@@ -36,9 +39,12 @@ returns-clause-ends c =
     let trial = c.play_counted-ending.new.self.trial in
     let steps = c.play_counted-ending.new.machine.steps in
     let shown = c.play_counted-ending.new.screen in
-    let lines : c.go_back-machine.new.source.lines ≡ old.lines.now = c.go_back-machine.ensures.same_lines ∙ ap (λ (s : LineList). s.lines) c.new-source.ensures in
-    let game = game_is old.player back.player old.lines.now c.go_back-machine.new.source.lines old.rules back.rules (ap (λ (r : Runner). r.player) same) lines (ap (λ (r : Runner). r.rules) same) in
-    let ends = subst (λ (g : Answers → Outcome Finish (List ℕ)). PlayEnds g (choices_of trial) trial.refused_bound steps shown c.in_ok-self.field-0) game c.in_ok-self.ensures.ends in
+    let lines : c.go_back-machine.new.source.lines ≡ old.lines.now =
+    c.go_back-machine.ensures.same_lines ∙ ap (λ (s : LineList). s.lines) c.new-source.ensures in
+    let game = game_is old.player back.player old.lines.now c.go_back-machine.new.source.lines old.rules back.rules
+    (ap (λ (r : Runner). r.player) same) lines (ap (λ (r : Runner). r.rules) same) in
+    let ends = subst (λ (g : Answers → Outcome Finish (List ℕ)). PlayEnds g
+    (choices_of trial) trial.refused_bound steps shown c.in_ok-self.field-0) game c.in_ok-self.ensures.ends in
     rw (c.into_vec.ensures, c.steps-steps.ensures, c.deref.ensures) ends
 
 pub returns-clause-copies : goal.returns-clause-copies
@@ -46,10 +52,12 @@ returns-clause-copies c =
     let old = c.args.self.now in
     let back = c.go_back-machine.new.self in
     let same = c.go_back-machine.ensures.same in
-    let lines : c.go_back-machine.new.source.lines ≡ old.lines.now = c.go_back-machine.ensures.same_lines ∙ ap (λ (s : LineList). s.lines) c.new-source.ensures in
+    let lines : c.go_back-machine.new.source.lines ≡ old.lines.now =
+    c.go_back-machine.ensures.same_lines ∙ ap (λ (s : LineList). s.lines) c.new-source.ensures in
     copies_stay back.player old.player c.go_back-machine.new.source.lines old.lines.now back.rules old.rules
     (sym (ap (λ (r : Runner). r.player) same)) (sym lines) (sym (ap (λ (r : Runner). r.rules) same))
-    (choices_of c.play_counted-ending.new.self.trial).taken _ c.play_counted-ending.new.screen _ c.play_counted-ending.new.self.copies.kept.items _
+    (choices_of c.play_counted-ending.new.self.trial).taken _ c.play_counted-ending.new.screen _
+    c.play_counted-ending.new.self.copies.kept.items _
     refl c.into_vec.ensures (ap (λ k. k.items) c.give_back.ensures) c.in_ok-self.ensures.copies
 
 pub returns-clause-played : goal.returns-clause-played
@@ -67,10 +75,12 @@ returns-clause-played c =
     )
 
 pub returns-clause-rises : goal.returns-clause-rises
-returns-clause-rises c = subst (λ n. n ≤ c.play_counted-ending.new.self.played) (ap (λ (r : Runner). r.played) c.go_back-machine.ensures.same) c.play_counted-ending.ensures.rises
+returns-clause-rises c = subst (λ n. n ≤ c.play_counted-ending.new.self.played)
+    (ap (λ (r : Runner). r.played) c.go_back-machine.ensures.same) c.play_counted-ending.ensures.rises
 
 pub returns-clause-once : goal.returns-clause-once
-returns-clause-once c = subst (λ n. c.play_counted-ending.new.self.played < n + play_limit) (ap (λ (r : Runner). r.played) c.go_back-machine.ensures.same) c.play_counted-ending.ensures.once
+returns-clause-once c = subst (λ n. c.play_counted-ending.new.self.played < n + play_limit)
+    (ap (λ (r : Runner). r.played) c.go_back-machine.ensures.same) c.play_counted-ending.ensures.once
 
 pub returns-in_err-machine : goal.returns-in_err-machine
 returns-in_err-machine c =
@@ -112,7 +122,8 @@ go_back-machine-requires c =
       fresh = c.requires.fresh;
       begins = ap (λ (s : LineList). s.taken) c.new-source.ensures;
       agrees = agrees_same old.player old.rules c.args.common _ _ _ old.lines.now _ lines c.requires.agrees;
-      copies = kept_same old.player old.player old.lines.now _ old.rules _ _ _ _ _ _ refl lines refl (c.from_vec-screen.ensures ∙ ap (λ v. v.items) c.replace-transcript.ensures.value) refl c.requires.copies;
+      copies = kept_same old.player old.player old.lines.now _ old.rules _ _ _ _ _ _ refl lines refl
+          (c.from_vec-screen.ensures ∙ ap (λ v. v.items) c.replace-transcript.ensures.value) refl c.requires.copies;
     }
 
 pub play_counted-ending-requires : goal.play_counted-ending-requires
@@ -124,6 +135,8 @@ play_counted-ending-requires c =
     record {
       unspent = ap (λ (m : Configuration). m.spent) c.deref_mut.ensures.value ∙ c.in_ok-machine.ensures.unspent;
       within = c.in_ok-machine.ensures.within;
-      run_prefix = rw rules (prefix_of_same old.player back.player player _ _ c.go_back-machine.ensures.same_lines old.rules _ _ _ _ _ c.deref_mut.ensures.value c.in_ok-machine.ensures.run_prefix);
-      copies = copies_stay old.player back.player _ _ old.rules back.rules player c.go_back-machine.ensures.same_lines rules _ _ _ _ _ _ refl refl refl c.in_ok-machine.ensures.copies;
+      run_prefix = rw rules (prefix_of_same old.player back.player player _ _ c.go_back-machine.ensures.same_lines
+          old.rules _ _ _ _ _ c.deref_mut.ensures.value c.in_ok-machine.ensures.run_prefix);
+      copies = copies_stay old.player back.player _ _ old.rules back.rules player c.go_back-machine.ensures.same_lines
+          rules _ _ _ _ _ _ refl refl refl c.in_ok-machine.ensures.copies;
     }

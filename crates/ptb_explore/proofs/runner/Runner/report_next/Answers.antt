@@ -13,7 +13,8 @@ use Rattle.ptb_explore.proofs.Shares.{plan_left}
 use Rattle.ptb_explore.proofs.runner.Runner.report_next.Goals as goal
 
 pub plan_next-requires : goal.plan_next-requires
-plan_next-requires c = λ e. rw (c.deref.ensures.value, c.deref-2.ensures.value) (position_lengths (play c.args.self.now.player c.args.self.now.lines.now c.args.self.now.rules) _ _ _ _ c.requires.position e)
+plan_next-requires c = λ e. rw (c.deref.ensures.value, c.deref-2.ensures.value) (position_lengths
+    (play c.args.self.now.player c.args.self.now.lines.now c.args.self.now.rules) _ _ _ _ c.requires.position e)
 
 pub returns-in-None-clause-next : goal.returns-in-None-clause-next
 returns-in-None-clause-next c =
@@ -21,8 +22,12 @@ returns-in-None-clause-next c =
     let input = c.args.self.now.lines.now in
     let rules = c.args.self.now.rules in
     let report = c.args.self.now.report in
-    let plans : PlansNext (answers_of c.args.under.now) c.args.position report.answers.items report.bounds.items c.plan_next.new.trial.answers.items None = rw (← c.deref.ensures.value, ← c.deref-2.ensures.value, ← c.in-None.is) c.in_ok-plan_next.ensures.plan in
-    last_plan (play p input rules) (most_answers p input rules.limit) (c.run_laws.ensures.reads p input rules) (answers_of c.args.under.now) c.args.position report.answers.items c.plan_next.new.trial.answers.items report.bounds.items c.requires.position plans
+    let plans : PlansNext (answers_of c.args.under.now) c.args.position
+    report.answers.items report.bounds.items c.plan_next.new.trial.answers.items None =
+    rw (← c.deref.ensures.value, ← c.deref-2.ensures.value, ← c.in-None.is) c.in_ok-plan_next.ensures.plan in
+    last_plan (play p input rules) (most_answers p input rules.limit) (c.run_laws.ensures.reads p input rules)
+    (answers_of c.args.under.now) c.args.position report.answers.items c.plan_next.new.trial.answers.items
+    report.bounds.items c.requires.position plans
 
 pub report_plan-requires-clause-opens : goal.report_plan-requires-clause-opens
 report_plan-requires-clause-opens c =
@@ -30,8 +35,12 @@ report_plan-requires-clause-opens c =
     let input = c.args.self.now.lines.now in
     let rules = c.args.self.now.rules in
     let report = c.args.self.now.report in
-    let plans : PlansNext (answers_of c.args.under.now) c.args.position report.answers.items report.bounds.items c.plan_next.new.trial.answers.items (Some c.in-Some.common) = rw (← c.deref.ensures.value, ← c.deref-2.ensures.value, ← c.in-Some.is) c.in_ok-plan_next.ensures.plan in
-    (next_plan (play p input rules) (most_answers p input rules.limit) (c.run_laws.ensures.reads p input rules) (answers_of c.args.under.now) c.args.position report.answers.items c.plan_next.new.trial.answers.items report.bounds.items c.in-Some.common c.requires.position plans).opens
+    let plans : PlansNext (answers_of c.args.under.now) c.args.position report.answers.items
+    report.bounds.items c.plan_next.new.trial.answers.items (Some c.in-Some.common) =
+    rw (← c.deref.ensures.value, ← c.deref-2.ensures.value, ← c.in-Some.is) c.in_ok-plan_next.ensures.plan in
+    (next_plan (play p input rules) (most_answers p input rules.limit) (c.run_laws.ensures.reads p input rules)
+    (answers_of c.args.under.now) c.args.position report.answers.items c.plan_next.new.trial.answers.items
+    report.bounds.items c.in-Some.common c.requires.position plans).opens
 
 pub returns-in_ok-report_plan-in-Some-clause-next : goal.returns-in_ok-report_plan-in-Some-clause-next
 returns-in_ok-report_plan-in-Some-clause-next c =
@@ -40,30 +49,44 @@ returns-in_ok-report_plan-in-Some-clause-next c =
     let rules = c.args.self.now.rules in
     let report = c.args.self.now.report in
     let plan = c.plan_next.new.trial.answers.items in
-    let plans : PlansNext (answers_of c.args.under.now) c.args.position report.answers.items report.bounds.items plan (Some c.in-Some.common) = rw (← c.deref.ensures.value, ← c.deref-2.ensures.value, ← c.in-Some.is) c.in_ok-plan_next.ensures.plan in
-    let next = next_plan (play p input rules) (most_answers p input rules.limit) (c.run_laws.ensures.reads p input rules) (answers_of c.args.under.now) c.args.position report.answers.items plan report.bounds.items c.in-Some.common c.requires.position plans in
+    let plans : PlansNext (answers_of c.args.under.now) c.args.position
+    report.answers.items report.bounds.items plan (Some c.in-Some.common) =
+    rw (← c.deref.ensures.value, ← c.deref-2.ensures.value, ← c.in-Some.is) c.in_ok-plan_next.ensures.plan in
+    let next = next_plan (play p input rules) (most_answers p input rules.limit)
+    (c.run_laws.ensures.reads p input rules) (answers_of c.args.under.now) c.args.position report.answers.items plan
+    report.bounds.items c.in-Some.common c.requires.position plans in
     let run = c.in_ok-report_plan-in-Some.ensures.ends in (
       record { outcome = run.outcome; bounds_are = run.bounds_are },
-      plan_ends (play p input rules) (most_answers p input rules.limit) (c.run_laws.ensures.reads p input rules) (answers_of c.args.under.now) (front_at c.args.position report.answers.items) plan _ _ _ next run,
+      plan_ends (play p input rules) (most_answers p input rules.limit) (c.run_laws.ensures.reads p input rules)
+          (answers_of c.args.under.now) (front_at c.args.position report.answers.items) plan _ _ _ next run,
     )
 
 pub report_plan-requires-clause-agrees : goal.report_plan-requires-clause-agrees
 report_plan-requires-clause-agrees c =
     let report = c.args.self.now.report in
     let plan = c.plan_next.new.trial.answers.items in
-    let plans : PlansNext (answers_of c.args.under.now) c.args.position report.answers.items report.bounds.items plan (Some c.in-Some.common) = rw (← c.deref.ensures.value, ← c.deref-2.ensures.value, ← c.in-Some.is) c.in_ok-plan_next.ensures.plan in
-    next_agrees (play c.args.self.now.player c.args.self.now.lines.now c.args.self.now.rules) (answers_of c.args.under.now) c.args.position report.answers.items plan report.bounds.items c.in-Some.common c.requires.position plans
+    let plans : PlansNext (answers_of c.args.under.now) c.args.position
+    report.answers.items report.bounds.items plan (Some c.in-Some.common) =
+    rw (← c.deref.ensures.value, ← c.deref-2.ensures.value, ← c.in-Some.is) c.in_ok-plan_next.ensures.plan in
+    next_agrees (play c.args.self.now.player c.args.self.now.lines.now c.args.self.now.rules)
+    (answers_of c.args.under.now) c.args.position report.answers.items plan report.bounds.items c.in-Some.common
+    c.requires.position plans
 
 pub report_plan-requires-clause-copies : goal.report_plan-requires-clause-copies
-report_plan-requires-clause-copies c = position_copies c.args.self.now.player c.args.self.now.lines.now c.args.self.now.rules c.args.position c.args.self.now.report c.args.self.now.copies.kept.items c.requires.copies
+report_plan-requires-clause-copies c = position_copies c.args.self.now.player c.args.self.now.lines.now
+    c.args.self.now.rules c.args.position c.args.self.now.report c.args.self.now.copies.kept.items c.requires.copies
 
 pub returns-in_ok-report_plan-in-Some-clause-played : goal.returns-in_ok-report_plan-in-Some-clause-played
 returns-in_ok-report_plan-in-Some-clause-played c =
     let report = c.args.self.now.report in
     let plan = c.plan_next.new.trial.answers.items in
-    let plans : PlansNext (answers_of c.args.under.now) c.args.position report.answers.items report.bounds.items plan (Some c.in-Some.common) = rw (← c.deref.ensures.value, ← c.deref-2.ensures.value, ← c.in-Some.is) c.in_ok-plan_next.ensures.plan in
+    let plans : PlansNext (answers_of c.args.under.now) c.args.position
+    report.answers.items report.bounds.items plan (Some c.in-Some.common) =
+    rw (← c.deref.ensures.value, ← c.deref-2.ensures.value, ← c.in-Some.is) c.in_ok-plan_next.ensures.plan in
     let run = c.in_ok-report_plan-in-Some.ensures.ends in
-    next_played c.args.self.now.player c.args.self.now.lines.now c.args.self.now.rules (answers_of c.args.under.now) c.args.position report plan run.ones _ c.in-Some.common c.args.self.now.copies.kept.items _ _ _ plans c.requires.copies run.answers_are c.in_ok-report_plan-in-Some.ensures.played
+    next_played c.args.self.now.player c.args.self.now.lines.now c.args.self.now.rules (answers_of c.args.under.now)
+    c.args.position report plan run.ones _ c.in-Some.common c.args.self.now.copies.kept.items _ _ _ plans
+    c.requires.copies run.answers_are c.in_ok-report_plan-in-Some.ensures.played
 
 pub returns-in_err-plan_next : goal.returns-in_err-plan_next
 returns-in_err-plan_next c = record {
@@ -76,9 +99,13 @@ returns-in_err-plan_next c = record {
       let input = c.args.self.now.lines.now in
       let rules = c.args.self.now.rules in
       let report = c.args.self.now.report in
-      let has : HasPlan (answers_of c.args.under.now) c.args.position report.answers.items report.bounds.items = rw (← c.deref.ensures.value, ← c.deref-2.ensures.value) c.in_err-plan_next.ensures.refused in
-      let next = next_plan (play p input rules) (most_answers p input rules.limit) (c.run_laws.ensures.reads p input rules) (answers_of c.args.under.now) c.args.position report.answers.items has.0 report.bounds.items has.1 c.requires.position has.2 in
-      plan_left (play p input rules) (most_answers p input rules.limit) (c.run_laws.ensures.reads p input rules) (answers_of c.args.under.now) (front_at c.args.position report.answers.items) has.0 next last;
+      let has : HasPlan (answers_of c.args.under.now) c.args.position report.answers.items report.bounds.items =
+      rw (← c.deref.ensures.value, ← c.deref-2.ensures.value) c.in_err-plan_next.ensures.refused in
+      let next = next_plan (play p input rules) (most_answers p input rules.limit)
+      (c.run_laws.ensures.reads p input rules) (answers_of c.args.under.now) c.args.position report.answers.items
+      has.0 report.bounds.items has.1 c.requires.position has.2 in
+      plan_left (play p input rules) (most_answers p input rules.limit) (c.run_laws.ensures.reads p input rules)
+      (answers_of c.args.under.now) (front_at c.args.position report.answers.items) has.0 next last;
   copies = IfOk-from_err _ _ c.from_residual.ensures.0;
   played = IfOk-from_err _ _ c.from_residual.ensures.0;
   rises = omega arith;
@@ -97,9 +124,14 @@ returns-in_err-report_plan-in-Some c = record {
       let rules = c.args.self.now.rules in
       let report = c.args.self.now.report in
       let plan = c.plan_next.new.trial.answers.items in
-      let plans : PlansNext (answers_of c.args.under.now) c.args.position report.answers.items report.bounds.items plan (Some c.in-Some.common) = rw (← c.deref.ensures.value, ← c.deref-2.ensures.value, ← c.in-Some.is) c.in_ok-plan_next.ensures.plan in
-      let next = next_plan (play p input rules) (most_answers p input rules.limit) (c.run_laws.ensures.reads p input rules) (answers_of c.args.under.now) c.args.position report.answers.items plan report.bounds.items c.in-Some.common c.requires.position plans in
-      plan_left (play p input rules) (most_answers p input rules.limit) (c.run_laws.ensures.reads p input rules) (answers_of c.args.under.now) (front_at c.args.position report.answers.items) plan next last;
+      let plans : PlansNext (answers_of c.args.under.now) c.args.position
+      report.answers.items report.bounds.items plan (Some c.in-Some.common) =
+      rw (← c.deref.ensures.value, ← c.deref-2.ensures.value, ← c.in-Some.is) c.in_ok-plan_next.ensures.plan in
+      let next = next_plan (play p input rules) (most_answers p input rules.limit)
+      (c.run_laws.ensures.reads p input rules) (answers_of c.args.under.now) c.args.position report.answers.items
+      plan report.bounds.items c.in-Some.common c.requires.position plans in
+      plan_left (play p input rules) (most_answers p input rules.limit) (c.run_laws.ensures.reads p input rules)
+      (answers_of c.args.under.now) (front_at c.args.position report.answers.items) plan next last;
   copies = IfOk-from_err _ _ c.from_residual-in_err-report_plan-in-Some.ensures.0;
   played = IfOk-from_err _ _ c.from_residual-in_err-report_plan-in-Some.ensures.0;
   rises = c.report_plan.ensures.rises;
@@ -113,9 +145,14 @@ returns-in_ok-report_plan-in-Some-clause-ended c = λ last.
     let rules = c.args.self.now.rules in
     let report = c.args.self.now.report in
     let plan = c.plan_next.new.trial.answers.items in
-    let plans : PlansNext (answers_of c.args.under.now) c.args.position report.answers.items report.bounds.items plan (Some c.in-Some.common) = rw (← c.deref.ensures.value, ← c.deref-2.ensures.value, ← c.in-Some.is) c.in_ok-plan_next.ensures.plan in
-    let next = next_plan (play p input rules) (most_answers p input rules.limit) (c.run_laws.ensures.reads p input rules) (answers_of c.args.under.now) c.args.position report.answers.items plan report.bounds.items c.in-Some.common c.requires.position plans in
-    plan_left (play p input rules) (most_answers p input rules.limit) (c.run_laws.ensures.reads p input rules) (answers_of c.args.under.now) (front_at c.args.position report.answers.items) plan next last
+    let plans : PlansNext (answers_of c.args.under.now) c.args.position
+    report.answers.items report.bounds.items plan (Some c.in-Some.common) =
+    rw (← c.deref.ensures.value, ← c.deref-2.ensures.value, ← c.in-Some.is) c.in_ok-plan_next.ensures.plan in
+    let next = next_plan (play p input rules) (most_answers p input rules.limit)
+    (c.run_laws.ensures.reads p input rules) (answers_of c.args.under.now) c.args.position report.answers.items plan
+    report.bounds.items c.in-Some.common c.requires.position plans in
+    plan_left (play p input rules) (most_answers p input rules.limit) (c.run_laws.ensures.reads p input rules)
+    (answers_of c.args.under.now) (front_at c.args.position report.answers.items) plan next last
 
 pub returns-in_ok-report_plan-in-Some-clause-copies : goal.returns-in_ok-report_plan-in-Some-clause-copies
 returns-in_ok-report_plan-in-Some-clause-copies c = λ _. c.in_ok-report_plan-in-Some.ensures.copies

@@ -1,4 +1,5 @@
--- This file answers that a plan that is open ends at a run, whose report is made, and that the copies that are kept are of it.
+-- This file answers that a plan that is open ends at a run, whose report is made, and that the copies that are kept
+-- are of it.
 use Rattle.std.proofs.Common.{◌∙◌, refl, sym}
 use Rattle.std.proofs.lemmas.Result.{IfOk-from_err}
 use Rattle.ptb_machine.specs.Play.{play}
@@ -16,7 +17,9 @@ returns-clause-ends c =
     let input = c.args.self.now.lines.now in
     let rules = c.args.self.now.rules in
     let report = c.play_plan.new.self.report in
-    let run = open_ends (play p input rules) c.play_plan.new.self.trial report.steps report.transcript.items (most_answers p input rules.limit) (c.run_laws.ensures.reads p input rules) c.args.self.now.trial.answers.items c.in_ok-play_plan.ensures.plan c.requires.opens report.ending c.in_ok-play_plan.ensures.ends in
+    let run = open_ends (play p input rules) c.play_plan.new.self.trial report.steps report.transcript.items
+    (most_answers p input rules.limit) (c.run_laws.ensures.reads p input rules) c.args.self.now.trial.answers.items
+    c.in_ok-play_plan.ensures.plan c.requires.opens report.ending c.in_ok-play_plan.ensures.ends in
     rw (c.hand_over.ensures.answers, c.hand_over.ensures.bounds) run
 
 pub returns-clause-copies : goal.returns-clause-copies
@@ -26,8 +29,12 @@ returns-clause-copies c =
     let rules = c.args.self.now.rules in
     let report = c.play_plan.new.self.report in
     let trial = c.play_plan.new.self.trial in
-    let run = open_ends (play p input rules) trial report.steps report.transcript.items (most_answers p input rules.limit) (c.run_laws.ensures.reads p input rules) c.args.self.now.trial.answers.items c.in_ok-play_plan.ensures.plan c.requires.opens report.ending c.in_ok-play_plan.ensures.ends in
-    kept_same p p input input rules (choices_of trial).taken _ report.transcript.items _ c.play_plan.new.self.copies.kept.items _ refl refl (c.hand_over.ensures.answers ∙ sym (all_given (play p input rules) trial run.bounds_are)) refl refl c.in_ok-play_plan.ensures.copies
+    let run = open_ends (play p input rules) trial report.steps report.transcript.items
+    (most_answers p input rules.limit) (c.run_laws.ensures.reads p input rules) c.args.self.now.trial.answers.items
+    c.in_ok-play_plan.ensures.plan c.requires.opens report.ending c.in_ok-play_plan.ensures.ends in
+    kept_same p p input input rules (choices_of trial).taken _ report.transcript.items _
+    c.play_plan.new.self.copies.kept.items _ refl refl (c.hand_over.ensures.answers
+    ∙ sym (all_given (play p input rules) trial run.bounds_are)) refl refl c.in_ok-play_plan.ensures.copies
 
 pub returns-in_err-play_plan : goal.returns-in_err-play_plan
 returns-in_err-play_plan c = record {

@@ -17,13 +17,17 @@ returns-then-eq c =
     let values : one.values ≡ two.values = (slice_eq-Decides Decides-int_eq _ _ _ c.eq.ensures).0 c.if-eq.true in
     let mine : length c.deref.result.now ≤ n = rw c.deref.ensures.len c.self.invariant.2 in
     let theirs : length c.deref-then-eq.result.now ≤ n = rw (c.deref-then-eq.ensures.len, size) c.other.invariant.2 in
-    let both = rw (c.deref.ensures.value, c.deref-then-eq.ensures.value) at (c.is_same_with_zeros.ensures n mine theirs) in (
-      λ same. sym c.self.view_is ∙ same_saved one.size two.size one.values two.values one.elements.items two.elements.items size values (both.0 same) ∙ c.other.view_is,
-      λ same. both.1 (same_elements one.size two.size one.values two.values one.elements.items two.elements.items size (c.self.view_is ∙ same ∙ sym c.other.view_is)),
+    let both = rw (c.deref.ensures.value, c.deref-then-eq.ensures.value) at
+    (c.is_same_with_zeros.ensures n mine theirs) in (
+      λ same. sym c.self.view_is ∙ same_saved one.size two.size one.values two.values one.elements.items
+          two.elements.items size values (both.0 same) ∙ c.other.view_is,
+      λ same. both.1 (same_elements one.size two.size one.values two.values one.elements.items two.elements.items size
+          (c.self.view_is ∙ same ∙ sym c.other.view_is)),
     )
 
 pub returns-else-eq : goal.returns-else-eq
 returns-else-eq c = (
   λ same. absurd (true≢false (sym same ∙ c.if-eq.false)),
-  λ same. (slice_eq-Decides Decides-int_eq _ _ _ c.eq.ensures).1 (ap (λ (cells : Cells). cells.values) (c.self.view_is ∙ same ∙ sym c.other.view_is)),
+  λ same. (slice_eq-Decides Decides-int_eq _ _ _ c.eq.ensures).1
+      (ap (λ (cells : Cells). cells.values) (c.self.view_is ∙ same ∙ sym c.other.view_is)),
 )

@@ -15,13 +15,17 @@ same_length : (c : goal.After-self-4-1) → c.self.inside.elements.len ≡ c.oth
 same_length c = rw (c.self.invariant.2, c.other.invariant.2, same_size c) refl
 
 -- the elements are those of the other store then
-taken_over : (c : goal.After-self-4-1) → (with_items c.self.inside.elements c.copy_front.new.values).items ≡ c.other.inside.elements.items
+taken_over : (c : goal.After-self-4-1)
+    → (with_items c.self.inside.elements c.copy_front.new.values).items ≡ c.other.inside.elements.items
 taken_over c =
-    let mine : length c.self.inside.elements.items ≡ c.self.inside.elements.len = rw c.deref_mut.ensures.value at c.deref_mut.ensures.len in
-    let theirs : length c.other.inside.elements.items ≡ c.other.inside.elements.len = rw c.deref.ensures.value at c.deref.ensures.len in
+    let mine : length c.self.inside.elements.items ≡ c.self.inside.elements.len =
+    rw c.deref_mut.ensures.value at c.deref_mut.ensures.len in
+    let theirs : length c.other.inside.elements.items ≡ c.other.inside.elements.len =
+    rw c.deref.ensures.value at c.deref.ensures.len in
     let all : c.copy_front.new.values ≡ c.other.inside.elements.items =
     rw (c.copy_front.ensures, c.deref.ensures.value, c.deref_mut.ensures.value, c.max-used.ensures)
-    (zeros_copied _ _ _ _ _ (le-max_left _ _) (le-max_right _ _) c.self.invariant.4 c.other.invariant.4 (rw (mine, theirs) (same_length c))) in
+    (zeros_copied _ _ _ _ _ (le-max_left _ _) (le-max_right _ _) c.self.invariant.4 c.other.invariant.4
+    (rw (mine, theirs) (same_length c))) in
     rw (with_items_is c.self.inside.elements c.copy_front.new.values (rw (all, theirs, same_length c) refl)) all
 
 pub invariant_of-self-2 : goal.invariant_of-self-2

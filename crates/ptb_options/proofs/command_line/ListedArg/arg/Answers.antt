@@ -12,7 +12,9 @@ returns-in-Number c =
     number_rule c.under_heading-arg.result c.args.self.now.name c.args.self.now.kind
     (c.under_heading-arg.ensures.rule ∙ ap rule_of c.help.ensures ∙ c.new.ensures.rule)
     (c.under_heading-arg.ensures.local ∙ ap (λ (x : Arg). x.global) c.help.ensures ∙ c.new.ensures.optional.1)
-    c.long.result c.long.ensures c.value_name.result (ap rule_of c.value_name.ensures) (ap (λ (x : Arg). x.global) c.value_name.ensures) c.value_parser.result c.in-Number.parser c.value_parser.ensures.others (given.1 ∙ ap Some given.2) c.in-Number.is
+    c.long.result c.long.ensures c.value_name.result (ap rule_of c.value_name.ensures)
+    (ap (λ (x : Arg). x.global) c.value_name.ensures) c.value_parser.result c.in-Number.parser
+    c.value_parser.ensures.others (given.1 ∙ ap Some given.2) c.in-Number.is
     in
     record { rule = told.rule; local = told.local }
 

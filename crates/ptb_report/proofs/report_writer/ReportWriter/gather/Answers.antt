@@ -9,7 +9,8 @@ use Rattle.ptb_report.proofs.report_writer.ReportWriter.gather.Goals as goal
 
 pub invariant_of-self : goal.invariant_of-self
 invariant_of-self c = record {
-  begins = begins_longer c.add_ending.new.text c.add_items-listed.new.text (begun (items_of c.add_items-listed.new.kept.items)) c.add_ending.ensures.longer c.add_items-listed.ensures.begins;
+  begins = begins_longer c.add_ending.new.text c.add_items-listed.new.text (begun
+      (items_of c.add_items-listed.new.kept.items)) c.add_ending.ensures.longer c.add_items-listed.ensures.begins;
   ends = c.add_items-listed.ensures.ends;
 }
 
@@ -19,4 +20,5 @@ returns-then-listed c added =
     let some : 0 < length c.args.answers.now = grind (arith, c.if-is_empty.ensures) in
     c.add_ending.ensures.added added
     ∙ ap (λ z. z ++ report_ending c.args.word.now c.args.steps c.args.transcript.now) (c.if-listed.ensures.all refl)
-    ∙ report_from_begun items c.args.word.now c.args.steps c.args.transcript.now (omega (arith, some, length-items_in c.args.form c.args.answers.now c.args.bounds.now c.requires))
+    ∙ report_from_begun items c.args.word.now c.args.steps c.args.transcript.now
+    (omega (arith, some, length-items_in c.args.form c.args.answers.now c.args.bounds.now c.requires))

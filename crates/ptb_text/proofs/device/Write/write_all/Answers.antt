@@ -6,7 +6,11 @@ use Rattle.ptb_text.proofs.TakenPieces.{gathers_rest, gathers_all, gathers_fault
 use Rattle.ptb_text.proofs.device.Write.write_all.Goals as goal
 
 pub loop-rest-init : goal.loop-rest-init
-loop-rest-init g c = record { unfailed = refl; taken = gathers_none _ _; sure = λ k within was. subst (g.Self.Write.takes c.args.self.now) (omega arith) was }
+loop-rest-init g c = record {
+  unfailed = refl;
+  taken = gathers_none _ _;
+  sure = λ k within was. subst (g.Self.Write.takes c.args.self.now) (omega arith) was;
+}
 
 pub loop-rest-preserved : goal.loop-rest-preserved
 loop-rest-preserved g c = record {
@@ -18,7 +22,8 @@ loop-rest-preserved g c = record {
 }
 
 pub returns-in_err-taken-clause-fault : goal.returns-in_err-taken-clause-fault
-returns-in_err-taken-clause-fault g c = let p = err_from_is_err_and c.from_residual.result c.from_residual.ensures.1 in rw p.1 (gathers_fault _ c.loop-rest.invariant.taken c.in_err-taken.ensures.fault)
+returns-in_err-taken-clause-fault g c = let p = err_from_is_err_and c.from_residual.result c.from_residual.ensures.1 in
+    rw p.1 (gathers_fault _ c.loop-rest.invariant.taken c.in_err-taken.ensures.fault)
 
 pub returns-in_err-taken-clause-sure : goal.returns-in_err-taken-clause-sure
 returns-in_err-taken-clause-sure g c =
@@ -29,4 +34,8 @@ pub returns-clause-ok : goal.returns-clause-ok
 returns-clause-ok g c = gathers_all _ c.loop-rest.invariant.taken (search rules)
 
 pub returns-clause-sure : goal.returns-clause-sure
-returns-clause-sure g c = λ k within was. (refl, sure_all (g.Self.Write.takes c.args.self.now) (g.Self.Write.takes c.loop-rest.self) c.loop-rest.invariant.taken c.loop-rest.invariant.sure (search rules) k within was)
+returns-clause-sure g c = λ k within was. (
+  refl,
+  sure_all (g.Self.Write.takes c.args.self.now) (g.Self.Write.takes
+      c.loop-rest.self) c.loop-rest.invariant.taken c.loop-rest.invariant.sure (search rules) k within was,
+)

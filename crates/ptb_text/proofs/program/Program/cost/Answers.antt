@@ -15,14 +15,45 @@ overflow_mul-result c =
 pub overflow_add-result : goal.overflow_add-result
 overflow_add-result c =
     let s = sizes (goal.at.overflow_add-result c).After-len-2 in
-    omega (arith, s.texts_are, s.count, s.cost_is, s.fits, s.small, c.len.ensures, c.len-2.ensures, c.self.inside.statements.ok.0, c.self.inside.pool.ok.0)
+    omega (
+      arith,
+      s.texts_are,
+      s.count,
+      s.cost_is,
+      s.fits,
+      s.small,
+      c.len.ensures,
+      c.len-2.ensures,
+      c.self.inside.statements.ok.0,
+      c.self.inside.pool.ok.0,
+    )
 
 pub overflow_cast-result : goal.overflow_cast-result
 overflow_cast-result c =
     let s = sizes (goal.at.overflow_cast-result c).After-len-2 in
-    omega (arith, s.texts_are, s.count, s.cost_is, s.fits, s.small, c.len.ensures, c.len-2.ensures, c.self.inside.statements.ok.0, c.self.inside.pool.ok.0)
+    omega (
+      arith,
+      s.texts_are,
+      s.count,
+      s.cost_is,
+      s.fits,
+      s.small,
+      c.len.ensures,
+      c.len-2.ensures,
+      c.self.inside.statements.ok.0,
+      c.self.inside.pool.ok.0,
+    )
 
 pub returns-clause-value : goal.returns-clause-value
 returns-clause-value c =
     let s = sizes (goal.at.returns-clause-value c).After-len-2 in
-    omega (arith, s.texts_are, s.count, s.cost_is, c.len.ensures, c.len-2.ensures, c.self.inside.statements.ok.0, c.self.inside.pool.ok.0)
+    omega (
+      arith,
+      s.texts_are,
+      s.count,
+      s.cost_is,
+      c.len.ensures,
+      c.len-2.ensures,
+      c.self.inside.statements.ok.0,
+      c.self.inside.pool.ok.0,
+    )

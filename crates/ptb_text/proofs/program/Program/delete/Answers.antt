@@ -18,7 +18,8 @@ use Rattle.ptb_text.proofs.program.Program.delete.Goals.{After-end, After-lay_ou
 
 -- where the text of the statement that is taken out stands
 entry : (c : After-end) → IsEntry c.args.self.now.lines c.in-Ok.at c.remove-deleted.result
-entry c = IsEntry-shown c.self.inside c.args.self.now c.self.view_is c.self.invariant c.in-Ok.at c.remove-deleted.result c.in-Ok.ensures.found.in_range c.remove-deleted.ensures.value
+entry c = IsEntry-shown c.self.inside c.args.self.now c.self.view_is c.self.invariant c.in-Ok.at c.remove-deleted.result
+    c.in-Ok.ensures.found.in_range c.remove-deleted.ensures.value
 
 pub drain-requires-clause-in_bounds : goal.drain-requires-clause-in_bounds
 drain-requires-clause-in_bounds c =
@@ -33,14 +34,17 @@ lay_out-requires c =
     let all = c.self.inside.statements.items in
     let ss = c.deref_mut.result.now in
     let part = lengths-part ss c.in-Ok.at (length ss - c.in-Ok.at) in
-    let left : lengths ss ≡ lengths (remove all c.in-Ok.at) = ap lengths (c.deref_mut.ensures.value ∙ c.remove-deleted.ensures.items) in
-    let fewer = sum_by-remove (λ t. t.length) all c.in-Ok.at c.remove-deleted.result (omega (arith, s.count, c.in-Ok.ensures.found.in_range)) in
+    let left : lengths ss ≡ lengths (remove all c.in-Ok.at) =
+    ap lengths (c.deref_mut.ensures.value ∙ c.remove-deleted.ensures.items) in
+    let fewer = sum_by-remove (λ t. t.length) all c.in-Ok.at c.remove-deleted.result
+    (omega (arith, s.count, c.in-Ok.ensures.found.in_range)) in
     omega (arith, part, left, fewer, c.self.invariant.to_the_end, s.texts_are, s.cost_is, s.fits, s.small, e.within)
 
 -- the fields that are left
 abbrev after : After-lay_out → Inside
 after c = record {
-  statements = with_items c.remove-deleted.new.self (take c.in-Ok.at c.deref_mut.result.now ++ (c.lay_out.new.statements ++ drop (length c.deref_mut.result.now - c.in-Ok.at) (drop c.in-Ok.at c.deref_mut.result.now)));
+  statements = with_items c.remove-deleted.new.self (take c.in-Ok.at c.deref_mut.result.now ++ (c.lay_out.new.statements
+      ++ drop (length c.deref_mut.result.now - c.in-Ok.at) (drop c.in-Ok.at c.deref_mut.result.now)));
   pool = c.drop-drain.new.self.0;
   memory = c.self.inside.memory;
 }
@@ -50,11 +54,17 @@ layout c =
     let p = c.args.self.now in
     let at = c.in-Ok.at in
     let place = c.remove-deleted.result.place in
-    let e = IsEntry-shown c.self.inside p c.self.view_is c.self.invariant at c.remove-deleted.result c.in-Ok.ensures.found.in_range c.remove-deleted.ensures.value in
-    let laid = laid_items c.remove-deleted.new.self c.deref_mut.result.now c.lay_out.new.statements at place c.deref_mut.ensures.value c.deref_mut.ensures.len c.lay_out.ensures in
-    let pool : c.drop-drain.new.self.0.items ≡ remove_range c.self.inside.pool.items place c.end.result = c.drop-drain.ensures.items ∙ c.drain.ensures.kept ∙ ap (λ k. remove_range c.self.inside.pool.items k c.end.result) c.from.ensures in
+    let e = IsEntry-shown c.self.inside p c.self.view_is c.self.invariant at c.remove-deleted.result
+    c.in-Ok.ensures.found.in_range c.remove-deleted.ensures.value in
+    let laid = laid_items c.remove-deleted.new.self c.deref_mut.result.now c.lay_out.new.statements at place
+    c.deref_mut.ensures.value c.deref_mut.ensures.len c.lay_out.ensures in
+    let pool : c.drop-drain.new.self.0.items ≡ remove_range c.self.inside.pool.items place c.end.result =
+    c.drop-drain.ensures.items ∙ c.drain.ensures.kept
+    ∙ ap (λ k. remove_range c.self.inside.pool.items k c.end.result) c.from.ensures in
     rw (without_number-place p.lines c.args.number at c.in-Ok.ensures.found)
-    (IsLayout-remove c.self.inside (after c) p.lines (IsLayout-from_kept c.self.inside p c.self.view_is c.self.invariant) at place e.place_is c.remove-deleted.new.self.items laid c.end.result c.in-Ok.ensures.found.in_range (c.end.ensures ∙ e.end_is) c.remove-deleted.ensures.items pool)
+    (IsLayout-remove c.self.inside (after c) p.lines (IsLayout-from_kept c.self.inside p c.self.view_is
+    c.self.invariant) at place e.place_is c.remove-deleted.new.self.items laid c.end.result
+    c.in-Ok.ensures.found.in_range (c.end.ensures ∙ e.end_is) c.remove-deleted.ensures.items pool)
 
 pub invariant_of-self : goal.invariant_of-self
 invariant_of-self c =

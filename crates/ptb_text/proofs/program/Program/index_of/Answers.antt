@@ -5,10 +5,14 @@ use Rattle.ptb_text.proofs.program.Program.index_of.Goals as goal
 
 pub returns-clause-found : goal.returns-clause-found
 returns-clause-found c =
-    let whole = is_whole c.try_from.result c.args.number c.in_ok-number.number c.ranges.number c.try_from.ensures (sym c.ok.ensures.value ∙ c.in_ok-number.was) in
-    look_up-found c.args.self.now.lines c.args.number _ c.ok-2.result c.search.result whole c.search.ensures.found c.ok-2.ensures.value
+    let whole = is_whole c.try_from.result c.args.number c.in_ok-number.number c.ranges.number c.try_from.ensures
+    (sym c.ok.ensures.value ∙ c.in_ok-number.was) in
+    look_up-found c.args.self.now.lines c.args.number _ c.ok-2.result c.search.result whole c.search.ensures.found
+    c.ok-2.ensures.value
 
 pub returns-clause-absent : goal.returns-clause-absent
 returns-clause-absent c =
-    let whole = is_whole c.try_from.result c.args.number c.in_ok-number.number c.ranges.number c.try_from.ensures (sym c.ok.ensures.value ∙ c.in_ok-number.was) in
-    look_up-absent c.args.self.now.lines c.args.number _ c.ok-2.result c.search.result whole c.search.ensures.absent c.ok-2.ensures.value
+    let whole = is_whole c.try_from.result c.args.number c.in_ok-number.number c.ranges.number c.try_from.ensures
+    (sym c.ok.ensures.value ∙ c.in_ok-number.was) in
+    look_up-absent c.args.self.now.lines c.args.number _ c.ok-2.result c.search.result whole c.search.ensures.absent
+    c.ok-2.ensures.value

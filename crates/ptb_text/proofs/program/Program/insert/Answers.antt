@@ -15,13 +15,15 @@ use Rattle.ptb_text.proofs.program.Program.insert.Goals.{After-place_of-place, A
 pub returns-then-cost-self : goal.returns-then-cost-self
 returns-then-cost-self c =
     store_full c.self.inside c.args.self.now c.self.view_is c.args.number c.args.text.now _
-    (insert_size c.self.inside c.args.self.now c.self.view_is c.self.invariant c.args.number c.args.at c.args.text.now c.requires.place c.cost.result c.cost.ensures.value) c.if-cost-self.true
+    (insert_size c.self.inside c.args.self.now c.self.view_is c.self.invariant c.args.number c.args.at c.args.text.now
+    c.requires.place c.cost.result c.cost.ensures.value) c.if-cost-self.true
 
 -- the program stays where a growth is refused
 pub returns-then-is_err : goal.returns-then-is_err
 returns-then-is_err c =
     store_refused c.self.inside c.args.self.now c.self.view_is c.args.number c.args.text.now _
-    (insert_size c.self.inside c.args.self.now c.self.view_is c.self.invariant c.args.number c.args.at c.args.text.now c.requires.place c.cost.result c.cost.ensures.value) c.if-cost-self.false
+    (insert_size c.self.inside c.args.self.now c.self.view_is c.self.invariant c.args.number c.args.at c.args.text.now
+    c.requires.place c.cost.result c.cost.ensures.value) c.if-cost-self.false
     (record c.self.inside { pool = c.try_reserve.new.self }) refl c.try_reserve.ensures.items refl
 
 pub invariant_of-self : goal.invariant_of-self
@@ -32,21 +34,35 @@ invariant_of-self c =
 pub returns-then-is_err-2 : goal.returns-then-is_err-2
 returns-then-is_err-2 c =
     store_refused c.self.inside c.args.self.now c.self.view_is c.args.number c.args.text.now _
-    (insert_size c.self.inside c.args.self.now c.self.view_is c.self.invariant c.args.number c.args.at c.args.text.now c.requires.place c.cost.result c.cost.ensures.value) c.if-cost-self.false
-    (record c.self.inside { statements = c.try_reserve-2.new.self; pool = c.try_reserve.new.self }) c.try_reserve-2.ensures.items c.try_reserve.ensures.items refl
+    (insert_size c.self.inside c.args.self.now c.self.view_is c.self.invariant c.args.number c.args.at c.args.text.now
+    c.requires.place c.cost.result c.cost.ensures.value) c.if-cost-self.false
+    (record c.self.inside { statements = c.try_reserve-2.new.self; pool = c.try_reserve.new.self })
+    c.try_reserve-2.ensures.items c.try_reserve.ensures.items refl
 
 pub invariant_of-self-then-is_err-2 : goal.invariant_of-self-then-is_err-2
 invariant_of-self-then-is_err-2 c =
-    IsKept-same c.self.inside (record c.self.inside { statements = c.try_reserve-2.new.self; pool = c.try_reserve.new.self }) c.try_reserve-2.ensures.items c.try_reserve.ensures.items refl c.self.invariant
+    IsKept-same c.self.inside (record c.self.inside {
+      statements = c.try_reserve-2.new.self;
+      pool = c.try_reserve.new.self;
+    }) c.try_reserve-2.ensures.items c.try_reserve.ensures.items refl
+    c.self.invariant
 
 pub invariant_of-self-2 : goal.invariant_of-self-2
 invariant_of-self-2 c =
-    IsKept-same c.self.inside (record c.self.inside { statements = c.try_reserve-2.new.self; pool = c.try_reserve.new.self }) c.try_reserve-2.ensures.items c.try_reserve.ensures.items refl c.self.invariant
+    IsKept-same c.self.inside (record c.self.inside {
+      statements = c.try_reserve-2.new.self;
+      pool = c.try_reserve.new.self;
+    }) c.try_reserve-2.ensures.items c.try_reserve.ensures.items refl
+    c.self.invariant
 
 -- where the new text goes
 place : (c : After-place_of-place) → c.place_of-place.result ≡ texts_length (take c.args.at c.args.self.now.lines)
 place c =
-    let same = same_shown c.self.inside (record c.self.inside { statements = c.try_reserve-2.new.self; pool = c.try_reserve.new.self }) c.try_reserve-2.ensures.items c.try_reserve.ensures.items refl ∙ c.self.view_is in
+    let same = same_shown c.self.inside (record c.self.inside {
+      statements = c.try_reserve-2.new.self;
+      pool = c.try_reserve.new.self;
+    }) c.try_reserve-2.ensures.items c.try_reserve.ensures.items refl
+    ∙ c.self.view_is in
     c.place_of-place.ensures ∙ ap (λ q. texts_length (take c.args.at q.lines)) same
 
 pub put_text-requires-clause-within : goal.put_text-requires-clause-within
@@ -59,8 +75,11 @@ put_text-requires-clause-within c =
 
 -- the new statement stands at its place
 edit : (c : After-unwrap)
-    → c.insert.new.self.items ≡ insert c.self.inside.statements.items c.args.at (record { number = c.args.number; place = c.place_of-place.result; length = length c.args.text.now })
-edit c = (rw c.unwrap.ensures at c.insert.ensures.items) ∙ ap (λ all. insert all c.args.at (record { number = c.args.number; place = c.place_of-place.result; length = length c.args.text.now })) c.try_reserve-2.ensures.items
+    → c.insert.new.self.items ≡ insert c.self.inside.statements.items c.args.at
+    (record { number = c.args.number; place = c.place_of-place.result; length = length c.args.text.now })
+edit c = (rw c.unwrap.ensures at c.insert.ensures.items) ∙ ap (λ all. insert all c.args.at
+    (record { number = c.args.number; place = c.place_of-place.result; length = length c.args.text.now }))
+    c.try_reserve-2.ensures.items
 
 pub lay_out-requires : goal.lay_out-requires
 lay_out-requires c =
@@ -69,31 +88,60 @@ lay_out-requires c =
     let here = place (goal.at.lay_out-requires c).After-place_of-place in
     let all = c.self.inside.statements.items in
     let ss = c.deref_mut.result.now in
-    let new : Statement = record { number = c.args.number; place = c.place_of-place.result; length = length c.args.text.now } in
+    let new : Statement = record {
+      number = c.args.number;
+      place = c.place_of-place.result;
+      length = length c.args.text.now;
+    } in
     let front = sum_by-take-le (λ t. length t.1) p.lines c.args.at in
     let part = lengths-part ss c.args.at (length ss - c.args.at) in
-    let left : lengths ss ≡ lengths (insert all c.args.at new) = ap lengths (c.deref_mut.ensures.value ∙ edit (goal.at.lay_out-requires c).After-unwrap) in
+    let left : lengths ss ≡ lengths (insert all c.args.at new) =
+    ap lengths (c.deref_mut.ensures.value ∙ edit (goal.at.lay_out-requires c).After-unwrap) in
     let more = sum_by-insert (λ t. t.length) all c.args.at new in
-    omega (arith, here, front, part, left, more, c.self.invariant.to_the_end, s.texts_are, s.cost_is, s.small, c.cost.ensures.value, c.if-cost-self.false, memory_shown c.self.inside p c.self.view_is)
+    omega (
+      arith,
+      here,
+      front,
+      part,
+      left,
+      more,
+      c.self.invariant.to_the_end,
+      s.texts_are,
+      s.cost_is,
+      s.small,
+      c.cost.ensures.value,
+      c.if-cost-self.false,
+      memory_shown c.self.inside p c.self.view_is,
+    )
 
 pub invariant_of-self-3 : goal.invariant_of-self-3
 invariant_of-self-3 c =
     let g = goal.at.invariant_of-self-3 c in
-    insert_kept c.self.inside c.args.self.now c.self.view_is c.self.invariant c.args.number c.args.at c.args.text.now c.requires.place c.cost.result c.cost.ensures.value c.if-cost-self.false
+    insert_kept c.self.inside c.args.self.now c.self.view_is c.self.invariant c.args.number c.args.at c.args.text.now
+    c.requires.place c.cost.result c.cost.ensures.value c.if-cost-self.false
     c.insert.new.self c.deref_mut.result.now c.lay_out.new.statements c.put_text.new.pool c.place_of-place.result
     (place g.After-place_of-place) c.deref_mut.ensures.value c.deref_mut.ensures.len c.lay_out.ensures
-    _ (edit g.After-unwrap) refl _ c.from.result c.from-2.result c.put_text.ensures c.try_reserve.ensures.items c.from.ensures c.from-2.ensures c.requires.statement
+    _ (edit g.After-unwrap) refl _ c.from.result c.from-2.result c.put_text.ensures c.try_reserve.ensures.items
+    c.from.ensures c.from-2.ensures c.requires.statement
 
 pub returns : goal.returns
 returns c =
     let g = goal.at.returns c in
-    insert_enters c.self.inside c.args.self.now c.self.view_is c.self.invariant c.args.number c.args.at c.args.text.now c.requires.place c.cost.result c.cost.ensures.value c.if-cost-self.false
+    insert_enters c.self.inside c.args.self.now c.self.view_is c.self.invariant c.args.number c.args.at c.args.text.now
+    c.requires.place c.cost.result c.cost.ensures.value c.if-cost-self.false
     c.insert.new.self c.deref_mut.result.now c.lay_out.new.statements c.put_text.new.pool c.place_of-place.result
     (place g.After-place_of-place) c.deref_mut.ensures.value c.deref_mut.ensures.len c.lay_out.ensures
-    _ (edit g.After-unwrap) refl _ c.from.result c.from-2.result c.put_text.ensures c.try_reserve.ensures.items c.from.ensures c.from-2.ensures
+    _ (edit g.After-unwrap) refl _ c.from.result c.from-2.result c.put_text.ensures c.try_reserve.ensures.items
+    c.from.ensures c.from-2.ensures
 
 pub insert-requires : goal.insert-requires
-insert-requires c = omega (arith, c.requires.place.in_range, length_shown c.self.inside c.args.self.now c.self.view_is, c.try_reserve-2.ensures.len, c.self.inside.statements.ok.0)
+insert-requires c = omega (
+  arith,
+  c.requires.place.in_range,
+  length_shown c.self.inside c.args.self.now c.self.view_is,
+  c.try_reserve-2.ensures.len,
+  c.self.inside.statements.ok.0,
+)
 
 pub offset_bounds-deref_mut-at : goal.offset_bounds-deref_mut-at
 offset_bounds-deref_mut-at c =
@@ -107,12 +155,20 @@ pub overflow_cast-cost : goal.overflow_cast-cost
 overflow_cast-cost c = omega (arith, short_text c.args.number c.args.text.now c.requires.statement)
 
 pub overflow_add-cost-2 : goal.overflow_add-cost-2
-overflow_add-cost-2 c = omega (arith, short_text c.args.number c.args.text.now c.requires.statement, small_cost c.args.self.now c.cost.ensures.sound c.cost.result c.cost.ensures.value)
+overflow_add-cost-2 c = omega (
+  arith,
+  short_text c.args.number c.args.text.now c.requires.statement,
+  small_cost c.args.self.now c.cost.ensures.sound c.cost.result c.cost.ensures.value,
+)
 
 pub overflow_cast-statement : goal.overflow_cast-statement
 overflow_cast-statement c = omega (arith, short_text c.args.number c.args.text.now c.requires.statement)
 
 pub place_of-place-requires : goal.place_of-place-requires
 place_of-place-requires c =
-    let same = same_shown c.self.inside (record c.self.inside { statements = c.try_reserve-2.new.self; pool = c.try_reserve.new.self }) c.try_reserve-2.ensures.items c.try_reserve.ensures.items refl ∙ c.self.view_is in
+    let same = same_shown c.self.inside (record c.self.inside {
+      statements = c.try_reserve-2.new.self;
+      pool = c.try_reserve.new.self;
+    }) c.try_reserve-2.ensures.items c.try_reserve.ensures.items refl
+    ∙ c.self.view_is in
     subst (λ (q : StoredProgram). c.args.at ≤ length q.lines) (sym same) c.requires.place.in_range

@@ -21,7 +21,8 @@ signed : (n : ℕ) → n ≤ 32767 → to_z w16 n ≡ pos n
 signed n small = omega (arith, ints)
 
 pub overflow_cast-result : goal.overflow_cast-result
-overflow_cast-result c = let here = shown_here (goal.at.overflow_cast-result c).In_ok-statement in omega (arith, here.high)
+overflow_cast-result c = let here = shown_here (goal.at.overflow_cast-result c).In_ok-statement in
+    omega (arith, here.high)
 
 pub returns-clause-value : goal.returns-clause-value
 returns-clause-value c =

@@ -14,7 +14,8 @@ pub returns-in-Some : goal.returns-in-Some
 returns-in-Some c =
     let item = (rw c.deref.ensures.value at c.in-Some.ensures.lookup).3 in
     let s = HasSizes-from_kept c.self.inside c.args.self.now c.self.view_is c.self.invariant in
-    (IsEntry-shown c.self.inside c.args.self.now c.self.view_is c.self.invariant c.args.at c.in-Some.statement.now (omega (arith, item.0, s.count)) (item.1 _)).place_is
+    (IsEntry-shown c.self.inside c.args.self.now c.self.view_is c.self.invariant c.args.at c.in-Some.statement.now
+    (omega (arith, item.0, s.count)) (item.1 _)).place_is
 
 pub returns-in-None : goal.returns-in-None
 returns-in-None c =

@@ -19,8 +19,10 @@ by_number : (c : After-binary_search_by_key)
 by_number c =
     let facts = c.binary_search_by_key.ensures in
     let by_key = facts.position (λ s. s.number) (answers_always _ _ _ (λ f a r g called. search rules)) in
-    let sorted : is_sorted nat_cmp (map (shown c.self.inside.pool.items) c.self.inside.statements.items) ≡ true = (both_true _ _ c.self.invariant.sound.is_map).0 in
-    rw (← c.self.view_is) (searched c.self.inside.pool.items c.self.inside.statements.items sorted c.args.number _ (rw c.deref-in-Some.ensures.value at facts.bound) (rw c.deref-in-Some.ensures.value at by_key))
+    let sorted : is_sorted nat_cmp (map (shown c.self.inside.pool.items) c.self.inside.statements.items) ≡ true =
+    (both_true _ _ c.self.invariant.sound.is_map).0 in
+    rw (← c.self.view_is) (searched c.self.inside.pool.items c.self.inside.statements.items sorted c.args.number _
+    (rw c.deref-in-Some.ensures.value at facts.bound) (rw c.deref-in-Some.ensures.value at by_key))
 
 pub returns-in-Some-clause-found : goal.returns-in-Some-clause-found
 returns-in-Some-clause-found c = (by_number c).found
@@ -34,8 +36,10 @@ after_all : (c : After-len) (last : Option Statement)
     → IsGapFor c.args.self.now.lines c.args.number c.len.result
 after_all c last is above =
     let items = c.self.inside.statements.items in
-    let sorted : is_sorted nat_cmp (map (shown c.self.inside.pool.items) items) ≡ true = (both_true _ _ c.self.invariant.sound.is_map).0 in
-    let gap = IsGapFor-end c.self.inside.pool.items items sorted c.args.number last (rw c.deref.ensures.value at is) above in
+    let sorted : is_sorted nat_cmp (map (shown c.self.inside.pool.items) items) ≡ true =
+    (both_true _ _ c.self.invariant.sound.is_map).0 in
+    let gap = IsGapFor-end c.self.inside.pool.items items sorted c.args.number last
+    (rw c.deref.ensures.value at is) above in
     rw (← c.self.view_is, c.len.ensures, c.self.inside.statements.ok.0) gap
 
 pub returns-in_default-clause-absent : goal.returns-in_default-clause-absent

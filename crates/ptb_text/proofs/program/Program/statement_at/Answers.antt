@@ -19,7 +19,8 @@ facts c =
 
 -- and its text stands in the pool
 entry : (c : After-index) → IsEntry c.args.self.now.lines c.args.at c.index.result.now
-entry c = IsEntry-shown c.self.inside c.args.self.now c.self.view_is c.self.invariant c.args.at c.index.result.now c.requires c.index.ensures
+entry c = IsEntry-shown c.self.inside c.args.self.now c.self.view_is c.self.invariant c.args.at c.index.result.now
+    c.requires c.index.ensures
 
 pub slice_bounds-text-end : goal.slice_bounds-text-end
 slice_bounds-text-end c =

@@ -6,7 +6,8 @@ use Rattle.ptb_words.proofs.cursor.Cursor.letter.Goals as goal
 
 pub returns : goal.returns
 returns c = record {
-  value = letter_taken _ _ c.in_ok-byte.byte _ _ c.in_ok-byte.ensures.letter c.in_ok-letter.ensures c.take_byte.ensures.place;
+  value = letter_taken _ _ c.in_ok-byte.byte _ _ c.in_ok-byte.ensures.letter c.in_ok-letter.ensures
+      c.take_byte.ensures.place;
   text = c.take_byte.ensures.text;
   taken = λ _. c.take_byte.ensures.taken;
   left = le_of_lt c.take_byte.ensures.taken;

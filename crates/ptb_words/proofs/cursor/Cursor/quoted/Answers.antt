@@ -8,7 +8,8 @@ use Rattle.ptb_words.proofs.cursor.Cursor.quoted.Goals as goal
 
 pub returns-in_default-bytes_before-clause-value : goal.returns-in_default-bytes_before-clause-value
 returns-in_default-bytes_before-clause-value c =
-    let quote : is_quote c.in-Some.byte ≡ true = elim c.if-byte-eq39.either [ inl e ↦ rw e refl | inr e ↦ rw e.1 refl ] in
+    let quote : is_quote c.in-Some.byte ≡ true =
+    elim c.if-byte-eq39.either [ inl e ↦ rw e refl | inr e ↦ rw e.1 refl ] in
     quotation_open _ _ _ _ _ (text_is c.self.view_is)
     (next_is c.self.view_is c.self.invariant.0) c.in-Some.ensures.byte quote
     (sym c.in_default-bytes_before.ensures.value)
@@ -18,8 +19,10 @@ returns-clause-value c =
     let same = text_is c.self.view_is in
     let at = next_is c.self.view_is c.self.invariant.0 in
     let again = next_is c.pass_to.view_is c.pass_to.invariant.0 in
-    let quote : is_quote c.in-Some.byte ≡ true = elim c.if-byte-eq39.either [ inl e ↦ rw e refl | inr e ↦ rw e.1 refl ] in
-    let closed = λ (k p : ℕ). quotation_closed _ _ _ _ _ c.in-Some.byte k p same at again c.in-Some.ensures.byte quote in
+    let quote : is_quote c.in-Some.byte ≡ true =
+    elim c.if-byte-eq39.either [ inl e ↦ rw e refl | inr e ↦ rw e.1 refl ] in
+    let closed = λ (k p : ℕ). quotation_closed _ _ _ _ _ c.in-Some.byte k p same at again c.in-Some.ensures.byte
+    quote in
     grind (arith, closed)
 
 pub returns-clause-piece : goal.returns-clause-piece
