@@ -1,13 +1,12 @@
 -- This file defines what `evaluate` and `target` promise.
 --     expression_there s, variable_there s           what is read of the expression, and of the variable, at a cursor
---     expression_value c s, variable_target c s      what it comes to
---     Evaluates refused f c d result                 f was worked out between two states of a chooser, and came to the
---                                                    result
+--     expression_value c s, variable_target c s      its value, and where a value is stored
+--     Evaluates refused f c d result                 f was evaluated to the result, between two states of a chooser
 --     IsWhole r j                                    what was read is whole, and j is the place after it
 --     IsTarget c v                                   a value can be stored there
 --     IsMarkedWithin t result                        a fault is marked inside the text
---     IsEvaluated .. c a b old new result            the expression at a cursor, at a and then at b, comes to the
---                                                    result
+--     IsEvaluated .. c a b old new result            the expression at a cursor, at a and then at b, is evaluated to
+--                                                    the result
 use Rattle.std.specs.Prelude.{◌≡◌, ℕ, ◌≤◌, List, length, ℤ, Result, Ok, Err, IfOk}
 use Rattle.ptb_words.specs.CursorState.{CursorState, bytes_left}
 use Rattle.ptb_words.specs.Finding.{LiesAhead}

@@ -77,7 +77,7 @@ impl Text {
         requires { length self.old < 4096 }
         ensures { self.new ≡ self.old ++ byte ∷ [] }
     {
-        // the count is read before the byte is stored: what is behind a pointer is not read again then
+        // the count is read first: after the store, the compiler would have to read it again
         let at = self.count;
         self.bytes[at] = byte;
         self.count = at + 1;

@@ -126,7 +126,7 @@ module _ (mode : Mode) (reply : List ℕ → Reply) (Fewer : List ℕ → Type 0
     loaded = reports_note-loaded fault;
   }
 
--- ---- all that is told of a mode
+-- ---- the contract of a mode
 
 -- how often the writer had failed, and has failed
 abbrev pub TellsWriter : Type 0 → ExploreFault → ℕ → ℕ → Type 0
