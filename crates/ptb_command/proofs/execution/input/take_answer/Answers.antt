@@ -1,5 +1,5 @@
 -- This file answers what is left to prove of `take_answer`.
-use Rattle.std.proofs.Common.{◌≡◌, ◌∙◌, ◌++◌, [], ◌∷◌, ◌≤◌, List, ℕ, Ok, ap, append_assoc, refl, subst, sym}
+use Rattle.std.proofs.Common.{◌≡◌, ◌∙◌, ◌++◌, [], ◌∷◌, List, ℕ, Ok, ap, append_assoc, refl, subst, sym}
 use Rattle.ptb_devices.specs.Sources.{ready_lines}
 use Rattle.ptb_command.specs.Act.{item_action}
 use Rattle.ptb_command.specs.Actions.{goes_on}
