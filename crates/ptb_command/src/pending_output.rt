@@ -134,20 +134,6 @@ impl PendingOutput {
         true
     }
 
-    /// Takes the prompt of a letter: its name and a colon, if there is room for both. Whether it did; it
-    /// takes no other prompt.
-    // two bytes cost less than a call that copies a name of any length
-    #[inline(always)]
-    pub(crate) fn takes_prompt(&mut self, name: &[u8]) -> bool
-        ensures taken { IsTrue result → self.new ≡ self.old ++ (name.now ++ 58 ∷ []) }
-        ensures full { IsFalse result → self.new ≡ self.old }
-    {
-        match name {
-            [letter] => self.try_append(&[*letter, b':']),
-            _ => false,
-        }
-    }
-
     /// Shows what was gathered. Nothing is gathered then, also where the screen fails.
     pub(crate) fn flush<S: Screen>(&mut self, screen: &mut S, fresh: &mut bool) -> Result<(), Stop>
         ensures comes { (d : Devices) (cells : Cells) → Comes nothing_refused

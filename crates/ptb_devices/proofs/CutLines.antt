@@ -148,18 +148,22 @@ pub record KeepsUpTo (bytes : List ℕ) (i : ℕ) : Type 0 where
 pub KeepsUpTo_none : (bytes : List ℕ) → KeepsUpTo bytes 0
 KeepsUpTo_none bytes = record { piece = None; cut = CutsUpTo_none None bytes; all = refl; fits = omega arith }
 
-pub KeepsUpTo_more : (bytes : List ℕ) (i : ℕ) → i < length bytes → (get_or bytes i 0 ≡ 10 → ⊥) → (i ≡ line_limit → ⊥)
+-- a byte that the cleaning keeps ends no line
+no_end : (byte : ℕ) → cleaned_byte byte ≡ byte ∷ [] → byte ≡ 10 → ⊥
+no_end byte stays e =
+    let none : 0 ≡ 1 = ap length (subst (λ (b : ℕ). cleaned_byte b ≡ b ∷ []) e stays) in omega (arith, none)
+
+pub KeepsUpTo_more : (bytes : List ℕ) (i : ℕ) → i < length bytes → i + 1 ≤ line_limit
     → cleaned_byte (get_or bytes i 0) ≡ get_or bytes i 0 ∷ []
     → KeepsUpTo bytes i → KeepsUpTo bytes (i + 1)
-KeepsUpTo_more bytes i inside other room stays before =
-    let less : i < line_limit = omega (arith, before.fits, room) in
-    let long : length (take i bytes) < line_limit = omega (arith, length-take i bytes, less) in
+KeepsUpTo_more bytes i inside room stays before =
+    let long : length (take i bytes) < line_limit = omega (arith, length-take i bytes, room) in
     record {
       piece = Some (with_byte (kept_bytes before.piece) (get_or bytes i 0));
-      cut = CutsUpTo_more None before.piece bytes i inside other before.cut;
+      cut = CutsUpTo_more None before.piece bytes i inside (no_end (get_or bytes i 0) stays) before.cut;
       all = ap (λ k. with_byte k (get_or bytes i 0)) before.all
           ∙ with_byte-kept (take i bytes) (get_or bytes i 0) (get_or bytes i 0) long stays ∙ take-next bytes i inside;
-      fits = omega (arith, less);
+      fits = room;
     }
 
 pub KeepsUpTo_end : (bytes : List ℕ) (i : ℕ) → i < length bytes → get_or bytes i 0 ≡ 10 → KeepsUpTo bytes i

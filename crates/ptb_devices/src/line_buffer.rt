@@ -220,13 +220,12 @@ fn line_count(bytes: &[u8]) -> Option<usize>
     ensures within { IfSome result (λ n. n < length bytes.now) }
     ensures short { IfSome result (λ n. n ≤ line_limit) }
 {
-    for (count, byte) in bytes.iter().enumerate() {
-        if *byte == b'\n' {
-            return Some(count);
-        }
-        if count == LINE_LIMIT || !stays(*byte) {
-            return None;
-        }
+    let mut count = 0;
+    while count < bytes.len() && stays(bytes[count]) {
+        count += 1;
+    }
+    if count <= LINE_LIMIT && count < bytes.len() && bytes[count] == b'\n' {
+        return Some(count);
     }
     None
 }
