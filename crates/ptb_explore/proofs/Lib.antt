@@ -14,6 +14,7 @@ pub mod Trial
 pub mod Limits
 pub mod RunPrefix
 pub mod Keep
+pub mod NewestCopies
 pub mod Runners
 pub mod Opened
 pub mod Exits
