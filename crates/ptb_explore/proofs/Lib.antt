@@ -10,6 +10,8 @@ pub mod Chances
 pub mod RaisedAnswers
 pub mod Attempt
 pub mod RecorderPlans
+pub mod Recorded
+pub mod Given
 pub mod Trial
 pub mod Limits
 pub mod RunPrefix
