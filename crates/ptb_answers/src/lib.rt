@@ -5,15 +5,18 @@
 //! above may rely on the laws of `Chooser` (an answer is one to its question, and what was given
 //! grows by it), on `Listed` (the answers of a list, in order), on `Seeded`, whose answers are those
 //! of `specs/Seeds`, and on what the command line and the machine share: the `Rules` of a run, and how
-//! lists of answers are written (`Form`, `Marked` and `specs/AnswerText`).
+//! lists of answers are written (`Form`, `Marked` and `specs/AnswerText`), or kept (`Asked` and
+//! `specs/Asked`).
 #![tactic(auto)]
 
+mod asked;
 mod chooser;
 mod form;
 mod pause;
 mod rules;
 mod seeded;
 
+pub use asked::Asked;
 pub use chooser::{Chooser, Listed};
 pub use form::{Form, Marked};
 pub use pause::Pause;

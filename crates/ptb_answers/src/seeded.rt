@@ -2,9 +2,11 @@
 
 ghost use Rattle.std.specs.Prelude.{◌≡◌, ◌≤ℤ◌, [], length, pos};
 ghost use Rattle.rand_pcg.specs.Pcg.{pcg32};
+ghost use Rattle.ptb_answers.specs.Asked.{answers_in, bounds_in};
 ghost use Rattle.ptb_answers.specs.Seeds.{drawn_answer, drawn_from, generator_after};
 ghost use Rattle.ptb_answers.specs.Seeds.{generator_of, seeded_choices};
 
+use crate::asked::Asked;
 use crate::chooser::Chooser;
 use crate::pause::Pause;
 use rand_core::utils::NextWord;
@@ -24,22 +26,22 @@ pub struct Seeded {
     // The generator's state before the first of the answers.
     first: u64,
     generator: Lcg64Xsh32,
-    answers: Vec<i16>,
-    bounds: Vec<i16>,
+    asked: Vec<Asked>,
 }
 
 impl Model for Seeded {
+    ghost use Rattle.ptb_answers.specs.Asked.{answers_in, bounds_in};
     ghost use Rattle.ptb_answers.specs.Seeds.{HasDrawn, SeededAnswers, at_state};
 
     ghost Value = { SeededAnswers };
 
     ghost view = { λ s. record {
       first = at_state s.generator s.first;
-      bounds = s.bounds.items;
+      bounds = bounds_in s.asked.items;
     } };
 
-    ghost invariant = { λ s. HasDrawn (at_state s.generator s.first) s.bounds.items s.answers.items
-        s.generator };
+    ghost invariant = { λ s. HasDrawn (at_state s.generator s.first) (bounds_in s.asked.items)
+        (answers_in s.asked.items) s.generator };
 }
 
 impl Seeded {
@@ -51,23 +53,16 @@ impl Seeded {
         Seeded {
             first: generator.state(),
             generator,
-            answers: Vec::new(alloc),
-            bounds: Vec::new(alloc),
+            asked: Vec::new(alloc),
         }
     }
 
-    /// The answers that it gave, in order.
-    pub fn answers(&self) -> &[i16]
-        ensures { result.now ≡ drawn_from self.now.first self.now.bounds }
+    /// The answers that it gave, in order, each with its bound.
+    pub fn asked(&self) -> &[Asked]
+        ensures answers { answers_in result.now ≡ drawn_from self.now.first self.now.bounds }
+        ensures bounds { bounds_in result.now ≡ self.now.bounds }
     {
-        self.answers.as_slice()
-    }
-
-    /// The bound of each answer that it gave.
-    pub fn bounds(&self) -> &[i16]
-        ensures { result.now ≡ self.now.bounds }
-    {
-        self.bounds.as_slice()
+        self.asked.as_slice()
     }
 
     /// Forgets the answers that it gave, and keeps their room. The next answer is drawn by the word
@@ -79,8 +74,7 @@ impl Seeded {
         } }
     {
         self.first = self.generator.state();
-        self.answers.clear();
-        self.bounds.clear();
+        self.asked.clear();
     }
 }
 
@@ -92,17 +86,17 @@ impl Chooser for Seeded {
     ghost refused = { λ _. RefusedForMemory };
 
     fn choose(&mut self, bound: i16) -> Result<i16, Pause> {
-        // Both lists grow before a word is drawn, so that no word is lost where one can't.
-        if self.bounds.push(bound).is_err() {
-            return Err(Pause::Memory);
-        }
-        if self.answers.push(bound).is_err() {
-            let _ = self.bounds.pop();
+        // The list grows before a word is drawn, so that no word is lost where it can't.
+        let unanswered = Asked {
+            answer: bound,
+            bound,
+        };
+        if self.asked.push(unanswered).is_err() {
             return Err(Pause::Memory);
         }
         let answer = drawn_answer(self.generator.next_word(), bound);
-        let last = self.answers.len() - 1;
-        self.answers[last] = answer;
+        let last = self.asked.len() - 1;
+        self.asked[last] = Asked { answer, bound };
         Ok(answer)
     }
 }

@@ -11,6 +11,7 @@ use Rattle.ptb_answers.specs.Choices.{Choices}
 use Rattle.ptb_devices.specs.Sources.{LineList}
 use Rattle.ptb_command.specs.Configuration.{Configuration}
 use Rattle.ptb_machine.specs.Play.{play}
+use Rattle.ptb_answers.specs.Asked.{answers_in, bounds_in}
 use Rattle.ptb_explore.specs.declared.copies.KeptCopy.{KeptCopy}
 use Rattle.ptb_explore.specs.declared.plan.Position.{Position}
 use Rattle.ptb_explore.specs.declared.plan.Position.TheVariants.{AtStart, AtRun, AtEnd}
@@ -44,40 +45,41 @@ front_none (x ∷ xs) ys e = absurd cc
 
 module _ (p : StoredProgram) (input : List (List ℕ)) (rules : Rules) where
   pub position_copies : (position : Position) (r : Report) (ks : List KeptCopy)
-      → AreCopiesAt p input rules position r ks → AreCopies p input rules r.answers.items r.transcript.items ks
-  position_copies AtStart r ks h = kept_none p input rules r.answers.items r.transcript.items ks h
+      → AreCopiesAt p input rules position r ks
+      → AreCopies p input rules (answers_in r.asked.items) r.transcript.items ks
+  position_copies AtStart r ks h = kept_none p input rules (answers_in r.asked.items) r.transcript.items ks h
   position_copies AtRun r ks h = h
-  position_copies AtEnd r ks h = kept_none p input rules r.answers.items r.transcript.items ks h
+  position_copies AtEnd r ks h = kept_none p input rules (answers_in r.asked.items) r.transcript.items ks h
 
   pub none_at : (position : Position) (r : Report) (ks : List KeptCopy) → ks ≡ []
       → AreCopiesAt p input rules position r ks
   none_at AtStart r ks e = e
-  none_at AtRun r ks e = kept_none p input rules r.answers.items r.transcript.items ks e
+  none_at AtRun r ks e = kept_none p input rules (answers_in r.asked.items) r.transcript.items ks e
   none_at AtEnd r ks e = e
 
   -- what contracts see of them
   pub kept_at : (position : Position) (r : Report) (ks : List KeptCopy) → AreCopiesAt p input rules position r ks
-      → AreKeptAt (front_at position r.answers.items) (kept_runs r.answers.items ks)
-  kept_at AtStart r ks h = ap (kept_runs r.answers.items) h
-  kept_at AtRun r ks h = kept_beginnings p input rules r.answers.items r.transcript.items ks h
-  kept_at AtEnd r ks h = ap (kept_runs r.answers.items) h
+      → AreKeptAt (front_at position (answers_in r.asked.items)) (kept_runs (answers_in r.asked.items) ks)
+  kept_at AtStart r ks h = ap (kept_runs (answers_in r.asked.items)) h
+  kept_at AtRun r ks h = kept_beginnings p input rules (answers_in r.asked.items) r.transcript.items ks h
+  kept_at AtEnd r ks h = ap (kept_runs (answers_in r.asked.items)) h
 
   pub places_at : (position : Position) (r : Report) (ks : List KeptCopy) → AreCopiesAt p input rules position r ks
-      → ArePlaces p input rules (kept_runs r.answers.items ks)
-  places_at position r ks h = kept_places p input rules r.answers.items r.transcript.items 0 0 ks
+      → ArePlaces p input rules (kept_runs (answers_in r.asked.items) ks)
+  places_at position r ks h = kept_places p input rules (answers_in r.asked.items) r.transcript.items 0 0 ks
       (position_copies position r ks h)
 
   -- what is left of the copies ends with the newest that the next answers begin with
   next_steps : (under : Answers) (position : Position) (r : Report) (plan ones answers : Answers) (i : ℕ)
       (old left : List KeptCopy)
-      → PlansNext under position r.answers.items r.bounds.items plan (Some i) → AreCopiesAt p input rules position r old
-      → answers ≡ plan ++ ones → WentBack i old left
-      → kept_steps answers (kept_runs r.answers.items old) ≡ last_steps left
+      → PlansNext under position (answers_in r.asked.items) (bounds_in r.asked.items) plan (Some i)
+      → AreCopiesAt p input rules position r old → answers ≡ plan ++ ones → WentBack i old left
+      → kept_steps answers (kept_runs (answers_in r.asked.items) old) ≡ last_steps left
   next_steps under AtStart r plan ones answers i old left n h e back =
       let none : left ≡ [] = front_none left back.0.dropped (sym h ∙ back.0.split) in
       rw (h, none) refl
   next_steps under AtRun r plan ones answers i old left n h e back =
-      let a = r.answers.items in
+      let a = (answers_in r.asked.items) in
       let y = slice_index_or a i (pos 0) +ℤ pos 1 in
       let is : answers ≡ take i a ++ y ∷ ones = e ∙ ap (λ s. s ++ ones) n.1 ∙ append_assoc (take i a) (y ∷ []) ones in
       rw is (steps_after p input rules i a ones y n.0.within (omega (arith, ints)) r.transcript.items old left h back)
@@ -86,9 +88,9 @@ module _ (p : StoredProgram) (input : List (List ℕ)) (rules : Rules) where
   -- so many steps are played
   pub next_played : (under : Answers) (position : Position) (r : Report) (plan ones answers : Answers) (i : ℕ)
       (old : List KeptCopy) (played steps new : ℕ)
-      → PlansNext under position r.answers.items r.bounds.items plan (Some i) → AreCopiesAt p input rules position r old
-      → answers ≡ plan ++ ones → PlaysOn i old played steps new
-      → new ≡ more_played played (steps - kept_steps answers (kept_runs r.answers.items old))
+      → PlansNext under position (answers_in r.asked.items) (bounds_in r.asked.items) plan (Some i)
+      → AreCopiesAt p input rules position r old → answers ≡ plan ++ ones → PlaysOn i old played steps new
+      → new ≡ more_played played (steps - kept_steps answers (kept_runs (answers_in r.asked.items) old))
   next_played under position r plan ones answers i old played steps new n h e plays =
       plays.2 ∙ ap (λ k. more_played played (steps - k))
       (sym (next_steps under position r plan ones answers i old plays.0 n h e plays.1))

@@ -10,10 +10,13 @@ pub mod Chances
 pub mod RaisedAnswers
 pub mod Attempt
 pub mod RecorderPlans
+pub mod Recorded
+pub mod Given
 pub mod Trial
 pub mod Limits
 pub mod RunPrefix
 pub mod Keep
+pub mod NewestCopies
 pub mod Runners
 pub mod Opened
 pub mod Exits

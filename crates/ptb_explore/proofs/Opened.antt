@@ -7,6 +7,7 @@ use Rattle.ptb_answers.specs.AnswerText.{answers_of}
 use Rattle.ptb_answers.specs.Outcome.{Answers, Outcome, bounds, is_open}
 use Rattle.ptb_text.specs.Statements.{StoredProgram}
 use Rattle.ptb_machine.specs.Play.{Finish, play}
+use Rattle.ptb_answers.specs.Asked.{answers_in, bounds_in}
 use Rattle.ptb_explore.specs.declared.copies.KeptCopy.{KeptCopy}
 use Rattle.ptb_explore.specs.declared.runner.Runner.{Runner}
 use Rattle.ptb_explore.specs.Copies.{AreCopies, AreBeginnings, KeptRun, kept_runs}
@@ -59,26 +60,27 @@ opened_played game g same under old new none h =
 -- ---- where it was
 
 pub stays : (old new : Runner) → IsSameGame old new → (under : Answers) (position : Position)
-    → new.report.answers.items ≡ old.report.answers.items → new.report.bounds.items ≡ old.report.bounds.items
-    → IsPosition (game_of old) under position old.report.answers.items old.report.bounds.items
-    → IsPosition (game_of new) under position new.report.answers.items new.report.bounds.items
-stays old new same under position answers bs h =
+    → new.report.asked.items ≡ old.report.asked.items
+    → IsPosition (game_of old) under position (answers_in old.report.asked.items) (bounds_in old.report.asked.items)
+    → IsPosition (game_of new) under position (answers_in new.report.asked.items) (bounds_in new.report.asked.items)
+stays old new same under position asked h =
     rw (
       ap (λ (r : Runner). r.player) same,
       ap (λ (r : Runner). r.lines.now) same,
       ap (λ (r : Runner). r.rules) same,
-      answers,
-      bs,
+      asked,
     ) h
 
 -- ---- at a run
 
 pub at_run : (old new : Runner) → IsSameGame old new → (list under : List Marked) → IsMarkedRun (game_of old) list
-    → new.report.answers.items ≡ answers_of list → new.report.bounds.items ≡ bounds (game_of old) (answers_of list)
+    → (answers_in new.report.asked.items) ≡ answers_of list
+    → (bounds_in new.report.asked.items) ≡ bounds (game_of old) (answers_of list)
     → begins_with (answers_of list) (answers_of under) ≡ true
     → AreCopies old.player old.lines.now old.rules (answers_of list) new.report.transcript.items new.copies.kept.items
-    → IsPosition (game_of new) (answers_of under) AtRun new.report.answers.items new.report.bounds.items × AreCopies
-    new.player new.lines.now new.rules new.report.answers.items new.report.transcript.items new.copies.kept.items
+    → IsPosition (game_of new) (answers_of under) AtRun (answers_in new.report.asked.items)
+    (bounds_in new.report.asked.items) × AreCopies new.player new.lines.now new.rules
+    (answers_in new.report.asked.items) new.report.transcript.items new.copies.kept.items
 at_run old new same list under run answers bs begins copies =
     rw (
       ap (λ (r : Runner). r.player) same,
@@ -89,15 +91,16 @@ at_run old new same list under run answers bs begins copies =
 
 -- what contracts see of it
 pub gone_view : (old new : Runner) → IsSameGame old new → (under : Answers) (front : Front) (list : List Marked)
-    → new.report.answers.items ≡ answers_of list → (kept before : List KeptRun) (n m : ℕ)
-    → exploration new.player new.lines.now new.rules under (At new.report.answers.items) kept n
+    → (answers_in new.report.asked.items) ≡ answers_of list → (kept before : List KeptRun) (n m : ℕ)
+    → exploration new.player new.lines.now new.rules under (At (answers_in new.report.asked.items)) kept n
     ≡ record (exploration old.player old.lines.now old.rules under front before m) {
       front = At (answers_of list);
       kept = kept;
       played = n;
     }
 gone_view old new same under front list answers kept before n m =
-    ap (λ (r : Runner). exploration r.player r.lines.now r.rules under (At new.report.answers.items) kept n) same
+    ap (λ (r : Runner). exploration r.player r.lines.now r.rules under (At (answers_in new.report.asked.items)) kept n)
+    same
     ∙ ap (λ a. exploration old.player old.lines.now old.rules under (At a) kept n) answers
 
 pub gone_kept : (p : StoredProgram) (input : List (List ℕ)) (rules : Rules) (a b : Answers) (w : List ℕ)

@@ -1,8 +1,8 @@
 -- This file proves which answers the next run begins with.
 -- Main lemmas: `next_plan` and `last_plan`.
 use Rattle.std.proofs.Common.{◌≡◌, ℕ, zero, suc, ◌+◌, ◌<◌, ◌≤◌, List, [], ◌∷◌, ◌++◌, length, take}
-use Rattle.std.proofs.Common.{drop, true, refl, ap, sym, subst, ◌∙◌, arith, append_assoc}
-use Rattle.std.proofs.Common.{append-nil, length-append}
+use Rattle.std.proofs.Common.{drop, true, refl, ap, sym, ◌∙◌, arith, append_assoc, append-nil}
+use Rattle.std.proofs.Common.{length-append}
 use Rattle.std.specs.Prelude.{ℤ, pos, Some, None, ◌+ℤ◌, ◌≤ℤ◌, ◌<ℤ◌, int_le, slice_index_or}
 use Rattle.std.proofs.lemmas.Bool.{and_from, and_parts}
 use Rattle.std.specs.Ordering.{int_eq}
@@ -14,7 +14,6 @@ use Rattle.ptb_explore.specs.RunTree.{Front, Start, At, End, IsRun, IsNextRun, I
 use Rattle.ptb_explore.specs.declared.plan.Position.{Position}
 use Rattle.ptb_explore.specs.declared.plan.Position.TheVariants.{AtStart, AtRun, AtEnd}
 use Rattle.ptb_explore.specs.Plans.{IsPlan, IsLastBelow, PlansNext, IsPosition, front_at, PlanEndsWith}
-use Rattle.ptb_explore.proofs.Bounds.{length-bounds}
 use Rattle.ptb_explore.proofs.Order.{before_from_differ, before_front, begins_from, begins_is}
 use Rattle.ptb_explore.proofs.Tree.{run_asks}
 use Rattle.ptb_explore.proofs.Next.{AtTop, is_answer_is, between_none, ones_first, top_last}
@@ -183,11 +182,3 @@ pub plan_begins : (under answers plan : Answers) (bounded : List ℤ) (i : ℕ)
 plan_begins under answers plan bounded i p =
     let u = p.0.within in
     (omega arith, ap (take i) p.1 ∙ take_front i answers (_ ∷ []) (omega arith))
-
--- where it is at a run, there are as many bounds as answers
-pub position_lengths : {A W : Type 0} (play : Answers → Outcome A W) (under : Answers) (position : Position)
-    (answers : Answers) (bounded : List ℤ)
-    → IsPosition play under position answers bounded → position ≡ AtRun → length answers ≡ length bounded
-position_lengths play under position answers bounded s e =
-    let at = subst (λ (s : Position). IsPosition play under s answers bounded) e s in
-    sym (ap length at.1 ∙ length-bounds play [] answers)

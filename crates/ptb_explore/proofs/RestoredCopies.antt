@@ -18,15 +18,15 @@ use Rattle.ptb_machine.specs.Play.{play}
 use Rattle.ptb_explore.specs.Copies.{Agrees, GoesBack, GoesBackTo, WentBack, last_steps}
 use Rattle.ptb_explore.specs.Plans.{IsFresh}
 use Rattle.ptb_explore.specs.PlannedPlays.{IsRunPrefix}
-use Rattle.ptb_explore.specs.Recorders.{choices_of}
+use Rattle.ptb_explore.specs.Recorders.{choices_of, recorded}
+use Rattle.ptb_explore.proofs.Recorded.{fresh_bounds}
 use Rattle.ptb_explore.proofs.RunPrefix.{run_prefix_at_first}
 use Rattle.ptb_explore.proofs.Trial.{fresh_plan}
 
 -- what is planned is still the plan
-pub same_plan : (r s : Recorder) → IsFresh r → s.answers.items ≡ r.answers.items → s.planned ≡ r.planned
-    → take s.planned s.answers.items ≡ r.answers.items
-same_plan r s f answers planned = ap (λ n. take n s.answers.items) planned ∙ ap (take r.planned) answers
-    ∙ fresh_plan r f
+pub same_plan : (r s : Recorder) → IsFresh r → (recorded s) ≡ (recorded r) → s.planned ≡ r.planned
+    → take s.planned (recorded s) ≡ (recorded r)
+same_plan r s f answers planned = ap (λ n. take n (recorded s)) planned ∙ ap (take r.planned) answers ∙ fresh_plan r f
 
 pub none_taken : (source : LineList) → source.taken ≡ 0 → source.taken ≤ length source.lines
 none_taken source e = omega arith
@@ -47,8 +47,8 @@ pub begun_prefix : {B E : Type 0} (r : Result B E) (at : B → Configuration) (p
     → IfOk r (λ b. IsRunPrefix p source.lines rules (choices_of trial) shown (drop source.taken source.lines) (at b))
 begun_prefix r at p source rules trial fresh begins shown cut =
     let taken : (choices_of trial).taken ≡ [] =
-    ap (λ (bs : List ℤ). take (length bs) trial.answers.items) fresh.none_given in
-    let kept : (choices_of trial).kept ≡ Some [] = ap Some fresh.none_given in
+    ap (λ (bs : List ℤ). take (length bs) (recorded trial)) (fresh_bounds trial fresh) in
+    let kept : (choices_of trial).kept ≡ Some [] = ap Some (fresh_bounds trial fresh) in
     IfOk-weaker r _ _ (λ b first. rw (begins, cut) (run_prefix_at_first p source.lines rules (choices_of trial)
     (at b) taken kept (first source.lines rules.choose)))
 

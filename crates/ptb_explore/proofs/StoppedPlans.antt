@@ -2,7 +2,7 @@
 -- Main lemma: `beginning_ends`.
 use Rattle.std.proofs.Common.{◌≡◌, ℕ, zero, suc, ◌-◌, ◌≤◌, List, [], ◌∷◌, ◌++◌, length, take, drop}
 use Rattle.std.proofs.Common.{replicate, Some, true, false, refl, ap, sym, subst, ◌∙◌, arith}
-use Rattle.std.proofs.Common.{append_assoc, append-nil, length-append}
+use Rattle.std.proofs.Common.{append_assoc, append-nil, length-append, vec_len}
 use Rattle.std.specs.Prelude.{ℤ, pos, ◌+ℤ◌, int_le, slice_index_or}
 use Rattle.std.proofs.lemmas.Bool.{and_from}
 use Rattle.std.proofs.lemmas.Int.{ints}
@@ -18,7 +18,7 @@ use Rattle.ptb_explore.specs.Beginnings.{stopped}
 use Rattle.ptb_explore.specs.Copies.{Agrees}
 use Rattle.ptb_explore.specs.Plans.{PlanEndsWith, IsPosition, PlansNext, stopping_plan}
 use Rattle.ptb_explore.specs.PlannedPlays.{Holds, NextIsOutside, PlayEnds}
-use Rattle.ptb_explore.specs.Recorders.{choices_of}
+use Rattle.ptb_explore.specs.Recorders.{choices_of, given_bounds, recorded}
 use Rattle.ptb_explore.specs.RunTree.{IsRun}
 use Rattle.ptb_explore.proofs.Attempt.{all_ones, out_closes, run_closes}
 use Rattle.ptb_explore.proofs.RaisedAnswers.{plan_begins}
@@ -104,9 +104,9 @@ whole_unit (Out n w) h = absurd cc
 
 module _ (play : Answers → Outcome Finish (List ℕ)) (most : ℕ) (reads : IsReader play most) (n : ℕ) (plan : Answers)
     (fits : length plan ≤ n) (opens : is_open (stopped n play plan) ≡ true)
-    (r : Recorder) (planned : take r.planned r.answers.items ≡ stopping_plan n plan) where
+    (r : Recorder) (planned : take r.planned (recorded r) ≡ stopping_plan n plan) where
   abbrev taken : Answers
-  taken = take (length r.bounds.items) r.answers.items
+  taken = take (length (given_bounds r)) (recorded r)
 
   abbrev ones : ℕ
   ones = n - length plan
@@ -116,14 +116,14 @@ module _ (play : Answers → Outcome Finish (List ℕ)) (most : ℕ) (reads : Is
 
   cut : Cut plan ones taken
   cut =
-      let later : Answers = replicate (r.answers.len - r.planned) (pos 1) in
-      let all : r.answers.items ≡ plan ++ replicate ones (pos 1) ++ pos 0 ∷ later =
+      let later : Answers = replicate (vec_len r.asked - r.planned) (pos 1) in
+      let all : (recorded r) ≡ plan ++ replicate ones (pos 1) ++ pos 0 ∷ later =
       r.later_one ∙ ap (λ p. p ++ later) planned ∙ append_assoc (plan ++ replicate ones (pos 1)) (pos 0 ∷ []) later in
-      cut_taken plan ones taken (drop (length r.bounds.items) r.answers.items) later
-      (sym all ∙ sym (take-append-drop (length r.bounds.items) r.answers.items))
+      cut_taken plan ones taken (drop (length (given_bounds r)) (recorded r)) later
+      (sym all ∙ sym (take-append-drop (length (given_bounds r)) (recorded r)))
 
   ends_with : (j : ℕ) → j ≤ ones → taken ≡ plan ++ replicate j (pos 1) → IsRun (stopped n play) taken
-      → r.bounds.items ≡ bounds play taken → PlanEndsWith (stopped n play) plan taken r.bounds.items tt
+      → (given_bounds r) ≡ bounds play taken → PlanEndsWith (stopped n play) plan taken (given_bounds r) tt
   ends_with j l e run b = record {
     ones = replicate j (pos 1);
     all_ones = all_ones j;
@@ -134,13 +134,13 @@ module _ (play : Answers → Outcome Finish (List ℕ)) (most : ℕ) (reads : Is
 
   -- it came to an end
   ended : (result : Finish) → Holds play (choices_of r) (λ later. Done result later)
-      → PlanEndsWith (stopped n play) plan taken r.bounds.items tt
+      → PlanEndsWith (stopped n play) plan taken (given_bounds r) tt
   ended result h = by_cut cut
     where
       done : play taken ≡ Done result []
       done = ap play (sym (append-nil taken)) ∙ h.rest []
 
-      by_cut : Cut plan ones taken → PlanEndsWith (stopped n play) plan taken r.bounds.items tt
+      by_cut : Cut plan ones taken → PlanEndsWith (stopped n play) plan taken (given_bounds r) tt
       by_cut (Short x s e) =
           absurd (run_closes play most reads taken s x result done (subst (λ a. is_open (play a) ≡ true) e open_plan))
       by_cut (Ones j l e) =
@@ -152,7 +152,7 @@ module _ (play : Answers → Outcome Finish (List ℕ)) (most : ℕ) (reads : Is
             l,
             fits,
           ) in
-          let theirs : r.bounds.items ≡ bounds play taken = (let k = h.bounds_are in cc) in
+          let theirs : (given_bounds r) ≡ bounds play taken = (let k = h.bounds_are in cc) in
           ends_with j l e (whole_run play n most reads taken few (ap is_whole done)) theirs
       by_cut (Long s e) =
           let asked = run_asks play most reads (plan ++ replicate ones (pos 1)) s (pos 0)
@@ -162,10 +162,10 @@ module _ (play : Answers → Outcome Finish (List ℕ)) (most : ℕ) (reads : Is
 
   -- it was stopped
   stopped_there : NextIsOutside play (choices_of r) r.refused_bound
-      → PlanEndsWith (stopped n play) plan taken r.bounds.items tt
+      → PlanEndsWith (stopped n play) plan taken (given_bounds r) tt
   stopped_there h = by_next (next_is plan ones taken h.later h.next (sym planned ∙ h.plan_is))
     where
-      by_next : Next plan ones taken h.next → PlanEndsWith (stopped n play) plan taken r.bounds.items tt
+      by_next : Next plan ones taken h.next → PlanEndsWith (stopped n play) plan taken (given_bounds r) tt
       by_next (InPlan s e) =
           absurd (out_closes play most reads plan taken s h.next r.refused_bound h.beside e h.asks h.outside open_plan)
       by_next (IsOne e) =
@@ -182,12 +182,12 @@ module _ (play : Answers → Outcome Finish (List ℕ)) (most : ℕ) (reads : Is
             length-replicate ones (pos 1),
             fits,
           ) in
-          let theirs : r.bounds.items ≡ bounds play taken = (let k = h.bounds_are in cc) in
+          let theirs : (given_bounds r) ≡ bounds play taken = (let k = h.bounds_are in cc) in
           ends_with ones (omega arith) e (asking_run play n most reads taken r.refused_bound h.beside all h.asks) theirs
 
   pub beginning_ends : (steps : ℕ) (shown : List ℕ) (e : Ending)
       → PlayEnds play (choices_of r) r.refused_bound steps shown e
-      → PlanEndsWith (stopped n play) plan taken r.bounds.items tt
+      → PlanEndsWith (stopped n play) plan taken (given_bounds r) tt
   beginning_ends steps shown endings.End h = ended _ h
   beginning_ends steps shown endings.Stop h = ended _ h
   beginning_ends steps shown endings.What h = ended _ h

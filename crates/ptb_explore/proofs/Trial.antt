@@ -7,10 +7,12 @@ use Rattle.std.proofs.lemmas.List.{length-take-le, take-append-drop, take-append
 use Rattle.std.proofs.Math.Seq.{take-length}
 use Rattle.std.specs.Prelude.{ℤ, pos}
 use Rattle.ptb_answers.specs.Outcome.{Answers, Outcome, Done, IsReader, is_open, is_whole, bounds, bounds_after}
+use Rattle.ptb_explore.proofs.Recorded.{given_len, recorded_len, whole_bounds}
+use Rattle.ptb_answers.specs.Asked.{bounds_in}
 use Rattle.ptb_explore.specs.declared.recorder.Recorder.{Recorder}
 use Rattle.ptb_explore.specs.RunTree.{IsRun}
 use Rattle.ptb_explore.specs.Plans.{IsFresh, PlanEndsWith}
-use Rattle.ptb_explore.specs.Recorders.{choices_of}
+use Rattle.ptb_explore.specs.Recorders.{choices_of, given_bounds, recorded}
 use Rattle.ptb_command.specs.declared.ending.Ending.{Ending}
 use Rattle.ptb_command.specs.declared.ending.Ending.TheVariants as endings
 use Rattle.ptb_machine.specs.Play.{Finish}
@@ -27,53 +29,58 @@ take_twice (suc m) (suc n) (x ∷ xs) l = ap (λ r. x ∷ r) (take_twice m n xs 
 
 module _ {A W : Type 0} (play : Answers → Outcome A W) (r : Recorder) (result : A)
     (h : Holds play (choices_of r) (λ later. Done result later)) where
-  taken_bounds : r.bounds.items ≡ bounds play (take (length r.bounds.items) r.answers.items)
+  taken_bounds : (given_bounds r) ≡ bounds play (take (length (given_bounds r)) (recorded r))
   taken_bounds = let k = h.bounds_are in cc
 
-  recorder_took : Took play (take r.planned r.answers.items) r.answers.items r.planned (length r.bounds.items) result
+  recorder_took : Took play (take r.planned (recorded r)) (recorded r) r.planned (length (given_bounds r)) result
   recorder_took = record {
     plan_is = refl;
-    planned_within = omega (arith, r.within, r.answers.ok.0);
-    count_within = omega (arith, r.bounded, r.answers.ok.0, r.bounds.ok.0);
-    all_with_ones = λ l. omega (arith, r.at_end, r.answers.ok.0, r.bounds.ok.0);
-    ones_after = r.later_one ∙ ap (λ n. take r.planned r.answers.items ++ replicate (n - r.planned) (pos 1))
-        r.answers.ok.0;
-    came = ap play (sym (append-nil (take (length r.bounds.items) r.answers.items))) ∙ h.rest [];
+    planned_within = omega (arith, r.within, (recorded_len r));
+    count_within = omega (arith, r.bounded, (recorded_len r), (given_len r));
+    all_with_ones = λ l. omega (arith, r.at_end, (recorded_len r), (given_len r));
+    ones_after = r.later_one ∙ ap (λ n. take r.planned (recorded r) ++ replicate (n - r.planned) (pos 1))
+        (recorded_len r);
+    came = ap play (sym (append-nil (take (length (given_bounds r)) (recorded r)))) ∙ h.rest [];
   }
 
   -- a plan that is open was played to its end
-  pub trial_ends : (most : ℕ) → IsReader play most → is_open (play (take r.planned r.answers.items)) ≡ true
-      → PlanEndsWith play (take r.planned r.answers.items) r.answers.items r.bounds.items result
-  trial_ends most reads o = ends_at play most reads (take r.planned r.answers.items) r.answers.items r.planned
-      (length r.bounds.items) result recorder_took r.bounds.items o taken_bounds
+  pub trial_ends : (most : ℕ) → IsReader play most → is_open (play (take r.planned (recorded r))) ≡ true
+      → PlanEndsWith play (take r.planned (recorded r)) (recorded r) (given_bounds r) result
+  trial_ends most reads o = ends_at play most reads (take r.planned (recorded r)) (recorded r) r.planned
+      (length (given_bounds r)) result recorder_took (given_bounds r) o taken_bounds
 
 -- ---- by the ending
 
 -- what is planned is the plan
-pub fresh_plan : (r : Recorder) → IsFresh r → take r.planned r.answers.items ≡ r.answers.items
-fresh_plan r f = ap (λ n. take n r.answers.items) (f.all_planned ∙ r.answers.ok.0) ∙ take-length r.answers.items
+pub fresh_plan : (r : Recorder) → IsFresh r → take r.planned (recorded r) ≡ (recorded r)
+fresh_plan r f = ap (λ n. take n (recorded r)) (f.all_planned ∙ (recorded_len r)) ∙ take-length (recorded r)
 
 pub result_is : {A W : Type 0} (x y : A) (a b : Answers) → ◌≡◌ {A = Outcome A W} (Done x a) (Done y b) → x ≡ y
 result_is x y a b e = cc
 
 -- a recorder that has a bound for each of its answers gave them all
 pub all_given : {A W : Type 0} (play : Answers → Outcome A W) (r : Recorder)
-    → r.bounds.items ≡ bounds play r.answers.items → (choices_of r).taken ≡ r.answers.items
-all_given play r e = ap (λ n. take n r.answers.items) (ap length e ∙ length-bounds play [] r.answers.items)
-    ∙ take-length r.answers.items
+    → (given_bounds r) ≡ bounds play (recorded r) → (choices_of r).taken ≡ (recorded r)
+all_given play r e = ap (λ n. take n (recorded r)) (ap length e ∙ length-bounds play [] (recorded r))
+    ∙ take-length (recorded r)
+
+-- and the bounds are those of all its answers
+pub all_bounds : {A W : Type 0} (play : Answers → Outcome A W) (r : Recorder)
+    → (given_bounds r) ≡ bounds play (recorded r) → bounds_in r.asked.items ≡ given_bounds r
+all_bounds play r e = whole_bounds r (ap length e ∙ length-bounds play [] (recorded r))
 
 module _ (play : Answers → Outcome Finish (List ℕ)) (r : Recorder) (steps : ℕ) (shown : List ℕ) (most : ℕ)
-    (reads : IsReader play most) (plan : Answers) (planned : take r.planned r.answers.items ≡ plan) where
+    (reads : IsReader play most) (plan : Answers) (planned : take r.planned (recorded r) ≡ plan) where
   module _ (opens : is_open (play plan) ≡ true) where
     ended_so : (e : Ending)
         → Holds play (choices_of r) (λ later. Done (record { ending = e; steps = steps; shown = shown }) later)
-        → PlanEndsWith play plan r.answers.items r.bounds.items (record { ending = e; steps = steps; shown = shown })
+        → PlanEndsWith play plan (recorded r) (given_bounds r) (record { ending = e; steps = steps; shown = shown })
     ended_so e h = rw (← planned) (trial_ends play r (record { ending = e; steps = steps; shown = shown }) h most reads
         (rw planned opens))
 
     -- a plan that is open is played to an end
     pub open_ends : (e : Ending) → PlayEnds play (choices_of r) r.refused_bound steps shown e
-        → PlanEndsWith play plan r.answers.items r.bounds.items (record { ending = e; steps = steps; shown = shown })
+        → PlanEndsWith play plan (recorded r) (given_bounds r) (record { ending = e; steps = steps; shown = shown })
     open_ends endings.End h = ended_so endings.End h
     open_ends endings.Stop h = ended_so endings.Stop h
     open_ends endings.What h = ended_so endings.What h
@@ -87,22 +94,22 @@ module _ (play : Answers → Outcome Finish (List ℕ)) (r : Recorder) (steps : 
         cc
 
   -- a plan that is taken completely, and that nothing follows, is a run
-  module _ (taken : length r.bounds.items ≡ length plan) (alone : length r.answers.items ≡ length plan) where
-    all_planned : r.answers.items ≡ plan
+  module _ (taken : length (given_bounds r) ≡ length plan) (alone : length (recorded r) ≡ length plan) where
+    all_planned : (recorded r) ≡ plan
     all_planned =
-        let within : r.planned ≤ length r.answers.items = omega (arith, r.within, r.answers.ok.0) in
-        let n : length (take r.planned r.answers.items) ≡ r.planned = length-take-le r.planned r.answers.items within in
-        let same : r.planned ≡ length r.answers.items = omega (arith, n, ap length planned, alone) in
-        sym (ap (λ n. take n r.answers.items) same ∙ take-length r.answers.items) ∙ planned
+        let within : r.planned ≤ length (recorded r) = omega (arith, r.within, (recorded_len r)) in
+        let n : length (take r.planned (recorded r)) ≡ r.planned = length-take-le r.planned (recorded r) within in
+        let same : r.planned ≡ length (recorded r) = omega (arith, n, ap length planned, alone) in
+        sym (ap (λ n. take n (recorded r)) same ∙ take-length (recorded r)) ∙ planned
 
     whole_so : (e : Ending)
         → Holds play (choices_of r) (λ later. Done (record { ending = e; steps = steps; shown = shown }) later)
-        → IsRun play plan × (r.answers.items ≡ plan) × (r.bounds.items ≡ bounds play plan)
+        → IsRun play plan × ((recorded r) ≡ plan) × ((given_bounds r) ≡ bounds play plan)
         × (play plan ≡ Done (record { ending = e; steps = steps; shown = shown }) [])
     whole_so e h =
-        let n : length r.bounds.items ≡ length r.answers.items = omega (arith, taken, alone) in
-        let all : take (length r.bounds.items) r.answers.items ≡ plan =
-        ap (λ n. take n r.answers.items) n ∙ take-length r.answers.items ∙ all_planned in
+        let n : length (given_bounds r) ≡ length (recorded r) = omega (arith, taken, alone) in
+        let all : take (length (given_bounds r)) (recorded r) ≡ plan =
+        ap (λ n. take n (recorded r)) n ∙ take-length (recorded r) ∙ all_planned in
         let came : play plan ≡ Done (record { ending = e; steps = steps; shown = shown }) [] =
         ap play (sym (append-nil plan)) ∙ ap (λ t. play (t ++ [])) (sym all) ∙ h.rest [] in (
           ap is_whole came,
@@ -112,19 +119,19 @@ module _ (play : Answers → Outcome Finish (List ℕ)) (r : Recorder) (steps : 
           came,
         )
 
-    too_long : (next : ℤ) (later : Answers) → plan ≡ take (length r.bounds.items) r.answers.items ++ next ∷ later → ⊥
+    too_long : (next : ℤ) (later : Answers) → plan ≡ take (length (given_bounds r)) (recorded r) ++ next ∷ later → ⊥
     too_long next later e =
-        let within : length r.bounds.items ≤ length r.answers.items = omega (arith, taken, alone) in
+        let within : length (given_bounds r) ≤ length (recorded r) = omega (arith, taken, alone) in
         omega (
           arith,
           ap length e,
-          length-append (take (length r.bounds.items) r.answers.items) (next ∷ later),
-          length-take-le (length r.bounds.items) r.answers.items within,
+          length-append (take (length (given_bounds r)) (recorded r)) (next ∷ later),
+          length-take-le (length (given_bounds r)) (recorded r) within,
           taken,
         )
 
     pub whole_plan : (e : Ending) → PlayEnds play (choices_of r) r.refused_bound steps shown e
-        → IsRun play plan × (r.answers.items ≡ plan) × (r.bounds.items ≡ bounds play plan)
+        → IsRun play plan × ((recorded r) ≡ plan) × ((given_bounds r) ≡ bounds play plan)
         × (play plan ≡ Done (record { ending = e; steps = steps; shown = shown }) [])
     whole_plan endings.End h = whole_so endings.End h
     whole_plan endings.Stop h = whole_so endings.Stop h
@@ -137,24 +144,24 @@ module _ (play : Answers → Outcome Finish (List ℕ)) (r : Recorder) (steps : 
     whole_plan endings.BadAnswer h = absurd (too_long h.next h.later (sym planned ∙ h.plan_is))
 
   -- a plan of which all answers are taken is open, and the first of the bounds are its own
-  module _ (all : length plan ≤ length r.bounds.items) where
-    begun_plan : plan ≡ take (length plan) r.answers.items
+  module _ (all : length plan ≤ length (given_bounds r)) where
+    begun_plan : plan ≡ take (length plan) (recorded r)
     begun_plan =
-        let n : length (take r.planned r.answers.items) ≡ r.planned =
-        length-take-le r.planned r.answers.items (omega (arith, r.within, r.answers.ok.0)) in
-        sym planned ∙ ap (λ k. take k r.answers.items) (sym n ∙ ap length planned)
+        let n : length (take r.planned (recorded r)) ≡ r.planned =
+        length-take-le r.planned (recorded r) (omega (arith, r.within, (recorded_len r))) in
+        sym planned ∙ ap (λ k. take k (recorded r)) (sym n ∙ ap length planned)
 
     begun_so : (result : Finish) → Holds play (choices_of r) (λ later. Done result later)
-        → (is_open (play plan) ≡ true) × (take (length plan) r.bounds.items ≡ bounds play plan)
+        → (is_open (play plan) ≡ true) × (take (length plan) (given_bounds r) ≡ bounds play plan)
     begun_so result h =
-        let taken = take (length r.bounds.items) r.answers.items in
+        let taken = take (length (given_bounds r)) (recorded r) in
         let s = drop (length plan) taken in
         let front : take (length plan) taken ≡ plan =
-        take_twice (length plan) (length r.bounds.items) r.answers.items all ∙ sym begun_plan in
+        take_twice (length plan) (length (given_bounds r)) (recorded r) all ∙ sym begun_plan in
         let is : taken ≡ plan ++ s = sym (take-append-drop (length plan) taken) ∙ ap (λ p. p ++ s) front in
         let came : play taken ≡ Done result [] = ap play (sym (append-nil taken)) ∙ h.rest [] in
         let run : IsRun play (plan ++ s) = ap is_whole (ap play (sym is) ∙ came) in
-        let bs : r.bounds.items ≡ bounds play plan ++ bounds_after play plan s =
+        let bs : (given_bounds r) ≡ bounds play plan ++ bounds_after play plan s =
         taken_bounds play r result h ∙ ap (bounds play) is ∙ bounds-append play [] plan s in
         let n : length (bounds play plan) ≡ length plan = length-bounds play [] plan in (
           run_open play most reads plan s run,
@@ -164,7 +171,7 @@ module _ (play : Answers → Outcome Finish (List ℕ)) (r : Recorder) (steps : 
         )
 
     pub begun_opens : (e : Ending) → PlayEnds play (choices_of r) r.refused_bound steps shown e
-        → (is_open (play plan) ≡ true) × (take (length plan) r.bounds.items ≡ bounds play plan)
+        → (is_open (play plan) ≡ true) × (take (length plan) (given_bounds r) ≡ bounds play plan)
     begun_opens endings.End h = begun_so _ h
     begun_opens endings.Stop h = begun_so _ h
     begun_opens endings.What h = begun_so _ h
@@ -174,12 +181,12 @@ module _ (play : Answers → Outcome Finish (List ℕ)) (r : Recorder) (steps : 
     begun_opens endings.NoInput h = begun_so _ h
     begun_opens endings.NoAnswer h = absurd h
     begun_opens endings.BadAnswer h =
-        let within : length r.bounds.items ≤ length r.answers.items =
-        omega (arith, r.bounded, r.answers.ok.0, r.bounds.ok.0) in
+        let within : length (given_bounds r) ≤ length (recorded r) =
+        omega (arith, r.bounded, (recorded_len r), (given_len r)) in
         absurd (omega (
           arith,
           ap length (sym planned ∙ h.plan_is),
-          length-append (take (length r.bounds.items) r.answers.items) (h.next ∷ h.later),
-          length-take-le (length r.bounds.items) r.answers.items within,
+          length-append (take (length (given_bounds r)) (recorded r)) (h.next ∷ h.later),
+          length-take-le (length (given_bounds r)) (recorded r) within,
           all,
         ))

@@ -15,7 +15,6 @@ use Rattle.ptb_explore.specs.Beginnings.{Splitting, beginning_line, split_play, 
 use Rattle.ptb_explore.specs.Listing.{NextWrites, WritesInto, WritesList, WritesSome}
 use Rattle.ptb_explore.specs.Plans.{IsPosition, front_at}
 use Rattle.ptb_explore.specs.RunTree.{At, Front, runs_after}
-use Rattle.ptb_explore.proofs.Bounds.{length-bounds}
 use Rattle.ptb_explore.proofs.Progress.{Progress, fewer_left, progress_into, progress_last}
 use Rattle.ptb_explore.proofs.Progress.{progress_more, progress_some}
 use Rattle.ptb_explore.proofs.StoppedPlays.{bounds_within, run_within, stopped_reads}
@@ -47,10 +46,6 @@ bounds_of_search laws s v same position answers u bounded stands front at =
     let here : v.front ≡ At u = ap (λ (x : Splitting). x.front) same ∙ at in
     bounds_at laws v position answers u bounded stands (sym front ∙ here)
     ∙ ap (λ (x : Splitting). bounds (split_play x) u) same
-
-pub same_length : {A W : Type 0} (play : Answers → Outcome A W) (u answers : Answers) (bounded : List ℤ) → answers ≡ u
-    → bounded ≡ bounds play u → length answers ≡ length bounded
-same_length play u answers bounded is theirs = ap length is ∙ sym (length-bounds play [] u) ∙ ap length (sym theirs)
 
 -- ---- a line
 

@@ -18,6 +18,7 @@ use Rattle.ptb_answers.specs.declared.form.Form.{Form}
 use Rattle.ptb_answers.specs.declared.rules.Rules.{Rules}
 use Rattle.ptb_machine.specs.Play.{Finish, play}
 use Rattle.ptb_report.specs.Report.{list_line}
+use Rattle.ptb_answers.specs.Asked.{answers_in, bounds_in}
 use Rattle.ptb_explore.specs.declared.report.Report.{Report}
 use Rattle.ptb_explore.specs.Listing.{text}
 use Rattle.ptb_explore.specs.RunTree.{Front, Start, At, End, IsLast, IsNextRun, IsRising, IsRun, runs_after, tree}
@@ -79,5 +80,6 @@ MovesTo play f f' true = (u : Answers) × IsNextRun play [] f u × (f' ≡ At u)
 MovesTo play f f' false = IsLast play [] f × (f' ≡ End)
 
 abbrev pub FindsBeginning : {A W : Type 0} → (Answers → Outcome A W) → Front → Report → Bool → Type 0
-FindsBeginning play f r true = IsNextRun play [] f r.answers.items × (r.bounds.items ≡ bounds play r.answers.items)
+FindsBeginning play f r true = IsNextRun play [] f (answers_in r.asked.items)
+    × (bounds_in r.asked.items ≡ bounds play (answers_in r.asked.items))
 FindsBeginning play f r false = IsLast play [] f

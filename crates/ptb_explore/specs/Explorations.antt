@@ -22,6 +22,7 @@ use Rattle.ptb_answers.specs.Outcome.{Answers, Outcome, Done, bounds}
 use Rattle.ptb_answers.specs.declared.rules.Rules.{Rules}
 use Rattle.ptb_machine.specs.Play.{Finish, play}
 use Rattle.ptb_machine.specs.Questions.{most_answers}
+use Rattle.ptb_answers.specs.Asked.{answers_in, bounds_in}
 use Rattle.ptb_explore.specs.declared.copies.KeptCopy.{KeptCopy}
 use Rattle.ptb_explore.specs.declared.plan.Position.{Position}
 use Rattle.ptb_explore.specs.declared.plan.Position.TheVariants.{AtStart, AtRun, AtEnd}
@@ -81,24 +82,24 @@ abbrev pub finish_of : Report → Finish
 finish_of r = record { ending = r.ending; steps = r.steps; shown = r.transcript.items }
 
 pub record Reports (play : Answers → Outcome Finish (List ℕ)) (r : Report) : Type 0 where
-  pub outcome : play r.answers.items ≡ Done (finish_of r) []
-  pub bounds_are : r.bounds.items ≡ bounds play r.answers.items
+  pub outcome : play (answers_in r.asked.items) ≡ Done (finish_of r) []
+  pub bounds_are : bounds_in r.asked.items ≡ bounds play (answers_in r.asked.items)
 
 abbrev pub NextReports : (Answers → Outcome Finish (List ℕ)) → Answers → Front → Report → Bool → Type 0
-NextReports play under f r true = Reports play r × IsNextRun play under f r.answers.items
+NextReports play under f r true = Reports play r × IsNextRun play under f (answers_in r.asked.items)
 NextReports play under f r false = IsLast play under f
 
 -- ---- what is left
 
 -- the commands that a run has in common with that of a copy are not played again
 abbrev pub played_after : List KeptRun → ℕ → Report → ℕ
-played_after kept played r = more_played played (r.steps - kept_steps r.answers.items kept)
+played_after kept played r = more_played played (r.steps - kept_steps (answers_in r.asked.items) kept)
 
 -- it is at the run whose report is lent; the count doesn't fall
 pub record FoundNext (old : Exploration) (r : Report) (new : Exploration) : Type 0 where
   pub now : new ≡ record old
-      { front = At r.answers.items; kept = new.kept; played = played_after old.kept old.played r }
-  pub kept : AreBeginnings 0 r.answers.items new.kept
+      { front = At (answers_in r.asked.items); kept = new.kept; played = played_after old.kept old.played r }
+  pub kept : AreBeginnings 0 (answers_in r.asked.items) new.kept
   pub rises : old.played ≤ new.played
 
 -- no copy is kept; the count doesn't fall, and rises by less than one play can add
@@ -118,7 +119,7 @@ NextLeaves old (Err e) new = RefusedNext old new
 -- where it is at no run there are none
 abbrev pub AreCopiesAt : StoredProgram → List (List ℕ) → Rules → Position → Report → List KeptCopy → Type 0
 AreCopiesAt p input rules AtStart r ks = ks ≡ []
-AreCopiesAt p input rules AtRun r ks = AreCopies p input rules r.answers.items r.transcript.items ks
+AreCopiesAt p input rules AtRun r ks = AreCopies p input rules (answers_in r.asked.items) r.transcript.items ks
 AreCopiesAt p input rules AtEnd r ks = ks ≡ []
 
 abbrev pub AreKeptAt : Front → List KeptRun → Type 0

@@ -1,7 +1,7 @@
 -- This file names the files of definitions.
 pub mod RunTree
-pub mod Plans
 pub mod Recorders
+pub mod Plans
 pub mod PlannedPlays
 pub mod Copies
 pub mod MarkedRuns

@@ -20,6 +20,7 @@ use Rattle.std.specs.Prelude.{vec_len}
 use Rattle.std.specs.List.{AllByRecursion}
 use Rattle.ptb_answers.specs.Outcome.{Answers, Outcome, Done, is_open, bounds}
 use Rattle.ptb_answers.specs.declared.form.Marked.{Marked}
+use Rattle.ptb_explore.specs.Recorders.{given_bounds, recorded}
 use Rattle.ptb_explore.specs.declared.plan.Position.{Position}
 use Rattle.ptb_explore.specs.declared.plan.Position.TheVariants.{AtStart, AtRun, AtEnd}
 use Rattle.ptb_explore.specs.declared.recorder.Recorder.{Recorder}
@@ -85,17 +86,17 @@ abbrev pub stopping_plan : ℕ → Answers → Answers
 stopping_plan n plan = plan ++ replicate (n - length plan) (pos 1) ++ pos 0 ∷ []
 
 pub record IsFresh (r : Recorder) : Type 0 where
-  pub none_given : r.bounds.items ≡ []
-  pub all_planned : r.planned ≡ vec_len r.answers
+  pub none_given : r.given ≡ 0
+  pub all_planned : r.planned ≡ vec_len r.asked
 
 pub record IsTakenAlone (planned : ℕ) (stated : List Marked) (r : Recorder) : Type 0 where
-  pub taken : length r.bounds.items ≡ planned
-  pub alone : length r.answers.items ≡ planned
-  pub states : states_bounds stated r.bounds.items ≡ true
+  pub taken : length (given_bounds r) ≡ planned
+  pub alone : length (recorded r) ≡ planned
+  pub states : states_bounds stated (given_bounds r) ≡ true
 
 pub record IsTaken (planned : ℕ) (stated : List Marked) (r : Recorder) : Type 0 where
-  pub taken : planned ≤ length r.bounds.items
-  pub states : states_bounds stated r.bounds.items ≡ true
+  pub taken : planned ≤ length (given_bounds r)
+  pub states : states_bounds stated (given_bounds r) ≡ true
 
 pub record PlanEndsWith {A W : Type 0} (play : Answers → Outcome A W) (plan answers : Answers) (their_bounds : List ℤ)
     (result : A) : Type 0 where

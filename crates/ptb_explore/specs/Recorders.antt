@@ -1,19 +1,28 @@
 -- This file defines what a recorder holds, and why it gives no answer.
+--     recorded r                   the answers of a recorder: those that it gave, and then those that are planned
+--     given_bounds r               the bounds of those that it gave
 --     choices_of r                 a recorder as a chooser: its plan, what it gave, and with which bounds
 --     RefusedByPlan c bound z n    it pauses at a question with bound n, which it keeps where its answer is out of
 --                                  range
 use Rattle.std.specs.Prelude.{◌≡◌, List, ◌∷◌, ◌++◌, length, take, false, Some, ℤ}
 use Rattle.ptb_answers.specs.declared.pause.Pause.{Pause}
 use Rattle.ptb_answers.specs.declared.pause.Pause.TheVariants.{Ended, OutOfRange, Memory}
-use Rattle.ptb_answers.specs.Outcome.{is_answer}
+use Rattle.ptb_answers.specs.Outcome.{Answers, is_answer}
+use Rattle.ptb_answers.specs.Asked.{answers_in, bounds_in}
 use Rattle.ptb_answers.specs.Choices.{Choices}
 use Rattle.ptb_explore.specs.declared.recorder.Recorder.{Recorder}
 
+abbrev pub recorded : Recorder → Answers
+recorded r = answers_in r.asked.items
+
+abbrev pub given_bounds : Recorder → List ℤ
+given_bounds r = bounds_in (take r.given r.asked.items)
+
 abbrev pub choices_of : Recorder → Choices
 choices_of r = record {
-  plan = take r.planned r.answers.items;
-  taken = take (length r.bounds.items) r.answers.items;
-  kept = Some r.bounds.items;
+  plan = take r.planned (recorded r);
+  taken = take (length (given_bounds r)) (recorded r);
+  kept = Some (given_bounds r);
 }
 
 -- never for want of answers; as out of range only where the plan's next answer is

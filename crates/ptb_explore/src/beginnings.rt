@@ -4,6 +4,8 @@ ghost use Rattle.std.specs.Prelude.{◌≡◌, ◌≤◌, ℕ, Ok, None, [], tru
 ghost use Rattle.std.specs.Prelude.{IfOk, OnOk, OnErr, IsErrOf, IsTrue};
 ghost use Rattle.ptb_answers.specs.Outcome.{Answers, bounds as bounds_of, is_open};
 ghost use Rattle.ptb_text.specs.Device.{HasFailed};
+ghost use Rattle.ptb_answers.specs.Asked.{answers_in, bounds_in};
+ghost use Rattle.ptb_explore.specs.Recorders.{recorded};
 ghost use Rattle.ptb_explore.specs.Beginnings.{beginning_line, split_play, stopped};
 ghost use Rattle.ptb_explore.specs.Beginnings.{FindsBeginning, MovesTo};
 ghost use Rattle.ptb_explore.specs.Copies.{Agrees, AreCopies, PlaysOn, kept_runs};
@@ -15,7 +17,7 @@ ghost use Rattle.ptb_explore.specs.RunTree.{At, IsLast, Start, runs_left};
 use crate::fault::ExploreFault;
 use crate::plan::{Position, plan_next};
 use crate::runner::Runner;
-use ptb_answers::Form;
+use ptb_answers::{Asked, Form};
 use ptb_machine::{Line, Rules, ScreenFault, run_laws};
 use ptb_report::write_list;
 use ptb_text::{Program, Write};
@@ -27,24 +29,22 @@ use std::marker::Model;
 // those of the report before, as many as `common` says.
 fn play_beginning(runner: &mut Runner, common: usize, most: usize) -> Result<(), AllocError>
     requires fresh { IsFresh runner.old.trial }
-    requires within { length runner.old.trial.answers.items ≤ most }
-    requires common { common ≤ length runner.old.trial.answers.items }
+    requires within { length (recorded runner.old.trial) ≤ most }
+    requires common { common ≤ length (recorded runner.old.trial) }
     requires opens { is_open (stopped most (game_of runner.old)
-        runner.old.trial.answers.items) ≡ true }
-    requires agrees { Agrees (game_of runner.old) common runner.old.trial.answers.items
-        runner.old.report.answers.items runner.old.report.bounds.items }
+        (recorded runner.old.trial)) ≡ true }
+    requires agrees { Agrees (game_of runner.old) common (recorded runner.old.trial)
+        (answers_in runner.old.report.asked.items) (bounds_in runner.old.trial.asked.items) }
     requires copies { AreCopies runner.old.player runner.old.lines.now runner.old.rules
-        runner.old.report.answers.items runner.old.report.transcript.items
+        (answers_in runner.old.report.asked.items) runner.old.report.transcript.items
         runner.old.copies.kept.items }
     ensures same { IsSameGame runner.old runner.new }
     ensures ends { OnOk result (PlanEndsWith (stopped most (game_of runner.old))
-        runner.old.trial.answers.items runner.new.report.answers.items
-        runner.new.report.bounds.items tt) }
-    ensures answers { OnErr result
-        (runner.new.report.answers.items ≡ runner.old.report.answers.items) }
-    ensures bounds { OnErr result (runner.new.report.bounds.items ≡ runner.old.report.bounds.items) }
+        (recorded runner.old.trial) (answers_in runner.new.report.asked.items)
+        (bounds_in runner.new.report.asked.items) tt) }
+    ensures asked { OnErr result (runner.new.report.asked.items ≡ runner.old.report.asked.items) }
     ensures copies { OnOk result (AreCopies runner.old.player runner.old.lines.now runner.old.rules
-        runner.new.report.answers.items runner.new.report.transcript.items
+        (answers_in runner.new.report.asked.items) runner.new.report.transcript.items
         runner.new.copies.kept.items) }
     ensures played { OnOk result (PlaysOn common runner.old.copies.kept.items runner.old.played
         runner.new.report.steps runner.new.played) }
@@ -53,9 +53,7 @@ fn play_beginning(runner: &mut Runner, common: usize, most: usize) -> Result<(),
     runner.trial.stop_after(most)?;
     runner.play_plan(common)?;
     runner.trial.keep_given();
-    runner
-        .trial
-        .hand_over(&mut runner.report.answers, &mut runner.report.bounds);
+    runner.trial.hand_over(&mut runner.report.asked);
     Ok(())
 }
 
@@ -63,33 +61,24 @@ fn play_beginning(runner: &mut Runner, common: usize, most: usize) -> Result<(),
 // then.
 fn find_beginning(runner: &mut Runner, most: usize, position: Position) -> Result<bool, AllocError>
     requires position { IsPosition (stopped most (game_of runner.old)) [] position
-        runner.old.report.answers.items runner.old.report.bounds.items }
+        (answers_in runner.old.report.asked.items) (bounds_in runner.old.report.asked.items) }
     requires copies { AreCopiesAt runner.old.player runner.old.lines.now runner.old.rules position
         runner.old.report runner.old.copies.kept.items }
     ensures same { IsSameGame runner.old runner.new }
     ensures next { IfOk result (FindsBeginning (stopped most (game_of runner.old))
-        (front_at position runner.old.report.answers.items) runner.new.report) }
-    ensures answers { OnErr result
-        (runner.new.report.answers.items ≡ runner.old.report.answers.items) }
-    ensures bounds { OnErr result (runner.new.report.bounds.items ≡ runner.old.report.bounds.items) }
+        (front_at position (answers_in runner.old.report.asked.items)) runner.new.report) }
+    ensures asked { OnErr result (runner.new.report.asked.items ≡ runner.old.report.asked.items) }
     ensures ended { IsLast (stopped most (game_of runner.old)) []
-        (front_at position runner.old.report.answers.items) → result ≡ Ok false }
+        (front_at position (answers_in runner.old.report.asked.items)) → result ≡ Ok false }
     ensures copies { IfOk result (λ found. IsTrue found → AreCopies runner.old.player
-        runner.old.lines.now runner.old.rules runner.new.report.answers.items
+        runner.old.lines.now runner.old.rules (answers_in runner.new.report.asked.items)
         runner.new.report.transcript.items runner.new.copies.kept.items) }
     ensures played { IfOk result (NextPlays
-        (kept_runs runner.old.report.answers.items runner.old.copies.kept.items) runner.old.played
-        runner.new.report runner.new.played) }
+        (kept_runs (answers_in runner.old.report.asked.items) runner.old.copies.kept.items)
+        runner.old.played runner.new.report runner.new.played) }
 {
     run_laws();
-    let report = &runner.report;
-    match plan_next(
-        position,
-        &[],
-        &report.answers,
-        &report.bounds,
-        &mut runner.trial,
-    )? {
+    match plan_next(position, &[], &runner.report.asked, &mut runner.trial)? {
         None => Ok(false),
         Some(common) => {
             play_beginning(runner, common, most)?;
@@ -118,6 +107,7 @@ pub struct Beginnings<'a> {
 impl<'a> Model for Beginnings<'a> {
     ghost use Rattle.std.specs.Prelude.{[]};
     ghost use Rattle.std.specs.Coded.{codes};
+    ghost use Rattle.ptb_answers.specs.Asked.{answers_in, bounds_in};
     ghost use Rattle.ptb_answers.specs.contracts.rules.Rules as rules_type;
     ghost use Rattle.ptb_explore.specs.Beginnings.{Splitting, stopped};
     ghost use Rattle.ptb_explore.specs.Explorations.{AreCopiesAt, game_of};
@@ -133,11 +123,11 @@ impl<'a> Model for Beginnings<'a> {
       input = b.runner.lines.now;
       rules = b.runner.rules;
       most = b.most;
-      front = front_at b.position b.runner.report.answers.items;
+      front = front_at b.position (answers_in b.runner.report.asked.items);
     } };
 
     ghost invariant = { λ b. IsPosition (stopped b.most (game_of b.runner)) []
-        b.position b.runner.report.answers.items b.runner.report.bounds.items
+        b.position (answers_in b.runner.report.asked.items) (bounds_in b.runner.report.asked.items)
         × AreCopiesAt b.runner.player b.runner.lines.now b.runner.rules b.position b.runner.report
         b.runner.copies.kept.items };
 }
@@ -205,20 +195,14 @@ impl<'a> Beginnings<'a> {
         }
     }
 
-    /// The answers of the list at which the search is.
-    pub fn answers(&self) -> &[i16]
-        ensures { (u : Answers) → self.now.front ≡ At u → result.now ≡ u }
-    {
-        &self.runner.report.answers
-    }
-
-    /// The bounds of these answers.
-    pub fn bounds(&self) -> &[i16]
-        ensures { (u : Answers) → self.now.front ≡ At u
-            → result.now ≡ bounds_of (split_play self.now) u }
+    /// The answers of the list at which the search is, each with its bound.
+    pub fn asked(&self) -> &[Asked]
+        ensures answers { (u : Answers) → self.now.front ≡ At u → answers_in result.now ≡ u }
+        ensures bounds { (u : Answers) → self.now.front ≡ At u
+            → bounds_in result.now ≡ bounds_of (split_play self.now) u }
     {
         run_laws();
-        &self.runner.report.bounds
+        &self.runner.report.asked
     }
 }
 
@@ -241,7 +225,7 @@ fn write_next_line<W: Write>(
         Err(_) => Err(ScreenFault::Memory),
         Ok(false) => Ok(false),
         Ok(true) => {
-            match write_list(writer, form, beginnings.answers(), beginnings.bounds()) {
+            match write_list(writer, form, beginnings.asked()) {
                 Ok(()) => Ok(true),
                 Err(_) => Err(ScreenFault::Write),
             }

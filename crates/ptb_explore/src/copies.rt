@@ -246,18 +246,17 @@ impl Copies {
     {
         self.length = self.length.with(last);
         loop {
-            // So the one that is taken out can be put back.
-            prove!(self.kept.len() <= MOST_COPIES);
-            let Some(newest) = self.kept.pop() else {
+            let Some(newest) = self.kept.as_slice().last() else {
                 return Ok(None);
             };
             if newest.taken <= most {
                 let room = self.spare.pop().flatten();
-                let copy = newest.copy(alloc, room)?;
-                self.kept.push(newest);
-                return Ok(Some(copy));
+                return Ok(Some(newest.copy(alloc, room)?));
             }
-            let _ = self.spare.try_push(newest.machine);
+            let Some(dropped) = self.kept.pop() else {
+                return Ok(None);
+            };
+            let _ = self.spare.try_push(dropped.machine);
         }
     }
 

@@ -2,6 +2,7 @@
 
 ghost use Rattle.std.specs.Prelude.{◌≡◌, ◌≤◌, Ok, None, length};
 ghost use Rattle.std.specs.Prelude.{IfOk, IfSome, IfNone};
+ghost use Rattle.ptb_answers.specs.Asked.{answers_in};
 ghost use Rattle.ptb_explore.specs.Explorations.{play_of, most_of, Reports};
 ghost use Rattle.ptb_explore.specs.RunTree.{IsNextRun, IsLast};
 
@@ -32,6 +33,7 @@ pub struct Explorer<'a> {
 impl<'a> Model for Explorer<'a> {
     ghost use Rattle.std.specs.Coded.{codes};
     ghost use Rattle.ptb_answers.specs.AnswerText.{answers_of};
+    ghost use Rattle.ptb_answers.specs.Asked.{answers_in, bounds_in};
     ghost use Rattle.ptb_answers.specs.contracts.rules.Rules as rules_type;
     ghost use Rattle.ptb_explore.specs.Copies.{kept_runs};
     ghost use Rattle.ptb_explore.specs.Explorations.{Exploration, AreCopiesAt, game_of};
@@ -47,13 +49,13 @@ impl<'a> Model for Explorer<'a> {
       input = e.runner.lines.now;
       rules = e.runner.rules;
       under = answers_of e.under.items;
-      front = front_at e.position e.runner.report.answers.items;
-      kept = kept_runs e.runner.report.answers.items e.runner.copies.kept.items;
+      front = front_at e.position (answers_in e.runner.report.asked.items);
+      kept = kept_runs (answers_in e.runner.report.asked.items) e.runner.copies.kept.items;
       played = e.runner.played;
     } };
 
     ghost invariant = { λ e. IsPosition (game_of e.runner) (answers_of e.under.items)
-        e.position e.runner.report.answers.items e.runner.report.bounds.items
+        e.position (answers_in e.runner.report.asked.items) (bounds_in e.runner.report.asked.items)
         × AreCopiesAt e.runner.player e.runner.lines.now e.runner.rules e.position e.runner.report
         e.runner.copies.kept.items };
 }
@@ -75,9 +77,10 @@ impl<'a> Explorer<'a> {
     pub fn next(&mut self) -> Result<Option<&Report>, AllocError>
         ensures report { IfOk result (λ o. IfSome o (λ r. Reports (play_of self.old) r.now)) }
         ensures next { IfOk result (λ o. IfSome o (λ r.
-            IsNextRun (play_of self.old) self.old.under self.old.front r.now.answers.items)) }
+            IsNextRun (play_of self.old) self.old.under self.old.front
+            (answers_in r.now.asked.items))) }
         ensures few { IfOk result (λ o. IfSome o (λ r.
-            length r.now.answers.items ≤ most_of self.old)) }
+            length (answers_in r.now.asked.items) ≤ most_of self.old)) }
         ensures last { IfOk result (λ o. IfNone o
             (IsLast (play_of self.old) self.old.under self.old.front)) }
         ensures ended { IsLast (play_of self.old) self.old.under self.old.front

@@ -35,6 +35,6 @@ pub use laws::{
 };
 pub use listing::write_all_runs;
 pub use mismatch::{Mismatch, mismatch_laws};
-pub use ptb_answers::{Form, Marked};
+pub use ptb_answers::{Asked, Form, Marked};
 pub use report::{Report, word};
 pub use sampler::{Sample, write_sample};

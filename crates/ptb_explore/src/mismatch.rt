@@ -3,6 +3,7 @@
 ghost use Rattle.std.specs.Prelude.{◌≡◌, ◌≤◌, [], length, take, List, ℕ, IfSome, IfNone, true};
 ghost use Rattle.ptb_answers.specs.Outcome.{Answers, Outcome, IsReader};
 ghost use Rattle.ptb_answers.specs.AnswerText.{answers_of};
+ghost use Rattle.ptb_answers.specs.Asked.{bounds_in};
 ghost use Rattle.ptb_machine.specs.Play.{Finish};
 ghost use Rattle.ptb_explore.specs.MarkedRuns.{states_bounds};
 ghost use Rattle.ptb_explore.specs.Mismatch.{IsItemMismatch, IsRunMismatch, MismatchLaws, TakesItems};
@@ -11,7 +12,7 @@ ghost use Rattle.ptb_explore.specs.PlannedPlays.{PlayEnds};
 ghost use Rattle.ptb_explore.specs.Recorders.{choices_of};
 
 use crate::recorder::Recorder;
-use ptb_answers::Marked;
+use ptb_answers::{Asked, Marked};
 use ptb_machine::Ending;
 
 /// Why the items of a list are no run, or why no run begins with them. Items count from 1.
@@ -43,22 +44,25 @@ pub enum Mismatch {
 }
 
 // The first item that states another bound than that of its question. So many of the items are taken,
-// and these are the bounds of their questions.
-fn bound_mismatch(list: &[Marked], taken: usize, bounds: &[i16]) -> Option<Mismatch>
+// and these are their questions.
+fn bound_mismatch(list: &[Marked], taken: usize, asked: &[Asked]) -> Option<Mismatch>
     requires list { taken ≤ length list.now }
-    requires bounds { taken ≤ length bounds.now }
-    ensures states { IfNone result (states_bounds (take taken list.now) bounds.now ≡ true) }
+    requires asked { taken ≤ length asked.now }
+    ensures states { IfNone result
+        (states_bounds (take taken list.now) (bounds_in asked.now) ≡ true) }
     ensures mismatch { (game : Answers → Outcome Finish (List ℕ)) (most : ℕ) → IsReader game most
-        → TakesItems game list.now bounds.now taken → IfSome result (IsItemMismatch game list.now) }
+        → TakesItems game list.now (bounds_in asked.now) taken
+        → IfSome result (IsItemMismatch game list.now) }
 {
     for k in 0..taken {
         if let Some(stated) = list[k].bound {
-            if stated != bounds[k] {
+            let bound = asked[k].bound;
+            if stated != bound {
                 let item = k + 1;
                 return Some(Mismatch::OtherBound {
                     item,
                     stated,
-                    bound: bounds[k],
+                    bound,
                 });
             }
         }
@@ -77,8 +81,8 @@ pub(crate) fn item_mismatch(list: &[Marked], trial: &Recorder, ending: Ending) -
         → PlayEnds game (choices_of trial.now) trial.now.refused_bound steps shown ending
         → IfSome result (IsItemMismatch game list.now) }
 {
-    let taken = trial.bounds.len().min(list.len());
-    let found = bound_mismatch(list, taken, &trial.bounds);
+    let taken = trial.given.min(list.len());
+    let found = bound_mismatch(list, taken, &trial.asked[..trial.given]);
     if found.is_some() {
         return found;
     }
@@ -110,10 +114,10 @@ pub(crate) fn run_mismatch(list: &[Marked], trial: &Recorder, ending: Ending) ->
         return found;
     }
     let items = list.len();
-    if items < trial.bounds.len() {
+    if items < trial.given {
         return Some(Mismatch::Missing {
             item: items + 1,
-            bound: trial.bounds[items],
+            bound: trial.asked[items].bound,
         });
     }
     None

@@ -5,6 +5,7 @@ ghost use Rattle.ptb_answers.specs.AnswerText.{answers_of, unmarked};
 ghost use Rattle.ptb_answers.specs.Outcome.{Answers, bounds as bounds_of};
 ghost use Rattle.ptb_machine.specs.Play.{play};
 ghost use Rattle.ptb_machine.specs.Questions.{most_answers};
+ghost use Rattle.ptb_answers.specs.Asked.{answers_in, bounds_in};
 ghost use Rattle.ptb_explore.specs.Copies.{AreBeginnings, AreCopies};
 ghost use Rattle.ptb_explore.specs.Explorations.{exploration, game_of, play_of};
 ghost use Rattle.ptb_explore.specs.Explorations.{IsAdded, IsPlayed, IsSameGame};
@@ -30,8 +31,9 @@ impl<'a> Runner<'a> {
     fn check_run(&mut self, list: &[Marked]) -> Result<(), OpenFault>
         ensures same { IsSameGame self.old self.new }
         ensures run { OnOk result (IsMarkedRun (game_of self.old) list.now) }
-        ensures answers { OnOk result (self.new.report.answers.items ≡ answers_of list.now) }
-        ensures bounds { OnOk result (self.new.report.bounds.items
+        ensures answers { OnOk result
+            (answers_in self.new.report.asked.items ≡ answers_of list.now) }
+        ensures bounds { OnOk result (bounds_in self.new.report.asked.items
             ≡ bounds_of (game_of self.old) (answers_of list.now)) }
         ensures copies { OnOk result (AreCopies self.old.player self.old.lines.now self.old.rules
             (answers_of list.now) self.new.report.transcript.items self.new.copies.kept.items) }
@@ -51,8 +53,7 @@ impl<'a> Runner<'a> {
         if let Some(mismatch) = run_mismatch(list, &self.trial, ending) {
             return Err(OpenFault::NotARun(mismatch));
         }
-        self.trial
-            .hand_over(&mut self.report.answers, &mut self.report.bounds);
+        self.trial.hand_over(&mut self.report.asked);
         Ok(())
     }
 

@@ -1,12 +1,14 @@
 // This file has the choice of the answers that the next run begins with.
 
-ghost use Rattle.std.specs.Prelude.{◌≡◌, length, pos, ◌<ℤ◌, slice_index_or};
+ghost use Rattle.std.specs.Prelude.{◌≡◌, pos, take, ◌<ℤ◌, slice_index_or};
 ghost use Rattle.std.specs.Prelude.{IfOk, IfSome, OnErr, OnSome, MatchOption};
 ghost use Rattle.ptb_answers.specs.AnswerText.{answers_of};
+ghost use Rattle.ptb_answers.specs.Asked.{answers_in, bounds_in};
+ghost use Rattle.ptb_explore.specs.Recorders.{recorded};
 ghost use Rattle.ptb_explore.specs.Plans.{IsLastBelow, AreAtBounds, HasPlan, PlansNext, IsFresh};
 
 use crate::recorder::Recorder;
-use ptb_answers::Marked;
+use ptb_answers::{Asked, Marked};
 use std::alloc::AllocError;
 
 /// Where a listing of all runs stands.
@@ -21,17 +23,17 @@ pub(crate) enum Position {
 }
 
 // The last place at which the answer is below its bound, except those in front of the floor.
-fn last_below(answers: &[i16], bounds: &[i16], floor: usize) -> Option<usize>
-    requires { length answers.now ≡ length bounds.now }
+fn last_below(asked: &[Asked], floor: usize) -> Option<usize>
     ensures place { MatchOption result
-        (AreAtBounds floor answers.now bounds.now)
-        (IsLastBelow floor answers.now bounds.now) }
+        (AreAtBounds floor (answers_in asked.now) (bounds_in asked.now))
+        (IsLastBelow floor (answers_in asked.now) (bounds_in asked.now)) }
 
     // It can be raised by one.
-    ensures room { IfSome result (λ i. slice_index_or answers.now i (pos 0) <ℤ pos 32767) }
+    ensures room { IfSome result
+        (λ i. slice_index_or (answers_in asked.now) i (pos 0) <ℤ pos 32767) }
 {
-    for i in (floor..answers.len()).rev() {
-        if answers[i] < bounds[i] {
+    for i in (floor..asked.len()).rev() {
+        if asked[i].answer < asked[i].bound {
             return Some(i);
         }
     }
@@ -50,15 +52,18 @@ fn last_below(answers: &[i16], bounds: &[i16], floor: usize) -> Option<usize>
 pub(crate) fn plan_next(
     position: Position,
     under: &[Marked],
-    answers: &[i16],
-    bounds: &[i16],
+    asked: &[Asked],
     trial: &mut Recorder,
 ) -> Result<Option<usize>, AllocError>
-    requires { position ≡ Position.AtRun → length answers.now ≡ length bounds.now }
     ensures plan { IfOk result (PlansNext (answers_of under.now) position
-        answers.now bounds.now trial.new.answers.items) }
+        (answers_in asked.now) (bounds_in asked.now) (recorded trial.new)) }
+
+    // The answers in front of the raised one have their bounds.
+    ensures bounds { IfOk result (λ o. IfSome o
+        (λ i. take i (bounds_in trial.new.asked.items) ≡ take i (bounds_in asked.now))) }
     ensures fresh { IfOk result (λ o. OnSome o (IsFresh trial.new)) }
-    ensures refused { OnErr result (HasPlan (answers_of under.now) position answers.now bounds.now) }
+    ensures refused { OnErr result (HasPlan (answers_of under.now) position
+        (answers_in asked.now) (bounds_in asked.now)) }
 {
     match position {
         Position::AtEnd => Ok(None),
@@ -66,10 +71,15 @@ pub(crate) fn plan_next(
             trial.replay(under)?;
             Ok(Some(0))
         }
-        Position::AtRun => match last_below(answers, bounds, under.len()) {
+        Position::AtRun => match last_below(asked, under.len()) {
             None => Ok(None),
             Some(i) => {
-                trial.restart(&answers[..i], answers[i] + 1)?;
+                let Asked { answer, bound } = asked[i];
+                let raised = Asked {
+                    answer: answer + 1,
+                    bound,
+                };
+                trial.restart(&asked[..i], raised)?;
                 Ok(Some(i))
             }
         },

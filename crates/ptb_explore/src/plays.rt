@@ -6,7 +6,7 @@ ghost use Rattle.ptb_explore.specs.Copies.{AreCopies, more_played, play_limit};
 ghost use Rattle.ptb_explore.specs.Explorations.{game_of, IsSameGame};
 ghost use Rattle.ptb_explore.specs.Plans.{IsFresh};
 ghost use Rattle.ptb_explore.specs.PlannedPlays.{PlayEnds, IsRunPrefix};
-ghost use Rattle.ptb_explore.specs.Recorders.{choices_of};
+ghost use Rattle.ptb_explore.specs.Recorders.{choices_of, recorded};
 
 use crate::copies::Progress;
 use crate::runner::Runner;
@@ -51,7 +51,7 @@ impl<'a> Runner<'a> {
         let expected = self.copies.expected();
         loop {
             self.player.advance(machine, rules.limit);
-            let before = self.trial.bounds.len();
+            let before = self.trial.given;
             match self
                 .player
                 .step(machine, rules, &mut self.trial, screen, source)
@@ -64,7 +64,7 @@ impl<'a> Runner<'a> {
                 Err(RunFault::Write) => unreachable!(),
                 Err(RunFault::Spent) => unreachable!(),
             }
-            let taken = self.trial.bounds.len();
+            let taken = self.trial.given;
             let shown = screen.len();
             let lines = source.taken();
             let reached = Progress {
@@ -130,7 +130,7 @@ impl<'a> Runner<'a> {
         requires none { self.old.copies.kept.items ≡ [] }
         ensures same { IsSameGame self.old self.new }
         ensures plan { OnOk result
-            ((choices_of self.new.trial).plan ≡ self.old.trial.answers.items) }
+            ((choices_of self.new.trial).plan ≡ recorded self.old.trial) }
         ensures ends { IfOk result (PlayEnds (game_of self.old) (choices_of self.new.trial)
             self.new.trial.refused_bound self.new.report.steps self.new.report.transcript.items) }
         ensures copies { OnOk result (AreCopies self.old.player self.old.lines.now self.old.rules

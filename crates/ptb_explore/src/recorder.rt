@@ -3,47 +3,52 @@
 ghost use Rattle.std.specs.Prelude.{◌≡◌, ◌+◌, ◌-◌, ◌<◌, ◌≤◌, pos, OnOk};
 ghost use Rattle.std.specs.Prelude.{[], ◌∷◌, ◌++◌, length, take, replicate, vec_len};
 ghost use Rattle.ptb_answers.specs.AnswerText.{answers_of};
+ghost use Rattle.ptb_answers.specs.Asked.{answers_in};
 
-use ptb_answers::{Chooser, Marked, Pause};
+use ptb_answers::{Asked, Chooser, Marked, Pause};
 use std::alloc::{AllocError, Global};
 use std::mem;
 
 /// No answer, whatever the question. A play stops where it comes in a plan.
 const NO_ANSWER: i16 = 0;
 
+/// The bound of a question that was not asked yet.
+const NO_BOUND: i16 = 0;
+
 /// Answers from a plan, and then 1 each time. It keeps each answer with its bound.
 ///
-/// The first `planned` of the answers are the plan, those after it are ones. As many answers were
-/// given as there are bounds.
+/// The first `planned` of the answers are the plan, those after it are ones.
 #[derive(Drop)]
 pub(crate) struct Recorder {
-    /// The answers that were given, and after them those that are planned and not given yet.
-    pub(crate) answers: Vec<i16>,
-    /// The bound of each answer that was given.
-    pub(crate) bounds: Vec<i16>,
+    /// The answers that were given, each with its bound, and after them those that are planned and not
+    /// given yet.
+    pub(crate) asked: Vec<Asked>,
+    /// How many of the answers were given.
+    pub(crate) given: usize,
     /// How many of the answers are the plan.
     pub(crate) planned: usize,
     /// The bound of the last question that a planned answer was out of range for; 0 before any.
     pub(crate) refused_bound: i16,
-    ghost bounded: { vec_len bounds ≤ vec_len answers },
-    ghost within: { planned ≤ vec_len answers },
-    ghost later_one: { answers.items
-        ≡ take planned answers.items ++ replicate (vec_len answers - planned) (pos 1) },
-    ghost at_end: { planned < vec_len answers → vec_len bounds ≡ vec_len answers },
+    ghost bounded: { given ≤ vec_len asked },
+    ghost within: { planned ≤ vec_len asked },
+    ghost later_one: { answers_in asked.items
+        ≡ take planned (answers_in asked.items) ++ replicate (vec_len asked - planned) (pos 1) },
+    ghost at_end: { planned < vec_len asked → given ≡ vec_len asked },
 }
 
 impl Recorder {
     ghost use Rattle.ptb_explore.specs.Plans.{stopping_plan};
+    ghost use Rattle.ptb_explore.specs.Recorders.{recorded};
 
     /// A recorder with no plan: it answers 1 each time.
     pub(crate) fn new(alloc: Global) -> Self
-        ensures answers { result.answers.items ≡ [] }
-        ensures bounds { result.bounds.items ≡ [] }
+        ensures asked { result.asked.items ≡ [] }
+        ensures given { result.given ≡ 0 }
         ensures planned { result.planned ≡ 0 }
     {
         Recorder {
-            answers: Vec::new(alloc),
-            bounds: Vec::new(alloc),
+            asked: Vec::new(alloc),
+            given: 0,
             planned: 0,
             refused_bound: 0,
         }
@@ -54,16 +59,16 @@ impl Recorder {
     /// # Errors
     ///
     /// Where the plan is refused memory; a prefix of it is planned then.
-    pub(crate) fn restart(&mut self, front: &[i16], raised: i16) -> Result<(), AllocError>
-        ensures answers { OnOk result (self.new.answers.items ≡ front.now ++ raised ∷ []) }
+    pub(crate) fn restart(&mut self, front: &[Asked], raised: Asked) -> Result<(), AllocError>
+        ensures asked { OnOk result (self.new.asked.items ≡ front.now ++ raised ∷ []) }
         ensures planned { OnOk result (self.new.planned ≡ length front.now + 1) }
-        ensures bounds { OnOk result (self.new.bounds.items ≡ []) }
+        ensures given { OnOk result (self.new.given ≡ 0) }
     {
         self.clear();
-        self.answers.extend_from_slice(front)?;
-        self.planned = self.answers.len();
-        self.answers.push(raised)?;
-        self.planned = self.answers.len();
+        self.asked.extend_from_slice(front)?;
+        self.planned = self.asked.len();
+        self.asked.push(raised)?;
+        self.planned = self.asked.len();
         Ok(())
     }
 
@@ -73,14 +78,17 @@ impl Recorder {
     ///
     /// Where the plan is refused memory; a prefix of it is planned then.
     pub(crate) fn replay(&mut self, list: &[Marked]) -> Result<(), AllocError>
-        ensures answers { OnOk result (self.new.answers.items ≡ answers_of list.now) }
-        ensures planned { OnOk result (self.new.planned ≡ vec_len self.new.answers) }
-        ensures bounds { OnOk result (self.new.bounds.items ≡ []) }
+        ensures answers { OnOk result (recorded self.new ≡ answers_of list.now) }
+        ensures planned { OnOk result (self.new.planned ≡ vec_len self.new.asked) }
+        ensures given { OnOk result (self.new.given ≡ 0) }
     {
         self.clear();
         for item in list {
-            self.answers.push(item.answer)?;
-            self.planned = self.answers.len();
+            self.asked.push(Asked {
+                answer: item.answer,
+                bound: NO_BOUND,
+            })?;
+            self.planned = self.asked.len();
         }
         Ok(())
     }
@@ -92,71 +100,73 @@ impl Recorder {
     ///
     /// Where the plan is refused memory.
     pub(crate) fn stop_after(&mut self, most: usize) -> Result<(), AllocError>
-        requires fresh { self.old.bounds.items ≡ [] }
-        requires planned { self.old.planned ≡ vec_len self.old.answers }
-        requires within { vec_len self.old.answers ≤ most }
+        requires fresh { self.old.given ≡ 0 }
+        requires planned { self.old.planned ≡ vec_len self.old.asked }
+        requires within { vec_len self.old.asked ≤ most }
         ensures answers { OnOk result
-            (self.new.answers.items ≡ stopping_plan most self.old.answers.items) }
-        ensures planned { OnOk result (self.new.planned ≡ vec_len self.new.answers) }
-        ensures bounds { OnOk result (self.new.bounds.items ≡ []) }
+            (recorded self.new ≡ stopping_plan most (recorded self.old)) }
+        ensures front { OnOk result (take (vec_len self.old.asked) self.new.asked.items
+            ≡ self.old.asked.items) }
+        ensures planned { OnOk result (self.new.planned ≡ vec_len self.new.asked) }
+        ensures given { OnOk result (self.new.given ≡ 0) }
     {
-        self.answers.resize(most, 1)?;
-        self.planned = self.answers.len();
-        self.answers.push(NO_ANSWER)?;
-        self.planned = self.answers.len();
+        let one = Asked {
+            answer: 1,
+            bound: NO_BOUND,
+        };
+        self.asked.resize(most, one)?;
+        self.planned = self.asked.len();
+        self.asked.push(Asked {
+            answer: NO_ANSWER,
+            bound: NO_BOUND,
+        })?;
+        self.planned = self.asked.len();
         Ok(())
     }
 
     /// Forgets the answers of its plan that were not given.
     pub(crate) fn keep_given(&mut self)
-        ensures answers { self.new.answers.items
-            ≡ take (vec_len self.old.bounds) self.old.answers.items }
-        ensures bounds { self.new.bounds ≡ self.old.bounds }
+        ensures asked { self.new.asked.items ≡ take self.old.given self.old.asked.items }
+        ensures given { self.new.given ≡ self.old.given }
     {
-        self.answers.truncate(self.bounds.len());
-        self.planned = self.answers.len();
+        self.asked.truncate(self.given);
+        self.planned = self.asked.len();
     }
 
-    /// Counts the first answers of its plan as given, with these bounds.
-    ///
-    /// # Errors
-    ///
-    /// Where the bounds are refused memory.
-    pub(crate) fn skip(&mut self, bounds: &[i16]) -> Result<(), AllocError>
-        requires fresh { self.old.bounds.items ≡ [] }
-        requires planned { self.old.planned ≡ vec_len self.old.answers }
-        requires within { length bounds.now ≤ vec_len self.old.answers }
-        ensures answers { self.new.answers.items ≡ self.old.answers.items }
+    /// Counts so many of the first answers of its plan as given, with the bounds that they are planned
+    /// with.
+    pub(crate) fn skip(&mut self, count: usize)
+        requires planned { self.old.planned ≡ vec_len self.old.asked }
+        requires within { count ≤ vec_len self.old.asked }
+        ensures asked { self.new.asked.items ≡ self.old.asked.items }
         ensures planned { self.new.planned ≡ self.old.planned }
-        ensures bounds { OnOk result (self.new.bounds.items ≡ bounds.now) }
+        ensures given { self.new.given ≡ count }
     {
-        self.bounds.extend_from_slice(bounds)
+        self.given = count;
     }
 
-    /// Gives its answers and bounds away, and keeps nothing.
-    pub(crate) fn hand_over(&mut self, answers: &mut Vec<i16>, bounds: &mut Vec<i16>)
-        ensures answers { answers.new.items ≡ self.old.answers.items }
-        ensures bounds { bounds.new.items ≡ self.old.bounds.items }
-        ensures no_answers { self.new.answers.items ≡ [] }
-        ensures no_bounds { self.new.bounds.items ≡ [] }
+    /// Gives its answers and their bounds away, and keeps nothing.
+    pub(crate) fn hand_over(&mut self, asked: &mut Vec<Asked>)
+        ensures asked { asked.new.items ≡ self.old.asked.items }
+        ensures no_answers { self.new.asked.items ≡ [] }
+        ensures none_given { self.new.given ≡ 0 }
         ensures no_plan { self.new.planned ≡ 0 }
     {
-        mem::swap(&mut self.answers, answers);
-        mem::swap(&mut self.bounds, bounds);
+        mem::swap(&mut self.asked, asked);
         self.planned = 0;
-        self.bounds.clear();
-        self.answers.clear();
+        self.given = 0;
+        self.asked.clear();
     }
 
     /// Forgets its plan and its answers.
     pub(crate) fn clear(&mut self)
-        ensures answers { self.new.answers.items ≡ [] }
-        ensures bounds { self.new.bounds.items ≡ [] }
+        ensures asked { self.new.asked.items ≡ [] }
+        ensures given { self.new.given ≡ 0 }
         ensures planned { self.new.planned ≡ 0 }
     {
         self.planned = 0;
-        self.bounds.clear();
-        self.answers.clear();
+        self.given = 0;
+        self.asked.clear();
     }
 }
 
@@ -169,28 +179,23 @@ impl Chooser for Recorder {
 
     #[inline(always)]
     fn choose(&mut self, bound: i16) -> Result<i16, Pause> {
-        let place = self.bounds.len();
-        if place < self.answers.len() {
-            let answer = self.answers[place];
+        let place = self.given;
+        if place < self.asked.len() {
+            let answer = self.asked[place].answer;
             if answer < 1 || answer > bound {
                 self.refused_bound = bound;
                 return Err(Pause::OutOfRange(answer));
             }
-            match self.bounds.push(bound) {
-                Ok(()) => Ok(answer),
-                Err(_) => Err(Pause::Memory),
-            }
+            self.asked[place] = Asked { answer, bound };
+            self.given += 1;
+            Ok(answer)
         } else {
-            match self.answers.push(1) {
-                Ok(()) => {}
-                Err(_) => return Err(Pause::Memory),
-            }
-            match self.bounds.push(bound) {
-                Ok(()) => Ok(1),
-                Err(_) => {
-                    let _ = self.answers.pop();
-                    Err(Pause::Memory)
+            match self.asked.push(Asked { answer: 1, bound }) {
+                Ok(()) => {
+                    self.given += 1;
+                    Ok(1)
                 }
+                Err(_) => Err(Pause::Memory),
             }
         }
     }

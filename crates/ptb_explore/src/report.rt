@@ -1,13 +1,12 @@
 // This file has the reports of runs.
 
-ghost use Rattle.std.specs.Prelude.{◌≡◌, [], length, OnOk, OnErr};
+ghost use Rattle.std.specs.Prelude.{◌≡◌, [], OnOk, OnErr};
 ghost use Rattle.std.specs.Io.KnownBytes.{Appends};
 ghost use Rattle.ptb_text.specs.Device.{TakesSome, HasFailed};
-ghost use Rattle.ptb_answers.specs.AnswerText.{items_in};
-ghost use Rattle.ptb_report.specs.Report.{report_text};
+ghost use Rattle.ptb_report.specs.Report.{asked_items, report_text};
 ghost use Rattle.ptb_explore.specs.Report.{ending_word};
 
-use ptb_answers::Form;
+use ptb_answers::{Asked, Form};
 use ptb_machine::Ending;
 use ptb_report::ReportWriter;
 use ptb_text::{DeviceFault, Write};
@@ -16,10 +15,8 @@ use std::alloc::Global;
 /// The report of a run.
 #[derive(Drop)]
 pub struct Report {
-    /// The answers that the run took, each 1 to its bound.
-    pub answers: Vec<i16>,
-    /// The bound of each answer.
-    pub bounds: Vec<i16>,
+    /// The answers that the run took, each with its bound.
+    pub asked: Vec<Asked>,
     /// How the run ended.
     pub ending: Ending,
     /// How many commands it began.
@@ -31,18 +28,17 @@ pub struct Report {
 impl Report {
     /// A report that has nothing yet.
     pub(crate) fn new(alloc: Global) -> Self
-        ensures { result.answers.items ≡ [] }
+        ensures { result.asked.items ≡ [] }
     {
         Report {
-            answers: Vec::new(alloc),
-            bounds: Vec::new(alloc),
+            asked: Vec::new(alloc),
             ending: Ending::End,
             steps: 0,
             transcript: Vec::new(alloc),
         }
     }
 
-    /// Writes the report, with its answers as the form has them. Each answer has its bound.
+    /// Writes the report, with its answers as the form has them.
     ///
     /// # Errors
     ///
@@ -53,21 +49,19 @@ impl Report {
         reports: &mut ReportWriter,
         writer: &mut W,
     ) -> Result<(), DeviceFault>
-        requires { length self.now.answers.items ≡ length self.now.bounds.items }
         ensures ok { OnOk result (Appends (W.contents writer.old) (W.contents writer.new)
-            (report_text (items_in form self.now.answers.items self.now.bounds.items)
-            (ending_word self.now.ending) self.now.steps self.now.transcript.items)) }
+            (report_text (asked_items form self.now.asked.items) (ending_word self.now.ending)
+            self.now.steps self.now.transcript.items)) }
         ensures fault { OnErr result (TakesSome (W.contents writer.old) (W.contents writer.new)
-            (report_text (items_in form self.now.answers.items self.now.bounds.items)
-            (ending_word self.now.ending) self.now.steps self.now.transcript.items)) }
+            (report_text (asked_items form self.now.asked.items) (ending_word self.now.ending)
+            self.now.steps self.now.transcript.items)) }
         ensures failed { OnErr result (HasFailed (W.failures writer.old) (W.failures writer.new)) }
         ensures unfailed { OnOk result (W.failures writer.new ≡ W.failures writer.old) }
     {
         reports.write(
             writer,
             form,
-            &self.answers,
-            &self.bounds,
+            &self.asked,
             word(self.ending),
             self.steps,
             &self.transcript,

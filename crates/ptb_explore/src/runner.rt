@@ -5,13 +5,14 @@ ghost use Rattle.std.specs.Prelude.{true, IfOk, OnOk, OnErr, IsTrue};
 ghost use Rattle.ptb_answers.specs.AnswerText.{answers_of};
 ghost use Rattle.ptb_answers.specs.Outcome.{is_open};
 ghost use Rattle.ptb_machine.specs.Play.{play};
+ghost use Rattle.ptb_answers.specs.Asked.{answers_in, bounds_in};
 ghost use Rattle.ptb_explore.specs.Copies.{Agrees, AreCopies, PlaysOn, WentBack};
 ghost use Rattle.ptb_explore.specs.Copies.{kept_runs, last_steps, play_limit};
 ghost use Rattle.ptb_explore.specs.Explorations.{game_of, finish_of, AreCopiesAt, IsSameGame};
 ghost use Rattle.ptb_explore.specs.Explorations.{NextPlays, NextReports};
 ghost use Rattle.ptb_explore.specs.PlannedPlays.{IsRunPrefix, PlayEnds};
 ghost use Rattle.ptb_explore.specs.Plans.{front_at, PlanEndsWith, IsFresh, IsPosition};
-ghost use Rattle.ptb_explore.specs.Recorders.{choices_of};
+ghost use Rattle.ptb_explore.specs.Recorders.{choices_of, recorded};
 ghost use Rattle.ptb_explore.specs.RunTree.{IsLast};
 
 use crate::copies::Copies;
@@ -89,14 +90,15 @@ impl<'a> Runner<'a> {
         requires fresh { IsFresh self.old.trial }
         requires begins { source.old.taken ≡ 0 }
         requires agrees { Agrees (play self.old.player source.old.lines self.old.rules) common
-            self.old.trial.answers.items self.old.report.answers.items self.old.report.bounds.items }
+            (recorded self.old.trial) (answers_in self.old.report.asked.items)
+            (bounds_in self.old.trial.asked.items) }
         requires copies { AreCopies self.old.player source.old.lines self.old.rules
-            self.old.report.answers.items screen.old self.old.copies.kept.items }
+            (answers_in self.old.report.asked.items) screen.old self.old.copies.kept.items }
         ensures same { self.new ≡ record self.old {
           trial = self.new.trial;
           copies = self.new.copies;
         } }
-        ensures plan { (choices_of self.new.trial).plan ≡ self.old.trial.answers.items }
+        ensures plan { (choices_of self.new.trial).plan ≡ recorded self.old.trial }
         ensures same_lines { source.new.lines ≡ source.old.lines }
         ensures within { OnOk result (source.new.taken ≤ length source.new.lines) }
         ensures unspent { IfOk result (λ b. b.value.spent ≡ false) }
@@ -111,14 +113,14 @@ impl<'a> Runner<'a> {
     {
         match self
             .copies
-            .go_back(self.alloc, common, self.report.answers.len())?
+            .go_back(self.alloc, common, self.report.asked.len())?
         {
             None => {
                 screen.cut(0);
                 self.copies.begin(self.alloc, &self.player)
             }
             Some(copy) => {
-                self.trial.skip(&self.report.bounds[..copy.taken])?;
+                self.trial.skip(copy.taken);
                 screen.cut(copy.shown);
                 source.go(copy.lines);
                 match copy.machine {
@@ -139,18 +141,18 @@ impl<'a> Runner<'a> {
     pub(crate) fn play_plan(&mut self, common: usize) -> Result<(), AllocError>
         requires fresh { IsFresh self.old.trial }
         requires agrees { Agrees (game_of self.old) common
-            self.old.trial.answers.items self.old.report.answers.items self.old.report.bounds.items }
+            (recorded self.old.trial) (answers_in self.old.report.asked.items)
+            (bounds_in self.old.trial.asked.items) }
         requires copies { AreCopies self.old.player self.old.lines.now self.old.rules
-            self.old.report.answers.items self.old.report.transcript.items
+            (answers_in self.old.report.asked.items) self.old.report.transcript.items
             self.old.copies.kept.items }
         ensures same { IsSameGame self.old self.new }
         ensures plan { OnOk result
-            ((choices_of self.new.trial).plan ≡ self.old.trial.answers.items) }
+            ((choices_of self.new.trial).plan ≡ recorded self.old.trial) }
         ensures ends { OnOk result (PlayEnds (game_of self.old) (choices_of self.new.trial)
             self.new.trial.refused_bound
             self.new.report.steps self.new.report.transcript.items self.new.report.ending) }
-        ensures answers { self.new.report.answers.items ≡ self.old.report.answers.items }
-        ensures bounds { self.new.report.bounds.items ≡ self.old.report.bounds.items }
+        ensures asked { self.new.report.asked.items ≡ self.old.report.asked.items }
         ensures copies { OnOk result (AreCopies self.old.player self.old.lines.now self.old.rules
             (choices_of self.new.trial).taken self.new.report.transcript.items
             self.new.copies.kept.items) }
@@ -176,20 +178,20 @@ impl<'a> Runner<'a> {
     // Plays a plan as play_plan does, and makes the report of its run.
     fn report_plan(&mut self, common: usize) -> Result<(), AllocError>
         requires fresh { IsFresh self.old.trial }
-        requires opens { is_open (game_of self.old self.old.trial.answers.items) ≡ true }
+        requires opens { is_open (game_of self.old (recorded self.old.trial)) ≡ true }
         requires agrees { Agrees (game_of self.old) common
-            self.old.trial.answers.items self.old.report.answers.items self.old.report.bounds.items }
+            (recorded self.old.trial) (answers_in self.old.report.asked.items)
+            (bounds_in self.old.trial.asked.items) }
         requires copies { AreCopies self.old.player self.old.lines.now self.old.rules
-            self.old.report.answers.items self.old.report.transcript.items
+            (answers_in self.old.report.asked.items) self.old.report.transcript.items
             self.old.copies.kept.items }
         ensures same { IsSameGame self.old self.new }
-        ensures ends { OnOk result (PlanEndsWith (game_of self.old) self.old.trial.answers.items
-            self.new.report.answers.items self.new.report.bounds.items (finish_of self.new.report)) }
-        ensures answers { OnErr result
-            (self.new.report.answers.items ≡ self.old.report.answers.items) }
-        ensures bounds { OnErr result (self.new.report.bounds.items ≡ self.old.report.bounds.items) }
+        ensures ends { OnOk result (PlanEndsWith (game_of self.old) (recorded self.old.trial)
+            (answers_in self.new.report.asked.items) (bounds_in self.new.report.asked.items)
+            (finish_of self.new.report)) }
+        ensures asked { OnErr result (self.new.report.asked.items ≡ self.old.report.asked.items) }
         ensures copies { OnOk result (AreCopies self.old.player self.old.lines.now self.old.rules
-            self.new.report.answers.items self.new.report.transcript.items
+            (answers_in self.new.report.asked.items) self.new.report.transcript.items
             self.new.copies.kept.items) }
         ensures played { OnOk result (PlaysOn common self.old.copies.kept.items self.old.played
             self.new.report.steps self.new.played) }
@@ -198,8 +200,7 @@ impl<'a> Runner<'a> {
     {
         run_laws();
         self.play_plan(common)?;
-        self.trial
-            .hand_over(&mut self.report.answers, &mut self.report.bounds);
+        self.trial.hand_over(&mut self.report.asked);
         Ok(())
     }
 
@@ -215,35 +216,26 @@ impl<'a> Runner<'a> {
         under: &[Marked],
     ) -> Result<bool, AllocError>
         requires position { IsPosition (game_of self.old) (answers_of under.now) position
-            self.old.report.answers.items self.old.report.bounds.items }
+            (answers_in self.old.report.asked.items) (bounds_in self.old.report.asked.items) }
         requires copies { AreCopiesAt self.old.player self.old.lines.now self.old.rules position
             self.old.report self.old.copies.kept.items }
         ensures same { IsSameGame self.old self.new }
         ensures next { IfOk result (NextReports (game_of self.old) (answers_of under.now)
-            (front_at position self.old.report.answers.items) self.new.report) }
-        ensures answers { OnErr result
-            (self.new.report.answers.items ≡ self.old.report.answers.items) }
-        ensures bounds { OnErr result (self.new.report.bounds.items ≡ self.old.report.bounds.items) }
+            (front_at position (answers_in self.old.report.asked.items)) self.new.report) }
+        ensures asked { OnErr result (self.new.report.asked.items ≡ self.old.report.asked.items) }
         ensures ended { IsLast (game_of self.old) (answers_of under.now)
-            (front_at position self.old.report.answers.items) → result ≡ Ok false }
+            (front_at position (answers_in self.old.report.asked.items)) → result ≡ Ok false }
         ensures copies { IfOk result (λ found. IsTrue found → AreCopies self.old.player
-            self.old.lines.now self.old.rules self.new.report.answers.items
+            self.old.lines.now self.old.rules (answers_in self.new.report.asked.items)
             self.new.report.transcript.items self.new.copies.kept.items) }
         ensures played { IfOk result (NextPlays
-            (kept_runs self.old.report.answers.items self.old.copies.kept.items) self.old.played
-            self.new.report self.new.played) }
+            (kept_runs (answers_in self.old.report.asked.items) self.old.copies.kept.items)
+            self.old.played self.new.report self.new.played) }
         ensures rises { self.old.played ≤ self.new.played }
         ensures once { self.new.played < self.old.played + play_limit }
     {
         run_laws();
-        let report = &self.report;
-        match plan_next(
-            position,
-            under,
-            &report.answers,
-            &report.bounds,
-            &mut self.trial,
-        )? {
+        match plan_next(position, under, &self.report.asked, &mut self.trial)? {
             None => Ok(false),
             Some(common) => {
                 self.report_plan(common)?;

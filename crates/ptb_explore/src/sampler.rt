@@ -145,8 +145,7 @@ fn write_run<W: Write>(
     match sampler.reports.write(
         writer,
         form,
-        chooser.answers(),
-        chooser.bounds(),
+        chooser.asked(),
         word(ending),
         sampler.machine.steps(),
         sampler.screen.bytes(),

@@ -34,7 +34,7 @@ pub use fault::{Fault, FaultKind, Stop};
 pub use laws::{code_laws, mark_laws, spelling_laws, value_laws};
 pub use operator::Operator;
 pub use plain::plain_value;
-pub use ptb_answers::{Chooser, Form, Listed, Marked, Pause, Rules, Seeded};
+pub use ptb_answers::{Asked, Chooser, Form, Listed, Marked, Pause, Rules, Seeded};
 pub use saved::SavedStore;
 pub use short::ShortValue;
 pub use step::{Step, Steps};

@@ -573,14 +573,16 @@ fn expect_seeded(rt: &impl Abort, alloc: Global, store: &Store, seed: u64) {
         let found = asked(rt, store, &mut seeded, text);
         expect_same(rt, text, (seed, found), (seed, wanted));
     }
-    let bounds = [6, 1, 32767, 6, 100, 2, 20000];
-    expect_same(rt, "bounds", seeded.bounds(), &bounds);
-    let answers = seeded.answers();
-    let first = match answers {
-        [answer, ..] => i64::from(*answer),
+    let kept = seeded.asked();
+    for (k, bound) in [6, 1, 32767, 6, 100, 2, 20000].into_iter().enumerate() {
+        let found = kept.get(k).map(|question| question.bound);
+        expect_same(rt, "bound", found, Some(bound));
+    }
+    let first = match kept {
+        [question, ..] => i64::from(question.answer),
         [] => i64::MAX,
     };
-    let found = (seed, answers.len(), first);
+    let found = (seed, kept.len(), first);
     let wanted = next_answer(&mut Lcg64Xsh32::new(seed, 1), 6);
     expect_same(rt, "answers", found, (seed, 7, wanted));
 }
@@ -594,15 +596,15 @@ fn seeded_answers(rt: HostRuntime) {
 }
 
 // Two answers by the seed 7 to questions with bound 6, which are all that it keeps then.
-fn expect_two_rolls(rt: &impl Abort, store: &Store, seeded: &mut Seeded, rolls: &[i16]) {
+fn expect_two_rolls(rt: &impl Abort, store: &Store, seeded: &mut Seeded, rolls: (i16, i16)) {
     let first = asked(rt, store, seeded, "R.(6)");
     let second = asked(rt, store, seeded, "R.(6)");
-    expect_same(rt, "bounds", seeded.bounds(), &[6, 6]);
-    expect_same(rt, "answers", seeded.answers(), rolls);
-    let kept = match seeded.answers() {
-        [one, other] => (i64::from(*one), i64::from(*other)),
-        _ => (0, 0),
+    let (one, other) = match seeded.asked() {
+        [one, other] => ((one.answer, one.bound), (other.answer, other.bound)),
+        _ => ((0, 0), (0, 0)),
     };
+    expect_same(rt, "kept", (one, other), ((rolls.0, 6), (rolls.1, 6)));
+    let kept = (i64::from(one.0), i64::from(other.0));
     expect_same(rt, "asked", (first, second), kept);
 }
 
@@ -612,12 +614,12 @@ fn expect_two_rolls(rt: &impl Abort, store: &Store, seeded: &mut Seeded, rolls: 
 fn forgotten_answers(rt: HostRuntime) {
     let store = make_store(&rt, rt.alloc());
     let mut seeded = Seeded::new(rt.alloc(), 7);
-    expect_two_rolls(&rt, &store, &mut seeded, &[3, 5]);
+    expect_two_rolls(&rt, &store, &mut seeded, (3, 5));
     seeded.forget();
-    expect_same(&rt, "no bounds", seeded.bounds().is_empty(), true);
-    expect_two_rolls(&rt, &store, &mut seeded, &[5, 4]);
+    expect_same(&rt, "none kept", seeded.asked().is_empty(), true);
+    expect_two_rolls(&rt, &store, &mut seeded, (5, 4));
     seeded.forget();
-    expect_two_rolls(&rt, &store, &mut seeded, &[4, 4]);
+    expect_two_rolls(&rt, &store, &mut seeded, (4, 4));
 }
 
 // A question that is asked with a bound below 1 is a fault, and no word is drawn for it.
@@ -632,7 +634,7 @@ fn seeded_faults(rt: HostRuntime) {
     };
     let found = evaluate(&mut cursor, &store, &mut seeded);
     expect_same(&rt, "R.(0)", found, Err(Stop::Fault(how)));
-    expect_same(&rt, "no bounds", seeded.bounds().is_empty(), true);
+    expect_same(&rt, "none kept", seeded.asked().is_empty(), true);
     let wanted = next_answer(&mut Lcg64Xsh32::new(7, 1), 9);
     let found = asked(&rt, &store, &mut seeded, "R.(9)");
     expect_same(&rt, "R.(9)", found, wanted);
@@ -640,20 +642,18 @@ fn seeded_faults(rt: HostRuntime) {
 
 // An answer is the generator's and stands in the list then; one that is refused changes nothing.
 fn expect_chosen(rt: &impl Abort, seeded: &mut Seeded, generator: &mut Lcg64Xsh32) {
-    let given = seeded.answers().len();
+    let given = seeded.asked().len();
     match seeded.choose(100) {
         Ok(answer) => {
-            let found = (i64::from(answer), seeded.answers().len());
+            let found = (i64::from(answer), seeded.asked().len());
             let wanted = (next_answer(generator, 100), given + 1);
             expect_same(rt, "answer", found, wanted);
         }
         Err(pause) => {
-            let found = (pause, seeded.answers().len());
+            let found = (pause, seeded.asked().len());
             expect_same(rt, "pause", found, (Pause::Memory, given));
         }
     }
-    let (bounds, answers) = (seeded.bounds().len(), seeded.answers().len());
-    expect_same(rt, "as many bounds", bounds, answers);
 }
 
 // Passes whichever of its allocations is refused: the lists are then as they were, and the next

@@ -2,7 +2,7 @@
 // to a device that has no room for all of a report.
 
 use crate::shared::expect_same;
-use ptb_expr::Form;
+use ptb_expr::{Asked, Form};
 use ptb_report::ReportWriter;
 use ptb_text::{ByteSink, Device, DeviceFault};
 use std::alloc::{AllocError, Global};
@@ -26,7 +26,12 @@ const TWO_ANSWERS: Reported = (&[2, 1], &[2, 32767], "STOP", 4_294_967_295, b"  
 // More than is gathered before anything is written.
 const LONG: Reported = (&[1], &[1], "LIMIT", 0, &[b'A'; 5000]);
 
-// Writes a report to a sink.
+const ONE_OF_1: Asked = Asked {
+    answer: 1,
+    bound: 1,
+};
+
+// Writes a report of at most 8 answers to a sink.
 fn write_to<T: ByteSink + Drop>(
     reports: &mut ReportWriter,
     sink: T,
@@ -35,10 +40,15 @@ fn write_to<T: ByteSink + Drop>(
 ) -> Result<(), DeviceFault> {
     let (answers, bounds, word, steps, shown) = run;
     let (word, mut out) = (word.as_bytes(), Device::new(sink));
-    if answers.len() != bounds.len() {
+    let (mut asked, count) = ([ONE_OF_1; 8], answers.len());
+    if count > asked.len() || bounds.len() != count {
         return Err(DeviceFault);
     }
-    reports.write(&mut out, form, answers, bounds, word, steps, shown)
+    for k in 0..count {
+        let (answer, bound) = (answers[k], bounds[k]);
+        asked[k] = Asked { answer, bound };
+    }
+    reports.write(&mut out, form, &asked[..count], word, steps, shown)
 }
 
 // Writes a report into this room.
@@ -299,23 +309,18 @@ fn written(
     last: i16,
     shown: usize,
 ) -> Result<Vec<u8>, AllocError> {
-    let mut answers = Vec::new(alloc);
-    answers.resize(count, 1)?;
-    let _ = answers.pop();
-    answers.push(last)?;
+    let mut asked = Vec::new(alloc);
+    asked.resize(count, ONE_OF_1)?;
+    let _ = asked.pop();
+    asked.push(Asked {
+        answer: last,
+        bound: last,
+    })?;
     let mut transcript = Vec::new(alloc);
     transcript.resize(shown, b'A')?;
     let mut taken = Vec::new(alloc);
     let mut out = Device::new(&mut taken);
-    let done = reports.write(
-        &mut out,
-        Form::One,
-        &answers,
-        &answers,
-        b"END",
-        7,
-        &transcript,
-    );
+    let done = reports.write(&mut out, Form::One, &asked, b"END", 7, &transcript);
     match done {
         Ok(()) => Ok(taken),
         Err(DeviceFault) => Err(AllocError),

@@ -1,14 +1,21 @@
 -- This file defines the text of a report and of a list of answers.
 --     header items word steps size            the first line: RUN, the answers, how the run ended, its steps, how many
 --                                             bytes it showed
+--     asked_items form asked                  the answers of a run, each with its bound, as a form has them
 --     report_text items word steps shown      the header, what the run showed, and a newline
 --     list_line items                         a list of answers, and a newline
 --     report_ending word steps shown          what a report has after its answers
 use Rattle.std.specs.Prelude.{ℕ, List, ◌++◌, length, codes, decimal}
+use Rattle.ptb_answers.specs.declared.asked.Asked.{Asked}
+use Rattle.ptb_answers.specs.declared.form.Form.{Form}
 use Rattle.ptb_answers.specs.declared.form.Marked.{Marked}
-use Rattle.ptb_answers.specs.AnswerText.{spelling}
+use Rattle.ptb_answers.specs.Asked.{answers_in, bounds_in}
+use Rattle.ptb_answers.specs.AnswerText.{items_in, spelling}
 
 -- ---- text
+
+abbrev pub asked_items : Form → List Asked → List Marked
+asked_items form asked = items_in form (answers_in asked) (bounds_in asked)
 
 -- one space stands in front of each field
 abbrev pub field : List ℕ → List ℕ

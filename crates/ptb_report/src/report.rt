@@ -1,13 +1,13 @@
 // This file writes the report of a run, and lists of answers.
 
-ghost use Rattle.std.specs.Prelude.{◌≡◌, ◌==◌, [], ◌++◌, length, OnOk, OnErr, codes, if◌then◌else◌};
+ghost use Rattle.std.specs.Prelude.{◌≡◌, ◌==◌, [], ◌++◌, OnOk, OnErr, codes, if◌then◌else◌};
 ghost use Rattle.std.specs.Io.KnownBytes.{Appends};
 ghost use Rattle.ptb_text.specs.Device.{Gathers, TakesSome, HasFailed};
-ghost use Rattle.ptb_answers.specs.AnswerText.{in_form, item_text, items_in, spelling};
-ghost use Rattle.ptb_report.specs.Report.{list_line, report_text};
+ghost use Rattle.ptb_answers.specs.AnswerText.{in_form, item_text, spelling};
+ghost use Rattle.ptb_report.specs.Report.{asked_items, list_line, report_text};
 
 use itoa::Buffer;
-use ptb_answers::{Form, Marked};
+use ptb_answers::{Asked, Form, Marked};
 use ptb_text::{DeviceFault, OutputBuffer, Write};
 
 // Bytes that wait to be written: on the stack, since a report takes no memory.
@@ -66,28 +66,22 @@ fn put_answers<W: Write>(
     out: &mut W,
     pending: &mut Pending,
     form: Form,
-    answers: &[i16],
-    bounds: &[i16],
+    asked: &[Asked],
 ) -> Result<(), DeviceFault>
-    requires { length answers.now ≡ length bounds.now }
     ensures ok { OnOk result (Gathers (W.contents out.old) (W.contents out.new)
-        (pending.old ++ spelling (items_in form answers.now bounds.now))
+        (pending.old ++ spelling (asked_items form asked.now))
         pending.new) }
     ensures fault { OnErr result (TakesSome (W.contents out.old) (W.contents out.new)
-        (pending.old ++ spelling (items_in form answers.now bounds.now))) }
+        (pending.old ++ spelling (asked_items form asked.now))) }
     ensures failed { OnErr result (HasFailed (W.failures out.old) (W.failures out.new)) }
     ensures unfailed { OnOk result (W.failures out.new ≡ W.failures out.old) }
 {
-    if answers.is_empty() {
+    if asked.is_empty() {
         return pending.put(out, b"none");
     }
-    for k in 0..answers.len() {
-        put_item(
-            out,
-            pending,
-            separator(k),
-            item(form, answers[k], bounds[k]),
-        )?;
+    for k in 0..asked.len() {
+        let Asked { answer, bound } = asked[k];
+        put_item(out, pending, separator(k), item(form, answer, bound))?;
     }
     Ok(())
 }
@@ -96,23 +90,21 @@ fn put_answers<W: Write>(
 pub(crate) fn write_in_pieces<W: Write>(
     out: &mut W,
     form: Form,
-    answers: &[i16],
-    bounds: &[i16],
+    asked: &[Asked],
     word: &[u8],
     steps: u32,
     transcript: &[u8],
 ) -> Result<(), DeviceFault>
-    requires { length answers.now ≡ length bounds.now }
     ensures ok { OnOk result (Appends (W.contents out.old) (W.contents out.new)
-        (report_text (items_in form answers.now bounds.now) word.now steps transcript.now)) }
+        (report_text (asked_items form asked.now) word.now steps transcript.now)) }
     ensures fault { OnErr result (TakesSome (W.contents out.old) (W.contents out.new)
-        (report_text (items_in form answers.now bounds.now) word.now steps transcript.now)) }
+        (report_text (asked_items form asked.now) word.now steps transcript.now)) }
     ensures failed { OnErr result (HasFailed (W.failures out.old) (W.failures out.new)) }
     ensures unfailed { OnOk result (W.failures out.new ≡ W.failures out.old) }
 {
     let mut pending = Pending::new();
     pending.put(out, b"RUN ")?;
-    put_answers(out, &mut pending, form, answers, bounds)?;
+    put_answers(out, &mut pending, form, asked)?;
     let (mut counted, mut sized) = (Buffer::new(), Buffer::new());
     let steps = counted.format(steps).as_bytes();
     let size = sized.format(transcript.len()).as_bytes();
@@ -124,28 +116,22 @@ pub(crate) fn write_in_pieces<W: Write>(
     )
 }
 
-/// Writes a list of answers as the form has it, and a newline. Each answer has its bound.
+/// Writes a list of answers as the form has it, and a newline.
 ///
 /// It takes no memory, and writes a short list in one piece.
 ///
 /// # Errors
 ///
 /// [`DeviceFault`] where the writer failed. A prefix of the line may have been taken then.
-pub fn write_list<W: Write>(
-    out: &mut W,
-    form: Form,
-    answers: &[i16],
-    bounds: &[i16],
-) -> Result<(), DeviceFault>
-    requires { length answers.now ≡ length bounds.now }
+pub fn write_list<W: Write>(out: &mut W, form: Form, asked: &[Asked]) -> Result<(), DeviceFault>
     ensures ok { OnOk result (Appends (W.contents out.old) (W.contents out.new)
-        (list_line (items_in form answers.now bounds.now))) }
+        (list_line (asked_items form asked.now))) }
     ensures fault { OnErr result (TakesSome (W.contents out.old) (W.contents out.new)
-        (list_line (items_in form answers.now bounds.now))) }
+        (list_line (asked_items form asked.now))) }
     ensures failed { OnErr result (HasFailed (W.failures out.old) (W.failures out.new)) }
     ensures unfailed { OnOk result (W.failures out.new ≡ W.failures out.old) }
 {
     let mut pending = Pending::new();
-    put_answers(out, &mut pending, form, answers, bounds)?;
+    put_answers(out, &mut pending, form, asked)?;
     pending.finish(out, &[b"\n"])
 }

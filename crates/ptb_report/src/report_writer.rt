@@ -5,15 +5,15 @@ ghost use Rattle.std.specs.Prelude.{OnOk, OnErr, IsTrue, IsFalse, if◌then◌el
 ghost use Rattle.std.specs.Fmt.{signed_decimal};
 ghost use Rattle.std.specs.Io.KnownBytes.{Appends};
 ghost use Rattle.ptb_text.specs.Device.{TakesSome, HasFailed};
-ghost use Rattle.ptb_answers.specs.AnswerText.{in_form, item_text, items_in};
-ghost use Rattle.ptb_report.specs.Report.{field, report_ending, report_text};
+ghost use Rattle.ptb_answers.specs.AnswerText.{in_form, item_text};
+ghost use Rattle.ptb_report.specs.Report.{asked_items, field, report_ending, report_text};
 ghost use Rattle.ptb_report.specs.Begun.{begun, item_of, items_of, AreEnds, BeginsWith, KeepsItem};
 
 use crate::report::write_in_pieces;
 use crate::text::{MOST_BYTES, Text};
 use arrayvec::ArrayVec;
 use itoa::Buffer;
-use ptb_answers::Form;
+use ptb_answers::{Asked, Form};
 use ptb_text::{DeviceFault, Write};
 
 // How many items are kept at most.
@@ -70,19 +70,19 @@ fn is_item(item: &KeptItem, answer: i16, bound: Option<i16>) -> bool
 
 // How many of the first answers are those of the items, as a form has them.
 #[inline(always)]
-fn count_same(items: &[KeptItem], form: Form, answers: &[i16], bounds: &[i16]) -> usize
-    requires { length answers.now ≡ length bounds.now }
+fn count_same(items: &[KeptItem], form: Form, asked: &[Asked]) -> usize
     ensures items { result ≤ length items.now }
-    ensures answers { result ≤ length answers.now }
+    ensures asked { result ≤ length asked.now }
     ensures same { take result (items_of items.now)
-        ≡ take result (items_in form answers.now bounds.now) }
+        ≡ take result (asked_items form asked.now) }
 {
-    for k in 0..answers.len() {
-        if k >= items.len() || !is_item(&items[k], answers[k], bound_in(form, bounds[k])) {
+    for k in 0..asked.len() {
+        let Asked { answer, bound } = asked[k];
+        if k >= items.len() || !is_item(&items[k], answer, bound_in(form, bound)) {
             return k;
         }
     }
-    answers.len()
+    asked.len()
 }
 
 // How many bytes the text has up to the end of so many items.
@@ -197,29 +197,22 @@ fn add_item(text: &mut Text, place: usize, answer: i16, bound: Option<i16>)
 // Adds the answers from a place on, as a form has them, and keeps their items while there is room for
 // them. Says whether there was room for their text.
 #[inline(always)]
-fn add_items(
-    kept: &mut Kept,
-    text: &mut Text,
-    form: Form,
-    answers: &[i16],
-    bounds: &[i16],
-    first: usize,
-) -> bool
-    requires same { length answers.now ≡ length bounds.now }
-    requires within { first ≤ length answers.now }
-    requires items { items_of kept.old.items ≡ take first (items_in form answers.now bounds.now) }
+fn add_items(kept: &mut Kept, text: &mut Text, form: Form, asked: &[Asked], first: usize) -> bool
+    requires within { first ≤ length asked.now }
+    requires items { items_of kept.old.items ≡ take first (asked_items form asked.now) }
     requires ends { AreEnds kept.old.items }
-    requires text { text.old ≡ begun (take first (items_in form answers.now bounds.now)) }
+    requires text { text.old ≡ begun (take first (asked_items form asked.now)) }
     ensures begins { BeginsWith text.new (begun (items_of kept.new.items)) }
     ensures ends { AreEnds kept.new.items }
     ensures all { IsTrue result
-        → text.new ≡ begun (items_in form answers.now bounds.now) }
+        → text.new ≡ begun (asked_items form asked.now) }
 {
-    for k in first..answers.len() {
+    for k in first..asked.len() {
         if text.room() < ITEM_ROOM {
             return false;
         }
-        let (answer, bound) = (answers[k], bound_in(form, bounds[k]));
+        let Asked { answer, bound } = asked[k];
+        let bound = bound_in(form, bound);
         add_item(text, k, answer, bound);
         keep_item(kept, k, answer, bound, text.len());
     }
@@ -311,30 +304,28 @@ impl ReportWriter {
     fn gather(
         &mut self,
         form: Form,
-        answers: &[i16],
-        bounds: &[i16],
+        asked: &[Asked],
         word: &[u8],
         steps: u32,
         transcript: &[u8],
     ) -> bool
-        requires { length answers.now ≡ length bounds.now }
         ensures { IsTrue result → self.new.text
-            ≡ report_text (items_in form answers.now bounds.now) word.now steps transcript.now }
+            ≡ report_text (asked_items form asked.now) word.now steps transcript.now }
     {
-        if answers.is_empty() {
+        if asked.is_empty() {
             return false;
         }
-        if answers.len() > MOST_ITEMS {
+        if asked.len() > MOST_ITEMS {
             return false;
         }
-        let same = count_same(self.kept.as_slice(), form, answers, bounds);
+        let same = count_same(self.kept.as_slice(), form, asked);
         cut(&mut self.kept, &mut self.text, same);
-        let listed = add_items(&mut self.kept, &mut self.text, form, answers, bounds, same);
+        let listed = add_items(&mut self.kept, &mut self.text, form, asked, same);
         listed && add_ending(&mut self.text, word, steps, transcript)
     }
 
     /// Writes the report of a run: its answers as the form has them, the word of its ending, its
-    /// steps, and what it showed. Each answer has its bound.
+    /// steps, and what it showed.
     ///
     /// It takes no memory, and writes a short report in one piece.
     ///
@@ -345,23 +336,21 @@ impl ReportWriter {
         &mut self,
         out: &mut W,
         form: Form,
-        answers: &[i16],
-        bounds: &[i16],
+        asked: &[Asked],
         word: &[u8],
         steps: u32,
         transcript: &[u8],
     ) -> Result<(), DeviceFault>
-        requires { length answers.now ≡ length bounds.now }
         ensures ok { OnOk result (Appends (W.contents out.old) (W.contents out.new)
-            (report_text (items_in form answers.now bounds.now) word.now steps transcript.now)) }
+            (report_text (asked_items form asked.now) word.now steps transcript.now)) }
         ensures fault { OnErr result (TakesSome (W.contents out.old) (W.contents out.new)
-            (report_text (items_in form answers.now bounds.now) word.now steps transcript.now)) }
+            (report_text (asked_items form asked.now) word.now steps transcript.now)) }
         ensures failed { OnErr result (HasFailed (W.failures out.old) (W.failures out.new)) }
         ensures unfailed { OnOk result (W.failures out.new ≡ W.failures out.old) }
     {
-        if self.gather(form, answers, bounds, word, steps, transcript) {
+        if self.gather(form, asked, word, steps, transcript) {
             return out.write_all(self.text.as_slice());
         }
-        write_in_pieces(out, form, answers, bounds, word, steps, transcript)
+        write_in_pieces(out, form, asked, word, steps, transcript)
     }
 }

@@ -1,7 +1,7 @@
 // This file tests the lists that split the runs of a program, also to writers that fail and where memory
 // is refused.
 
-use crate::shared::{OUT_OF_MEMORY, expect_same, loaded};
+use crate::shared::{OUT_OF_MEMORY, are_asked, expect_same, loaded};
 use ptb_explore::{Beginnings, ExploreFault, Form, write_beginnings};
 use ptb_machine::{Line, Rules};
 use ptb_text::{Device, Program};
@@ -89,8 +89,8 @@ const FEWER: &str = "10 A=RND(2);IF A=2 B=RND(3);PRINT B";
 // The next list has these answers and bounds.
 fn expect_next(rt: &impl Abort, lists: &mut Beginnings, answers: &[i16], bounds: &[i16]) {
     expect_same(rt, "next", lists.next().is_ok_and(|found| found), true);
-    expect_same(rt, "answers", lists.answers(), answers);
-    expect_same(rt, "bounds", lists.bounds(), bounds);
+    let found = are_asked(lists.asked(), answers, bounds);
+    expect_same(rt, "answers and bounds", found, true);
 }
 
 // No list is left.

@@ -1,6 +1,8 @@
 // This file tests the reports of runs: what they are of, their text in both forms, and writers that fail.
 
-use crate::shared::{ONE_OF_6, THREE, THREE_OF_3, ZERO, expect_same, loaded, plain_rules};
+use crate::shared::{
+    ONE_OF_6, THREE, THREE_OF_3, ZERO, are_asked, expect_same, loaded, plain_rules,
+};
 use ptb_explore::{ExploreFault, Explorer, Form, Marked, OpenFault, Report, word, write_all_runs};
 use ptb_machine::{Ending, Line};
 use ptb_text::{Device, Program};
@@ -25,8 +27,8 @@ fn explorer_after<'a>(
 
 // A run has these answers and bounds.
 fn expect_report(rt: &impl Abort, report: &Report, answers: &[i16], bounds: &[i16]) {
-    let lists = (report.answers.as_slice(), report.bounds.as_slice());
-    expect_same(rt, "answers and bounds", lists, (answers, bounds));
+    let found = are_asked(&report.asked, answers, bounds);
+    expect_same(rt, "answers and bounds", found, true);
 }
 
 // The next run has these answers and bounds.

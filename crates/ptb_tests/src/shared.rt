@@ -1,6 +1,6 @@
 // This file has what several of the tests use: rules, answers, programs, and values that must be the same.
 
-use ptb_explore::Marked;
+use ptb_explore::{Asked, Marked};
 use ptb_machine::{Line, ReadFault, Rules, read_lines};
 use ptb_text::{Device, LoadFault, Program, load};
 use std::alloc::Global;
@@ -13,6 +13,19 @@ pub(crate) fn plain_rules(limit: u32) -> Rules {
         limit,
         choose: None,
     }
+}
+
+// Whether these are the answers and the bounds of a list of questions.
+pub(crate) fn are_asked(asked: &[Asked], answers: &[i16], bounds: &[i16]) -> bool {
+    if answers.len() != asked.len() || bounds.len() != asked.len() {
+        return false;
+    }
+    for k in 0..asked.len() {
+        if asked[k].answer != answers[k] || asked[k].bound != bounds[k] {
+            return false;
+        }
+    }
+    true
 }
 
 // Answers, some of them with their bounds, for lists that are constants.

@@ -1,23 +1,21 @@
 -- This file answers that the list of the next plan is the next list.
-use Rattle.std.proofs.Common.{[], Some, None, refl}
+use Rattle.std.proofs.Common.{◌≡◌, ◌∙◌, [], Some, None, refl, take}
 use Rattle.std.proofs.lemmas.Result.{IfOk-from_err}
 use Rattle.ptb_machine.specs.Play.{play}
 use Rattle.ptb_machine.specs.Questions.{most_answers}
+use Rattle.ptb_answers.specs.Asked.{answers_in, bounds_in}
+use Rattle.ptb_explore.specs.Recorders.{recorded}
 use Rattle.ptb_explore.specs.Beginnings.{stopped}
 use Rattle.ptb_explore.specs.Plans.{front_at, HasPlan, PlansNext}
 use Rattle.ptb_report.proofs.WrittenReports.{on_err_always}
 use Rattle.ptb_explore.proofs.Exits.{on_some_at}
 use Rattle.ptb_explore.proofs.ContinuedCopies.{next_played, position_copies}
-use Rattle.ptb_explore.proofs.RaisedAnswers.{position_lengths, next_plan, last_plan, plan_ends}
+use Rattle.ptb_explore.proofs.Mismatches.{if_some_at}
+use Rattle.ptb_explore.proofs.RaisedAnswers.{next_plan, last_plan, plan_ends}
 use Rattle.ptb_explore.proofs.Shares.{plan_left}
 use Rattle.ptb_explore.proofs.StoppedPlays.{stopped_reads}
 use Rattle.ptb_explore.proofs.StoppedPlans.{beginning_agrees, plan_fits}
 use Rattle.ptb_explore.proofs.beginnings.find_beginning.Goals as goal
-
-pub plan_next-requires : goal.plan_next-requires
-plan_next-requires c = λ e. rw (c.deref.ensures.value, c.deref-2.ensures.value) (position_lengths
-    (stopped c.args.most (play c.args.runner.now.player c.args.runner.now.lines.now c.args.runner.now.rules)) _ _ _
-    _ c.requires.position e)
 
 pub returns-in-None-clause-next : goal.returns-in-None-clause-next
 returns-in-None-clause-next c =
@@ -25,11 +23,12 @@ returns-in-None-clause-next c =
     let reads = c.run_laws.ensures.reads c.args.runner.now.player c.args.runner.now.lines.now c.args.runner.now.rules in
     let most = most_answers c.args.runner.now.player c.args.runner.now.lines.now c.args.runner.now.rules.limit in
     let report = c.args.runner.now.report in
-    let plans : PlansNext [] c.args.position report.answers.items
-    report.bounds.items c.plan_next.new.trial.answers.items None =
-    rw (← c.deref.ensures.value, ← c.deref-2.ensures.value, ← c.in-None.is) c.in_ok-plan_next.ensures.plan in
-    last_plan (stopped c.args.most game) c.args.most (stopped_reads game c.args.most most reads) [] c.args.position
-    report.answers.items c.plan_next.new.trial.answers.items report.bounds.items c.requires.position plans
+    let plans : PlansNext [] c.args.position (answers_in report.asked.items)
+    (bounds_in report.asked.items) (recorded c.plan_next.new.trial) None =
+    rw (← c.deref.ensures.value, ← c.in-None.is) c.in_ok-plan_next.ensures.plan in
+    last_plan (stopped c.args.most game) c.args.most (stopped_reads game c.args.most most reads)
+    [] c.args.position (answers_in report.asked.items) (recorded c.plan_next.new.trial)
+    (bounds_in report.asked.items) c.requires.position plans
 
 pub play_beginning-requires : goal.play_beginning-requires
 play_beginning-requires c =
@@ -37,20 +36,24 @@ play_beginning-requires c =
     let reads = c.run_laws.ensures.reads c.args.runner.now.player c.args.runner.now.lines.now c.args.runner.now.rules in
     let most = most_answers c.args.runner.now.player c.args.runner.now.lines.now c.args.runner.now.rules.limit in
     let report = c.args.runner.now.report in
-    let plan = c.plan_next.new.trial.answers.items in
-    let plans : PlansNext [] c.args.position report.answers.items report.bounds.items plan (Some c.in-Some.common) =
-    rw (← c.deref.ensures.value, ← c.deref-2.ensures.value, ← c.in-Some.is) c.in_ok-plan_next.ensures.plan in
-    let fits = plan_fits game most reads c.args.most c.args.position report.answers.items plan report.bounds.items
-    c.in-Some.common c.requires.position plans in
+    let plan = (recorded c.plan_next.new.trial) in
+    let plans : PlansNext [] c.args.position (answers_in report.asked.items) (bounds_in report.asked.items) plan
+    (Some c.in-Some.common) = rw (← c.deref.ensures.value, ← c.in-Some.is) c.in_ok-plan_next.ensures.plan in
+    let near = beginning_agrees game most reads c.args.most c.args.position (answers_in report.asked.items) plan
+    (bounds_in report.asked.items) c.in-Some.common c.requires.position plans in
+    let bounds : take c.in-Some.common (bounds_in c.plan_next.new.trial.asked.items)
+    ≡ take c.in-Some.common (bounds_in report.asked.items) =
+    rw (← c.deref.ensures.value) (if_some_at _ c.in-Some.is c.in_ok-plan_next.ensures.bounds) in
+    let fits = plan_fits game most reads c.args.most c.args.position (answers_in report.asked.items) plan
+    (bounds_in report.asked.items) c.in-Some.common c.requires.position plans in
     record {
       fresh = on_some_at c.in-Some.is c.in_ok-plan_next.ensures.fresh;
       within = fits.0;
       common = fits.1;
       opens = (next_plan (stopped c.args.most game) c.args.most (stopped_reads game c.args.most most reads)
-          [] c.args.position report.answers.items plan report.bounds.items c.in-Some.common c.requires.position
-          plans).opens;
-      agrees = beginning_agrees game most reads c.args.most c.args.position report.answers.items plan
-          report.bounds.items c.in-Some.common c.requires.position plans;
+          [] c.args.position (answers_in report.asked.items) plan (bounds_in report.asked.items) c.in-Some.common
+          c.requires.position plans).opens;
+      agrees = (near.0, near.1, bounds ∙ near.2);
       copies = position_copies c.args.runner.now.player c.args.runner.now.lines.now c.args.runner.now.rules
           c.args.position c.args.runner.now.report c.args.runner.now.copies.kept.items c.requires.copies;
     }
@@ -61,14 +64,15 @@ returns-in_ok-play_beginning-in-Some-clause-next c =
     let reads = c.run_laws.ensures.reads c.args.runner.now.player c.args.runner.now.lines.now c.args.runner.now.rules in
     let most = most_answers c.args.runner.now.player c.args.runner.now.lines.now c.args.runner.now.rules.limit in
     let report = c.args.runner.now.report in
-    let plan = c.plan_next.new.trial.answers.items in
-    let plans : PlansNext [] c.args.position report.answers.items report.bounds.items plan (Some c.in-Some.common) =
-    rw (← c.deref.ensures.value, ← c.deref-2.ensures.value, ← c.in-Some.is) c.in_ok-plan_next.ensures.plan in
+    let plan = (recorded c.plan_next.new.trial) in
+    let plans : PlansNext [] c.args.position (answers_in report.asked.items) (bounds_in report.asked.items) plan
+    (Some c.in-Some.common) = rw (← c.deref.ensures.value, ← c.in-Some.is) c.in_ok-plan_next.ensures.plan in
     let next = next_plan (stopped c.args.most game) c.args.most (stopped_reads game c.args.most most reads)
-    [] c.args.position report.answers.items plan report.bounds.items c.in-Some.common c.requires.position plans in
+    [] c.args.position (answers_in report.asked.items) plan (bounds_in report.asked.items) c.in-Some.common
+    c.requires.position plans in
     let run = c.in_ok-play_beginning-in-Some.ensures.ends in (
       plan_ends (stopped c.args.most game) c.args.most (stopped_reads game c.args.most most reads) []
-          (front_at c.args.position report.answers.items) plan _ _ _ next run,
+          (front_at c.args.position (answers_in report.asked.items)) plan _ _ _ next run,
       run.bounds_are,
     )
 
@@ -78,20 +82,21 @@ returns-in_ok-play_beginning-in-Some-clause-ended c = λ last.
     let reads = c.run_laws.ensures.reads c.args.runner.now.player c.args.runner.now.lines.now c.args.runner.now.rules in
     let most = most_answers c.args.runner.now.player c.args.runner.now.lines.now c.args.runner.now.rules.limit in
     let report = c.args.runner.now.report in
-    let plan = c.plan_next.new.trial.answers.items in
-    let plans : PlansNext [] c.args.position report.answers.items report.bounds.items plan (Some c.in-Some.common) =
-    rw (← c.deref.ensures.value, ← c.deref-2.ensures.value, ← c.in-Some.is) c.in_ok-plan_next.ensures.plan in
+    let plan = (recorded c.plan_next.new.trial) in
+    let plans : PlansNext [] c.args.position (answers_in report.asked.items) (bounds_in report.asked.items) plan
+    (Some c.in-Some.common) = rw (← c.deref.ensures.value, ← c.in-Some.is) c.in_ok-plan_next.ensures.plan in
     let next = next_plan (stopped c.args.most game) c.args.most (stopped_reads game c.args.most most reads)
-    [] c.args.position report.answers.items plan report.bounds.items c.in-Some.common c.requires.position plans in
+    [] c.args.position (answers_in report.asked.items) plan (bounds_in report.asked.items) c.in-Some.common
+    c.requires.position plans in
     plan_left (stopped c.args.most game) c.args.most (stopped_reads game c.args.most most reads) []
-    (front_at c.args.position report.answers.items) plan next last
+    (front_at c.args.position (answers_in report.asked.items)) plan next last
 
 pub returns-in_ok-play_beginning-in-Some-clause-played : goal.returns-in_ok-play_beginning-in-Some-clause-played
 returns-in_ok-play_beginning-in-Some-clause-played c =
     let report = c.args.runner.now.report in
-    let plan = c.plan_next.new.trial.answers.items in
-    let plans : PlansNext [] c.args.position report.answers.items report.bounds.items plan (Some c.in-Some.common) =
-    rw (← c.deref.ensures.value, ← c.deref-2.ensures.value, ← c.in-Some.is) c.in_ok-plan_next.ensures.plan in
+    let plan = (recorded c.plan_next.new.trial) in
+    let plans : PlansNext [] c.args.position (answers_in report.asked.items) (bounds_in report.asked.items) plan
+    (Some c.in-Some.common) = rw (← c.deref.ensures.value, ← c.in-Some.is) c.in_ok-plan_next.ensures.plan in
     let run = c.in_ok-play_beginning-in-Some.ensures.ends in
     next_played c.args.runner.now.player c.args.runner.now.lines.now c.args.runner.now.rules
     [] c.args.position report plan run.ones _ c.in-Some.common c.args.runner.now.copies.kept.items _ _ _ plans
@@ -104,20 +109,20 @@ pub returns-in_err-plan_next : goal.returns-in_err-plan_next
 returns-in_err-plan_next c = record {
   same = refl;
   next = IfOk-from_err _ _ c.from_residual.ensures.0;
-  answers = on_err_always _ refl;
-  bounds = on_err_always _ refl;
+  asked = on_err_always _ refl;
   ended = λ last.
       let game = play c.args.runner.now.player c.args.runner.now.lines.now c.args.runner.now.rules in
       let reads = c.run_laws.ensures.reads c.args.runner.now.player c.args.runner.now.lines.now
       c.args.runner.now.rules in
       let most = most_answers c.args.runner.now.player c.args.runner.now.lines.now c.args.runner.now.rules.limit in
       let report = c.args.runner.now.report in
-      let has : HasPlan [] c.args.position report.answers.items report.bounds.items =
-      rw (← c.deref.ensures.value, ← c.deref-2.ensures.value) c.in_err-plan_next.ensures.refused in
+      let has : HasPlan [] c.args.position (answers_in report.asked.items) (bounds_in report.asked.items) =
+      rw (← c.deref.ensures.value) c.in_err-plan_next.ensures.refused in
       let next = next_plan (stopped c.args.most game) c.args.most (stopped_reads game c.args.most most reads)
-      [] c.args.position report.answers.items has.0 report.bounds.items has.1 c.requires.position has.2 in
+      [] c.args.position (answers_in report.asked.items) has.0 (bounds_in report.asked.items) has.1
+      c.requires.position has.2 in
       plan_left (stopped c.args.most game) c.args.most (stopped_reads game c.args.most most reads) []
-      (front_at c.args.position report.answers.items) has.0 next last;
+      (front_at c.args.position (answers_in report.asked.items)) has.0 next last;
   copies = IfOk-from_err _ _ c.from_residual.ensures.0;
   played = IfOk-from_err _ _ c.from_residual.ensures.0;
 }
@@ -126,21 +131,21 @@ pub returns-in_err-play_beginning-in-Some : goal.returns-in_err-play_beginning-i
 returns-in_err-play_beginning-in-Some c = record {
   same = c.play_beginning.ensures.same;
   next = IfOk-from_err _ _ c.from_residual-in_err-play_beginning-in-Some.ensures.0;
-  answers = on_err_always _ c.in_err-play_beginning-in-Some.ensures.answers;
-  bounds = on_err_always _ c.in_err-play_beginning-in-Some.ensures.bounds;
+  asked = on_err_always _ c.in_err-play_beginning-in-Some.ensures.asked;
   ended = λ last.
       let game = play c.args.runner.now.player c.args.runner.now.lines.now c.args.runner.now.rules in
       let reads = c.run_laws.ensures.reads c.args.runner.now.player c.args.runner.now.lines.now
       c.args.runner.now.rules in
       let most = most_answers c.args.runner.now.player c.args.runner.now.lines.now c.args.runner.now.rules.limit in
       let report = c.args.runner.now.report in
-      let plan = c.plan_next.new.trial.answers.items in
-      let plans : PlansNext [] c.args.position report.answers.items report.bounds.items plan (Some c.in-Some.common) =
-      rw (← c.deref.ensures.value, ← c.deref-2.ensures.value, ← c.in-Some.is) c.in_ok-plan_next.ensures.plan in
+      let plan = (recorded c.plan_next.new.trial) in
+      let plans : PlansNext [] c.args.position (answers_in report.asked.items) (bounds_in report.asked.items) plan
+      (Some c.in-Some.common) = rw (← c.deref.ensures.value, ← c.in-Some.is) c.in_ok-plan_next.ensures.plan in
       let next = next_plan (stopped c.args.most game) c.args.most (stopped_reads game c.args.most most reads)
-      [] c.args.position report.answers.items plan report.bounds.items c.in-Some.common c.requires.position plans in
+      [] c.args.position (answers_in report.asked.items) plan (bounds_in report.asked.items) c.in-Some.common
+      c.requires.position plans in
       plan_left (stopped c.args.most game) c.args.most (stopped_reads game c.args.most most reads) []
-      (front_at c.args.position report.answers.items) plan next last;
+      (front_at c.args.position (answers_in report.asked.items)) plan next last;
   copies = IfOk-from_err _ _ c.from_residual-in_err-play_beginning-in-Some.ensures.0;
   played = IfOk-from_err _ _ c.from_residual-in_err-play_beginning-in-Some.ensures.0;
 }

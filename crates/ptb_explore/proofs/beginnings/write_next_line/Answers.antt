@@ -2,28 +2,26 @@
 use Rattle.std.proofs.Common.{◌∙◌, ap, true}
 use Rattle.ptb_answers.specs.Outcome.{bounds}
 use Rattle.ptb_explore.specs.Beginnings.{MovesTo, Splitting, split_play}
-use Rattle.ptb_explore.proofs.WrittenLines.{game_of, same_length}
+use Rattle.ptb_explore.proofs.WrittenLines.{game_of}
 use Rattle.ptb_explore.proofs.beginnings.write_next_line.Goals as goal
-
-pub write_list-requires : goal.write_list-requires
-write_list-requires g c =
-    let moved : MovesTo (game_of c.args.beginnings.now) c.args.beginnings.now.front c.next.new.self.front true =
-    rw c.in-Ok-true.field-0-test at c.in-Ok-true.ensures.next in
-    same_length (split_play c.next.new.self) moved.0 _ _ (c.answers.ensures moved.0 moved.2)
-    (c.bounds.ensures moved.0 moved.2)
 
 pub returns-in-Ok-clause-writes : goal.returns-in-Ok-clause-writes
 returns-in-Ok-clause-writes g c =
     let moved : MovesTo (game_of c.args.beginnings.now) c.args.beginnings.now.front c.next.new.self.front true =
     rw c.in-Ok-true.field-0-test at c.in-Ok-true.ensures.next in
-    let theirs = c.bounds.ensures moved.0 moved.2
+    let theirs = c.asked.ensures.bounds moved.0 moved.2
     ∙ ap (λ (s : Splitting). bounds (split_play s) moved.0) c.next.ensures.same in
-    (moved.0, moved.1, moved.2, rw (c.answers.ensures moved.0 moved.2, theirs) at c.in-Ok.ensures.ok)
+    (moved.0, moved.1, moved.2, rw (c.asked.ensures.answers moved.0 moved.2, theirs) at c.in-Ok.ensures.ok)
 
 pub returns-in-Err-write_list-clause-writes : goal.returns-in-Err-write_list-clause-writes
 returns-in-Err-write_list-clause-writes g c =
     let moved : MovesTo (game_of c.args.beginnings.now) c.args.beginnings.now.front c.next.new.self.front true =
     rw c.in-Ok-true.field-0-test at c.in-Ok-true.ensures.next in
-    let theirs = c.bounds.ensures moved.0 moved.2
-    ∙ ap (λ (s : Splitting). bounds (split_play s) moved.0) c.next.ensures.same in
-    (moved.0, moved.1, moved.2, rw (c.answers.ensures moved.0 moved.2, theirs) at c.in-Err-write_list.ensures.fault)
+    let theirs = c.asked.ensures.bounds moved.0 moved.2
+    ∙ ap (λ (s : Splitting). bounds (split_play s) moved.0) c.next.ensures.same in (
+      moved.0,
+      moved.1,
+      moved.2,
+      rw (c.asked.ensures.answers moved.0 moved.2, theirs) at
+          c.in-Err-write_list.ensures.fault,
+    )

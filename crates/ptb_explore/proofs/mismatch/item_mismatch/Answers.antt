@@ -5,9 +5,10 @@ use Rattle.std.proofs.lemmas.Bool.{cases_lt}
 use Rattle.ptb_answers.specs.declared.form.Marked.{Marked}
 use Rattle.ptb_answers.specs.AnswerText.{without_bound}
 use Rattle.ptb_command.specs.declared.ending.Ending.TheVariants as endings
+use Rattle.ptb_explore.proofs.Recorded.{given_len}
 use Rattle.ptb_explore.specs.MarkedRuns.{states_bounds}
 use Rattle.ptb_explore.specs.PlannedPlays.{PlayEnds}
-use Rattle.ptb_explore.specs.Recorders.{choices_of}
+use Rattle.ptb_explore.specs.Recorders.{choices_of, given_bounds}
 use Rattle.ptb_explore.proofs.Mismatches.{if_none_at, none_is}
 use Rattle.ptb_explore.proofs.TakenItems.{stops_outside, stops_over, takes_items}
 use Rattle.ptb_explore.proofs.mismatch.item_mismatch.Goals as goal
@@ -19,11 +20,11 @@ pub returns-then-is_some-clause-mismatch : goal.returns-then-is_some-clause-mism
 returns-then-is_some-clause-mismatch c = λ game most steps shown reads h.
     let trial = c.args.trial.now in
     let list = c.args.list.now in
-    let taken : ((c.min-taken.result ≡ length list) × (length list ≤ length trial.bounds.items))
-    ⊎ ((c.min-taken.result ≡ length trial.bounds.items) × (length trial.bounds.items < length list)) =
-    elim (cases_lt (length trial.bounds.items) (length list)) [
-      | inl less ↦ inr (omega (arith, c.min-taken.ensures, c.len.ensures, trial.bounds.ok.0, less), less)
-      | inr all ↦ inl (omega (arith, c.min-taken.ensures, c.len.ensures, trial.bounds.ok.0, all), omega (arith, all))
+    let taken : ((c.min-taken.result ≡ length list) × (length list ≤ length (given_bounds trial)))
+    ⊎ ((c.min-taken.result ≡ length (given_bounds trial)) × (length (given_bounds trial) < length list)) =
+    elim (cases_lt (length (given_bounds trial)) (length list)) [
+      | inl less ↦ inr (omega (arith, c.min-taken.ensures, (given_len trial), less), less)
+      | inr all ↦ inl (omega (arith, c.min-taken.ensures, (given_len trial), all), omega (arith, all))
     ] in
     c.bound_mismatch-found.ensures.mismatch game most reads
     (rw c.deref.ensures.value
@@ -33,13 +34,13 @@ pub returns-then-eq-clause-mismatch : goal.returns-then-eq-clause-mismatch
 returns-then-eq-clause-mismatch c = λ game most steps shown reads h.
     let trial = c.args.trial.now in
     let list = c.args.list.now in
-    let n : c.min-taken.result ≡ length trial.bounds.items =
-    omega (arith, c.min-taken.ensures, c.len.ensures, trial.bounds.ok.0, c.if-taken-list.false) in
-    let less : length trial.bounds.items < length list =
-    omega (arith, c.min-taken.ensures, c.len.ensures, trial.bounds.ok.0, c.if-taken-list.false) in
+    let n : c.min-taken.result ≡ length (given_bounds trial) =
+    omega (arith, c.min-taken.ensures, (given_len trial), c.if-taken-list.false) in
+    let less : length (given_bounds trial) < length list =
+    omega (arith, c.min-taken.ensures, (given_len trial), c.if-taken-list.false) in
     let found = if_none_at (none_is c.bound_mismatch-found.result c.if-is_some.ensures)
     c.bound_mismatch-found.ensures.states in
-    let states : states_bounds (take (length trial.bounds.items) list) trial.bounds.items ≡ true =
+    let states : states_bounds (take (length (given_bounds trial)) list) (given_bounds trial) ≡ true =
     rw (n, c.deref.ensures.value) at found in
     let is : c.args.ending ≡ endings.BadAnswer = search (rules, c.eq.ensures, c.if-eq.true) in
     let outside = subst (PlayEnds game (choices_of trial) trial.refused_bound steps shown) is h in
@@ -55,13 +56,13 @@ pub returns-clause-mismatch : goal.returns-clause-mismatch
 returns-clause-mismatch c = λ game most steps shown reads h.
     let trial = c.args.trial.now in
     let list = c.args.list.now in
-    let n : c.min-taken.result ≡ length trial.bounds.items =
-    omega (arith, c.min-taken.ensures, c.len.ensures, trial.bounds.ok.0, c.if-taken-list.false) in
-    let less : length trial.bounds.items < length list =
-    omega (arith, c.min-taken.ensures, c.len.ensures, trial.bounds.ok.0, c.if-taken-list.false) in
+    let n : c.min-taken.result ≡ length (given_bounds trial) =
+    omega (arith, c.min-taken.ensures, (given_len trial), c.if-taken-list.false) in
+    let less : length (given_bounds trial) < length list =
+    omega (arith, c.min-taken.ensures, (given_len trial), c.if-taken-list.false) in
     let found = if_none_at (none_is c.bound_mismatch-found.result c.if-is_some.ensures)
     c.bound_mismatch-found.ensures.states in
-    let states : states_bounds (take (length trial.bounds.items) list) trial.bounds.items ≡ true =
+    let states : states_bounds (take (length (given_bounds trial)) list) (given_bounds trial) ≡ true =
     rw (n, c.deref.ensures.value) at found in
     let other : c.args.ending ≡ endings.BadAnswer → ⊥ = search (rules, c.eq.ensures, c.if-eq.false) in
     rw n (stops_over game trial steps shown most reads list c.requires less none states c.args.ending other h)

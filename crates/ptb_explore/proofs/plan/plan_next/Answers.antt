@@ -1,30 +1,61 @@
 -- This file answers that the plan raises the last answer below its bound.
-use Rattle.std.proofs.Common.{rules, ◌≡◌, ◌++◌, ◌∷◌, [], take, arith, ap, refl, sym, subst, ◌∙◌, ℤ}
-use Rattle.std.proofs.Common.{pos, ◌+ℤ◌, FitsSigned, w16, to_z, of_z, slice_index_or}
+use Rattle.std.proofs.Common.{rules, ◌≡◌, ◌<◌, ◌≤◌, ◌++◌, ◌∷◌, [], ℕ, List, take, arith, ap, refl}
+use Rattle.std.proofs.Common.{sym, subst, ◌∙◌, ℤ, pos, ◌+ℤ◌, FitsSigned, w16, to_z, of_z, get_or}
+use Rattle.std.proofs.Common.{length, slice_index_or}
 use Rattle.std.proofs.lemmas.Int.{ints}
+use Rattle.std.proofs.lemmas.List.{length-take-le, map-append, take-append-le, take-map}
+use Rattle.ptb_answers.specs.declared.asked.Asked.{Asked}
 use Rattle.ptb_answers.specs.AnswerText.{answers_of}
+use Rattle.ptb_answers.specs.Asked.{answers_in, bounds_in}
 use Rattle.ptb_explore.specs.Plans.{AreAtBounds, HasPlan, IsLastBelow}
+use Rattle.ptb_report.proofs.AskedLists.{answer_at, length-answers_in}
 use Rattle.ptb_report.proofs.WrittenReports.{on_err_always}
-use Rattle.ptb_explore.proofs.Mismatches.{answers_length}
+use Rattle.ptb_explore.proofs.Mismatches.{answers_length, take_twice}
 use Rattle.ptb_explore.proofs.plan.plan_next.Goals as goal
+
+-- the questions in front of the raised one, and that one
+front_answers : (asked : List Asked) (i : ℕ) (r : Asked)
+    → answers_in (take i asked ++ r ∷ []) ≡ take i (answers_in asked) ++ r.answer ∷ []
+front_answers asked i r =
+    map-append (λ (q : Asked). q.answer) (take i asked) (r ∷ [])
+    ∙ ap (λ (l : List ℤ). l ++ r.answer ∷ []) (sym (take-map (λ (q : Asked). q.answer) i asked))
+
+front_bounds : (asked : List Asked) (i : ℕ) (r : Asked) → i ≤ length asked
+    → take i (bounds_in (take i asked ++ r ∷ [])) ≡ take i (bounds_in asked)
+front_bounds asked i r within =
+    let n : i ≤ length (take i asked) = omega (arith, within, length-take-le i asked within) in
+    take-map (λ (q : Asked). q.bound) i (take i asked ++ r ∷ [])
+    ∙ ap bounds_in (take-append-le i (take i asked) (r ∷ []) n ∙ take_twice i i asked (omega arith))
+    ∙ sym (take-map (λ (q : Asked). q.bound) i asked)
 
 pub returns-in_ok-restart-in-Some-clause-plan : goal.returns-in_ok-restart-in-Some-clause-plan
 returns-in_ok-restart-in-Some-clause-plan c =
-    let answers = c.args.answers.now in
+    let asked = c.args.asked.now in
     let i = c.in-Some.i in
-    let answer : ℤ = slice_index_or answers i (pos 0) in
+    let place = subst (λ n. IsLastBelow n (answers_in asked) (bounds_in asked) i)
+    (sym (answers_length c.args.under.now)) c.in-Some.ensures.place in
+    let within : i < length asked = omega (arith, place.within, length-answers_in asked) in
+    let answer : ℤ = (get_or asked i (record { answer = pos 0; bound = pos 0 })).answer in
     let fits : FitsSigned w16 answer = search rules in
+    let there : slice_index_or (answers_in asked) i (pos 0) ≡ answer =
+    answer_at asked i (record { answer = pos 0; bound = pos 0 }) (pos 0) within in
     let room = c.in-Some.ensures.room in
     let raised : to_z w16 (of_z w16 (to_z w16 (of_z w16 answer) +ℤ pos 1)) ≡ answer +ℤ pos 1 =
-    omega (arith, ints, room) in
-    let plan = c.in_ok-restart-in-Some.ensures.answers ∙ ap (λ k. take i answers ++ k ∷ []) raised in
-    let place = subst (λ n. IsLastBelow n answers c.args.bounds.now i) (sym (answers_length c.args.under.now))
-    c.in-Some.ensures.place in
+    omega (arith, ints, room, there) in
+    let plan = ap answers_in c.in_ok-restart-in-Some.ensures.asked ∙ front_answers asked i _
+    ∙ ap (λ k. take i (answers_in asked) ++ k ∷ []) (raised ∙ ap (λ (k : ℤ). k +ℤ pos 1) (sym there)) in
     rw c.in-AtRun.is (place, plan)
+
+pub returns-in_ok-restart-in-Some-clause-bounds : goal.returns-in_ok-restart-in-Some-clause-bounds
+returns-in_ok-restart-in-Some-clause-bounds c =
+    let asked = c.args.asked.now in
+    let i = c.in-Some.i in
+    let within : i ≤ length asked = omega (arith, c.in-Some.ensures.place.within, length-answers_in asked) in
+    ap (λ (l : List Asked). take i (bounds_in l)) c.in_ok-restart-in-Some.ensures.asked ∙ front_bounds asked i _ within
 
 pub returns-in-None-clause-plan : goal.returns-in-None-clause-plan
 returns-in-None-clause-plan c =
-    rw c.in-AtRun.is (subst (λ n. AreAtBounds n c.args.answers.now c.args.bounds.now)
+    rw c.in-AtRun.is (subst (λ n. AreAtBounds n (answers_in c.args.asked.now) (bounds_in c.args.asked.now))
     (sym (answers_length c.args.under.now)) c.in-None.ensures.place)
 
 pub returns-in-AtEnd-clause-plan : goal.returns-in-AtEnd-clause-plan
@@ -35,16 +66,17 @@ returns-in-AtEnd-clause-fresh c = search rules fits 50 depth 2
 
 pub returns-in_err-replay-in-AtStart-clause-refused : goal.returns-in_err-replay-in-AtStart-clause-refused
 returns-in_err-replay-in-AtStart-clause-refused c =
-    let has : HasPlan (answers_of c.args.under.now) c.args.position c.args.answers.now c.args.bounds.now =
-    rw c.in-AtStart.is (answers_of c.args.under.now, 0, (refl, refl)) in
+    let has : HasPlan (answers_of c.args.under.now) c.args.position (answers_in c.args.asked.now)
+    (bounds_in c.args.asked.now) = rw c.in-AtStart.is (answers_of c.args.under.now, 0, (refl, refl)) in
     on_err_always _ has
 
 pub returns-in_err-restart-in-Some-clause-refused : goal.returns-in_err-restart-in-Some-clause-refused
 returns-in_err-restart-in-Some-clause-refused c =
-    let answers = c.args.answers.now in
+    let answers = answers_in c.args.asked.now in
+    let bounds = bounds_in c.args.asked.now in
     let i = c.in-Some.i in
-    let place = subst (λ n. IsLastBelow n answers c.args.bounds.now i) (sym (answers_length c.args.under.now))
+    let place = subst (λ n. IsLastBelow n answers bounds i) (sym (answers_length c.args.under.now))
     c.in-Some.ensures.place in
-    let has : HasPlan (answers_of c.args.under.now) c.args.position answers c.args.bounds.now =
+    let has : HasPlan (answers_of c.args.under.now) c.args.position answers bounds =
     rw c.in-AtRun.is (take i answers ++ (slice_index_or answers i (pos 0) +ℤ pos 1) ∷ [], i, (place, refl)) in
     on_err_always _ has

@@ -1,17 +1,11 @@
 -- This file answers that the report of the next run is written, and which words are left.
-use Rattle.std.proofs.Common.{◌∙◌, length, ap, subst, sym}
+use Rattle.std.proofs.Common.{◌∙◌, subst}
 use Rattle.std.specs.Io.KnownBytes.{Appends}
 use Rattle.ptb_text.specs.Device.{TakesSome}
 use Rattle.ptb_machine.specs.Play.{play}
 use Rattle.ptb_machine.specs.Questions.{most_answers}
-use Rattle.ptb_answers.proofs.Seeds.{length-drawn}
 use Rattle.ptb_explore.proofs.DrawnRuns.{words_left, written_is}
 use Rattle.ptb_explore.proofs.sampler.write_run.Goals as goal
-
-pub write-requires : goal.write-requires
-write-requires g c =
-    let chooser = c.play_next.new.sampler.chooser in
-    ap length c.answers.ensures ∙ length-drawn chooser.first chooser.bounds ∙ sym (ap length c.bounds.ensures)
 
 pub returns-in-Ok-write-clause-writes : goal.returns-in-Ok-write-clause-writes
 returns-in-Ok-write-clause-writes g c =
@@ -21,8 +15,8 @@ returns-in-Ok-write-clause-writes g c =
     let most = most_answers p lines c.args.rules.limit in
     subst (Appends (g.W.Write.contents c.args.writer.now) (g.W.Write.contents c.write.new.out))
     (written_is game most (c.run_laws.ensures.reads p lines c.args.rules) c.args.sampler.now.chooser.first
-    c.play_next.new.sampler.chooser _ c.in-Ok.ensures.drawn c.args.form _ _ _ _ _ c.answers.ensures
-    c.bounds.ensures c.word.ensures c.steps.ensures c.bytes.ensures)
+    c.play_next.new.sampler.chooser _ c.in-Ok.ensures.drawn c.args.form _ _ _ _ _ c.asked.ensures.answers
+    c.asked.ensures.bounds c.word.ensures c.steps.ensures c.bytes.ensures)
     c.in-Ok-write.ensures.ok
 
 pub returns-in-Ok-write-clause-leaves : goal.returns-in-Ok-write-clause-leaves
@@ -41,6 +35,6 @@ returns-in-Err-clause-writes g c =
     let most = most_answers p lines c.args.rules.limit in
     subst (TakesSome (g.W.Write.contents c.args.writer.now) (g.W.Write.contents c.write.new.out))
     (written_is game most (c.run_laws.ensures.reads p lines c.args.rules) c.args.sampler.now.chooser.first
-    c.play_next.new.sampler.chooser _ c.in-Ok.ensures.drawn c.args.form _ _ _ _ _ c.answers.ensures
-    c.bounds.ensures c.word.ensures c.steps.ensures c.bytes.ensures)
+    c.play_next.new.sampler.chooser _ c.in-Ok.ensures.drawn c.args.form _ _ _ _ _ c.asked.ensures.answers
+    c.asked.ensures.bounds c.word.ensures c.steps.ensures c.bytes.ensures)
     c.in-Err.ensures.fault

@@ -2,7 +2,7 @@
 -- it was.
 use Rattle.std.proofs.Common.{◌∙◌}
 use Rattle.std.proofs.lemmas.Result.{IfOk-from_err, on_ok_weaker, on_err_weaker}
-use Rattle.ptb_answers.specs.AnswerText.{items_in}
+use Rattle.ptb_report.specs.Report.{asked_items}
 use Rattle.ptb_report.proofs.WrittenReports.{on_err_always, failed_after, first_fails, answers_fail}
 use Rattle.ptb_report.proofs.WrittenReports.{all_written, rest_fails}
 use Rattle.ptb_report.proofs.report.write_in_pieces.Goals as goal
@@ -10,8 +10,8 @@ use Rattle.ptb_report.proofs.report.write_in_pieces.Goals as goal
 pub returns-in_err-put : goal.returns-in_err-put
 returns-in_err-put g c = record {
   ok = IfOk-from_err _ _ c.from_residual.ensures.0;
-  fault = on_err_always _ (first_fails (items_in c.args.form c.args.answers.now c.args.bounds.now) c.args.word.now
-      c.args.steps c.args.transcript.now _ _ c.new-pending.ensures _ c.in_err-put.ensures.fault);
+  fault = on_err_always _ (first_fails (asked_items c.args.form c.args.asked.now) c.args.word.now c.args.steps
+      c.args.transcript.now _ _ c.new-pending.ensures _ c.in_err-put.ensures.fault);
   failed = on_err_always _ (c.in_err-put.ensures.failed);
   unfailed = IfOk-from_err _ _ c.from_residual.ensures.0;
 }
@@ -19,21 +19,21 @@ returns-in_err-put g c = record {
 pub returns-in_err-put_answers : goal.returns-in_err-put_answers
 returns-in_err-put_answers g c = record {
   ok = IfOk-from_err _ _ c.from_residual-in_err-put_answers.ensures.0;
-  fault = on_err_always _ (answers_fail (items_in c.args.form c.args.answers.now c.args.bounds.now)
-      c.args.word.now c.args.steps c.args.transcript.now _ _ c.new-pending.ensures _ _ c.in_ok-put.ensures.ok _
-      c.in_err-put_answers.ensures.fault);
+  fault = on_err_always _
+      (answers_fail (asked_items c.args.form c.args.asked.now) c.args.word.now c.args.steps c.args.transcript.now _ _
+      c.new-pending.ensures _ _ c.in_ok-put.ensures.ok _ c.in_err-put_answers.ensures.fault);
   failed = on_err_always _ (failed_after _ _ _ c.in_ok-put.ensures.unfailed c.in_err-put_answers.ensures.failed);
   unfailed = IfOk-from_err _ _ c.from_residual-in_err-put_answers.ensures.0;
 }
 
 pub returns : goal.returns
 returns g c = record {
-  ok = all_written (items_in c.args.form c.args.answers.now c.args.bounds.now) c.args.word.now c.args.steps
-      c.args.transcript.now _ _ c.new-pending.ensures _ _ c.in_ok-put.ensures.ok _ _ c.in_ok-put_answers.ensures.ok _
+  ok = all_written (asked_items c.args.form c.args.asked.now) c.args.word.now c.args.steps c.args.transcript.now
+      _ _ c.new-pending.ensures _ _ c.in_ok-put.ensures.ok _ _ c.in_ok-put_answers.ensures.ok _
       (c.as_bytes-steps.ensures.value ∙ c.format.ensures.text) _
       (c.as_bytes-size.ensures.value ∙ c.format-2.ensures.text) _ c.finish.result c.finish.ensures.ok;
-  fault = rest_fails (items_in c.args.form c.args.answers.now c.args.bounds.now) c.args.word.now c.args.steps
-      c.args.transcript.now _ _ c.new-pending.ensures _ _ c.in_ok-put.ensures.ok _ _ c.in_ok-put_answers.ensures.ok _
+  fault = rest_fails (asked_items c.args.form c.args.asked.now) c.args.word.now c.args.steps c.args.transcript.now
+      _ _ c.new-pending.ensures _ _ c.in_ok-put.ensures.ok _ _ c.in_ok-put_answers.ensures.ok _
       (c.as_bytes-steps.ensures.value ∙ c.format.ensures.text) _
       (c.as_bytes-size.ensures.value ∙ c.format-2.ensures.text) _ c.finish.result c.finish.ensures.fault;
   failed = on_err_weaker c.finish.result (failed_after _ _ _ (c.in_ok-put_answers.ensures.unfailed

@@ -1,33 +1,33 @@
 -- This file answers that the text grows by one item, which is kept or not.
 use Rattle.std.proofs.Common.{arith, rules, ◌≡◌, ◌∙◌, ap, sym, ◌<◌, ◌++◌, [], get_or, length, pos}
 use Rattle.std.proofs.lemmas.List.{take_all}
-use Rattle.ptb_answers.specs.AnswerText.{in_form, item_text, items_in}
+use Rattle.ptb_answers.specs.AnswerText.{in_form, item_text}
 use Rattle.std.specs.Prelude.{◌==◌, if◌then◌else◌, codes}
+use Rattle.ptb_answers.specs.declared.asked.Asked.{Asked}
 use Rattle.ptb_answers.specs.declared.form.Marked.{Marked}
 use Rattle.ptb_report.specs.Begun.{begun, item_of}
+use Rattle.ptb_report.specs.Report.{asked_items}
 use Rattle.ptb_report.proofs.HeaderPrefixes.{begins_kept, ends_kept, is_in_form, items_kept, most_kept, text_added}
-use Rattle.ptb_report.proofs.ReportText.{item_at, length-items_in}
+use Rattle.ptb_report.proofs.AskedLists.{asked_at, length-asked_items}
 use Rattle.ptb_report.proofs.report_writer.add_items.Goals as goal
 
 pub returns-then-room-lt-ITEM_ROOM-clause-begins : goal.returns-then-room-lt-ITEM_ROOM-clause-begins
 returns-then-room-lt-ITEM_ROOM-clause-begins c =
-    begins_kept (items_in c.args.form c.args.answers.now c.args.bounds.now) c.loop-k.k c.loop-k.text c.loop-k.kept.items
+    begins_kept (asked_items c.args.form c.args.asked.now) c.loop-k.k c.loop-k.text c.loop-k.kept.items
     c.loop-k.invariant.text c.loop-k.invariant.items c.loop-k.invariant.most
 
 pub loop-k-preserved : goal.loop-k-preserved
 loop-k-preserved c =
     let k = c.loop-k.k in
     let form = c.args.form in
-    let answers = c.args.answers.now in
-    let bounds = c.args.bounds.now in
-    let items = items_in form answers bounds in
-    let m : Marked = in_form form (get_or answers k (pos 0)) (get_or bounds k (pos 0)) in
-    let within : k < length items =
-    omega (arith, c.loop-k-test.true, length-items_in form answers bounds c.requires.same) in
-    let next : m ≡ get_or items k m =
-    sym (item_at form answers bounds k (pos 0) (pos 0) m c.requires.same c.loop-k-test.true) in
+    let asked = c.args.asked.now in
+    let items = asked_items form asked in
+    let q : Asked = get_or asked k (record { answer = pos 0; bound = pos 0 }) in
+    let m : Marked = in_form form (get_or asked k q).answer (get_or asked k q).bound in
+    let within : k < length items = omega (arith, c.loop-k-test.true, length-asked_items form asked) in
+    let next : m ≡ get_or items k m = sym (asked_at form asked k q m c.loop-k-test.true) in
     let same : item_of (record { answer = _; bound = c.bound_in-bound.result; end = c.len.result }) ≡ m =
-    is_in_form form (get_or answers k (pos 0)) _ (get_or bounds k (pos 0)) _ c.bound_in-bound.result (search rules)
+    is_in_form form (get_or asked k q).answer _ (get_or asked k q).bound _ c.bound_in-bound.result (search rules)
     (search rules) c.bound_in-bound.ensures in
     let text = text_added items k m within next c.loop-k.text c.add_item.new.text c.loop-k.invariant.text
     (c.add_item.ensures ∙ ap (λ (x : Marked). c.loop-k.text ++ ((if k == 0 then [] else codes ",") ++ item_text x))
@@ -45,14 +45,11 @@ loop-k-preserved c =
 
 pub returns-clause-begins : goal.returns-clause-begins
 returns-clause-begins c =
-    begins_kept (items_in c.args.form c.args.answers.now c.args.bounds.now) c.loop-k.k c.loop-k.text c.loop-k.kept.items
+    begins_kept (asked_items c.args.form c.args.asked.now) c.loop-k.k c.loop-k.text c.loop-k.kept.items
     c.loop-k.invariant.text c.loop-k.invariant.items c.loop-k.invariant.most
 
 pub returns-clause-all : goal.returns-clause-all
 returns-clause-all c _ =
-    let items = items_in c.args.form c.args.answers.now c.args.bounds.now in
-    c.loop-k.invariant.text ∙ ap begun (take_all c.loop-k.k items (omega (
-      arith,
-      c.loop-k-test.false,
-      length-items_in c.args.form c.args.answers.now c.args.bounds.now c.requires.same,
-    )))
+    let items = asked_items c.args.form c.args.asked.now in
+    c.loop-k.invariant.text ∙ ap begun (take_all c.loop-k.k items
+    (omega (arith, c.loop-k-test.false, length-asked_items c.args.form c.args.asked.now)))

@@ -1,5 +1,5 @@
 -- This file answers that what is left begins with the items that are left.
-use Rattle.std.proofs.Common.{arith, ◌≡◌, ◌∙◌, ◌≤◌, ℕ, List, ap, sym, subst, take, length}
+use Rattle.std.proofs.Common.{arith, ◌≡◌, ◌∙◌, ℕ, List, ap, sym, subst, take, length}
 use Rattle.ptb_report.specs.declared.report_writer.KeptItem.{KeptItem}
 use Rattle.ptb_report.specs.Begun.{AreEnds, begun, items_of}
 use Rattle.ptb_report.proofs.HeaderPrefixes.{begins_with_first, begins_within, ends_cut, items_cut}

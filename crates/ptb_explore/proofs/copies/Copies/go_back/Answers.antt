@@ -1,13 +1,55 @@
--- This file proves goals of `go_back` that the prover finds late by itself.
-use Rattle.std.proofs.Common.{arith}
-use Rattle.std.proofs.lemmas.Grind.{common_steps}
+-- This file answers that the newest copy is the last of those that are kept.
+use Rattle.std.proofs.Common.{◌∙◌, ◌-◌, ap, subst, List, length, take}
+use Rattle.std.specs.Prelude.{option_copied}
+use Rattle.ptb_explore.specs.Copies.{GoesBack}
+use Rattle.ptb_explore.specs.declared.copies.KeptCopy.{KeptCopy}
+use Rattle.ptb_explore.proofs.NewestCopies.{last_newest, newest_dropped, newest_split, none_kept}
 use Rattle.ptb_explore.proofs.copies.Copies.go_back.Goals as goal
 
-pub loop-alloc-preserved-else-newest-most : goal.loop-alloc-preserved-else-newest-most
-loop-alloc-preserved-else-newest-most c = grind (arith, common_steps)
+pub returns-in_default : goal.returns-in_default
+returns-in_default c =
+    let ks = c.loop-newest.self.kept.items in
+    let none = none_kept ks
+    (last_newest ks c.as_slice.result.now c.last.result c.as_slice.ensures.value c.last.ensures.value
+    ∙ ap option_copied c.in_default.is) in (
+      subst (λ (l : List KeptCopy). GoesBack c.args.most c.args.self.now.kept.items l) none c.loop-newest.invariant,
+      none,
+    )
 
-pub loop-alloc-preserved-else-newest-most-2 : goal.loop-alloc-preserved-else-newest-most-2
-loop-alloc-preserved-else-newest-most-2 c = grind (arith, common_steps)
+pub returns-then-newest-most : goal.returns-then-newest-most
+returns-then-newest-most c =
+    let ks = c.loop-newest.self.kept.items in
+    let newest = c.in-Some.newest.now in
+    let split = newest_split ks newest
+    (last_newest ks c.as_slice.result.now c.last.result c.as_slice.ensures.value c.last.ensures.value
+    ∙ ap option_copied c.in-Some.is) in (
+      c.loop-newest.invariant,
+      (take (length ks - 1) ks, newest, split, c.if-newest-most.true, c.in_ok-copy.ensures),
+    )
 
-pub loop-alloc-preserved : goal.loop-alloc-preserved
-loop-alloc-preserved c = grind (arith, common_steps)
+pub loop-newest-preserved : goal.loop-newest-preserved
+loop-newest-preserved c =
+    let ks = c.loop-newest.self.kept.items in
+    newest_dropped c.args.most c.args.self.now.kept.items ks c.pop-in-loop-newest.new.self.items c.in-Some.newest.now
+    c.in-Some-pop.dropped c.loop-newest.invariant
+    (last_newest ks c.as_slice.result.now c.last.result c.as_slice.ensures.value c.last.ensures.value
+    ∙ ap option_copied c.in-Some.is)
+    c.if-newest-most.false c.in-Some-pop.ensures.items
+
+pub loop-newest-preserved-in-Some-pop : goal.loop-newest-preserved-in-Some-pop
+loop-newest-preserved-in-Some-pop c =
+    let ks = c.loop-newest.self.kept.items in
+    newest_dropped c.args.most c.args.self.now.kept.items ks c.pop-in-loop-newest.new.self.items c.in-Some.newest.now
+    c.in-Some-pop.dropped c.loop-newest.invariant
+    (last_newest ks c.as_slice.result.now c.last.result c.as_slice.ensures.value c.last.ensures.value
+    ∙ ap option_copied c.in-Some.is)
+    c.if-newest-most.false c.in-Some-pop.ensures.items
+
+pub loop-newest-preserved-in-Some-pop-2 : goal.loop-newest-preserved-in-Some-pop-2
+loop-newest-preserved-in-Some-pop-2 c =
+    let ks = c.loop-newest.self.kept.items in
+    newest_dropped c.args.most c.args.self.now.kept.items ks c.pop-in-loop-newest.new.self.items c.in-Some.newest.now
+    c.in-Some-pop.dropped c.loop-newest.invariant
+    (last_newest ks c.as_slice.result.now c.last.result c.as_slice.ensures.value c.last.ensures.value
+    ∙ ap option_copied c.in-Some.is)
+    c.if-newest-most.false c.in-Some-pop.ensures.items

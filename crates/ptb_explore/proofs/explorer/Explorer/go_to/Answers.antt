@@ -3,6 +3,7 @@
 use Rattle.std.proofs.Common.{◌≡◌, ◌∙◌, [], ap, sym, subst, refl, true}
 use Rattle.ptb_answers.specs.AnswerText.{answers_of}
 use Rattle.ptb_machine.specs.Questions.{most_answers}
+use Rattle.ptb_answers.specs.Asked.{answers_in}
 use Rattle.ptb_explore.specs.Explorations.{Exploration, IsAdded, exploration, game_of, play_of}
 use Rattle.ptb_explore.specs.Copies.{kept_runs}
 use Rattle.ptb_explore.specs.Plans.{front_at}
@@ -29,9 +30,9 @@ returns c =
     let ran = c.in_ok-check_run.ensures in
     let new = c.check_run.new.self in
     let under = answers_of e.under.items in
-    let kept = kept_runs new.report.answers.items new.copies.kept.items in
+    let kept = kept_runs (answers_in new.report.asked.items) new.copies.kept.items in
     let is : Exploration = exploration new.player new.lines.now new.rules under
-    (At new.report.answers.items) kept new.played in
+    (At (answers_in new.report.asked.items)) kept new.played in
     let begins = sym c.items_begin_with.ensures ∙ c.if-not-items_begin_with.false in
     record {
       there = subst (λ (x : Exploration). is ≡ record x {
@@ -39,9 +40,9 @@ returns c =
         kept = kept;
         played = new.played;
       }) c.self.view_is
-          (gone_view e.runner new c.check_run.ensures.same under
-          (front_at e.position e.runner.report.answers.items) c.args.list.now ran.answers kept
-          (kept_runs e.runner.report.answers.items e.runner.copies.kept.items) new.played e.runner.played);
+          (gone_view e.runner new c.check_run.ensures.same under (front_at e.position
+          (answers_in e.runner.report.asked.items)) c.args.list.now ran.answers kept (kept_runs
+          (answers_in e.runner.report.asked.items) e.runner.copies.kept.items) new.played e.runner.played);
       run = subst (λ (x : Exploration). IsMarkedRun (play_of x) c.args.list.now) c.self.view_is ran.run;
       begins = subst (λ (x : Exploration). begins_with (answers_of c.args.list.now) x.under ≡ true) c.self.view_is
           (rw c.deref.ensures.value at begins);

@@ -2,6 +2,8 @@
 use Rattle.std.proofs.Common.{rules, ◌≡◌, ℕ, List, [], true, refl, ap, sym, ◌∙◌, subst}
 use Rattle.ptb_answers.specs.AnswerText.{answers_of}
 use Rattle.ptb_answers.specs.Outcome.{Answers}
+use Rattle.ptb_answers.specs.declared.asked.Asked.{Asked}
+use Rattle.ptb_answers.specs.Asked.{answers_in}
 use Rattle.ptb_explore.specs.declared.runner.Runner.{Runner}
 use Rattle.ptb_explore.specs.Copies.{KeptRun, kept_runs}
 use Rattle.ptb_explore.specs.Explorations.{Exploration, FoundNext, NextPlays, RefusedNext}
@@ -25,19 +27,23 @@ returns-in-Ok-true c =
     let new = c.report_next-found.new.self in
     let r = new.report in
     let under = answers_of e.under.items in
-    let runs : List KeptRun = kept_runs r.answers.items new.copies.kept.items in
-    let before : List KeptRun = kept_runs old.report.answers.items old.copies.kept.items in
-    let was = seen old under (front_at e.position old.report.answers.items) before old.played in
-    let is = seen new under (At r.answers.items) runs new.played in
+    let runs : List KeptRun = kept_runs (answers_in r.asked.items) new.copies.kept.items in
+    let before : List KeptRun = kept_runs (answers_in old.report.asked.items) old.copies.kept.items in
+    let was = seen old under (front_at e.position (answers_in old.report.asked.items)) before old.played in
+    let is = seen new under (At (answers_in r.asked.items)) runs new.played in
     let plays : NextPlays before old.played r new.played true =
     rw c.in-Ok-true.field-0-test at c.in-Ok-true.ensures.played in
-    let now : is ≡ record was { front = At r.answers.items; kept = runs; played = played_after was.kept was.played r } =
-    ap (λ (q : Runner). seen q under (At r.answers.items) runs new.played) c.in-Ok-true.ensures.same
-    ∙ ap (λ n. seen old under (At r.answers.items) runs n) plays in
+    let now : is ≡ record was {
+      front = At (answers_in r.asked.items);
+      kept = runs;
+      played = played_after was.kept was.played r;
+    } =
+    ap (λ (q : Runner). seen q under (At (answers_in r.asked.items)) runs new.played) c.in-Ok-true.ensures.same
+    ∙ ap (λ n. seen old under (At (answers_in r.asked.items)) runs n) plays in
     let found : FoundNext was r is = record {
       now = now;
-      kept = kept_beginnings old.player old.lines.now old.rules r.answers.items r.transcript.items new.copies.kept.items
-          (c.in-Ok-true.ensures.copies c.in-Ok-true.field-0-test);
+      kept = kept_beginnings old.player old.lines.now old.rules (answers_in r.asked.items) r.transcript.items
+          new.copies.kept.items (c.in-Ok-true.ensures.copies c.in-Ok-true.field-0-test);
       rises = c.in-Ok-true.ensures.rises;
     } in
     ((refl, (λ _. tt), subst (λ (x : Exploration). FoundNext x r is) c.self.view_is found), search rules)
@@ -52,8 +58,8 @@ pub invariant_of-self-in-Err : goal.invariant_of-self-in-Err
 invariant_of-self-in-Err c =
     let e = c.self.inside in
     let new = c.report_next-found.new.self in (
-      stays e.runner new c.in-Err.ensures.same (answers_of e.under.items) e.position c.in-Err.ensures.answers
-          c.in-Err.ensures.bounds c.self.invariant.0,
+      stays e.runner new c.in-Err.ensures.same (answers_of e.under.items) e.position c.in-Err.ensures.asked
+          c.self.invariant.0,
       none_at new.player new.lines.now new.rules e.position new.report c.clear-in-Err.new.self.kept.items
           c.clear-in-Err.ensures,
     )
@@ -63,21 +69,22 @@ returns-in-Err c =
     let e = c.self.inside in
     let old = e.runner in
     let under = answers_of e.under.items in
-    let ended : IsLast (play_of c.args.self.now) c.args.self.now.under c.args.self.now.front
-    → IsLast (game_of old) (answers_of c.deref.result.now) (front_at e.position old.report.answers.items) =
+    let ended : IsLast (play_of c.args.self.now) c.args.self.now.under c.args.self.now.front → IsLast (game_of old)
+    (answers_of c.deref.result.now) (front_at e.position (answers_in old.report.asked.items)) =
     (λ last. rw c.deref.ensures.value (subst (λ (x : Exploration). IsLast (play_of x) x.under x.front)
     (sym c.self.view_is) last)) in
     let new = c.report_next-found.new.self in
-    let kept : List KeptRun = kept_runs new.report.answers.items c.clear-in-Err.new.self.kept.items in
-    let was = seen old under (front_at e.position old.report.answers.items)
-    (kept_runs old.report.answers.items old.copies.kept.items) old.played in
-    let is = seen new under (front_at e.position new.report.answers.items) kept new.played in
+    let kept : List KeptRun = kept_runs (answers_in new.report.asked.items) c.clear-in-Err.new.self.kept.items in
+    let was = seen old under (front_at e.position (answers_in old.report.asked.items))
+    (kept_runs (answers_in old.report.asked.items) old.copies.kept.items) old.played in
+    let is = seen new under (front_at e.position (answers_in new.report.asked.items)) kept new.played in
     let now : is ≡ record was { kept = []; played = new.played } =
-    ap (λ (q : Runner). seen q under (front_at e.position new.report.answers.items) kept new.played)
+    ap (λ (q : Runner). seen q under (front_at e.position (answers_in new.report.asked.items)) kept new.played)
     c.in-Err.ensures.same
-    ∙ ap (λ a. seen old under (front_at e.position a) kept new.played) c.in-Err.ensures.answers
-    ∙ ap (λ runs. seen old under (front_at e.position old.report.answers.items) runs new.played)
-    (ap (kept_runs new.report.answers.items) c.clear-in-Err.ensures) in (
+    ∙ ap (λ (a : List Asked). seen old under (front_at e.position (answers_in a)) kept new.played)
+    c.in-Err.ensures.asked
+    ∙ ap (λ runs. seen old under (front_at e.position (answers_in old.report.asked.items)) runs new.played)
+    (ap (kept_runs (answers_in new.report.asked.items)) c.clear-in-Err.ensures) in (
       (
         refl,
         (λ _. tt),

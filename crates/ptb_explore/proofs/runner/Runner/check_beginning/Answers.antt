@@ -4,6 +4,7 @@ use Rattle.std.proofs.Common.{◌≡◌, ◌≤◌, ◌<◌, ◌∙◌, [], leng
 use Rattle.ptb_answers.specs.Outcome.{Answers}
 use Rattle.ptb_machine.specs.Play.{Finish}
 use Rattle.ptb_machine.specs.Questions.{most_answers}
+use Rattle.ptb_explore.specs.Recorders.{given_bounds, recorded}
 use Rattle.ptb_explore.specs.Copies.{more_played, play_limit}
 use Rattle.ptb_explore.specs.Explorations.{game_of}
 use Rattle.ptb_explore.specs.Mismatch.{IsItemMismatch}
@@ -18,7 +19,7 @@ use Rattle.ptb_explore.proofs.runner.Runner.check_beginning.Goals as goal
 
 pub play_from_start-requires : goal.play_from_start-requires
 play_from_start-requires c = record {
-  fresh = record { none_given = c.in_ok-replay.ensures.bounds; all_planned = c.in_ok-replay.ensures.planned };
+  fresh = record { none_given = c.in_ok-replay.ensures.given; all_planned = c.in_ok-replay.ensures.planned };
   none = c.requires.none;
 }
 
@@ -31,16 +32,16 @@ returns-in-None-clause-beginning c =
     let game = game_of old in
     let most = most_answers old.player old.lines.now old.rules.limit in
     let reads = c.run_laws.ensures.reads old.player old.lines.now old.rules in
-    let plan = c.replay.new.self.answers.items in
+    let plan = (recorded c.replay.new.self) in
     let new = c.play_from_start.new.self.trial in
     let are = c.in_ok-replay.ensures.answers in
     let is = if_none_at c.in-None.is c.item_mismatch.ensures.taken in
-    let all : length plan ≤ length new.bounds.items =
+    let all : length plan ≤ length (given_bounds new) =
     omega (arith, is.taken, ap length are, answers_length c.args.list.now) in
     let begun = begun_opens game new _ c.play_from_start.new.self.report.transcript.items most reads plan
     c.in_ok-ending.ensures.plan all _ c.in_ok-ending.ensures.ends in (
       list_opens old.player old.lines.now old.rules c.args.list.now plan are begun.0,
-      begun_stated old.player old.lines.now old.rules c.args.list.now plan are new.bounds.items begun.1 is.states,
+      begun_stated old.player old.lines.now old.rules c.args.list.now plan are (given_bounds new) begun.1 is.states,
     )
 
 pub returns-in-None-clause-played : goal.returns-in-None-clause-played
@@ -49,20 +50,20 @@ returns-in-None-clause-played c = λ a first f over.
     let game = game_of old in
     let most = most_answers old.player old.lines.now old.rules.limit in
     let reads = c.run_laws.ensures.reads old.player old.lines.now old.rules in
-    let plan = c.replay.new.self.answers.items in
+    let plan = (recorded c.replay.new.self) in
     let new = c.play_from_start.new.self.trial in
     let shown = c.play_from_start.new.self.report.transcript.items in
     let planned = c.in_ok-ending.ensures.plan in
     let ends = c.in_ok-ending.ensures.ends in
     let are = c.in_ok-replay.ensures.answers in
     let is = if_none_at c.in-None.is c.item_mismatch.ensures.taken in
-    let all : length plan ≤ length new.bounds.items =
+    let all : length plan ≤ length (given_bounds new) =
     omega (arith, is.taken, ap length are, answers_length c.args.list.now) in
     let begun = begun_opens game new _ shown most reads plan planned all _ ends in
     let end = open_ends game new _ shown most reads plan planned begun.0 _ ends in
-    let next = plan_ends game most reads plan Start plan new.answers.items new.bounds.items _
+    let next = plan_ends game most reads plan Start plan (recorded new) (given_bounds new) _
     (start_plan game most reads plan begun.0) end in
-    let same : a ≡ new.answers.items = next_same game most reads plan Start a new.answers.items
+    let same : a ≡ (recorded new) = next_same game most reads plan Start a (recorded new)
     (subst (λ (b : Answers). IsNextRun game b Start a) (sym are) first) next in
     let finish : _ ≡ f = result_is _ f [] [] (sym end.outcome ∙ ap game (sym same) ∙ over) in (
       c.in_ok-ending.ensures.played ∙ ap (λ (x : Finish). more_played old.played x.steps) finish,

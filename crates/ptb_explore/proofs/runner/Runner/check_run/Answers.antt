@@ -2,24 +2,25 @@
 use Rattle.std.proofs.Common.{◌≡◌, ◌∙◌, ◌<◌, [], length, refl, ap, sym, subst}
 use Rattle.ptb_answers.specs.AnswerText.{answers_of}
 use Rattle.ptb_answers.specs.Outcome.{bounds}
+use Rattle.ptb_answers.specs.Asked.{answers_in, bounds_in}
 use Rattle.ptb_machine.specs.Play.{Finish}
 use Rattle.ptb_machine.specs.Questions.{most_answers}
 use Rattle.ptb_explore.specs.Copies.{more_played, play_limit}
 use Rattle.ptb_explore.specs.Explorations.{game_of}
 use Rattle.ptb_explore.specs.MarkedRuns.{states_bounds}
 use Rattle.ptb_explore.specs.Mismatch.{IsRunMismatch}
-use Rattle.ptb_explore.specs.Recorders.{choices_of}
+use Rattle.ptb_explore.specs.Recorders.{choices_of, given_bounds, recorded}
 use Rattle.ptb_explore.specs.RunTree.{IsRun}
 use Rattle.ptb_explore.proofs.Exits.{ok_no_err, same_reason}
 use Rattle.ptb_explore.proofs.Keep.{kept_same}
 use Rattle.ptb_explore.proofs.Mismatches.{answers_length, if_none_at, if_some_at}
 use Rattle.ptb_explore.proofs.Runners.{changed}
-use Rattle.ptb_explore.proofs.Trial.{all_given, result_is, whole_plan}
+use Rattle.ptb_explore.proofs.Trial.{all_bounds, all_given, result_is, whole_plan}
 use Rattle.ptb_explore.proofs.runner.Runner.check_run.Goals as goal
 
 pub play_from_start-requires : goal.play_from_start-requires
 play_from_start-requires c = record {
-  fresh = record { none_given = c.in_ok-replay.ensures.bounds; all_planned = c.in_ok-replay.ensures.planned };
+  fresh = record { none_given = c.in_ok-replay.ensures.given; all_planned = c.in_ok-replay.ensures.planned };
   none = c.clear.ensures;
 }
 
@@ -32,22 +33,23 @@ returns c =
     let game = game_of old in
     let most = most_answers old.player old.lines.now old.rules.limit in
     let reads = c.run_laws.ensures.reads old.player old.lines.now old.rules in
-    let plan = c.replay.new.self.answers.items in
+    let plan = (recorded c.replay.new.self) in
     let are = c.in_ok-replay.ensures.answers in
     let new = c.play_from_start.new.self.trial in
     let shown = c.play_from_start.new.self.report.transcript.items in
     let is = if_none_at c.in_default.is c.run_mismatch.ensures.taken in
     let count : length plan ≡ length c.args.list.now = ap length are ∙ answers_length c.args.list.now in
-    let taken : length new.bounds.items ≡ length plan = is.taken ∙ sym count in
-    let alone : length new.answers.items ≡ length plan = is.alone ∙ sym count in
+    let taken : length (given_bounds new) ≡ length plan = is.taken ∙ sym count in
+    let alone : length (recorded new) ≡ length plan = is.alone ∙ sym count in
     let whole = whole_plan game new _ shown most reads plan c.in_ok-ending.ensures.plan taken alone _
     c.in_ok-ending.ensures.ends in
     let their = whole.2 ∙ ap (bounds game) are in
     record {
       same = changed c.play_from_start.new.self old _ _ _ c.play_from_start.ensures.same;
       run = (subst (IsRun game) are whole.0, ap (states_bounds c.args.list.now) (sym their) ∙ is.states);
-      answers = c.hand_over.ensures.answers ∙ whole.1 ∙ are;
-      bounds = c.hand_over.ensures.bounds ∙ their;
+      answers = ap answers_in c.hand_over.ensures.asked ∙ whole.1 ∙ are;
+      bounds = ap bounds_in c.hand_over.ensures.asked ∙ all_bounds game new (whole.2 ∙ sym (ap (bounds game) whole.1))
+          ∙ their;
       copies = kept_same old.player old.player old.lines.now old.lines.now old.rules (choices_of new).taken
           (answers_of c.args.list.now) shown _ _ _
           refl refl (sym (all_given game new (whole.2 ∙ sym (ap (bounds game) whole.1)) ∙ whole.1 ∙ are)) refl refl

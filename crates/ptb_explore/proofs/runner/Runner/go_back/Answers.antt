@@ -1,17 +1,19 @@
 -- This file answers that a run continues from where the newest copy that is left is, or begins.
-use Rattle.std.proofs.Common.{arith, ◌≡◌, take, refl, sym, ap, subst, ◌∙◌, Some, None}
-use Rattle.std.proofs.lemmas.Grind.{common_steps}
+use Rattle.std.proofs.Common.{arith, ◌≡◌, refl, sym, ap, subst, ◌∙◌, Some, None}
 use Rattle.std.specs.Prelude.{option_map}
-use Rattle.std.proofs.lemmas.List.{length-take-le}
 use Rattle.std.proofs.lemmas.Result.{IfOk-from_err}
 use Rattle.ptb_command.specs.Configuration.{Configuration}
 use Rattle.ptb_devices.specs.Sources.{LineList}
+use Rattle.ptb_answers.specs.Asked.{answers_in, bounds_in}
+use Rattle.ptb_explore.specs.Recorders.{given_bounds, recorded}
 use Rattle.ptb_explore.specs.Copies.{GoesBackTo, machine_of, steps_or_none}
 use Rattle.ptb_explore.proofs.ContinuedCopies.{on_copies, on_len, on_prefix}
 use Rattle.ptb_explore.proofs.Keep.{goes_on, kept_none, stands_machine}
 use Rattle.ptb_explore.proofs.Exits.{on_ok_always}
 use Rattle.ptb_explore.proofs.RestoredCopies.{same_plan, none_taken, no_copies, begun_prefix, begun_steps, copy_left}
+use Rattle.ptb_explore.proofs.Recorded.{skipped_bounds}
 use Rattle.ptb_explore.proofs.Trial.{fresh_plan}
+use Rattle.ptb_report.proofs.AskedLists.{length-bounds_in}
 use Rattle.ptb_explore.proofs.runner.Runner.go_back.Goals as goal
 
 pub returns-in_err-go_back : goal.returns-in_err-go_back
@@ -25,20 +27,6 @@ returns-in_err-go_back c = record {
   copies = IfOk-from_err _ _ c.from_residual.ensures.0;
   back = IfOk-from_err _ _ c.from_residual.ensures.0;
   steps = IfOk-from_err _ _ c.from_residual.ensures.0;
-}
-
-pub returns-in_err-skip-in-Some : goal.returns-in_err-skip-in-Some
-returns-in_err-skip-in-Some c = record {
-  same = refl;
-  plan = same_plan c.args.self.now.trial c.skip.new.self c.requires.fresh c.in_err-skip-in-Some.ensures.answers
-      c.in_err-skip-in-Some.ensures.planned;
-  same_lines = refl;
-  within = IfOk-from_err _ _ c.from_residual-in_err-skip-in-Some.ensures.0;
-  unspent = IfOk-from_err _ _ c.from_residual-in_err-skip-in-Some.ensures.0;
-  run_prefix = IfOk-from_err _ _ c.from_residual-in_err-skip-in-Some.ensures.0;
-  copies = IfOk-from_err _ _ c.from_residual-in_err-skip-in-Some.ensures.0;
-  back = IfOk-from_err _ _ c.from_residual-in_err-skip-in-Some.ensures.0;
-  steps = IfOk-from_err _ _ c.from_residual-in_err-skip-in-Some.ensures.0;
 }
 
 pub returns-in-None : goal.returns-in-None
@@ -60,23 +48,10 @@ returns-in-None c =
       steps = begun_steps c.begin.result (λ b. b.value) c.args.self.now.player _ left.0 c.begin.ensures.first;
     }
 
-pub slice_bounds-skip-end : goal.slice_bounds-skip-end
-slice_bounds-skip-end c =
-    let on = goes_on c.args.self.now.player c.args.source.now.lines c.args.self.now.rules c.args.common
-    c.args.self.now.report.answers.items c.args.screen.now c.args.self.now.copies.kept.items
-    c.go_back.new.self.kept.items c.in-Some.copy c.requires.copies
-    (subst (GoesBackTo c.args.common c.args.self.now.copies.kept.items c.go_back.new.self.kept.items) c.in-Some.is
-    c.in_ok-go_back.ensures) in
-    rw c.deref.ensures.value
-    (sym (length-take-le c.in-Some.copy.taken c.args.self.now.report.bounds.items (on_len c.args.self.now.player
-    c.args.source.now.lines c.args.self.now.rules c.args.common c.args.self.now.trial.answers.items
-    c.args.self.now.report.answers.items c.args.self.now.report.bounds.items c.args.screen.now
-    c.go_back.new.self.kept.items c.in-Some.copy c.requires.agrees on)))
-
 pub cut-requires-in-Some : goal.cut-requires-in-Some
 cut-requires-in-Some c =
     let on = goes_on c.args.self.now.player c.args.source.now.lines c.args.self.now.rules c.args.common
-    c.args.self.now.report.answers.items c.args.screen.now c.args.self.now.copies.kept.items
+    (answers_in c.args.self.now.report.asked.items) c.args.screen.now c.args.self.now.copies.kept.items
     c.go_back.new.self.kept.items c.in-Some.copy c.requires.copies
     (subst (GoesBackTo c.args.common c.args.self.now.copies.kept.items c.go_back.new.self.kept.items) c.in-Some.is
     c.in_ok-go_back.ensures) in
@@ -85,7 +60,7 @@ cut-requires-in-Some c =
 pub go-requires : goal.go-requires
 go-requires c =
     let on = goes_on c.args.self.now.player c.args.source.now.lines c.args.self.now.rules c.args.common
-    c.args.self.now.report.answers.items c.args.screen.now c.args.self.now.copies.kept.items
+    (answers_in c.args.self.now.report.asked.items) c.args.screen.now c.args.self.now.copies.kept.items
     c.go_back.new.self.kept.items c.in-Some.copy c.requires.copies
     (subst (GoesBackTo c.args.common c.args.self.now.copies.kept.items c.go_back.new.self.kept.items) c.in-Some.is
     c.in_ok-go_back.ensures) in
@@ -94,7 +69,7 @@ go-requires c =
 pub returns-in-Some-machine-clause-within : goal.returns-in-Some-machine-clause-within
 returns-in-Some-machine-clause-within c =
     let on = goes_on c.args.self.now.player c.args.source.now.lines c.args.self.now.rules c.args.common
-    c.args.self.now.report.answers.items c.args.screen.now c.args.self.now.copies.kept.items
+    (answers_in c.args.self.now.report.asked.items) c.args.screen.now c.args.self.now.copies.kept.items
     c.go_back.new.self.kept.items c.in-Some.copy c.requires.copies
     (subst (GoesBackTo c.args.common c.args.self.now.copies.kept.items c.go_back.new.self.kept.items) c.in-Some.is
     c.in_ok-go_back.ensures) in
@@ -103,7 +78,7 @@ returns-in-Some-machine-clause-within c =
 pub returns-in-Some-machine-clause-unspent : goal.returns-in-Some-machine-clause-unspent
 returns-in-Some-machine-clause-unspent c =
     let on = goes_on c.args.self.now.player c.args.source.now.lines c.args.self.now.rules c.args.common
-    c.args.self.now.report.answers.items c.args.screen.now c.args.self.now.copies.kept.items
+    (answers_in c.args.self.now.report.asked.items) c.args.screen.now c.args.self.now.copies.kept.items
     c.go_back.new.self.kept.items c.in-Some.copy c.requires.copies
     (subst (GoesBackTo c.args.common c.args.self.now.copies.kept.items c.go_back.new.self.kept.items) c.in-Some.is
     c.in_ok-go_back.ensures) in
@@ -116,40 +91,40 @@ returns-in-Some-machine-clause-unspent c =
 pub returns-in-Some-machine-clause-run_prefix : goal.returns-in-Some-machine-clause-run_prefix
 returns-in-Some-machine-clause-run_prefix c =
     let on = goes_on c.args.self.now.player c.args.source.now.lines c.args.self.now.rules c.args.common
-    c.args.self.now.report.answers.items c.args.screen.now c.args.self.now.copies.kept.items
+    (answers_in c.args.self.now.report.asked.items) c.args.screen.now c.args.self.now.copies.kept.items
     c.go_back.new.self.kept.items c.in-Some.copy c.requires.copies
     (subst (GoesBackTo c.args.common c.args.self.now.copies.kept.items c.go_back.new.self.kept.items) c.in-Some.is
     c.in_ok-go_back.ensures) in
     let machine_is : machine_of c.in-Some.copy ≡ Some c.in-Some-machine.machine.value =
     ap (option_map (λ b. b.value)) c.in-Some-machine.is in
-    let given : c.skip.new.self.bounds.items ≡ take c.in-Some.copy.taken c.args.self.now.report.bounds.items =
-    c.in_ok-skip-in-Some.ensures.bounds ∙ ap (take c.in-Some.copy.taken) c.deref.ensures.value in
+    let given = skipped_bounds c.args.self.now.trial c.skip.new.self c.in-Some.copy.taken c.skip.ensures.asked
+    c.skip.ensures.given in
     rw c.in-Some-machine.is (on_prefix c.args.self.now.player c.args.source.now.lines c.args.self.now.rules
-    c.args.common c.args.self.now.trial.answers.items c.args.self.now.report.answers.items
-    c.args.self.now.report.bounds.items c.args.screen.now c.go_back.new.self.kept.items c.in-Some.copy
-    c.requires.agrees on c.skip.new.self.bounds.items c.skip.new.self.answers.items given
-    c.in_ok-skip-in-Some.ensures.answers _ c.cut-in-Some.new.self c.go.new.self c.in-Some-machine.machine.value
+    c.args.common (recorded c.args.self.now.trial) (answers_in c.args.self.now.report.asked.items)
+    (bounds_in c.args.self.now.trial.asked.items) c.args.screen.now c.go_back.new.self.kept.items
+    c.in-Some.copy c.requires.agrees on (given_bounds c.skip.new.self) (recorded c.skip.new.self) given
+    (ap answers_in c.skip.ensures.asked) _ c.cut-in-Some.new.self c.go.new.self c.in-Some-machine.machine.value
     c.cut-in-Some.ensures c.go.ensures machine_is)
 
 pub returns-in-Some-machine-clause-copies : goal.returns-in-Some-machine-clause-copies
 returns-in-Some-machine-clause-copies c =
     let on = goes_on c.args.self.now.player c.args.source.now.lines c.args.self.now.rules c.args.common
-    c.args.self.now.report.answers.items c.args.screen.now c.args.self.now.copies.kept.items
+    (answers_in c.args.self.now.report.asked.items) c.args.screen.now c.args.self.now.copies.kept.items
     c.go_back.new.self.kept.items c.in-Some.copy c.requires.copies
     (subst (GoesBackTo c.args.common c.args.self.now.copies.kept.items c.go_back.new.self.kept.items) c.in-Some.is
     c.in_ok-go_back.ensures) in
-    let given : c.skip.new.self.bounds.items ≡ take c.in-Some.copy.taken c.args.self.now.report.bounds.items =
-    c.in_ok-skip-in-Some.ensures.bounds ∙ ap (take c.in-Some.copy.taken) c.deref.ensures.value in
+    let given = skipped_bounds c.args.self.now.trial c.skip.new.self c.in-Some.copy.taken c.skip.ensures.asked
+    c.skip.ensures.given in
     on_copies c.args.self.now.player c.args.source.now.lines c.args.self.now.rules c.args.common
-    c.args.self.now.trial.answers.items c.args.self.now.report.answers.items c.args.self.now.report.bounds.items
-    c.args.screen.now c.go_back.new.self.kept.items c.in-Some.copy c.requires.agrees on c.skip.new.self.bounds.items
-    c.skip.new.self.answers.items given c.in_ok-skip-in-Some.ensures.answers c.cut-in-Some.new.self
-    c.cut-in-Some.ensures
+    (recorded c.args.self.now.trial) (answers_in c.args.self.now.report.asked.items)
+    (bounds_in c.args.self.now.trial.asked.items) c.args.screen.now c.go_back.new.self.kept.items
+    c.in-Some.copy c.requires.agrees on (given_bounds c.skip.new.self) (recorded c.skip.new.self) given
+    (ap answers_in c.skip.ensures.asked) c.cut-in-Some.new.self c.cut-in-Some.ensures
 
 pub returns-in-Some-machine-clause-steps : goal.returns-in-Some-machine-clause-steps
 returns-in-Some-machine-clause-steps c =
     let on = goes_on c.args.self.now.player c.args.source.now.lines c.args.self.now.rules c.args.common
-    c.args.self.now.report.answers.items c.args.screen.now c.args.self.now.copies.kept.items
+    (answers_in c.args.self.now.report.asked.items) c.args.screen.now c.args.self.now.copies.kept.items
     c.go_back.new.self.kept.items c.in-Some.copy c.requires.copies
     (subst (GoesBackTo c.args.common c.args.self.now.copies.kept.items c.go_back.new.self.kept.items) c.in-Some.is
     c.in_ok-go_back.ensures) in
@@ -160,7 +135,7 @@ returns-in-Some-machine-clause-steps c =
 pub unreachable-requires : goal.unreachable-requires
 unreachable-requires c =
     let on = goes_on c.args.self.now.player c.args.source.now.lines c.args.self.now.rules c.args.common
-    c.args.self.now.report.answers.items c.args.screen.now c.args.self.now.copies.kept.items
+    (answers_in c.args.self.now.report.asked.items) c.args.screen.now c.args.self.now.copies.kept.items
     c.go_back.new.self.kept.items c.in-Some.copy c.requires.copies
     (subst (GoesBackTo c.args.common c.args.self.now.copies.kept.items c.go_back.new.self.kept.items) c.in-Some.is
     c.in_ok-go_back.ensures) in
@@ -169,14 +144,24 @@ unreachable-requires c =
     absurd cc
 
 pub skip-requires-clause-within : goal.skip-requires-clause-within
-skip-requires-clause-within c = grind (arith, common_steps)
+skip-requires-clause-within c =
+    let trial = c.args.self.now.trial in
+    let on = goes_on c.args.self.now.player c.args.source.now.lines c.args.self.now.rules c.args.common
+    (answers_in c.args.self.now.report.asked.items) c.args.screen.now c.args.self.now.copies.kept.items
+    c.go_back.new.self.kept.items c.in-Some.copy c.requires.copies
+    (subst (GoesBackTo c.args.common c.args.self.now.copies.kept.items c.go_back.new.self.kept.items) c.in-Some.is
+    c.in_ok-go_back.ensures) in
+    let few = on_len c.args.self.now.player c.args.source.now.lines c.args.self.now.rules c.args.common
+    (recorded trial) (answers_in c.args.self.now.report.asked.items) (bounds_in trial.asked.items) c.args.screen.now
+    c.go_back.new.self.kept.items c.in-Some.copy c.requires.agrees on in
+    omega (arith, few, length-bounds_in trial.asked.items, trial.asked.ok.0)
 
 pub returns-in-Some-machine-clause-same : goal.returns-in-Some-machine-clause-same
 returns-in-Some-machine-clause-same c = refl
 
 pub returns-in-Some-machine-clause-plan : goal.returns-in-Some-machine-clause-plan
 returns-in-Some-machine-clause-plan c = same_plan c.args.self.now.trial c.skip.new.self c.requires.fresh
-    c.in_ok-skip-in-Some.ensures.answers c.in_ok-skip-in-Some.ensures.planned
+    (ap answers_in c.skip.ensures.asked) c.skip.ensures.planned
 
 pub returns-in-Some-machine-clause-same_lines : goal.returns-in-Some-machine-clause-same_lines
 returns-in-Some-machine-clause-same_lines c = ap (λ (s : LineList). s.lines) c.go.ensures

@@ -5,7 +5,8 @@ use Rattle.ptb_devices.specs.Sources.{LineList}
 use Rattle.ptb_machine.specs.Play.{play}
 use Rattle.ptb_explore.specs.Copies.{AreCopies}
 use Rattle.ptb_explore.specs.PlannedPlays.{PlayEnds}
-use Rattle.ptb_explore.specs.Recorders.{choices_of}
+use Rattle.ptb_explore.specs.Recorders.{choices_of, recorded}
+use Rattle.ptb_explore.proofs.Recorded.{fresh_bounds}
 use Rattle.ptb_explore.proofs.RunPrefix.{run_prefix_at_first}
 use Rattle.ptb_explore.proofs.Runners.{reported}
 use Rattle.ptb_explore.proofs.Trial.{fresh_plan}
@@ -16,8 +17,8 @@ play_on-requires-clause-run_prefix c =
     let trial = c.args.self.now.trial in
     let input = c.args.self.now.lines.now in
     let taken : (choices_of trial).taken ≡ [] =
-    ap (λ (bs : List ℤ). take (length bs) trial.answers.items) c.requires.fresh.none_given in
-    let kept : (choices_of trial).kept ≡ Some [] = ap Some c.requires.fresh.none_given in
+    ap (λ (bs : List ℤ). take (length bs) (recorded trial)) (fresh_bounds trial c.requires.fresh) in
+    let kept : (choices_of trial).kept ≡ Some [] = ap Some (fresh_bounds trial c.requires.fresh) in
     rw (c.new-source.ensures, c.new-screen.ensures)
     (run_prefix_at_first c.args.self.now.player input c.args.self.now.rules (choices_of trial)
     c.in_ok-machine.machine taken kept (c.in_ok-machine.ensures.first input c.args.self.now.rules.choose))

@@ -4,8 +4,9 @@ use Rattle.std.proofs.Common.{◌∙◌, arith, true, false, Ok, Err, Some, None
 use Rattle.std.proofs.lemmas.List.{length-take-le}
 use Rattle.ptb_machine.specs.Play.{play}
 use Rattle.ptb_answers.specs.Outcome.{Answers}
+use Rattle.ptb_explore.proofs.Recorded.{given_len, recorded_len}
 use Rattle.ptb_explore.specs.Copies.{AreTakenBy, StandsAt, taken_choices}
-use Rattle.ptb_explore.specs.Recorders.{RefusedByPlan, choices_of}
+use Rattle.ptb_explore.specs.Recorders.{RefusedByPlan, choices_of, given_bounds, recorded}
 use Rattle.ptb_explore.specs.declared.recorder.Recorder.{Recorder}
 use Rattle.ptb_explore.proofs.Limits.{taken_by}
 use Rattle.ptb_explore.proofs.Keep.{kept_longer, kept_more, kept_same}
@@ -15,9 +16,9 @@ use Rattle.ptb_explore.proofs.Runners.{stepped}
 use Rattle.ptb_explore.proofs.runner.Runner.play_on.Goals as goal
 
 -- as many answers were taken as there are bounds
-taken_length : (r : Recorder) → length (choices_of r).taken ≡ length r.bounds.items
-taken_length r = length-take-le (length r.bounds.items) r.answers.items
-    (omega (arith, r.bounded, r.answers.ok.0, r.bounds.ok.0))
+taken_length : (r : Recorder) → length (choices_of r).taken ≡ length (given_bounds r)
+taken_length r = length-take-le (length (given_bounds r)) (recorded r)
+    (omega (arith, r.bounded, (recorded_len r), (given_len r)))
 
 pub step-requires : goal.step-requires
 step-requires c = record { fits = rw c.advance.ensures.program c.advance.ensures.fits }
@@ -42,10 +43,9 @@ loop-ending-preserved c =
     let same_lines = turn.gives.same_lines ∙ i.same_lines in
     let within : c.step.new.source.taken ≤ length input = rw (← i.same_lines)
     (taken_within l.source c.step.new.source turn.given turn.gives (rw i.same_lines i.within)) in
-    let before : c.len-before.result ≡ length old.taken = c.len-before.ensures ∙ l.self.trial.bounds.ok.0
-    ∙ sym (taken_length l.self.trial) in
-    let taken : c.len-taken.result ≡ length (old.taken ++ more.answers) = c.len-taken.ensures
-    ∙ c.step.new.chooser.bounds.ok.0 ∙ sym (taken_length c.step.new.chooser) ∙ ap length more.taken in
+    let before : l.self.trial.given ≡ length old.taken = given_len l.self.trial ∙ sym (taken_length l.self.trial) in
+    let taken : c.step.new.chooser.given ≡ length (old.taken ++ more.answers) =
+    given_len c.step.new.chooser ∙ sym (taken_length c.step.new.chooser) ∙ ap length more.taken in
     let stands : (k : _) → _ → _ → StandsAt c.advance.new.self input c.args.self.now.rules k (old.taken ++ more.answers)
     (l.screen ++ more.bytes) = (λ k took copy. record {
       machine = c.step.new.machine;

@@ -18,15 +18,10 @@ pub returns-clause-same : goal.returns-clause-same
 returns-clause-same c = counted c.play_counted-ending.new.self c.go_back-machine.new.self c.args.self.now _ _ _
     c.play_counted-ending.ensures.same c.go_back-machine.ensures.same
 
-pub returns-clause-answers : goal.returns-clause-answers
-returns-clause-answers c =
-    ap (λ (r : Runner). r.report.answers.items) c.play_counted-ending.ensures.same
-    ∙ ap (λ (r : Runner). r.report.answers.items) c.go_back-machine.ensures.same
-
-pub returns-clause-bounds : goal.returns-clause-bounds
-returns-clause-bounds c =
-    ap (λ (r : Runner). r.report.bounds.items) c.play_counted-ending.ensures.same
-    ∙ ap (λ (r : Runner). r.report.bounds.items) c.go_back-machine.ensures.same
+pub returns-clause-asked : goal.returns-clause-asked
+returns-clause-asked c =
+    ap (λ (r : Runner). r.report.asked.items) c.play_counted-ending.ensures.same
+    ∙ ap (λ (r : Runner). r.report.asked.items) c.go_back-machine.ensures.same
 
 pub returns-clause-plan : goal.returns-clause-plan
 returns-clause-plan c = c.in_ok-self.ensures.plan ∙ c.in_ok-machine.ensures.plan
@@ -90,8 +85,7 @@ returns-in_err-machine c =
       same = still_same c.go_back-machine.new.self c.args.self.now _ same;
       plan = IfOk-from_err _ _ c.from_residual.ensures.0;
       ends = IfOk-from_err _ _ c.from_residual.ensures.0;
-      answers = ap (λ (r : Runner). r.report.answers.items) same;
-      bounds = ap (λ (r : Runner). r.report.bounds.items) same;
+      asked = ap (λ (r : Runner). r.report.asked.items) same;
       copies = IfOk-from_err _ _ c.from_residual.ensures.0;
       played = IfOk-from_err _ _ c.from_residual.ensures.0;
       rises = omega (arith, played);
@@ -107,8 +101,7 @@ returns-in_err-self c =
       same = counted c.play_counted-ending.new.self c.go_back-machine.new.self c.args.self.now _ _ _ more same;
       plan = IfOk-from_err _ _ c.from_residual-in_err-self.ensures.0;
       ends = IfOk-from_err _ _ c.from_residual-in_err-self.ensures.0;
-      answers = ap (λ (r : Runner). r.report.answers.items) more ∙ ap (λ (r : Runner). r.report.answers.items) same;
-      bounds = ap (λ (r : Runner). r.report.bounds.items) more ∙ ap (λ (r : Runner). r.report.bounds.items) same;
+      asked = ap (λ (r : Runner). r.report.asked.items) more ∙ ap (λ (r : Runner). r.report.asked.items) same;
       copies = IfOk-from_err _ _ c.from_residual-in_err-self.ensures.0;
       played = IfOk-from_err _ _ c.from_residual-in_err-self.ensures.0;
       rises = omega (arith, played, c.play_counted-ending.ensures.rises);

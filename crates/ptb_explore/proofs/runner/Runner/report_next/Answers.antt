@@ -1,20 +1,19 @@
 -- This file answers that the run of the next plan is the next run.
-use Rattle.std.proofs.Common.{Some, None, arith, refl}
+use Rattle.std.proofs.Common.{◌≡◌, ◌∙◌, Some, None, arith, refl, take}
 use Rattle.std.proofs.lemmas.Result.{IfOk-from_err}
 use Rattle.ptb_answers.specs.AnswerText.{answers_of}
 use Rattle.ptb_machine.specs.Play.{play}
 use Rattle.ptb_machine.specs.Questions.{most_answers}
+use Rattle.ptb_answers.specs.Asked.{answers_in, bounds_in}
+use Rattle.ptb_explore.specs.Recorders.{recorded}
 use Rattle.ptb_explore.specs.Plans.{front_at, HasPlan, PlansNext}
 use Rattle.ptb_report.proofs.WrittenReports.{on_err_always}
 use Rattle.ptb_explore.proofs.Exits.{on_some_at}
 use Rattle.ptb_explore.proofs.ContinuedCopies.{next_agrees, next_played, position_copies}
-use Rattle.ptb_explore.proofs.RaisedAnswers.{position_lengths, next_plan, last_plan, plan_ends}
+use Rattle.ptb_explore.proofs.Mismatches.{if_some_at}
+use Rattle.ptb_explore.proofs.RaisedAnswers.{next_plan, last_plan, plan_ends}
 use Rattle.ptb_explore.proofs.Shares.{plan_left}
 use Rattle.ptb_explore.proofs.runner.Runner.report_next.Goals as goal
-
-pub plan_next-requires : goal.plan_next-requires
-plan_next-requires c = λ e. rw (c.deref.ensures.value, c.deref-2.ensures.value) (position_lengths
-    (play c.args.self.now.player c.args.self.now.lines.now c.args.self.now.rules) _ _ _ _ c.requires.position e)
 
 pub returns-in-None-clause-next : goal.returns-in-None-clause-next
 returns-in-None-clause-next c =
@@ -22,12 +21,12 @@ returns-in-None-clause-next c =
     let input = c.args.self.now.lines.now in
     let rules = c.args.self.now.rules in
     let report = c.args.self.now.report in
-    let plans : PlansNext (answers_of c.args.under.now) c.args.position
-    report.answers.items report.bounds.items c.plan_next.new.trial.answers.items None =
-    rw (← c.deref.ensures.value, ← c.deref-2.ensures.value, ← c.in-None.is) c.in_ok-plan_next.ensures.plan in
+    let plans : PlansNext (answers_of c.args.under.now) c.args.position (answers_in report.asked.items)
+    (bounds_in report.asked.items) (recorded c.plan_next.new.trial) None =
+    rw (← c.deref.ensures.value, ← c.in-None.is) c.in_ok-plan_next.ensures.plan in
     last_plan (play p input rules) (most_answers p input rules.limit) (c.run_laws.ensures.reads p input rules)
-    (answers_of c.args.under.now) c.args.position report.answers.items c.plan_next.new.trial.answers.items
-    report.bounds.items c.requires.position plans
+    (answers_of c.args.under.now) c.args.position (answers_in report.asked.items) (recorded c.plan_next.new.trial)
+    (bounds_in report.asked.items) c.requires.position plans
 
 pub report_plan-requires-clause-opens : goal.report_plan-requires-clause-opens
 report_plan-requires-clause-opens c =
@@ -35,12 +34,12 @@ report_plan-requires-clause-opens c =
     let input = c.args.self.now.lines.now in
     let rules = c.args.self.now.rules in
     let report = c.args.self.now.report in
-    let plans : PlansNext (answers_of c.args.under.now) c.args.position report.answers.items
-    report.bounds.items c.plan_next.new.trial.answers.items (Some c.in-Some.common) =
-    rw (← c.deref.ensures.value, ← c.deref-2.ensures.value, ← c.in-Some.is) c.in_ok-plan_next.ensures.plan in
+    let plans : PlansNext (answers_of c.args.under.now) c.args.position (answers_in report.asked.items)
+    (bounds_in report.asked.items) (recorded c.plan_next.new.trial) (Some c.in-Some.common) =
+    rw (← c.deref.ensures.value, ← c.in-Some.is) c.in_ok-plan_next.ensures.plan in
     (next_plan (play p input rules) (most_answers p input rules.limit) (c.run_laws.ensures.reads p input rules)
-    (answers_of c.args.under.now) c.args.position report.answers.items c.plan_next.new.trial.answers.items
-    report.bounds.items c.in-Some.common c.requires.position plans).opens
+    (answers_of c.args.under.now) c.args.position (answers_in report.asked.items) (recorded
+    c.plan_next.new.trial) (bounds_in report.asked.items) c.in-Some.common c.requires.position plans).opens
 
 pub returns-in_ok-report_plan-in-Some-clause-next : goal.returns-in_ok-report_plan-in-Some-clause-next
 returns-in_ok-report_plan-in-Some-clause-next c =
@@ -48,29 +47,33 @@ returns-in_ok-report_plan-in-Some-clause-next c =
     let input = c.args.self.now.lines.now in
     let rules = c.args.self.now.rules in
     let report = c.args.self.now.report in
-    let plan = c.plan_next.new.trial.answers.items in
+    let plan = (recorded c.plan_next.new.trial) in
     let plans : PlansNext (answers_of c.args.under.now) c.args.position
-    report.answers.items report.bounds.items plan (Some c.in-Some.common) =
-    rw (← c.deref.ensures.value, ← c.deref-2.ensures.value, ← c.in-Some.is) c.in_ok-plan_next.ensures.plan in
-    let next = next_plan (play p input rules) (most_answers p input rules.limit)
-    (c.run_laws.ensures.reads p input rules) (answers_of c.args.under.now) c.args.position report.answers.items plan
-    report.bounds.items c.in-Some.common c.requires.position plans in
+    (answers_in report.asked.items) (bounds_in report.asked.items) plan (Some c.in-Some.common) =
+    rw (← c.deref.ensures.value, ← c.in-Some.is) c.in_ok-plan_next.ensures.plan in
+    let next = next_plan (play p input rules) (most_answers p input rules.limit) (c.run_laws.ensures.reads p
+    input rules) (answers_of c.args.under.now) c.args.position (answers_in report.asked.items) plan
+    (bounds_in report.asked.items) c.in-Some.common c.requires.position plans in
     let run = c.in_ok-report_plan-in-Some.ensures.ends in (
       record { outcome = run.outcome; bounds_are = run.bounds_are },
       plan_ends (play p input rules) (most_answers p input rules.limit) (c.run_laws.ensures.reads p input rules)
-          (answers_of c.args.under.now) (front_at c.args.position report.answers.items) plan _ _ _ next run,
+          (answers_of c.args.under.now) (front_at c.args.position (answers_in report.asked.items)) plan _ _ _ next run,
     )
 
 pub report_plan-requires-clause-agrees : goal.report_plan-requires-clause-agrees
 report_plan-requires-clause-agrees c =
     let report = c.args.self.now.report in
-    let plan = c.plan_next.new.trial.answers.items in
+    let plan = (recorded c.plan_next.new.trial) in
     let plans : PlansNext (answers_of c.args.under.now) c.args.position
-    report.answers.items report.bounds.items plan (Some c.in-Some.common) =
-    rw (← c.deref.ensures.value, ← c.deref-2.ensures.value, ← c.in-Some.is) c.in_ok-plan_next.ensures.plan in
-    next_agrees (play c.args.self.now.player c.args.self.now.lines.now c.args.self.now.rules)
-    (answers_of c.args.under.now) c.args.position report.answers.items plan report.bounds.items c.in-Some.common
-    c.requires.position plans
+    (answers_in report.asked.items) (bounds_in report.asked.items) plan (Some c.in-Some.common) =
+    rw (← c.deref.ensures.value, ← c.in-Some.is) c.in_ok-plan_next.ensures.plan in
+    let near = next_agrees (play c.args.self.now.player c.args.self.now.lines.now c.args.self.now.rules)
+    (answers_of c.args.under.now) c.args.position (answers_in report.asked.items) plan
+    (bounds_in report.asked.items) c.in-Some.common c.requires.position plans in
+    let bounds : take c.in-Some.common (bounds_in c.plan_next.new.trial.asked.items)
+    ≡ take c.in-Some.common (bounds_in report.asked.items) =
+    rw (← c.deref.ensures.value) (if_some_at _ c.in-Some.is c.in_ok-plan_next.ensures.bounds) in
+    (near.0, near.1, bounds ∙ near.2)
 
 pub report_plan-requires-clause-copies : goal.report_plan-requires-clause-copies
 report_plan-requires-clause-copies c = position_copies c.args.self.now.player c.args.self.now.lines.now
@@ -79,10 +82,10 @@ report_plan-requires-clause-copies c = position_copies c.args.self.now.player c.
 pub returns-in_ok-report_plan-in-Some-clause-played : goal.returns-in_ok-report_plan-in-Some-clause-played
 returns-in_ok-report_plan-in-Some-clause-played c =
     let report = c.args.self.now.report in
-    let plan = c.plan_next.new.trial.answers.items in
+    let plan = (recorded c.plan_next.new.trial) in
     let plans : PlansNext (answers_of c.args.under.now) c.args.position
-    report.answers.items report.bounds.items plan (Some c.in-Some.common) =
-    rw (← c.deref.ensures.value, ← c.deref-2.ensures.value, ← c.in-Some.is) c.in_ok-plan_next.ensures.plan in
+    (answers_in report.asked.items) (bounds_in report.asked.items) plan (Some c.in-Some.common) =
+    rw (← c.deref.ensures.value, ← c.in-Some.is) c.in_ok-plan_next.ensures.plan in
     let run = c.in_ok-report_plan-in-Some.ensures.ends in
     next_played c.args.self.now.player c.args.self.now.lines.now c.args.self.now.rules (answers_of c.args.under.now)
     c.args.position report plan run.ones _ c.in-Some.common c.args.self.now.copies.kept.items _ _ _ plans
@@ -92,20 +95,19 @@ pub returns-in_err-plan_next : goal.returns-in_err-plan_next
 returns-in_err-plan_next c = record {
   same = refl;
   next = IfOk-from_err _ _ c.from_residual.ensures.0;
-  answers = on_err_always _ refl;
-  bounds = on_err_always _ refl;
+  asked = on_err_always _ refl;
   ended = λ last.
       let p = c.args.self.now.player in
       let input = c.args.self.now.lines.now in
       let rules = c.args.self.now.rules in
       let report = c.args.self.now.report in
-      let has : HasPlan (answers_of c.args.under.now) c.args.position report.answers.items report.bounds.items =
-      rw (← c.deref.ensures.value, ← c.deref-2.ensures.value) c.in_err-plan_next.ensures.refused in
+      let has : HasPlan (answers_of c.args.under.now) c.args.position (answers_in report.asked.items)
+      (bounds_in report.asked.items) = rw (← c.deref.ensures.value) c.in_err-plan_next.ensures.refused in
       let next = next_plan (play p input rules) (most_answers p input rules.limit)
-      (c.run_laws.ensures.reads p input rules) (answers_of c.args.under.now) c.args.position report.answers.items
-      has.0 report.bounds.items has.1 c.requires.position has.2 in
+      (c.run_laws.ensures.reads p input rules) (answers_of c.args.under.now) c.args.position
+      (answers_in report.asked.items) has.0 (bounds_in report.asked.items) has.1 c.requires.position has.2 in
       plan_left (play p input rules) (most_answers p input rules.limit) (c.run_laws.ensures.reads p input rules)
-      (answers_of c.args.under.now) (front_at c.args.position report.answers.items) has.0 next last;
+      (answers_of c.args.under.now) (front_at c.args.position (answers_in report.asked.items)) has.0 next last;
   copies = IfOk-from_err _ _ c.from_residual.ensures.0;
   played = IfOk-from_err _ _ c.from_residual.ensures.0;
   rises = omega arith;
@@ -116,22 +118,21 @@ pub returns-in_err-report_plan-in-Some : goal.returns-in_err-report_plan-in-Some
 returns-in_err-report_plan-in-Some c = record {
   same = c.report_plan.ensures.same;
   next = IfOk-from_err _ _ c.from_residual-in_err-report_plan-in-Some.ensures.0;
-  answers = on_err_always _ c.in_err-report_plan-in-Some.ensures.answers;
-  bounds = on_err_always _ c.in_err-report_plan-in-Some.ensures.bounds;
+  asked = on_err_always _ c.in_err-report_plan-in-Some.ensures.asked;
   ended = λ last.
       let p = c.args.self.now.player in
       let input = c.args.self.now.lines.now in
       let rules = c.args.self.now.rules in
       let report = c.args.self.now.report in
-      let plan = c.plan_next.new.trial.answers.items in
+      let plan = (recorded c.plan_next.new.trial) in
       let plans : PlansNext (answers_of c.args.under.now) c.args.position
-      report.answers.items report.bounds.items plan (Some c.in-Some.common) =
-      rw (← c.deref.ensures.value, ← c.deref-2.ensures.value, ← c.in-Some.is) c.in_ok-plan_next.ensures.plan in
-      let next = next_plan (play p input rules) (most_answers p input rules.limit)
-      (c.run_laws.ensures.reads p input rules) (answers_of c.args.under.now) c.args.position report.answers.items
-      plan report.bounds.items c.in-Some.common c.requires.position plans in
+      (answers_in report.asked.items) (bounds_in report.asked.items) plan (Some c.in-Some.common) =
+      rw (← c.deref.ensures.value, ← c.in-Some.is) c.in_ok-plan_next.ensures.plan in
+      let next = next_plan (play p input rules) (most_answers p input rules.limit) (c.run_laws.ensures.reads p
+      input rules) (answers_of c.args.under.now) c.args.position (answers_in report.asked.items) plan
+      (bounds_in report.asked.items) c.in-Some.common c.requires.position plans in
       plan_left (play p input rules) (most_answers p input rules.limit) (c.run_laws.ensures.reads p input rules)
-      (answers_of c.args.under.now) (front_at c.args.position report.answers.items) plan next last;
+      (answers_of c.args.under.now) (front_at c.args.position (answers_in report.asked.items)) plan next last;
   copies = IfOk-from_err _ _ c.from_residual-in_err-report_plan-in-Some.ensures.0;
   played = IfOk-from_err _ _ c.from_residual-in_err-report_plan-in-Some.ensures.0;
   rises = c.report_plan.ensures.rises;
@@ -144,15 +145,15 @@ returns-in_ok-report_plan-in-Some-clause-ended c = λ last.
     let input = c.args.self.now.lines.now in
     let rules = c.args.self.now.rules in
     let report = c.args.self.now.report in
-    let plan = c.plan_next.new.trial.answers.items in
+    let plan = (recorded c.plan_next.new.trial) in
     let plans : PlansNext (answers_of c.args.under.now) c.args.position
-    report.answers.items report.bounds.items plan (Some c.in-Some.common) =
-    rw (← c.deref.ensures.value, ← c.deref-2.ensures.value, ← c.in-Some.is) c.in_ok-plan_next.ensures.plan in
-    let next = next_plan (play p input rules) (most_answers p input rules.limit)
-    (c.run_laws.ensures.reads p input rules) (answers_of c.args.under.now) c.args.position report.answers.items plan
-    report.bounds.items c.in-Some.common c.requires.position plans in
+    (answers_in report.asked.items) (bounds_in report.asked.items) plan (Some c.in-Some.common) =
+    rw (← c.deref.ensures.value, ← c.in-Some.is) c.in_ok-plan_next.ensures.plan in
+    let next = next_plan (play p input rules) (most_answers p input rules.limit) (c.run_laws.ensures.reads p
+    input rules) (answers_of c.args.under.now) c.args.position (answers_in report.asked.items) plan
+    (bounds_in report.asked.items) c.in-Some.common c.requires.position plans in
     plan_left (play p input rules) (most_answers p input rules.limit) (c.run_laws.ensures.reads p input rules)
-    (answers_of c.args.under.now) (front_at c.args.position report.answers.items) plan next last
+    (answers_of c.args.under.now) (front_at c.args.position (answers_in report.asked.items)) plan next last
 
 pub returns-in_ok-report_plan-in-Some-clause-copies : goal.returns-in_ok-report_plan-in-Some-clause-copies
 returns-in_ok-report_plan-in-Some-clause-copies c = λ _. c.in_ok-report_plan-in-Some.ensures.copies

@@ -1,10 +1,9 @@
 -- This file answers that the text of a report is its header and what comes after it.
 use Rattle.std.proofs.Common.{arith, ◌∙◌, ◌<◌, ◌++◌, ap, length, refl}
-use Rattle.ptb_answers.specs.AnswerText.{items_in}
 use Rattle.ptb_report.specs.Begun.{begun, items_of}
-use Rattle.ptb_report.specs.Report.{report_ending}
+use Rattle.ptb_report.specs.Report.{asked_items, report_ending}
 use Rattle.ptb_report.proofs.HeaderPrefixes.{begins_longer, report_from_begun}
-use Rattle.ptb_report.proofs.ReportText.{length-items_in}
+use Rattle.ptb_report.proofs.AskedLists.{length-asked_items}
 use Rattle.ptb_report.proofs.report_writer.ReportWriter.gather.Goals as goal
 
 pub invariant_of-self : goal.invariant_of-self
@@ -16,9 +15,9 @@ invariant_of-self c = record {
 
 pub returns-then-listed : goal.returns-then-listed
 returns-then-listed c added =
-    let items = items_in c.args.form c.args.answers.now c.args.bounds.now in
-    let some : 0 < length c.args.answers.now = grind (arith, c.if-is_empty.ensures) in
+    let items = asked_items c.args.form c.args.asked.now in
+    let some : 0 < length c.args.asked.now = grind (arith, c.if-is_empty.ensures) in
     c.add_ending.ensures.added added
     ∙ ap (λ z. z ++ report_ending c.args.word.now c.args.steps c.args.transcript.now) (c.if-listed.ensures.all refl)
     ∙ report_from_begun items c.args.word.now c.args.steps c.args.transcript.now
-    (omega (arith, some, length-items_in c.args.form c.args.answers.now c.args.bounds.now c.requires))
+    (omega (arith, some, length-asked_items c.args.form c.args.asked.now))
