@@ -9,14 +9,14 @@ use Rattle.ptb_text.proofs.output_buffer.OutputBuffer.put.Goals as goal
 pub returns-clause-ok : goal.returns-clause-ok
 returns-clause-ok g c =
     let whole = gathers_written _ _ c.args.self.now
-    (subst (Appends _ _) (c.if-takes.ensures.full refl) c.in_ok-flush.ensures.ok) in
-    let empty = c.if-takes-2.ensures.full refl ∙ c.in_ok-flush.ensures.empty in
+    (subst (Appends _ _) (c.if-try_append.ensures.full refl) c.in_ok-flush.ensures.ok) in
+    let empty = c.if-try_append-2.ensures.full refl ∙ c.in_ok-flush.ensures.empty in
     on_ok_weaker c.write_all.result (λ e. subst (Gathers _ _ _) (sym empty) (gathers_more _ _ _ c.args.self.now
     [] c.args.bytes.now [] whole (gathers_written _ _ c.args.bytes.now e))) c.write_all.ensures.ok
 
 pub returns-clause-fault : goal.returns-clause-fault
 returns-clause-fault g c =
     let whole = gathers_written _ _ c.args.self.now
-    (subst (Appends _ _) (c.if-takes.ensures.full refl) c.in_ok-flush.ensures.ok) in
+    (subst (Appends _ _) (c.if-try_append.ensures.full refl) c.in_ok-flush.ensures.ok) in
     on_err_weaker c.write_all.result
     (λ e. some_after _ _ _ c.args.self.now [] c.args.bytes.now whole e) c.write_all.ensures.fault
