@@ -155,8 +155,8 @@ fn bytes_that_are_gathered(rt: HostRuntime) {
     for &(before, bytes, room, count) in GATHERED {
         let mut pending = PendingOutput::new();
         let filler = [b'#'; PENDING_LIMIT];
-        let filled = pending.takes(filler.get(..before).unwrap_or(b""));
-        let taken = pending.takes(bytes);
+        let filled = pending.try_append(filler.get(..before).unwrap_or(b""));
+        let taken = pending.try_append(bytes);
         let gathered = pending.as_slice();
         let is_end = gathered.ends_with(bytes);
         let found = (filled, taken, gathered.len(), is_end);

@@ -1,6 +1,6 @@
 -- This file names the files of lemmas.
 pub mod ReplyLaws
-pub mod Shares
+pub mod ShareReplies
 pub mod Fronts
 pub mod Served
 pub mod PlainRuns

@@ -41,7 +41,7 @@ use Rattle.ptb_serve.specs.ReplyLaws.{ChecksText, ListsRuns, RunReplies, RunsByS
 use Rattle.ptb_serve.proofs.Fronts.{begun_after, begun_both, begun_under, both_parts, both_true}
 use Rattle.ptb_serve.proofs.Fronts.{no_front, no_share, share_true}
 use Rattle.ptb_serve.proofs.Listed.{reply-listed, reply-refused}
-use Rattle.ptb_serve.proofs.Shares.{share_replies, splits_runs}
+use Rattle.ptb_serve.proofs.ShareReplies.{share_replies, splits_runs}
 
 -- ---- a text that is refused
 

@@ -1,6 +1,6 @@
 -- This file proves goals of `write` by short searches, so that a planted bug is refused soon.
 use Rattle.std.proofs.Common.{rules}
-use Rattle.ptb_serve.proofs.flushing_writer.FlushingWrite.write.Goals as goal
+use Rattle.ptb_serve.proofs.flushing_writer.FlushingWriterWrite.write.Goals as goal
 
 pub returns-clause-count : goal.returns-clause-count
 returns-clause-count g c = search rules fits 50 depth 2
