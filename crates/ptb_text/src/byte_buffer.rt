@@ -41,7 +41,7 @@ impl<const N: usize> ByteBuffer<N> {
         ensures value { result ≡ length self.now }
         ensures fits { result ≤ N }
     {
-        self.count
+        N - self.room()
     }
 
     /// How many bytes there is still room for.
@@ -99,14 +99,21 @@ impl<const N: usize> ByteBuffer<N> {
         match bytes {
             [] => {}
             [byte] => self.push(*byte),
-            _ => {
-                let from = self.count;
-                let to = from + bytes.len();
-                let all = &mut self.bytes[..];
-                all[from..to].copy_from_slice(bytes);
-                self.count = to;
-            }
+            _ => self.copy(bytes),
         }
+    }
+
+    // Adds bytes by a call that copies them.
+    #[inline(always)]
+    fn copy(&mut self, bytes: &[u8])
+        requires { length self.old + length bytes.now ≤ N }
+        ensures { self.new ≡ self.old ++ bytes.now }
+    {
+        let from = self.count;
+        let to = from + bytes.len();
+        let all = &mut self.bytes[..];
+        all[from..to].copy_from_slice(bytes);
+        self.count = to;
     }
 
     /// Adds bytes, if there is room for all of them. Whether there was.
@@ -116,10 +123,23 @@ impl<const N: usize> ByteBuffer<N> {
         ensures full { IsFalse result → self.new ≡ self.old }
         ensures room { IsTrue result ↔ (length self.old + length bytes.now ≤ N) }
     {
-        if bytes.len() > self.room() {
-            return false;
+        let room = self.room();
+        match bytes {
+            [] => true,
+            [byte] => {
+                if room == 0 {
+                    return false;
+                }
+                self.push(*byte);
+                true
+            }
+            _ => {
+                if bytes.len() > room {
+                    return false;
+                }
+                self.copy(bytes);
+                true
+            }
         }
-        self.append(bytes);
-        true
     }
 }
