@@ -11,6 +11,7 @@ ghost use Rattle.ptb_command.specs.Stops.{Comes};
 use crate::output::show;
 use crate::stop::Stop;
 use ptb_devices::Screen;
+use ptb_text::ByteBuffer;
 use std::marker::Model;
 
 /// How many bytes are gathered at most. An item of PRINT shows no more than 255.
@@ -19,18 +20,15 @@ pub const PENDING_LIMIT: usize = 512;
 /// What a command is to show, and hasn't shown yet. It takes no memory. Contracts see its bytes.
 #[derive(Drop)]
 pub struct PendingOutput {
-    bytes: [u8; PENDING_LIMIT],
-    count: usize,
+    buffer: ByteBuffer<PENDING_LIMIT>,
 }
 
 impl Model for PendingOutput {
-    ghost use Rattle.std.specs.Prelude.{◌≡◌, ◌≤◌, List, ℕ, take, length};
+    ghost use Rattle.std.specs.Prelude.{List, ℕ};
 
     ghost Value = { List ℕ };
 
-    ghost view = { λ g. take g.count g.bytes };
-
-    ghost invariant = { λ g. (length g.bytes ≡ 512) × (g.count ≤ 512) };
+    ghost view = { λ g. g.buffer };
 }
 
 impl PendingOutput {
@@ -39,8 +37,7 @@ impl PendingOutput {
         ensures { result ≡ [] }
     {
         PendingOutput {
-            bytes: [0; PENDING_LIMIT],
-            count: 0,
+            buffer: ByteBuffer::new(),
         }
     }
 
@@ -48,7 +45,7 @@ impl PendingOutput {
     pub fn as_slice(&self) -> &[u8]
         ensures { result.now ≡ self.now }
     {
-        &self.bytes[..self.count]
+        self.buffer.as_slice()
     }
 
     /// Takes what was gathered away.
@@ -56,43 +53,7 @@ impl PendingOutput {
     pub(crate) fn clear(&mut self)
         ensures { self.new ≡ [] }
     {
-        self.count = 0;
-    }
-
-    // How many bytes there is still room for.
-    #[inline(always)]
-    fn room(&self) -> usize
-        ensures { length self.now + result ≡ PENDING_LIMIT }
-    {
-        PENDING_LIMIT - self.count
-    }
-
-    // Takes a byte, if there is room for it. Whether there was.
-    #[inline(always)]
-    fn try_append_byte(&mut self, byte: u8) -> bool
-        ensures taken { IsTrue result → self.new ≡ self.old ++ byte ∷ [] }
-        ensures full { IsFalse result → self.new ≡ self.old }
-        ensures room { IsTrue result ↔ (length self.old + 1 ≤ PENDING_LIMIT) }
-    {
-        if self.room() == 0 {
-            return false;
-        }
-        self.bytes[self.count] = byte;
-        self.count += 1;
-        true
-    }
-
-    // Takes bytes for all of which there is room.
-    #[inline(always)]
-    fn append(&mut self, bytes: &[u8])
-        requires { length self.old + length bytes.now ≤ PENDING_LIMIT }
-        ensures { self.new ≡ self.old ++ bytes.now }
-    {
-        let from = self.count;
-        let to = from + bytes.len();
-        let all = &mut self.bytes[..];
-        all[from..to].copy_from_slice(bytes);
-        self.count = to;
+        self.buffer.clear();
     }
 
     /// Takes bytes, if there is room for all of them. Whether there was.
@@ -102,19 +63,7 @@ impl PendingOutput {
         ensures full { IsFalse result → self.new ≡ self.old }
         ensures room { IsTrue result ↔ (length self.old + length bytes.now ≤ PENDING_LIMIT) }
     {
-        let room = self.room();
-        match bytes {
-            // no byte, or one, as most strings and prompts have, costs less than a call that copies it
-            [] => true,
-            [byte] => self.try_append_byte(*byte),
-            _ => {
-                if bytes.len() > room {
-                    return false;
-                }
-                self.append(bytes);
-                true
-            }
-        }
+        self.buffer.try_append(bytes)
     }
 
     /// Takes bytes and others after them, if there is room for all of them. Whether there was.
@@ -125,12 +74,12 @@ impl PendingOutput {
         ensures room { IsTrue result ↔
             (length self.old + (length first.now + length second.now) ≤ PENDING_LIMIT) }
     {
-        let room = self.room();
+        let room = self.buffer.room();
         if first.len() > room || second.len() > room - first.len() {
             return false;
         }
-        self.append(first);
-        self.append(second);
+        self.buffer.append(first);
+        self.buffer.append(second);
         true
     }
 

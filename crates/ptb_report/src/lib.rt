@@ -8,7 +8,6 @@
 
 mod report;
 mod report_writer;
-mod text;
 
 pub use report::write_list;
 pub use report_writer::ReportWriter;

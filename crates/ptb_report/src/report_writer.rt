@@ -10,11 +10,13 @@ ghost use Rattle.ptb_report.specs.Report.{asked_items, field, report_ending, rep
 ghost use Rattle.ptb_report.specs.Begun.{begun, item_of, items_of, AreEnds, BeginsWith, KeepsItem};
 
 use crate::report::write_in_pieces;
-use crate::text::{MOST_BYTES, Text};
 use arrayvec::ArrayVec;
 use itoa::Buffer;
 use ptb_answers::{Asked, Form};
-use ptb_text::{DeviceFault, Write};
+use ptb_text::{ByteBuffer, DeviceFault, Write};
+
+// How many bytes of a report are gathered at most.
+const MOST_BYTES: usize = 4096;
 
 // How many items are kept at most.
 const MOST_ITEMS: usize = 256;
@@ -30,6 +32,9 @@ const NUMBERS_ROOM: usize = 48;
 
 // The items that a text begins with.
 type Kept = ArrayVec<KeptItem, 256>;
+
+// The text of a report, on the stack, since a report takes no memory.
+type Text = ByteBuffer<MOST_BYTES>;
 
 /// An item of a header.
 #[derive(Clone, Copy, Default)]

@@ -7,6 +7,7 @@
 //! was put into it, in this order).
 #![tactic(auto)]
 
+mod byte_buffer;
 mod byte_streams;
 mod device;
 mod fault;
@@ -17,6 +18,7 @@ mod loader;
 mod output_buffer;
 mod program;
 
+pub use byte_buffer::ByteBuffer;
 pub use byte_streams::{ByteSink, ByteSource};
 pub use device::{Device, DeviceFault, Read, Write};
 pub use fault::LoadFault;

@@ -6,8 +6,8 @@ ghost use Rattle.std.specs.Io.KnownBytes.{Appends};
 ghost use Rattle.std.specs.List.{flat_map};
 ghost use Rattle.ptb_text.specs.Device.{Gathers, HasFailed, TakesSome};
 
+use crate::byte_buffer::ByteBuffer;
 use crate::{DeviceFault, Write};
-use arrayvec::ArrayVec;
 use std::marker::Model;
 
 /// Bytes that wait to be written, at most `N` of them, so that a writer gets many at once. They are
@@ -17,13 +17,13 @@ use std::marker::Model;
 /// taken a prefix of what waited and of what was to be put after it.
 #[derive(Drop)]
 pub struct OutputBuffer<const N: usize> {
-    pending: ArrayVec<u8, N>,
+    pending: ByteBuffer<N>,
 }
 
 impl<const N: usize> Model for OutputBuffer<N> {
     ghost Value = { List ℕ };
 
-    ghost view = { λ b. b.pending.items };
+    ghost view = { λ b. b.pending };
 }
 
 impl<const N: usize> OutputBuffer<N> {
@@ -32,7 +32,7 @@ impl<const N: usize> OutputBuffer<N> {
         ensures { result ≡ [] }
     {
         OutputBuffer {
-            pending: ArrayVec::new(),
+            pending: ByteBuffer::new(),
         }
     }
 
@@ -53,11 +53,11 @@ impl<const N: usize> OutputBuffer<N> {
             → self.new ≡ self.old ++ bytes.now }
         ensures unwritten { length self.old + length bytes.now ≤ N → writer.new ≡ writer.old }
     {
-        if self.takes(bytes) {
+        if self.pending.try_append(bytes) {
             return Ok(());
         }
         self.flush(writer)?;
-        if self.takes(bytes) {
+        if self.pending.try_append(bytes) {
             return Ok(());
         }
         writer.write_all(bytes)
@@ -101,16 +101,6 @@ impl<const N: usize> OutputBuffer<N> {
     {
         self.put_all(writer, pieces)?;
         self.flush(writer)
-    }
-
-    // Adds bytes, if there is room for them. Whether there was.
-    #[inline(always)]
-    fn takes(&mut self, bytes: &[u8]) -> bool
-        ensures taken { IsTrue result → self.new ≡ self.old ++ bytes.now }
-        ensures full { IsFalse result → self.new ≡ self.old }
-        ensures room { IsTrue result ↔ (length self.old + length bytes.now ≤ N) }
-    {
-        self.pending.try_extend_from_slice(bytes).is_ok()
     }
 
     // Writes what waits.
