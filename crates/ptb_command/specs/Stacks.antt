@@ -8,7 +8,10 @@
 --     ClosesNewer x old new result                           the loop of the variable x, if there is one, becomes the
 --                                                            newest
 --     ClosesNewest old new                                   the newest loop or call is closed, if one is open
-use Rattle.std.specs.Prelude.{◌≡◌, ℕ, ◌==◌, if◌then◌else◌, List, [], ◌∷◌, Option, Some, None}
+--     FindsOpen make os newest result                        the newest one of a kind, if there is one, is found in a
+--                                                            list with the newest last: how many are below it
+use Rattle.std.specs.Prelude.{◌≡◌, ℕ, ◌+◌, ◌==◌, if◌then◌else◌, List, [], ◌∷◌, ◌++◌, Option, Some, None, IfSome}
+use Rattle.std.specs.Prelude.{option_map, reverse, take}
 use Rattle.ptb_command.specs.declared.location.Location.{Location}
 use Rattle.ptb_command.specs.declared.stack.OpenLoop.{OpenLoop}
 use Rattle.ptb_command.specs.declared.stack.Open.{Open}
@@ -50,3 +53,8 @@ ClosesNewer x old new (Some m) = (below : List Open) × (loop_of x old ≡ Some 
 abbrev pub ClosesNewest : List Open → List Open → Type 0
 ClosesNewest [] new = new ≡ []
 ClosesNewest (o ∷ os) new = new ≡ os
+
+pub record FindsOpen {A : Type 0} (make : A → Open) (os : List Open) (newest : Option (A × List Open))
+    (result : Option (ℕ × A)) : Type 0 where
+  pub found : newest ≡ option_map (λ x. (x.1, reverse (take x.0 os))) result
+  pub there : IfSome result (λ x. take (x.0 + 1) os ≡ take x.0 os ++ make x.1 ∷ [])

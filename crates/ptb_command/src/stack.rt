@@ -3,7 +3,7 @@
 ghost use Rattle.std.specs.Prelude.{◌≡◌, ◌+◌, ◌<◌, ◌≤◌, ◌↔◌, [], ◌∷◌, ◌++◌, length, reverse, take};
 ghost use Rattle.std.specs.Prelude.{IfSome, IsSome, IsTrue, IsFalse, MatchBool, Some, None, option_map};
 ghost use Rattle.ptb_command.specs.declared.stack.OpenLoop.{OpenLoop};
-ghost use Rattle.ptb_command.specs.Stacks.{call_of, loop_of, newest_loop, newest_return, without};
+ghost use Rattle.ptb_command.specs.Stacks.{FindsOpen, call_of, loop_of, newest_loop, newest_return, without};
 ghost use Rattle.ptb_command.specs.Stacks.{ClosesCall, ClosesNewer, ClosesNewest};
 ghost use Rattle.ptb_command.specs.State.{nesting_limit};
 
@@ -344,10 +344,7 @@ pub(crate) fn same_opens(opens: &[Open], others: &[Open]) -> bool
 
 // How many are open below the newest call, and the place to which it returns.
 fn newest_call(opens: &[Open]) -> Option<(usize, Location)>
-    ensures found { call_of (reverse opens.now)
-        ≡ option_map (λ x. (x.1, reverse (take x.0 opens.now))) result }
-    ensures there { IfSome result
-        (λ x. take (x.0 + 1) opens.now ≡ take x.0 opens.now ++ Open.Call x.1 ∷ []) }
+    ensures { FindsOpen Open.Call opens.now (call_of (reverse opens.now)) result }
 {
     let mut k = opens.len();
     'levels: while k > 0 {
@@ -361,10 +358,7 @@ fn newest_call(opens: &[Open]) -> Option<(usize, Location)>
 
 // How many are open below the newest level's loop of a variable, and that loop.
 fn newest_loop(opens: &[Open], letter: Letter) -> Option<(usize, OpenLoop)>
-    ensures found { loop_of letter (reverse opens.now)
-        ≡ option_map (λ x. (x.1, reverse (take x.0 opens.now))) result }
-    ensures there { IfSome result
-        (λ x. take (x.0 + 1) opens.now ≡ take x.0 opens.now ++ Open.Loop x.1 ∷ []) }
+    ensures { FindsOpen Open.Loop opens.now (loop_of letter (reverse opens.now)) result }
 {
     let mut k = opens.len();
     'levels: while k > 0 {

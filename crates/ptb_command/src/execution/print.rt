@@ -1,14 +1,13 @@
 // This file shows what the operations of a command show.
 
-ghost use Rattle.std.specs.Prelude.{◌≡◌, ◌++◌, ◌∷◌, [], ℕ, ℤ, Bool, List, IsOk};
+ghost use Rattle.std.specs.Prelude.{◌≡◌, ◌++◌, ◌∷◌, [], ℕ, ℤ, Bool, List};
 ghost use Rattle.std.specs.Fmt.{signed_decimal};
 ghost use Rattle.ptb_expr.specs.Store.{Cells};
-ghost use Rattle.ptb_expr.specs.Translation.{HasNoValue};
 ghost use Rattle.ptb_expr.specs.Tree.{Tree};
 ghost use Rattle.ptb_expr.specs.Value.{or_fault};
 ghost use Rattle.ptb_command.specs.Act.{first_width, padded_decimal, parts_action, width_of};
 ghost use Rattle.ptb_command.specs.Actions.{goes_on, show, work_action};
-ghost use Rattle.ptb_command.specs.Code.{AreStepsAt, IsIn, IsLiteralIn, bytes_in, literal_bytes};
+ghost use Rattle.ptb_command.specs.Code.{AreStepsAt, FailsWithoutValue, IsIn, IsLiteralIn, bytes_in, literal_bytes};
 ghost use Rattle.ptb_command.specs.Commands.{Part, Show, Width};
 ghost use Rattle.ptb_command.specs.Devices.{Devices, nothing_refused, refused_answers, with_choices};
 ghost use Rattle.ptb_command.specs.CommandIo.{due_trace, SameDevices};
@@ -152,8 +151,7 @@ pub(crate) fn show_expression<C: Chooser, S: Screen, L: LineSource>(
         (due_trace C.choices S.Screen L.most io.new given store.now output.new.pending)
         (parts_action (Show x ∷ rest) output.old.width operands)
         (λ _. parts_action rest output.new.width operands) result }
-    ensures valued { (x : Tree) → AreStepsAt steps.now expression x → HasNoValue x →
-        IsOk result → ⊥ }
+    ensures valued { FailsWithoutValue steps.now expression result }
     ensures same { SameDevices io.old io.new }
 {
     let value = short_value(steps, expression, store, io.chooser)?;
@@ -177,8 +175,7 @@ pub(crate) fn new_width<C: Chooser>(
         (with_due due (trace (with_choices (C.choices chooser.new) d) fresh store.now))
         (parts_action (Width x mark ∷ rest) w operands)
         (λ width. parts_action rest width operands) result }
-    ensures valued { (x : Tree) → AreStepsAt steps.now expression x → HasNoValue x →
-        IsOk result → ⊥ }
+    ensures valued { FailsWithoutValue steps.now expression result }
 {
     let value = short_value(steps, expression, store, chooser)?;
     width_of(value, usize::from(mark))

@@ -6,11 +6,8 @@ use Rattle.ptb_command.proofs.stack.newest_call.Goals as goal
 pub levels-init : goal.levels-init
 levels-init c = grind (arith, common_steps)
 
-pub returns-in-Call-clause-found : goal.returns-in-Call-clause-found
-returns-in-Call-clause-found c = grind (arith, common_steps)
-
 pub levels-preserved : goal.levels-preserved
 levels-preserved c = grind (arith, common_steps)
 
-pub returns-in-Call-clause-there : goal.returns-in-Call-clause-there
-returns-in-Call-clause-there c = grind (arith, common_steps)
+pub returns-in-Call : goal.returns-in-Call
+returns-in-Call c = record { found = grind (arith, common_steps); there = grind (arith, common_steps) }

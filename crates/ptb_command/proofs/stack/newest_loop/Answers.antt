@@ -6,14 +6,11 @@ use Rattle.ptb_command.proofs.stack.newest_loop.Goals as goal
 pub levels-init : goal.levels-init
 levels-init c = grind (arith, common_steps)
 
-pub returns-in_default-clause-found : goal.returns-in_default-clause-found
-returns-in_default-clause-found c = grind (arith, common_steps)
+pub returns-in_default : goal.returns-in_default
+returns-in_default c = record { found = grind (arith, common_steps); there = tt }
 
-pub returns-then-eq-clause-found : goal.returns-then-eq-clause-found
-returns-then-eq-clause-found c = grind (arith, common_steps)
-
-pub returns-then-eq-clause-there : goal.returns-then-eq-clause-there
-returns-then-eq-clause-there c = grind (arith, common_steps)
+pub returns-then-eq : goal.returns-then-eq
+returns-then-eq c = record { found = grind (arith, common_steps); there = grind (arith, common_steps) }
 
 pub levels-preserved : goal.levels-preserved
 levels-preserved c = grind (arith, common_steps)
