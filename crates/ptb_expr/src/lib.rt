@@ -13,6 +13,7 @@
 //! of answers.
 #![tactic(auto)]
 
+mod actions;
 mod direct;
 mod eval;
 mod fault;
