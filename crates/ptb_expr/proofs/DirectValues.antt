@@ -2,6 +2,7 @@
 -- Main lemma: `expression_valued`.
 use Rattle.std.proofs.Common.{◌≡◌, ◌∙◌, ℕ, ℤ, List, Option, Some, None, Result, Ok, Err, refl, sym, ap}
 use Rattle.std.specs.Prelude.{IfSome}
+use Rattle.std.specs.Result.{result_ok}
 use Rattle.ptb_answers.specs.Outcome.{◌>>=◌, success}
 use Rattle.ptb_expr.specs.declared.actions.Unary.{Unary}
 use Rattle.ptb_expr.specs.declared.actions.Unary.TheVariants.{Itself, Element, Absolute, Minus}
@@ -14,6 +15,11 @@ use Rattle.ptb_expr.specs.Spells.{Expr, SpellingLaws}
 use Rattle.ptb_expr.specs.Store.{Cells, value_at, element_of}
 use Rattle.ptb_expr.specs.Tree.{Tree, Num, Var, Size, Elem, Abs, Neg, Bin}
 use Rattle.ptb_expr.specs.Value.{operation, negation, absolute_value, or_fault, value}
+
+-- what holds of the value of a result
+pub if_valued : (r : Result ℤ FaultKind) (P : ℤ → Type 0) → ((v : ℤ) → r ≡ Ok v → P v) → IfSome (result_ok r) P
+if_valued (Ok v) P f = f v refl
+if_valued (Err kind) P f = tt
 
 -- ---- the value of a tree, from those of its parts
 

@@ -13,7 +13,7 @@ returns g c =
     let i = c.args.cursor.now.place in
     let spelled = c.spelling_laws.ensures.expression_spelled t i in
     let code = coded c.spelling_laws.ensures t Expr i c.read_expr.new.cursor.place
-    (expression t i) c.read_expr.new.steps c.read_expr.result spelled
+    (expression t i) c.read_expr.new.actions c.read_expr.result spelled
     (rw c.clear.ensures at (if_some c.read_expr.result _ _ c.read_expr.ensures.reads (λ v h. h t refl)))
     (λ none. rw c.clear.ensures at (c.read_expr.ensures.fails none refl t refl)) in
     let value = worked_out _ _ _ _ _ _ _ _ code c.run.ensures in
