@@ -1,19 +1,18 @@
 -- This file proves which values the parts of an expression have that is evaluated while it is read.
 -- Main lemma: `expression_valued`.
-use Rattle.std.proofs.Common.{◌≡◌, ◌∙◌, ℕ, ℤ, List, Option, Some, None, Result, Ok, Err, refl, sym, ap}
+use Rattle.std.proofs.Common.{◌≡◌, ◌∙◌, ℕ, ℤ, List, Result, Ok, Err, refl, sym, ap}
 use Rattle.std.specs.Prelude.{IfSome}
 use Rattle.std.specs.Result.{result_ok}
 use Rattle.ptb_answers.specs.Outcome.{◌>>=◌, success}
-use Rattle.ptb_expr.specs.declared.actions.Unary.{Unary}
 use Rattle.ptb_expr.specs.declared.actions.Unary.TheVariants.{Itself, Element, Absolute, Minus}
 use Rattle.ptb_expr.specs.declared.fault.FaultKind.{FaultKind}
 use Rattle.ptb_expr.specs.declared.operator.Operator.{Operator}
 use Rattle.ptb_expr.specs.Actions.{MakesUnary, MakesBinary, ReadsWhole}
 use Rattle.ptb_expr.specs.Direct.{IsValued}
-use Rattle.ptb_expr.specs.Reading.{Reading, expression, item_of}
+use Rattle.ptb_expr.specs.Reading.{expression, item_of}
 use Rattle.ptb_expr.specs.Spells.{Expr, SpellingLaws}
 use Rattle.ptb_expr.specs.Store.{Cells, value_at, element_of}
-use Rattle.ptb_expr.specs.Tree.{Tree, Num, Var, Size, Elem, Abs, Neg, Bin}
+use Rattle.ptb_expr.specs.Tree.{Num, Var, Size}
 use Rattle.ptb_expr.specs.Value.{operation, negation, absolute_value, or_fault, value}
 
 -- what holds of the value of a result
