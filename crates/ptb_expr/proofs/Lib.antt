@@ -14,6 +14,8 @@ pub mod TreeSteps
 pub mod Written
 pub mod PlainSteps
 pub mod AddedSteps
+pub mod ReadParts
+pub mod Starts
 pub mod Runs
 pub mod Coded
 pub mod DirectValues

@@ -14,6 +14,8 @@ pub use Rattle.ptb_words.specs.Words
 pub use Rattle.ptb_words.specs.Finding
 pub mod TreeSteps
 pub mod Direct
+pub mod Actions
+pub mod Starts
 pub mod Translation
 pub mod Short
 pub mod Saved

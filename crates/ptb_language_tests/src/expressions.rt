@@ -6,7 +6,7 @@ ghost use Rattle.ptb_words.specs.Words.{is_letter};
 use crate::shared::{cursor_in_front, expect_same};
 use ptb_expr::{
     Chooser, Fault, FaultKind, Listed, Operator, Pause, SavedStore, Seeded, ShortValue, Step,
-    Steps, Stop, Store, Target, answer_to, evaluate, plain_value, read_value, target,
+    Steps, Stop, Store, Target, answer_to, direct_value, evaluate, plain_value, read_value, target,
 };
 use ptb_words::{Cursor, Letter};
 use rand_core::utils::NextWord;
@@ -256,6 +256,8 @@ fn long_texts(rt: HostRuntime) {
         (Ok((0, 200)), 0),
     ];
     expect_same(&rt, "long texts", found, wanted);
+    expect_direct(&rt, &store, &nested, Some(1));
+    expect_direct(&rt, &store, &[b'('; 253], None);
 }
 
 // What a variable names, and the place where the cursor is left.
@@ -687,6 +689,13 @@ fn plainly(rt: &impl Abort, store: &Store, text: &[u8]) -> (usize, Option<i16>) 
     (cursor.place(), plain_value(steps.as_slice(), store))
 }
 
+// Tests that the expression at the front of a text has this value where it is evaluated while it is read.
+fn expect_direct(rt: &impl Abort, store: &Store, text: &[u8], value: Option<i16>) {
+    assert!(rt; text.len() <= 255);
+    let found = direct_value(text, store);
+    expect_same(rt, "evaluated while it is read", found, value);
+}
+
 // A text, its value, and the place after its expression.
 const PLAIN_VALUES: &[(&str, i16, usize)] = &[
     ("7", 7, 1),
@@ -720,18 +729,19 @@ const PLAIN_VALUES: &[(&str, i16, usize)] = &[
     ("1+1+1+1+1+1+1+1+1+1+1+1+1+1+1+1+1+1+1+1+1+1+1+1+1", 25, 49),
 ];
 
-// An expression that asks nothing and has a value has it plainly, and otherwise, too.
+// An expression that asks nothing and has a value has it plainly, while it is read, and otherwise, too.
 #[test]
 fn plain_values(rt: HostRuntime) {
     let store = lettered_store(&rt, rt.alloc());
     for &(text, value, place) in PLAIN_VALUES {
         let found = plainly(&rt, &store, text.as_bytes());
         expect_same(&rt, text, found, (place, Some(value)));
+        expect_direct(&rt, &store, text.as_bytes(), Some(value));
         expect_worth(&rt, &store, text, &[], Ok((value, place)), 0);
     }
 }
 
-// Texts of expressions that have no value, that ask, or in which too many values wait.
+// Texts of expressions that have no value, or that ask.
 const NOT_PLAIN: &[&str] = &[
     "32767+1",
     "-(-32767-1)",
@@ -757,7 +767,6 @@ const NOT_PLAIN: &[&str] = &[
     "A/0",
     "(A-B)/(A-A)",
     "@(I)/@(0)",
-    "A-(A-(A-(A-(A-(A-(A-(A-(A-(A-(A-(A-(A-0))))))))))))",
 ];
 
 #[test]
@@ -766,7 +775,18 @@ fn not_plain(rt: HostRuntime) {
     for &text in NOT_PLAIN {
         let (_, found) = plainly(&rt, &store, text.as_bytes());
         expect_same(&rt, text, found, None);
+        expect_direct(&rt, &store, text.as_bytes(), None);
     }
+}
+
+// Too many values wait in these steps; nothing waits where no step is made.
+#[test]
+fn many_values_wait(rt: HostRuntime) {
+    let store = lettered_store(&rt, rt.alloc());
+    let text = b"A-(A-(A-(A-(A-(A-(A-(A-(A-(A-(A-(A-(A-0))))))))))))";
+    let (_, found) = plainly(&rt, &store, text);
+    expect_same(&rt, "steps", found, None);
+    expect_direct(&rt, &store, text, Some(5));
 }
 
 // The value of the expression at the front of a text by its short form. `None` if it asks, and
