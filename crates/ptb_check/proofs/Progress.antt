@@ -8,7 +8,7 @@ use Rattle.std.specs.Io.KnownBytes.{Appends}
 use Rattle.std.proofs.KnownBytes.{Appends-trans}
 use Rattle.std.proofs.Math.Seq.{take-append-add}
 use Rattle.std.proofs.lemmas.List.{take-append-le}
-use Rattle.ptb_text.specs.declared.listing.WriteFault.{WriteFault}
+use Rattle.ptb_text.specs.declared.device.DeviceFault.{DeviceFault}
 use Rattle.ptb_check.specs.Mistakes.{Mistake, mistake_text}
 use Rattle.ptb_check.specs.WrittenMistakes.{WritesMistakes, has_any, texts}
 
@@ -64,7 +64,7 @@ all_written {a} {b} {any} {all} {rest} none before =
     }
 
 pub not_written : {a b : Option (List ℕ)} {any : Bool} {all rest : List Mistake} (c : Option (List ℕ))
-    (fault other : WriteFault) (due others : List Mistake)
+    (fault other : DeviceFault) (due others : List Mistake)
     → rest ≡ due ++ others
     → IsWrittenUpTo a b any all rest → WritesMistakes due b c (Err fault) → WritesMistakes all a c (Err other)
 not_written {a} {b} {any} {all} {rest} c fault other due others parts before now =

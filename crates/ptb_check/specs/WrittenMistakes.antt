@@ -6,7 +6,7 @@
 use Rattle.std.specs.Prelude.{◌≡◌, ℕ, Bool, true, false, List, [], ◌∷◌, flat_map, Option, Result, IfOk, OnErr, OnOk}
 use Rattle.std.specs.Io.KnownBytes.{Appends}
 use Rattle.ptb_text.specs.Device.{TakesSome}
-use Rattle.ptb_text.specs.declared.listing.WriteFault.{WriteFault}
+use Rattle.ptb_text.specs.declared.device.DeviceFault.{DeviceFault}
 use Rattle.ptb_check.specs.Mistakes.{Mistake, mistake_text}
 
 abbrev pub texts : List Mistake → List ℕ
@@ -18,7 +18,7 @@ has_any (mistake ∷ others) = true
 
 -- the writer took `old` before, and `new` after
 pub record WritesMistakes (due : List Mistake) (old new : Option (List ℕ))
-    (result : Result Bool WriteFault) : Type 0 where
+    (result : Result Bool DeviceFault) : Type 0 where
   -- all of them were written; `any` is whether there is one
   pub ok : OnOk result (Appends old new (texts due))
   pub any : IfOk result (λ any. any ≡ has_any due)

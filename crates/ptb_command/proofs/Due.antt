@@ -24,7 +24,9 @@ due_stays (b ∷ due) (stops.Fault f) h = refl
 due_stays (b ∷ due) stops.Ended h = refl
 due_stays (b ∷ due) stops.NoInput h = cc
 due_stays (b ∷ due) (stops.Pause z) h = refl
-due_stays (b ∷ due) (stops.DeviceFailed x) h = cc
+due_stays (b ∷ due) stops.Memory h = cc
+due_stays (b ∷ due) stops.Unread h = cc
+due_stays (b ∷ due) stops.Unwritten h = cc
 
 pub due_goes : (due : List ℕ) (e : Stop) → is_shown_at e ≡ false → still_due due e ≡ []
 due_goes [] e h = refl
@@ -32,7 +34,9 @@ due_goes (b ∷ due) (stops.Fault f) h = cc
 due_goes (b ∷ due) stops.Ended h = cc
 due_goes (b ∷ due) stops.NoInput h = refl
 due_goes (b ∷ due) (stops.Pause z) h = cc
-due_goes (b ∷ due) (stops.DeviceFailed x) h = refl
+due_goes (b ∷ due) stops.Memory h = refl
+due_goes (b ∷ due) stops.Unread h = refl
+due_goes (b ∷ due) stops.Unwritten h = refl
 
 -- what is dropped is left to do
 pub refines_part_dropped : {A : Type 0} {o n : Trace} {f g : State → Answers → Outcome A State} → RefinesPart o n f g

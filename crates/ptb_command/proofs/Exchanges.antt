@@ -8,8 +8,8 @@ use Rattle.std.specs.Io.KnownBytes.{Appends}
 use Rattle.ptb_text.specs.Device.{HasFailed}
 use Rattle.ptb_answers.specs.Outcome.{Answers}
 use Rattle.ptb_answers.specs.Choices.{Choices, with_answers, with_bounds}
-use Rattle.ptb_command.specs.declared.stop.DeviceError.{DeviceError}
-use Rattle.ptb_command.specs.declared.stop.DeviceError.TheVariants as errors
+use Rattle.ptb_command.specs.Breakage.{Breakage}
+use Rattle.ptb_command.specs.Breakage as errors
 use Rattle.ptb_devices.specs.declared.fault.ReadFault.TheVariants as faults
 use Rattle.ptb_command.specs.Devices.{ScreenState, Devices, Exchange, no_exchange, both_exchanges}
 use Rattle.ptb_command.specs.Devices.{Shows, Exchanges, MayFollow, Refusal, Unanswered, Unread}
@@ -116,7 +116,7 @@ unread_from refused others more h = record {
 -- what has broken since then has broken since before, where no write has failed between, and for whoever sees more
 -- refusals
 pub has_broken_from : (refused others : Refusal → Type 0) → ((r : Refusal) → refused r → others r)
-    → (a b c : ScreenState) → b.failures ≡ a.failures → b.takes_memory ≡ a.takes_memory → (e : DeviceError)
+    → (a b c : ScreenState) → b.failures ≡ a.failures → b.takes_memory ≡ a.takes_memory → (e : Breakage)
     → HasBroken refused b c e → HasBroken others a c e
 has_broken_from refused others more a b c same memory errors.Memory h =
     (no_memory_from refused others a.takes_memory b.takes_memory (sym memory) more h.0, h.1 ∙ same)

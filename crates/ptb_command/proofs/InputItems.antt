@@ -23,8 +23,8 @@ use Rattle.ptb_expr.specs.Value.{Work, fault, random_number, chosen, value}
 use Rattle.ptb_command.specs.declared.ending.Ending.TheVariants as endings
 use Rattle.ptb_devices.specs.declared.fault.ReadFault.{ReadFault}
 use Rattle.ptb_devices.specs.declared.fault.ReadFault.TheVariants as reads
-use Rattle.ptb_command.specs.declared.stop.DeviceError.{DeviceError}
-use Rattle.ptb_command.specs.declared.stop.DeviceError.TheVariants as errors
+use Rattle.ptb_command.specs.Breakage.{Breakage}
+use Rattle.ptb_command.specs.Breakage as errors
 use Rattle.ptb_command.specs.declared.stop.Stop.{Stop}
 use Rattle.ptb_command.specs.declared.stop.Stop.TheVariants as stops
 use Rattle.ptb_command.specs.Commands.{Part, Take}
@@ -41,7 +41,8 @@ use Rattle.ptb_command.specs.Devices.{Devices, Exchanges, no_exchange, with_choi
 use Rattle.ptb_command.specs.Devices.{Unanswered, Unread, NoLine, refused_answers, refused_by}
 use Rattle.ptb_command.specs.Devices.{HasBroken}
 use Rattle.ptb_command.specs.Traces.{Trace, trace, with_due, still_due, after, once_shown, RefinesPart}
-use Rattle.ptb_command.specs.Stops.{stop_of, stop_of_read, LacksLine, WantsLine, Stops, RefinesPartTo, Comes}
+use Rattle.ptb_command.specs.Stops.{stop_of, stop_of_read, LacksLine, WantsLine, DeviceFails, Stops}
+use Rattle.ptb_command.specs.Stops.{RefinesPartTo, Comes}
 use Rattle.ptb_command.proofs.Effects.{takes_joined, ask_lines, input_part, input_takes}
 use Rattle.ptb_command.proofs.Exchanges.{shows_nothing, with_answers_nil}
 use Rattle.ptb_command.proofs.PartRefinement.{leaves_to, leaves_itself, after_nothing, once_nothing}
@@ -464,16 +465,16 @@ module _ (said : List ℕ) (x : Tree) (prompt : List ℕ) where
   lacks_line at S (Some n) e = λ h. ap (λ (f : Answers → Outcome (Progress (Unit {0})) State). f []) e
       ∙ instead_asks n at h S
 
-  line_wanted : (at : Target) (e : DeviceError) → WantsLine e (Halts (Ends endings.NoInput)) [] (wants at)
+  line_wanted : (at : Target) (e : Breakage) → WantsLine e (Halts (Ends endings.NoInput)) [] (wants at)
   unfolding wants answer_by
   line_wanted at errors.Read = (refl, λ S k. lacks_line at S S.choose (ap (λ ls. answer_by at ls S) k))
   line_wanted at errors.Memory = tt
   line_wanted at errors.Write = tt
 
-  unread : (refused : Refusal → Type 0) {o m : Trace} (most : ℕ) (at : Target) (e : DeviceError) → most ≤ m.devices.most
+  unread : (refused : Refusal → Type 0) {o m : Trace} (most : ℕ) (at : Target) (e : Breakage) → most ≤ m.devices.most
       → RefinesPart o m (ask_for said x prompt) (goes_on at) → HasBroken refused m.devices.screen m.devices.screen e
-      → Stops refused (RefinesPartTo o (with_most most m) (item_action said x prompt)) (with_most most m).devices
-      (stops.DeviceFailed e)
+      → DeviceFails refused (RefinesPartTo o (with_most most m) (item_action said x prompt))
+      (with_most most m).devices action_state (Halts (Ends endings.NoInput)) e
   unread refused {m = m} most at e fewer a h = record {
     left = wants at;
     screen = m.devices.screen;

@@ -9,7 +9,6 @@ use Rattle.std.proofs.lemmas.Result.{err_from_is_err_and}
 use Rattle.ptb_devices.specs.declared.fault.ReadFault.{ReadFault}
 use Rattle.ptb_devices.specs.declared.fault.ReadFault.TheVariants as reads
 use Rattle.ptb_devices.specs.Sources.{given_lines}
-use Rattle.ptb_command.specs.declared.stop.DeviceError.TheVariants as errors
 use Rattle.ptb_command.specs.declared.stop.Stop.{Stop}
 use Rattle.ptb_command.specs.declared.stop.Stop.TheVariants as stops
 use Rattle.ptb_command.specs.Stops.{still_shows, Miss, NoMiss, LineMiss, MemoryMiss, UnlessMissed}
@@ -35,7 +34,9 @@ module _ (refused : ReadFault → Type 0) (P : Type 0) where
   missed_none (Err stops.Ended) k h = h
   missed_none (Err stops.NoInput) k h = cc
   missed_none (Err (stops.Pause z)) k h = h
-  missed_none (Err (stops.DeviceFailed e)) k h = cc
+  missed_none (Err stops.Memory) k h = cc
+  missed_none (Err stops.Unread) k h = cc
+  missed_none (Err stops.Unwritten) k h = cc
 
   -- at the exit of a `?`
   pub missed_err : {X : Type 0} (r : Result X Stop) (e : Stop) → IsErrAnd r (λ y. y ≡ e)

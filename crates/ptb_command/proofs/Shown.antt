@@ -14,8 +14,8 @@ use Rattle.ptb_expr.specs.Store.{Cells}
 use Rattle.ptb_devices.specs.declared.fault.ScreenFault.{ScreenFault}
 use Rattle.ptb_devices.specs.declared.fault.ScreenFault.TheVariants as screens
 use Rattle.ptb_command.specs.declared.ending.Ending.TheVariants as endings
-use Rattle.ptb_command.specs.declared.stop.DeviceError.{DeviceError}
-use Rattle.ptb_command.specs.declared.stop.DeviceError.TheVariants as errors
+use Rattle.ptb_command.specs.Breakage.{Breakage}
+use Rattle.ptb_command.specs.Breakage as errors
 use Rattle.ptb_command.specs.Actions.{Ends, Halts, goes_on, show}
 use Rattle.std.specs.Fmt.{signed_decimal}
 use Rattle.ptb_command.specs.Act.{is_fresh, width_of, width_limit, padded_decimal}
@@ -77,7 +77,7 @@ module _ (old new : ScreenState) (d : Devices) (fresh : Bool) (cells : Cells) (b
   }
 
   -- only a part was shown
-  part_shown : (n : ℕ) → Shows old new (take n bytes) → (e : DeviceError)
+  part_shown : (n : ℕ) → Shows old new (take n bytes) → (e : Breakage)
       → WantsLine e (Halts (Ends endings.NoInput)) (take n bytes) (show bytes) → HasBroken nothing_refused old new e
       → DeviceFails nothing_refused (RefinesPartTo (trace (with_screen old d) fresh cells) (trace (with_screen new d)
       fresh cells) (show bytes)) (with_screen new d) action_state (Halts (Ends endings.NoInput)) e

@@ -11,8 +11,8 @@ use Rattle.ptb_answers.specs.Choices.{SaysOut}
 use Rattle.ptb_expr.specs.Store.{Cells}
 use Rattle.ptb_expr.specs.Value.{Work}
 use Rattle.ptb_command.specs.declared.ending.Ending.TheVariants as endings
-use Rattle.ptb_command.specs.declared.stop.DeviceError.{DeviceError}
-use Rattle.ptb_command.specs.declared.stop.DeviceError.TheVariants as errors
+use Rattle.ptb_command.specs.Breakage.{Breakage}
+use Rattle.ptb_command.specs.Breakage as errors
 use Rattle.ptb_command.specs.declared.stop.Stop.{Stop}
 use Rattle.ptb_command.specs.declared.stop.Stop.TheVariants as stops
 use Rattle.ptb_command.specs.State.{State}
@@ -22,7 +22,7 @@ use Rattle.ptb_command.specs.Act.{parts_action}
 use Rattle.ptb_command.specs.Effects.{action_state, Begins, TakesLines}
 use Rattle.ptb_command.specs.Devices.{Devices, with_screen, Refusal, Unanswered, NoLine}
 use Rattle.ptb_command.specs.Traces.{Trace, with_due, still_due, RefinesPart}
-use Rattle.ptb_command.specs.Stops.{AsksNext, Continues, LacksLine, WantsLine, Stops, RefinesPartTo, Comes}
+use Rattle.ptb_command.specs.Stops.{AsksNext, DeviceFails, Continues, LacksLine, WantsLine, Stops, RefinesPartTo, Comes}
 use Rattle.ptb_command.proofs.Effects.{Preserves, begins_itself, begins_joined, takes_itself}
 use Rattle.ptb_command.proofs.Effects.{takes_joined, attempt_state, parts_part, parts_take}
 use Rattle.ptb_command.proofs.Exchanges.{has_broken_from}
@@ -91,7 +91,7 @@ lacks_before into ends over same asks left S (Some n) w = λ h. ap into (w h) �
 pub wants_before : {A B : Type 0} (into : Outcome A State → Outcome B State) (ends : State → A) (over : State → B)
     → ((S : State) (a : Answers) → into (Done (ends S) a) ≡ Done (over S) a)
     → ((n : ℤ) (S : State) → into (Asks n S) ≡ Asks n S)
-    → (part : List ℕ) (left : State → Answers → Outcome A State) (e : DeviceError) → WantsLine e ends part left
+    → (part : List ℕ) (left : State → Answers → Outcome A State) (e : Breakage) → WantsLine e ends part left
     → WantsLine e over part (λ S a. into (left S a))
 wants_before into ends over same asks part left errors.Read w =
     (w.0, λ S k. lacks_before into ends over same asks left S S.choose (w.1 S k))
@@ -126,6 +126,20 @@ continues_before next adds shown left h = record {
 module _ {A B : Type 0} (refused : Refusal → Type 0) (R : Devices → Action A → Type 0) (Q : Devices → Action B
     → Type 0) (next : A → Action B) (adds : (x : A) → Adds (next x)) (under : (d : Devices) (g : Action A) → R d g
     → Q d (and_then g next)) (n : Devices) where
+  breaks_before : (e : Breakage) → DeviceFails refused R n action_state (Halts (Ends endings.NoInput)) e
+      → DeviceFails refused Q n action_state (Halts (Ends endings.NoInput)) e
+  breaks_before e h = record {
+    left = and_then h.left next;
+    screen = h.screen;
+    bytes = h.bytes;
+    comes = under (with_screen h.screen n) h.left h.comes;
+    shows = h.shows;
+    continues = continues_before next adds (λ S. S.shown ++ h.bytes) h.left h.continues;
+    line = wants_before (λ o. go_on o (on_progress next)) (Halts (Ends endings.NoInput)) (Halts (Ends endings.NoInput))
+        (λ S a. refl) (λ n S. refl) h.bytes h.left e h.line;
+    broken = h.broken;
+  }
+
   pub stops_before : (e : Stop) → Stops refused R n e → Stops refused Q n e
   stops_before (stops.Fault f) h = under n _ h
   stops_before stops.Ended h = under n _ h
@@ -145,21 +159,26 @@ module _ {A B : Type 0} (refused : Refusal → Type 0) (R : Devices → Action A
     pause = h.pause;
     refuses = h.refuses;
   }
-  stops_before (stops.DeviceFailed e) h = record {
-    left = and_then h.left next;
-    screen = h.screen;
-    bytes = h.bytes;
-    comes = under (with_screen h.screen n) h.left h.comes;
-    shows = h.shows;
-    continues = continues_before next adds (λ S. S.shown ++ h.bytes) h.left h.continues;
-    line = wants_before (λ o. go_on o (on_progress next)) (Halts (Ends endings.NoInput)) (Halts (Ends endings.NoInput))
-        (λ S a. refl) (λ n S. refl) h.bytes h.left e h.line;
-    broken = h.broken;
-  }
+  stops_before stops.Memory h = breaks_before errors.Memory h
+  stops_before stops.Unread h = breaks_before errors.Read h
+  stops_before stops.Unwritten h = breaks_before errors.Write h
 
 -- what has come from one action has come from another that leads to it, also where more may be refused
 module _ {A : Type 0} (refused others : Refusal → Type 0) (more : (r : Refusal) → refused r → others r) (R Q : Devices
     → Action A → Type 0) (along : (d : Devices) (g : Action A) → R d g → Q d g) (n : Devices) where
+  breaks_along : (e : Breakage) → DeviceFails refused R n action_state (Halts (Ends endings.NoInput)) e
+      → DeviceFails others Q n action_state (Halts (Ends endings.NoInput)) e
+  breaks_along e h = record {
+    left = h.left;
+    screen = h.screen;
+    bytes = h.bytes;
+    comes = along (with_screen h.screen n) h.left h.comes;
+    shows = h.shows;
+    continues = h.continues;
+    line = h.line;
+    broken = has_broken_from refused others more h.screen h.screen n.screen refl refl e h.broken;
+  }
+
   pub stops_along : (e : Stop) → Stops refused R n e → Stops others Q n e
   stops_along (stops.Fault f) h = along n _ h
   stops_along stops.Ended h = along n _ h
@@ -178,16 +197,9 @@ module _ {A : Type 0} (refused others : Refusal → Type 0) (more : (r : Refusal
     pause = h.pause;
     refuses = more (Unanswered z h.bound) h.refuses;
   }
-  stops_along (stops.DeviceFailed e) h = record {
-    left = h.left;
-    screen = h.screen;
-    bytes = h.bytes;
-    comes = along (with_screen h.screen n) h.left h.comes;
-    shows = h.shows;
-    continues = h.continues;
-    line = h.line;
-    broken = has_broken_from refused others more h.screen h.screen n.screen refl refl e h.broken;
-  }
+  stops_along stops.Memory h = breaks_along errors.Memory h
+  stops_along stops.Unread h = breaks_along errors.Read h
+  stops_along stops.Unwritten h = breaks_along errors.Write h
 
 -- ---- from trace to trace
 

@@ -13,7 +13,7 @@ use Rattle.ptb_expr.specs.Store.{Cells}
 use Rattle.ptb_expr.specs.Value.{Work}
 use Rattle.ptb_expr.specs.Evaluate.{WorkComes}
 use Rattle.ptb_command.specs.declared.ending.Ending.TheVariants as endings
-use Rattle.ptb_command.specs.declared.stop.DeviceError.TheVariants as errors
+use Rattle.ptb_command.specs.Breakage as errors
 use Rattle.ptb_command.specs.State.{State}
 use Rattle.ptb_command.specs.Actions.{Ends, Progress, Goes, Halts, goes_on, attempt, or_halt, work_action}
 use Rattle.ptb_command.specs.Effects.{action_state}
@@ -116,7 +116,7 @@ module _ {A : Type 0} (f : Cells → Work A) (c e : Choices) (d : Devices) (fres
       stops_due _ _ _ _ (stops.Pause pauses.Ended) refl (waits refused pauses.Ended tt p)
   has_paused refused (pauses.OutOfRange k) p =
       stops_due _ _ _ _ (stops.Pause (pauses.OutOfRange k)) refl (waits refused (pauses.OutOfRange k) tt p)
-  has_paused refused pauses.Memory p = stops_dropped _ _ _ _ (stops.DeviceFailed errors.Memory) refl (breaks refused p)
+  has_paused refused pauses.Memory p = stops_dropped _ _ _ _ stops.Memory refl (breaks refused p)
 
   -- a value, which the code has as v
   pub has_value : (w v : A) → v ≡ w → Reaches (f cells) c e (success w)

@@ -17,8 +17,8 @@ use Rattle.ptb_answers.specs.Choices.{Choices, with_answers}
 use Rattle.ptb_devices.specs.declared.fault.ReadFault.{ReadFault}
 use Rattle.ptb_devices.specs.declared.fault.ReadFault.TheVariants as faults
 use Rattle.ptb_devices.specs.declared.screen.Screen.{Ghosts}
-use Rattle.ptb_command.specs.declared.stop.DeviceError.{DeviceError}
-use Rattle.ptb_command.specs.declared.stop.DeviceError.TheVariants as errors
+use Rattle.ptb_command.specs.Breakage.{Breakage}
+use Rattle.ptb_command.specs.Breakage as errors
 use Rattle.ptb_devices.specs.Sources.{NoneLeft}
 
 -- ---- what they hold
@@ -149,7 +149,7 @@ pub record IsUnread (refused : Refusal → Type 0) : Type 0 where
   pub by : refused (Unread faults.Read) ⊎ refused (Unread faults.TooLong)
 
 -- a write fails only where the writer is named
-abbrev pub HasBroken : (Refusal → Type 0) → ScreenState → ScreenState → DeviceError → Type 0
+abbrev pub HasBroken : (Refusal → Type 0) → ScreenState → ScreenState → Breakage → Type 0
 HasBroken refused old new errors.Memory = HasNoMemory refused old.takes_memory × (new.failures ≡ old.failures)
 HasBroken refused old new errors.Read = IsUnread refused × (new.failures ≡ old.failures)
 HasBroken refused old new errors.Write = HasFailed old.failures new.failures × (old.failures ≤ new.failures)

@@ -7,6 +7,7 @@ pub mod Act
 pub mod Effects
 pub mod Places
 pub mod Laws
+pub mod Breakage
 pub mod Devices
 pub mod Traces
 pub mod Stops

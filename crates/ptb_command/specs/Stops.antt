@@ -31,8 +31,8 @@ use Rattle.ptb_devices.specs.declared.fault.ReadFault.TheVariants as reads
 use Rattle.ptb_devices.specs.declared.fault.ScreenFault.{ScreenFault}
 use Rattle.ptb_devices.specs.declared.fault.ScreenFault.TheVariants as screens
 use Rattle.ptb_devices.specs.declared.lines.LineSource as sources
-use Rattle.ptb_command.specs.declared.stop.DeviceError.{DeviceError}
-use Rattle.ptb_command.specs.declared.stop.DeviceError.TheVariants as errors
+use Rattle.ptb_command.specs.Breakage.{Breakage}
+use Rattle.ptb_command.specs.Breakage as errors
 use Rattle.ptb_command.specs.declared.stop.Stop.{Stop}
 use Rattle.ptb_command.specs.declared.stop.Stop.TheVariants as stops
 use Rattle.ptb_command.specs.State.{State}
@@ -42,19 +42,19 @@ use Rattle.ptb_command.specs.Devices.{ScreenState, Devices, with_screen, Shows, 
 use Rattle.ptb_command.specs.Traces.{Trace, with_due, still_due, RefinesPart}
 
 abbrev pub stop_of_screen : ScreenFault → Stop
-stop_of_screen screens.Write = stops.DeviceFailed errors.Write
-stop_of_screen screens.Memory = stops.DeviceFailed errors.Memory
+stop_of_screen screens.Write = stops.Unwritten
+stop_of_screen screens.Memory = stops.Memory
 
 abbrev pub stop_of_read : ReadFault → Stop
-stop_of_read reads.Read = stops.DeviceFailed errors.Read
-stop_of_read reads.TooLong = stops.DeviceFailed errors.Read
-stop_of_read reads.Memory = stops.DeviceFailed errors.Memory
+stop_of_read reads.Read = stops.Unread
+stop_of_read reads.TooLong = stops.Unread
+stop_of_read reads.Memory = stops.Memory
 
 -- a chooser that has no memory left is a device that breaks
 abbrev pub stop_of_pause : Pause → Stop
 stop_of_pause pauses.Ended = stops.Pause pauses.Ended
 stop_of_pause (pauses.OutOfRange k) = stops.Pause (pauses.OutOfRange k)
-stop_of_pause pauses.Memory = stops.DeviceFailed errors.Memory
+stop_of_pause pauses.Memory = stops.Memory
 
 abbrev pub stop_of : NoValue → Stop
 stop_of (values.Fault f) = stops.Fault f
@@ -86,7 +86,7 @@ LacksLine (Some n) ends left S = pos 1 ≤ℤ n → left S [] ≡ Asks n S
 
 -- the input is read only where a line is wanted: nothing of what is left was shown then, and it lacks a line where
 -- none is left
-abbrev pub WantsLine : {A : Type 0} → DeviceError → (State → A) → List ℕ → (State → Answers → Outcome A State) → Type 0
+abbrev pub WantsLine : {A : Type 0} → Breakage → (State → A) → List ℕ → (State → Answers → Outcome A State) → Type 0
 WantsLine errors.Read ends bytes left = (bytes ≡ []) × ((S : State) → S.lines ≡ [] → LacksLine S.choose ends left S)
 WantsLine errors.Memory ends bytes left = Unit {0}
 WantsLine errors.Write ends bytes left = Unit {0}
@@ -112,7 +112,7 @@ module _ {A : Type 0} (refused : Refusal → Type 0) (R : Devices → (State →
     pub refuses : refused NoLine
 
   -- a device has failed, or was refused memory
-  pub record DeviceFails (state : Outcome A State → State) (ends : State → A) (e : DeviceError) : Type 0 where
+  pub record DeviceFails (state : Outcome A State → State) (ends : State → A) (e : Breakage) : Type 0 where
     pub left : State → Answers → Outcome A State
     -- the screen when it had come there, and the bytes that it has shown since then
     pub screen : ScreenState
@@ -128,7 +128,9 @@ Stops refused R n (stops.Fault f) = R n (halt (Faults f))
 Stops refused R n stops.Ended = R n (halt (Ends endings.Stop))
 Stops refused R n stops.NoInput = IsOutOfLines refused R n (Halts (Ends endings.NoInput))
 Stops refused R n (stops.Pause z) = AsksUnanswered refused R n action_state z
-Stops refused R n (stops.DeviceFailed e) = DeviceFails refused R n action_state (Halts (Ends endings.NoInput)) e
+Stops refused R n stops.Memory = DeviceFails refused R n action_state (Halts (Ends endings.NoInput)) errors.Memory
+Stops refused R n stops.Unread = DeviceFails refused R n action_state (Halts (Ends endings.NoInput)) errors.Read
+Stops refused R n stops.Unwritten = DeviceFails refused R n action_state (Halts (Ends endings.NoInput)) errors.Write
 
 -- what is gathered is shown unless a device broke, or no line was left, before which it was shown
 abbrev pub still_shows : {X : Type 0} → Result X Stop → Bool
@@ -137,7 +139,9 @@ still_shows (Err (stops.Fault f)) = true
 still_shows (Err stops.Ended) = true
 still_shows (Err stops.NoInput) = false
 still_shows (Err (stops.Pause z)) = true
-still_shows (Err (stops.DeviceFailed e)) = false
+still_shows (Err stops.Memory) = false
+still_shows (Err stops.Unread) = false
+still_shows (Err stops.Unwritten) = false
 
 -- ---- lines that the source didn't give
 
@@ -156,8 +160,8 @@ UnlessMissed refused P MemoryMiss = P ⊎ refused reads.Memory
 
 abbrev pub stop_miss : Stop → Miss
 stop_miss stops.NoInput = LineMiss
-stop_miss (stops.DeviceFailed errors.Read) = LineMiss
-stop_miss (stops.DeviceFailed errors.Memory) = MemoryMiss
+stop_miss stops.Unread = LineMiss
+stop_miss stops.Memory = MemoryMiss
 stop_miss _ = NoMiss
 
 abbrev pub miss_of : {X : Type 0} → Result X Stop → Miss

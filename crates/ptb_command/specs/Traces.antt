@@ -39,7 +39,9 @@ still_due (b ∷ due) (stops.Fault f) = b ∷ due
 still_due (b ∷ due) stops.Ended = b ∷ due
 still_due (b ∷ due) stops.NoInput = []
 still_due (b ∷ due) (stops.Pause z) = b ∷ due
-still_due (b ∷ due) (stops.DeviceFailed e) = []
+still_due (b ∷ due) stops.Memory = []
+still_due (b ∷ due) stops.Unread = []
+still_due (b ∷ due) stops.Unwritten = []
 
 -- whatever was shown before, these bytes make a transcript that was fresh or not into one that is or not
 abbrev pub Freshens : Bool → List ℕ → Bool → Type 0

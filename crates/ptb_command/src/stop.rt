@@ -8,17 +8,6 @@ use ptb_answers::Pause;
 use ptb_devices::{ReadFault, ScreenFault};
 use ptb_expr::{Fault, FaultKind};
 
-/// Why a device doesn't do what it is asked for.
-#[derive(Clone, Copy, Debug, PartialEq, Eq)]
-pub enum DeviceError {
-    /// A growth was refused memory.
-    Memory,
-    /// The input could not be read, or is too long.
-    Read,
-    /// The screen could not be written.
-    Write,
-}
-
 /// Why a command isn't done.
 #[derive(Clone, Copy, Debug, PartialEq, Eq)]
 pub enum Stop {
@@ -30,8 +19,12 @@ pub enum Stop {
     NoInput,
     /// A question of it has no answer, though there is memory for one.
     Pause(Pause),
-    /// A device failed, or was refused memory.
-    DeviceFailed(DeviceError),
+    /// A device was refused memory.
+    Memory,
+    /// The input could not be read, or is too long.
+    Unread,
+    /// The screen could not be written.
+    Unwritten,
 }
 
 /// A fault that is marked at a place.
@@ -45,7 +38,10 @@ pub(crate) fn fault(kind: FaultKind, mark: usize) -> Stop
 pub(crate) fn still_shows<X: Copy>(done: Result<X, Stop>) -> bool
     ensures { result ≡ still_shows done }
 {
-    !matches!(done, Err(Stop::NoInput | Stop::DeviceFailed(_)))
+    !matches!(
+        done,
+        Err(Stop::NoInput | Stop::Memory | Stop::Unread | Stop::Unwritten)
+    )
 }
 
 impl From<ScreenFault> for Stop {
@@ -55,8 +51,8 @@ impl From<ScreenFault> for Stop {
 
     fn from(fault: ScreenFault) -> Stop {
         match fault {
-            ScreenFault::Write => Stop::DeviceFailed(DeviceError::Write),
-            ScreenFault::Memory => Stop::DeviceFailed(DeviceError::Memory),
+            ScreenFault::Write => Stop::Unwritten,
+            ScreenFault::Memory => Stop::Memory,
         }
     }
 }
@@ -68,8 +64,8 @@ impl From<ReadFault> for Stop {
 
     fn from(fault: ReadFault) -> Stop {
         match fault {
-            ReadFault::Read | ReadFault::TooLong => Stop::DeviceFailed(DeviceError::Read),
-            ReadFault::Memory => Stop::DeviceFailed(DeviceError::Memory),
+            ReadFault::Read | ReadFault::TooLong => Stop::Unread,
+            ReadFault::Memory => Stop::Memory,
         }
     }
 }
@@ -82,7 +78,7 @@ impl From<ptb_expr::Stop> for Stop {
     fn from(stop: ptb_expr::Stop) -> Stop {
         match stop {
             ptb_expr::Stop::Fault(fault) => Stop::Fault(fault),
-            ptb_expr::Stop::Pause(Pause::Memory) => Stop::DeviceFailed(DeviceError::Memory),
+            ptb_expr::Stop::Pause(Pause::Memory) => Stop::Memory,
             ptb_expr::Stop::Pause(pause) => Stop::Pause(pause),
         }
     }

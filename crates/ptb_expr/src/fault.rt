@@ -1,25 +1,20 @@
 // This file says what can be wrong with an expression, and why it has no value.
 
 use ptb_answers::Pause;
-use thiserror::Error;
 
 /// Which word a fault shows.
-#[derive(Clone, Copy, Debug, PartialEq, Eq, Error)]
+#[derive(Clone, Copy, Debug, PartialEq, Eq)]
 pub enum FaultKind {
     /// It isn't spelled as the language wants it.
-    #[error("WHAT?")]
     What,
     /// It is well spelled, and can't be done.
-    #[error("HOW?")]
     How,
     /// It is right, and there is no room for it.
-    #[error("SORRY")]
     Sorry,
 }
 
 /// A fault of a program.
-#[derive(Clone, Copy, Debug, PartialEq, Eq, Error)]
-#[error("{kind} at {mark}")]
+#[derive(Clone, Copy, Debug, PartialEq, Eq)]
 pub struct Fault {
     /// Which of the three faults it is.
     pub kind: FaultKind,
@@ -28,12 +23,10 @@ pub struct Fault {
 }
 
 /// Why there is no value.
-#[derive(Clone, Copy, Debug, PartialEq, Eq, Error)]
+#[derive(Clone, Copy, Debug, PartialEq, Eq)]
 pub enum Stop {
     /// The program is at fault.
-    #[error(transparent)]
     Fault(Fault),
     /// The chooser gave no answer.
-    #[error(transparent)]
     Pause(Pause),
 }

@@ -2,8 +2,8 @@
 
 use crate::shared::expect_same;
 use ptb_text::{
-    ByteSink, ByteSource, Device, DeviceFault, LoadFault, Program, Read, Write, WriteFault, list,
-    load, split_line,
+    ByteSink, ByteSource, Device, DeviceFault, LoadFault, Program, Read, Write, list, load,
+    split_line,
 };
 use std::alloc::{AllocError, Global};
 use std::collections::BTreeMap;
@@ -96,7 +96,7 @@ fn written(alloc: Global, program: &Program, piece: usize) -> Result<Vec<u8>, Al
     let mut sink = make_sink(alloc, piece, 0);
     match list(program, &mut Device::new(&mut sink)) {
         Ok(()) => Ok(sink.taken),
-        Err(WriteFault) => Err(AllocError),
+        Err(DeviceFault) => Err(AllocError),
     }
 }
 
@@ -371,7 +371,7 @@ fn writers_that_take_nothing(rt: HostRuntime) {
     let program = two_lines(rt.alloc()).expect(&rt, "a program");
     let mut takes_nothing = make_sink(rt.alloc(), 0, 0);
     let result = list(&program, &mut Device::new(&mut takes_nothing));
-    expect_same(&rt, "result", result, Err(WriteFault));
+    expect_same(&rt, "result", result, Err(DeviceFault));
 }
 
 #[test]
@@ -626,6 +626,5 @@ fn faults_print(rt: HostRuntime) {
 
 #[test]
 fn faults_of_devices_print(rt: HostRuntime) {
-    expect_text(&rt, rt.alloc(), &WriteFault, "cannot write");
     expect_text(&rt, rt.alloc(), &DeviceFault, "the device failed");
 }

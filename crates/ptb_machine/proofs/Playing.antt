@@ -25,8 +25,8 @@ use Rattle.ptb_command.specs.Effects.{Begins}
 use Rattle.ptb_devices.specs.declared.fault.ReadFault.{ReadFault}
 use Rattle.ptb_devices.specs.declared.fault.ReadFault.TheVariants as reads
 use Rattle.ptb_devices.specs.Sources.{NoneLeft}
-use Rattle.ptb_command.specs.declared.stop.DeviceError.{DeviceError}
-use Rattle.ptb_command.specs.declared.stop.DeviceError.TheVariants as errors
+use Rattle.ptb_command.specs.Breakage.{Breakage}
+use Rattle.ptb_command.specs.Breakage as errors
 use Rattle.ptb_command.specs.Devices.{ScreenState, Devices, devices, with_failures, Exchange, Refusal, refused_by}
 use Rattle.ptb_command.specs.Stops.{UnlessMissed}
 use Rattle.ptb_machine.specs.PlayResults.{played_bytes, Plays, IsFinished, IsUnanswered}
@@ -206,7 +206,7 @@ module _ (p : StoredProgram) (rules : Rules) (a : Answers) (refuses : Pause → 
       (shows_run h.exchange h.left endings.BadAnswer _ h.plays (ap h.left next.1 ∙ h.question.outside next.0) refl)
 
   -- where a device fails, what was shown is a beginning
-  begun : {e : DeviceError} → IsUnfinished refused p rules lines before later e
+  begun : {e : Breakage} → IsUnfinished refused p rules lines before later e
       → TakesSome old.shown new.shown (plain p lines rules a).0
   begun h =
       let begins = h.continues.begins (left_by old.failures h.exchange h.left h.plays).rest in
@@ -302,7 +302,7 @@ module _ (p : StoredProgram) (rules : Rules) (a : Answers) (refuses : Pause → 
       let taken = h.continues.more_lines behind.rest in
       fits h.exchange behind.rest taken.0 behind.whole taken.1
 
-  fits_unfinished : (e : DeviceError) → IsUnfinished refused p rules lines before later e
+  fits_unfinished : (e : Breakage) → IsUnfinished refused p rules lines before later e
       → length given ≤ lines_taken p lines rules a
   fits_unfinished e h =
       let behind = left_by old.failures h.exchange h.left h.plays in

@@ -13,16 +13,14 @@ use Rattle.ptb_machine.specs.declared.fault.RunFault.TheVariants as faults
 use Rattle.ptb_devices.specs.declared.fault.ReadFault.{ReadFault}
 use Rattle.ptb_devices.specs.declared.fault.ScreenFault.{ScreenFault}
 use Rattle.ptb_devices.specs.declared.fault.ScreenFault.TheVariants as screens
-use Rattle.ptb_command.specs.declared.stop.DeviceError.{DeviceError}
-use Rattle.ptb_command.specs.declared.stop.DeviceError.TheVariants as errors
 use Rattle.ptb_command.specs.declared.stop.Stop.{Stop}
 use Rattle.ptb_command.specs.declared.stop.Stop.TheVariants as stops
 use Rattle.ptb_command.specs.Act.{report_bytes}
 use Rattle.ptb_command.specs.Traces.{Trace}
 use Rattle.ptb_command.specs.Reports.{IsShown}
-use Rattle.ptb_command.specs.Stops.{UnlessMissed, stop_miss, miss_of}
+use Rattle.ptb_command.specs.Stops.{UnlessMissed, miss_of}
 use Rattle.ptb_command.proofs.MissedLines.{miss_unmissed}
-use Rattle.ptb_machine.specs.CommandResults.{fault_of, reported, IsResultOf}
+use Rattle.ptb_machine.specs.CommandResults.{reported, IsResultOf}
 use Rattle.ptb_machine.specs.Steps.{step_miss}
 
 -- nothing is shown where it was done, or stopped by s
@@ -73,7 +71,9 @@ result_over o n number text (Err stops.NoInput) r is = ap is_over is.is
 result_over o n number text (Err (stops.Pause pauses.Ended)) r is = ap is_over is.is
 result_over o n number text (Err (stops.Pause (pauses.OutOfRange k))) r is = ap is_over is.is
 result_over o n number text (Err (stops.Pause pauses.Memory)) r is = ap is_over is.is
-result_over o n number text (Err (stops.DeviceFailed x)) r is = ap is_over is.is
+result_over o n number text (Err stops.Memory) r is = ap is_over is.is
+result_over o n number text (Err stops.Unread) r is = ap is_over is.is
+result_over o n number text (Err stops.Unwritten) r is = ap is_over is.is
 
 -- it goes on where the command was done
 pub result_goes : (o n : Trace) (number : ℕ) (text : List ℕ) (done : Result (Unit {0}) Stop)
@@ -92,11 +92,6 @@ is_spent (Err faults.Read) = false
 is_spent (Err faults.Write) = false
 is_spent (Err faults.Spent) = true
 
-error_unspent : (e : DeviceError) → is_spent (Err (fault_of e)) ≡ false
-error_unspent errors.Memory = refl
-error_unspent errors.Read = refl
-error_unspent errors.Write = refl
-
 reported_unspent : (kind : FaultKind) (shown : Result (Unit {0}) ScreenFault) → is_spent (reported kind shown) ≡ false
 reported_unspent kind (Ok x) = refl
 reported_unspent kind (Err screens.Memory) = refl
@@ -112,7 +107,9 @@ not_spent o n number text (Err stops.NoInput) r is = ap is_spent is.is
 not_spent o n number text (Err (stops.Pause pauses.Ended)) r is = ap is_spent is.is
 not_spent o n number text (Err (stops.Pause (pauses.OutOfRange k))) r is = ap is_spent is.is
 not_spent o n number text (Err (stops.Pause pauses.Memory)) r is = ap is_spent is.is
-not_spent o n number text (Err (stops.DeviceFailed x)) r is = ap is_spent is.is ∙ error_unspent x
+not_spent o n number text (Err stops.Memory) r is = ap is_spent is.is
+not_spent o n number text (Err stops.Unread) r is = ap is_spent is.is
+not_spent o n number text (Err stops.Unwritten) r is = ap is_spent is.is
 
 -- it was not, where a command was done or stopped
 pub result_unspent : (o n : Trace) (number : ℕ) (text : List ℕ) (done : Result (Unit {0}) Stop)
@@ -128,11 +125,6 @@ reported_unmissed : (refused : ReadFault → Type 0) (P : Type 0) → P
     → (kind : FaultKind) (shown : Result (Unit {0}) ScreenFault)
     → UnlessMissed refused P (step_miss (reported kind shown))
 reported_unmissed refused P p kind shown = miss_unmissed refused P p (step_miss (reported kind shown))
-
-error_missed : (e : DeviceError) → step_miss (Err (fault_of e)) ≡ stop_miss (stops.DeviceFailed e)
-error_missed errors.Memory = refl
-error_missed errors.Read = refl
-error_missed errors.Write = refl
 
 pub result_missed : (refused : ReadFault → Type 0) (P : Type 0) (o n : Trace) (number : ℕ) (text : List ℕ)
     (done : Result (Unit {0}) Stop) (r : Result (Option Ending) RunFault)
@@ -152,8 +144,9 @@ result_missed refused P o n number text done r is h = by_result done is h
     by_result (Err (stops.Pause pauses.Ended)) is h = is_so _ is.is h
     by_result (Err (stops.Pause (pauses.OutOfRange k))) is h = is_so _ is.is h
     by_result (Err (stops.Pause pauses.Memory)) is h = is_so _ is.is (inl h)
-    by_result (Err (stops.DeviceFailed x)) is h =
-        is_so _ is.is (subst (UnlessMissed refused P) (sym (error_missed x)) h)
+    by_result (Err stops.Memory) is h = is_so _ is.is h
+    by_result (Err stops.Unread) is h = is_so _ is.is h
+    by_result (Err stops.Unwritten) is h = is_so _ is.is h
 
 -- ---- devices
 

@@ -14,8 +14,8 @@ use Rattle.ptb_command.specs.declared.ending.Ending.{Ending}
 use Rattle.ptb_command.specs.declared.ending.Ending.TheVariants as endings
 use Rattle.ptb_machine.specs.declared.fault.RunFault.{RunFault}
 use Rattle.ptb_machine.specs.declared.fault.RunFault.TheVariants as faults
-use Rattle.ptb_command.specs.declared.stop.DeviceError.{DeviceError}
-use Rattle.ptb_command.specs.declared.stop.DeviceError.TheVariants as errors
+use Rattle.ptb_command.specs.Breakage.{Breakage}
+use Rattle.ptb_command.specs.Breakage as errors
 use Rattle.ptb_command.specs.State.{Place, State, first_state}
 use Rattle.ptb_command.specs.Act.{StepResult, Next, Over}
 use Rattle.ptb_machine.specs.Play.{Last, last_in, after_turn, turn, all_turns, last_state}
@@ -396,7 +396,7 @@ module _ (refused : Refusal → Type 0) (p : StoredProgram) (rules : Rules) (m n
           (sym run_so.leads.choose) rules.in_range)
           (w.line.1 run_so.leads.state (run_so.leads.lines ∙ none)))
 
-    dry_by : (error : DeviceError) (w : DeviceFails refused LastStep e act_state (Over endings.NoInput) error)
+    dry_by : (error : Breakage) (w : DeviceFails refused LastStep e act_state (Over endings.NoInput) error)
         → error ≡ errors.Read → rest ≡ []
         → LacksInput refused p rules whole o (onto d e) rules.choose
         ((last (with_screen w.screen e) w.left w.comes).exchange.bytes ++ w.bytes)
@@ -405,7 +405,7 @@ module _ (refused : Refusal → Type 0) (p : StoredProgram) (rules : Rules) (m n
     dry_by errors.Memory w is none = absurd (let clash : errors.Memory ≡ errors.Read = is in cc)
     dry_by errors.Write w is none = absurd (let clash : errors.Write ≡ errors.Read = is in cc)
 
-    broken : (error : DeviceError) → DeviceFails refused LastStep e act_state (Over endings.NoInput) error
+    broken : (error : Breakage) → DeviceFails refused LastStep e act_state (Over endings.NoInput) error
         → IsUnfinished refused p rules whole o (onto d e) error
     broken error w =
         let x = last (with_screen w.screen e) w.left w.comes in

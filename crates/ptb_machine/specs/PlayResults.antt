@@ -17,8 +17,8 @@ use Rattle.ptb_answers.specs.declared.rules.Rules.{Rules}
 use Rattle.ptb_answers.specs.Outcome.{Answers, Outcome, Done, Asks, Out}
 use Rattle.ptb_command.specs.declared.ending.Ending.{Ending}
 use Rattle.ptb_command.specs.declared.ending.Ending.TheVariants as endings
-use Rattle.ptb_command.specs.declared.stop.DeviceError.{DeviceError}
-use Rattle.ptb_command.specs.declared.stop.DeviceError.TheVariants as errors
+use Rattle.ptb_command.specs.Breakage.{Breakage}
+use Rattle.ptb_command.specs.Breakage as errors
 use Rattle.ptb_command.specs.Devices.{Devices, with_failures, Exchange, Exchanges, Refusal}
 use Rattle.ptb_command.specs.Devices.{Unanswered, NoLine, HasBroken}
 use Rattle.ptb_command.specs.Effects.{Begins}
@@ -84,7 +84,7 @@ module _ (refused : Refusal → Type 0) (p : StoredProgram) (rules : Rules) (inp
 
   -- a device has failed, or was refused memory, and no write failed before; what was shown is a prefix of what the
   -- play shows
-  pub record IsUnfinished (e : DeviceError) : Type 0 where
+  pub record IsUnfinished (e : Breakage) : Type 0 where
     pub exchange : Exchange
     pub left : Answers → Outcome Finish (List ℕ)
     pub plays : Plays p rules input o (with_failures o.screen.failures n) exchange left

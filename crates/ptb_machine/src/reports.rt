@@ -1,15 +1,15 @@
 // This file reports a fault.
 
-ghost use Rattle.std.specs.Prelude.{◌≡◌, [], ◌++◌, if◌then◌else◌, take, drop, IfOk};
+ghost use Rattle.std.specs.Prelude.{◌≡◌, ◌++◌, take, drop, IfOk};
 ghost use Rattle.ptb_expr.specs.Store.{Cells};
-ghost use Rattle.ptb_command.specs.Act.{newline, fault_word, ending_of, report_bytes};
+ghost use Rattle.ptb_command.specs.Act.{ending_of, report_bytes};
 ghost use Rattle.ptb_command.specs.Devices.{Devices, screen_state, with_screen};
 ghost use Rattle.ptb_command.specs.Traces.{trace};
 ghost use Rattle.ptb_command.specs.Reports.{IsShown};
 
 use arrayvec::{ArrayVec, CapacityError};
 use itoa::Buffer;
-use ptb_command::{Ending, put};
+use ptb_command::{Ending, fault_line, put};
 use ptb_devices::{Screen, ScreenFault};
 use ptb_expr::{Fault, FaultKind};
 
@@ -25,20 +25,6 @@ pub(crate) fn ending_of(kind: FaultKind) -> Ending
         FaultKind::What => Ending::What,
         FaultKind::How => Ending::How,
         FaultKind::Sorry => Ending::Sorry,
-    }
-}
-
-// The line that says what is wrong, behind a newline where the transcript isn't fresh.
-fn first_line(fresh: bool, kind: FaultKind) -> &'static [u8]
-    ensures { result.now ≡ (if fresh then [] else newline) ++ fault_word kind ++ newline }
-{
-    match (fresh, kind) {
-        (true, FaultKind::What) => b"WHAT?\n",
-        (true, FaultKind::How) => b"HOW?\n",
-        (true, FaultKind::Sorry) => b"SORRY\n",
-        (false, FaultKind::What) => b"\nWHAT?\n",
-        (false, FaultKind::How) => b"\nHOW?\n",
-        (false, FaultKind::Sorry) => b"\nSORRY\n",
     }
 }
 
@@ -116,7 +102,7 @@ pub fn report<S: Screen>(
     let digits = buffer.format(number).as_bytes();
     let before = text_before(text, fault.mark);
     let behind = text_after(text, fault.mark);
-    put_joined(screen, fresh, first_line(*fresh, fault.kind), digits, b" ")?;
+    put_joined(screen, fresh, fault_line(*fresh, fault.kind), digits, b" ")?;
     put_joined(screen, fresh, before, b"?", behind)?;
     put(screen, fresh, b"\n")
 }

@@ -3,25 +3,14 @@
 ghost use Rattle.std.specs.Prelude.{◌≡◌, ℕ, List, Some, slice_get};
 ghost use Rattle.ptb_expr.specs.Store.{Cells};
 ghost use Rattle.ptb_command.specs.CommandIo.{io_trace, SameDevices};
-ghost use Rattle.ptb_machine.specs.CommandResults.{fault_of, IsResultOf};
+ghost use Rattle.ptb_machine.specs.CommandResults.{IsResultOf};
 
 use crate::fault::RunFault;
 use crate::reports::{ending_of, report};
 use ptb_answers::{Chooser, Pause};
-use ptb_command::{CommandIo, DeviceError, Ending, Stop, line_at};
+use ptb_command::{CommandIo, Ending, Stop, line_at};
 use ptb_devices::{LineSource, Screen};
 use ptb_text::Program;
-
-// A device's error as a fault of a step.
-fn fault_of(error: DeviceError) -> RunFault
-    ensures { result ≡ fault_of error }
-{
-    match error {
-        DeviceError::Memory => RunFault::Memory,
-        DeviceError::Read => RunFault::Read,
-        DeviceError::Write => RunFault::Write,
-    }
-}
 
 /// What a step comes to whose command, one of this statement, comes to `done`. A fault is reported.
 pub(crate) fn result_of<C: Chooser, S: Screen, L: LineSource>(
@@ -49,6 +38,8 @@ pub(crate) fn result_of<C: Chooser, S: Screen, L: LineSource>(
         Err(Stop::Pause(Pause::Ended)) => Ok(Some(Ending::NoAnswer)),
         Err(Stop::Pause(Pause::OutOfRange(_))) => Ok(Some(Ending::BadAnswer)),
         Err(Stop::Pause(Pause::Memory)) => Err(RunFault::Memory),
-        Err(Stop::DeviceFailed(error)) => Err(fault_of(error)),
+        Err(Stop::Memory) => Err(RunFault::Memory),
+        Err(Stop::Unread) => Err(RunFault::Read),
+        Err(Stop::Unwritten) => Err(RunFault::Write),
     }
 }

@@ -5,8 +5,7 @@ ghost use Rattle.ptb_text.specs.Statements.{program};
 ghost use Rattle.ptb_words.specs.Words.{is_letter};
 
 use ptb_command::{
-    CommandCode, CommandIo, DeviceError, Output, Registers, Stack, Stop, first_place, line_at,
-    translate,
+    CommandCode, CommandIo, Output, Registers, Stack, Stop, first_place, line_at, translate,
 };
 use ptb_devices::{LineSource, Screen};
 use ptb_expr::{Chooser, Store};
@@ -133,7 +132,7 @@ macro_rules! fault {
 pub(crate) use fault;
 
 // A command that was stopped by a write that failed.
-pub(crate) const UNWRITTEN: Result<usize, Stop> = Err(Stop::DeviceFailed(DeviceError::Write));
+pub(crate) const UNWRITTEN: Result<usize, Stop> = Err(Stop::Unwritten);
 
 // The memory of the programs.
 pub(crate) const MEMORY: u16 = 4096;

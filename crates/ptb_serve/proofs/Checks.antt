@@ -6,7 +6,7 @@ use Rattle.std.specs.Result.{IsErrAnd}
 use Rattle.std.proofs.lemmas.Result.{err_from_is_err_and}
 use Rattle.ptb_text.specs.Device.{HasFailed}
 use Rattle.ptb_text.specs.Statements.{StoredProgram}
-use Rattle.ptb_text.specs.declared.listing.WriteFault.{WriteFault}
+use Rattle.ptb_text.specs.declared.device.DeviceFault.{DeviceFault}
 use Rattle.ptb_check.specs.Mistakes.{mistakes}
 use Rattle.ptb_check.specs.WrittenMistakes.{WritesMistakes}
 use Rattle.ptb_machine.specs.declared.fault.RunFault.TheVariants as faults
@@ -37,7 +37,7 @@ module _ (request : Request) (p : StoredProgram) (memory : p.memory ≡ request.
     loaded = λ x. x;
   }
 
-  pub mistakes_unwritten : (fault : WriteFault) → WritesMistakes (mistakes p.lines) old new (Err fault)
+  pub mistakes_unwritten : (fault : DeviceFault) → WritesMistakes (mistakes p.lines) old new (Err fault)
       → ServesProgram modes.Check request p known known old new (Err notes.Unwritten)
   mistakes_unwritten fault written = record {
     served =
@@ -72,7 +72,7 @@ module _ (p : StoredProgram) (old new : Option (List ℕ)) (broke breaks : ℕ) 
     no_list = success_refuses_none n;
   }
 
-  pub check_broken : (result : Result ℕ Note) (fault : WriteFault) → IsErrAnd result (λ note. note ≡ notes.Unwritten)
+  pub check_broken : (result : Result ℕ Note) (fault : DeviceFault) → IsErrAnd result (λ note. note ≡ notes.Unwritten)
       → WritesMistakes (mistakes p.lines) old new (Err fault) → HasFailed broke breaks → IsChecked result
   check_broken result fault noted written has_failed =
       let e = err_from_is_err_and result noted in

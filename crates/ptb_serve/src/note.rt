@@ -8,7 +8,7 @@ ghost use Rattle.ptb_serve.specs.Statuses.{note_status};
 
 use ptb_explore::ExploreFault;
 use ptb_machine::{ReadFault, ScreenFault};
-use ptb_text::{LoadFault, WriteFault};
+use ptb_text::{DeviceFault, LoadFault};
 use std::alloc::AllocError;
 use std::fmt;
 
@@ -58,10 +58,10 @@ impl From<(u32, LoadFault)> for Note {
     }
 }
 
-impl From<WriteFault> for Note {
+impl From<DeviceFault> for Note {
     ghost from_gives = { λ _ note. note ≡ Unwritten };
 
-    fn from(_fault: WriteFault) -> Note {
+    fn from(_fault: DeviceFault) -> Note {
         Note::Unwritten
     }
 }

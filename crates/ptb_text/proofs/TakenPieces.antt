@@ -1,12 +1,12 @@
 -- This file proves how bytes that are taken in pieces add up to the bytes as a whole.
 -- Main lemmas: `piece_taken` and `gathers_all`.
 use Rattle.std.proofs.Common.{◌≡◌, ℕ, ◌+◌, ◌-◌, ◌<◌, ◌≤◌, List, [], ◌∷◌, ◌++◌, length, take, drop}
-use Rattle.std.proofs.Common.{Option, Result, Ok, Err, OnOk, OnErr, true, false, sym, ap, ◌∙◌}
+use Rattle.std.proofs.Common.{Option, Result, Ok, Err, OnOk, OnErr, sym, ap, ◌∙◌}
 use Rattle.std.proofs.Common.{subst, append_assoc, append-nil, arith, length-append, length-drop}
 use Rattle.std.proofs.Common.{length-take}
 use Rattle.std.proofs.Math.Seq.{take-append-add}
 use Rattle.std.proofs.lemmas.List.{take-append-drop, take-append-le, take_all}
-use Rattle.std.specs.Result.{IsErrAnd, is_ok}
+use Rattle.std.specs.Result.{IsErrAnd}
 use Rattle.std.specs.Io.KnownBytes.{Appends}
 use Rattle.std.proofs.KnownBytes.{Appends-trans}
 use Rattle.ptb_text.specs.Device.{Gathers, TakesSome}
@@ -90,15 +90,6 @@ piece_fault {a} {b} {bytes} {rest} c piece others parts before now =
     let size : length rest ≡ length piece + length others = ap length parts ∙ length-append piece others in
     let front : take now.0 rest ≡ take now.0 piece = ap (take now.0) parts ∙ take-append-le now.0 piece others now.1 in
     gathers_fault c before (now.0, omega (arith, now.1), subst (Appends b c) (sym front) now.2)
-
--- what is said of a result, where it is known which one it is
-pub OnOk-holds : {T E P : Type 0} (r : Result T E) → true ≡ is_ok r → OnOk r P → P
-OnOk-holds (Ok x) is p = p
-OnOk-holds (Err e) is p = cc
-
-pub OnErr-holds : {T E P : Type 0} (r : Result T E) → false ≡ is_ok r → OnErr r P → P
-OnErr-holds (Ok x) is p = cc
-OnErr-holds (Err e) is p = p
 
 -- what is said of a result that is an error
 pub OnOk-error : {T E : Type 0} (Q : E → Type 0) (P : Type 0) (r : Result T E) → IsErrAnd r Q → OnOk r P

@@ -23,7 +23,7 @@ pub use byte_streams::{ByteSink, ByteSource};
 pub use device::{Device, DeviceFault, Read, Write};
 pub use fault::LoadFault;
 pub use laws::statement_laws;
-pub use listing::{WriteFault, list};
+pub use listing::list;
 pub use loader::{load, split_line};
 pub use output_buffer::OutputBuffer;
 pub use program::Program;

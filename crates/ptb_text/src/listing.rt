@@ -8,12 +8,6 @@ ghost use Rattle.ptb_text.specs.Statements.{Statements, cost, is_program, line_o
 
 use crate::{DeviceFault, OutputBuffer, Program, Write};
 use itoa::Buffer;
-use thiserror::Error;
-
-/// The writer failed.
-#[derive(Clone, Copy, Debug, PartialEq, Eq, Error)]
-#[error("cannot write")]
-pub struct WriteFault;
 
 /// The bytes of the longest line: a number of five digits, a space, a text and the byte 10.
 const LINE_ROOM: usize = 262;
@@ -25,8 +19,8 @@ const LINE_ROOM: usize = 262;
 ///
 /// # Errors
 ///
-/// [`WriteFault`] where the writer failed. A beginning of the listing was written then.
-pub fn list<W: Write>(program: &Program, writer: &mut W) -> Result<(), WriteFault>
+/// [`DeviceFault`] where the writer failed. A beginning of the listing was written then.
+pub fn list<W: Write>(program: &Program, writer: &mut W) -> Result<(), DeviceFault>
     ensures ok { OnOk result
         (Appends (W.contents writer.old) (W.contents writer.new) (listing program.now.lines)) }
     ensures fault { OnErr result
@@ -39,7 +33,7 @@ pub fn list<W: Write>(program: &Program, writer: &mut W) -> Result<(), WriteFaul
     let mut line = OutputBuffer::<LINE_ROOM>::new();
     for at in 0..program.len() {
         let (number, text) = program.statement_at(at);
-        write_line(&mut line, number, text, writer).map_err(|_| WriteFault)?;
+        write_line(&mut line, number, text, writer)?;
     }
     Ok(())
 }

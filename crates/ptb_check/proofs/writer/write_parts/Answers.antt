@@ -1,6 +1,7 @@
 -- This file answers that the parts of a report are written as one text.
 use Rattle.std.proofs.Common.{◌≡◌, ◌∙◌, ap, subst, List, ℕ, [], ◌++◌, append_assoc, append-nil, codes}
 use Rattle.std.specs.Io.KnownBytes.{Appends}
+use Rattle.std.specs.Result.{OnErr, OnOk}
 use Rattle.ptb_text.specs.Device.{TakesSome}
 use Rattle.ptb_command.specs.Act.{newline}
 use Rattle.ptb_check.proofs.writer.write_parts.Goals as goal
@@ -16,10 +17,10 @@ in_parts none word number before after empty =
     ++ (word ++ (number ++ (codes " " ++ (before ++ (codes "?" ++ (after ++ (codes "\n" ++ [])))))))) empty
     ∙ joined word number (codes " ") before (codes "?") after (codes "\n")
 
-pub returns-in-Ok-clause-ok : goal.returns-in-Ok-clause-ok
-returns-in-Ok-clause-ok g c = subst (Appends _ _) (in_parts _ c.args.word.now c.args.number.now c.args.before.now
-    c.args.after.now c.new-report.ensures) c.in-Ok.ensures.ok
+pub returns-clause-ok : goal.returns-clause-ok
+returns-clause-ok g c = subst (λ t. OnOk c.finish.result (Appends _ _ t)) (in_parts _ c.args.word.now c.args.number.now
+    c.args.before.now c.args.after.now c.new-report.ensures) c.finish.ensures.ok
 
-pub returns-in-Err-clause-fault : goal.returns-in-Err-clause-fault
-returns-in-Err-clause-fault g c = subst (TakesSome _ _) (in_parts _ c.args.word.now c.args.number.now c.args.before.now
-    c.args.after.now c.new-report.ensures) c.in-Err.ensures.fault
+pub returns-clause-fault : goal.returns-clause-fault
+returns-clause-fault g c = subst (λ t. OnErr c.finish.result (TakesSome _ _ t)) (in_parts _ c.args.word.now
+    c.args.number.now c.args.before.now c.args.after.now c.new-report.ensures) c.finish.ensures.fault

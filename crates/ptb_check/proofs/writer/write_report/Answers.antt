@@ -35,7 +35,7 @@ pub returns-clause-ok : goal.returns-clause-ok
 returns-clause-ok g c =
     on_ok_weaker c.write_parts.result
     (λ e. subst (Appends _ _) (in_parts _ _ _ _ c.args.text.now c.args.number c.min-mark.result c.args.fault
-    c.word_line-word.ensures (c.as_bytes-number.ensures.value ∙ c.format.ensures.text)
+    c.fault_line-word.ensures (c.as_bytes-number.ensures.value ∙ c.format.ensures.text)
     c.split_at.ensures.front c.split_at.ensures.back c.min-mark.ensures) e)
     c.write_parts.ensures.ok
 
@@ -43,6 +43,6 @@ pub returns-clause-fault : goal.returns-clause-fault
 returns-clause-fault g c =
     on_err_weaker c.write_parts.result
     (λ e. subst (TakesSome _ _) (in_parts _ _ _ _ c.args.text.now c.args.number c.min-mark.result c.args.fault
-    c.word_line-word.ensures (c.as_bytes-number.ensures.value ∙ c.format.ensures.text)
+    c.fault_line-word.ensures (c.as_bytes-number.ensures.value ∙ c.format.ensures.text)
     c.split_at.ensures.front c.split_at.ensures.back c.min-mark.ensures) e)
     c.write_parts.ensures.fault

@@ -96,12 +96,29 @@ returns-in-Err-Pause-Memory g c = record {
   same = record { chooser = refl; screen = refl; source = refl; rules = refl };
 }
 
-pub returns-in-Err-DeviceFailed : goal.returns-in-Err-DeviceFailed
-returns-in-Err-DeviceFailed g c = record {
+pub returns-in-Err-Memory : goal.returns-in-Err-Memory
+returns-in-Err-Memory g c = record {
   comes = λ given cells n text at.
-      result_stopped _ _ _ _ (stops.DeviceFailed c.in-Err-DeviceFailed.error) _
-      (record { is = ap Err c.fault_of.ensures; same = refl })
-      (c.in-Err-DeviceFailed.is ∙ ap Err (rw c.in-Err-DeviceFailed.is at c.in-Err-DeviceFailed.field-0-is));
+      result_stopped _ _ _ _ stops.Memory _ (record { is = refl; same = refl })
+      (c.in-Err-Memory.is ∙ ap Err (rw c.in-Err-Memory.is at c.in-Err-Memory.field-0-is));
+  chooser = refl;
+  same = record { chooser = refl; screen = refl; source = refl; rules = refl };
+}
+
+pub returns-in-Err-Unread : goal.returns-in-Err-Unread
+returns-in-Err-Unread g c = record {
+  comes = λ given cells n text at.
+      result_stopped _ _ _ _ stops.Unread _ (record { is = refl; same = refl })
+      (c.in-Err-Unread.is ∙ ap Err (rw c.in-Err-Unread.is at c.in-Err-Unread.field-0-is));
+  chooser = refl;
+  same = record { chooser = refl; screen = refl; source = refl; rules = refl };
+}
+
+pub returns-in-Err-Unwritten : goal.returns-in-Err-Unwritten
+returns-in-Err-Unwritten g c = record {
+  comes = λ given cells n text at.
+      result_stopped _ _ _ _ stops.Unwritten _ (record { is = refl; same = refl })
+      (c.in-Err-Unwritten.is ∙ ap Err (rw c.in-Err-Unwritten.is at c.in-Err-Unwritten.field-0-is));
   chooser = refl;
   same = record { chooser = refl; screen = refl; source = refl; rules = refl };
 }

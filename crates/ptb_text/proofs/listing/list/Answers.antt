@@ -4,17 +4,16 @@ use Rattle.std.proofs.lemmas.List.{drop_all}
 use Rattle.ptb_text.specs.Device.{HasFailed}
 use Rattle.ptb_text.specs.Statements.{listing}
 use Rattle.ptb_text.proofs.Listed.{GivesProgram-listing, listing-drop}
-use Rattle.ptb_text.proofs.TakenPieces.{gathers_all, piece_taken, piece_fault, OnErr-error, OnErr-holds}
-use Rattle.ptb_text.proofs.TakenPieces.{OnOk-error, OnOk-holds}
+use Rattle.ptb_text.proofs.TakenPieces.{gathers_all, piece_taken, piece_fault, OnErr-error, OnOk-error}
 use Rattle.ptb_text.proofs.listing.list.Goals as goal
 
 -- a write failed
-pub returns-in_err-map_err : goal.returns-in_err-map_err
-returns-in_err-map_err g c =
+pub returns-in_err-write_line : goal.returns-in_err-write_line
+returns-in_err-write_line g c =
     let next = listing-drop c.args.program.now.lines c.loop-at.at _ c.statement_at-number.ensures.line in
     let is = c.from_residual.ensures.1 in
-    let some = OnErr-holds c.write_line.result c.in_err-map_err.ensures.variant c.write_line.ensures.fault in
-    let failed = OnErr-holds c.write_line.result c.in_err-map_err.ensures.variant c.write_line.ensures.failed in
+    let some = c.in_err-write_line.ensures.fault in
+    let failed = c.in_err-write_line.ensures.failed in
     record {
       ok = OnOk-error _ _ c.from_residual.result is;
       fault = OnErr-error _ _ c.from_residual.result is (piece_fault _ _ _ next c.loop-at.invariant.taken some);
@@ -40,12 +39,12 @@ returns g c =
 pub loop-at-preserved : goal.loop-at-preserved
 loop-at-preserved g c =
     let next = listing-drop c.args.program.now.lines c.loop-at.at _ c.statement_at-number.ensures.line in
-    let all = OnOk-holds c.write_line.result c.in_ok-map_err.ensures.variant c.write_line.ensures.ok in
-    let same = OnOk-holds c.write_line.result c.in_ok-map_err.ensures.variant c.write_line.ensures.unfailed in
+    let all = c.in_ok-write_line.ensures.ok in
+    let same = c.in_ok-write_line.ensures.unfailed in
     record {
       unfailed = same ∙ c.loop-at.invariant.unfailed;
       taken = piece_taken _ _ _ next c.loop-at.invariant.taken all;
-      empty = OnOk-holds c.write_line.result c.in_ok-map_err.ensures.variant c.write_line.ensures.empty;
+      empty = c.in_ok-write_line.ensures.empty;
     }
 
 pub loop-at-init : goal.loop-at-init

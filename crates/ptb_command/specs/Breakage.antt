@@ -1,0 +1,8 @@
+-- This file defines which device has failed where one stops a command.
+pub data Breakage : Type 0 where
+  -- a device was refused memory
+  Memory : Breakage
+  -- the input could not be read, or is too long
+  Read : Breakage
+  -- the screen could not be written
+  Write : Breakage
